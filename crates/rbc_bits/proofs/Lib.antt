@@ -1,0 +1,5 @@
+pub mod Fields
+pub mod Bytes
+pub mod Taking
+mod Window
+mod Written

@@ -1,0 +1,11 @@
+//! The bits of a radio message (SUBSET-026 chapter 7): fields follow each other bit by bit, highest bit first.
+//! A reader gives field after field of bytes that it borrows, a writer makes bytes of field after field.
+#![tactic(auto)]
+
+mod fault;
+mod reader;
+mod writer;
+
+pub use fault::BitFault;
+pub use reader::BitReader;
+pub use writer::BitWriter;

@@ -1,0 +1,4 @@
+pub mod Views
+pub mod State
+pub mod Meaning
+pub mod Answer

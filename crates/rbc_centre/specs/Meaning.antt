@@ -1,0 +1,15 @@
+-- What a centre stands for: its line, its number, and its state.
+use Rattle.std.specs.Prelude.{ℕ}
+use Rattle.rbc_spec.specs.Line.{Line}
+use Rattle.rbc_spec.specs.Centre as centre
+use Rattle.rbc_centre.specs.declared.centre.Centre.{Centre}
+use Rattle.rbc_centre.specs.State.{stands_for}
+
+abbrev pub line_of : Centre → Line
+line_of k = k.line
+
+abbrev pub number_of : Centre → ℕ
+number_of k = k.number
+
+abbrev pub meaning : Centre → centre.Centre
+meaning k = stands_for k.line k.clock k.pages.items k.trains.items

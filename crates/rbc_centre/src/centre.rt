@@ -1,0 +1,153 @@
+ghost use Rattle.std.specs.Prelude.{◌≡◌, ◌+◌, ◌≤◌, ◌<◌, ℕ, slice_get, true, length, IfOk, OnErr, Some, [], ◌∷◌};
+ghost use Rattle.rbc_spec.specs.Line.{is_centre, train_number};
+ghost use Rattle.rbc_spec.specs.Centre.{beginning};
+ghost use Rattle.rbc_spec.specs.Centre as spec;
+ghost use Rattle.rbc_centre.specs.declared.train.TrainState.{TrainState};
+
+use crate::book::Page;
+use crate::event::Event;
+use crate::fault::StepFault;
+use crate::outcome::{Outcome, Saying, Silence};
+use crate::train::TrainState;
+use rbc_line::Line;
+use rbc_msgs::{TrackBody, TrainBody, TrainMsg};
+use std::alloc::{AllocError, Global};
+
+/// The greatest stamp of a step.
+pub const LAST_STAMP: u32 = 1_073_741_823;
+
+/// A radio block centre.
+#[derive(Drop)]
+pub struct Centre {
+    line: Line,
+    number: u8,
+    /// The stamp of the last step, 0 before the first.
+    clock: u32,
+    /// A page for each section of the line.
+    pages: Vec<Page>,
+    /// What is kept of each train, in the order of the line file.
+    trains: Vec<TrainState>,
+    ghost in_time: { clock ≤ 1073741823 },
+    ghost each_section: { length pages.items ≡ length line.sections },
+    ghost each_train: { length trains.items ≡ length line.trains },
+    ghost counted: { (i : ℕ) → (p : TrainState) → slice_get trains.items i ≡ Some p → p.said ≤ clock },
+}
+
+impl Centre {
+    ghost use Rattle.rbc_centre.specs.Meaning.{line_of, number_of, meaning};
+    ghost use Rattle.rbc_centre.specs.Views.{message_of, outcome_of, saying_of};
+    ghost use Rattle.rbc_centre.specs.State.{entry_of, phase_of};
+    ghost use Rattle.rbc_centre.specs.Answer.{Steps};
+
+    /// A centre of the line at its beginning. It keeps a copy of the line.
+    pub fn new(alloc: Global, line: &Line, number: u8) -> Result<Centre, AllocError>
+        requires { is_centre line.now number ≡ true }
+        ensures line { IfOk result (λ k. line_of k ≡ line.now) }
+        ensures number { IfOk result (λ k. number_of k ≡ number) }
+        ensures beginning { IfOk result (λ k. meaning k ≡ beginning) }
+    {
+        let pages = vec![in alloc; Page::SHUT; line.section_count() as usize]?;
+        let trains = vec![in alloc; TrainState::UNKNOWN; line.train_count() as usize]?;
+        Ok(Centre {
+            line: line.copied(alloc)?,
+            number,
+            clock: 0,
+            pages,
+            trains,
+        })
+    }
+
+    /// The number of the centre.
+    pub fn number(&self) -> u8
+        ensures { result ≡ number_of self.now }
+    {
+        self.number
+    }
+
+    /// What the centre's book has of a section; a number of no section is shut.
+    pub fn page(&self, s: u16) -> Page
+        ensures entry { entry_of result.entry ≡ (meaning self.now).book s }
+        ensures wish { result.is_wished ≡ (meaning self.now).wish s }
+    {
+        page_at(&self.pages, s as usize).unwrap_or(Page::SHUT)
+    }
+
+    /// What the centre keeps of a train; a foreign engine was never heard.
+    pub fn train(&self, nid_engine: u32) -> TrainState
+        ensures phase { phase_of result.phase ≡ (meaning self.now).phase nid_engine }
+        ensures heard { result.heard ≡ (meaning self.now).heard nid_engine }
+        ensures said { result.said ≡ (meaning self.now).said nid_engine }
+    {
+        match self.line.train_number(nid_engine) {
+            Some(i) => self.trains[i as usize],
+            None => TrainState::UNKNOWN,
+        }
+    }
+
+    /// Takes an event, and answers it. Only a stamp past the last one is refused, and then nothing changes.
+    pub fn step(&mut self, event: &Event) -> Result<Outcome, StepFault>
+        ensures line { line_of self.new ≡ line_of self.old }
+        ensures number { number_of self.new ≡ number_of self.old }
+        ensures exact { Steps (λ o. (outcome_of o, meaning self.new)) result
+            (spec.step (line_of self.old) (message_of event.now) (meaning self.old)) }
+        ensures err { OnErr result (meaning self.new ≡ meaning self.old) }
+    {
+        if self.clock >= LAST_STAMP {
+            return Err(StepFault::ClockEnd);
+        }
+        match event {
+            Event::Train(message) => Ok(self.take(message)),
+        }
+    }
+
+    // The step of a train's message, at a centre that is not at its last stamp.
+    fn take(&mut self, message: &TrainMsg) -> Outcome
+        requires { self.old.clock < 1073741823 }
+        ensures line { line_of self.new ≡ line_of self.old }
+        ensures number { number_of self.new ≡ number_of self.old }
+        ensures exact { (outcome_of result, meaning self.new)
+            ≡ spec.taken (line_of self.old) message.now (meaning self.old) }
+    {
+        self.clock += 1;
+        let Some(i) = self.line.train_number(message.nid_engine()) else {
+            return Outcome::silent(self.clock, Silence::ForeignEngine);
+        };
+        if self.trains[i as usize].is_stale(message.t_train()) {
+            return Outcome::silent(self.clock, Silence::StaleStamp);
+        }
+        let saying = self.answer(i as usize, message);
+        Outcome::said(self.clock, saying)
+    }
+
+    // The answer to a message that is not silent, from train number i of the line.
+    fn answer(&mut self, i: usize, message: &TrainMsg) -> Saying
+        requires number { train_number (line_of self.old) message.now.nid_engine ≡ Some i }
+        requires time { (p : TrainState) → slice_get self.old.trains.items i ≡ Some p → p.said < self.old.clock }
+        ensures line { line_of self.new ≡ line_of self.old }
+        ensures number { number_of self.new ≡ number_of self.old }
+        ensures clock { self.new.clock ≡ self.old.clock }
+        ensures exact { record { state = meaning self.new; sayings = saying_of result ∷ [] }
+            ≡ spec.answered message.now.body message.now.nid_engine
+            (spec.hear message.now (meaning self.old)) }
+    {
+        let train = &mut self.trains[i];
+        train.hear(message.t_train());
+        match message.body() {
+            TrainBody::InitiationOfSession => {
+                train.close_session();
+                train.open_session();
+                Saying::of_count(
+                    message.nid_engine(),
+                    train.count_message(),
+                    TrackBody::SystemVersion,
+                )
+            }
+        }
+    }
+}
+
+fn page_at(pages: &[Page], s: usize) -> Option<Page>
+    ensures { result ≡ slice_get pages.now s }
+{
+    pages.get(s).copied()
+}

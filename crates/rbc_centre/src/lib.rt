@@ -1,0 +1,17 @@
+//! One radio block centre: its state, and the step that takes a train's message to an answer. The rules are
+//! `rbc_spec.specs.Centre`; the contract of `Centre::step` is one equation with the step defined there.
+#![tactic(auto)]
+
+mod book;
+mod centre;
+mod event;
+mod fault;
+mod outcome;
+mod train;
+
+pub use book::{Entry, Page};
+pub use centre::{Centre, LAST_STAMP};
+pub use event::Event;
+pub use fault::StepFault;
+pub use outcome::{Outcome, Saying, Silence};
+pub use train::{Phase, TrainState};

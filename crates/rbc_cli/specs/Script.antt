@@ -1,0 +1,70 @@
+-- Scripts as bytes: which lines a script has, and what each of them asks for.
+use Rattle.std.specs.Prelude.{ℕ, ◌+◌, ◌^◌, ◌==◌, ◌&&◌, ◌||◌, Bool, not, if◌then◌else◌, List, [], ◌∷◌, length, slice_index, codes, nat_lt, position, filter, map, Option, Some, None, is_none, option_map, option_and_then}
+use Rattle.std.specs.List.{slice_split}
+use Rattle.std.specs.Result.{result_ok}
+use Rattle.std.specs.Str.{bytes_eq, all_ascii_digits}
+use Rattle.std.specs.Str.Parse.{digits_value}
+use Rattle.hex.specs.Hex.{decode_of}
+use Rattle.rbc_spec.specs.Line.{Line}
+
+-- what a line of a script asks for: to show the line, or an event
+pub data Asked : Type 0 where
+  Show : Asked
+  Train : (centre : ℕ) → (bytes : List ℕ) → Asked
+  Deliver : (from to number : ℕ) → Asked
+
+-- the centre of this name
+abbrev pub centre_named : Line → List ℕ → Option ℕ
+centre_named line word = position (λ p. bytes_eq p.name word) line.centres
+
+-- the bytes that pairs of hexadecimal digits in either case stand for, at least one
+abbrev pub bytes_of : List ℕ → Option (List ℕ)
+bytes_of word = if length word == 0 then None else result_ok (decode_of word)
+
+-- the number that decimal digits without a sign stand for, where 32 bits hold it
+abbrev pub number_of : List ℕ → Option ℕ
+number_of word =
+    if nat_lt 0 (length word) && all_ascii_digits word && nat_lt (digits_value 10 word) (2 ^ 32)
+    then Some (digits_value 10 word) else None
+
+-- `show`: print the line that the centres supervise
+abbrev pub show_of : List ℕ → Option Asked
+show_of verb = if bytes_eq verb (codes "show") then Some Show else None
+
+-- `train A 9B02`: the bytes come from a train to a centre
+abbrev pub train_of : Line → List ℕ → List ℕ → List ℕ → Option Asked
+train_of line verb centre digits =
+    if bytes_eq verb (codes "train")
+    then option_and_then (λ c. option_map (λ bytes. Train c bytes) (bytes_of digits)) (centre_named line centre)
+    else None
+
+-- `deliver A B 1`: the frame that one centre sent to another under a number is delivered
+abbrev pub delivery_of : Line → List ℕ → List ℕ → List ℕ → List ℕ → Option Asked
+delivery_of line verb from to number =
+    if bytes_eq verb (codes "deliver")
+    then option_and_then (λ a. option_and_then (λ b. option_map (λ n. Deliver a b n) (number_of number))
+    (centre_named line to)) (centre_named line from)
+    else None
+
+-- what the words of a line ask for; none where the line has no form that a script may have
+abbrev pub asked : Line → List (List ℕ) → Option Asked
+asked line (verb ∷ []) = show_of verb
+asked line (verb ∷ centre ∷ digits ∷ []) = train_of line verb centre digits
+asked line (verb ∷ from ∷ to ∷ number ∷ []) = delivery_of line verb from to number
+asked line _ = None
+
+-- what a line asks for by its words, which single blanks part
+unfoldable pub row_asks : Line → List ℕ → Option Asked
+row_asks line row = asked line (slice_split (λ b. b == 32) row)
+
+-- the line is not skipped: it is not empty, and does not begin with `#`
+unfoldable pub is_kept : List ℕ → Bool
+is_kept row = nat_lt 0 (length row) && not (slice_index row 0 == 35)
+
+-- the line is not skipped, and has no form that a script may have
+abbrev pub is_faulty : Line → List ℕ → Bool
+is_faulty line row = is_kept row && is_none (row_asks line row)
+
+-- the lines of a script, each without the line feed that ends it
+abbrev pub rows : List ℕ → List (List ℕ)
+rows text = slice_split (λ b. b == 10) text

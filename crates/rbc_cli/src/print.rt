@@ -1,0 +1,148 @@
+//! What `run` prints: events, what they lead to, and the line.
+
+use crate::fault::Fault;
+use rbc_centre::{Outcome, Saying, StepFault};
+use rbc_line::Line;
+use rbc_msgs::encode_track;
+use rbc_world::{Answer, Mark, SectionView, World, WorldEvent};
+use std::alloc::Global;
+use std::io::Write;
+
+/// Prints an event as a line of a script, after `> `.
+pub fn print_event<W: Write>(
+    alloc: Global,
+    out: &mut W,
+    line: &Line,
+    event: &WorldEvent,
+) -> Result<(), Fault<'static>> {
+    match event {
+        WorldEvent::Train { centre, bytes } => {
+            let digits = hex::encode_upper(alloc, bytes)?;
+            writeln!(out, "> train {} {digits}", name_of(line, *centre))?;
+        }
+        WorldEvent::Deliver { from, to, number } => {
+            let from = name_of(line, *from);
+            let to = name_of(line, *to);
+            writeln!(out, "> deliver {from} {to} {number}")?;
+        }
+    }
+    Ok(())
+}
+
+/// Prints what an event leads to.
+pub fn print_answer<W: Write>(
+    alloc: Global,
+    out: &mut W,
+    line: &Line,
+    event: &WorldEvent,
+    answer: &Answer,
+) -> Result<(), Fault<'static>> {
+    let centre = name_of(line, centre_of(event));
+    match answer {
+        Answer::Outcome(outcome) => print_outcome(alloc, out, centre, outcome)?,
+        Answer::Fault(fault) => writeln!(out, "{centre} fault {}", fault.number())?,
+        Answer::NotSent => writeln!(out, "not sent")?,
+        // A script names centres of the line alone.
+        Answer::NoCentre => {}
+    }
+    Ok(())
+}
+
+fn print_outcome<W: Write>(
+    alloc: Global,
+    out: &mut W,
+    centre: &str,
+    outcome: &Outcome,
+) -> Result<(), Fault<'static>> {
+    for saying in outcome.sayings.as_slice() {
+        print_saying(alloc, out, centre, saying)?;
+    }
+    match outcome.silence {
+        Some(why) => writeln!(out, "{centre} silent {}", why.number())?,
+        None if outcome.sayings.is_empty() => writeln!(out, "{centre} ok")?,
+        None => {}
+    }
+    Ok(())
+}
+
+fn print_saying<W: Write>(
+    alloc: Global,
+    out: &mut W,
+    centre: &str,
+    saying: &Saying,
+) -> Result<(), Fault<'static>> {
+    let Ok(bytes) = encode_track(alloc, &saying.message) else {
+        return Err(Fault::Step(StepFault::Memory));
+    };
+    let digits = hex::encode_upper(alloc, &bytes)?;
+    writeln!(out, "{centre} -> {} {digits}", saying.nid_engine)?;
+    Ok(())
+}
+
+/// Prints what each section is used for, and who supervises each train that was heard of.
+pub fn print_line<W: Write>(
+    alloc: Global,
+    out: &mut W,
+    line: &Line,
+    world: &World,
+) -> Result<(), Fault<'static>> {
+    let view = world.view(alloc)?;
+    for (number, section) in view.sections.iter().enumerate() {
+        print_section(out, line, number, section)?;
+    }
+    for nid_engine in world.trains().iter() {
+        // No centre can supervise a train yet.
+        print_train(out, *nid_engine, None)?;
+    }
+    Ok(())
+}
+
+fn print_section<W: Write>(
+    out: &mut W,
+    line: &Line,
+    number: usize,
+    section: &SectionView,
+) -> Result<(), Fault<'static>> {
+    write!(out, "section {number} {} ", home_of(line, number))?;
+    match section.mark {
+        Mark::Shut => write!(out, "shut")?,
+        Mark::Open => write!(out, "open")?,
+        Mark::Kept { nid_engine } => write!(out, "kept {nid_engine}")?,
+        Mark::Given { nid_engine } => write!(out, "given {nid_engine}")?,
+    }
+    let wish = if section.is_wished { " wished" } else { "" };
+    writeln!(out, "{wish}")?;
+    Ok(())
+}
+
+fn print_train<W: Write>(
+    out: &mut W,
+    nid_engine: u32,
+    supervisor: Option<&str>,
+) -> Result<(), Fault<'static>> {
+    writeln!(out, "train {nid_engine} {}", supervisor.unwrap_or("none"))?;
+    Ok(())
+}
+
+/// The centre that takes the step of an event.
+fn centre_of(event: &WorldEvent) -> u8 {
+    match event {
+        WorldEvent::Train { centre, .. } => *centre,
+        WorldEvent::Deliver { to, .. } => *to,
+    }
+}
+
+fn name_of(line: &Line, centre: u8) -> &str {
+    line.centre_name(centre).unwrap_or("?")
+}
+
+/// The name of a section's home centre.
+fn home_of(line: &Line, number: usize) -> &str {
+    let Ok(number) = u16::try_from(number) else {
+        return "?";
+    };
+    match line.section(number) {
+        Some(section) => name_of(line, section.home),
+        None => "?",
+    }
+}

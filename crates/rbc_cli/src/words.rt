@@ -1,0 +1,54 @@
+use crate::fault::Fault;
+use clap::error::ErrorKind;
+use clap::{Arg, ArgMatches, Command, Error};
+use std::alloc::{AllocError, Global};
+use std::convert::AsStr;
+
+/// What the words ask for.
+#[derive(Clone, Copy, Debug, PartialEq, Eq)]
+pub enum Request<'a> {
+    /// Run the script on the line.
+    Run { file: &'a str, script: &'a str },
+}
+
+/// Reads the words behind the program's name.
+pub fn requested<'a, S: AsStr>(alloc: Global, words: &'a [S]) -> Result<Request<'a>, Fault<'a>> {
+    let matches = match matched(alloc, words) {
+        Ok(matches) => matches,
+        Err(error) if error.kind() == ErrorKind::OutOfMemory => return Err(AllocError.into()),
+        Err(error) => return Err(Fault::Usage(error)),
+    };
+    named(&matches).ok_or(Fault::Words)
+}
+
+fn named<'a>(matches: &ArgMatches<'a>) -> Option<Request<'a>> {
+    let run = matches.subcommand_matches("run")?;
+    let file = run.get_str("FILE")?;
+    let script = run.get_str("SCRIPT")?;
+    Some(Request::Run { file, script })
+}
+
+fn matched<'a, S: AsStr>(alloc: Global, words: &'a [S]) -> Result<ArgMatches<'a>, Error> {
+    rbcline(alloc)?.try_get_matches_from(words)
+}
+
+fn rbcline<'a>(alloc: Global) -> Result<Command<'a>, AllocError> {
+    let command = Command::new(alloc, "rbcline")
+        .about("Radio block centres that supervise one line")
+        .no_binary_name(true)
+        .subcommand_required(true)
+        .arg_required_else_help(true);
+    command.subcommand(run(alloc)?)
+}
+
+fn run<'a>(alloc: Global) -> Result<Command<'a>, AllocError> {
+    let command = Command::new(alloc, "run").about(
+        "Runs a script of events, and prints each event, what it leads to, and the line at the end",
+    );
+    let command = command.arg(file(alloc, "FILE", "The line file"))?;
+    command.arg(file(alloc, "SCRIPT", "The script, one event a line"))
+}
+
+fn file<'a>(alloc: Global, name: &'a str, help: &'a str) -> Arg<'a> {
+    Arg::new(alloc, name).required(true).help(help)
+}

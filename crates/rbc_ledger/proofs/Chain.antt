@@ -1,0 +1,116 @@
+-- Laws of chains: kept when frames are sent at the end and when the head is taken.
+use Rattle.std.proofs.Common.{◌≡◌, ◌≢◌, ℕ, List, [], ◌∷◌, ◌++◌, Option, Some, None, All, option_and_then, refl, sym, ap, ◌∙◌, subst}
+use Rattle.std.proofs.lemmas.List.Elements.{All-head, All-tail}
+use Rattle.rbc_ledger.specs.Network.{Net, way, IsCounted, TakesHead, took, acted}
+use Rattle.rbc_ledger.specs.Chain.{after_all, Chain}
+use Rattle.rbc_ledger.proofs.Network.{way_acted, way_acted_other, way_took_other}
+
+-- what frames do one after another
+after_append : {F S : Type 0} (step : F → S → Option S) (fs gs : List F) (s : S)
+    → after_all step (fs ++ gs) s ≡ option_and_then (after_all step gs) (after_all step fs s)
+unfolding after_all
+after_append step [] gs s = refl
+after_append {S = S} step (f ∷ fs) gs s = by_head (after_append step fs gs) (step f s)
+  where
+    by_head :
+        ((t : S) → after_all step (fs ++ gs) t ≡ option_and_then (after_all step gs) (after_all step fs t))
+        → (o : Option S) → option_and_then (after_all step (fs ++ gs)) o ≡ option_and_then (after_all step gs)
+        (option_and_then (after_all step fs) o)
+    by_head rest None = refl
+    by_head rest (Some mid) = rest mid
+
+-- two states that are there are one where they are the same answer
+same : {S : Type 0} (x y : S) → Some x ≡ Some y → x ≡ y
+same x y e = cc
+
+-- no frame on the way: the start is the end
+pub chain_none : {F S : Type 0} (step : F → S → Option S) (s : S) → Chain step [] s s
+unfolding after_all
+chain_none step s = record { leads = refl }
+
+-- what is sent at the end leads on from the end
+pub chain_sent : {F S : Type 0} (step : F → S → Option S) (fs gs : List F) (start mid end : S)
+    → Chain step fs start mid → Chain step gs mid end → Chain step (fs ++ gs) start end
+chain_sent step fs gs start mid end one two =
+    record { leads = after_append step fs gs start ∙ ap (option_and_then (after_all step gs)) one.leads ∙ two.leads }
+
+-- one frame
+pub chain_one : {F S : Type 0} (step : F → S → Option S) (f : F) (start end : S) → step f start ≡ Some end
+    → Chain step (f ∷ []) start end
+unfolding after_all
+chain_one step f start end leads = record { leads = ap (option_and_then (after_all step [])) leads }
+
+-- frames that may all come, and change nothing
+pub chain_still : {F S : Type 0} (step : F → S → Option S) (fs : List F) (s : S) → All (λ f. step f s ≡ Some s) fs
+    → Chain step fs s s
+unfolding after_all
+chain_still step [] s still = record { leads = refl }
+chain_still step (f ∷ fs) s still =
+    record {
+      leads = ap (option_and_then (after_all step fs)) (All-head (λ g. step g s ≡ Some s) f fs still)
+          ∙ (chain_still step fs s (All-tail (λ g. step g s ≡ Some s) f fs still)).leads;
+    }
+
+-- the head may come, and what it leads to becomes the end after the others
+pub chain_taken : {F S : Type 0} (step : F → S → Option S) (f : F) (fs : List F) (start end : S)
+    → Chain step (f ∷ fs) start end → (mid : S) × (step f start ≡ Some mid) × Chain step fs mid end
+unfolding after_all
+chain_taken {S = S} step f fs start end chain = by_head (step f start) refl chain.leads
+  where
+    by_head : (o : Option S) → step f start ≡ o → option_and_then (after_all step fs) o ≡ Some end
+        → (mid : S) × (step f start ≡ Some mid) × Chain step fs mid end
+    by_head None is leads = absurd (cc)
+    by_head (Some mid) is leads = (mid, is, record { leads = leads })
+
+-- a chain of frames and more frames is a chain of the frames and one of the others
+pub chain_split : {F S : Type 0} (step : F → S → Option S) (fs gs : List F) (start end : S)
+    → Chain step (fs ++ gs) start end → (mid : S) × Chain step fs start mid × Chain step gs mid end
+chain_split {S = S} step fs gs start end chain =
+    by_first (after_all step fs start) refl (sym (after_append step fs gs start) ∙ chain.leads)
+  where
+    by_first : (o : Option S) → after_all step fs start ≡ o → option_and_then (after_all step gs) o ≡ Some end
+        → (mid : S) × Chain step fs start mid × Chain step gs mid end
+    by_first None is leads = absurd (cc)
+    by_first (Some mid) is leads = (mid, record { leads = is }, record { leads = leads })
+
+-- a frame in its midst may come where the frames before it led
+pub chain_at : {F S : Type 0} (step : F → S → Option S) (fs : List F) (f : F) (gs : List F) (start end : S)
+    → Chain step (fs ++ f ∷ gs) start end
+    → (mid next : S) × Chain step fs start mid × (step f mid ≡ Some next) × Chain step gs next end
+chain_at step fs f gs start end chain =
+    let parts = chain_split step fs (f ∷ gs) start end chain in
+    let head = chain_taken step f gs parts.0 end parts.2 in
+    (parts.0, head.0, parts.1, head.1, head.2)
+
+-- the frames and the start determine the end
+pub chain_only : {F S : Type 0} (step : F → S → Option S) (fs : List F) (start end other : S)
+    → Chain step fs start end → Chain step fs start other → end ≡ other
+chain_only step fs start end other one two = same end other (sym one.leads ∙ two.leads)
+
+-- an act of c sends frames that lead on, on each of its links
+pub chain_acted : {X F S : Type 0} (step : F → S → Option S) (w : Net X F) (c : ℕ) (x : X) (frames : ℕ → List F)
+    (d : ℕ) (start mid end : S) → IsCounted w → Chain step (way w c d) start mid → Chain step (frames d) mid end
+    → Chain step (way (acted w c x frames) c d) start end
+chain_acted step w c x frames d start mid end counted one two =
+    subst (λ fs. Chain step fs start end) (sym (way_acted w c x frames counted d))
+    (chain_sent step (way w c d) (frames d) start mid end one two)
+
+-- an act of c leaves the other links' chains
+pub chain_acted_other : {X F S : Type 0} (step : F → S → Option S) (w : Net X F) (c : ℕ) (x : X)
+    (frames : ℕ → List F) (a b : ℕ) (start end : S) → a ≢ c → Chain step (way w a b) start end
+    → Chain step (way (acted w c x frames) a b) start end
+chain_acted_other step w c x frames a b start end apart chain =
+    subst (λ fs. Chain step fs start end) (sym (way_acted_other w c x frames a b apart)) chain
+
+-- the head of a queue may come, and what it leads to is the start from then on
+pub chain_took : {X F S : Type 0} (step : F → S → Option S) (w : Net X F) (a b : ℕ) (f : F) (start end : S)
+    → TakesHead w a b f → Chain step (way w a b) start end
+    → (mid : S) × (step f start ≡ Some mid) × Chain step (way (took w a b) a b) mid end
+chain_took step w a b f start end takes chain =
+    chain_taken step f (way (took w a b) a b) start end (subst (λ fs. Chain step fs start end) takes.head chain)
+
+-- and the other links' chains stay
+pub chain_took_other : {X F S : Type 0} (step : F → S → Option S) (w : Net X F) (a b i j : ℕ) (start end : S)
+    → (i ≡ a → j ≢ b) → Chain step (way w i j) start end → Chain step (way (took w a b) i j) start end
+chain_took_other step w a b i j start end apart chain =
+    subst (λ fs. Chain step fs start end) (sym (way_took_other w a b i j apart)) chain

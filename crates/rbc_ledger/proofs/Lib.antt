@@ -1,0 +1,11 @@
+pub mod Sums
+pub mod Network
+pub mod Resource
+pub mod Places
+pub mod Runs
+pub mod Longest
+pub mod Sections
+pub mod Chain
+pub mod Sweep
+pub mod Letters
+pub mod Coin

@@ -1,0 +1,11 @@
+pub mod Lists
+pub mod Rows
+pub mod TableSteps
+pub mod ReadSteps
+pub mod Twice
+pub mod FileFacts
+pub mod Sound
+pub mod Numbered
+pub mod HomeSteps
+pub mod BuildSteps
+pub mod DraftLine

@@ -1,0 +1,75 @@
+-- The look-up tables, one entry at a time.
+use Rattle.std.proofs.Common.{◌≡◌, ℕ, suc, inl, inr, ◌+◌, ◌<◌, ◌==◌, ◌≢◌, Bool, true, false, not, cond, ◌&&◌, ◌||◌, ltb, nat_eq, List, length, get_or, take, drop, Option, Some, None, option_map, refl, ap, sym, ◌∙◌, arith}
+use Rattle.std.specs.List.{position, find, list_any, slice_get, zip}
+use Rattle.std.specs.HashMap.{get, Updates}
+use Rattle.std.proofs.lemmas.Bool.{cases_Bool}
+use Rattle.std.proofs.lemmas.Bool.Decides.{nat_tests}
+use Rattle.std.proofs.lemmas.List.{drop-map}
+use Rattle.std.proofs.lemmas.Option.{slice_get-get_or}
+use Rattle.rbc_spec.specs.Line.{AreDistinct, Line, Section, is_border, is_registrar, is_linked, next_centre}
+use Rattle.rbc_line.specs.declared.parts.Rows.{Rows}
+use Rattle.rbc_line.specs.declared.parts.Section.{Section as SectionRow}
+use Rattle.rbc_line.specs.Tables.{Numbers}
+use Rattle.rbc_line.specs.Views.{section_of, train_of, line_of_rows}
+use Rattle.rbc_line.proofs.Lists.{slice_get_take, position_more, position_none, zip-map, list_any-map, find-map}
+
+-- the elements before a place have other keys
+none_before : {X : Type 0} (key : X → ℕ) (xs : List X) (i : ℕ) (x : X) (q : ℕ) → AreDistinct key xs → slice_get xs i ≡ Some x → (key x == q) ≡ true → position (λ p. key p == q) (take i xs) ≡ None
+none_before key xs i x q apart at same =
+    position_none (λ p. key p == q) (take i xs) (λ j y found.
+    let place = slice_get_take i xs j y found in
+    elim (cases_Bool (key y == q)) [
+      | inl equal ↦ absurd (let keys : key y ≡ key x = grind (arith, nat_tests) in omega (arith, apart j i y x place.1 at keys, place.0))
+      | inr other ↦ other
+    ])
+
+-- one more key, which no key before it is equal to
+pub key_more : {X : Type 0} (key : X → ℕ) (xs : List X) (i : ℕ) (d : X) (m n : Numbers) → AreDistinct key xs → i < length xs
+    → ((q : ℕ) → get nat_eq m q ≡ position (λ p. key p == q) (take i xs)) → Updates nat_eq m n (key (get_or xs i d)) (Some i)
+    → (q : ℕ) → get nat_eq n q ≡ position (λ p. key p == q) (take (i + 1) xs)
+key_more key xs i d m n apart within before put q =
+    let next : suc i ≡ i + 1 = omega arith in
+    let at = slice_get-get_or xs i d within in
+    put.0 q
+    ∙ ap (cond (key (get_or xs i d) == q) (Some i)) (before q)
+    ∙ position_more (λ p. key p == q) xs i (get_or xs i d) at (none_before key xs i (get_or xs i d) q apart at)
+    ∙ ap (λ k. position (λ p. key p == q) (take k xs)) next
+
+-- two rows as the sections that they stand for
+abbrev pair_of : SectionRow × SectionRow → Section × Section
+pair_of seam = (section_of seam.0, section_of seam.1)
+
+home_of_next : (o : Option (SectionRow × SectionRow)) → option_map (λ seam. seam.1.home) (option_map pair_of o) ≡ option_map (λ (seam : SectionRow × SectionRow). seam.1.home) o
+home_of_next None = refl
+home_of_next (Some seam) = refl
+
+-- borders between rows in memory
+pub border_of_rows : (rows : Rows) (a b : ℕ)
+    → list_any (λ seam. ((seam.0.track == seam.1.track) && (seam.0.home == a)) && (seam.1.home == b)) (zip rows.sections.items (drop 1 rows.sections.items)) ≡ is_border (line_of_rows rows) a b
+border_of_rows rows a b =
+    sym (rw (drop-map section_of 1 rows.sections.items, zip-map section_of rows.sections.items (drop 1 rows.sections.items))
+    (list_any-map (λ seam. ((seam.0.track == seam.1.track) && (seam.0.home == a)) && (seam.1.home == b)) pair_of (zip rows.sections.items (drop 1 rows.sections.items))))
+
+pub registrar_of_rows : (rows : Rows) (c : ℕ) → list_any (λ p. p.registrar == c) rows.trains.items ≡ is_registrar (line_of_rows rows) c
+registrar_of_rows rows c = sym (list_any-map (λ p. p.registrar == c) train_of rows.trains.items)
+
+pub next_centre_of_rows : (rows : Rows) (c k : ℕ)
+    → option_map (λ seam. seam.1.home) (find (λ seam. (((seam.0.track == seam.1.track) && (seam.0.track == k)) && (seam.0.home == c)) && not (seam.1.home == c)) (zip rows.sections.items (drop 1 rows.sections.items)))
+    ≡ next_centre (line_of_rows rows) c k
+next_centre_of_rows rows c k =
+    sym (rw (
+      drop-map section_of 1 rows.sections.items,
+      zip-map section_of rows.sections.items (drop 1 rows.sections.items),
+      find-map (λ seam. (((seam.0.track == seam.1.track) && (seam.0.track == k)) && (seam.0.home == c)) && not (seam.1.home == c)) pair_of (zip rows.sections.items (drop 1 rows.sections.items)),
+    )
+    (home_of_next _))
+
+-- two different centres are linked where one of the four tests passes
+pub linked_by : (line : Line) (a b : ℕ) (follows leads first second : Bool) → a < length line.centres → b < length line.centres → a ≢ b
+    → follows ≡ is_border line a b → leads ≡ is_border line b a → first ≡ is_registrar line a → second ≡ is_registrar line b
+    → ((follows || leads) || (first || second)) ≡ is_linked line a b
+linked_by line a b follows leads first second in_a in_b other e f g h =
+    let of_a : ltb a (length line.centres) ≡ true = grind (arith, nat_tests) in
+    let of_b : ltb b (length line.centres) ≡ true = grind (arith, nat_tests) in
+    let apart : (a == b) ≡ false = grind (arith, nat_tests) in
+    rw (e, f, g, h, of_a, of_b, apart)

@@ -1,0 +1,32 @@
+-- The look-up tables that stand beside a line.
+use Rattle.std.specs.Prelude.{◌≡◌, ℕ, ◌+◌, ◌*◌, ◌<◌, Bool, List, Option, Some, slice_get, nat_eq}
+use Rattle.std.specs.HashMap.{HashMap, get}
+use Rattle.std.specs.declared.hash.FoldHasher.{FoldHasher}
+use Rattle.std.specs.declared.hash.BuildHasherDefault.{BuildHasherDefault}
+use Rattle.rbc_spec.specs.Line.{Line, IsLine, start, section_of_group, train_number, is_linked, next_centre}
+use Rattle.rbc_line.specs.declared.parts.Section.{Section as SectionRow}
+
+-- a map from numbers to numbers
+abbrev pub Numbers : Type 0
+Numbers = HashMap ℕ ℕ (BuildHasherDefault FoldHasher)
+
+-- each row has the start of its section
+abbrev pub HasStarts : Line → List SectionRow → Type 0
+HasStarts line rows = (s : ℕ) (row : SectionRow) → slice_get rows s ≡ Some row → row.start ≡ start line s
+
+-- for each pair of centres whether they are linked
+abbrev pub HasLinks : Line → List Bool → Type 0
+HasLinks line links = (a b : ℕ) → a < 8 → b < 8 → slice_get links (a * 8 + b) ≡ Some (is_linked line a b)
+
+-- for each centre and track the centre that follows
+abbrev pub HasNextCentres : Line → List (Option ℕ) → Type 0
+HasNextCentres line nexts = (c k : ℕ) → c < 8 → k < 4 → slice_get nexts (c * 4 + k) ≡ Some (next_centre line c k)
+
+-- all rules of a line, and the tables agree with it
+pub record IsTabled (line : Line) (rows : List SectionRow) (by_group by_engine : Numbers) (pairs : List Bool) (followers : List (Option ℕ)) : Type 0 where
+  pub rules : IsLine line
+  pub starts : HasStarts line rows
+  pub groups : (q : ℕ) → get nat_eq by_group q ≡ section_of_group line q
+  pub engines : (q : ℕ) → get nat_eq by_engine q ≡ train_number line q
+  pub links : HasLinks line pairs
+  pub nexts : HasNextCentres line followers

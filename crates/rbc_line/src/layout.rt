@@ -1,0 +1,232 @@
+ghost use Rattle.std.specs.Prelude.{◌≡◌, ◌+◌, ◌<◌, ◌≤◌, ◌==◌, length, option_map, option_copied, slice_get, IfSome, IfOk, position};
+ghost use Rattle.std.specs.Str.{bytes_eq};
+ghost use Rattle.rbc_spec.specs.Line.{IsLine, is_home, section_of_group, train_number, registrar, is_linked, next_centre};
+ghost use Rattle.rbc_line.specs.Views.{placed_section, listed_train};
+
+use crate::parts::{Rows, Section, Train};
+use crate::tables::{engines_of, groups_of, links_of, next_centres_of};
+use std::alloc::{AllocError, Global};
+use std::collections::HashMap;
+use std::marker::Model;
+
+/// The line that the centres supervise: every rule of a line holds of it.
+#[derive(Drop)]
+pub struct Line {
+    rows: Rows,
+    groups: HashMap<u32, u16>,
+    engines: HashMap<u32, u8>,
+    links: [bool; 64],
+    next_centres: [Option<u8>; 32],
+}
+
+impl Model for Line {
+    ghost use Rattle.rbc_spec.specs.Line.{Line as LineData};
+    ghost use Rattle.rbc_line.specs.Views.{line_of_rows};
+    ghost use Rattle.rbc_line.specs.Tables.{IsTabled};
+
+    ghost Value = { LineData };
+
+    ghost view = { λ l. line_of_rows l.rows };
+
+    ghost invariant = { λ l. IsTabled (line_of_rows l.rows) l.rows.sections.items l.groups l.engines l.links l.next_centres };
+}
+
+impl Line {
+    ghost use Rattle.rbc_line.specs.Tables.{HasStarts};
+    ghost use Rattle.rbc_line.specs.Views.{line_of_rows};
+
+    /// The line of these rows, with its look-up tables.
+    pub(crate) fn with_tables(alloc: Global, rows: Rows) -> Result<Line, AllocError>
+        requires line { IsLine (line_of_rows rows) }
+        requires starts { HasStarts (line_of_rows rows) rows.sections.items }
+        ensures { IfOk result (λ line. line ≡ line_of_rows rows) }
+    {
+        let groups = groups_of(alloc, rows.nid_c, &rows.sections)?;
+        let engines = engines_of(alloc, &rows.trains)?;
+        let links = links_of(&rows);
+        let next_centres = next_centres_of(&rows);
+        Ok(Line {
+            rows,
+            groups,
+            engines,
+            links,
+            next_centres,
+        })
+    }
+
+    /// A copy, equal to this line.
+    pub fn copied(&self, alloc: Global) -> Result<Line, AllocError>
+        ensures value { IfOk result (λ line. line ≡ self.now) }
+        ensures line { IfOk result IsLine }
+    {
+        Line::with_tables(alloc, self.rows.copied(alloc)?)
+    }
+
+    /// The country or region that the line's balise groups belong to (NID_C).
+    pub fn nid_c(&self) -> u16
+        ensures value { result ≡ self.now.nid_c }
+        ensures line { IsLine self.now }
+    {
+        self.rows.nid_c
+    }
+
+    /// How many centres the line has, 2 to 8. They are numbered from 0.
+    pub fn centre_count(&self) -> u8
+        ensures value { result ≡ length self.now.centres }
+        ensures line { IsLine self.now }
+    {
+        self.rows.centres.len() as u8
+    }
+
+    /// How many tracks the line has, 1 to 4. They are numbered from 0.
+    pub fn track_count(&self) -> u8
+        ensures value { result ≡ length self.now.tracks }
+        ensures line { IsLine self.now }
+    {
+        self.rows.tracks.len() as u8
+    }
+
+    /// How many sections the line has, 1 to 512. They are numbered from 0, over all tracks.
+    pub fn section_count(&self) -> u16
+        ensures value { result ≡ length self.now.sections }
+        ensures line { IsLine self.now }
+    {
+        self.rows.sections.len() as u16
+    }
+
+    /// How many trains the line file lists, 1 to 64.
+    pub fn train_count(&self) -> u8
+        ensures value { result ≡ length self.now.trains }
+        ensures line { IsLine self.now }
+    {
+        self.rows.trains.len() as u8
+    }
+
+    /// The name of a centre.
+    pub fn centre_name(&self, c: u8) -> Option<&str>
+        ensures { option_map (λ name. name.now) result
+            ≡ option_map (λ p. p.name) (slice_get self.now.centres c) }
+    {
+        match self.rows.centres.get(c as usize) {
+            Some(centre) => Some(centre.name.as_str()),
+            None => None,
+        }
+    }
+
+    /// The centre of this name.
+    pub fn centre_named(&self, name: &str) -> Option<u8>
+        ensures { result ≡ position (λ p. bytes_eq p.name name.now) self.now.centres }
+    {
+        match self
+            .rows
+            .centres
+            .iter()
+            .position(|centre| centre.name.as_str() == name)
+        {
+            Some(c) => Some(c as u8),
+            None => None,
+        }
+    }
+
+    /// The NID_RBC of a centre.
+    pub fn nid_rbc(&self, c: u8) -> Option<u16>
+        ensures { result ≡ option_map (λ p. p.nid_rbc) (slice_get self.now.centres c) }
+    {
+        match self.rows.centres.get(c as usize) {
+            Some(centre) => Some(centre.nid_rbc),
+            None => None,
+        }
+    }
+
+    /// The name of a track.
+    pub fn track_name(&self, track: u8) -> Option<&str>
+        ensures { option_map (λ name. name.now) result ≡ slice_get self.now.tracks track }
+    {
+        match self.rows.tracks.get(track as usize) {
+            Some(name) => Some(name.as_str()),
+            None => None,
+        }
+    }
+
+    /// The section of this number.
+    pub fn section(&self, s: u16) -> Option<Section>
+        ensures value { result ≡ placed_section self.now s }
+        ensures bound { IfSome result (λ p. p.start + p.metres ≤ 1024000) }
+        ensures line { IsLine self.now }
+    {
+        item(&self.rows.sections, s as usize)
+    }
+
+    /// Whether the section is of the line, and its home is this centre.
+    pub fn is_home(&self, c: u8, s: u16) -> bool
+        ensures { result ≡ is_home self.now c s }
+    {
+        match self.rows.sections.get(s as usize) {
+            Some(section) => section.home == c,
+            None => false,
+        }
+    }
+
+    /// The section whose balise group has this NID_LRBG.
+    pub fn section_of_group(&self, nid_lrbg: u32) -> Option<u16>
+        ensures value { result ≡ section_of_group self.now nid_lrbg }
+        ensures bound { IfSome result (λ s. s < length self.now.sections) }
+    {
+        self.groups.get(&nid_lrbg).copied()
+    }
+
+    /// The place of a train in the line file, from 0; none for a foreign engine.
+    pub fn train_number(&self, nid_engine: u32) -> Option<u8>
+        ensures value { result ≡ train_number self.now nid_engine }
+        ensures bound { IfSome result (λ i. i < length self.now.trains) }
+    {
+        self.engines.get(&nid_engine).copied()
+    }
+
+    /// The train at this place of the line file.
+    pub fn train(&self, i: u8) -> Option<Train>
+        ensures { result ≡ listed_train self.now i }
+    {
+        item(&self.rows.trains, i as usize)
+    }
+
+    /// The centre where the train's supervision right is registered.
+    pub fn registrar(&self, nid_engine: u32) -> Option<u8>
+        ensures { result ≡ registrar self.now nid_engine }
+    {
+        match self.train_number(nid_engine) {
+            Some(i) => match self.train(i) {
+                Some(train) => Some(train.registrar),
+                None => None,
+            },
+            None => None,
+        }
+    }
+
+    /// Whether two centres exchange frames: homes of neighbouring sections of a track, or one of them a registrar.
+    pub fn linked(&self, a: u8, b: u8) -> bool
+        ensures { result ≡ is_linked self.now a b }
+    {
+        if a >= self.centre_count() || b >= self.centre_count() {
+            return false;
+        }
+        self.links[a as usize * 8 + b as usize]
+    }
+
+    /// The centre that follows this one on a track.
+    pub fn next_centre(&self, c: u8, track: u8) -> Option<u8>
+        ensures { result ≡ next_centre self.now c track }
+    {
+        if c >= self.centre_count() || track >= self.track_count() {
+            return None;
+        }
+        self.next_centres[c as usize * 4 + track as usize]
+    }
+}
+
+/// The item at this place.
+fn item<T: Copy + Drop>(items: &[T], i: usize) -> Option<T>
+    ensures { result ≡ slice_get items.now i }
+{
+    items.get(i).copied()
+}

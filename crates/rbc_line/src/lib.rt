@@ -1,0 +1,20 @@
+//! The line file: from a text of tables to the line that the centres supervise, and the look-ups on it.
+//! A `Line` keeps every rule of a line, so nothing above tests one again.
+#![tactic(auto)]
+
+mod build;
+mod copies;
+mod document;
+mod draft;
+mod fault;
+mod faults;
+mod homes;
+mod layout;
+mod lowest;
+mod parts;
+mod read;
+mod tables;
+
+pub use fault::LineFault;
+pub use layout::Line;
+pub use parts::{Section, Train};

@@ -1,0 +1,112 @@
+//! The look-up tables of a line, each made once from its rows.
+ghost use Rattle.std.specs.Prelude.{◌≡◌, ℕ, ◌+◌, ◌*◌, ◌<◌, ◌≤◌, ◌==◌, ◌&&◌, not, length, drop, position, find, Some, option_map, IfOk, nat_eq, slice_get};
+ghost use Rattle.std.specs.List.{list_any, zip, All};
+ghost use Rattle.std.specs.HashMap.{get};
+ghost use Rattle.rbc_spec.specs.Line.{AreDistinct, is_border, is_registrar, is_linked, next_centre};
+ghost use Rattle.rbc_line.specs.Tables.{HasLinks, HasNextCentres};
+ghost use Rattle.rbc_line.specs.Views.{line_of_rows};
+
+use crate::parts::{Rows, Section, Train};
+use std::alloc::{AllocError, Global};
+use std::collections::HashMap;
+
+/// The section of each balise group, by NID_LRBG.
+pub(crate) fn groups_of(
+    alloc: Global,
+    nid_c: u16,
+    sections: &[Section],
+) -> Result<HashMap<u32, u16>, AllocError>
+    requires country { nid_c ≤ 1023 }
+    requires few { length sections.now ≤ 512 }
+    requires range { All (λ p. p.balise ≤ 16382) sections.now }
+    requires apart { AreDistinct (λ p. p.balise) sections.now }
+    ensures { IfOk result
+        (λ m. (q : ℕ) → get nat_eq m q ≡ position (λ p. nid_c * 16384 + p.balise == q) sections.now) }
+{
+    let mut groups = HashMap::new(alloc);
+    for (s, section) in sections.iter().enumerate() {
+        let nid_lrbg = u32::from(nid_c) * 16384 + u32::from(section.balise);
+        groups.insert(nid_lrbg, s as u16)?;
+    }
+    Ok(groups)
+}
+
+/// The place of each train, by NID_ENGINE.
+pub(crate) fn engines_of(alloc: Global, trains: &[Train]) -> Result<HashMap<u32, u8>, AllocError>
+    requires few { length trains.now ≤ 64 }
+    requires apart { AreDistinct (λ p. p.nid_engine) trains.now }
+    ensures { IfOk result
+        (λ m. (q : ℕ) → get nat_eq m q ≡ position (λ p. p.nid_engine == q) trains.now) }
+{
+    let mut engines = HashMap::new(alloc);
+    for (i, train) in trains.iter().enumerate() {
+        engines.insert(train.nid_engine, i as u8)?;
+    }
+    Ok(engines)
+}
+
+/// Whether a section of home b follows one of home a on a track.
+fn is_border(rows: &Rows, a: u8, b: u8) -> bool
+    ensures { result ≡ is_border (line_of_rows rows.now) a b }
+{
+    let sections = rows.sections.as_slice();
+    sections
+        .iter()
+        .zip(sections.iter().skip(1))
+        .any(|(p, q)| p.track == q.track && p.home == a && q.home == b)
+}
+
+/// Whether the supervision right of some train is registered at the centre.
+fn is_registrar(rows: &Rows, c: u8) -> bool
+    ensures { result ≡ is_registrar (line_of_rows rows.now) c }
+{
+    rows.trains.iter().any(|train| train.registrar == c)
+}
+
+/// The centre that follows this one on a track.
+fn next_centre(rows: &Rows, c: u8, track: u8) -> Option<u8>
+    ensures { result ≡ next_centre (line_of_rows rows.now) c track }
+{
+    let sections = rows.sections.as_slice();
+    let seam = sections.iter().zip(sections.iter().skip(1)).find(|(p, q)| {
+        p.track == q.track && p.track == track && p.home == c && q.home != c
+    });
+    match seam {
+        Some((_, next)) => Some(next.home),
+        None => None,
+    }
+}
+
+/// Whether two centres are linked.
+fn is_link(rows: &Rows, a: u8, b: u8) -> bool
+    ensures { result ≡ is_linked (line_of_rows rows.now) a b }
+{
+    let count = rows.centres.len();
+    if a as usize >= count || b as usize >= count || a == b {
+        return false;
+    }
+    let borders = is_border(rows, a, b) || is_border(rows, b, a);
+    borders || is_registrar(rows, a) || is_registrar(rows, b)
+}
+
+/// For each pair of centres whether they are linked.
+pub(crate) fn links_of(rows: &Rows) -> [bool; 64]
+    ensures { HasLinks (line_of_rows rows.now) result }
+{
+    let mut links = [false; 64];
+    for k in 0..64usize {
+        links[k] = is_link(rows, (k / 8) as u8, (k % 8) as u8);
+    }
+    links
+}
+
+/// For each centre and track the centre that follows.
+pub(crate) fn next_centres_of(rows: &Rows) -> [Option<u8>; 32]
+    ensures { HasNextCentres (line_of_rows rows.now) result }
+{
+    let mut next_centres = [None; 32];
+    for k in 0..32usize {
+        next_centres[k] = next_centre(rows, (k / 4) as u8, (k % 4) as u8);
+    }
+    next_centres
+}

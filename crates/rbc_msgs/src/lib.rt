@@ -1,0 +1,21 @@
+//! Radio messages between trains and a radio block centre, as bytes and as values (SUBSET-026 chapters 7 and 8).
+//! A decoder reads one whole message or says the first fault that it meets, an encoder writes the one spelling.
+#![tactic(auto)]
+
+mod decode;
+mod encode;
+mod fault;
+mod laws;
+mod number;
+mod reading;
+mod track;
+mod train;
+
+pub use decode::{decode_track, decode_train};
+pub use encode::{encode_track, encode_train};
+pub use fault::{EncodeFault, MsgFault};
+pub use laws::{
+    each_message_has_a_spelling, no_spelling_begins_another, one_message, one_spelling,
+};
+pub use track::{NID_LRBG_UNKNOWN, TrackBody, TrackMsg};
+pub use train::{TrainBody, TrainMsg};

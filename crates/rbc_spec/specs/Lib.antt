@@ -1,0 +1,9 @@
+pub mod Maps
+pub mod Line
+pub mod Place
+pub mod Message
+pub mod Outcome
+pub mod Centre
+pub mod LineCentre
+pub mod World
+pub mod Run

@@ -1,0 +1,153 @@
+-- The line that the centres supervise: tracks of sections run in one direction, the centre that is home to each
+-- section, the balise group at its start, and the centre where each train's supervision right is registered.
+-- Centres, tracks and sections are numbered from 0, sections over all tracks. A train goes by its NID_ENGINE.
+use Rattle.std.specs.Prelude.{◌≡◌, ℕ, ◌+◌, ◌*◌, ◌<◌, ◌≤◌, ◌==◌, Bool, false, ◌&&◌, ◌||◌, not, List, length, take, drop, Option, Some, option_map, nat_lt, slice_get, IsTrue}
+use Rattle.std.specs.List.{list_any, zip, find, filter, sum_by, position, take_while, All}
+use Rattle.std.specs.Option.{option_map_or}
+use Rattle.std.specs.Char.{is_ascii_alphanumeric}
+
+-- a radio block centre, by its name in the line file and its NID_RBC (profile)
+pub record Centre : Type 0 where
+  pub name : List ℕ
+  pub nid_rbc : ℕ
+
+-- a section: its track, its length in whole metres, its home centre, and the balise group at its start (profile)
+pub record Section : Type 0 where
+  pub track : ℕ
+  pub metres : ℕ
+  pub home : ℕ
+  pub balise : ℕ
+
+-- a train, and the centre where its supervision right is registered (profile)
+pub record Train : Type 0 where
+  pub nid_engine : ℕ
+  pub registrar : ℕ
+
+-- tracks are held by their names; the sections of a track are those that name its number, in order (profile)
+pub record Line : Type 0 where
+  pub nid_c : ℕ
+  pub centres : List Centre
+  pub tracks : List (List ℕ)
+  pub sections : List Section
+  pub trains : List Train
+
+-- ## What is where
+
+abbrev pub is_centre : Line → ℕ → Bool
+is_centre line c = nat_lt c (length line.centres)
+
+-- the section of this number
+abbrev pub section : Line → ℕ → Option Section
+section line s = slice_get line.sections s
+
+-- the section is of the line, and its home is c
+abbrev pub is_home : Line → ℕ → ℕ → Bool
+is_home line c s = option_map_or (λ p. p.home == c) (section line s) false
+
+-- where a section starts: the lengths of the sections before it on its track, in metres
+unfoldable pub start : Line → ℕ → ℕ
+start line s =
+    option_map_or (λ p. sum_by (λ q. q.metres) (filter (λ q. q.track == p.track) (take s line.sections))) (section line s) 0
+
+-- where it ends, in metres from the start of its track
+unfoldable pub end : Line → ℕ → ℕ
+end line s = option_map_or (λ p. start line s + p.metres) (section line s) 0
+
+-- NID_LRBG of a balise group: NID_C and NID_BG together (7.5)
+abbrev pub group_of : Line → Section → ℕ
+group_of line p = line.nid_c * 16384 + p.balise
+
+-- the section whose balise group has this NID_LRBG
+abbrev pub section_of_group : Line → ℕ → Option ℕ
+section_of_group line group = position (λ p. group_of line p == group) line.sections
+
+-- the place of a train in the line file, from 0; none for a foreign engine
+abbrev pub train_number : Line → ℕ → Option ℕ
+train_number line t = position (λ p. p.nid_engine == t) line.trains
+
+-- the centre where a train's supervision right is registered
+abbrev pub registrar : Line → ℕ → Option ℕ
+registrar line t = option_map (λ p. p.registrar) (find (λ p. p.nid_engine == t) line.trains)
+
+-- ## Neighbours
+
+-- each section with the next in number
+abbrev pub seams : Line → List (Section × Section)
+seams line = zip line.sections (drop 1 line.sections)
+
+-- the second follows the first on one track
+abbrev pub is_joint : Section × Section → Bool
+is_joint seam = seam.0.track == seam.1.track
+
+-- a section of home b follows one of home a on a track
+abbrev pub is_border : Line → ℕ → ℕ → Bool
+is_border line a b = list_any (λ seam. (is_joint seam && (seam.0.home == a)) && (seam.1.home == b)) (seams line)
+
+-- the supervision right of some train is registered at c
+abbrev pub is_registrar : Line → ℕ → Bool
+is_registrar line c = list_any (λ p. p.registrar == c) line.trains
+
+-- two centres that exchange frames: homes of neighbouring sections of a track, or one of them a registrar (profile)
+abbrev pub is_linked : Line → ℕ → ℕ → Bool
+is_linked line a b =
+    ((is_centre line a && is_centre line b) && not (a == b))
+    && ((is_border line a b || is_border line b a) || (is_registrar line a || is_registrar line b))
+
+-- the centre that follows c on a track
+abbrev pub next_centre : Line → ℕ → ℕ → Option ℕ
+next_centre line c track =
+    option_map (λ seam. seam.1.home)
+    (find (λ seam. ((is_joint seam && (seam.0.track == track)) && (seam.0.home == c)) && not (seam.1.home == c)) (seams line))
+
+-- ## The rules that every line keeps (profile)
+
+-- the value tells the items apart: no two have the same
+abbrev pub AreDistinct : {X K : Type 0} → (X → K) → List X → Type 0
+AreDistinct {X} value xs =
+    (i j : ℕ) (x y : X) → slice_get xs i ≡ Some x → slice_get xs j ≡ Some y → value x ≡ value y → i ≡ j
+
+-- 1 to 16 ASCII letters and digits
+abbrev pub IsName : List ℕ → Type 0
+IsName name = (1 ≤ length name) × (length name ≤ 16) × All (λ c. IsTrue (is_ascii_alphanumeric c)) name
+
+-- how many of each thing a line has
+pub record HasLimits (line : Line) : Type 0 where
+  pub centres : (2 ≤ length line.centres) × (length line.centres ≤ 8)
+  pub tracks : (1 ≤ length line.tracks) × (length line.tracks ≤ 4)
+  pub sections : length line.sections ≤ 512
+  pub trains : (1 ≤ length line.trains) × (length line.trains ≤ 64)
+
+-- each value lies in its range, and each number of a centre or a track names one
+pub record HasRanges (line : Line) : Type 0 where
+  pub nid_c : line.nid_c ≤ 1023
+  pub centres : All (λ p. IsName p.name × (p.nid_rbc ≤ 16382)) line.centres
+  pub tracks : All IsName line.tracks
+  pub sections : All (λ p. (p.track < length line.tracks) × (100 ≤ p.metres) × (p.metres ≤ 2000) × (p.home < length line.centres) × (p.balise ≤ 16382)) line.sections
+  pub trains : All (λ p. (p.nid_engine ≤ 16777215) × (p.registrar < length line.centres)) line.trains
+
+-- what stands for one thing stands for no other
+pub record HasDistinctNames (line : Line) : Type 0 where
+  pub centres : AreDistinct (λ p. p.name) line.centres
+  pub tracks : AreDistinct (λ name. name) line.tracks
+  pub nid_rbcs : AreDistinct (λ p. p.nid_rbc) line.centres
+  pub balises : AreDistinct (λ p. p.balise) line.sections
+  pub engines : AreDistinct (λ p. p.nid_engine) line.trains
+
+-- sections are numbered track by track, and each track has one
+pub record FollowsTracks (line : Line) : Type 0 where
+  pub in_order : (s e : ℕ) (p q : Section) → s ≤ e → section line s ≡ Some p → section line e ≡ Some q → p.track ≤ q.track
+  pub each : (k : ℕ) → k < length line.tracks → (s : ℕ) × (p : Section) × (section line s ≡ Some p) × (p.track ≡ k)
+
+-- on one track the sections of one home are consecutive: what lies between two of them is of that home too
+abbrev pub HasConsecutiveHomes : Line → Type 0
+HasConsecutiveHomes line =
+    (s m e : ℕ) (p n q : Section) → s ≤ m → m ≤ e → section line s ≡ Some p → section line m ≡ Some n → section line e ≡ Some q
+    → p.track ≡ q.track → p.home ≡ q.home → n.home ≡ p.home
+
+-- all rules of a line
+pub record IsLine (line : Line) : Type 0 where
+  pub limits : HasLimits line
+  pub ranges : HasRanges line
+  pub distinct : HasDistinctNames line
+  pub tracks : FollowsTracks line
+  pub homes : HasConsecutiveHomes line

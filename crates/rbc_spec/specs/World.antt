@@ -1,0 +1,87 @@
+-- The centres of a line side by side, and what happens to them.
+use Rattle.std.specs.Prelude.{◌≡◌, ℕ, List, [], ◌∷◌, ◌++◌, Bool, if◌then◌else◌, ◌==◌, Option, Some, None, is_none, Result, Ok, Err}
+use Rattle.std.specs.List.{list_any}
+use Rattle.std.specs.Option.{option_map_or}
+use Rattle.rbc_spec.specs.Maps.{put}
+use Rattle.rbc_spec.specs.Line.{Line, is_centre, train_number}
+use Rattle.rbc_spec.specs.Message.{TrainMessage}
+use Rattle.rbc_spec.specs.Outcome.{Outcome}
+use Rattle.rbc_spec.specs.Centre.{Centre, beginning, Refusal, step}
+
+-- bytes from a train come to centre c, which spell a message or show the fault of this number; or a frame that centre
+-- `from` sent to centre `to` under a number is delivered
+pub data Event : Type 0 where
+  Bytes : (c : ℕ) → (read : Result TrainMessage ℕ) → Event
+  Delivery : (from to number : ℕ) → Event
+
+-- the outcome of a centre's step; or the centre is not of the line, a frame of that number was never sent, or the
+-- bytes show the fault of this number: these change nothing
+pub data Answer : Type 0 where
+  Answered : (outcome : Outcome) → Answer
+  NoCentre : Answer
+  NotSent : Answer
+  Fault : (number : ℕ) → Answer
+
+-- the centres, and the trains of the line that messages have named, in the order of first mention
+pub record World : Type 0 where
+  pub at : ℕ → Centre
+  pub trains : List ℕ
+
+unfoldable pub new_world : World
+new_world = record { at = λ c. beginning; trains = [] }
+
+-- the trains after one more was named: a foreign engine is not listed
+abbrev pub mention : Line → ℕ → List ℕ → List ℕ
+mention line t trains =
+    if is_none (train_number line t) then trains
+    else (if list_any (λ u. t == u) trains then trains else trains ++ t ∷ [])
+
+-- the outcome of centre c, which leaves it so, in the world
+abbrev pub stepped : Line → World → ℕ → ℕ → Result (Outcome × Centre) Refusal → Result (Answer × World) Refusal
+stepped line w c t (Ok (outcome, centre)) =
+    Ok (Answered outcome, record { at = put w.at c centre; trains = mention line t w.trains })
+stepped line w c t (Err why) = Err why
+
+-- bytes at a centre of the line
+abbrev pub received : Line → World → ℕ → Result TrainMessage ℕ → Result (Answer × World) Refusal
+received line w c (Ok m) = stepped line w c m.nid_engine (step line m (w.at c))
+received line w c (Err number) = Ok (Fault number, w)
+
+-- one event. No step sends a frame yet, so none was ever sent
+unfoldable pub world_step : Line → World → Event → Result (Answer × World) Refusal
+world_step line w (Bytes c read) = if is_centre line c then received line w c read else Ok (NoCentre, w)
+world_step line w (Delivery from to number) = Ok (NotSent, w)
+
+infixl 10 ◌>>=◌
+abbrev pub ◌>>=◌ : {A B : Type 0} → Result A Refusal → (A → Result B Refusal) → Result B Refusal
+(Ok x) >>= next = next x
+(Err why) >>= next = Err why
+
+-- the answers to events one after another, and the world that they leave; or the first refusal
+unfoldable pub world_run : Line → World → List Event → Result (List Answer × World) Refusal
+world_run line w [] = Ok ([], w)
+world_run line w (event ∷ events) = do
+  first ← world_step line w event
+  others ← world_run line first.1 events
+  Ok (first.0 ∷ others.0, others.1)
+
+-- the trains of the line that messages at centres of the line named, each once, by first mention
+abbrev pub named : Line → Event → List ℕ → List ℕ
+named line (Bytes c (Ok m)) trains = if is_centre line c then mention line m.nid_engine trains else trains
+named line (Bytes c (Err number)) trains = trains
+named line (Delivery from to number) trains = trains
+
+abbrev pub all_named : Line → List Event → List ℕ → List ℕ
+all_named line [] trains = trains
+all_named line (event ∷ events) trains = all_named line events (named line event trains)
+
+-- the events up to some place are answered, and the step of the event there is refused
+pub record IsRefused (line : Line) (w : World) (events : List Event) (why : Refusal) : Type 0 where
+  pub front : List Event
+  pub event : Event
+  pub rest : List Event
+  pub answers : List Answer
+  pub reached : World
+  pub cut : events ≡ front ++ event ∷ rest
+  pub answered : world_run line w front ≡ Ok (answers, reached)
+  pub refused : world_step line reached event ≡ Err why

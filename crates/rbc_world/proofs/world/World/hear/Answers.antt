@@ -1,0 +1,37 @@
+use Rattle.std.proofs.Common.{◌≡◌, ◌∙◌, ap, refl, slice_get, Some}
+use Rattle.std.proofs.Math.ListN.{length-set}
+use Rattle.std.proofs.lemmas.Option.{slice_get_read}
+use Rattle.std.proofs.lemmas.Result.{err_from_is_err_and}
+use Rattle.rbc_spec.specs.World.{mention}
+use Rattle.rbc_world.specs.Meaning.{stands_for}
+use Rattle.rbc_world.proofs.Steps.{heard_ok, heard_err, kept, lines_kept}
+use Rattle.rbc_world.proofs.world.World.hear.Goals as goal
+
+pub returns-in_err-outcome-clause-exact : goal.returns-in_err-outcome-clause-exact
+returns-in_err-outcome-clause-exact c =
+    let p = err_from_is_err_and c.from_residual-in_err-outcome.result c.from_residual-in_err-outcome.ensures.1 in
+    let at : slice_get c.args.self.now.centres.items c.args.c ≡ Some c.index_mut.result.now = slice_get_read _ _ _ _ refl c.requires c.index_mut.ensures.value in
+    rw (p.1, p.2) (heard_err c.args.self.now.line c.args.self.now.centres.items c.args.self.now.trains.keys c.args.message c.args.c c.index_mut.result.now c.step.new.self at c.requires
+    (c.args.self.now.one_line _ _ at) c.in_err-outcome.field-0.0 c.in_err-outcome.ensures.exact)
+
+pub returns-in_err-outcome-clause-err : goal.returns-in_err-outcome-clause-err
+returns-in_err-outcome-clause-err c =
+    let p = err_from_is_err_and c.from_residual-in_err-outcome.result c.from_residual-in_err-outcome.ensures.1 in
+    let at : slice_get c.args.self.now.centres.items c.args.c ≡ Some c.index_mut.result.now = slice_get_read _ _ _ _ refl c.requires c.index_mut.ensures.value in
+    rw (p.1) (ap (stands_for _) c.in_ok-reserve.ensures.keys ∙ kept c.args.self.now.line c.args.self.now.centres.items c.args.self.now.trains.keys c.args.message c.args.c c.index_mut.result.now c.step.new.self at c.requires
+    (c.args.self.now.one_line _ _ at) c.in_err-outcome.ensures.err)
+
+pub invariant_of-self-2 : goal.invariant_of-self-2
+invariant_of-self-2 c =
+    let at : slice_get c.args.self.now.centres.items c.args.c ≡ Some c.index_mut.result.now = slice_get_read _ _ _ _ refl c.requires c.index_mut.ensures.value in
+    record {
+      each_centre = simp length-set c.args.self.now.each_centre;
+      one_line = lines_kept c.args.self.now.centres.items c.args.self.now.line c.args.c c.index_mut.result.now c.step.new.self at c.requires c.in_ok-outcome.ensures.line c.args.self.now.one_line;
+    }
+
+pub returns-clause-exact : goal.returns-clause-exact
+returns-clause-exact c =
+    let at : slice_get c.args.self.now.centres.items c.args.c ≡ Some c.index_mut.result.now = slice_get_read _ _ _ _ refl c.requires c.index_mut.ensures.value in
+    heard_ok c.args.self.now.line c.args.self.now.centres.items c.args.self.now.trains.keys c.args.message c.args.c c.index_mut.result.now c.step.new.self at c.requires
+    (c.args.self.now.one_line _ _ at) _ c.add_mention.new.trains.keys c.in_ok-outcome.ensures.exact
+    (c.add_mention.ensures ∙ ap (λ t. mention c.args.self.now.line t c.reserve.new.self.keys) c.nid_engine.ensures.value ∙ ap (mention c.args.self.now.line c.args.message.nid_engine) c.in_ok-reserve.ensures.keys)

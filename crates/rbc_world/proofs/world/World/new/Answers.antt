@@ -1,0 +1,13 @@
+use Rattle.std.proofs.Common.{◌∙◌, ap, sym, length}
+use Rattle.rbc_spec.specs.Line.{Line}
+use Rattle.rbc_world.proofs.Steps.{new_world_stands}
+use Rattle.rbc_world.proofs.world.World.new.Goals as goal
+
+pub invariant_of-result : goal.invariant_of-result
+invariant_of-result c = record {
+  each_centre = c.in_ok-centres_of.ensures.count ∙ ap (λ (l : Line). length l.centres) (sym c.in_ok-copied.ensures.value);
+  one_line = λ d k at. (c.in_ok-centres_of.ensures.each d k at).line_of ∙ sym c.in_ok-copied.ensures.value;
+}
+
+pub returns-clause-beginning : goal.returns-clause-beginning
+returns-clause-beginning c = new_world_stands _ c.args.line.now _ c.in_ok-centres_of.ensures.each c.new.ensures.empty

@@ -1,0 +1,13 @@
+use Rattle.std.proofs.Common.{◌∙◌, ap}
+use Rattle.rbc_spec.specs.Line.{section}
+use Rattle.rbc_spec.specs.Run.{read_off, mark_of}
+use Rattle.rbc_world.specs.World.{line_of, meaning}
+use Rattle.rbc_world.proofs.Steps.{marked}
+use Rattle.rbc_world.proofs.world.World.section_view.Goals as goal
+
+pub returns : goal.returns
+unfolding read_off
+returns c = record {
+  mark = c.of.ensures ∙ ap mark_of c.home_page-page.ensures.entry ∙ marked (λ p. ((meaning c.args.self.now).at p.home).book c.args.s) (section (line_of c.args.self.now) c.args.s);
+  wish = c.home_page-page.ensures.wish;
+}

@@ -1,0 +1,10 @@
+use Rattle.std.proofs.Common.{◌≡◌, ℕ, length, slice_get, Some}
+use Rattle.rbc_centre.specs.declared.centre.Centre.{Centre}
+use Rattle.rbc_world.specs.Meaning.{AtBeginning}
+use Rattle.rbc_world.proofs.world.centres_of.Given as goal
+
+abbrev pub invariant-loop-c : goal.invariant-loop-c
+invariant-loop-c l = record {
+  count : length l.centres.items ≡ l.c;
+  each : (d : ℕ) → (k : Centre) → slice_get l.centres.items d ≡ Some k → AtBeginning l.line k;
+}

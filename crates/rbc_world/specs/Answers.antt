@@ -1,0 +1,24 @@
+-- What the calls of a world answer, beside their definitions.
+use Rattle.std.specs.Prelude.{◌≡◌, List, Result, Ok, Err}
+use Rattle.rbc_spec.specs.Line.{Line}
+use Rattle.rbc_spec.specs.World.{Event, new_world, IsRefused}
+use Rattle.rbc_spec.specs.Centre as centre
+use Rattle.rbc_centre.specs.declared.fault.StepFault.{StepFault}
+use Rattle.rbc_centre.specs.declared.fault.StepFault.TheVariants.{Memory, LinkFull, ClockEnd}
+
+-- but for want of memory the fault is the refusal that the definition gives
+abbrev pub IsRefusal : {Y : Type 0} → StepFault → Result Y centre.Refusal → Type 0
+IsRefusal Memory step = Unit {0}
+IsRefusal LinkFull step = ⊥
+IsRefusal ClockEnd step = step ≡ Err centre.ClockEnd
+
+-- what was returned, seen by view, is what the definition gives
+abbrev pub Gives : {X Y : Type 0} → (X → Y) → Result X StepFault → Result Y centre.Refusal → Type 0
+Gives view (Ok x) step = step ≡ Ok (view x)
+Gives view (Err fault) step = IsRefusal fault step
+
+-- a whole run is refused for want of memory, or as one of its steps is
+abbrev pub IsRefusedRun : Line → List Event → StepFault → Type 0
+IsRefusedRun line events Memory = Unit {0}
+IsRefusedRun line events LinkFull = ⊥
+IsRefusedRun line events ClockEnd = IsRefused line new_world events centre.ClockEnd

@@ -1,0 +1,5 @@
+pub mod Views
+pub mod Answers
+pub mod Meaning
+pub mod World
+pub mod View

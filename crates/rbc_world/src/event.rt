@@ -1,0 +1,24 @@
+use rbc_centre::Outcome;
+use rbc_msgs::MsgFault;
+
+/// What happens to the centres of a line.
+#[derive(Debug, Drop)]
+pub enum WorldEvent {
+    /// Bytes come from a train to a centre.
+    Train { centre: u8, bytes: Vec<u8> },
+    /// A frame that one centre sent to another under a number is delivered, perhaps late or again.
+    Deliver { from: u8, to: u8, number: u32 },
+}
+
+/// What is answered to an event.
+#[derive(Debug, Drop)]
+pub enum Answer {
+    /// A centre took a step.
+    Outcome(Outcome),
+    /// The centre is not of the line. Nothing changes.
+    NoCentre,
+    /// No frame was sent under that number. Nothing changes.
+    NotSent,
+    /// The bytes are no message. Nothing changes.
+    Fault(MsgFault),
+}

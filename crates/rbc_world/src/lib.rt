@@ -1,0 +1,13 @@
+//! The centres of a line side by side, and the theorem that together they are one line centre: what they answer and
+//! hold, whatever comes, is a run of it (`World::run`, with the definitions of `rbc_spec.specs.Run`).
+#![tactic(auto)]
+
+mod event;
+mod run;
+mod view;
+mod world;
+
+pub use event::{Answer, WorldEvent};
+pub use run::Outputs;
+pub use view::{LineView, Mark, SectionView, SessionView, TrainView};
+pub use world::World;

@@ -1,0 +1,191 @@
+ghost use Rattle.std.specs.Prelude.{◌≡◌, ◌<◌, length, slice_get, IfOk, Some, option_map, false};
+ghost use Rattle.std.specs.Option.{option_map_or};
+ghost use Rattle.rbc_spec.specs.Centre.{Shut};
+ghost use Rattle.rbc_spec.specs.Line.{section};
+ghost use Rattle.rbc_spec.specs.Run.{read_off, mark_of};
+ghost use Rattle.rbc_centre.specs.State.{entry_of};
+ghost use Rattle.rbc_world.specs.World.{line_of, meaning};
+ghost use Rattle.rbc_world.specs.View.{mark_shown, EachOf, ShowsSection, ShowsSession, ShowsTrain, Shows};
+
+use crate::world::World;
+use rbc_centre::{Entry, Page, Phase};
+use rbc_line::Line;
+use std::alloc::{AllocError, Global};
+
+/// What a section is used for, as the line sees it.
+#[derive(Clone, Copy, Debug, PartialEq, Eq)]
+pub enum Mark {
+    /// Not released by the interlocking.
+    Shut,
+    /// Released, and in no use.
+    Open,
+    /// In use for a train that has it in no movement authority.
+    Kept { nid_engine: u32 },
+    /// In a train's movement authority.
+    Given { nid_engine: u32 },
+}
+
+impl Mark {
+    /// A section that is in use is kept: no centre has a movement authority yet.
+    fn of(entry: Entry) -> Mark
+        ensures { mark_shown result ≡ mark_of (entry_of entry) }
+    {
+        match entry {
+            Entry::Shut => Mark::Shut,
+            Entry::Open => Mark::Open,
+            Entry::Taken { nid_engine } | Entry::Out { nid_engine, .. } => Mark::Kept {
+                nid_engine,
+            },
+        }
+    }
+}
+
+/// A section of the line.
+#[derive(Clone, Copy, Debug, PartialEq, Eq)]
+pub struct SectionView {
+    pub mark: Mark,
+    /// The interlocking wishes it back.
+    pub is_wished: bool,
+}
+
+/// What a centre has of a train.
+#[derive(Clone, Copy, Debug, PartialEq, Eq)]
+pub struct SessionView {
+    pub phase: Phase,
+    /// The last T_TRAIN heard.
+    pub heard: Option<u32>,
+    /// How many messages were said to the train.
+    pub said: u32,
+}
+
+/// A train of the line.
+#[derive(Debug, Drop)]
+pub struct TrainView {
+    pub nid_engine: u32,
+    /// What each centre has of it, by the centre's number.
+    pub sessions: Vec<SessionView>,
+}
+
+/// The state of the line, read off its centres.
+#[derive(Debug, Drop)]
+pub struct LineView {
+    /// By section number.
+    pub sections: Vec<SectionView>,
+    /// In the order of the line file.
+    pub trains: Vec<TrainView>,
+}
+
+impl World {
+    /// The state of the line, read off the centres.
+    pub fn view(&self, alloc: Global) -> Result<LineView, AllocError>
+        ensures { IfOk result (Shows (line_of self.now) (read_off (line_of self.now) (meaning self.now))) }
+    {
+        Ok(LineView {
+            sections: self.section_views(alloc)?,
+            trains: self.train_views(alloc)?,
+        })
+    }
+
+    fn section_views(&self, alloc: Global) -> Result<Vec<SectionView>, AllocError>
+        ensures { IfOk result (λ views. EachOf (λ s p. ShowsSection (read_off (line_of self.now) (meaning self.now)) s p) (length (line_of self.now).sections) views.items) }
+    {
+        let count = self.line.section_count();
+        let mut views = Vec::with_capacity(alloc, count as usize)?;
+        for s in 0..count {
+            views.push(self.section_view(s))?;
+        }
+        Ok(views)
+    }
+
+    fn section_view(&self, s: u16) -> SectionView
+        ensures { ShowsSection (read_off (line_of self.now) (meaning self.now)) s result }
+    {
+        let page = self.home_page(s);
+        SectionView {
+            mark: Mark::of(page.entry),
+            is_wished: page.is_wished,
+        }
+    }
+
+    // What the book of its home has of a section.
+    fn home_page(&self, s: u16) -> Page
+        ensures entry { entry_of result.entry ≡ option_map_or (λ p. ((meaning self.now).at p.home).book s) (section (line_of self.now) s) Shut }
+        ensures wish { result.is_wished ≡ option_map_or (λ p. ((meaning self.now).at p.home).wish s) (section (line_of self.now) s) false }
+    {
+        match home_of(&self.line, s) {
+            Some(home) => self.page_at(home, s),
+            None => Page::SHUT,
+        }
+    }
+
+    // What the book of centre c has of a section.
+    fn page_at(&self, c: u8, s: u16) -> Page
+        ensures entry { entry_of result.entry ≡ ((meaning self.now).at c).book s }
+        ensures wish { result.is_wished ≡ ((meaning self.now).at c).wish s }
+    {
+        if (c as usize) < self.centres.len() {
+            self.centres[c as usize].page(s)
+        } else {
+            Page::SHUT
+        }
+    }
+
+    fn train_views(&self, alloc: Global) -> Result<Vec<TrainView>, AllocError>
+        ensures { IfOk result (λ views. EachOf (λ i p. ShowsTrain (line_of self.now) (read_off (line_of self.now) (meaning self.now)) i p) (length (line_of self.now).trains) views.items) }
+    {
+        let count = self.line.train_count();
+        let mut views = Vec::with_capacity(alloc, count as usize)?;
+        for i in 0..count {
+            let nid_engine = engine_of(&self.line, i);
+            let sessions = self.session_views(alloc, nid_engine)?;
+            views.push(TrainView {
+                nid_engine,
+                sessions,
+            })?;
+        }
+        Ok(views)
+    }
+
+    fn session_views(&self, alloc: Global, nid_engine: u32) -> Result<Vec<SessionView>, AllocError>
+        ensures { IfOk result (λ views. EachOf (λ c p. ShowsSession (read_off (line_of self.now) (meaning self.now)) nid_engine c p) (length (line_of self.now).centres) views.items) }
+    {
+        let mut views = Vec::with_capacity(alloc, self.centres.len())?;
+        for c in 0..self.centres.len() {
+            views.push(self.session_view(c, nid_engine))?;
+        }
+        Ok(views)
+    }
+
+    fn session_view(&self, c: usize, nid_engine: u32) -> SessionView
+        requires { c < length self.now.centres.items }
+        ensures { ShowsSession (read_off (line_of self.now) (meaning self.now)) nid_engine c result }
+    {
+        let state = self.centres[c].train(nid_engine);
+        SessionView {
+            phase: state.phase,
+            heard: state.heard,
+            said: state.said,
+        }
+    }
+}
+
+// The home centre of a section.
+fn home_of(line: &Line, s: u16) -> Option<u8>
+    ensures { result ≡ option_map (λ p. p.home) (section line.now s) }
+{
+    match line.section(s) {
+        Some(section) => Some(section.home),
+        None => None,
+    }
+}
+
+// The NID_ENGINE of the train at a place of the line file.
+fn engine_of(line: &Line, i: u8) -> u32
+    requires { i < length line.now.trains }
+    ensures { option_map (λ p. p.nid_engine) (slice_get line.now.trains i) ≡ Some result }
+{
+    match line.train(i) {
+        Some(train) => train.nid_engine,
+        None => unreachable!(),
+    }
+}

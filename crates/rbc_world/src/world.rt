@@ -1,0 +1,134 @@
+ghost use Rattle.std.specs.Prelude.{◌≡◌, ◌<◌, ◌≤◌, ℕ, true, length, slice_get, IfOk, OnErr, Some};
+ghost use Rattle.rbc_spec.specs.Centre.{step};
+ghost use Rattle.rbc_spec.specs.World.{new_world, world_step, stepped, mention, Bytes};
+ghost use Rattle.rbc_msgs.specs.TrainReading.{read_train};
+ghost use Rattle.indexmap.specs.IndexSet.{spare};
+ghost use Rattle.rbc_world.specs.Meaning.{AtBeginning};
+ghost use Rattle.rbc_spec.specs.Run.{Goes, read_off};
+ghost use Rattle.rbc_centre.specs.declared.centre.Centre.{Centre};
+ghost use Rattle.rbc_centre.specs.Meaning as one;
+
+use crate::event::{Answer, WorldEvent};
+use indexmap::IndexSet;
+use rbc_centre::{Centre, Event, StepFault};
+use rbc_line::Line;
+use rbc_msgs::{MsgFault, TrainMsg, decode_train};
+use std::alloc::{AllocError, Global};
+
+/// The centres of a line side by side.
+#[derive(Drop)]
+pub struct World {
+    pub(crate) line: Line,
+    pub(crate) centres: Vec<Centre>,
+    /// The trains of the line that messages have named, in the order of first mention.
+    trains: IndexSet<u32>,
+    ghost each_centre: { length centres.items ≡ length line.centres },
+    ghost one_line: { (c : ℕ) → (k : Centre) → slice_get centres.items c ≡ Some k → one.line_of k ≡ line },
+}
+
+impl World {
+    ghost use Rattle.rbc_world.specs.World.{line_of, meaning};
+    ghost use Rattle.rbc_world.specs.Views.{event_of, answer_of, numbered};
+    ghost use Rattle.rbc_world.specs.Answers.{Gives};
+
+    /// The centres of the line at their beginning. A copy of the line is kept.
+    pub fn new(alloc: Global, line: &Line) -> Result<World, AllocError>
+        ensures line { IfOk result (λ w. line_of w ≡ line.now) }
+        ensures beginning { IfOk result (λ w. meaning w ≡ new_world) }
+    {
+        Ok(World {
+            line: line.copied(alloc)?,
+            centres: centres_of(alloc, line)?,
+            trains: IndexSet::new(alloc),
+        })
+    }
+
+    /// The trains of the line that messages at its centres have named, in the order of first mention.
+    #[tactic(auto, unfolding(crate::specs::Meaning::stands_for))]
+    pub fn trains(&self) -> &IndexSet<u32>
+        ensures { result.now.keys ≡ (meaning self.now).trains }
+    {
+        &self.trains
+    }
+
+    /// Takes an event, and answers it. A refusal, for want of memory or of stamps, changes nothing.
+    pub fn step(&mut self, event: &WorldEvent) -> Result<Answer, StepFault>
+        ensures line { line_of self.new ≡ line_of self.old }
+        // What is answered and left is what the definition of a world's step gives.
+        ensures exact { Gives (λ a. (answer_of a, meaning self.new)) result
+            (world_step (line_of self.old) (meaning self.old) (event_of event.now)) }
+        // It is one piece of the one line centre's run, or none.
+        ensures piece { IfOk result (λ a. Goes (line_of self.old) (read_off (line_of self.old) (meaning self.old))
+            (event_of event.now) (answer_of a) (read_off (line_of self.old) (meaning self.new))) }
+        ensures err { OnErr result (meaning self.new ≡ meaning self.old) }
+    {
+        self.take(event)
+    }
+
+    fn take(&mut self, event: &WorldEvent) -> Result<Answer, StepFault>
+        ensures line { line_of self.new ≡ line_of self.old }
+        ensures exact { Gives (λ a. (answer_of a, meaning self.new)) result
+            (world_step (line_of self.old) (meaning self.old) (event_of event.now)) }
+        ensures err { OnErr result (meaning self.new ≡ meaning self.old) }
+    {
+        match event {
+            WorldEvent::Train { centre, bytes } => self.receive(*centre, bytes),
+            WorldEvent::Deliver { .. } => Ok(Answer::NotSent),
+        }
+    }
+
+    // Bytes from a train come to a centre.
+    fn receive(&mut self, c: u8, bytes: &[u8]) -> Result<Answer, StepFault>
+        ensures line { line_of self.new ≡ line_of self.old }
+        ensures exact { Gives (λ a. (answer_of a, meaning self.new)) result
+            (world_step (line_of self.old) (meaning self.old) (Bytes c (numbered (read_train bytes.now)))) }
+        ensures err { OnErr result (meaning self.new ≡ meaning self.old) }
+    {
+        if c as usize >= self.centres.len() {
+            return Ok(Answer::NoCentre);
+        }
+        match decode_train(bytes) {
+            Ok(message) => self.hear(c as usize, message),
+            Err(MsgFault::Memory) => Err(StepFault::Memory),
+            Err(fault) => Ok(Answer::Fault(fault)),
+        }
+    }
+
+    // A message comes to a centre of the line. Room for the first mention of its train is made first.
+    fn hear(&mut self, c: usize, message: TrainMsg) -> Result<Answer, StepFault>
+        requires { c < length self.old.centres.items }
+        ensures line { line_of self.new ≡ line_of self.old }
+        ensures exact { Gives (λ a. (answer_of a, meaning self.new)) result
+            (stepped (line_of self.old) (meaning self.old) c message.nid_engine (step (line_of self.old) message ((meaning self.old).at c))) }
+        ensures err { OnErr result (meaning self.new ≡ meaning self.old) }
+    {
+        self.trains.reserve(1)?;
+        let outcome = self.centres[c].step(&Event::Train(message))?;
+        add_mention(&self.line, &mut self.trains, message.nid_engine());
+        Ok(Answer::Outcome(outcome))
+    }
+}
+
+// The centres of the line, in order.
+fn centres_of(alloc: Global, line: &Line) -> Result<Vec<Centre>, AllocError>
+    ensures count { IfOk result (λ centres. length centres.items ≡ length line.now.centres) }
+    ensures each { IfOk result (λ centres. (c : ℕ) → (k : Centre) → slice_get centres.items c ≡ Some k → AtBeginning line.now k) }
+{
+    let mut centres = Vec::new(alloc);
+    for c in 0..line.centre_count() {
+        centres.push(Centre::new(alloc, line, c)?)?;
+    }
+    Ok(centres)
+}
+
+// A message of the train was heard.
+fn add_mention(line: &Line, trains: &mut IndexSet<u32>, nid_engine: u32)
+    requires { 0 < spare trains.old }
+    ensures { trains.new.keys ≡ mention line.now nid_engine trains.old.keys }
+{
+    if line.train_number(nid_engine).is_some() {
+        let Ok(_) = trains.insert(nid_engine) else {
+            unreachable!()
+        };
+    }
+}
