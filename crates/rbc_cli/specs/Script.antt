@@ -1,5 +1,5 @@
 -- Scripts as bytes: which lines a script has, and what each of them asks for.
-use Rattle.std.specs.Prelude.{ℕ, ◌+◌, ◌^◌, ◌==◌, ◌&&◌, ◌||◌, Bool, not, if◌then◌else◌, List, [], ◌∷◌, length, slice_index, codes, nat_lt, position, filter, map, Option, Some, None, is_none, option_map, option_and_then}
+use Rattle.std.specs.Prelude.{ℕ, ◌^◌, ◌==◌, ◌&&◌, Bool, not, if◌then◌else◌, List, [], ◌∷◌, length, slice_index, codes, nat_lt, position, Option, Some, None, is_none, option_map, option_and_then}
 use Rattle.std.specs.List.{slice_split}
 use Rattle.std.specs.Result.{result_ok}
 use Rattle.std.specs.Str.{bytes_eq, all_ascii_digits}
@@ -59,7 +59,7 @@ row_asks line row = asked line (slice_split (λ b. b == 32) row)
 
 -- the line is not skipped: it is not empty, and does not begin with `#`
 unfoldable pub is_kept : List ℕ → Bool
-is_kept row = nat_lt 0 (length row) && not (slice_index row 0 == 35)
+is_kept text = nat_lt 0 (length text) && not (slice_index text 0 == 35)
 
 -- the line is not skipped, and has no form that a script may have
 abbrev pub is_faulty : Line → List ℕ → Bool

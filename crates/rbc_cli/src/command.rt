@@ -2,7 +2,7 @@ ghost use Rattle.rbc_cli.specs.Statuses.{IsReported, IsStatus};
 
 use crate::fault::Fault;
 use crate::files::Files;
-use crate::run::run;
+use crate::run::{check, run};
 use crate::words::{Request, requested};
 use std::alloc::Global;
 use std::convert::AsStr;
@@ -34,6 +34,7 @@ fn obey<'a, S: AsStr, F: Files, O: Write>(
     out: &mut O,
 ) -> Result<(), Fault<'a>> {
     match requested(alloc, words)? {
+        Request::Check { file } => check(alloc, file, files, out),
         Request::Run { file, script } => run(alloc, file, script, files, out),
     }
 }

@@ -8,6 +8,19 @@ use rbc_world::{Answer, Mark, SectionView, World, WorldEvent};
 use std::alloc::Global;
 use std::io::Write;
 
+/// Prints how much of each thing the line has.
+pub fn print_counts<W: Write>(out: &mut W, line: &Line) -> Result<(), Fault<'static>> {
+    let centres = line.centre_count();
+    let tracks = line.track_count();
+    let sections = line.section_count();
+    let trains = line.train_count();
+    writeln!(
+        out,
+        "ok: {centres} centres, {tracks} tracks, {sections} sections, {trains} trains"
+    )?;
+    Ok(())
+}
+
 /// Prints an event as a line of a script, after `> `.
 pub fn print_event<W: Write>(
     alloc: Global,

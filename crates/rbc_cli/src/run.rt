@@ -1,6 +1,6 @@
 use crate::fault::Fault;
 use crate::files::Files;
-use crate::print::{print_answer, print_event, print_line};
+use crate::print::{print_answer, print_counts, print_event, print_line};
 use crate::script::{Entry, script_of};
 use rbc_line::Line;
 use rbc_world::World;
@@ -23,6 +23,19 @@ pub fn run<'a, F: Files, O: Write>(
     let done = play(alloc, &line, &entries, &mut out);
     out.flush()?;
     done
+}
+
+/// Reads a line file, and prints how many centres, tracks, sections and trains the line has.
+pub fn check<'a, F: Files, O: Write>(
+    alloc: Global,
+    file: &'a str,
+    files: &F,
+    out: &mut O,
+) -> Result<(), Fault<'a>> {
+    let line = line_in(alloc, file, files)?;
+    print_counts(out, &line)?;
+    out.flush()?;
+    Ok(())
 }
 
 fn line_in<'a, F: Files>(alloc: Global, file: &'a str, files: &F) -> Result<Line, Fault<'a>> {

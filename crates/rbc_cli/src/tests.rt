@@ -106,6 +106,26 @@ impl Write for Refusing {
 }
 
 #[test]
+fn checks_a_line_file(rt: HostRuntime) -> Result<(), Fail> {
+    let ended = end_of(rt.alloc(), &["check", "line.toml"], &[("line.toml", LINE)]);
+    assert_eq!(rt;
+        from_utf8(&ended.out)?,
+        "ok: 2 centres, 1 tracks, 8 sections, 2 trains\n"
+    );
+    assert!(rt; ended.err.is_empty());
+    assert_eq!(rt; ended.status, 0);
+    let ended = end_of(
+        rt.alloc(),
+        &["check", "line.toml"],
+        &[("line.toml", "nid_c = 5\n")],
+    );
+    assert_eq!(rt; from_utf8(&ended.err)?, "rbcline: line fault 3\n");
+    assert!(rt; ended.out.is_empty());
+    assert_eq!(rt; ended.status, 4);
+    Ok(())
+}
+
+#[test]
 fn prints_each_event_and_the_line(rt: HostRuntime) -> Result<(), Fail> {
     let session = "train A 9B028000000040000040\n";
     let cases = [
@@ -236,6 +256,8 @@ fn refuses_words_before_files(rt: HostRuntime) {
         &["run"],
         &["run", "line.toml"],
         &["run", "line.toml", "script", "script"],
+        &["check"],
+        &["check", "line.toml", "line.toml"],
     ];
     for words in cases {
         let ended = end_of(alloc, words, &[]);

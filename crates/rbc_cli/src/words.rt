@@ -7,6 +7,8 @@ use std::convert::AsStr;
 /// What the words ask for.
 #[derive(Clone, Copy, Debug, PartialEq, Eq)]
 pub enum Request<'a> {
+    /// Read the line, and say how much of each thing it has.
+    Check { file: &'a str },
     /// Run the script on the line.
     Run { file: &'a str, script: &'a str },
 }
@@ -22,6 +24,15 @@ pub fn requested<'a, S: AsStr>(alloc: Global, words: &'a [S]) -> Result<Request<
 }
 
 fn named<'a>(matches: &ArgMatches<'a>) -> Option<Request<'a>> {
+    match matches.subcommand_matches("check") {
+        Some(check) => Some(Request::Check {
+            file: check.get_str("FILE")?,
+        }),
+        None => named_run(matches),
+    }
+}
+
+fn named_run<'a>(matches: &ArgMatches<'a>) -> Option<Request<'a>> {
     let run = matches.subcommand_matches("run")?;
     let file = run.get_str("FILE")?;
     let script = run.get_str("SCRIPT")?;
@@ -38,7 +49,15 @@ fn rbcline<'a>(alloc: Global) -> Result<Command<'a>, AllocError> {
         .no_binary_name(true)
         .subcommand_required(true)
         .arg_required_else_help(true);
+    let command = command.subcommand(check(alloc)?)?;
     command.subcommand(run(alloc)?)
+}
+
+fn check<'a>(alloc: Global) -> Result<Command<'a>, AllocError> {
+    let command = Command::new(alloc, "check").about(
+        "Reads a line file, and says how many centres, tracks, sections and trains it has",
+    );
+    command.arg(file(alloc, "FILE", "The line file"))
 }
 
 fn run<'a>(alloc: Global) -> Result<Command<'a>, AllocError> {

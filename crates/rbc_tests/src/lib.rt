@@ -8,6 +8,8 @@ mod centre;
 #[cfg(test)]
 mod line;
 #[cfg(test)]
+mod line_faults;
+#[cfg(test)]
 mod messages;
 #[cfg(test)]
 mod world;

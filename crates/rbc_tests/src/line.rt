@@ -25,7 +25,11 @@ registrar = \"B\"
 ";
 
 pub fn two_centres(alloc: Global) -> Result<Line, Fail> {
-    Ok(Line::from_toml(alloc, TWO_CENTRES).ok().ok_or("the line file is accepted")?)
+    Ok(
+        Line::from_toml(alloc, TWO_CENTRES)
+            .ok()
+            .ok_or("the line file is accepted")?,
+    )
 }
 
 #[test]

@@ -19,8 +19,14 @@ fn events_are_run_in_order(rt: HostRuntime) -> Result<(), Fail> {
         to: 1,
         number: 1,
     };
-    let events = vec![in rt.alloc(); initiation(rt.alloc(), 0)?, delivery, initiation(rt.alloc(), 7)?]?;
-    let outputs = World::run(rt.alloc(), &line, &events).ok().ok_or("no step is refused")?;
+    let events = vec![in rt.alloc();
+        initiation(rt.alloc(), 0)?,
+        delivery,
+        initiation(rt.alloc(), 7)?,
+    ]?;
+    let outputs = World::run(rt.alloc(), &line, &events)
+        .ok()
+        .ok_or("no step is refused")?;
     assert_eq!(rt; outputs.answers.len(), 3);
     assert!(rt; matches!(outputs.answers[0], Answer::Outcome(_)));
     assert!(rt; matches!(outputs.answers[1], Answer::NotSent));
@@ -33,7 +39,10 @@ fn events_are_run_in_order(rt: HostRuntime) -> Result<(), Fail> {
 fn a_world_is_viewed(rt: HostRuntime) -> Result<(), Fail> {
     let line = two_centres(rt.alloc())?;
     let mut world = World::new(rt.alloc(), &line)?;
-    let answer = world.step(&initiation(rt.alloc(), 0)?).ok().ok_or("the step is taken")?;
+    let answer = world
+        .step(&initiation(rt.alloc(), 0)?)
+        .ok()
+        .ok_or("the step is taken")?;
     assert!(rt; matches!(answer, Answer::Outcome(_)));
     assert_eq!(rt; world.trains().len(), 1);
     let view = world.view(rt.alloc())?;

@@ -1,7 +1,6 @@
-use Rattle.std.proofs.Common.{◌≡◌, ◌+◌, ◌<◌, ℕ, List, Bor, map, length, get_or, [], rules, arith, sym, ◌∙◌, ap, subst, refl}
+use Rattle.std.proofs.Common.{◌≡◌, ◌+◌, ◌<◌, ℕ, List, Bor, map, length, get_or, [], sym, ◌∙◌, ap, subst}
 use Rattle.std.proofs.lemmas.List.{get_or-map, length-map}
 use Rattle.rbc_cli.specs.Script.{is_kept, row_asks}
-use Rattle.rbc_cli.specs.Entries.{asked_of}
 use Rattle.rbc_cli.proofs.Scripts.{Reads, reads_entry, reads_fault, reads_skipped}
 use Rattle.rbc_cli.proofs.script.entries_of.Goals as goal
 
