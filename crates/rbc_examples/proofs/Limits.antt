@@ -1,0 +1,30 @@
+-- The steps of Limits, computed.
+use Rattle.std.proofs.Common.{◌≡◌, [], ◌∷◌, Ok, Err, None, refl}
+use Rattle.rbc_system.specs.Runs.{within, longest}
+use Rattle.rbc_spec.specs.Line.{start, end}
+use Rattle.rbc_system.specs.Place.{extent}
+use Rattle.rbc_system.specs.Centre.{beginning}
+use Rattle.rbc_system.specs.Acts.{◌>>◌}
+use Rattle.rbc_system.specs.Step.{step, Set, LinkFull}
+use Rattle.rbc_examples.specs.Scene.{line, line_of_three}
+use Rattle.rbc_examples.specs.Limits.{stamps, having_sent, last_stamp_is_taken, last_stamp_is_taken_shows, stamp_past_the_last, stamp_past_the_last_shows, frame_without_a_link, frame_without_a_link_shows}
+
+pub last_stamp_is_taken_is_seen : stamps line last_stamp_is_taken (beginning line 0) ≡ last_stamp_is_taken_shows
+unfolding within longest start end extent beginning ◌>>◌ step stamps
+last_stamp_is_taken_is_seen = refl
+
+pub stamp_past_the_last_is_seen : stamps line stamp_past_the_last (beginning line 0) ≡ stamp_past_the_last_shows
+unfolding within longest start end extent beginning ◌>>◌ step stamps
+stamp_past_the_last_is_seen = refl
+
+pub frame_without_a_link_is_seen : stamps (line_of_three 1) frame_without_a_link (beginning (line_of_three 1) 0) ≡ frame_without_a_link_shows
+unfolding within longest start end extent beginning ◌>>◌ step stamps
+frame_without_a_link_is_seen = refl
+
+pub three_numbers_left : stamps line (Set 0 ∷ []) (having_sent 65533) ≡ Err LinkFull ∷ []
+unfolding within longest start end extent beginning ◌>>◌ step stamps
+three_numbers_left = refl
+
+pub four_numbers_left : stamps line (Set 0 ∷ []) (having_sent 65532) ≡ Ok (1, None) ∷ []
+unfolding within longest start end extent beginning ◌>>◌ step stamps
+four_numbers_left = refl

@@ -1,0 +1,55 @@
+-- What is seen of the scenes of Races, computed.
+use Rattle.std.proofs.Common.{◌≡◌, refl}
+use Rattle.rbc_system.specs.Runs.{within, longest}
+use Rattle.rbc_spec.specs.Line.{start as line_start, end}
+use Rattle.rbc_system.specs.Place.{extent}
+use Rattle.rbc_system.specs.Centre.{beginning}
+use Rattle.rbc_system.specs.Acts.{◌>>◌}
+use Rattle.rbc_system.specs.Step.{step}
+use Rattle.rbc_system.specs.World.{new_world, world_step}
+use Rattle.rbc_examples.specs.Scene.{line, seen, seen_from}
+use Rattle.rbc_examples.specs.Races.{withdrawn_from_the_pool, withdrawn_from_the_pool_shows, route_for_an_ended_mission, route_for_an_ended_mission_shows, end_of_mission_with_a_pool, end_of_mission_with_a_pool_shows, awaited, awaited_shows, route_after_the_yield, route_after_the_yield_shows, wish_at_the_yield, wish_at_the_yield_shows, cleared_elsewhere, cleared_elsewhere_shows, cleared_with_a_pool, cleared_with_a_pool_shows, cleared_over_the_border, cleared_over_the_border_shows, whole_hand_is_cut, whole_hand_is_cut_shows, session_opens_over_a_waiting_start, session_opens_over_a_waiting_start_shows}
+
+pub withdrawn_from_the_pool_is_seen : seen line withdrawn_from_the_pool ≡ withdrawn_from_the_pool_shows
+unfolding within longest line_start end extent beginning ◌>>◌ step new_world world_step seen seen_from
+withdrawn_from_the_pool_is_seen = refl
+
+pub route_for_an_ended_mission_is_seen : seen line route_for_an_ended_mission ≡ route_for_an_ended_mission_shows
+unfolding within longest line_start end extent beginning ◌>>◌ step new_world world_step seen seen_from
+route_for_an_ended_mission_is_seen = refl
+
+pub end_of_mission_with_a_pool_is_seen : seen line end_of_mission_with_a_pool ≡ end_of_mission_with_a_pool_shows
+unfolding within longest line_start end extent beginning ◌>>◌ step new_world world_step seen seen_from
+end_of_mission_with_a_pool_is_seen = refl
+
+pub awaited_is_seen : seen line awaited ≡ awaited_shows
+unfolding within longest line_start end extent beginning ◌>>◌ step new_world world_step seen seen_from
+awaited_is_seen = refl
+
+pub route_after_the_yield_is_seen : seen line route_after_the_yield ≡ route_after_the_yield_shows
+unfolding within longest line_start end extent beginning ◌>>◌ step new_world world_step seen seen_from
+route_after_the_yield_is_seen = refl
+
+pub wish_at_the_yield_is_seen : seen line wish_at_the_yield ≡ wish_at_the_yield_shows
+unfolding within longest line_start end extent beginning ◌>>◌ step new_world world_step seen seen_from
+wish_at_the_yield_is_seen = refl
+
+pub cleared_elsewhere_is_seen : seen line cleared_elsewhere ≡ cleared_elsewhere_shows
+unfolding within longest line_start end extent beginning ◌>>◌ step new_world world_step seen seen_from
+cleared_elsewhere_is_seen = refl
+
+pub cleared_with_a_pool_is_seen : seen line cleared_with_a_pool ≡ cleared_with_a_pool_shows
+unfolding within longest line_start end extent beginning ◌>>◌ step new_world world_step seen seen_from
+cleared_with_a_pool_is_seen = refl
+
+pub cleared_over_the_border_is_seen : seen line cleared_over_the_border ≡ cleared_over_the_border_shows
+unfolding within longest line_start end extent beginning ◌>>◌ step new_world world_step seen seen_from
+cleared_over_the_border_is_seen = refl
+
+pub whole_hand_is_cut_is_seen : seen line whole_hand_is_cut ≡ whole_hand_is_cut_shows
+unfolding within longest line_start end extent beginning ◌>>◌ step new_world world_step seen seen_from
+whole_hand_is_cut_is_seen = refl
+
+pub session_opens_over_a_waiting_start_is_seen : seen line session_opens_over_a_waiting_start ≡ session_opens_over_a_waiting_start_shows
+unfolding within longest line_start end extent beginning ◌>>◌ step new_world world_step seen seen_from
+session_opens_over_a_waiting_start_is_seen = refl

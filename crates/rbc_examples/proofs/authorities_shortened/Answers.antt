@@ -1,0 +1,23 @@
+use Rattle.rbc_examples.proofs.Shortening.{unset_in_a_hand_is_seen, shortening_in_one_centre_is_seen, shortening_and_a_late_route_is_seen, answer_to_another_proposal_is_seen, granted_past_the_proposed_end_is_seen, another_answer_at_the_border_is_seen, asking_again_tries_again_is_seen}
+use Rattle.rbc_examples.proofs.authorities_shortened.Goals as goal
+
+pub returns-clause-unset_in_a_hand : goal.returns-clause-unset_in_a_hand
+returns-clause-unset_in_a_hand c = unset_in_a_hand_is_seen
+
+pub returns-clause-shortening_in_one_centre : goal.returns-clause-shortening_in_one_centre
+returns-clause-shortening_in_one_centre c = shortening_in_one_centre_is_seen
+
+pub returns-clause-shortening_and_a_late_route : goal.returns-clause-shortening_and_a_late_route
+returns-clause-shortening_and_a_late_route c = shortening_and_a_late_route_is_seen
+
+pub returns-clause-answer_to_another_proposal : goal.returns-clause-answer_to_another_proposal
+returns-clause-answer_to_another_proposal c = answer_to_another_proposal_is_seen
+
+pub returns-clause-granted_past_the_proposed_end : goal.returns-clause-granted_past_the_proposed_end
+returns-clause-granted_past_the_proposed_end c = granted_past_the_proposed_end_is_seen
+
+pub returns-clause-another_answer_at_the_border : goal.returns-clause-another_answer_at_the_border
+returns-clause-another_answer_at_the_border c = another_answer_at_the_border_is_seen
+
+pub returns-clause-asking_again_tries_again : goal.returns-clause-asking_again_tries_again
+returns-clause-asking_again_tries_again c = asking_again_tries_again_is_seen

@@ -1,0 +1,8 @@
+pub mod Scene
+pub mod Starts
+pub mod Requests
+pub mod Shortening
+pub mod Handover
+pub mod Races
+pub mod ThreeCentres
+pub mod Limits

@@ -1,0 +1,51 @@
+-- Steps of a centre that are refused, and frames of a centre to which it has no link.
+use Rattle.std.specs.Prelude.{ℕ, List, [], ◌∷◌, Option, Some, None, Result, Ok, Err}
+use Rattle.rbc_system.specs.Frame.{Frame, GiveRight}
+use Rattle.rbc_system.specs.Outcome.{Outcome, Taken, Early, NoLink}
+use Rattle.rbc_system.specs.Centre.{Centre, beginning}
+use Rattle.rbc_spec.specs.Line.{Line}
+use Rattle.rbc_system.specs.Step.{Event, Set, Deliver, Refusal, ClockEnd, step}
+use Rattle.rbc_examples.specs.Scene.{line, times}
+
+-- of a step its stamp and the link's answer, or its refusal
+abbrev pub Stamped : Type 0
+Stamped = Result (ℕ × Option Taken) Refusal
+
+-- a step, with those that follow it; a refused one leaves the centre as it was
+abbrev pub stamped : Result (Outcome × Centre) Refusal → Centre → (Centre → List Stamped) → List Stamped
+stamped (Ok done) k others = Ok (done.0.stamp, done.0.link) ∷ others done.1
+stamped (Err why) k others = Err why ∷ others k
+
+-- the steps of centre A
+unfoldable pub stamps : Line → List Event → Centre → List Stamped
+stamps l [] k = []
+stamps l (event ∷ events) k = stamped (step l 0 event k) k (stamps l events)
+
+-- a frame of B or C, with its number and stamp
+abbrev pub frame : (number stamp : ℕ) → Frame
+frame number stamp = record { number = number; stamp = stamp; body = GiveRight 2 }
+
+-- the last stamp is taken, and nothing comes after it
+abbrev pub last_stamp_is_taken : List Event
+last_stamp_is_taken = Deliver 1 (frame 9 1073741822) ∷ Set 0 ∷ []
+
+abbrev pub last_stamp_is_taken_shows : List Stamped
+last_stamp_is_taken_shows = Ok (1073741823, Some Early) ∷ Err ClockEnd ∷ []
+
+-- a frame with the last stamp can't be taken
+abbrev pub stamp_past_the_last : List Event
+stamp_past_the_last = Deliver 1 (frame 9 1073741823) ∷ Set 0 ∷ []
+
+abbrev pub stamp_past_the_last_shows : List Stamped
+stamp_past_the_last_shows = Err ClockEnd ∷ Ok (1, None) ∷ []
+
+-- the first and the third centre have no link, nor has the line a centre 7
+abbrev pub frame_without_a_link : List Event
+frame_without_a_link = Deliver 2 (frame 1 4) ∷ Deliver 7 (frame 1 2) ∷ Set 0 ∷ []
+
+abbrev pub frame_without_a_link_shows : List Stamped
+frame_without_a_link_shows = Ok (5, Some NoLink) ∷ Ok (6, Some NoLink) ∷ Ok (7, None) ∷ []
+
+-- a centre that has sent so many frames to each other
+abbrev pub having_sent : ℕ → Centre
+having_sent count = record (beginning line 0) { sent = λ d. times count (frame 1 1) }

@@ -1,0 +1,128 @@
+-- What a radio block centre keeps. States are functions of section numbers, of NID_ENGINE, and of centre numbers.
+use Rattle.std.specs.Prelude.{ℕ, List, [], Bool, true, false, ◌==◌, ◌&&◌, Option, None, is_some, length}
+use Rattle.std.specs.Option.{option_map_or}
+use Rattle.std.specs.List.{list_any, range_with_len}
+use Rattle.rbc_system.specs.Runs.{Run}
+use Rattle.rbc_spec.specs.Line.{Line, is_home, registrar}
+use Rattle.rbc_system.specs.Sections.{section_count}
+use Rattle.rbc_system.specs.Place.{Place}
+use Rattle.rbc_system.specs.Frame.{Frame}
+
+-- what a home section is used for: not released by the interlocking, released, in use for a train with its claim
+-- here, or in use for a train at another centre (profile)
+pub data Entry : Type 0 where
+  Shut : Entry
+  Open : Entry
+  Taken : (t : ℕ) → Entry
+  Out : (t d : ℕ) → Entry
+
+-- how far the communication session with a train has come (3.5.3)
+pub data Phase : Type 0 where
+  Silent : Phase
+  Opened : Phase
+  Up : Phase
+
+-- a request to shorten the authority that stands: the T_TRAIN of message 9, and the last section that is to be kept
+pub record Proposal : Type 0 where
+  pub stamp : ℕ
+  pub last_kept : ℕ
+
+-- a handover that was announced: its number, the accepting centre, and whether that has claimed it
+pub record Handing : Type 0 where
+  pub number : ℕ
+  pub to : ℕ
+  pub is_claimed : Bool
+
+-- a mission that is supervised here: its last place, the hand (the sections of its authority), the pool (lent sections
+-- that follow the hand at once), whether train data are known and the mission is ended, and what stands
+pub record Mission : Type 0 where
+  pub place : Place
+  pub hand : Run
+  pub pool : Run
+  pub has_data : Bool
+  pub is_ended : Bool
+  pub proposal : Option Proposal
+  pub handing : Option Handing
+
+-- a handover that another centre announced: its number, and whether it was answered that this centre is taking over
+pub record Expectation : Type 0 where
+  pub number : ℕ
+  pub is_taking : Bool
+
+pub record Centre : Type 0 where
+  pub clock : ℕ  -- the stamp of the last step
+  pub book : ℕ → Entry  -- of each section
+  pub wish : ℕ → Bool  -- the interlocking wishes the section back
+  pub phase : ℕ → Phase  -- of the session with each train
+  pub heard : ℕ → Option ℕ  -- the last T_TRAIN heard of each train
+  pub said : ℕ → ℕ  -- how many messages were said to each train
+  pub mission : ℕ → Option Mission  -- of each train
+  pub wait : ℕ → Option Place  -- the place of a start of mission that waits for its right
+  pub has_asked : ℕ → Bool  -- the registrar was asked for the right and has not answered
+  pub has_right : ℕ → Bool  -- the right of each train is here, and in no mission
+  pub route_ask : ℕ → Option ℕ  -- the first section that was asked for, of an ask without an answer
+  pub expects : ℕ → ℕ → Option Expectation  -- the handover of each train that each centre announced
+  pub announced : ℕ  -- how many handovers this centre has announced
+  pub sent : ℕ → List Frame  -- the frames sent to each centre
+  pub taken : ℕ → ℕ  -- how many frames were taken of each centre
+
+-- c is the registrar of train t
+abbrev pub is_registrar_of : Line → ℕ → ℕ → Bool
+is_registrar_of line c t = option_map_or (λ r. r == c) (registrar line t) false
+
+-- at the beginning every section is shut, no train is known, and each right is with its registrar
+unfoldable pub beginning : Line → ℕ → Centre
+beginning line c = record {
+  clock = 0;
+  book = λ s. Shut;
+  wish = λ s. false;
+  phase = λ t. Silent;
+  heard = λ t. None;
+  said = λ t. 0;
+  mission = λ t. None;
+  wait = λ t. None;
+  has_asked = λ t. false;
+  has_right = λ t. is_registrar_of line c t;
+  route_ask = λ t. None;
+  expects = λ d t. None;
+  announced = 0;
+  sent = λ d. [];
+  taken = λ d. 0;
+}
+
+-- ## What a state tells
+
+abbrev pub is_up : Phase → Bool
+is_up Silent = false
+is_up Opened = false
+is_up Up = true
+
+abbrev pub is_open : Entry → Bool
+is_open Open = true
+is_open e = false
+
+abbrev pub is_taken_for : ℕ → Entry → Bool
+is_taken_for t (Taken u) = u == t
+is_taken_for t e = false
+
+abbrev pub is_out_for : ℕ → ℕ → Entry → Bool
+is_out_for t d (Out u e) = (u == t) && (e == d)
+is_out_for t d e = false
+
+-- in use for the train, here or at another centre
+abbrev pub is_used_for : ℕ → Entry → Bool
+is_used_for t (Taken u) = u == t
+is_used_for t (Out u d) = u == t
+is_used_for t e = false
+
+-- the section is released and of home c
+abbrev pub is_free : Line → ℕ → Centre → ℕ → Bool
+is_free line c k s = is_home line c s && is_open (k.book s)
+
+-- some section of home c is in use for the train
+abbrev pub uses_some : Line → ℕ → Centre → ℕ → Bool
+uses_some line c k t = list_any (λ s. is_home line c s && is_used_for t (k.book s)) (range_with_len 0 (section_count line))
+
+-- some centre has announced a handover of the train
+abbrev pub is_expected : Line → Centre → ℕ → Bool
+is_expected line k t = list_any (λ d. is_some (k.expects d t)) (range_with_len 0 (length line.centres))

@@ -1,0 +1,17 @@
+pub mod Runs
+pub mod Sections
+pub mod Place
+pub mod Message
+pub mod Frame
+pub mod Outcome
+pub mod Centre
+pub mod Acts
+pub mod Rules
+pub mod Links
+pub mod Step
+pub mod World
+pub mod LineCentre
+pub mod OwnSteps
+pub mod Quiet
+pub mod Run
+pub mod ReadOff

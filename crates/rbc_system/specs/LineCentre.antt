@@ -1,0 +1,145 @@
+-- The one line centre: what a single centre for the whole line would keep. No border, frame or second book occurs in it.
+-- That the centres together do what it does is the main theorem (rbc_world).
+use Rattle.std.specs.Prelude.{◌≡◌, ◌+◌, ◌*◌, ℕ, List, [], ◌∷◌, length, Bool, true, false, ◌==◌, ◌&&◌, ◌||◌, not, if◌then◌else◌, Option, Some, None, map, option_map}
+use Rattle.std.specs.Option.{option_map_or}
+use Rattle.std.specs.List.{filter, list_all, list_any, range_with_len}
+use Rattle.rbc_spec.specs.Maps.{put}
+use Rattle.rbc_spec.specs.LineCentre.{put_pair}
+use Rattle.rbc_system.specs.Runs.{Run, within}
+use Rattle.rbc_spec.specs.Line.{Line, is_home}
+use Rattle.rbc_system.specs.Sections.{section_count}
+use Rattle.rbc_system.specs.Place.{Place, covers, covered}
+use Rattle.rbc_system.specs.Message.{TrainMessage, TrackBody}
+use Rattle.rbc_system.specs.Outcome.{Saying, Word, Told}
+use Rattle.rbc_system.specs.Centre.{Phase, Silent, Proposal}
+
+-- a section is shut, open, kept for a train that may not run into it, or given to a train in its movement authority
+pub data Mark : Type 0 where
+  Shut : Mark
+  Open : Mark
+  Kept : (t : ℕ) → Mark
+  Given : (t : ℕ) → Mark
+
+-- who supervises a mission: a centre, or nobody while the supervision is handed over, which carries the last stamp heard
+pub data Supervisor : Type 0 where
+  At : (c : ℕ) → Supervisor
+  Parted : (stamp : ℕ) → Supervisor
+
+-- a train under way: its last place, whether its train data are known and its mission is ended, the request to shorten that
+-- stands, and who supervises it. Its hand is what the marks give it
+pub record Mission : Type 0 where
+  pub place : Place
+  pub has_data : Bool
+  pub is_ended : Bool
+  pub proposal : Option Proposal
+  pub supervisor : Supervisor
+
+-- of each section its mark and whether the interlocking wishes it back; of each train and centre the phase of the
+-- session, the last T_TRAIN heard, the messages said, and the place of a start of mission that waits; of each train its mission
+pub record LineState : Type 0 where
+  pub mark : ℕ → Mark
+  pub wish : ℕ → Bool
+  pub phase : ℕ → ℕ → Phase
+  pub heard : ℕ → ℕ → Option ℕ
+  pub said : ℕ → ℕ → ℕ
+  pub wait : ℕ → ℕ → Option Place
+  pub mission : ℕ → Option Mission
+
+-- at the beginning all is shut, and no train is known
+unfoldable pub line_beginning : LineState
+line_beginning = record {
+  mark = λ s. Shut;
+  wish = λ s. false;
+  phase = λ t c. Silent;
+  heard = λ t c. None;
+  said = λ t c. 0;
+  wait = λ t c. None;
+  mission = λ t. None;
+}
+
+-- ## What a state tells
+
+abbrev pub is_given_to : ℕ → Mark → Bool
+is_given_to t (Given u) = u == t
+is_given_to t m = false
+
+abbrev pub is_kept_for : ℕ → Mark → Bool
+is_kept_for t (Kept u) = u == t
+is_kept_for t m = false
+
+abbrev pub is_mark_open : Mark → Bool
+is_mark_open Open = true
+is_mark_open m = false
+
+-- the hand of a train: the sections that are given to it, which are consecutive
+pub record IsHand (v : LineState) (t : ℕ) (hand : Run) : Type 0 where
+  pub each : (s : ℕ) → is_given_to t (v.mark s) ≡ within hand s
+
+-- the centre supervises the train
+abbrev pub is_at : ℕ → Supervisor → Bool
+is_at c (At d) = d == c
+is_at c (Parted stamp) = false
+
+abbrev pub supervises : LineState → ℕ → ℕ → Bool
+supervises v c t = option_map_or (λ m. is_at c m.supervisor) (v.mission t) false
+
+-- the sections of a start of mission that waits at the centre
+abbrev pub is_waiting_at : Line → LineState → ℕ → ℕ → ℕ → Bool
+is_waiting_at line v t c s = option_map_or (λ place. covers line place s) (v.wait t c) false
+
+-- at some centre a start of mission of the train waits for the section
+abbrev pub is_waiting : Line → LineState → ℕ → ℕ → Bool
+is_waiting line v t s = list_any (λ c. is_waiting_at line v t c s) (range_with_len 0 (length line.centres))
+
+-- ## Changes
+
+-- sections are freed: each becomes open, and one that is wished back becomes shut, its wish ends, and that is told
+abbrev pub free : (ℕ → Bool) → LineState → LineState
+free is_freed v = record v {
+  mark = λ s. if is_freed s then (if v.wish s then Shut else Open) else v.mark s;
+  wish = λ s. not (is_freed s) && v.wish s;
+}
+
+-- the words that come out then, by section
+abbrev pub told : Line → (ℕ → Bool) → LineState → List Word
+told line is_freed v = map (λ s. Told s) (filter (λ s. is_freed s && v.wish s) (range_with_len 0 (section_count line)))
+
+-- sections get this mark
+abbrev pub mark_all : (ℕ → Bool) → Mark → LineState → LineState
+mark_all test mark v = record v { mark = λ s. if test s then mark else v.mark s }
+
+-- sections stop being given: those of home c are freed, the others are kept
+abbrev pub release : Line → ℕ → ℕ → (ℕ → Bool) → LineState → LineState
+release line c t is_released v =
+    free (λ s. is_released s && is_home line c s) (mark_all (λ s. is_released s && not (is_home line c s)) (Kept t) v)
+
+abbrev pub set_mission : ℕ → Option Mission → LineState → LineState
+set_mission t mission v = record v { mission = put v.mission t mission }
+
+abbrev pub change_mission : ℕ → (Mission → Mission) → LineState → LineState
+change_mission t change v = set_mission t (option_map change (v.mission t)) v
+
+-- a mission whose train has no section left in its hand is none
+abbrev pub close_if_empty : Line → ℕ → LineState → LineState
+close_if_empty line t v =
+    if list_any (λ s. is_given_to t (v.mark s)) (range_with_len 0 (section_count line)) then v else set_mission t None v
+
+-- the last T_TRAIN that the centre has heard of the train is that of the message
+abbrev pub hears : ℕ → TrainMessage → LineState → LineState
+hears c m v = record v { heard = put_pair v.heard m.nid_engine c (Some m.t_train) }
+
+-- the message from centre c to train t: its T_TRAIN counts those said by c to it
+abbrev pub saying_of : ℕ → ℕ → ℕ → TrackBody → LineState → Saying
+saying_of t c group body v =
+    record { nid_engine = t; message = record { t_train = v.said t c + 1; nid_lrbg = group; body = body } }
+
+abbrev pub says : ℕ → ℕ → LineState → LineState
+says t c v = record v { said = put_pair v.said t c (v.said t c + 1) }
+
+-- what a step or a piece says to trains and to the interlocking
+pub record Said : Type 0 where
+  pub sayings : List Saying
+  pub words : List Word
+
+abbrev pub nothing : Said
+nothing = record { sayings = []; words = [] }
