@@ -10,18 +10,18 @@ use Rattle.rbc_system.specs.World.{new_world, world_step}
 use Rattle.rbc_examples.specs.Scene.{line, seen, seen_from}
 use Rattle.rbc_examples.specs.Handover.{handover, handover_shows, return_after_handover, return_after_handover_shows, yield_carries_the_last_stamp_heard, yield_carries_the_last_stamp_heard_shows, cancelled_before_taking_over, cancelled_before_taking_over_shows}
 
-pub handover_is_seen : seen line handover ≡ handover_shows
+pub handover_comes_out : seen line handover ≡ handover_shows
 unfolding within longest line_start end extent beginning ◌>>◌ step new_world world_step seen seen_from
-handover_is_seen = refl
+handover_comes_out = refl
 
-pub return_after_handover_is_seen : seen line return_after_handover ≡ return_after_handover_shows
+pub return_after_handover_comes_out : seen line return_after_handover ≡ return_after_handover_shows
 unfolding within longest line_start end extent beginning ◌>>◌ step new_world world_step seen seen_from
-return_after_handover_is_seen = refl
+return_after_handover_comes_out = refl
 
-pub yield_carries_the_last_stamp_heard_is_seen : seen line yield_carries_the_last_stamp_heard ≡ yield_carries_the_last_stamp_heard_shows
+pub yield_carries_the_last_stamp_heard_comes_out : seen line yield_carries_the_last_stamp_heard ≡ yield_carries_the_last_stamp_heard_shows
 unfolding within longest line_start end extent beginning ◌>>◌ step new_world world_step seen seen_from
-yield_carries_the_last_stamp_heard_is_seen = refl
+yield_carries_the_last_stamp_heard_comes_out = refl
 
-pub cancelled_before_taking_over_is_seen : seen line cancelled_before_taking_over ≡ cancelled_before_taking_over_shows
+pub cancelled_before_taking_over_comes_out : seen line cancelled_before_taking_over ≡ cancelled_before_taking_over_shows
 unfolding within longest line_start end extent beginning ◌>>◌ step new_world world_step seen seen_from
-cancelled_before_taking_over_is_seen = refl
+cancelled_before_taking_over_comes_out = refl

@@ -7,19 +7,20 @@ use Rattle.rbc_system.specs.Centre.{beginning}
 use Rattle.rbc_system.specs.Acts.{◌>>◌}
 use Rattle.rbc_system.specs.Step.{step, Set, LinkFull}
 use Rattle.rbc_examples.specs.Scene.{line, line_of_three}
-use Rattle.rbc_examples.specs.Limits.{stamps, having_sent, last_stamp_is_taken, last_stamp_is_taken_shows, stamp_past_the_last, stamp_past_the_last_shows, frame_without_a_link, frame_without_a_link_shows}
+use Rattle.rbc_system.specs.World.{new_world, world_step, world_run}
+use Rattle.rbc_examples.specs.Limits.{run_items, set_and_session, set_and_session_shows, stamps, having_sent, last_stamp_is_taken, last_stamp_is_taken_shows, stamp_past_the_last, stamp_past_the_last_shows, frame_without_a_link, frame_without_a_link_shows}
 
-pub last_stamp_is_taken_is_seen : stamps line last_stamp_is_taken (beginning line 0) ≡ last_stamp_is_taken_shows
+pub last_stamp_is_taken_comes_out : stamps line last_stamp_is_taken (beginning line 0) ≡ last_stamp_is_taken_shows
 unfolding within longest start end extent beginning ◌>>◌ step stamps
-last_stamp_is_taken_is_seen = refl
+last_stamp_is_taken_comes_out = refl
 
-pub stamp_past_the_last_is_seen : stamps line stamp_past_the_last (beginning line 0) ≡ stamp_past_the_last_shows
+pub stamp_past_the_last_comes_out : stamps line stamp_past_the_last (beginning line 0) ≡ stamp_past_the_last_shows
 unfolding within longest start end extent beginning ◌>>◌ step stamps
-stamp_past_the_last_is_seen = refl
+stamp_past_the_last_comes_out = refl
 
-pub frame_without_a_link_is_seen : stamps (line_of_three 1) frame_without_a_link (beginning (line_of_three 1) 0) ≡ frame_without_a_link_shows
+pub frame_without_a_link_comes_out : stamps (line_of_three 1) frame_without_a_link (beginning (line_of_three 1) 0) ≡ frame_without_a_link_shows
 unfolding within longest start end extent beginning ◌>>◌ step stamps
-frame_without_a_link_is_seen = refl
+frame_without_a_link_comes_out = refl
 
 pub three_numbers_left : stamps line (Set 0 ∷ []) (having_sent 65533) ≡ Err LinkFull ∷ []
 unfolding within longest start end extent beginning ◌>>◌ step stamps
@@ -28,3 +29,7 @@ three_numbers_left = refl
 pub four_numbers_left : stamps line (Set 0 ∷ []) (having_sent 65532) ≡ Ok (1, None) ∷ []
 unfolding within longest start end extent beginning ◌>>◌ step stamps
 four_numbers_left = refl
+
+pub set_and_session_comes_out : run_items (world_run line (new_world line) set_and_session) ≡ set_and_session_shows
+unfolding within longest start end extent beginning ◌>>◌ step new_world world_step world_run
+set_and_session_comes_out = refl

@@ -10,46 +10,46 @@ use Rattle.rbc_system.specs.World.{new_world, world_step}
 use Rattle.rbc_examples.specs.Scene.{line, seen, seen_from}
 use Rattle.rbc_examples.specs.Races.{withdrawn_from_the_pool, withdrawn_from_the_pool_shows, route_for_an_ended_mission, route_for_an_ended_mission_shows, end_of_mission_with_a_pool, end_of_mission_with_a_pool_shows, awaited, awaited_shows, route_after_the_yield, route_after_the_yield_shows, wish_at_the_yield, wish_at_the_yield_shows, cleared_elsewhere, cleared_elsewhere_shows, cleared_with_a_pool, cleared_with_a_pool_shows, cleared_over_the_border, cleared_over_the_border_shows, whole_hand_is_cut, whole_hand_is_cut_shows, session_opens_over_a_waiting_start, session_opens_over_a_waiting_start_shows}
 
-pub withdrawn_from_the_pool_is_seen : seen line withdrawn_from_the_pool ≡ withdrawn_from_the_pool_shows
+pub withdrawn_from_the_pool_comes_out : seen line withdrawn_from_the_pool ≡ withdrawn_from_the_pool_shows
 unfolding within longest line_start end extent beginning ◌>>◌ step new_world world_step seen seen_from
-withdrawn_from_the_pool_is_seen = refl
+withdrawn_from_the_pool_comes_out = refl
 
-pub route_for_an_ended_mission_is_seen : seen line route_for_an_ended_mission ≡ route_for_an_ended_mission_shows
+pub route_for_an_ended_mission_comes_out : seen line route_for_an_ended_mission ≡ route_for_an_ended_mission_shows
 unfolding within longest line_start end extent beginning ◌>>◌ step new_world world_step seen seen_from
-route_for_an_ended_mission_is_seen = refl
+route_for_an_ended_mission_comes_out = refl
 
-pub end_of_mission_with_a_pool_is_seen : seen line end_of_mission_with_a_pool ≡ end_of_mission_with_a_pool_shows
+pub end_of_mission_with_a_pool_comes_out : seen line end_of_mission_with_a_pool ≡ end_of_mission_with_a_pool_shows
 unfolding within longest line_start end extent beginning ◌>>◌ step new_world world_step seen seen_from
-end_of_mission_with_a_pool_is_seen = refl
+end_of_mission_with_a_pool_comes_out = refl
 
-pub awaited_is_seen : seen line awaited ≡ awaited_shows
+pub awaited_comes_out : seen line awaited ≡ awaited_shows
 unfolding within longest line_start end extent beginning ◌>>◌ step new_world world_step seen seen_from
-awaited_is_seen = refl
+awaited_comes_out = refl
 
-pub route_after_the_yield_is_seen : seen line route_after_the_yield ≡ route_after_the_yield_shows
+pub route_after_the_yield_comes_out : seen line route_after_the_yield ≡ route_after_the_yield_shows
 unfolding within longest line_start end extent beginning ◌>>◌ step new_world world_step seen seen_from
-route_after_the_yield_is_seen = refl
+route_after_the_yield_comes_out = refl
 
-pub wish_at_the_yield_is_seen : seen line wish_at_the_yield ≡ wish_at_the_yield_shows
+pub wish_at_the_yield_comes_out : seen line wish_at_the_yield ≡ wish_at_the_yield_shows
 unfolding within longest line_start end extent beginning ◌>>◌ step new_world world_step seen seen_from
-wish_at_the_yield_is_seen = refl
+wish_at_the_yield_comes_out = refl
 
-pub cleared_elsewhere_is_seen : seen line cleared_elsewhere ≡ cleared_elsewhere_shows
+pub cleared_elsewhere_comes_out : seen line cleared_elsewhere ≡ cleared_elsewhere_shows
 unfolding within longest line_start end extent beginning ◌>>◌ step new_world world_step seen seen_from
-cleared_elsewhere_is_seen = refl
+cleared_elsewhere_comes_out = refl
 
-pub cleared_with_a_pool_is_seen : seen line cleared_with_a_pool ≡ cleared_with_a_pool_shows
+pub cleared_with_a_pool_comes_out : seen line cleared_with_a_pool ≡ cleared_with_a_pool_shows
 unfolding within longest line_start end extent beginning ◌>>◌ step new_world world_step seen seen_from
-cleared_with_a_pool_is_seen = refl
+cleared_with_a_pool_comes_out = refl
 
-pub cleared_over_the_border_is_seen : seen line cleared_over_the_border ≡ cleared_over_the_border_shows
+pub cleared_over_the_border_comes_out : seen line cleared_over_the_border ≡ cleared_over_the_border_shows
 unfolding within longest line_start end extent beginning ◌>>◌ step new_world world_step seen seen_from
-cleared_over_the_border_is_seen = refl
+cleared_over_the_border_comes_out = refl
 
-pub whole_hand_is_cut_is_seen : seen line whole_hand_is_cut ≡ whole_hand_is_cut_shows
+pub whole_hand_is_cut_comes_out : seen line whole_hand_is_cut ≡ whole_hand_is_cut_shows
 unfolding within longest line_start end extent beginning ◌>>◌ step new_world world_step seen seen_from
-whole_hand_is_cut_is_seen = refl
+whole_hand_is_cut_comes_out = refl
 
-pub session_opens_over_a_waiting_start_is_seen : seen line session_opens_over_a_waiting_start ≡ session_opens_over_a_waiting_start_shows
+pub session_opens_over_a_waiting_start_comes_out : seen line session_opens_over_a_waiting_start ≡ session_opens_over_a_waiting_start_shows
 unfolding within longest line_start end extent beginning ◌>>◌ step new_world world_step seen seen_from
-session_opens_over_a_waiting_start_is_seen = refl
+session_opens_over_a_waiting_start_comes_out = refl

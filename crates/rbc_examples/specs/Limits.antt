@@ -1,11 +1,14 @@
--- Steps of a centre that are refused, and frames of a centre to which it has no link.
-use Rattle.std.specs.Prelude.{ℕ, List, [], ◌∷◌, Option, Some, None, Result, Ok, Err}
+-- Steps of a centre that are refused, frames of a centre to which it has no link, and a whole run.
+use Rattle.std.specs.Prelude.{ℕ, List, [], ◌∷◌, map, Option, Some, None, Result, Ok, Err}
 use Rattle.rbc_system.specs.Frame.{Frame, GiveRight}
 use Rattle.rbc_system.specs.Outcome.{Outcome, Taken, Early, NoLink}
 use Rattle.rbc_system.specs.Centre.{Centre, beginning}
 use Rattle.rbc_spec.specs.Line.{Line}
 use Rattle.rbc_system.specs.Step.{Event, Set, Deliver, Refusal, ClockEnd, step}
-use Rattle.rbc_examples.specs.Scene.{line, times}
+use Rattle.rbc_system.specs.Message.{InitiationOfSession, SystemVersion, unknown_group}
+use Rattle.rbc_system.specs.World as world
+use Rattle.rbc_system.specs.World.{World, Answer}
+use Rattle.rbc_examples.specs.Scene.{line, times, Item, Says, items, done}
 
 -- of a step its stamp and the link's answer, or its refusal
 abbrev pub Stamped : Type 0
@@ -49,3 +52,17 @@ frame_without_a_link_shows = Ok (5, Some NoLink) ∷ Ok (6, Some NoLink) ∷ Ok 
 -- a centre that has sent so many frames to each other
 abbrev pub having_sent : ℕ → Centre
 having_sent count = record (beginning line 0) { sent = λ d. times count (frame 1 1) }
+
+-- ## A whole run
+
+-- what the answers of a run say
+abbrev pub run_items : Result (List Answer × World) Refusal → List (List Item)
+run_items (Ok run) = map (λ answer. items line answer) run.0
+run_items (Err why) = []
+
+-- a section is set, and a session opened
+abbrev pub set_and_session : List world.Event
+set_and_session = world.Set 0 1 ∷ world.Bytes 0 (Ok (record { t_train = 1; nid_engine = 1; body = InitiationOfSession })) ∷ []
+
+abbrev pub set_and_session_shows : List (List Item)
+set_and_session_shows = done 1 ∷ (Says 1 1 unknown_group SystemVersion ∷ []) ∷ []

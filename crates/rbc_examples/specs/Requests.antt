@@ -165,6 +165,21 @@ end_within_reach_of_the_message_shows =
     ++ start_and_request_shows 82020 32000 []
     ++ shows (times 16 (Given 1) ++ times 4 IsOpen) [] ((0 ∷ []) ∷ [] ∷ []) ∷ []
 
+-- an authority just as long as the message can say, and a section that ends 1 m behind that
+abbrev pub longest_authority : List Scene
+longest_authority = sets 0 0 17 ++ start_and_request (at 100 600 (Some 200)) ++ Look ∷ []
+
+abbrev pub longest_authority_shows : List (List Item)
+longest_authority_shows =
+    all_done 0 17 ++ start_and_request_shows 82020 32767 [] ++ shows (times 17 (Given 1)) [] ((0 ∷ []) ∷ [] ∷ []) ∷ []
+
+abbrev pub one_metre_too_far : List Scene
+one_metre_too_far = sets 0 0 17 ++ start_and_request (at 100 600 (Some 200)) ++ Look ∷ []
+
+abbrev pub one_metre_too_far_shows : List (List Item)
+one_metre_too_far_shows =
+    all_done 0 17 ++ start_and_request_shows 82020 32000 [] ++ shows (times 16 (Given 1) ++ IsOpen ∷ []) [] ((0 ∷ []) ∷ [] ∷ []) ∷ []
+
 -- ## End of mission
 
 -- the mission ends in section 2: what is behind is cleared, what is ahead stays, and the handover stands

@@ -51,6 +51,10 @@ line = line_of 2 (main ∷ []) (sections_on 0 0 (times 4 (1000, 0) ++ times 4 (1
 abbrev pub line_of_one : (count metres : ℕ) → Line
 line_of_one count metres = line_of 2 (main ∷ []) (sections_on 0 0 (times count (metres, 0))) 0 0
 
+-- sixteen sections of 2 000 m and one of so many more, all at A
+abbrev pub line_of_32_km : (metres : ℕ) → Line
+line_of_32_km metres = line_of 2 (main ∷ []) (sections_on 0 0 (times 16 (2000, 0) ++ (metres, 0) ∷ [])) 0 0
+
 -- two tracks of two sections, one of A and one of B
 abbrev pub line_of_two_tracks : Line
 line_of_two_tracks = line_of 2 (main ∷ (98 ∷ []) ∷ []) (sections_on 0 0 (times 2 (1000, 0)) ++ sections_on 1 2 (times 2 (1000, 1))) 0 0

@@ -1,8 +1,8 @@
 -- A section of a hand is wished back: the train is asked to shorten its authority.
 use Rattle.std.specs.Prelude.{ℕ, true, List, [], ◌∷◌, ◌++◌, Some}
-use Rattle.rbc_system.specs.Message.{StartOfMission, Report, ShorteningGranted, ShorteningRejected, ShorteningRequest, TrainAccepted, unknown_group}
+use Rattle.rbc_system.specs.Message.{StartOfMission, TrainData, Request, Report, ShorteningGranted, ShorteningRejected, ShorteningRequest, Authority, DataAcknowledged, TrainAccepted, unknown_group}
 use Rattle.rbc_system.specs.Frame.{RouteReturn, RouteWithdraw}
-use Rattle.rbc_system.specs.Outcome.{Asked, Told, Unasked, Next}
+use Rattle.rbc_system.specs.Outcome.{Asked, Told, NoTrainData, ProposalPending, Unasked, Next}
 use Rattle.rbc_system.specs.World.{Unset, Delivery}
 use Rattle.rbc_examples.specs.Scene.{Scene, Happens, Look, Item, Says, Sends, Tells, Link, IsShut, IsOpen, Given, Kept, train, session, sets, at, in_section_1, group_1, nothing, all_done, times, shows}
 use Rattle.rbc_examples.specs.Starts.{opened, silent}
@@ -36,6 +36,23 @@ unset_in_a_hand_shows =
     ++ (Says 1 2 unknown_group TrainAccepted ∷ []) ∷ shows (IsShut ∷ times 2 (Given 1) ++ times 5 IsShut) [] ((0 ∷ []) ∷ [] ∷ [])
     ∷ nothing ∷ (Says 1 3 group_1 (ShorteningRequest 1000) ∷ Tells (Asked 2) ∷ [])
     ∷ shows (IsShut ∷ times 2 (Given 1) ++ times 5 IsShut) (2 ∷ []) ((0 ∷ []) ∷ [] ∷ []) ∷ []
+
+-- a start within the hand drops the request to shorten, so a request with new train data is answered
+abbrev pub start_drops_the_proposal : List Scene
+start_drops_the_proposal =
+    sets 0 1 7
+    ++ start_and_request in_section_1
+    ++ Happens (Unset 0 3) ∷ train 1 0 6 (Request in_section_1) ∷ train 1 0 7 (StartOfMission true in_section_1)
+    ∷ train 1 0 8 (ShorteningGranted 5 in_section_1) ∷ train 1 0 9 (Request in_section_1) ∷ train 1 0 10 (TrainData in_section_1)
+    ∷ train 1 0 11 (Request in_section_1) ∷ []
+
+abbrev pub start_drops_the_proposal_shows : List (List Item)
+start_drops_the_proposal_shows =
+    all_done 1 7
+    ++ start_and_request_shows group_1 7000 []
+    ++ asks_to_shorten 5 ∷ silent ProposalPending ∷ (Says 1 6 unknown_group TrainAccepted ∷ [])
+    ∷ silent Unasked ∷ silent NoTrainData ∷ (Says 1 7 unknown_group (DataAcknowledged 10) ∷ [])
+    ∷ (Says 1 8 group_1 (Authority 7000) ∷ []) ∷ []
 
 -- a hand of seven sections of one centre is cut before section 3
 abbrev pub shortening_in_one_centre : List Scene

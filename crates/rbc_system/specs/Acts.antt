@@ -1,17 +1,16 @@
 -- The acts that a centre's steps are made of, in the order in which what they say and send comes out.
-use Rattle.std.specs.Prelude.{ℕ, ◌+◌, ◌-◌, ◌*◌, ◌==◌, Bool, true, false, ◌&&◌, ◌||◌, not, if◌then◌else◌, List, [], ◌∷◌, ◌++◌, map, length, min, Option, Some, None, option_map, is_some, is_none, nat_lt, nat_le}
+use Rattle.std.specs.Prelude.{ℕ, ◌+◌, ◌-◌, ◌*◌, ◌==◌, Bool, true, false, ◌&&◌, ◌||◌, not, if◌then◌else◌, List, [], ◌∷◌, ◌++◌, map, min, Option, Some, None, option_map, is_none, nat_le}
 use Rattle.std.specs.Option.{option_map_or}
-use Rattle.std.specs.List.{filter, find, list_all, range_with_len}
+use Rattle.std.specs.List.{filter, list_all, range_with_len}
 use Rattle.rbc_spec.specs.Maps.{put}
-use Rattle.rbc_spec.specs.LineCentre.{put_pair}
-use Rattle.rbc_system.specs.Runs.{Run, no_run, within, behind, is_empty, part_from, shared, joined}
+use Rattle.rbc_system.specs.Runs.{Run, no_run, within, behind, is_empty, shared}
 use Rattle.rbc_spec.specs.Line.{Line, is_home, start, registrar}
 use Rattle.rbc_system.specs.Sections.{nid_rbc, home_run}
 use Rattle.rbc_system.specs.Place.{Place, covered, group_start}
 use Rattle.rbc_system.specs.Message.{TrainMessage, TrackBody, ShorteningRequest, Transition, EndSession, unknown_group}
 use Rattle.rbc_system.specs.Frame.{Body, ReturnRight, RouteReturn, RouteAsk, Announce, Cancel, Yield}
 use Rattle.rbc_system.specs.Outcome.{Saying, Word, Told}
-use Rattle.rbc_system.specs.Centre.{Centre, Entry, Shut, Open, Taken, Out, Phase, Silent, Opened, Up, Mission, Proposal, Handing, Expectation, is_up, is_open, is_taken_for, is_out_for, is_free, uses_some, is_expected, is_registrar_of}
+use Rattle.rbc_system.specs.Centre.{Centre, Entry, Shut, Open, Out, Mission, Handing, is_up, is_taken_for, is_registrar_of}
 
 infixr 0 ◌$◌
 abbrev pub ◌$◌ : {X Y : Type 0} → (X → Y) → X → Y
@@ -181,7 +180,7 @@ ask_route t d m =
     let first = behind m.hand in
     send d (RouteAsk t first (min (32 - m.hand.count) (512 - first))) >> become (λ k. record k { route_ask = put k.route_ask t (Some first) })
 
--- where the train has no section of home c in its hand and its session is up, the session is to be terminated
+-- the train is told to end its session with c, where it is up
 abbrev pub end_order : Line → ℕ → ℕ → Act
 end_order line c t = where_so (λ k. is_up (k.phase t)) (say t unknown_group (EndSession line.nid_c (nid_rbc line c)))
 

@@ -1,6 +1,6 @@
 -- Frames between centres. The names Announcement, Cancellation, Taking Over Responsibility and Route Related
 -- Information come from the RBC/RBC interface (SUBSET-039); the frames and the rule of rights are the profile's.
-use Rattle.std.specs.Prelude.{ℕ, Bool, Option, ℤ}
+use Rattle.std.specs.Prelude.{ℕ, Bool}
 use Rattle.rbc_system.specs.Runs.{Run}
 use Rattle.rbc_system.specs.Place.{Place}
 

@@ -1,14 +1,14 @@
 -- The one line centre: what a single centre for the whole line would keep. No border, frame or second book occurs in it.
 -- That the centres together do what it does is the main theorem (rbc_world).
-use Rattle.std.specs.Prelude.{◌≡◌, ◌+◌, ◌*◌, ℕ, List, [], ◌∷◌, length, Bool, true, false, ◌==◌, ◌&&◌, ◌||◌, not, if◌then◌else◌, Option, Some, None, map, option_map}
+use Rattle.std.specs.Prelude.{◌≡◌, ◌+◌, ℕ, List, [], length, Bool, true, false, ◌==◌, ◌&&◌, not, if◌then◌else◌, Option, Some, None, map, option_map}
 use Rattle.std.specs.Option.{option_map_or}
-use Rattle.std.specs.List.{filter, list_all, list_any, range_with_len}
+use Rattle.std.specs.List.{filter, list_any, range_with_len}
 use Rattle.rbc_spec.specs.Maps.{put}
 use Rattle.rbc_spec.specs.LineCentre.{put_pair}
 use Rattle.rbc_system.specs.Runs.{Run, within}
 use Rattle.rbc_spec.specs.Line.{Line, is_home}
 use Rattle.rbc_system.specs.Sections.{section_count}
-use Rattle.rbc_system.specs.Place.{Place, covers, covered}
+use Rattle.rbc_system.specs.Place.{Place, covers}
 use Rattle.rbc_system.specs.Message.{TrainMessage, TrackBody}
 use Rattle.rbc_system.specs.Outcome.{Saying, Word, Told}
 use Rattle.rbc_system.specs.Centre.{Phase, Silent, Proposal}

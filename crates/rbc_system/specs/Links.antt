@@ -1,18 +1,17 @@
 -- What a centre does with a frame that is the next of its link. A body that names an engine, section, track or group that is
 -- not of the line has no effect, and so has one that no rule below gives one.
-use Rattle.std.specs.Prelude.{ℕ, ◌+◌, ◌*◌, ◌==◌, Bool, true, false, ◌&&◌, ◌||◌, not, if◌then◌else◌, List, [], ◌∷◌, length, max, Option, Some, None, is_some, is_none, nat_lt, nat_le, option_map}
+use Rattle.std.specs.Prelude.{ℕ, ◌*◌, ◌==◌, Bool, true, false, ◌&&◌, not, if◌then◌else◌, length, max, Option, Some, None, is_some, is_none, nat_lt, nat_le, option_map}
 use Rattle.std.specs.Option.{option_map_or}
-use Rattle.std.specs.List.{find, list_all, range_with_len}
+use Rattle.std.specs.List.{find, range_with_len}
 use Rattle.rbc_spec.specs.Maps.{put}
 use Rattle.rbc_spec.specs.LineCentre.{put_pair}
 use Rattle.rbc_system.specs.Runs.{Run, no_run, within, behind, is_empty, part_before, part_from, longest}
-use Rattle.rbc_spec.specs.Line.{Line, is_home, is_linked, section, start, next_centre, registrar, train_number, section_of_group}
-use Rattle.rbc_system.specs.Sections.{is_on, is_on_track, section_count}
-use Rattle.rbc_system.specs.Place.{Place, covered, group_start}
-use Rattle.rbc_system.specs.Message.{unknown_group}
+use Rattle.rbc_spec.specs.Line.{Line, is_home, is_linked, section, next_centre, train_number, section_of_group}
+use Rattle.rbc_system.specs.Sections.{is_on, is_on_track}
+use Rattle.rbc_system.specs.Place.{Place, group_start}
 use Rattle.rbc_system.specs.Frame.{Body, AskRight, GiveRight, RefuseRight, ReturnRight, RouteAsk, RouteInfo, RouteWithdraw, RouteReturn, Announce, Cancel, TakingOver, Yield}
-use Rattle.rbc_system.specs.Centre.{Centre, Entry, Taken, Out, Mission, Handing, Expectation, is_taken_for, is_out_for, is_free, is_open, uses_some, is_expected, is_registrar_of}
-use Rattle.rbc_system.specs.Acts.{Act, become, rest, ◌>>◌, where_so, with_some, send, booked, freed, returned, set_mission, change_mission, return_right, propose_if_so, part_at, end_order, yield_if_due}
+use Rattle.rbc_system.specs.Centre.{Centre, Taken, Out, Mission, Expectation, is_out_for, is_free, is_open, uses_some, is_expected, is_registrar_of}
+use Rattle.rbc_system.specs.Acts.{Act, become, rest, ◌>>◌, where_so, with_some, send, booked, freed, returned, set_mission, change_mission, return_right, propose_if_so, end_order, yield_if_due}
 use Rattle.rbc_system.specs.Rules.{choose, drop_wait, begin, reject, all_of}
 
 -- the sections of the run are of the line, all of one track

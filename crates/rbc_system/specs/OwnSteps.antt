@@ -1,19 +1,18 @@
 -- The own steps of the one line centre: a train's message that is answered, a set and an unset. Each is a relation, since
 -- the line centre may choose where the rules leave it open.
-use Rattle.std.specs.Prelude.{◌≡◌, ◌+◌, ◌-◌, ◌*◌, ◌≤◌, ◌⊎◌, ℕ, List, [], ◌∷◌, ◌++◌, length, Bool, true, false, ◌==◌, ◌&&◌, ◌||◌, not, if◌then◌else◌, Option, Some, None, is_none, is_some, option_map, nat_le, nat_lt, MatchBool}
+use Rattle.std.specs.Prelude.{◌≡◌, ◌+◌, ◌-◌, ◌*◌, ◌≤◌, ◌⊎◌, ℕ, List, [], ◌∷◌, Bool, true, false, ◌&&◌, ◌||◌, not, if◌then◌else◌, Option, Some, None, option_map, nat_le, nat_lt, MatchBool}
 use Rattle.std.specs.Option.{option_map_or}
-use Rattle.std.specs.List.{filter, list_all, list_any, range_with_len}
 use Rattle.rbc_spec.specs.Maps.{put}
 use Rattle.rbc_spec.specs.LineCentre.{put_pair}
 use Rattle.rbc_system.specs.Runs.{Run, within, behind}
-use Rattle.rbc_spec.specs.Line.{Line, is_home, start, end}
-use Rattle.rbc_system.specs.Sections.{is_on, section_count}
-use Rattle.rbc_system.specs.Place.{Place, Position, covers, covered, is_cleared, group_start}
+use Rattle.rbc_spec.specs.Line.{Line, is_home, end}
+use Rattle.rbc_system.specs.Sections.{is_on}
+use Rattle.rbc_system.specs.Place.{Place, covers, covered, is_cleared, group_start}
 use Rattle.rbc_system.specs.Message.{TrainMessage, TrainBody, TrainData, Request, Report, ShorteningGranted, ShorteningRejected, EndOfMission, InitiationOfSession, TerminationOfSession, StartOfMission, SessionEstablished, TrackBody, Authority, DataAcknowledged, SystemVersion, TerminationAcknowledged, TrainRejected, TrainAccepted, unknown_group}
 use Rattle.rbc_system.specs.Outcome.{Word, Done, Asked, NotHome}
 use Rattle.rbc_system.specs.Centre.{Phase, Silent, Opened, Up, is_registrar_of}
 use Rattle.rbc_system.specs.Rules.{fit_place, place_on, all_of}
-use Rattle.rbc_system.specs.LineCentre.{LineState, Mark, Shut, Open, Kept, Given, Mission, Supervisor, At, is_given_to, is_kept_for, is_mark_open, IsHand, is_at, supervises, is_waiting_at, is_waiting, free, told, mark_all, release, set_mission, change_mission, close_if_empty, hears, saying_of, says, Said, nothing}
+use Rattle.rbc_system.specs.LineCentre.{LineState, Mark, Shut, Open, Kept, Given, Mission, At, is_given_to, is_kept_for, is_mark_open, IsHand, is_at, supervises, is_waiting_at, is_waiting, free, told, mark_all, release, set_mission, change_mission, close_if_empty, saying_of, says, Said, nothing}
 
 -- centre c says one message, and these words come out
 abbrev pub one_message : ℕ → ℕ → ℕ → TrackBody → List Word → LineState → Said

@@ -1,5 +1,5 @@
 -- Where a position report places a train on the line (3.6). The formulas of the fronts and the rear are the profile's.
-use Rattle.std.specs.Prelude.{ℕ, ◌+◌, ◌*◌, ◌==◌, Bool, false, ◌&&◌, if◌then◌else◌, Option, Some, None, option_map, option_and_then, nat_lt, nat_le, ℤ, pos, ◌-ℤ◌, int_lt, int_le}
+use Rattle.std.specs.Prelude.{ℕ, ◌+◌, ◌*◌, ◌==◌, Bool, false, ◌&&◌, if◌then◌else◌, Option, None, option_map, option_and_then, nat_lt, nat_le, ℤ, pos, ◌-ℤ◌, int_lt, int_le}
 use Rattle.std.specs.Option.{option_map_or}
 use Rattle.rbc_system.specs.Runs.{Run}
 use Rattle.rbc_spec.specs.Line.{Line, Section, section, section_of_group, start, end}

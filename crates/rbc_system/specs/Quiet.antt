@@ -1,18 +1,17 @@
 -- The quiet steps of the one line centre, which it may take of its own behind an event. Only an admitted start gives a
 -- section, and none frees a given one.
-use Rattle.std.specs.Prelude.{◌≡◌, ◌+◌, ◌-◌, ◌*◌, ◌≤◌, ◌<◌, ℕ, List, [], ◌∷◌, ◌++◌, max, Bool, true, false, ◌==◌, ◌&&◌, not, if◌then◌else◌, Option, Some, None, option_map}
+use Rattle.std.specs.Prelude.{◌≡◌, ◌+◌, ◌-◌, ◌*◌, ◌≤◌, ◌<◌, ℕ, List, [], ◌∷◌, ◌++◌, max, true, false, ◌==◌, ◌&&◌, Some, None}
 use Rattle.std.specs.Option.{option_map_or}
-use Rattle.std.specs.List.{list_any, range_with_len}
 use Rattle.rbc_spec.specs.Maps.{put}
 use Rattle.rbc_spec.specs.LineCentre.{put_pair}
 use Rattle.rbc_system.specs.Runs.{Run, within}
 use Rattle.rbc_spec.specs.Line.{Line, is_home, start, next_centre}
-use Rattle.rbc_system.specs.Sections.{nid_rbc, is_on, section_count}
-use Rattle.rbc_system.specs.Place.{Place, covers, group_start}
+use Rattle.rbc_system.specs.Sections.{nid_rbc}
+use Rattle.rbc_system.specs.Place.{Place, group_start}
 use Rattle.rbc_system.specs.Message.{ShorteningRequest, Transition, EndSession, TrainAccepted, TrainRejected, unknown_group}
-use Rattle.rbc_system.specs.Centre.{Phase, Up}
-use Rattle.rbc_system.specs.LineCentre.{LineState, Mark, Shut, Open, Kept, Given, Mission, Supervisor, At, Parted, is_given_to, IsHand, is_waiting_at, is_waiting, free, told, mark_all, set_mission, change_mission, Said, nothing}
-use Rattle.rbc_system.specs.OwnSteps.{one_message, Says, SaysNothing, Tells, begins, begun_at}
+use Rattle.rbc_system.specs.Centre.{Up}
+use Rattle.rbc_system.specs.LineCentre.{LineState, Open, Kept, Mission, At, Parted, is_given_to, IsHand, is_waiting_at, is_waiting, free, told, set_mission, change_mission, Said, nothing}
+use Rattle.rbc_system.specs.OwnSteps.{Says, SaysNothing, Tells, begins}
 
 pub data Quiet : Type 0 where
   Keep : (t s : ℕ) → Quiet  -- an open section is kept for t

@@ -1,13 +1,12 @@
 -- When a state of the one line centre stands for a world of centres.
-use Rattle.std.specs.Prelude.{◌≡◌, ◌⊎◌, ℕ, List, Bool, true, false, Option, Some, None, if◌then◌else◌, ◌||◌, is_some}
-use Rattle.std.specs.Option.{option_map_or}
-use Rattle.std.specs.List.{find, list_any, range_with_len, Contains}
+use Rattle.std.specs.Prelude.{◌≡◌, ◌⊎◌, ℕ, List, Bool, true, Some, None}
+use Rattle.std.specs.List.{Contains}
 use Rattle.rbc_system.specs.Runs.{Run, within}
-use Rattle.rbc_spec.specs.Line.{Line, is_home, section}
+use Rattle.rbc_spec.specs.Line.{Line, is_home}
 use Rattle.rbc_system.specs.Place.{Place}
-use Rattle.rbc_system.specs.Frame.{Frame, Body, Yield}
+use Rattle.rbc_system.specs.Frame.{Frame, Yield}
 use Rattle.rbc_system.specs.Centre as centre
-use Rattle.rbc_system.specs.LineCentre.{LineState, Mark, Shut, Open, Kept, Given, Mission, Supervisor, At, Parted, line_beginning}
+use Rattle.rbc_system.specs.LineCentre.{LineState, Mark, Shut, Open, Kept, Given, Mission, At, Parted, line_beginning}
 use Rattle.rbc_system.specs.World.{World, Event, Answer, way}
 use Rattle.rbc_system.specs.Run as run
 

@@ -1,18 +1,17 @@
 -- What a centre does with each event, act by act.
-use Rattle.std.specs.Prelude.{ℕ, ◌+◌, ◌-◌, ◌*◌, ◌==◌, Bool, true, false, ◌&&◌, ◌||◌, not, if◌then◌else◌, List, [], ◌∷◌, ◌++◌, length, Option, Some, None, is_some, is_none, nat_lt, nat_le, option_map}
+use Rattle.std.specs.Prelude.{ℕ, ◌+◌, ◌-◌, ◌*◌, ◌==◌, Bool, true, false, ◌&&◌, ◌||◌, not, if◌then◌else◌, [], ◌∷◌, Option, Some, None, is_none, nat_lt, nat_le, option_map}
 use Rattle.std.specs.Option.{option_map_or}
-use Rattle.std.specs.List.{filter, find, list_all, list_any, range_with_len}
+use Rattle.std.specs.List.{list_all, range_with_len}
 use Rattle.rbc_spec.specs.Maps.{put}
-use Rattle.rbc_spec.specs.LineCentre.{put_pair}
-use Rattle.rbc_system.specs.Runs.{Run, no_run, within, behind, is_empty, part_before, part_from, shared, joined, longest, passing}
-use Rattle.rbc_spec.specs.Line.{Line, is_centre, section, is_home, is_linked, start, end, next_centre, registrar, train_number, section_of_group}
-use Rattle.rbc_system.specs.Sections.{is_on, is_on_track}
-use Rattle.rbc_system.specs.Place.{Place, Position, extent, is_fit, covered, has_front, is_cleared, group_start}
+use Rattle.rbc_system.specs.Runs.{Run, no_run, within, behind, is_empty, part_before, part_from, joined, longest, passing}
+use Rattle.rbc_spec.specs.Line.{Line, is_centre, is_home, end, next_centre, registrar}
+use Rattle.rbc_system.specs.Sections.{is_on}
+use Rattle.rbc_system.specs.Place.{Place, Position, extent, is_fit, covered, is_cleared, group_start}
 use Rattle.rbc_system.specs.Message.{TrainMessage, TrainBody, TrainData, Request, Report, ShorteningGranted, ShorteningRejected, EndOfMission, InitiationOfSession, TerminationOfSession, StartOfMission, SessionEstablished, Authority, DataAcknowledged, SystemVersion, TerminationAcknowledged, TrainRejected, TrainAccepted, unknown_group}
-use Rattle.rbc_system.specs.Frame.{Body, AskRight, GiveRight, RefuseRight, ReturnRight, RouteAsk, RouteInfo, RouteWithdraw, RouteReturn, Announce, Cancel, TakingOver, Yield}
-use Rattle.rbc_system.specs.Outcome.{Word, Done, Asked, NotHome}
-use Rattle.rbc_system.specs.Centre.{Centre, Entry, Shut, Open, Taken, Out, Phase, Silent, Opened, Up, Mission, Proposal, Handing, Expectation, is_up, is_open, is_taken_for, is_out_for, is_free, uses_some, is_expected, is_registrar_of}
-use Rattle.rbc_system.specs.Acts.{Reply, Act, become, rest, ◌>>◌, where_so, with_some, send, say, booked, freed, returned, leave, set_mission, change_mission, return_pool, cancel, return_right, close, begun, propose_if_so, part_at, announce, ask_route, end_order, yield_if_due}
+use Rattle.rbc_system.specs.Frame.{AskRight, TakingOver}
+use Rattle.rbc_system.specs.Outcome.{Word}
+use Rattle.rbc_system.specs.Centre.{Centre, Taken, Phase, Silent, Opened, Up, Mission, Proposal, Expectation, is_open, is_taken_for, is_free, is_registrar_of}
+use Rattle.rbc_system.specs.Acts.{Act, become, rest, ◌>>◌, where_so, with_some, send, say, booked, freed, leave, set_mission, change_mission, return_pool, cancel, close, begun, part_at, announce, ask_route, yield_if_due}
 
 -- a word to the interlocking
 abbrev pub tell : Word → Act

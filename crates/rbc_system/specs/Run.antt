@@ -1,16 +1,16 @@
 -- The runs of the one line centre.
-use Rattle.std.specs.Prelude.{◌≡◌, ℕ, List, [], ◌∷◌, Bool, true, false, Option, Some, None, is_none, is_some, Result, Ok, Err, ◌&&◌, ◌||◌, not, ◌==◌, ◌+◌, ◌*◌, nat_le}
+use Rattle.std.specs.Prelude.{◌≡◌, ℕ, List, [], ◌∷◌, Bool, true, false, Option, Some, None, is_none, is_some, Ok, Err, ◌&&◌, ◌||◌, not, ◌==◌, ◌+◌, ◌*◌, nat_le}
 use Rattle.std.specs.Option.{option_map_or}
 use Rattle.std.specs.List.{find, list_any, range_with_len}
 use Rattle.rbc_spec.specs.Line.{Line, is_centre, train_number, is_home, end}
 use Rattle.rbc_system.specs.Sections.{section_count}
 use Rattle.rbc_system.specs.Place.{Position, extent, has_front, group_start}
-use Rattle.rbc_system.specs.Message.{TrainMessage, TrainBody, TrainData, Request, Report, ShorteningGranted, ShorteningRejected, EndOfMission, InitiationOfSession, TerminationOfSession, StartOfMission, SessionEstablished}
+use Rattle.rbc_system.specs.Message.{TrainMessage, TrainBody, Request, Report, ShorteningGranted, ShorteningRejected, StartOfMission, SessionEstablished}
 use Rattle.rbc_system.specs.Outcome.{Outcome, Reason, StaleStamp, NoSession, ForeignEngine, NoPlace, NotSupervised, NoTrainData, ProposalPending, Unasked, MissionEnded, WrongPhase}
 use Rattle.rbc_system.specs.Centre.{is_up}
 use Rattle.rbc_system.specs.Rules.{place_on}
 use Rattle.rbc_system.specs.Step.{is_stale, is_silent, reasons_of}
-use Rattle.rbc_system.specs.LineCentre.{LineState, line_beginning, Mission, is_at, is_given_to, hears, Said, nothing}
+use Rattle.rbc_system.specs.LineCentre.{LineState, Mission, is_at, is_given_to, hears, Said, nothing}
 use Rattle.rbc_system.specs.OwnSteps.{Own, Sets, Unsets}
 use Rattle.rbc_system.specs.Quiet.{Quiet, TakesAll, both}
 use Rattle.rbc_system.specs.World.{Event, Bytes, Set, Unset, Delivery, Answer, Answered, NoCentre, NotSent, Fault}

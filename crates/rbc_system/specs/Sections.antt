@@ -1,5 +1,5 @@
 -- Sections of the line by their numbers, and as runs.
-use Rattle.std.specs.Prelude.{ℕ, ◌==◌, Bool, false, ◌&&◌, List, length, slice_get}
+use Rattle.std.specs.Prelude.{ℕ, ◌==◌, Bool, false, ◌&&◌, length, slice_get}
 use Rattle.std.specs.List.{list_all, filter, sum_by, range_with_len}
 use Rattle.std.specs.Option.{option_map_or}
 use Rattle.rbc_spec.specs.Line.{Line, section, is_home}

@@ -3,13 +3,13 @@ use Rattle.std.specs.Prelude.{ℕ, ◌+◌, ◌-◌, ◌*◌, ◌==◌, Bool, tr
 use Rattle.std.specs.Option.{option_map_or}
 use Rattle.std.specs.List.{find, list_any, range_with_len}
 use Rattle.rbc_spec.specs.Maps.{put}
-use Rattle.rbc_system.specs.Runs.{Run, within, behind}
+use Rattle.rbc_system.specs.Runs.{behind}
 use Rattle.rbc_spec.specs.Line.{Line, is_home, is_linked, end, train_number}
 use Rattle.rbc_system.specs.Sections.{section_count}
-use Rattle.rbc_system.specs.Place.{Place, Position, extent, has_front, group_start}
+use Rattle.rbc_system.specs.Place.{Position, extent, has_front, group_start}
 use Rattle.rbc_system.specs.Message.{TrainMessage, TrainBody, TrainData, Request, Report, ShorteningGranted, ShorteningRejected, EndOfMission, InitiationOfSession, TerminationOfSession, StartOfMission, SessionEstablished}
 use Rattle.rbc_system.specs.Frame.{Frame, Body, RouteWithdraw}
-use Rattle.rbc_system.specs.Outcome.{Reason, StaleStamp, NoSession, ForeignEngine, NoPlace, NotSupervised, NoTrainData, ProposalPending, Unasked, MissionEnded, WrongPhase, Outcome, Word, Done, Asked, NotHome, Taken as LinkAnswer, Next, Old, Early, NoLink}
+use Rattle.rbc_system.specs.Outcome.{Reason, StaleStamp, NoSession, ForeignEngine, NoPlace, NotSupervised, NoTrainData, ProposalPending, Unasked, MissionEnded, WrongPhase, Outcome, Done, Asked, NotHome, Taken as LinkAnswer, Next, Old, Early, NoLink}
 use Rattle.rbc_system.specs.Centre.{Centre, Entry, Shut, Open, Taken, Out, Phase, Silent, Opened, Up, Mission, is_up, is_expected}
 use Rattle.rbc_system.specs.Acts.{Act, Reply, become, rest, ◌>>◌, send, hear, propose_if_so}
 use Rattle.rbc_system.specs.Rules.{tell, answered, place_on}

@@ -1,35 +1,35 @@
-use Rattle.rbc_examples.proofs.Races.{withdrawn_from_the_pool_is_seen, route_for_an_ended_mission_is_seen, end_of_mission_with_a_pool_is_seen, awaited_is_seen, route_after_the_yield_is_seen, wish_at_the_yield_is_seen, cleared_elsewhere_is_seen, cleared_with_a_pool_is_seen, cleared_over_the_border_is_seen, whole_hand_is_cut_is_seen, session_opens_over_a_waiting_start_is_seen}
+use Rattle.rbc_examples.proofs.Races.{withdrawn_from_the_pool_comes_out, route_for_an_ended_mission_comes_out, end_of_mission_with_a_pool_comes_out, awaited_comes_out, route_after_the_yield_comes_out, wish_at_the_yield_comes_out, cleared_elsewhere_comes_out, cleared_with_a_pool_comes_out, cleared_over_the_border_comes_out, whole_hand_is_cut_comes_out, session_opens_over_a_waiting_start_comes_out}
 use Rattle.rbc_examples.proofs.late_frames.Goals as goal
 
 pub returns-clause-withdrawn_from_the_pool : goal.returns-clause-withdrawn_from_the_pool
-returns-clause-withdrawn_from_the_pool c = withdrawn_from_the_pool_is_seen
+returns-clause-withdrawn_from_the_pool c = withdrawn_from_the_pool_comes_out
 
 pub returns-clause-route_for_an_ended_mission : goal.returns-clause-route_for_an_ended_mission
-returns-clause-route_for_an_ended_mission c = route_for_an_ended_mission_is_seen
+returns-clause-route_for_an_ended_mission c = route_for_an_ended_mission_comes_out
 
 pub returns-clause-end_of_mission_with_a_pool : goal.returns-clause-end_of_mission_with_a_pool
-returns-clause-end_of_mission_with_a_pool c = end_of_mission_with_a_pool_is_seen
+returns-clause-end_of_mission_with_a_pool c = end_of_mission_with_a_pool_comes_out
 
 pub returns-clause-awaited : goal.returns-clause-awaited
-returns-clause-awaited c = awaited_is_seen
+returns-clause-awaited c = awaited_comes_out
 
 pub returns-clause-route_after_the_yield : goal.returns-clause-route_after_the_yield
-returns-clause-route_after_the_yield c = route_after_the_yield_is_seen
+returns-clause-route_after_the_yield c = route_after_the_yield_comes_out
 
 pub returns-clause-wish_at_the_yield : goal.returns-clause-wish_at_the_yield
-returns-clause-wish_at_the_yield c = wish_at_the_yield_is_seen
+returns-clause-wish_at_the_yield c = wish_at_the_yield_comes_out
 
 pub returns-clause-cleared_elsewhere : goal.returns-clause-cleared_elsewhere
-returns-clause-cleared_elsewhere c = cleared_elsewhere_is_seen
+returns-clause-cleared_elsewhere c = cleared_elsewhere_comes_out
 
 pub returns-clause-cleared_with_a_pool : goal.returns-clause-cleared_with_a_pool
-returns-clause-cleared_with_a_pool c = cleared_with_a_pool_is_seen
+returns-clause-cleared_with_a_pool c = cleared_with_a_pool_comes_out
 
 pub returns-clause-cleared_over_the_border : goal.returns-clause-cleared_over_the_border
-returns-clause-cleared_over_the_border c = cleared_over_the_border_is_seen
+returns-clause-cleared_over_the_border c = cleared_over_the_border_comes_out
 
 pub returns-clause-whole_hand_is_cut : goal.returns-clause-whole_hand_is_cut
-returns-clause-whole_hand_is_cut c = whole_hand_is_cut_is_seen
+returns-clause-whole_hand_is_cut c = whole_hand_is_cut_comes_out
 
 pub returns-clause-session_opens_over_a_waiting_start : goal.returns-clause-session_opens_over_a_waiting_start
-returns-clause-session_opens_over_a_waiting_start c = session_opens_over_a_waiting_start_is_seen
+returns-clause-session_opens_over_a_waiting_start c = session_opens_over_a_waiting_start_comes_out

@@ -1,17 +1,20 @@
-use Rattle.rbc_examples.proofs.Limits.{last_stamp_is_taken_is_seen, stamp_past_the_last_is_seen, frame_without_a_link_is_seen, three_numbers_left, four_numbers_left}
+use Rattle.rbc_examples.proofs.Limits.{last_stamp_is_taken_comes_out, stamp_past_the_last_comes_out, frame_without_a_link_comes_out, three_numbers_left, four_numbers_left, set_and_session_comes_out}
 use Rattle.rbc_examples.proofs.refused_steps.Goals as goal
 
 pub returns-clause-last_stamp : goal.returns-clause-last_stamp
-returns-clause-last_stamp c = last_stamp_is_taken_is_seen
+returns-clause-last_stamp c = last_stamp_is_taken_comes_out
 
 pub returns-clause-past_the_last : goal.returns-clause-past_the_last
-returns-clause-past_the_last c = stamp_past_the_last_is_seen
+returns-clause-past_the_last c = stamp_past_the_last_comes_out
 
 pub returns-clause-no_link : goal.returns-clause-no_link
-returns-clause-no_link c = frame_without_a_link_is_seen
+returns-clause-no_link c = frame_without_a_link_comes_out
 
 pub returns-clause-three_numbers_left : goal.returns-clause-three_numbers_left
 returns-clause-three_numbers_left c = three_numbers_left
 
 pub returns-clause-four_numbers_left : goal.returns-clause-four_numbers_left
 returns-clause-four_numbers_left c = four_numbers_left
+
+pub returns-clause-whole_run : goal.returns-clause-whole_run
+returns-clause-whole_run c = set_and_session_comes_out
