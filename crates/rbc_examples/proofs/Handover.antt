@@ -1,12 +1,12 @@
 -- What is seen of the scenes of Handover, computed.
 use Rattle.std.proofs.Common.{◌≡◌, refl}
-use Rattle.rbc_system.specs.Runs.{within, longest}
+use Rattle.rbc_spec.specs.Runs.{within, longest}
 use Rattle.rbc_spec.specs.Line.{start as line_start, end}
-use Rattle.rbc_system.specs.Place.{extent}
-use Rattle.rbc_system.specs.Centre.{beginning}
-use Rattle.rbc_system.specs.Acts.{◌>>◌}
-use Rattle.rbc_system.specs.Step.{step}
-use Rattle.rbc_system.specs.World.{new_world, world_step}
+use Rattle.rbc_spec.specs.Place.{extent}
+use Rattle.rbc_spec.specs.Centre.{beginning}
+use Rattle.rbc_spec.specs.Acts.{◌>>◌}
+use Rattle.rbc_spec.specs.Step.{step}
+use Rattle.rbc_spec.specs.World.{new_world, world_step}
 use Rattle.rbc_examples.specs.Scene.{line, seen, seen_from}
 use Rattle.rbc_examples.specs.Handover.{handover, handover_shows, return_after_handover, return_after_handover_shows, yield_carries_the_last_stamp_heard, yield_carries_the_last_stamp_heard_shows, cancelled_before_taking_over, cancelled_before_taking_over_shows}
 

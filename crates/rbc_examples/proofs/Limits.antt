@@ -1,14 +1,15 @@
 -- The steps of Limits, computed.
 use Rattle.std.proofs.Common.{◌≡◌, [], ◌∷◌, Ok, Err, None, refl}
-use Rattle.rbc_system.specs.Runs.{within, longest}
+use Rattle.rbc_spec.specs.Runs.{within, longest}
 use Rattle.rbc_spec.specs.Line.{start, end}
-use Rattle.rbc_system.specs.Place.{extent}
-use Rattle.rbc_system.specs.Centre.{beginning}
-use Rattle.rbc_system.specs.Acts.{◌>>◌}
-use Rattle.rbc_system.specs.Step.{step, Set, LinkFull}
+use Rattle.rbc_spec.specs.Place.{extent}
+use Rattle.rbc_spec.specs.Frame.{RouteAsk}
+use Rattle.rbc_spec.specs.Centre.{beginning}
+use Rattle.rbc_spec.specs.Acts.{◌>>◌}
+use Rattle.rbc_spec.specs.Step.{step, Set, LinkFull}
 use Rattle.rbc_examples.specs.Scene.{line, line_of_three}
-use Rattle.rbc_system.specs.World.{new_world, world_step, world_run}
-use Rattle.rbc_examples.specs.Limits.{run_items, set_and_session, set_and_session_shows, stamps, having_sent, last_stamp_is_taken, last_stamp_is_taken_shows, stamp_past_the_last, stamp_past_the_last_shows, frame_without_a_link, frame_without_a_link_shows}
+use Rattle.rbc_spec.specs.World.{new_world, world_step, world_run}
+use Rattle.rbc_examples.specs.Limits.{asks_behind, run_items, set_and_session, set_and_session_shows, stamps, having_sent, last_stamp_is_taken, last_stamp_is_taken_shows, stamp_past_the_last, stamp_past_the_last_shows, frame_without_a_link, frame_without_a_link_shows}
 
 pub last_stamp_is_taken_comes_out : stamps line last_stamp_is_taken (beginning line 0) ≡ last_stamp_is_taken_shows
 unfolding within longest start end extent beginning ◌>>◌ step stamps
@@ -33,3 +34,11 @@ four_numbers_left = refl
 pub set_and_session_comes_out : run_items (world_run line (new_world line) set_and_session) ≡ set_and_session_shows
 unfolding within longest start end extent beginning ◌>>◌ step new_world world_step world_run
 set_and_session_comes_out = refl
+
+pub asks_for_a_full_hand : asks_behind (record { first = 470; count = 5 }) ≡ RouteAsk 1 475 27 ∷ []
+unfolding beginning ◌>>◌
+asks_for_a_full_hand = refl
+
+pub asks_for_no_513th_section : asks_behind (record { first = 490; count = 5 }) ≡ RouteAsk 1 495 17 ∷ []
+unfolding beginning ◌>>◌
+asks_for_no_513th_section = refl

@@ -1,12 +1,12 @@
 -- What is seen of the scenes of Races, computed.
 use Rattle.std.proofs.Common.{◌≡◌, refl}
-use Rattle.rbc_system.specs.Runs.{within, longest}
+use Rattle.rbc_spec.specs.Runs.{within, longest}
 use Rattle.rbc_spec.specs.Line.{start as line_start, end}
-use Rattle.rbc_system.specs.Place.{extent}
-use Rattle.rbc_system.specs.Centre.{beginning}
-use Rattle.rbc_system.specs.Acts.{◌>>◌}
-use Rattle.rbc_system.specs.Step.{step}
-use Rattle.rbc_system.specs.World.{new_world, world_step}
+use Rattle.rbc_spec.specs.Place.{extent}
+use Rattle.rbc_spec.specs.Centre.{beginning}
+use Rattle.rbc_spec.specs.Acts.{◌>>◌}
+use Rattle.rbc_spec.specs.Step.{step}
+use Rattle.rbc_spec.specs.World.{new_world, world_step}
 use Rattle.rbc_examples.specs.Scene.{line, seen, seen_from}
 use Rattle.rbc_examples.specs.Races.{withdrawn_from_the_pool, withdrawn_from_the_pool_shows, route_for_an_ended_mission, route_for_an_ended_mission_shows, end_of_mission_with_a_pool, end_of_mission_with_a_pool_shows, awaited, awaited_shows, route_after_the_yield, route_after_the_yield_shows, wish_at_the_yield, wish_at_the_yield_shows, cleared_elsewhere, cleared_elsewhere_shows, cleared_with_a_pool, cleared_with_a_pool_shows, cleared_over_the_border, cleared_over_the_border_shows, whole_hand_is_cut, whole_hand_is_cut_shows, session_opens_over_a_waiting_start, session_opens_over_a_waiting_start_shows}
 

@@ -1,12 +1,12 @@
 -- What is seen of the scenes of Requests, computed.
 use Rattle.std.proofs.Common.{◌≡◌, refl}
-use Rattle.rbc_system.specs.Runs.{within, longest}
+use Rattle.rbc_spec.specs.Runs.{within, longest}
 use Rattle.rbc_spec.specs.Line.{start as line_start, end}
-use Rattle.rbc_system.specs.Place.{extent}
-use Rattle.rbc_system.specs.Centre.{beginning}
-use Rattle.rbc_system.specs.Acts.{◌>>◌}
-use Rattle.rbc_system.specs.Step.{step}
-use Rattle.rbc_system.specs.World.{new_world, world_step}
+use Rattle.rbc_spec.specs.Place.{extent}
+use Rattle.rbc_spec.specs.Centre.{beginning}
+use Rattle.rbc_spec.specs.Acts.{◌>>◌}
+use Rattle.rbc_spec.specs.Step.{step}
+use Rattle.rbc_spec.specs.World.{new_world, world_step}
 use Rattle.rbc_examples.specs.Scene.{line, line_of_32_km, line_of_one, line_of_two_tracks, seen, seen_from}
 use Rattle.rbc_examples.specs.Requests.{request_asks_over_the_border, request_asks_over_the_border_shows, asks_again_each_round, asks_again_each_round_shows, end_of_the_track, end_of_the_track_shows, report_clears, report_clears_shows, no_integrity_frees_nothing, no_integrity_frees_nothing_shows, request_extends_over_the_border, request_extends_over_the_border_shows, early_frame, early_frame_shows, hand_of_32_sections, hand_of_32_sections_shows, end_within_reach_of_the_message, end_within_reach_of_the_message_shows, longest_authority, longest_authority_shows, one_metre_too_far, one_metre_too_far_shows, end_of_mission, end_of_mission_shows}
 

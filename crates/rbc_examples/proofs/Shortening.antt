@@ -1,12 +1,12 @@
 -- What is seen of the scenes of Shortening, computed.
 use Rattle.std.proofs.Common.{◌≡◌, refl}
-use Rattle.rbc_system.specs.Runs.{within, longest}
+use Rattle.rbc_spec.specs.Runs.{within, longest}
 use Rattle.rbc_spec.specs.Line.{start as line_start, end}
-use Rattle.rbc_system.specs.Place.{extent}
-use Rattle.rbc_system.specs.Centre.{beginning}
-use Rattle.rbc_system.specs.Acts.{◌>>◌}
-use Rattle.rbc_system.specs.Step.{step}
-use Rattle.rbc_system.specs.World.{new_world, world_step}
+use Rattle.rbc_spec.specs.Place.{extent}
+use Rattle.rbc_spec.specs.Centre.{beginning}
+use Rattle.rbc_spec.specs.Acts.{◌>>◌}
+use Rattle.rbc_spec.specs.Step.{step}
+use Rattle.rbc_spec.specs.World.{new_world, world_step}
 use Rattle.rbc_examples.specs.Scene.{line, line_of_one, seen, seen_from}
 use Rattle.rbc_examples.specs.Shortening.{unset_in_a_hand, unset_in_a_hand_shows, start_drops_the_proposal, start_drops_the_proposal_shows, shortening_in_one_centre, shortening_in_one_centre_shows, shortening_and_a_late_route, shortening_and_a_late_route_shows, answer_to_another_proposal, answer_to_another_proposal_shows, granted_past_the_proposed_end, granted_past_the_proposed_end_shows, another_answer_at_the_border, another_answer_at_the_border_shows, asking_again_tries_again, asking_again_tries_again_shows}
 

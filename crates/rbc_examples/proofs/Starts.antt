@@ -1,12 +1,12 @@
 -- What is seen of the scenes of Starts, computed.
 use Rattle.std.proofs.Common.{◌≡◌, refl}
-use Rattle.rbc_system.specs.Runs.{within, longest}
+use Rattle.rbc_spec.specs.Runs.{within, longest}
 use Rattle.rbc_spec.specs.Line.{start as line_start, end}
-use Rattle.rbc_system.specs.Place.{extent}
-use Rattle.rbc_system.specs.Centre.{beginning}
-use Rattle.rbc_system.specs.Acts.{◌>>◌}
-use Rattle.rbc_system.specs.Step.{step}
-use Rattle.rbc_system.specs.World.{new_world, world_step}
+use Rattle.rbc_spec.specs.Place.{extent}
+use Rattle.rbc_spec.specs.Centre.{beginning}
+use Rattle.rbc_spec.specs.Acts.{◌>>◌}
+use Rattle.rbc_spec.specs.Step.{step}
+use Rattle.rbc_spec.specs.World.{new_world, world_step}
 use Rattle.rbc_examples.specs.Scene.{line, seen, seen_from}
 use Rattle.rbc_examples.specs.Starts.{nothing_happens, nothing_happens_shows, set_and_unset, set_and_unset_shows, session_opens, session_opens_shows, session_opens_again, session_opens_again_shows, trains_are_named, trains_are_named_show, session_opens_over_a_session, session_opens_over_a_session_shows, session_ends, session_ends_shows, messages_without_a_session, messages_without_a_session_show, messages_before_the_session_is_up, messages_before_the_session_is_up_show, messages_without_a_mission, messages_without_a_mission_show, first_reason, first_reason_shows, start_at_the_registrar, start_at_the_registrar_shows, start_at_a_shut_section, start_at_a_shut_section_shows, request_without_train_data, request_without_train_data_shows, hand_outlives_the_session, hand_outlives_the_session_shows, start_after_the_end_of_mission, start_after_the_end_of_mission_shows, unset_of_the_first_section, unset_of_the_first_section_shows, right_comes, right_comes_shows, right_goes_back, right_goes_back_shows, right_serves_a_later_start, right_serves_a_later_start_shows, ask_delivered_twice, ask_delivered_twice_shows, right_is_refused, right_is_refused_shows}
 

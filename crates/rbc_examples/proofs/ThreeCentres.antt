@@ -1,12 +1,12 @@
 -- What is seen of the scenes of ThreeCentres, computed.
 use Rattle.std.proofs.Common.{◌≡◌, refl}
-use Rattle.rbc_system.specs.Runs.{within, longest}
+use Rattle.rbc_spec.specs.Runs.{within, longest}
 use Rattle.rbc_spec.specs.Line.{start as line_start, end}
-use Rattle.rbc_system.specs.Place.{extent}
-use Rattle.rbc_system.specs.Centre.{beginning}
-use Rattle.rbc_system.specs.Acts.{◌>>◌}
-use Rattle.rbc_system.specs.Step.{step}
-use Rattle.rbc_system.specs.World.{new_world, world_step}
+use Rattle.rbc_spec.specs.Place.{extent}
+use Rattle.rbc_spec.specs.Centre.{beginning}
+use Rattle.rbc_spec.specs.Acts.{◌>>◌}
+use Rattle.rbc_spec.specs.Step.{step}
+use Rattle.rbc_spec.specs.World.{new_world, world_step}
 use Rattle.rbc_examples.specs.Scene.{line_of_three, seen, seen_from}
 use Rattle.rbc_examples.specs.ThreeCentres.{border_of_the_first, border_of_the_first_shows, second_takes_over, second_takes_over_shows, third_home_holds_the_yield_back, third_home_holds_the_yield_back_shows, withdraw_goes_to_one_centre, withdraw_goes_to_one_centre_shows, first_and_third_not_linked, first_and_third_not_linked_shows, yields_once_cleared, yields_once_cleared_shows, end_of_mission_yields, end_of_mission_yields_shows}
 

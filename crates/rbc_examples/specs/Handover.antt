@@ -1,9 +1,9 @@
 -- A train is handed over from A to B, or its handover is cancelled.
 use Rattle.std.specs.Prelude.{ℕ, ◌+◌, true, false, List, [], ◌∷◌, ◌++◌, Some, pos}
-use Rattle.rbc_system.specs.Message.{Report, ShorteningGranted, ShorteningRequest, EndSession, unknown_group}
-use Rattle.rbc_system.specs.Frame.{Body, RouteInfo, RouteReturn, RouteWithdraw, Cancel, TakingOver, Yield}
-use Rattle.rbc_system.specs.Outcome.{Asked, StaleStamp, Next, Old}
-use Rattle.rbc_system.specs.World.{Unset, Delivery}
+use Rattle.rbc_spec.specs.Message.{Report, ShorteningGranted, ShorteningRequest, EndSession, unknown_group}
+use Rattle.rbc_spec.specs.Frame.{Body, RouteInfo, RouteReturn, RouteWithdraw, Cancel, TakingOver, Yield}
+use Rattle.rbc_spec.specs.Outcome.{Asked, StaleStamp, Next, Old}
+use Rattle.rbc_spec.specs.World.{Unset, Delivery}
 use Rattle.rbc_examples.specs.Scene.{Scene, Happens, Look, LookAtFrame, Item, Says, Sends, Tells, Link, ShowsFrame, IsShut, IsOpen, Given, Kept, train, session, at, in_section_1, group_1, times, shows}
 use Rattle.rbc_examples.specs.Starts.{opened, silent}
 use Rattle.rbc_examples.specs.Requests.{over_the_border, over_the_border_shows, shows_six_given}

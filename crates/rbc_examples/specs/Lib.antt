@@ -5,4 +5,15 @@ pub mod Shortening
 pub mod Handover
 pub mod Races
 pub mod ThreeCentres
+pub mod Places
+pub mod Conditions
 pub mod Limits
+pub mod Turns
+pub mod Moves
+pub mod Alone
+pub mod Pieces
+pub mod SceneMoves
+pub mod LateMoves
+pub mod ConditionMoves
+pub mod StrayFrames
+pub mod PlaceMoves

@@ -1,14 +1,16 @@
 -- Steps of a centre that are refused, frames of a centre to which it has no link, and a whole run.
 use Rattle.std.specs.Prelude.{ℕ, List, [], ◌∷◌, map, Option, Some, None, Result, Ok, Err}
-use Rattle.rbc_system.specs.Frame.{Frame, GiveRight}
-use Rattle.rbc_system.specs.Outcome.{Outcome, Taken, Early, NoLink}
-use Rattle.rbc_system.specs.Centre.{Centre, beginning}
+use Rattle.rbc_spec.specs.Runs.{Run}
+use Rattle.rbc_spec.specs.Frame.{Frame, Body, GiveRight}
+use Rattle.rbc_spec.specs.Acts.{begun, ask_route}
+use Rattle.rbc_spec.specs.Outcome.{Outcome, Taken, Early, NoLink}
+use Rattle.rbc_spec.specs.Centre.{Centre, beginning}
 use Rattle.rbc_spec.specs.Line.{Line}
-use Rattle.rbc_system.specs.Step.{Event, Set, Deliver, Refusal, ClockEnd, step}
-use Rattle.rbc_system.specs.Message.{InitiationOfSession, SystemVersion, unknown_group}
-use Rattle.rbc_system.specs.World as world
-use Rattle.rbc_system.specs.World.{World, Answer}
-use Rattle.rbc_examples.specs.Scene.{line, times, Item, Says, items, done}
+use Rattle.rbc_spec.specs.Step.{Event, Set, Deliver, Refusal, ClockEnd, step}
+use Rattle.rbc_spec.specs.Message.{InitiationOfSession, SystemVersion, unknown_group}
+use Rattle.rbc_spec.specs.World as world
+use Rattle.rbc_spec.specs.World.{World, Answer}
+use Rattle.rbc_examples.specs.Scene.{line, group_1, times, Item, Says, items, done}
 
 -- of a step its stamp and the link's answer, or its refusal
 abbrev pub Stamped : Type 0
@@ -52,6 +54,13 @@ frame_without_a_link_shows = Ok (5, Some NoLink) ∷ Ok (6, Some NoLink) ∷ Ok 
 -- a centre that has sent so many frames to each other
 abbrev pub having_sent : ℕ → Centre
 having_sent count = record (beginning line 0) { sent = λ d. times count (frame 1 1) }
+
+-- ## The last section
+
+-- what is asked for behind a hand at a border
+abbrev pub asks_behind : Run → List Body
+asks_behind hand =
+    (ask_route 1 1 (record (begun line (record { track = 0; group = group_1; front = 16200; rear = None })) { hand = hand }) (beginning line 0)).frames 1
 
 -- ## A whole run
 

@@ -1,9 +1,9 @@
 -- Frames that come late, and what is wished, asked for or ended while they are on the way.
 use Rattle.std.specs.Prelude.{ℕ, true, List, [], ◌∷◌, ◌++◌, Some}
-use Rattle.rbc_system.specs.Message.{InitiationOfSession, StartOfMission, Request, Report, ShorteningGranted, EndOfMission, Authority, ShorteningRequest, Transition, SystemVersion, TrainAccepted, TrainRejected, unknown_group}
-use Rattle.rbc_system.specs.Frame.{RouteAsk, RouteInfo, RouteReturn, RouteWithdraw, ReturnRight, Announce, Cancel, TakingOver}
-use Rattle.rbc_system.specs.Outcome.{Asked, Told, StaleStamp, NotSupervised, WrongPhase, Next}
-use Rattle.rbc_system.specs.World.{Set, Unset, Delivery}
+use Rattle.rbc_spec.specs.Message.{InitiationOfSession, StartOfMission, Request, Report, ShorteningGranted, EndOfMission, Authority, ShorteningRequest, Transition, SystemVersion, TrainAccepted, TrainRejected, unknown_group}
+use Rattle.rbc_spec.specs.Frame.{RouteAsk, RouteInfo, RouteReturn, RouteWithdraw, ReturnRight, Announce, Cancel, TakingOver}
+use Rattle.rbc_spec.specs.Outcome.{Asked, Told, StaleStamp, NotSupervised, WrongPhase, Next}
+use Rattle.rbc_spec.specs.World.{Set, Unset, Delivery}
 use Rattle.rbc_examples.specs.Scene.{Scene, Happens, Look, Item, Says, Sends, Tells, Link, Mark, IsShut, IsOpen, Given, Kept, train, session, at, in_section_1, group_1, nothing, done, times, shows}
 use Rattle.rbc_examples.specs.Starts.{opened, silent, start_elsewhere, start_elsewhere_shows, right_comes, right_comes_shows, shows_section_1}
 use Rattle.rbc_examples.specs.Requests.{request_to_the_border, request_to_the_border_shows, route_on_the_way, route_on_the_way_shows, over_the_border, over_the_border_shows}

@@ -1,10 +1,10 @@
 -- Requests and reports: a hand is extended up to the border and over it, and cleared behind the train.
 use Rattle.std.specs.Prelude.{ℕ, ◌+◌, true, List, [], ◌∷◌, ◌++◌, Some, None}
-use Rattle.rbc_system.specs.Message.{StartOfMission, TrainData, Request, Report, EndOfMission, TrainAccepted, DataAcknowledged, Authority, Transition, unknown_group}
-use Rattle.rbc_system.specs.Frame.{RouteAsk, RouteInfo, Announce}
-use Rattle.rbc_system.specs.Outcome.{Next, Old, Early}
-use Rattle.rbc_system.specs.Place.{Position}
-use Rattle.rbc_system.specs.World.{Delivery}
+use Rattle.rbc_spec.specs.Message.{StartOfMission, TrainData, Request, Report, EndOfMission, TrainAccepted, DataAcknowledged, Authority, Transition, unknown_group}
+use Rattle.rbc_spec.specs.Frame.{RouteAsk, RouteInfo, Announce}
+use Rattle.rbc_spec.specs.Outcome.{Next, Old, Early}
+use Rattle.rbc_spec.specs.Place.{Position}
+use Rattle.rbc_spec.specs.World.{Delivery}
 use Rattle.rbc_examples.specs.Scene.{Scene, Happens, Look, LookAtClock, Item, Says, Sends, Link, NeverSent, ShowsClock, IsShut, IsOpen, Given, Kept, train, session, sets, at, in_section_1, group_1, nothing, all_done, times, shows}
 use Rattle.rbc_examples.specs.Starts.{opened}
 

@@ -2,16 +2,16 @@
 use Rattle.std.specs.Prelude.{ℕ, zero, suc, ◌+◌, ◌==◌, ◌||◌, Bool, true, false, List, [], ◌∷◌, ◌++◌, map, length, Option, Some, is_some, Result, Ok, Err, if◌then◌else◌}
 use Rattle.std.specs.List.{range_with_len, list_any, filter, find, zip, flat_map}
 use Rattle.std.specs.Option.{option_map_or}
-use Rattle.rbc_system.specs.Runs.{Run, no_run, within}
+use Rattle.rbc_spec.specs.Runs.{Run, no_run, within}
 use Rattle.rbc_spec.specs.Line.{Line, Section, Centre as CentreOfLine, section}
-use Rattle.rbc_system.specs.Sections.{section_count}
-use Rattle.rbc_system.specs.Place.{Position}
-use Rattle.rbc_system.specs.Message.{TrainBody, InitiationOfSession, SessionEstablished, TrackBody}
-use Rattle.rbc_system.specs.Frame.{Body, Yield, Frame}
-use Rattle.rbc_system.specs.Outcome.{Saying, Word, Done, Reason, Taken as LinkAnswer}
-use Rattle.rbc_system.specs.Centre.{Centre, Entry, Shut, Open, Taken, Out, is_used_for}
-use Rattle.rbc_system.specs.Step.{Refusal}
-use Rattle.rbc_system.specs.World.{World, Event, Bytes, Set, Answer, Answered, NoCentre, NotSent, Fault, new_world, way, frame_sent, world_step}
+use Rattle.rbc_spec.specs.Sections.{section_count}
+use Rattle.rbc_spec.specs.Place.{Position}
+use Rattle.rbc_spec.specs.Message.{TrainBody, InitiationOfSession, SessionEstablished, TrackBody}
+use Rattle.rbc_spec.specs.Frame.{Body, Yield, Frame}
+use Rattle.rbc_spec.specs.Outcome.{Saying, Word, Done, Reason, Taken as LinkAnswer}
+use Rattle.rbc_spec.specs.Centre.{Centre, Entry, Shut, Open, Taken, Out, is_used_for}
+use Rattle.rbc_spec.specs.Step.{Refusal}
+use Rattle.rbc_spec.specs.World.{World, Event, Bytes, Set, Answer, Answered, NoCentre, NotSent, Fault, new_world, way, frame_sent, world_step}
 
 -- ## The line
 
@@ -54,6 +54,10 @@ line_of_one count metres = line_of 2 (main ∷ []) (sections_on 0 0 (times count
 -- sixteen sections of 2 000 m and one of so many more, all at A
 abbrev pub line_of_32_km : (metres : ℕ) → Line
 line_of_32_km metres = line_of 2 (main ∷ []) (sections_on 0 0 (times 16 (2000, 0) ++ (metres, 0) ∷ [])) 0 0
+
+-- so many sections of A, and of B behind them
+abbrev pub line_of_a_and_b : (a b metres : ℕ) → Line
+line_of_a_and_b a b metres = line_of 2 (main ∷ []) (sections_on 0 0 (times a (metres, 0) ++ times b (metres, 1))) 0 1
 
 -- two tracks of two sections, one of A and one of B
 abbrev pub line_of_two_tracks : Line

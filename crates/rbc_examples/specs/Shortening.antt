@@ -1,9 +1,9 @@
 -- A section of a hand is wished back: the train is asked to shorten its authority.
 use Rattle.std.specs.Prelude.{ℕ, true, List, [], ◌∷◌, ◌++◌, Some}
-use Rattle.rbc_system.specs.Message.{StartOfMission, TrainData, Request, Report, ShorteningGranted, ShorteningRejected, ShorteningRequest, Authority, DataAcknowledged, TrainAccepted, unknown_group}
-use Rattle.rbc_system.specs.Frame.{RouteReturn, RouteWithdraw}
-use Rattle.rbc_system.specs.Outcome.{Asked, Told, NoTrainData, ProposalPending, Unasked, Next}
-use Rattle.rbc_system.specs.World.{Unset, Delivery}
+use Rattle.rbc_spec.specs.Message.{StartOfMission, TrainData, Request, Report, ShorteningGranted, ShorteningRejected, ShorteningRequest, Authority, DataAcknowledged, TrainAccepted, unknown_group}
+use Rattle.rbc_spec.specs.Frame.{RouteReturn, RouteWithdraw}
+use Rattle.rbc_spec.specs.Outcome.{Asked, Told, NoTrainData, ProposalPending, Unasked, Next}
+use Rattle.rbc_spec.specs.World.{Unset, Delivery}
 use Rattle.rbc_examples.specs.Scene.{Scene, Happens, Look, Item, Says, Sends, Tells, Link, IsShut, IsOpen, Given, Kept, train, session, sets, at, in_section_1, group_1, nothing, all_done, times, shows}
 use Rattle.rbc_examples.specs.Starts.{opened, silent}
 use Rattle.rbc_examples.specs.Requests.{start_and_request, start_and_request_shows, request_to_the_border, request_to_the_border_shows, route_on_the_way, route_on_the_way_shows}

@@ -1,9 +1,9 @@
 -- The interlocking, sessions, and starts of mission at the registrar and elsewhere.
 use Rattle.std.specs.Prelude.{ℕ, true, List, [], ◌∷◌, ◌++◌, Some, Err}
-use Rattle.rbc_system.specs.Message.{InitiationOfSession, SessionEstablished, TerminationOfSession, StartOfMission, TrainData, Request, Report, ShorteningGranted, ShorteningRejected, EndOfMission, SystemVersion, TrainAccepted, TrainRejected, TerminationAcknowledged, unknown_group}
-use Rattle.rbc_system.specs.Frame.{AskRight, GiveRight, RefuseRight, ReturnRight}
-use Rattle.rbc_system.specs.Outcome.{Asked, NotHome, Reason, StaleStamp, NoSession, ForeignEngine, NotSupervised, NoTrainData, MissionEnded, WrongPhase, Next, Old}
-use Rattle.rbc_system.specs.World.{Bytes, Set, Unset, Delivery}
+use Rattle.rbc_spec.specs.Message.{InitiationOfSession, SessionEstablished, TerminationOfSession, StartOfMission, TrainData, Request, Report, ShorteningGranted, ShorteningRejected, EndOfMission, SystemVersion, TrainAccepted, TrainRejected, TerminationAcknowledged, unknown_group}
+use Rattle.rbc_spec.specs.Frame.{AskRight, GiveRight, RefuseRight, ReturnRight}
+use Rattle.rbc_spec.specs.Outcome.{Asked, NotHome, Reason, StaleStamp, NoSession, ForeignEngine, NotSupervised, NoTrainData, MissionEnded, WrongPhase, Next, Old}
+use Rattle.rbc_spec.specs.World.{Bytes, Set, Unset, Delivery}
 use Rattle.rbc_examples.specs.Scene.{Scene, Happens, Look, LookAtFrame, LookAtTrains, Item, ShowsFrame, ShowsTrains, Nowhere, BadBytes, Says, Sends, Tells, Silence, Link, NeverSent, Mark, IsShut, IsOpen, Given, Kept, train, session, at, in_section_1, nothing, done, times, shows}
 
 -- every section is shut, and no train is supervised

@@ -1,10 +1,10 @@
 -- A train goes over three centres, the second of which has one short section.
 use Rattle.std.specs.Prelude.{ℕ, true, false, List, [], ◌∷◌, ◌++◌, Some, pos}
-use Rattle.rbc_system.specs.Message.{StartOfMission, TrainData, Request, Report, EndOfMission, TrainAccepted, DataAcknowledged, Authority, Transition, EndSession, unknown_group}
-use Rattle.rbc_system.specs.Frame.{AskRight, GiveRight, RouteAsk, RouteInfo, RouteReturn, RouteWithdraw, Announce, TakingOver, Yield}
-use Rattle.rbc_system.specs.Outcome.{Asked, StaleStamp, MissionEnded, Next}
-use Rattle.rbc_system.specs.Place.{Position, Place}
-use Rattle.rbc_system.specs.World.{Set, Unset, Delivery}
+use Rattle.rbc_spec.specs.Message.{StartOfMission, TrainData, Request, Report, EndOfMission, TrainAccepted, DataAcknowledged, Authority, Transition, EndSession, unknown_group}
+use Rattle.rbc_spec.specs.Frame.{AskRight, GiveRight, RouteAsk, RouteInfo, RouteReturn, RouteWithdraw, Announce, TakingOver, Yield}
+use Rattle.rbc_spec.specs.Outcome.{Asked, StaleStamp, MissionEnded, Next}
+use Rattle.rbc_spec.specs.Place.{Position, Place}
+use Rattle.rbc_spec.specs.World.{Set, Unset, Delivery}
 use Rattle.rbc_examples.specs.Scene.{Scene, Happens, Look, Item, Says, Sends, Tells, Silence, Link, NeverSent, IsShut, IsOpen, Given, Kept, train, session, at, in_section_1, group_1, done, times, shows}
 use Rattle.rbc_examples.specs.Starts.{opened}
 use Rattle.rbc_examples.specs.Requests.{start_and_request, start_and_request_shows}

@@ -1,13 +1,12 @@
--- A radio block centre: what it keeps, and its step. States are functions of section numbers and of NID_ENGINE.
-use Rattle.std.specs.Prelude.{◌+◌, ◌≤◌, ℕ, List, [], ◌∷◌, Bool, true, false, ◌==◌, if◌then◌else◌, Option, Some, None, is_none, nat_lt, nat_le, Result, Ok, Err}
+-- What a radio block centre keeps. States are functions of section numbers, of NID_ENGINE, and of centre numbers.
+use Rattle.std.specs.Prelude.{ℕ, List, [], Bool, true, false, ◌==◌, ◌&&◌, Option, None, is_some, length}
 use Rattle.std.specs.Option.{option_map_or}
-use Rattle.std.specs.List.{find}
-use Rattle.rbc_spec.specs.Maps.{put}
-use Rattle.rbc_spec.specs.Line.{Line, train_number}
-use Rattle.rbc_spec.specs.Message.{TrainMessage, TrainBody, InitiationOfSession, TrackMessage, TrackBody, SystemVersion, unknown_group}
-use Rattle.rbc_spec.specs.Outcome.{Reason, StaleStamp, ForeignEngine, Saying, Outcome}
-
--- ## What a centre keeps
+use Rattle.std.specs.List.{list_any, range_with_len}
+use Rattle.rbc_spec.specs.Runs.{Run}
+use Rattle.rbc_spec.specs.Line.{Line, is_home, registrar}
+use Rattle.rbc_spec.specs.Sections.{section_count}
+use Rattle.rbc_spec.specs.Place.{Place}
+use Rattle.rbc_spec.specs.Frame.{Frame}
 
 -- what a home section is used for: not released by the interlocking, released, in use for a train with its claim
 -- here, or in use for a train at another centre (profile)
@@ -19,108 +18,117 @@ pub data Entry : Type 0 where
 
 -- how far the communication session with a train has come (3.5.3)
 pub data Phase : Type 0 where
-  NoSession : Phase
+  Silent : Phase
   Opened : Phase
   Up : Phase
 
--- the stamp of the last step; the book, and which of its sections the interlocking wishes back; and of each train the
--- phase of its session, the last T_TRAIN heard, and the count of messages said to it
-pub record Centre : Type 0 where
-  pub clock : ℕ
-  pub book : ℕ → Entry
-  pub wish : ℕ → Bool
-  pub phase : ℕ → Phase
-  pub heard : ℕ → Option ℕ
-  pub said : ℕ → ℕ
+-- a request to shorten the authority that stands: the T_TRAIN of message 9, and the last section that is to be kept
+pub record Proposal : Type 0 where
+  pub stamp : ℕ
+  pub last_kept : ℕ
 
--- at the beginning every section is shut, and no train is known
-unfoldable pub beginning : Centre
-beginning = record {
+-- a handover that was announced: its number, the accepting centre, and whether that has claimed it
+pub record Handing : Type 0 where
+  pub number : ℕ
+  pub to : ℕ
+  pub is_claimed : Bool
+
+-- a mission that is supervised here: its last place, the hand (the sections of its authority), the pool (lent sections
+-- that follow the hand at once), whether train data are known and the mission is ended, and what stands
+pub record Mission : Type 0 where
+  pub place : Place
+  pub hand : Run
+  pub pool : Run
+  pub has_data : Bool
+  pub is_ended : Bool
+  pub proposal : Option Proposal
+  pub handing : Option Handing
+
+-- a handover that another centre announced: its number, and whether it was answered that this centre is taking over
+pub record Expectation : Type 0 where
+  pub number : ℕ
+  pub is_taking : Bool
+
+pub record Centre : Type 0 where
+  pub clock : ℕ  -- the stamp of the last step
+  pub book : ℕ → Entry  -- of each section
+  pub wish : ℕ → Bool  -- the interlocking wishes the section back
+  pub phase : ℕ → Phase  -- of the session with each train
+  pub heard : ℕ → Option ℕ  -- the last T_TRAIN heard of each train
+  pub said : ℕ → ℕ  -- how many messages were said to each train
+  pub mission : ℕ → Option Mission  -- of each train
+  pub wait : ℕ → Option Place  -- the place of a start of mission that waits for its right
+  pub has_asked : ℕ → Bool  -- the registrar was asked for the right and has not answered
+  pub has_right : ℕ → Bool  -- the right of each train is here, and in no mission
+  pub route_ask : ℕ → Option ℕ  -- the first section that was asked for, of an ask without an answer
+  pub expects : ℕ → ℕ → Option Expectation  -- the handover of each train that each centre announced
+  pub announced : ℕ  -- how many handovers this centre has announced
+  pub sent : ℕ → List Frame  -- the frames sent to each centre
+  pub taken : ℕ → ℕ  -- how many frames were taken of each centre
+
+-- c is the registrar of train t
+abbrev pub is_registrar_of : Line → ℕ → ℕ → Bool
+is_registrar_of line c t = option_map_or (λ r. r == c) (registrar line t) false
+
+-- at the beginning every section is shut, no train is known, and each right is with its registrar
+unfoldable pub beginning : Line → ℕ → Centre
+beginning line c = record {
   clock = 0;
   book = λ s. Shut;
   wish = λ s. false;
-  phase = λ t. NoSession;
+  phase = λ t. Silent;
   heard = λ t. None;
   said = λ t. 0;
+  mission = λ t. None;
+  wait = λ t. None;
+  has_asked = λ t. false;
+  has_right = λ t. is_registrar_of line c t;
+  route_ask = λ t. None;
+  expects = λ d t. None;
+  announced = 0;
+  sent = λ d. [];
+  taken = λ d. 0;
 }
 
--- ## Silence
+-- ## What a state tells
 
--- T_TRAIN is not above the last that was heard: the message came late or again (3.16.3)
-abbrev pub is_stale : ℕ → Option ℕ → Bool
-is_stale stamp heard = option_map_or (λ last. nat_le stamp last) heard false
+abbrev pub is_up : Phase → Bool
+is_up Silent = false
+is_up Opened = false
+is_up Up = true
 
--- the reason holds of the message
-abbrev pub holds : Line → Centre → TrainMessage → Reason → Bool
-holds line centre m StaleStamp = is_stale m.t_train (centre.heard m.nid_engine)
-holds line centre m ForeignEngine = is_none (train_number line m.nid_engine)
+abbrev pub is_open : Entry → Bool
+is_open Open = true
+is_open e = false
 
--- the reasons for which a message may be left without an answer, in the order in which they are looked for
-abbrev pub reasons_of : TrainBody → List Reason
-reasons_of InitiationOfSession = ForeignEngine ∷ StaleStamp ∷ []
+-- an entry that is in no use
+abbrev pub is_unused : Entry → Bool
+is_unused Shut = true
+is_unused Open = true
+is_unused e = false
 
-abbrev pub silence : Line → Centre → TrainMessage → Option Reason
-silence line centre m = find (holds line centre m) (reasons_of m.body)
+abbrev pub is_taken_for : ℕ → Entry → Bool
+is_taken_for t (Taken u) = u == t
+is_taken_for t e = false
 
--- ## Acts
+abbrev pub is_out_for : ℕ → ℕ → Entry → Bool
+is_out_for t d (Out u e) = (u == t) && (e == d)
+is_out_for t d e = false
 
--- what an act leaves, and what it says to trains
-pub record Reply : Type 0 where
-  pub state : Centre
-  pub sayings : List Saying
+-- in use for the train, here or at another centre
+abbrev pub is_used_for : ℕ → Entry → Bool
+is_used_for t (Taken u) = u == t
+is_used_for t (Out u d) = u == t
+is_used_for t e = false
 
--- the last T_TRAIN heard of the train is that of the message
-abbrev pub hear : TrainMessage → Centre → Centre
-hear m centre = record centre { heard = put centre.heard m.nid_engine (Some m.t_train) }
+-- the section is released and of home c
+abbrev pub is_free : Line → ℕ → Centre → ℕ → Bool
+is_free line c k s = is_home line c s && is_open (k.book s)
 
--- a message to a train: its T_TRAIN counts those said to it
-abbrev pub say : ℕ → ℕ → TrackBody → Centre → Reply
-say t group body centre =
-    let count = centre.said t + 1 in
-    record {
-      state = record centre { said = put centre.said t count };
-      sayings = record { nid_engine = t; message = record { t_train = count; nid_lrbg = group; body = body } } ∷ [];
-    }
+-- some section of home c is in use for the train
+abbrev pub uses_some : Line → ℕ → Centre → ℕ → Bool
+uses_some line c k t = list_any (λ s. is_home line c s && is_used_for t (k.book s)) (range_with_len 0 (section_count line))
 
--- a session with the train that stands ends: nothing of it is kept
-abbrev pub close_session : ℕ → Centre → Centre
-close_session t centre = record centre { phase = put centre.phase t NoSession }
-
--- a new session with the train is opened
-abbrev pub open_session : ℕ → Centre → Centre
-open_session t centre = record centre { phase = put centre.phase t Opened }
-
--- the answer to a message that is not silent
-abbrev pub answered : TrainBody → ℕ → Centre → Reply
-answered InitiationOfSession t centre = say t unknown_group SystemVersion (open_session t (close_session t centre))
-
--- ## The step
-
--- the greatest stamp of a step (profile)
-abbrev pub last_stamp : ℕ
-last_stamp = 1073741823
-
--- why a step is refused: its stamp would pass the last one
-pub data Refusal : Type 0 where
-  ClockEnd : Refusal
-
-abbrev pub refusal : Centre → Option Refusal
-refusal centre = if nat_lt last_stamp (centre.clock + 1) then Some ClockEnd else None
-
--- the clock of a step stands one above that of the step before
-abbrev pub tick : Centre → Centre
-tick centre = record centre { clock = centre.clock + 1 }
-
--- what a centre that is not at its last stamp does with a message: a silent step changes the clock alone
-unfoldable pub taken : Line → TrainMessage → Centre → Outcome × Centre
-taken line m centre =
-    let at = tick centre in
-    option_map_or
-    (λ reason. (record { stamp = at.clock; sayings = []; words = []; silence = Some reason }, at))
-    (silence line centre m)
-    (let reply = answered m.body m.nid_engine (hear m at) in
-    (record { stamp = at.clock; sayings = reply.sayings; words = []; silence = None }, reply.state))
-
--- the whole step
-unfoldable pub step : Line → TrainMessage → Centre → Result (Outcome × Centre) Refusal
-step line m centre = option_map_or (λ why. Err why) (refusal centre) (Ok (taken line m centre))
+-- some centre has announced a handover of the train
+abbrev pub is_expected : Line → Centre → ℕ → Bool
+is_expected line k t = list_any (λ d. is_some (k.expects d t)) (range_with_len 0 (length line.centres))

@@ -2,7 +2,7 @@
 -- section, the balise group at its start, and the centre where each train's supervision right is registered.
 -- Centres, tracks and sections are numbered from 0, sections over all tracks. A train goes by its NID_ENGINE.
 use Rattle.std.specs.Prelude.{◌≡◌, ℕ, ◌+◌, ◌*◌, ◌<◌, ◌≤◌, ◌==◌, Bool, false, ◌&&◌, ◌||◌, not, List, length, take, drop, Option, Some, option_map, nat_lt, slice_get, IsTrue}
-use Rattle.std.specs.List.{list_any, zip, find, filter, sum_by, position, take_while, All}
+use Rattle.std.specs.List.{list_any, zip, find, filter, sum_by, position, All}
 use Rattle.std.specs.Option.{option_map_or}
 use Rattle.std.specs.Char.{is_ascii_alphanumeric}
 

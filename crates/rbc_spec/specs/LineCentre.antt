@@ -1,16 +1,16 @@
--- The one line centre: what a single centre for the whole line would keep, and its steps. No border, frame or second
--- book occurs in it. That the centres together do what it does is the main theorem (rbc_world).
-use Rattle.std.specs.Prelude.{◌≡◌, ◌+◌, ℕ, List, [], ◌∷◌, length, Bool, true, false, ◌==◌, ◌&&◌, not, if◌then◌else◌, Option, Some, None, is_none, map, option_map}
+-- The one line centre: what a single centre for the whole line would keep. No border, frame or second book occurs in it.
+-- That the centres together do what it does is the main theorem (rbc_world).
+use Rattle.std.specs.Prelude.{◌≡◌, ◌+◌, ℕ, List, [], length, Bool, true, false, ◌==◌, ◌&&◌, not, if◌then◌else◌, Option, Some, None, map, option_map}
 use Rattle.std.specs.Option.{option_map_or}
-use Rattle.std.specs.List.{filter, find, range_with_len}
-use Rattle.rbc_spec.specs.Maps.{put}
-use Rattle.rbc_spec.specs.Line.{Line, train_number}
+use Rattle.std.specs.List.{filter, list_any, range_with_len}
+use Rattle.rbc_spec.specs.Maps.{put, put_pair}
+use Rattle.rbc_spec.specs.Runs.{Run, within}
+use Rattle.rbc_spec.specs.Line.{Line, is_home}
+use Rattle.rbc_spec.specs.Sections.{section_count}
 use Rattle.rbc_spec.specs.Place.{Place, covers}
-use Rattle.rbc_spec.specs.Message.{TrainMessage, TrainBody, InitiationOfSession, TrackBody, SystemVersion, unknown_group}
-use Rattle.rbc_spec.specs.Outcome.{Reason, StaleStamp, ForeignEngine, Saying, Word, Told}
-use Rattle.rbc_spec.specs.Centre.{Phase, NoSession, Opened, is_stale, reasons_of}
-
--- ## What it keeps
+use Rattle.rbc_spec.specs.Message.{TrainMessage, TrackBody}
+use Rattle.rbc_spec.specs.Outcome.{Saying, Word, Told}
+use Rattle.rbc_spec.specs.Centre.{Phase, Silent, Proposal}
 
 -- a section is shut, open, kept for a train that may not run into it, or given to a train in its movement authority
 pub data Mark : Type 0 where
@@ -24,15 +24,9 @@ pub data Supervisor : Type 0 where
   At : (c : ℕ) → Supervisor
   Parted : (stamp : ℕ) → Supervisor
 
--- a request to shorten the authority that stands: the T_TRAIN of message 9, and the last section that is to be kept
-pub record Proposal : Type 0 where
-  pub stamp : ℕ
-  pub last_kept : ℕ
-
--- a train under way: its track and last place, whether its train data are known and its mission is ended, the standing
--- request to shorten, and who supervises it
+-- a train under way: its last place, whether its train data are known and its mission is ended, the request to shorten that
+-- stands, and who supervises it. Its hand is what the marks give it
 pub record Mission : Type 0 where
-  pub track : ℕ
   pub place : Place
   pub has_data : Bool
   pub is_ended : Bool
@@ -40,8 +34,7 @@ pub record Mission : Type 0 where
   pub supervisor : Supervisor
 
 -- of each section its mark and whether the interlocking wishes it back; of each train and centre the phase of the
--- session, the last T_TRAIN heard, the messages said, and the place of a start of mission that waits; of each train
--- its mission
+-- session, the last T_TRAIN heard, the messages said, and the place of a start of mission that waits; of each train its mission
 pub record LineState : Type 0 where
   pub mark : ℕ → Mark
   pub wish : ℕ → Bool
@@ -51,53 +44,88 @@ pub record LineState : Type 0 where
   pub wait : ℕ → ℕ → Option Place
   pub mission : ℕ → Option Mission
 
--- a function of a train and a centre, with another value at one pair
-abbrev pub put_pair : {X : Type 0} → (ℕ → ℕ → X) → ℕ → ℕ → X → ℕ → ℕ → X
-put_pair f t c value = put f t (put (f t) c value)
+-- at the beginning all is shut, and no train is known
+unfoldable pub line_beginning : LineState
+line_beginning = record {
+  mark = λ s. Shut;
+  wish = λ s. false;
+  phase = λ t c. Silent;
+  heard = λ t c. None;
+  said = λ t c. 0;
+  wait = λ t c. None;
+  mission = λ t. None;
+}
 
--- ## Parts of steps
+-- ## What a state tells
+
+abbrev pub is_given_to : ℕ → Mark → Bool
+is_given_to t (Given u) = u == t
+is_given_to t m = false
+
+abbrev pub is_kept_for : ℕ → Mark → Bool
+is_kept_for t (Kept u) = u == t
+is_kept_for t m = false
+
+abbrev pub is_mark_open : Mark → Bool
+is_mark_open Open = true
+is_mark_open m = false
+
+-- the hand of a train: the sections that are given to it, which are consecutive
+pub record IsHand (v : LineState) (t : ℕ) (hand : Run) : Type 0 where
+  pub each : (s : ℕ) → is_given_to t (v.mark s) ≡ within hand s
+
+-- the centre supervises the train
+abbrev pub is_at : ℕ → Supervisor → Bool
+is_at c (At d) = d == c
+is_at c (Parted stamp) = false
+
+abbrev pub supervises : LineState → ℕ → ℕ → Bool
+supervises v c t = option_map_or (λ m. is_at c m.supervisor) (v.mission t) false
+
+-- the sections of a start of mission that waits at the centre
+abbrev pub is_waiting_at : Line → LineState → ℕ → ℕ → ℕ → Bool
+is_waiting_at line v t c s = option_map_or (λ place. covers line place s) (v.wait t c) false
+
+-- at some centre a start of mission of the train waits for the section
+abbrev pub is_waiting : Line → LineState → ℕ → ℕ → Bool
+is_waiting line v t s = list_any (λ c. is_waiting_at line v t c s) (range_with_len 0 (length line.centres))
+
+-- ## Changes
 
 -- sections are freed: each becomes open, and one that is wished back becomes shut, its wish ends, and that is told
-abbrev pub freed : (ℕ → Bool) → LineState → LineState
-freed is_freed v = record v {
+abbrev pub free : (ℕ → Bool) → LineState → LineState
+free is_freed v = record v {
   mark = λ s. if is_freed s then (if v.wish s then Shut else Open) else v.mark s;
   wish = λ s. not (is_freed s) && v.wish s;
 }
 
 -- the words that come out then, by section
 abbrev pub told : Line → (ℕ → Bool) → LineState → List Word
-told line is_freed v = map (λ s. Told s) (filter (λ s. is_freed s && v.wish s) (range_with_len 0 (length line.sections)))
+told line is_freed v = map (λ s. Told s) (filter (λ s. is_freed s && v.wish s) (range_with_len 0 (section_count line)))
 
--- the sections of a start of mission that waits at the centre
-abbrev pub is_waiting : Line → LineState → ℕ → ℕ → ℕ → Bool
-is_waiting line v t c s = option_map_or (λ place. covers line place s) (v.wait t c) false
+-- sections get this mark
+abbrev pub mark_all : (ℕ → Bool) → Mark → LineState → LineState
+mark_all test mark v = record v { mark = λ s. if test s then mark else v.mark s }
 
--- who supervises the mission is the centre
-abbrev pub is_at : ℕ → Supervisor → Bool
-is_at c (At d) = d == c
-is_at c (Parted stamp) = false
+-- sections stop being given: those of home c are freed, the others are kept
+abbrev pub release : Line → ℕ → ℕ → (ℕ → Bool) → LineState → LineState
+release line c t is_released v =
+    free (λ s. is_released s && is_home line c s) (mark_all (λ s. is_released s && not (is_home line c s)) (Kept t) v)
 
--- the standing request to shorten is dropped where the centre supervises the train
-abbrev pub without_proposal : ℕ → Mission → Mission
-without_proposal c mission = if is_at c mission.supervisor then record mission { proposal = None } else mission
+abbrev pub set_mission : ℕ → Option Mission → LineState → LineState
+set_mission t mission v = record v { mission = put v.mission t mission }
+
+abbrev pub change_mission : ℕ → (Mission → Mission) → LineState → LineState
+change_mission t change v = set_mission t (option_map change (v.mission t)) v
+
+-- a mission whose train has no section left in its hand is none
+abbrev pub close_if_empty : Line → ℕ → LineState → LineState
+close_if_empty line t v =
+    if list_any (λ s. is_given_to t (v.mark s)) (range_with_len 0 (section_count line)) then v else set_mission t None v
 
 -- the last T_TRAIN that the centre has heard of the train is that of the message
 abbrev pub hears : ℕ → TrainMessage → LineState → LineState
 hears c m v = record v { heard = put_pair v.heard m.nid_engine c (Some m.t_train) }
-
--- a session ends: the train's standing request to shorten is dropped where the centre supervises it, and a start of
--- mission that waits here, whose sections are freed. No given section changes
-abbrev pub session_ends : Line → ℕ → ℕ → LineState → LineState
-session_ends line t c v = record (freed (is_waiting line v t c) v) {
-  wait = put_pair v.wait t c None;
-  mission = put v.mission t (option_map (without_proposal c) (v.mission t));
-}
-
--- what a step says to trains and to the interlocking, or why it is silent
-pub record Spoken : Type 0 where
-  pub sayings : List Saying
-  pub words : List Word
-  pub silence : Option Reason
 
 -- the message from centre c to train t: its T_TRAIN counts those said by c to it
 abbrev pub saying_of : ℕ → ℕ → ℕ → TrackBody → LineState → Saying
@@ -107,35 +135,10 @@ saying_of t c group body v =
 abbrev pub says : ℕ → ℕ → LineState → LineState
 says t c v = record v { said = put_pair v.said t c (v.said t c + 1) }
 
--- ## The step of a train's message
+-- what a step or a piece says to trains and to the interlocking
+pub record Said : Type 0 where
+  pub sayings : List Saying
+  pub words : List Word
 
--- the reason holds of a message at centre c
-abbrev pub holds : Line → LineState → ℕ → TrainMessage → Reason → Bool
-holds line v c m StaleStamp = is_stale m.t_train (v.heard m.nid_engine c)
-holds line v c m ForeignEngine = is_none (train_number line m.nid_engine)
-
-abbrev pub silence : Line → LineState → ℕ → TrainMessage → Option Reason
-silence line v c m = find (holds line v c m) (reasons_of m.body)
-
--- a message that is not silent changes the line so
-abbrev pub after : Line → LineState → ℕ → TrainBody → ℕ → LineState
-after line v c InitiationOfSession t =
-    let closed = session_ends line t c v in
-    says t c (record closed { phase = put_pair closed.phase t c Opened })
-
--- and says this
-abbrev pub spoken : Line → LineState → ℕ → TrainBody → ℕ → Spoken
-spoken line v c InitiationOfSession t = record {
-  sayings = saying_of t c unknown_group SystemVersion v ∷ [];
-  words = told line (is_waiting line v t c) v;
-  silence = None;
-}
-
--- the one step of a train's message at centre c: what it says, and what it leaves. With a reason of silence nothing changes
-unfoldable pub own_step : Line → LineState → ℕ → TrainMessage → Spoken × LineState
-own_step line v c m =
-    let heard = hears c m v in
-    option_map_or
-    (λ reason. (record { sayings = []; words = []; silence = Some reason }, v))
-    (silence line v c m)
-    (spoken line heard c m.body m.nid_engine, after line heard c m.body m.nid_engine)
+abbrev pub nothing : Said
+nothing = record { sayings = []; words = [] }

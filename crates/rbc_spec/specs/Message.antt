@@ -1,10 +1,20 @@
 -- What a centre's step reads of a train's message and what it says to a train (8.6, 8.7), without the layout of packets.
 -- T_TRAIN of a train's message is the train's clock as it was sent; that of a track message counts, from 1, the
 -- messages that the centre has said to the train (profile).
-use Rattle.std.specs.Prelude.{ℕ}
+use Rattle.std.specs.Prelude.{ℕ, Bool}
+use Rattle.rbc_spec.specs.Place.{Position}
 
 pub data TrainBody : Type 0 where
-  InitiationOfSession : TrainBody  -- message 155: the train asks for a communication session (3.5.3)
+  TrainData : (position : Position) → TrainBody  -- 129 Validated Train Data
+  Request : (position : Position) → TrainBody  -- 132 MA Request
+  Report : (position : Position) → TrainBody  -- 136 Train Position Report
+  ShorteningGranted : (stamp : ℕ) (position : Position) → TrainBody  -- 137 Request to shorten MA is granted: T_TRAIN of the request
+  ShorteningRejected : (stamp : ℕ) (position : Position) → TrainBody  -- 138 Request to shorten MA is rejected
+  EndOfMission : (position : Position) → TrainBody  -- 150 End of Mission
+  InitiationOfSession : TrainBody  -- 155 Initiation of a communication session (3.5.3)
+  TerminationOfSession : TrainBody  -- 156 Termination of a communication session (3.5.5)
+  StartOfMission : (is_valid : Bool) (position : Position) → TrainBody  -- 157 SoM Position Report: Q_STATUS is 1 (5.4)
+  SessionEstablished : TrainBody  -- 159 Session Established (3.5.3)
 
 pub record TrainMessage : Type 0 where
   pub t_train : ℕ
@@ -12,7 +22,15 @@ pub record TrainMessage : Type 0 where
   pub body : TrainBody
 
 pub data TrackBody : Type 0 where
-  SystemVersion : TrackBody  -- message 32: the centre's system version, answered to message 155 (3.5.3)
+  Authority : (l_endsection : ℕ) → TrackBody  -- 3 Movement Authority: its end, in metres from the group (3.8)
+  DataAcknowledged : (stamp : ℕ) → TrackBody  -- 8 Acknowledgement of Train Data: T_TRAIN of the train data
+  ShorteningRequest : (l_endsection : ℕ) → TrackBody  -- 9 Request to Shorten MA (3.8.6)
+  Transition : (d_rbctr nid_c nid_rbc : ℕ) → TrackBody  -- 24 with packet 131: RBC transition order (3.15.1)
+  EndSession : (nid_c nid_rbc : ℕ) → TrackBody  -- 24 with packet 42: the session with this centre is to be terminated
+  SystemVersion : TrackBody  -- 32 RBC/RIU System Version, answered to message 155 (3.5.3)
+  TerminationAcknowledged : TrackBody  -- 39 Acknowledgement of termination of a communication session
+  TrainRejected : TrackBody  -- 40 Train Rejected
+  TrainAccepted : TrackBody  -- 41 Train Accepted
 
 pub record TrackMessage : Type 0 where
   pub t_train : ℕ

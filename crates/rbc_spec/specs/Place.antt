@@ -1,7 +1,23 @@
 -- Where a position report places a train on the line (3.6). The formulas of the fronts and the rear are the profile's.
-use Rattle.std.specs.Prelude.{ℕ, ◌*◌, ◌==◌, Bool, false, ◌&&◌, Option, nat_lt, ℤ, pos, int_lt}
+use Rattle.std.specs.Prelude.{ℕ, ◌+◌, ◌*◌, ◌==◌, Bool, false, ◌&&◌, if◌then◌else◌, Option, None, option_map, option_and_then, nat_lt, nat_le, ℤ, pos, ◌-ℤ◌, int_lt, int_le}
 use Rattle.std.specs.Option.{option_map_or}
-use Rattle.rbc_spec.specs.Line.{Line, section, start, end}
+use Rattle.rbc_spec.specs.Runs.{Run}
+use Rattle.rbc_spec.specs.Line.{Line, Section, section, section_of_group, start, end}
+use Rattle.rbc_spec.specs.Sections.{is_on, run_where, track_end}
+
+-- what a centre reads of a position packet (7.4): Q_SCALE as a factor on decimetres (1, 10 or 100), NID_LRBG, D_LRBG,
+-- whether Q_DIRLRBG and Q_DLRBG are both nominal, the doubts, L_TRAININT where integrity is confirmed (Q_LENGTH 1 or 2),
+-- V_TRAIN, and whether M_LEVEL is level 2
+pub record Position : Type 0 where
+  pub scale : ℕ
+  pub nid_lrbg : ℕ
+  pub d_lrbg : ℕ
+  pub is_nominal : Bool
+  pub l_doubtover : ℕ
+  pub l_doubtunder : ℕ
+  pub l_trainint : Option ℕ
+  pub v_train : ℕ
+  pub is_level_2 : Bool
 
 -- the track; NID_LRBG of the group that the report names; the safe front end and, where the train's integrity is
 -- confirmed, the safe rear end, in decimetres from the start of the track
@@ -11,8 +27,64 @@ pub record Place : Type 0 where
   pub front : ℕ
   pub rear : Option ℤ
 
+-- a distance or doubt that is known
+abbrev pub is_known : ℕ → Bool
+is_known distance = nat_lt distance 32767
+
+-- a report places its train where it runs in level 2 in the line's direction and each distance is known
+abbrev pub has_place : Position → Bool
+has_place p = ((p.is_nominal && p.is_level_2) && is_known p.d_lrbg) && (is_known p.l_doubtover && is_known p.l_doubtunder)
+
+-- the estimated front end, in decimetres, behind a group at the start of section s
+abbrev pub estimated_front : Line → ℕ → Position → ℕ
+estimated_front line s p = 10 * start line s + p.scale * p.d_lrbg
+
+-- the place behind a group at the start of section s of a track. L_TRAININT is read in metres whatever the scale
+abbrev pub place_behind : Line → ℕ → Section → Position → Place
+place_behind line s q p = record {
+  track = q.track;
+  group = p.nid_lrbg;
+  front = estimated_front line s p + p.scale * p.l_doubtunder;
+  rear = option_map (λ l. pos (estimated_front line s p) -ℤ pos (p.scale * p.l_doubtover + 10 * l)) p.l_trainint;
+}
+
+-- the place of a report, if its group is of the line
+unfoldable pub extent : Line → Position → Option Place
+extent line p =
+    if has_place p
+    then option_and_then (λ s. option_map (λ q. place_behind line s q p) (section line s)) (section_of_group line p.nid_lrbg)
+    else None
+
+-- ## What a place tells
+
+-- the place is on the track
+abbrev pub is_placed_on : ℕ → Place → Bool
+is_placed_on track place = place.track == track
+
 -- the train may stand in the section: it starts before the safe front end, and ends past the safe rear end
 abbrev pub covers : Line → Place → ℕ → Bool
 covers line place s =
-    (option_map_or (λ p. p.track == place.track) (section line s) false && nat_lt (10 * start line s) place.front)
+    (is_on line place.track s && nat_lt (10 * start line s) place.front)
     && option_map_or (λ rear. int_lt rear (pos (10 * end line s))) place.rear false
+
+-- the sections that the place covers
+abbrev pub covered : Line → Place → Run
+covered line place = run_where line (covers line place)
+
+-- the section has the safe front end in it, or at its end
+abbrev pub has_front : Line → Place → ℕ → Bool
+has_front line place s = (is_on line place.track s && nat_lt (10 * start line s) place.front) && nat_le place.front (10 * end line s)
+
+-- the section ends at or before the safe rear end: the train has cleared it
+abbrev pub is_cleared : Line → Place → ℕ → Bool
+is_cleared line place s = option_map_or (λ rear. int_le (pos (10 * end line s)) rear) place.rear false
+
+-- the start of the section whose group the place names, in metres
+abbrev pub group_start : Line → Place → ℕ
+group_start line place = option_map_or (λ s. start line s) (section_of_group line place.group) 0
+
+-- a place of a start of mission: rear and front lie on the track, in this order, and at most 32 sections are covered
+abbrev pub is_fit : Line → Place → Bool
+is_fit line place =
+    option_map_or (λ rear. int_le (pos 0) rear && int_lt rear (pos place.front)) place.rear false
+    && (nat_le place.front (10 * track_end line place.track) && nat_le (covered line place).count 32)

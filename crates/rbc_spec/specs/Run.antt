@@ -1,43 +1,121 @@
--- The runs of the one line centre, and when its state stands for a world of centres.
-use Rattle.std.specs.Prelude.{◌≡◌, ℕ, List, [], ◌∷◌, Bool, true, false, Option, Some, None, Result, Ok, Err}
+-- The runs of the one line centre.
+use Rattle.std.specs.Prelude.{◌≡◌, ℕ, List, [], ◌∷◌, Bool, true, false, Option, Some, None, is_none, is_some, Ok, Err, ◌&&◌, ◌||◌, not, ◌==◌, ◌+◌, ◌*◌, nat_le}
 use Rattle.std.specs.Option.{option_map_or}
-use Rattle.rbc_spec.specs.Line.{Line, is_centre, section, is_home}
-use Rattle.rbc_spec.specs.Message.{TrainMessage}
-use Rattle.rbc_spec.specs.Outcome.{Outcome}
-use Rattle.rbc_spec.specs.Centre as centre
-use Rattle.rbc_spec.specs.LineCentre.{LineState, Mark, Shut, Open, Kept, Given, Mission, Spoken, own_step}
-use Rattle.rbc_spec.specs.World.{World, Event, Bytes, Delivery, Answer, Answered, NoCentre, NotSent, Fault}
+use Rattle.std.specs.List.{find, list_any, range_with_len}
+use Rattle.rbc_spec.specs.Line.{Line, is_centre, train_number, is_home, end}
+use Rattle.rbc_spec.specs.Sections.{section_count}
+use Rattle.rbc_spec.specs.Place.{Position, extent, has_front, group_start}
+use Rattle.rbc_spec.specs.Message.{TrainMessage, TrainBody, Request, Report, ShorteningGranted, ShorteningRejected, StartOfMission, SessionEstablished}
+use Rattle.rbc_spec.specs.Outcome.{Outcome, Reason, StaleStamp, NoSession, ForeignEngine, NoPlace, NotSupervised, NoTrainData, ProposalPending, Unasked, MissionEnded, WrongPhase}
+use Rattle.rbc_spec.specs.Centre.{is_up}
+use Rattle.rbc_spec.specs.Rules.{place_on}
+use Rattle.rbc_spec.specs.Step.{is_stale, is_silent, reasons_of}
+use Rattle.rbc_spec.specs.LineCentre.{LineState, Mission, is_at, is_given_to, hears, Said, nothing}
+use Rattle.rbc_spec.specs.OwnSteps.{Own, Sets, Unsets}
+use Rattle.rbc_spec.specs.Quiet.{Quiet, TakesAll, both}
+use Rattle.rbc_spec.specs.World.{Event, Bytes, Set, Unset, Delivery, Answer, Answered, NoCentre, NotSent, Fault}
 
--- ## Runs
+-- ## Reasons of silence, read from the line's state
 
--- at the beginning all is shut, and no train is known
-unfoldable pub line_beginning : LineState
-line_beginning = record {
-  mark = λ s. Shut;
-  wish = λ s. false;
-  phase = λ t c. centre.NoSession;
-  heard = λ t c. None;
-  said = λ t c. 0;
-  wait = λ t c. None;
-  mission = λ t. None;
-}
+-- centre c supervises the train, and its mission passes the test
+abbrev pub has_here : LineState → ℕ → ℕ → (Mission → Bool) → Bool
+has_here v c t test = option_map_or (λ m. is_at c m.supervisor && test m) (v.mission t) false
 
--- what an outcome says, but for its stamp
+-- the front of the report's place is in a section of home c
+abbrev pub has_front_at : Line → ℕ → Position → Bool
+has_front_at line c position =
+    option_map_or (λ place. list_any (λ s. is_home line c s && has_front line place s) (range_with_len 0 (section_count line))) (extent line position) false
+
+-- the last section of a train's hand, or none
+abbrev pub last_of_hand : Line → LineState → ℕ → Option ℕ
+last_of_hand line v t = find (λ s. is_given_to t (v.mark s) && not (is_given_to t (v.mark (s + 1)))) (range_with_len 0 (section_count line))
+
+-- the report has a place on the mission's track, not past the hand's end, which has room in L_ENDSECTION
+abbrev pub may_request_at : Line → LineState → ℕ → Mission → Position → Bool
+may_request_at line v t m position = option_map_or
+    (λ place. option_map_or (λ s. nat_le place.front (10 * end line s) && nat_le (end line s) (group_start line place + 32767)) (last_of_hand line v t) false)
+    (place_on line m.place.track position) false
+
+-- the answer names the request that stands
+abbrev pub answers_it : ℕ → Mission → Bool
+answers_it stamp m = option_map_or (λ p. p.stamp == stamp) m.proposal false
+
+-- the reason holds of a message at centre c. A report elsewhere may have it that the train is not supervised here, and has it
+-- where its front is in no section of home c (Silenced)
+abbrev pub holds : Line → LineState → ℕ → TrainMessage → TrainBody → Reason → Bool
+holds line v c m body StaleStamp = is_stale m.t_train (v.heard m.nid_engine c)
+holds line v c m body NoSession = is_silent (v.phase m.nid_engine c)
+holds line v c m body ForeignEngine = is_none (train_number line m.nid_engine)
+holds line v c m SessionEstablished WrongPhase = is_up (v.phase m.nid_engine c)
+holds line v c m (StartOfMission is_valid position) WrongPhase = not (is_up (v.phase m.nid_engine c)) || is_some (v.wait m.nid_engine c)
+holds line v c m body WrongPhase = not (is_up (v.phase m.nid_engine c))
+holds line v c m body NotSupervised = not (has_here v c m.nid_engine (λ n. true))
+holds line v c m (Request position) NoPlace = has_here v c m.nid_engine (λ n. not (may_request_at line v m.nid_engine n position))
+holds line v c m (Report position) NoPlace = has_here v c m.nid_engine (λ n. is_none (place_on line n.place.track position))
+holds line v c m body NoPlace = false
+holds line v c m body NoTrainData = has_here v c m.nid_engine (λ n. not n.has_data)
+holds line v c m body ProposalPending = has_here v c m.nid_engine (λ n. is_some n.proposal)
+holds line v c m (ShorteningGranted stamp position) Unasked = not (has_here v c m.nid_engine (answers_it stamp))
+holds line v c m (ShorteningRejected stamp position) Unasked = not (has_here v c m.nid_engine (answers_it stamp))
+holds line v c m body Unasked = false
+holds line v c m body MissionEnded = has_here v c m.nid_engine (λ n. n.is_ended)
+
+abbrev pub silence : Line → LineState → ℕ → TrainMessage → Option Reason
+silence line v c m = find (holds line v c m m.body) (reasons_of m.body)
+
+-- a report that would be silent for this may be heard all the same: where its front is in a section of home c, the line centre
+-- may listen to a train that it does not supervise there
+abbrev pub may_listen : Line → ℕ → TrainBody → Option Reason → Bool
+may_listen line c (Report position) (Some NotSupervised) = has_front_at line c position
+may_listen line c body reason = false
+
+-- ## Pieces
+
+-- what is said, or why nothing is
+pub record Spoken : Type 0 where
+  pub said : Said
+  pub silence : Option Reason
+
 abbrev pub spoken_in : Outcome → Spoken
-spoken_in outcome = record { sayings = outcome.sayings; words = outcome.words; silence = outcome.silence }
+spoken_in o = record { said = record { sayings = o.sayings; words = o.words }; silence = o.silence }
 
--- the piece of a message at a centre of the line is its one step: it says what the outcome says
-pub record Piece (line : Line) (v : LineState) (c : ℕ) (m : TrainMessage) (outcome : Outcome) (new : LineState) : Type 0 where
-  pub at_centre : is_centre line c ≡ true
-  pub says : spoken_in outcome ≡ (own_step line v c m).0
-  pub leaves : new ≡ (own_step line v c m).1
+-- an own step, in which the message is heard
+pub record Hears (line : Line) (v : LineState) (c : ℕ) (m : TrainMessage) (said : Said) (new : LineState) : Type 0 where
+  pub own : Own line (hears c m v) c m m.body said new
 
--- From v the one line centre may meet the event with this answer, and go on from new. A message at a centre of the line
--- has a piece; bytes that spell no message, a centre not of the line, and a frame never sent change nothing
+-- the own step of a message: silent for its reason, and then nothing changes, or heard
+pub data Steps (line : Line) (v : LineState) (c : ℕ) (m : TrainMessage) (said : Said) (new : LineState) (why : Option Reason) : Type 0 where
+  silent : (reason : Reason) → silence line v c m ≡ Some reason → why ≡ Some reason → said ≡ nothing → new ≡ v → Steps line v c m said new why
+  heard : silence line v c m ≡ None → why ≡ None → Hears line v c m said new → Steps line v c m said new why
+  listened : may_listen line c m.body (silence line v c m) ≡ true → why ≡ None → said ≡ nothing → new ≡ hears c m v → Steps line v c m said new why
+
+-- the own step of an event that has one
+abbrev pub OwnStep : Line → LineState → Event → Said → LineState → Option Reason → Type 0
+OwnStep line v (Bytes c (Ok m)) said new why = (is_centre line c ≡ true) × Steps line v c m said new why
+OwnStep line v (Set c s) said new why = (is_centre line c ≡ true) × Sets line v c s said new × (why ≡ None)
+OwnStep line v (Unset c s) said new why = (is_centre line c ≡ true) × Unsets line v c s said new × (why ≡ None)
+OwnStep line v (Delivery from to number) said new why = (said ≡ nothing) × (new ≡ v) × (why ≡ None)
+OwnStep line v event said new why = ⊥
+
+-- the piece of an event: its own step, then quiet steps, and what they say in order. The piece of a delivery is quiet steps alone
+pub record Piece (line : Line) (v : LineState) (event : Event) (outcome : Outcome) (new : LineState) : Type 0 where
+  pub own : Said
+  pub mid : LineState
+  pub why : Option Reason
+  pub quiets : List Quiet
+  pub later : Said
+  pub own_step : OwnStep line v event own mid why
+  pub quiet_steps : TakesAll line mid quiets later new
+  pub says : spoken_in outcome ≡ record { said = both own later; silence = why }
+
+-- From v the one line centre may meet the event with this answer, and go on from new. Bytes that spell no message, a centre not
+-- of the line, and a frame never sent change nothing
 abbrev pub Goes : Line → LineState → Event → Answer → LineState → Type 0
-Goes line v (Bytes c (Ok m)) (Answered outcome) new = Piece line v c m outcome new
+Goes line v event (Answered outcome) new = Piece line v event outcome new
 Goes line v (Bytes c (Err number)) (Fault n) new = (is_centre line c ≡ true) × (n ≡ number) × (new ≡ v)
 Goes line v (Bytes c read) NoCentre new = (is_centre line c ≡ false) × (new ≡ v)
+Goes line v (Set c s) NoCentre new = (is_centre line c ≡ false) × (new ≡ v)
+Goes line v (Unset c s) NoCentre new = (is_centre line c ≡ false) × (new ≡ v)
 Goes line v (Delivery from to number) NotSent new = new ≡ v
 Goes line v event answer new = ⊥
 
@@ -47,42 +125,3 @@ Run line v [] [] new = new ≡ v
 Run line v (event ∷ events) (answer ∷ answers) new =
     (mid : LineState) × Goes line v event answer mid × Run line mid events answers new
 Run line v events answers new = ⊥
-
--- ## The read-off
-
--- what a home section is used for, as the line sees it: in use for a train that has it in no hand, it is kept
-abbrev pub mark_of : centre.Entry → Mark
-mark_of centre.Shut = Shut
-mark_of centre.Open = Open
-mark_of (centre.Taken t) = Kept t
-mark_of (centre.Out t d) = Kept t
-
--- The line state stands for the world. No centre has a hand, a waiting start or a mission yet, so no section is
--- given, and none of these stands
-pub record StandsFor (line : Line) (w : World) (v : LineState) : Type 0 where
-  pub mark : (s c : ℕ) → is_home line c s ≡ true → v.mark s ≡ mark_of ((w.at c).book s)
-  pub wish : (s c : ℕ) → is_home line c s ≡ true → v.wish s ≡ (w.at c).wish s
-  pub phase : (t c : ℕ) → v.phase t c ≡ (w.at c).phase t
-  pub heard : (t c : ℕ) → v.heard t c ≡ (w.at c).heard t
-  pub said : (t c : ℕ) → v.said t c ≡ (w.at c).said t
-  pub wait : (t c : ℕ) → v.wait t c ≡ None
-  pub mission : (t : ℕ) → v.mission t ≡ None
-
--- the state that is read off a world, as a function: numbers that are no section's are shut
-unfoldable pub read_off : Line → World → LineState
-read_off line w = record {
-  mark = λ s. option_map_or (λ p. mark_of ((w.at p.home).book s)) (section line s) Shut;
-  wish = λ s. option_map_or (λ p. (w.at p.home).wish s) (section line s) false;
-  phase = λ t c. (w.at c).phase t;
-  heard = λ t c. (w.at c).heard t;
-  said = λ t c. (w.at c).said t;
-  wait = λ t c. None;
-  mission = λ t. None;
-}
-
--- The main theorem, of a whole list of events and the answers to it: they are a run of the one line centre from its
--- beginning, and the world that they leave is what the run's last state stands for
-pub record IsLineRun (line : Line) (events : List Event) (answers : List Answer) (w : World) : Type 0 where
-  pub last : LineState
-  pub run : Run line line_beginning events answers last
-  pub stands : StandsFor line w last

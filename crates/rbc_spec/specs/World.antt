@@ -1,17 +1,22 @@
 -- The centres of a line side by side, and what happens to them.
-use Rattle.std.specs.Prelude.{◌≡◌, ℕ, List, [], ◌∷◌, ◌++◌, Bool, if◌then◌else◌, ◌==◌, Option, Some, None, is_none, Result, Ok, Err}
+use Rattle.std.specs.Prelude.{◌≡◌, ℕ, ◌-◌, List, [], ◌∷◌, ◌++◌, if◌then◌else◌, ◌==◌, Option, None, is_none, Result, Ok, Err, slice_get, drop}
 use Rattle.std.specs.List.{list_any}
 use Rattle.std.specs.Option.{option_map_or}
 use Rattle.rbc_spec.specs.Maps.{put}
 use Rattle.rbc_spec.specs.Line.{Line, is_centre, train_number}
 use Rattle.rbc_spec.specs.Message.{TrainMessage}
+use Rattle.rbc_spec.specs.Frame.{Frame}
 use Rattle.rbc_spec.specs.Outcome.{Outcome}
-use Rattle.rbc_spec.specs.Centre.{Centre, beginning, Refusal, step}
+use Rattle.rbc_spec.specs.Centre.{Centre, beginning}
+use Rattle.rbc_spec.specs.Step as centre
+use Rattle.rbc_spec.specs.Step.{Refusal, step}
 
--- bytes from a train come to centre c, which spell a message or show the fault of this number; or a frame that centre
--- `from` sent to centre `to` under a number is delivered
+-- bytes from a train come to centre c, which spell a message or show the fault of this number; the interlocking sets or
+-- unsets a section at a centre; or a frame that centre `from` sent to centre `to` under a number is delivered
 pub data Event : Type 0 where
   Bytes : (c : ℕ) → (read : Result TrainMessage ℕ) → Event
+  Set : (c s : ℕ) → Event
+  Unset : (c s : ℕ) → Event
   Delivery : (from to number : ℕ) → Event
 
 -- the outcome of a centre's step; or the centre is not of the line, a frame of that number was never sent, or the
@@ -27,8 +32,16 @@ pub record World : Type 0 where
   pub at : ℕ → Centre
   pub trains : List ℕ
 
-unfoldable pub new_world : World
-new_world = record { at = λ c. beginning; trains = [] }
+unfoldable pub new_world : Line → World
+new_world line = record { at = beginning line; trains = [] }
+
+-- the frame that a sent to b under a number, from 1
+abbrev pub frame_sent : World → ℕ → ℕ → ℕ → Option Frame
+frame_sent w a b number = if number == 0 then None else slice_get ((w.at a).sent b) (number - 1)
+
+-- the frames on the way from a to b: those sent behind the last that was taken
+abbrev pub way : World → ℕ → ℕ → List Frame
+way w a b = drop ((w.at b).taken a) ((w.at a).sent b)
 
 -- the trains after one more was named: a foreign engine is not listed
 abbrev pub mention : Line → ℕ → List ℕ → List ℕ
@@ -37,20 +50,29 @@ mention line t trains =
     else (if list_any (λ u. t == u) trains then trains else trains ++ t ∷ [])
 
 -- the outcome of centre c, which leaves it so, in the world
-abbrev pub stepped : Line → World → ℕ → ℕ → Result (Outcome × Centre) Refusal → Result (Answer × World) Refusal
-stepped line w c t (Ok (outcome, centre)) =
-    Ok (Answered outcome, record { at = put w.at c centre; trains = mention line t w.trains })
-stepped line w c t (Err why) = Err why
+abbrev pub stepped : World → ℕ → List ℕ → Result (Outcome × Centre) Refusal → Result (Answer × World) Refusal
+stepped w c trains (Ok (outcome, centre)) = Ok (Answered outcome, record { at = put w.at c centre; trains = trains })
+stepped w c trains (Err why) = Err why
+
+-- an event at centre c, if it is of the line
+abbrev pub at_centre : Line → World → ℕ → Result (Answer × World) Refusal → Result (Answer × World) Refusal
+at_centre line w c done = if is_centre line c then done else Ok (NoCentre, w)
+
+abbrev pub takes : Line → World → ℕ → List ℕ → centre.Event → Result (Answer × World) Refusal
+takes line w c trains event = stepped w c trains (step line c event (w.at c))
 
 -- bytes at a centre of the line
-abbrev pub received : Line → World → ℕ → Result TrainMessage ℕ → Result (Answer × World) Refusal
-received line w c (Ok m) = stepped line w c m.nid_engine (step line m (w.at c))
-received line w c (Err number) = Ok (Fault number, w)
+abbrev pub reads : Line → World → ℕ → Result TrainMessage ℕ → Result (Answer × World) Refusal
+reads line w c (Ok m) = takes line w c (mention line m.nid_engine w.trains) (centre.Train m)
+reads line w c (Err number) = Ok (Fault number, w)
 
--- one event. No step sends a frame yet, so none was ever sent
+-- one event
 unfoldable pub world_step : Line → World → Event → Result (Answer × World) Refusal
-world_step line w (Bytes c read) = if is_centre line c then received line w c read else Ok (NoCentre, w)
-world_step line w (Delivery from to number) = Ok (NotSent, w)
+world_step line w (Bytes c read) = at_centre line w c (reads line w c read)
+world_step line w (Set c s) = at_centre line w c (takes line w c w.trains (centre.Set s))
+world_step line w (Unset c s) = at_centre line w c (takes line w c w.trains (centre.Unset s))
+world_step line w (Delivery a b number) =
+    option_map_or (λ f. takes line w b w.trains (centre.Deliver a f)) (frame_sent w a b number) (Ok (NotSent, w))
 
 infixl 10 ◌>>=◌
 abbrev pub ◌>>=◌ : {A B : Type 0} → Result A Refusal → (A → Result B Refusal) → Result B Refusal
@@ -68,8 +90,7 @@ world_run line w (event ∷ events) = do
 -- the trains of the line that messages at centres of the line named, each once, by first mention
 abbrev pub named : Line → Event → List ℕ → List ℕ
 named line (Bytes c (Ok m)) trains = if is_centre line c then mention line m.nid_engine trains else trains
-named line (Bytes c (Err number)) trains = trains
-named line (Delivery from to number) trains = trains
+named line event trains = trains
 
 abbrev pub all_named : Line → List Event → List ℕ → List ℕ
 all_named line [] trains = trains

@@ -1,4 +1,4 @@
-use Rattle.rbc_examples.proofs.Limits.{last_stamp_is_taken_comes_out, stamp_past_the_last_comes_out, frame_without_a_link_comes_out, three_numbers_left, four_numbers_left, set_and_session_comes_out}
+use Rattle.rbc_examples.proofs.Limits.{last_stamp_is_taken_comes_out, stamp_past_the_last_comes_out, frame_without_a_link_comes_out, three_numbers_left, four_numbers_left, set_and_session_comes_out, asks_for_a_full_hand, asks_for_no_513th_section}
 use Rattle.rbc_examples.proofs.refused_steps.Goals as goal
 
 pub returns-clause-last_stamp : goal.returns-clause-last_stamp
@@ -18,3 +18,9 @@ returns-clause-four_numbers_left c = four_numbers_left
 
 pub returns-clause-whole_run : goal.returns-clause-whole_run
 returns-clause-whole_run c = set_and_session_comes_out
+
+pub returns-clause-full_hand : goal.returns-clause-full_hand
+returns-clause-full_hand c = asks_for_a_full_hand
+
+pub returns-clause-last_section : goal.returns-clause-last_section
+returns-clause-last_section c = asks_for_no_513th_section

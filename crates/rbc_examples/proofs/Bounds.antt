@@ -1,0 +1,89 @@
+-- No number but a section's is ever given: of each change of the marks.
+use Rattle.std.proofs.Common.{◌≡◌, ℕ, ◌==◌, ◌<◌, Bool, true, false, ◌&&◌, not, if◌then◌else◌, Option, Some, None, refl, sym, ◌∙◌, true≢false}
+use Rattle.std.specs.Option.{option_map_or}
+use Rattle.std.specs.List.{range_with_len, list_any}
+use Rattle.std.proofs.lemmas.Bool.{and_parts}
+use Rattle.std.proofs.lemmas.Option.{slice_get_within}
+use Rattle.rbc_spec.specs.Line.{Line, Section, section, is_home}
+use Rattle.rbc_spec.specs.Sections.{section_count, is_on}
+use Rattle.rbc_spec.specs.Place.{Place, covers}
+use Rattle.rbc_spec.specs.LineCentre.{LineState, Mark, Shut, Open, Kept, Given, is_given_to, free, mark_all, release, close_if_empty}
+use Rattle.rbc_spec.specs.OwnSteps.{shortened, is_cut_of, reported, is_cleared_of}
+use Rattle.rbc_spec.specs.Maps.{put}
+
+pub record IsWithinLine (line : Line) (mark : ℕ → Mark) : Type 0 where
+  pub given : (t s : ℕ) → is_given_to t (mark s) ≡ true → s < section_count line
+
+-- ## Sections of the line
+
+-- a section that passes a test is of the line
+pub passing : (line : Line) (s : ℕ) (test : Section → Bool) → option_map_or test (section line s) false ≡ true → s < section_count line
+passing line s test so = at (section line s) refl so
+  where
+    at : (p : Option Section) → section line s ≡ p → option_map_or test p false ≡ true → s < section_count line
+    at None is so = absurd (true≢false (sym so))
+    at (Some p) is so = slice_get_within line.sections s p is
+
+pub home_within : (line : Line) (c s : ℕ) → is_home line c s ≡ true → s < section_count line
+home_within line c s so = passing line s (λ p. p.home == c) so
+
+pub on_within : (line : Line) (track s : ℕ) → is_on line track s ≡ true → s < section_count line
+on_within line track s so = passing line s (λ p. p.track == track) so
+
+pub covered_within : (line : Line) (place : Place) (s : ℕ) → covers line place s ≡ true → s < section_count line
+covered_within line place s so = on_within line place.track s (and_parts _ _ (and_parts _ _ so).0).0
+
+-- ## Marks
+
+-- a mark of one of two, and what each tells
+pub of_two : (t : ℕ) {P : Type 0} (b : Bool) (x y : Mark) → (b ≡ true → is_given_to t x ≡ true → P) → (is_given_to t y ≡ true → P)
+    → is_given_to t (if b then x else y) ≡ true → P
+of_two t true x y one two so = one refl so
+of_two t false x y one two so = two so
+
+pub shut_or_open : (t : ℕ) {P : Type 0} (b : Bool) → is_given_to t (if b then Shut else Open) ≡ true → P
+shut_or_open t true so = absurd (true≢false (sym so))
+shut_or_open t false so = absurd (true≢false (sym so))
+
+-- sections that pass a test get another mark, which does not give them or only where they are of the line
+pub within_changed : (line : Line) (test : ℕ → Bool) (new old : ℕ → Mark)
+    → ((t s : ℕ) → test s ≡ true → is_given_to t (new s) ≡ true → s < section_count line) → IsWithinLine line old
+    → IsWithinLine line (λ s. if test s then new s else old s)
+within_changed line test new old so was = record { given = λ t s. of_two t (test s) (new s) (old s) (so t s) (was.given t s) }
+
+pub within_free : (line : Line) (is_freed : ℕ → Bool) (v : LineState) → IsWithinLine line v.mark → IsWithinLine line (free is_freed v).mark
+within_free line is_freed v was = within_changed line is_freed (λ s. if v.wish s then Shut else Open) v.mark (λ t s _ given. shut_or_open t (v.wish s) given) was
+
+pub within_kept : (line : Line) (test : ℕ → Bool) (t : ℕ) (v : LineState) → IsWithinLine line v.mark → IsWithinLine line (mark_all test (Kept t) v).mark
+within_kept line test t v was = within_changed line test (λ s. Kept t) v.mark (λ u s _ given. absurd (true≢false (sym given))) was
+
+pub within_given : (line : Line) (test : ℕ → Bool) (t : ℕ) (v : LineState) → ((s : ℕ) → test s ≡ true → s < section_count line)
+    → IsWithinLine line v.mark → IsWithinLine line (mark_all test (Given t) v).mark
+within_given line test t v so was = within_changed line test (λ s. Given t) v.mark (λ u s passes _. so s passes) was
+
+pub within_put : (line : Line) (s : ℕ) (mark : Mark) (v : LineState) → ((t : ℕ) → is_given_to t mark ≡ false)
+    → IsWithinLine line v.mark → IsWithinLine line (put v.mark s mark)
+within_put line s mark v not_given was =
+    within_changed line (λ j. j == s) (λ j. mark) v.mark (λ t j _ given. absurd (true≢false (sym given ∙ not_given t))) was
+
+pub within_release : (line : Line) (c t : ℕ) (is_released : ℕ → Bool) (v : LineState) → IsWithinLine line v.mark → IsWithinLine line (release line c t is_released v).mark
+within_release line c t is_released v was =
+    within_free line (λ s. is_released s && is_home line c s) (mark_all (λ s. is_released s && not (is_home line c s)) (Kept t) v)
+    (within_kept line (λ s. is_released s && not (is_home line c s)) t v was)
+
+-- of one of two states
+pub within_one : (line : Line) (b : Bool) (x y : LineState) → IsWithinLine line x.mark → IsWithinLine line y.mark → IsWithinLine line (if b then x else y).mark
+within_one line true x y one two = one
+within_one line false x y one two = two
+
+pub within_close : (line : Line) (t : ℕ) (v : LineState) → IsWithinLine line v.mark → IsWithinLine line (close_if_empty line t v).mark
+within_close line t v was = within_one line (list_any (λ s. is_given_to t (v.mark s)) (range_with_len 0 (section_count line))) v _ was was
+
+pub within_shortened : (line : Line) (t c : ℕ) (place : Option Place) (last_kept : ℕ) (v : LineState)
+    → IsWithinLine line v.mark → IsWithinLine line (shortened line t c place last_kept v).mark
+within_shortened line t c None last_kept v was = was
+within_shortened line t c (Some place) last_kept v was = within_one line _ _ v
+    (within_close line t (release line c t (is_cut_of v t last_kept) v) (within_release line c t (is_cut_of v t last_kept) v was)) was
+
+pub within_reported : (line : Line) (t c : ℕ) (place : Place) (v : LineState) → IsWithinLine line v.mark → IsWithinLine line (reported line t c place v).mark
+within_reported line t c place v was = within_close line t _ (within_release line c t (is_cleared_of line v t place) v was)

@@ -1,0 +1,202 @@
+-- The acts that a centre's steps are made of, in the order in which what they say and send comes out.
+use Rattle.std.specs.Prelude.{ℕ, ◌+◌, ◌-◌, ◌*◌, ◌==◌, Bool, true, false, ◌&&◌, ◌||◌, not, if◌then◌else◌, List, [], ◌∷◌, ◌++◌, map, min, Option, Some, None, option_map, is_none, nat_le}
+use Rattle.std.specs.Option.{option_map_or}
+use Rattle.std.specs.List.{filter, list_all, range_with_len}
+use Rattle.rbc_spec.specs.Maps.{put}
+use Rattle.rbc_spec.specs.Runs.{Run, no_run, within, behind, is_empty, shared}
+use Rattle.rbc_spec.specs.Line.{Line, is_home, start, registrar}
+use Rattle.rbc_spec.specs.Sections.{nid_rbc, home_run}
+use Rattle.rbc_spec.specs.Place.{Place, covered, group_start}
+use Rattle.rbc_spec.specs.Message.{TrainMessage, TrackBody, ShorteningRequest, Transition, EndSession, unknown_group}
+use Rattle.rbc_spec.specs.Frame.{Body, ReturnRight, RouteReturn, RouteAsk, Announce, Cancel, Yield}
+use Rattle.rbc_spec.specs.Outcome.{Saying, Word, Told}
+use Rattle.rbc_spec.specs.Centre.{Centre, Entry, Shut, Open, Out, Mission, Handing, is_up, is_taken_for, is_registrar_of}
+
+infixr 0 ◌$◌
+abbrev pub ◌$◌ : {X Y : Type 0} → (X → Y) → X → Y
+f $ x = f x
+
+-- what an act leaves, the bodies of the frames that it sends to each centre, and what it says
+pub record Reply : Type 0 where
+  pub state : Centre
+  pub frames : ℕ → List Body
+  pub sayings : List Saying
+  pub words : List Word
+
+abbrev pub Act : Type 0
+Act = Centre → Reply
+
+-- an act that says nothing
+abbrev pub become : (Centre → Centre) → Act
+become change k = record { state = change k; frames = λ d. []; sayings = []; words = [] }
+
+abbrev pub rest : Act
+rest = become (λ k. k)
+
+-- one act and then another
+infixl 5 ◌>>◌
+unfoldable pub ◌>>◌ : Act → Act → Act
+(first >> second) k =
+    let a = first k in
+    let b = second a.state in
+    record { state = b.state; frames = λ d. a.frames d ++ b.frames d; sayings = a.sayings ++ b.sayings; words = a.words ++ b.words }
+
+-- the act where the test holds of the state
+abbrev pub where_so : (Centre → Bool) → Act → Act
+where_so test act k = if test k then act k else rest k
+
+-- the act that goes by a value of the state, where there is one
+abbrev pub with_some : {X : Type 0} → (Centre → Option X) → (X → Act) → Act
+with_some value act k = option_map_or (λ x. act x k) (value k) (rest k)
+
+-- the body goes to centre d
+abbrev pub send : ℕ → Body → Act
+send d body k = record { state = k; frames = λ e. if e == d then body ∷ [] else []; sayings = []; words = [] }
+
+-- the last T_TRAIN heard of the train is that of the message
+abbrev pub hear : TrainMessage → Act
+hear m = become (λ k. record k { heard = put k.heard m.nid_engine (Some m.t_train) })
+
+-- a message to a train: its T_TRAIN counts those said to it
+abbrev pub say : ℕ → ℕ → TrackBody → Act
+say t group body k =
+    let count = k.said t + 1 in
+    record {
+      state = record k { said = put k.said t count };
+      frames = λ d. [];
+      sayings = record { nid_engine = t; message = record { t_train = count; nid_lrbg = group; body = body } } ∷ [];
+      words = [];
+    }
+
+-- ## The book
+
+-- the sections of the run that pass a test of their entry become this
+abbrev pub booked : (Entry → Bool) → Entry → Run → Act
+booked is_meant entry r =
+    become (λ k. record k { book = λ s. if within r s && is_meant (k.book s) then entry else k.book s })
+
+-- sections of home c in use as meant are given back: each becomes open, and one that is wished back becomes shut, its wish
+-- ends, and that is told
+abbrev pub freed : Line → ℕ → (Entry → Bool) → Run → Act
+freed line c is_meant r k =
+    let is_freed : ℕ → Bool = λ s. (within r s && is_home line c s) && is_meant (k.book s) in
+    record {
+      state = record k {
+        book = λ s. if is_freed s then (if k.wish s then Shut else Open) else k.book s;
+        wish = λ s. not (is_freed s) && k.wish s;
+      };
+      frames = λ d. [];
+      sayings = [];
+      words = map (λ s. Told s) (filter (λ s. is_freed s && k.wish s) (range_with_len r.first r.count));
+    }
+
+-- lent sections of the run go home: one frame for those of each home, which are consecutive
+abbrev pub returned : Line → ℕ → ℕ → ℕ → Run → Act
+returned line c t track r k = record {
+  state = k;
+  frames = λ d. let part = shared r (home_run line d track) in if (d == c) || is_empty part then [] else RouteReturn t part ∷ [];
+  sayings = [];
+  words = [];
+}
+
+-- sections leave the train: those of home c are given back, and lent ones go home
+abbrev pub leave : Line → ℕ → ℕ → ℕ → Run → Act
+leave line c t track r = freed line c (is_taken_for t) r >> returned line c t track r
+
+-- ## Missions
+
+abbrev pub set_mission : ℕ → Option Mission → Act
+set_mission t mission = become (λ k. record k { mission = put k.mission t mission })
+
+-- a change of the train's mission, where it has one here
+abbrev pub change_mission : ℕ → (Mission → Mission) → Act
+change_mission t change = become (λ k. record k { mission = put k.mission t (option_map change (k.mission t)) })
+
+-- the pool goes home, behind what has left from the end of the hand
+abbrev pub return_pool : Line → ℕ → ℕ → Mission → Act
+return_pool line c t mission =
+    returned line c t mission.place.track mission.pool >> change_mission t (λ n. record n { pool = no_run })
+
+-- a handover that stands is cancelled
+abbrev pub cancel : ℕ → Mission → Act
+cancel t mission =
+    option_map_or (λ h. send h.to (Cancel h.number t) >> change_mission t (λ n. record n { handing = None })) mission.handing rest
+
+-- the right goes back to the registrar
+abbrev pub return_right : Line → ℕ → ℕ → Act
+return_right line c t =
+    if is_registrar_of line c t
+    then become (λ k. record k { has_right = put k.has_right t true })
+    else option_map_or (λ r. send r (ReturnRight t)) (registrar line t) rest
+
+-- the mission closes with an empty hand: what its hand and pool had has left, its handover is cancelled, the right goes back
+abbrev pub close : Line → ℕ → ℕ → Mission → Act
+close line c t mission = (set_mission t None >> cancel t mission) >> return_right line c t
+
+-- a mission begins with the sections that its place covers
+abbrev pub begun : Line → Place → Mission
+begun line place =
+    record { place = place; hand = covered line place; pool = no_run; has_data = false; is_ended = false; proposal = None; handing = None }
+
+-- ## Shortening (3.8.6)
+
+-- a request to shorten before section s may be made: the session is up, the mission goes on, none stands, s is in the
+-- hand and not its first, the front is not past its start, and its start has room in L_ENDSECTION
+abbrev pub may_propose : Line → ℕ → ℕ → Mission → Centre → Bool
+may_propose line t s m k =
+    ((is_up (k.phase t) && not m.is_ended) && is_none m.proposal)
+    && (((within m.hand s && not (s == m.hand.first)) && nat_le m.place.front (10 * start line s))
+    && nat_le (start line s) (group_start line m.place + 32767))
+
+abbrev pub propose : Line → ℕ → ℕ → Mission → Act
+propose line t s m k =
+    (say t m.place.group (ShorteningRequest (start line s - group_start line m.place))
+    >> change_mission t (λ n. record n { proposal = Some (record { stamp = k.said t + 1; last_kept = s - 1 }) })) k
+
+-- message 9 for section s of the train's hand, where it may be made
+abbrev pub propose_if_so : Line → ℕ → ℕ → Act
+propose_if_so line t s = with_some (λ k. k.mission t) (λ m. where_so (may_propose line t s m) (propose line t s m))
+
+-- ## Handing over (3.15.1)
+
+-- the sections of the hand that are of home d
+abbrev pub part_at : Line → ℕ → ℕ → Run → Run
+part_at line d track hand = shared hand (home_run line d track)
+
+-- a handover is announced where the hand has a section of the next centre and none stands: the train is told where the border is
+abbrev pub announce : Line → ℕ → ℕ → ℕ → Mission → Act
+announce line t group d m k =
+    let number = k.announced + 1 in
+    let border = (part_at line d m.place.track m.hand).first in
+    ((send d (Announce number t m.place.track)
+    >> become (λ j. record j { announced = number }))
+    >> change_mission t (λ n. record n { handing = Some (record { number = number; to = d; is_claimed = false }) }))
+    >> say t group (Transition (start line border - group_start line m.place) line.nid_c (nid_rbc line d))
+    $ k
+
+-- the sections behind the hand are asked for, up to 32 in the hand
+abbrev pub ask_route : ℕ → ℕ → Mission → Act
+ask_route t d m =
+    let first = behind m.hand in
+    send d (RouteAsk t first (min (32 - m.hand.count) (512 - first))) >> become (λ k. record k { route_ask = put k.route_ask t (Some first) })
+
+-- the train is told to end its session with c, where it is up
+abbrev pub end_order : Line → ℕ → ℕ → Act
+end_order line c t = where_so (λ k. is_up (k.phase t)) (say t unknown_group (EndSession line.nid_c (nid_rbc line c)))
+
+-- the supervision is yielded: the pool goes home, own sections of the hand are lent, and the mission goes in one frame
+abbrev pub yield : Line → ℕ → ℕ → Mission → Handing → Act
+yield line c t m h k =
+    ((returned line c t m.place.track m.pool >> booked (is_taken_for t) (Out t h.to) m.hand)
+    >> (set_mission t None >> send h.to (Yield h.number t (option_map_or (λ n. n) (k.heard t) 0) m.has_data m.is_ended m.place m.hand)))
+    >> (if is_empty (part_at line c m.place.track m.hand) then end_order line c t else rest)
+    $ k
+
+-- each section of the hand is of home c or of the accepting centre
+abbrev pub is_of_two : Line → ℕ → ℕ → Run → Bool
+is_of_two line c d hand = list_all (λ s. is_home line c s || is_home line d s) (range_with_len hand.first hand.count)
+
+-- a handover that is claimed is yielded as soon as no third centre's section is in the hand
+abbrev pub yield_if_due : Line → ℕ → ℕ → Act
+yield_if_due line c t = with_some (λ k. k.mission t) (λ m. with_some (λ k. m.handing) (λ h.
+    where_so (λ k. h.is_claimed && is_of_two line c h.to m.hand) (yield line c t m h)))

@@ -1,0 +1,151 @@
+-- What a centre does with a frame that is the next of its link. A body that names an engine, section, track or group that is
+-- not of the line has no effect, and so has one that no rule below gives one.
+use Rattle.std.specs.Prelude.{ℕ, ◌*◌, ◌==◌, Bool, true, false, ◌&&◌, not, if◌then◌else◌, length, max, Option, Some, None, is_some, is_none, nat_lt, nat_le, option_map}
+use Rattle.std.specs.Option.{option_map_or}
+use Rattle.std.specs.List.{find, range_with_len}
+use Rattle.rbc_spec.specs.Maps.{put}
+use Rattle.rbc_spec.specs.Maps.{put_pair}
+use Rattle.rbc_spec.specs.Runs.{Run, no_run, within, behind, is_empty, part_before, part_from, longest}
+use Rattle.rbc_spec.specs.Line.{Line, is_home, is_linked, section, next_centre, train_number, section_of_group}
+use Rattle.rbc_spec.specs.Sections.{is_on, is_on_track}
+use Rattle.rbc_spec.specs.Place.{Place, group_start}
+use Rattle.rbc_spec.specs.Frame.{Body, AskRight, GiveRight, RefuseRight, ReturnRight, RouteAsk, RouteInfo, RouteWithdraw, RouteReturn, Announce, Cancel, TakingOver, Yield}
+use Rattle.rbc_spec.specs.Centre.{Centre, Taken, Out, Mission, Expectation, is_out_for, is_free, is_open, uses_some, is_expected, is_registrar_of}
+use Rattle.rbc_spec.specs.Acts.{Act, become, rest, ◌>>◌, where_so, with_some, send, booked, freed, returned, set_mission, change_mission, return_right, propose_if_so, end_order, yield_if_due}
+use Rattle.rbc_spec.specs.Rules.{choose, drop_wait, begin, reject, all_of}
+
+-- the sections of the run are of the line, all of one track
+abbrev pub is_of_line : Line → Run → Bool
+is_of_line line r = option_map_or (λ p. is_on_track line p.track r) (section line r.first) false
+
+-- ## Rights (profile)
+
+-- the registrar gives a right that it has, and refuses one that it has not
+abbrev pub right_asked : Line → ℕ → ℕ → ℕ → Act
+right_asked line c d t = where_so (λ k. is_registrar_of line c t)
+    (choose (λ k. k.has_right t)
+    (become (λ k. record k { has_right = put k.has_right t false }) >> send d (GiveRight t))
+    (send d (RefuseRight t)))
+
+abbrev pub answered_ask : ℕ → Act
+answered_ask t = become (λ k. record k { has_asked = put k.has_asked t false })
+
+-- a start that waits becomes a mission; a right that nothing waits for goes back
+abbrev pub right_given : Line → ℕ → ℕ → Act
+right_given line c t = where_so (λ k. k.has_asked t) (answered_ask t >> choose
+    (λ k. is_some (k.wait t) && is_none (k.mission t))
+    (with_some (λ k. k.wait t) (λ place. become (λ k. record k { wait = put k.wait t None }) >> begin line t place))
+    (return_right line c t))
+
+abbrev pub right_refused : Line → ℕ → ℕ → Act
+right_refused line c t =
+    where_so (λ k. k.has_asked t) (answered_ask t >> where_so (λ k. is_some (k.wait t)) (drop_wait line c t >> reject t))
+
+-- the right comes back to the registrar, where it is not already
+abbrev pub right_returned : Line → ℕ → ℕ → Act
+right_returned line c t = where_so (λ k. is_registrar_of line c t && (not (k.has_right t) && is_none (k.mission t))) (return_right line c t)
+
+-- ## Route Related Information
+
+-- the longest run of released home sections from first on one track, at most so many, is lent
+abbrev pub lendable : Line → ℕ → Centre → ℕ → ℕ → Run
+lendable line c k first most =
+    record { first = first; count = longest (λ s. is_free line c k s && option_map_or (λ p. is_on line p.track s) (section line first) false) first most }
+
+abbrev pub route_asked : Line → ℕ → ℕ → ℕ → ℕ → ℕ → Act
+route_asked line c d t first most k =
+    let r = lendable line c k first most in
+    (where_so (λ j. is_some (section line first)) (booked is_open (Out t d) r >> send d (RouteInfo t r))) k
+
+-- the lent sections follow the hand of a mission that goes on, whose pool is empty
+abbrev pub is_wanted : Line → Run → Mission → Bool
+is_wanted line r m = ((r.first == behind m.hand) && is_on line m.place.track r.first) && (not m.is_ended && is_empty m.pool)
+
+-- what was asked for goes into the pool, or home again
+abbrev pub route_told : Line → ℕ → ℕ → ℕ → Run → Act
+route_told line c d t r = where_so
+    (λ k. (option_map_or (λ first. first == r.first) (k.route_ask t) false && (is_of_line line r && is_home line d r.first)) && all_of (is_home line d) r)
+    (become (λ k. record k { route_ask = put k.route_ask t None })
+    >> choose (λ k. option_map_or (is_wanted line r) (k.mission t) false)
+    (change_mission t (λ m. record m { pool = r }))
+    (if is_empty r then rest else send d (RouteReturn t r)))
+
+-- the interlocking of another centre wishes a lent section back: the pool from it on goes home, or the hand is proposed to be cut
+abbrev pub route_withdrawn : Line → ℕ → ℕ → ℕ → Act
+route_withdrawn line c t s = with_some (λ k. k.mission t) (λ m.
+    if within m.pool s
+    then (returned line c t m.place.track (part_from s m.pool) >> change_mission t (λ n. record n { pool = part_before s n.pool }))
+    else propose_if_so line t s)
+
+-- lent sections come home and are given back; a train that is no more to come here is told to end the session
+abbrev pub route_returned : Line → ℕ → ℕ → ℕ → Run → Act
+route_returned line c d t r =
+    freed line c (is_out_for t d) r
+    >> where_so (λ k. not (uses_some line c k t) && ((is_none (k.mission t) && is_none (k.wait t)) && not (is_expected line k t))) (end_order line c t)
+
+-- ## Handover
+
+abbrev pub expect : ℕ → ℕ → Option Expectation → Act
+expect d t e = become (λ k. record k { expects = put_pair k.expects d t e })
+
+abbrev pub announced : ℕ → ℕ → ℕ → Act
+announced d number t = where_so (λ k. is_none (k.expects d t)) (expect d t (Some (record { number = number; is_taking = false })))
+
+abbrev pub is_under : ℕ → Option Expectation → Bool
+is_under number e = option_map_or (λ x. x.number == number) e false
+
+abbrev pub cancelled : ℕ → ℕ → ℕ → Act
+cancelled d number t = where_so (λ k. is_under number (k.expects d t)) (expect d t None)
+
+-- the handover with this number to that centre is claimed
+abbrev pub claimed : ℕ → ℕ → Mission → Mission
+claimed d number m = record m { handing = option_map (λ h. if (h.number == number) && (h.to == d) then record h { is_claimed = true } else h) m.handing }
+
+abbrev pub taking_over : Line → ℕ → ℕ → ℕ → ℕ → Act
+taking_over line c d number t = change_mission t (claimed d number) >> yield_if_due line c t
+
+-- a section of a yielded hand: an own one is out for the train at the sender; another is of a linked centre, and not of the next
+abbrev pub may_arrive : Line → ℕ → Centre → ℕ → ℕ → ℕ → ℕ → Bool
+may_arrive line c k d t track s =
+    if is_home line c s then is_out_for t d (k.book s)
+    else option_map_or (λ p. is_linked line c p.home && not (option_map_or (λ n. n == p.home) (next_centre line c track) false)) (section line s) false
+
+-- a handover is taken under the number that was announced, after this centre said that it takes over, where neither mission
+-- nor right are here, the hand is a run of the place's track, and the place's group is of that track and not behind its front
+abbrev pub may_take : Line → ℕ → Centre → ℕ → ℕ → ℕ → Place → Run → Bool
+may_take line c k d number t place hand =
+    (option_map_or (λ e. (e.number == number) && e.is_taking) (k.expects d t) false && (is_none (k.mission t) && not (k.has_right t)))
+    && ((is_on_track line place.track hand && option_map_or (is_on line place.track) (section_of_group line place.group) false)
+    && (nat_le (10 * group_start line place) place.front && all_of (may_arrive line c k d t place.track) hand))
+
+-- own sections become claims, the mission goes on here, the later of both stamps is kept, and the expectation ends; then the
+-- first own section of the hand that is wished back is proposed to be cut off
+abbrev pub take_mission : Line → ℕ → ℕ → ℕ → ℕ → Mission → Act
+take_mission line c d t heard m =
+    ((booked (is_out_for t d) (Taken t) m.hand >> set_mission t (Some m))
+    >> (become (λ k. record k { heard = put k.heard t (Some (option_map_or (max heard) (k.heard t) heard)) }) >> expect d t None))
+    >> with_some (λ k. find (λ s. is_home line c s && k.wish s) (range_with_len m.hand.first m.hand.count)) (propose_if_so line t)
+
+-- ## A frame from centre d to centre c
+
+abbrev pub is_train : Line → ℕ → Bool
+is_train line t = is_some (train_number line t)
+
+abbrev pub of_train : Line → ℕ → Act → Act
+of_train line t act = if is_train line t then act else rest
+
+abbrev pub received : Line → ℕ → ℕ → Body → Act
+received line c d (AskRight t) = of_train line t (right_asked line c d t)
+received line c d (GiveRight t) = of_train line t (right_given line c t)
+received line c d (RefuseRight t) = of_train line t (right_refused line c t)
+received line c d (ReturnRight t) = of_train line t (right_returned line c t)
+received line c d (RouteAsk t first most) = of_train line t (route_asked line c d t first most)
+received line c d (RouteInfo t r) = of_train line t (route_told line c d t r)
+received line c d (RouteWithdraw t s) = of_train line t (if is_some (section line s) then route_withdrawn line c t s else rest)
+received line c d (RouteReturn t r) = of_train line t (if all_of (λ s. is_some (section line s)) r then route_returned line c d t r else rest)
+received line c d (Announce number t track) = of_train line t (if nat_lt track (length line.tracks) then announced d number t else rest)
+received line c d (Cancel number t) = of_train line t (cancelled d number t)
+received line c d (TakingOver number t) = of_train line t (taking_over line c d number t)
+received line c d (Yield number t heard has_data is_ended place hand) =
+    of_train line t (where_so (λ k. may_take line c k d number t place hand)
+    (take_mission line c d t heard (record { place = place; hand = hand; pool = no_run; has_data = has_data; is_ended = is_ended; proposal = None; handing = None })))

@@ -1,0 +1,220 @@
+-- The own steps of the one line centre: a train's message that is answered, a set and an unset. Each is a relation, since
+-- the line centre may choose where the rules leave it open.
+use Rattle.std.specs.Prelude.{◌≡◌, ◌+◌, ◌-◌, ◌*◌, ◌≤◌, ◌⊎◌, ℕ, List, [], ◌∷◌, Bool, true, false, ◌&&◌, ◌||◌, not, if◌then◌else◌, Option, Some, None, option_map, nat_le, nat_lt, MatchBool}
+use Rattle.std.specs.Option.{option_map_or}
+use Rattle.rbc_spec.specs.Maps.{put, put_pair}
+use Rattle.rbc_spec.specs.Runs.{Run, within, behind}
+use Rattle.rbc_spec.specs.Line.{Line, is_home, end}
+use Rattle.rbc_spec.specs.Sections.{is_on}
+use Rattle.rbc_spec.specs.Place.{Place, covers, covered, is_cleared, group_start}
+use Rattle.rbc_spec.specs.Message.{TrainMessage, TrainBody, TrainData, Request, Report, ShorteningGranted, ShorteningRejected, EndOfMission, InitiationOfSession, TerminationOfSession, StartOfMission, SessionEstablished, TrackBody, Authority, DataAcknowledged, SystemVersion, TerminationAcknowledged, TrainRejected, TrainAccepted, unknown_group}
+use Rattle.rbc_spec.specs.Outcome.{Word, Done, Asked, NotHome}
+use Rattle.rbc_spec.specs.Centre.{Phase, Silent, Opened, Up, is_registrar_of}
+use Rattle.rbc_spec.specs.Rules.{fit_place, place_on, all_of}
+use Rattle.rbc_spec.specs.LineCentre.{LineState, Mark, Shut, Open, Kept, Given, Mission, At, is_given_to, is_kept_for, is_mark_open, IsHand, is_at, supervises, is_waiting_at, is_waiting, free, told, mark_all, release, set_mission, change_mission, close_if_empty, saying_of, says, Said, nothing}
+
+-- centre c says one message, and these words come out
+abbrev pub one_message : ℕ → ℕ → ℕ → TrackBody → List Word → LineState → Said
+one_message t c group body words v = record { sayings = saying_of t c group body v ∷ []; words = words }
+
+-- one message is all that is said, and the state is this but for its count
+pub record Says (t c group : ℕ) (body : TrackBody) (words : List Word) (v changed : LineState) (said : Said) (new : LineState) : Type 0 where
+  pub said_is : said ≡ one_message t c group body words v
+  pub new_is : new ≡ says t c changed
+
+-- nothing is said
+pub record SaysNothing (changed : LineState) (said : Said) (new : LineState) : Type 0 where
+  pub said_is : said ≡ nothing
+  pub new_is : new ≡ changed
+
+-- ## Sessions
+
+-- the train's standing request to shorten is dropped where the centre supervises it
+abbrev pub without_proposal : ℕ → Mission → Mission
+without_proposal c m = if is_at c m.supervisor then record m { proposal = None } else m
+
+-- a session ends: a standing request to shorten is dropped, and a start of mission that waits here, whose sections are freed.
+-- No given section changes
+abbrev pub session_ends : Line → ℕ → ℕ → LineState → LineState
+session_ends line t c v = record (free (is_waiting_at line v t c) v) {
+  wait = put_pair v.wait t c None;
+  mission = put v.mission t (option_map (without_proposal c) (v.mission t));
+}
+
+abbrev pub with_phase : ℕ → ℕ → Phase → LineState → LineState
+with_phase t c phase v = record v { phase = put_pair v.phase t c phase }
+
+-- ## Start of mission
+
+-- the place's sections are released and of home c
+abbrev pub may_start : Line → LineState → ℕ → Place → Bool
+may_start line v c place = all_of (λ s. is_home line c s && is_mark_open (v.mark s)) (covered line place)
+
+abbrev pub begun_at : ℕ → Place → Mission
+begun_at c place = record { place = place; has_data = false; is_ended = false; proposal = None; supervisor = At c }
+
+-- the place's sections are given, and a mission begins there
+abbrev pub begins : Line → ℕ → ℕ → Place → LineState → LineState
+begins line t c place v = set_mission t (Some (begun_at c place)) (mark_all (covers line place) (Given t) v)
+
+abbrev pub restarted : ℕ → Place → LineState → LineState
+restarted t place v =
+    change_mission t (λ m. record m { place = place; has_data = false; is_ended = false; proposal = None }) v
+
+-- the sections are kept, and the start waits
+abbrev pub waits : Line → ℕ → ℕ → Place → LineState → LineState
+waits line t c place v = record (mark_all (covers line place) (Kept t) v) { wait = put_pair v.wait t c (Some place) }
+
+abbrev pub Rejects : ℕ → ℕ → LineState → Said → LineState → Type 0
+Rejects t c v = Says t c unknown_group TrainRejected [] v v
+
+abbrev pub Accepts : ℕ → ℕ → LineState → LineState → Said → LineState → Type 0
+Accepts t c v changed = Says t c unknown_group TrainAccepted [] v changed
+
+-- a start at the registrar: the mission begins, only where the train has none; or the right is elsewhere
+abbrev pub StartsHere : Line → ℕ → ℕ → Place → LineState → Said → LineState → Type 0
+StartsHere line t c place v said new =
+    ((v.mission t ≡ None) × Accepts t c v (begins line t c place v) said new) ⊎ Rejects t c v said new
+
+-- the start of a train that centre c supervises: within its hand it goes on from the new place
+abbrev pub Restarts : Line → ℕ → ℕ → Place → LineState → Said → LineState → Type 0
+Restarts line t c place v said new =
+    MatchBool (all_of (λ s. is_given_to t (v.mark s)) (covered line place)) (Accepts t c v (restarted t place v) said new) (Rejects t c v said new)
+
+-- another start: refused where a section is not released here, else decided by the registrar
+abbrev pub StartsNew : Line → ℕ → ℕ → Place → LineState → Said → LineState → Type 0
+StartsNew line t c place v said new =
+    MatchBool (may_start line v c place)
+    (MatchBool (is_registrar_of line c t) (StartsHere line t c place v said new) (SaysNothing (waits line t c place v) said new))
+    (Rejects t c v said new)
+
+abbrev pub Starts : Line → ℕ → ℕ → Option Place → LineState → Said → LineState → Type 0
+Starts line t c None v said new = Rejects t c v said new
+Starts line t c (Some place) v said new = MatchBool (supervises v c t) (Restarts line t c place v said new) (StartsNew line t c place v said new)
+
+-- ## Request
+
+-- the section may not follow in the hand at centre c: it is not on the track, or not released with home c, or would be the
+-- 33rd, or ends too far behind the group
+pub data Ends (line : Line) (v : LineState) (c : ℕ) (place : Place) (hand : Run) : Type 0 where
+  off_track : is_on line place.track (behind hand) ≡ false → Ends line v c place hand
+  not_free : (is_home line c (behind hand) && is_mark_open (v.mark (behind hand))) ≡ false → Ends line v c place hand
+  full : hand.count ≡ 32 → Ends line v c place hand
+  too_far : nat_le (end line (behind hand)) (group_start line place + 32767) ≡ false → Ends line v c place hand
+
+-- a section by which the hand is extended: released with home c, or kept for the train and no start waits for it
+abbrev pub may_be_given : Line → LineState → ℕ → ℕ → ℕ → Bool
+may_be_given line v c t s = (is_home line c s && is_mark_open (v.mark s)) || (is_kept_for t (v.mark s) && not (is_waiting line v t s))
+
+-- the hand is extended by some run that follows it at once, as far as it may go at this centre
+pub record Extends (line : Line) (v : LineState) (t c : ℕ) (place : Place) (said : Said) (new : LineState) : Type 0 where
+  pub hand : Run
+  pub count : ℕ
+  pub is_hand : IsHand v t hand
+  pub each : all_of (λ s. may_be_given line v c t s && is_on line place.track s) (record { first = behind hand; count = count }) ≡ true
+  pub ends : Ends line v c place (record { first = hand.first; count = hand.count + count })
+  pub room : hand.count + count ≤ 32
+  pub within_reach : end line (behind hand + count - 1) ≤ group_start line place + 32767
+  pub says_it : Says t c place.group (Authority (end line (behind hand + count - 1) - group_start line place)) [] v
+      (change_mission t (λ m. record m { place = place }) (mark_all (within (record { first = behind hand; count = count })) (Given t) v)) said new
+
+-- ## Report, end of mission, shortening
+
+-- the sections of the hand that the place clears
+abbrev pub is_cleared_of : Line → LineState → ℕ → Place → ℕ → Bool
+is_cleared_of line v t place s = is_given_to t (v.mark s) && is_cleared line place s
+
+-- the place is set, and cleared sections stop being given
+abbrev pub reported : Line → ℕ → ℕ → Place → LineState → LineState
+reported line t c place v =
+    close_if_empty line t
+    (change_mission t (λ m. record m { place = place }) (release line c t (is_cleared_of line v t place) v))
+
+-- the words of sections that stop being given and are freed
+abbrev pub release_words : Line → ℕ → (ℕ → Bool) → LineState → List Word
+release_words line c is_released v = told line (λ s. is_released s && is_home line c s) v
+
+abbrev pub ended : ℕ → LineState → LineState
+ended t v = change_mission t (λ m. record m { is_ended = true; proposal = None }) v
+
+-- the sections of the hand behind the last that is kept
+abbrev pub is_cut_of : LineState → ℕ → ℕ → ℕ → Bool
+is_cut_of v t last_kept s = is_given_to t (v.mark s) && nat_lt last_kept s
+
+abbrev pub without_ask : ℕ → LineState → LineState
+without_ask t v = change_mission t (λ m. record m { proposal = None }) v
+
+-- a granted shortening at a place cuts the hand, if the train has not run past the end that was proposed
+abbrev pub shortened : Line → ℕ → ℕ → Option Place → ℕ → LineState → LineState
+shortened line t c None last_kept v = v
+shortened line t c (Some place) last_kept v =
+    if nat_le place.front (10 * end line last_kept) then close_if_empty line t (release line c t (is_cut_of v t last_kept) v) else v
+
+abbrev pub shortening_words : Line → ℕ → ℕ → Option Place → ℕ → LineState → List Word
+shortening_words line t c None last_kept v = []
+shortening_words line t c (Some place) last_kept v =
+    if nat_le place.front (10 * end line last_kept) then release_words line c (is_cut_of v t last_kept) v else []
+
+-- ## The own step of a message that is not silent, v having heard it
+
+abbrev pub track_of : LineState → ℕ → ℕ
+track_of v t = option_map_or (λ m. m.place.track) (v.mission t) 0
+
+abbrev pub last_kept_of : LineState → ℕ → ℕ
+last_kept_of v t = option_map_or (λ m. option_map_or (λ p. p.last_kept) m.proposal 0) (v.mission t) 0
+
+-- words alone
+pub record Tells (words : List Word) (changed : LineState) (said : Said) (new : LineState) : Type 0 where
+  pub said_is : said ≡ record { sayings = []; words = words }
+  pub new_is : new ≡ changed
+
+abbrev pub Reports : Line → ℕ → ℕ → Option Place → LineState → Said → LineState → Type 0
+Reports line t c None v said new = SaysNothing v said new
+Reports line t c (Some place) v said new = Tells (release_words line c (is_cleared_of line v t place) v) (reported line t c place v) said new
+
+abbrev pub Ending : Line → ℕ → ℕ → Option Place → LineState → Said → LineState → Type 0
+Ending line t c None v said new = SaysNothing (ended t v) said new
+Ending line t c (Some place) v said new = Tells (release_words line c (is_cleared_of line v t place) v) (ended t (reported line t c place v)) said new
+
+abbrev pub Own : Line → LineState → ℕ → TrainMessage → TrainBody → Said → LineState → Type 0
+Own line v c m InitiationOfSession said new =
+    Says m.nid_engine c unknown_group SystemVersion (told line (is_waiting_at line v m.nid_engine c) v) v (with_phase m.nid_engine c Opened (session_ends line m.nid_engine c v)) said new
+Own line v c m TerminationOfSession said new =
+    Says m.nid_engine c unknown_group TerminationAcknowledged (told line (is_waiting_at line v m.nid_engine c) v) v (with_phase m.nid_engine c Silent (session_ends line m.nid_engine c v)) said new
+Own line v c m SessionEstablished said new = SaysNothing (with_phase m.nid_engine c Up v) said new
+Own line v c m (StartOfMission is_valid position) said new = Starts line m.nid_engine c (fit_place line is_valid position) v said new
+Own line v c m (TrainData position) said new =
+    Says m.nid_engine c unknown_group (DataAcknowledged m.t_train) [] v (change_mission m.nid_engine (λ n. record n { has_data = true }) v) said new
+Own line v c m (Request position) said new = (place : Place) × (place_on line (track_of v m.nid_engine) position ≡ Some place) × Extends line v m.nid_engine c place said new
+Own line v c m (Report position) said new =
+    MatchBool (supervises v c m.nid_engine) (Reports line m.nid_engine c (place_on line (track_of v m.nid_engine) position) v said new) (SaysNothing v said new)
+Own line v c m (ShorteningGranted stamp position) said new =
+    Tells (shortening_words line m.nid_engine c (place_on line (track_of v m.nid_engine) position) (last_kept_of v m.nid_engine) v)
+    (shortened line m.nid_engine c (place_on line (track_of v m.nid_engine) position) (last_kept_of v m.nid_engine) (without_ask m.nid_engine v)) said new
+Own line v c m (ShorteningRejected stamp position) said new = SaysNothing (without_ask m.nid_engine v) said new
+Own line v c m (EndOfMission position) said new = Ending line m.nid_engine c (place_on line (track_of v m.nid_engine) position) v said new
+
+-- ## Set and unset
+
+abbrev pub is_unused_mark : Mark → Bool
+is_unused_mark Shut = true
+is_unused_mark Open = true
+is_unused_mark m = false
+
+abbrev pub set_mark : ℕ → Mark → LineState → LineState
+set_mark s mark v = record v { mark = put v.mark s mark; wish = put v.wish s false }
+
+abbrev pub wished_back : ℕ → Bool → LineState → LineState
+wished_back s wish v = record v { wish = put v.wish s wish }
+
+abbrev pub Sets : Line → LineState → ℕ → ℕ → Said → LineState → Type 0
+Sets line v c s said new =
+    MatchBool (is_home line c s)
+    (Tells (Done s ∷ []) (if is_unused_mark (v.mark s) then set_mark s Open v else wished_back s false v) said new)
+    (Tells (NotHome s ∷ []) v said new)
+
+abbrev pub Unsets : Line → LineState → ℕ → ℕ → Said → LineState → Type 0
+Unsets line v c s said new =
+    MatchBool (is_home line c s)
+    (MatchBool (is_unused_mark (v.mark s)) (Tells (Done s ∷ []) (set_mark s Shut v) said new) (Tells (Asked s ∷ []) (wished_back s true v) said new))
+    (Tells (NotHome s ∷ []) v said new)

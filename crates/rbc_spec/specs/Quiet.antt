@@ -1,0 +1,127 @@
+-- The quiet steps of the one line centre, which it may take of its own behind an event. Only an admitted start gives a
+-- section, and none frees a given one.
+use Rattle.std.specs.Prelude.{◌≡◌, ◌+◌, ◌-◌, ◌*◌, ◌≤◌, ◌<◌, ℕ, List, [], ◌∷◌, ◌++◌, max, true, false, ◌==◌, ◌&&◌, Some, None}
+use Rattle.std.specs.Option.{option_map_or}
+use Rattle.rbc_spec.specs.Maps.{put}
+use Rattle.rbc_spec.specs.Maps.{put_pair}
+use Rattle.rbc_spec.specs.Runs.{Run, within}
+use Rattle.rbc_spec.specs.Line.{Line, is_home, start, next_centre}
+use Rattle.rbc_spec.specs.Sections.{nid_rbc}
+use Rattle.rbc_spec.specs.Place.{Place, group_start}
+use Rattle.rbc_spec.specs.Message.{ShorteningRequest, Transition, EndSession, TrainAccepted, TrainRejected, unknown_group}
+use Rattle.rbc_spec.specs.Centre.{Up}
+use Rattle.rbc_spec.specs.LineCentre.{LineState, Open, Kept, Mission, At, Parted, is_given_to, IsHand, is_waiting_at, is_waiting, free, told, set_mission, change_mission, Said, nothing}
+use Rattle.rbc_spec.specs.OwnSteps.{Says, SaysNothing, Tells, begins}
+
+pub data Quiet : Type 0 where
+  Keep : (t s : ℕ) → Quiet  -- an open section is kept for t
+  Unkeep : (t s : ℕ) → Quiet  -- a section kept for t is freed
+  Admit : (t c : ℕ) → Quiet  -- a start of t that waits at c becomes a mission
+  Dismiss : (t c : ℕ) → Quiet  -- or is rejected
+  LayDown : (t c : ℕ) → Quiet  -- c hands its supervision of t over
+  TakeUp : (t c : ℕ) → Quiet  -- c takes it
+  Propose : (t c s : ℕ) → Quiet  -- c asks t to shorten its authority before s
+  Order : (t c : ℕ) → Quiet  -- c orders t's transition to the next centre
+  EndOrder : (t c : ℕ) → Quiet  -- c orders t to end its session
+
+-- a start waits, and the train has no mission
+pub record Admits (line : Line) (v : LineState) (t c : ℕ) (said : Said) (new : LineState) : Type 0 where
+  pub place : Place
+  pub waits : v.wait t c ≡ Some place
+  pub no_mission : v.mission t ≡ None
+  pub says : Says t c unknown_group TrainAccepted [] v (record (begins line t c place v) { wait = put_pair v.wait t c None }) said new
+
+-- a start that waits ends, and its sections are freed
+pub record Dismisses (line : Line) (v : LineState) (t c : ℕ) (said : Said) (new : LineState) : Type 0 where
+  pub place : Place
+  pub waits : v.wait t c ≡ Some place
+  pub says : Says t c unknown_group TrainRejected (told line (is_waiting_at line v t c) v) v
+      (record (free (is_waiting_at line v t c) v) { wait = put_pair v.wait t c None }) said new
+
+-- a supervisor, who has heard the train last at this stamp, parts with it
+pub record LaysDown (v : LineState) (t c : ℕ) (said : Said) (new : LineState) : Type 0 where
+  pub mission : Mission
+  pub stamp : ℕ
+  pub of_train : v.mission t ≡ Some mission
+  pub supervises : mission.supervisor ≡ At c
+  pub heard : v.heard t c ≡ Some stamp
+  pub leaves : SaysNothing (set_mission t (Some (record mission { supervisor = Parted stamp; proposal = None })) v) said new
+
+-- a mission that nobody supervises is taken up, with the later of both stamps
+pub record TakesUp (v : LineState) (t c : ℕ) (said : Said) (new : LineState) : Type 0 where
+  pub mission : Mission
+  pub stamp : ℕ
+  pub of_train : v.mission t ≡ Some mission
+  pub parted : mission.supervisor ≡ Parted stamp
+  pub leaves : SaysNothing
+      (record (set_mission t (Some (record mission { supervisor = At c })) v) { heard = put_pair v.heard t c (Some (option_map_or (max stamp) (v.heard t c) stamp)) }) said new
+
+-- message 9 for a section of the hand (3.8.6), where a request to shorten may be made. The section need not be wished back
+pub record Proposes (line : Line) (v : LineState) (t c s : ℕ) (said : Said) (new : LineState) : Type 0 where
+  pub mission : Mission
+  pub hand : Run
+  pub of_train : v.mission t ≡ Some mission
+  pub supervises : mission.supervisor ≡ At c
+  pub is_up : v.phase t c ≡ Up
+  pub goes_on : mission.is_ended ≡ false
+  pub none_stands : mission.proposal ≡ None
+  pub is_hand : IsHand v t hand
+  pub in_hand : within hand s ≡ true
+  pub not_first : hand.first < s
+  pub not_past : mission.place.front ≤ 10 * start line s
+  pub within_reach : start line s ≤ group_start line mission.place + 32767
+  pub says : Says t c mission.place.group (ShorteningRequest (start line s - group_start line mission.place)) [] v
+      (change_mission t (λ m. record m { proposal = Some (record { stamp = v.said t c + 1; last_kept = s - 1 }) }) v) said new
+
+-- message 24 with packet 131 (3.15.1): the next centre of the track, and where its first section in the hand begins
+pub record Orders (line : Line) (v : LineState) (t c : ℕ) (said : Said) (new : LineState) : Type 0 where
+  pub mission : Mission
+  pub next : ℕ
+  pub border : ℕ
+  pub of_train : v.mission t ≡ Some mission
+  pub supervises : mission.supervisor ≡ At c
+  pub is_up : v.phase t c ≡ Up
+  pub next_is : next_centre line c mission.place.track ≡ Some next
+  pub at_border : is_given_to t (v.mark border) && is_home line next border ≡ true
+  pub first_there : (s : ℕ) → s < border → (is_given_to t (v.mark s) && is_home line next s) ≡ false
+  pub says : Says t c mission.place.group (Transition (start line border - group_start line mission.place) line.nid_c (nid_rbc line next)) [] v v said new
+
+-- message 24 with packet 42: the train is not supervised here and has no section of home c
+pub record EndsSession (line : Line) (v : LineState) (t c : ℕ) (said : Said) (new : LineState) : Type 0 where
+  pub not_here : (m : Mission) → v.mission t ≡ Some m → m.supervisor ≡ At c → ⊥
+  pub is_up : v.phase t c ≡ Up
+  pub none_given : (s : ℕ) → (is_home line c s && is_given_to t (v.mark s)) ≡ false
+  pub says : Says t c unknown_group (EndSession line.nid_c (nid_rbc line c)) [] v v said new
+
+-- a section is open
+pub record Keeps (v : LineState) (t s : ℕ) (said : Said) (new : LineState) : Type 0 where
+  pub is_open : v.mark s ≡ Open
+  pub leaves : SaysNothing (record v { mark = put v.mark s (Kept t) }) said new
+
+-- a section is kept, and no start of the train waits for it
+pub record Unkeeps (line : Line) (v : LineState) (t s : ℕ) (said : Said) (new : LineState) : Type 0 where
+  pub is_kept : v.mark s ≡ Kept t
+  pub not_waiting : is_waiting line v t s ≡ false
+  pub tells : Tells (told line (λ e. e == s) v) (free (λ e. e == s) v) said new
+
+-- from v the line centre may take this quiet step, say this, and go on from new
+abbrev pub TakesQuiet : Line → LineState → Quiet → Said → LineState → Type 0
+TakesQuiet line v (Keep t s) said new = Keeps v t s said new
+TakesQuiet line v (Unkeep t s) said new = Unkeeps line v t s said new
+TakesQuiet line v (Admit t c) said new = Admits line v t c said new
+TakesQuiet line v (Dismiss t c) said new = Dismisses line v t c said new
+TakesQuiet line v (LayDown t c) said new = LaysDown v t c said new
+TakesQuiet line v (TakeUp t c) said new = TakesUp v t c said new
+TakesQuiet line v (Propose t c s) said new = Proposes line v t c s said new
+TakesQuiet line v (Order t c) said new = Orders line v t c said new
+TakesQuiet line v (EndOrder t c) said new = EndsSession line v t c said new
+
+-- what is said by one step and then by others
+abbrev pub both : Said → Said → Said
+both a b = record { sayings = a.sayings ++ b.sayings; words = a.words ++ b.words }
+
+-- quiet steps one after another
+abbrev pub TakesAll : Line → LineState → List Quiet → Said → LineState → Type 0
+TakesAll line v [] said new = (said ≡ nothing) × (new ≡ v)
+TakesAll line v (q ∷ qs) said new =
+    (first : Said) × (others : Said) × (mid : LineState) × TakesQuiet line v q first mid × TakesAll line mid qs others new × (said ≡ both first others)

@@ -1,0 +1,218 @@
+-- What a centre does with each event, act by act.
+use Rattle.std.specs.Prelude.{ℕ, ◌+◌, ◌-◌, ◌*◌, ◌==◌, Bool, true, false, ◌&&◌, ◌||◌, not, if◌then◌else◌, [], ◌∷◌, Option, Some, None, is_none, nat_lt, nat_le, option_map}
+use Rattle.std.specs.Option.{option_map_or}
+use Rattle.std.specs.List.{list_all, range_with_len}
+use Rattle.rbc_spec.specs.Maps.{put}
+use Rattle.rbc_spec.specs.Runs.{Run, no_run, within, behind, is_empty, part_before, part_from, joined, longest, passing}
+use Rattle.rbc_spec.specs.Line.{Line, is_centre, is_home, end, next_centre, registrar}
+use Rattle.rbc_spec.specs.Sections.{is_on}
+use Rattle.rbc_spec.specs.Place.{Place, Position, extent, is_fit, covered, is_cleared, group_start}
+use Rattle.rbc_spec.specs.Message.{TrainMessage, TrainBody, TrainData, Request, Report, ShorteningGranted, ShorteningRejected, EndOfMission, InitiationOfSession, TerminationOfSession, StartOfMission, SessionEstablished, Authority, DataAcknowledged, SystemVersion, TerminationAcknowledged, TrainRejected, TrainAccepted, unknown_group}
+use Rattle.rbc_spec.specs.Frame.{AskRight, TakingOver}
+use Rattle.rbc_spec.specs.Outcome.{Word}
+use Rattle.rbc_spec.specs.Centre.{Centre, Taken, Phase, Silent, Opened, Up, Mission, Proposal, Expectation, is_open, is_taken_for, is_free, is_registrar_of}
+use Rattle.rbc_spec.specs.Acts.{Act, become, rest, ◌>>◌, where_so, with_some, send, say, booked, freed, leave, set_mission, change_mission, return_pool, cancel, close, begun, part_at, announce, ask_route, yield_if_due}
+
+-- a word to the interlocking
+abbrev pub tell : Word → Act
+tell word k = record { state = k; frames = λ d. []; sayings = []; words = word ∷ [] }
+
+-- one act or another
+abbrev pub choose : (Centre → Bool) → Act → Act → Act
+choose test yes_act no_act k = if test k then yes_act k else no_act k
+
+-- the place of a report, where it is on the track
+abbrev pub place_on : Line → ℕ → Position → Option Place
+place_on line track position =
+    option_map_or (λ place. if place.track == track then Some place else None) (extent line position) None
+
+-- ## Sessions (3.5.3, 3.5.5)
+
+-- a start of mission that waits is dropped, and its sections are given back
+abbrev pub drop_wait : Line → ℕ → ℕ → Act
+drop_wait line c t = with_some (λ k. k.wait t) (λ place.
+    freed line c (is_taken_for t) (covered line place) >> become (λ k. record k { wait = put k.wait t None }))
+
+abbrev pub set_phase : ℕ → Phase → Act
+set_phase t phase = become (λ k. record k { phase = put k.phase t phase })
+
+-- a session that stands is closed: with it go a standing request to shorten and a start of mission that waits
+abbrev pub close_session : Line → ℕ → ℕ → Act
+close_session line c t =
+    (set_phase t Silent >> change_mission t (λ m. record m { proposal = None })) >> drop_wait line c t
+
+-- ## Start of mission (5.4)
+
+abbrev pub accept : ℕ → Act
+accept t = say t unknown_group TrainAccepted
+
+abbrev pub reject : ℕ → Act
+reject t = say t unknown_group TrainRejected
+
+-- the place of a start that is fit
+abbrev pub fit_place : Line → Bool → Position → Option Place
+fit_place line is_valid position =
+    option_map_or (λ place. if is_valid && is_fit line place then Some place else None) (extent line position) None
+
+-- all sections of the run pass the test
+abbrev pub all_of : (ℕ → Bool) → Run → Bool
+all_of test r = list_all test (range_with_len r.first r.count)
+
+-- a start within the train's hand: the mission goes on from the new place, and its train data have to come again
+abbrev pub restart : Line → ℕ → Place → Mission → Act
+restart line t place m =
+    if all_of (within m.hand) (covered line place)
+    then (change_mission t (λ n. record n { place = place; has_data = false; is_ended = false; proposal = None }) >> accept t)
+    else reject t
+
+-- the mission begins with the sections of the place, which are in use for the train
+abbrev pub begin : Line → ℕ → Place → Act
+begin line t place = set_mission t (Some (begun line place)) >> accept t
+
+-- a start at the registrar: the right is taken into the mission
+abbrev pub start_here : Line → ℕ → Place → Act
+start_here line t place =
+    choose (λ k. k.has_right t)
+    ((booked is_open (Taken t) (covered line place) >> become (λ k. record k { has_right = put k.has_right t false })) >> begin line t place)
+    (reject t)
+
+-- a start elsewhere waits for the right, for which the registrar is asked
+abbrev pub start_waiting : Line → ℕ → Place → Act
+start_waiting line t place =
+    (booked is_open (Taken t) (covered line place) >> become (λ k. record k { wait = put k.wait t (Some place) }))
+    >> where_so (λ k. not (k.has_asked t))
+    (option_map_or (λ r. send r (AskRight t)) (registrar line t) rest >> become (λ k. record k { has_asked = put k.has_asked t true }))
+
+abbrev pub start_new : Line → ℕ → ℕ → Place → Act
+start_new line c t place =
+    choose (λ k. all_of (is_free line c k) (covered line place))
+    (if is_registrar_of line c t then start_here line t place else start_waiting line t place)
+    (reject t)
+
+abbrev pub start_mission : Line → ℕ → ℕ → Bool → Position → Act
+start_mission line c t is_valid position k =
+    option_map_or
+    (λ place. option_map_or (λ m. restart line t place m k) (k.mission t) (start_new line c t place k))
+    (fit_place line is_valid position)
+    (reject t k)
+
+-- ## Request (3.8)
+
+-- L_ENDSECTION of an authority for the hand, counted from the group of the mission's place
+abbrev pub authority : Line → Mission → ℕ
+authority line m = end line (behind m.hand - 1) - group_start line m.place
+
+-- the section may follow in the hand: on the track, released here or next in the pool, and its end has room in L_ENDSECTION
+abbrev pub may_follow : Line → ℕ → Centre → Mission → ℕ → Bool
+may_follow line c k m s =
+    (is_on line m.place.track s && (is_free line c k s || within m.pool s)) && nat_le (end line s) (group_start line m.place + 32767)
+
+-- the sections by which the hand is extended: as many as may follow, up to 32 in the hand
+abbrev pub extension : Line → ℕ → Centre → Mission → Run
+extension line c k m = record { first = behind m.hand; count = longest (may_follow line c k m) (behind m.hand) (32 - m.hand.count) }
+
+-- the mission with a longer hand, and what is left of its pool
+abbrev pub extended_by : Run → Mission → Mission
+extended_by r m = record m { hand = joined m.hand r; pool = part_from (behind r) m.pool }
+
+-- what follows an extension at the border: the announcement of a handover, and a question for more sections
+abbrev pub at_border : Line → ℕ → ℕ → ℕ → Act
+at_border line c t d =
+    with_some (λ k. k.mission t) (λ m. where_so (λ k. is_none m.handing && not (is_empty (part_at line d m.place.track m.hand))) (announce line t m.place.group d m))
+    >> with_some (λ k. k.mission t) (λ m. where_so
+    (λ k. ((is_home line d (behind m.hand) && is_on line m.place.track (behind m.hand)) && nat_lt m.hand.count 32) && (is_empty m.pool && is_none (k.route_ask t)))
+    (ask_route t d m))
+
+abbrev pub grant : Line → ℕ → ℕ → Mission → Act
+grant line c t m k =
+    let r = extension line c k m in
+    let n = extended_by r m in
+    (((booked is_open (Taken t) r >> set_mission t (Some n)) >> say t m.place.group (Authority (authority line n)))
+    >> option_map_or (at_border line c t) (next_centre line c m.place.track) rest) k
+
+abbrev pub request : Line → ℕ → ℕ → Position → Act
+request line c t position = with_some (λ k. k.mission t) (λ m.
+    option_map_or (λ place. grant line c t (record m { place = place })) (place_on line m.place.track position) rest)
+
+-- ## Report (3.6.5)
+
+-- the first sections of the hand that the train has cleared
+abbrev pub cleared : Line → Place → Mission → Run
+cleared line place m = record { first = m.hand.first; count = passing (is_cleared line place) m.hand }
+
+-- the place is set and what was cleared leaves the hand; a hand that became empty closes the mission
+abbrev pub clear : Line → ℕ → ℕ → Mission → Place → Act
+clear line c t m place =
+    let r = cleared line place m in
+    if r.count == m.hand.count
+    then (leave line c t m.place.track (joined m.hand m.pool) >> close line c t m)
+    else (leave line c t m.place.track r >> set_mission t (Some (record m { place = place; hand = part_from (behind r) m.hand })))
+
+abbrev pub report_here : Line → ℕ → ℕ → Position → Mission → Act
+report_here line c t position m = option_map_or (clear line c t m) (place_on line m.place.track position) rest
+
+abbrev pub taking : Expectation → Expectation
+taking e = record e { is_taking = true }
+
+-- each centre that announced the train and has not heard of it is told that this centre takes over
+abbrev pub take_over : Line → ℕ → Act
+take_over line t k =
+    let is_new : ℕ → Bool = λ d. is_centre line d && option_map_or (λ e. not e.is_taking) (k.expects d t) false in
+    record {
+      state = record k { expects = λ d. if is_new d then put (k.expects d) t (option_map taking (k.expects d t)) else k.expects d };
+      frames = λ d. option_map_or (λ e. if is_new d then TakingOver e.number t ∷ [] else []) (k.expects d t) [];
+      sayings = [];
+      words = [];
+    }
+
+abbrev pub report : Line → ℕ → ℕ → Position → Act
+report line c t position k =
+    option_map_or (λ m. (report_here line c t position m >> yield_if_due line c t) k) (k.mission t) (take_over line t k)
+
+-- ## End of mission (5.5)
+
+abbrev pub end_mission : Line → ℕ → ℕ → Position → Act
+end_mission line c t position =
+    (with_some (λ k. k.mission t) (report_here line c t position)
+    >> with_some (λ k. k.mission t) (λ m. return_pool line c t m >> change_mission t (λ n. record n { is_ended = true; proposal = None })))
+    >> yield_if_due line c t
+
+-- ## Shortening (3.8.6)
+
+-- the hand is cut behind the last section kept, with what the pool has; an emptied hand closes the mission
+abbrev pub cut : Line → ℕ → ℕ → ℕ → Mission → Act
+cut line c t last_kept m =
+    let tail = part_from (last_kept + 1) m.hand in
+    let kept = record m { hand = part_before (last_kept + 1) m.hand; pool = no_run; proposal = None } in
+    leave line c t m.place.track (joined tail m.pool)
+    >> (if tail.count == m.hand.count then close line c t m
+    else (set_mission t (Some kept)
+    >> option_map_or (λ h. if is_empty (part_at line h.to m.place.track kept.hand) then cancel t kept else rest) m.handing rest))
+
+-- the train has granted the shortening: the hand is cut, if the train has not run past the proposed end
+abbrev pub granted : Line → ℕ → ℕ → Position → Mission → Proposal → Act
+granted line c t position m p =
+    change_mission t (λ n. record n { proposal = None })
+    >> option_map_or
+    (λ place. if nat_le place.front (10 * end line p.last_kept) then cut line c t p.last_kept m else rest)
+    (place_on line m.place.track position) rest
+    >> yield_if_due line c t
+
+abbrev pub answer_granted : Line → ℕ → ℕ → Position → Act
+answer_granted line c t position = with_some (λ k. k.mission t) (λ m. with_some (λ k. m.proposal) (granted line c t position m))
+
+-- ## A train's message
+
+abbrev pub answered : Line → ℕ → TrainMessage → TrainBody → Act
+answered line c m (TrainData position) =
+    change_mission m.nid_engine (λ n. record n { has_data = true }) >> say m.nid_engine unknown_group (DataAcknowledged m.t_train)
+answered line c m (Request position) = request line c m.nid_engine position
+answered line c m (Report position) = report line c m.nid_engine position
+answered line c m (ShorteningGranted stamp position) = answer_granted line c m.nid_engine position
+answered line c m (ShorteningRejected stamp position) = change_mission m.nid_engine (λ n. record n { proposal = None })
+answered line c m (EndOfMission position) = end_mission line c m.nid_engine position
+answered line c m InitiationOfSession =
+    (close_session line c m.nid_engine >> set_phase m.nid_engine Opened) >> say m.nid_engine unknown_group SystemVersion
+answered line c m TerminationOfSession = close_session line c m.nid_engine >> say m.nid_engine unknown_group TerminationAcknowledged
+answered line c m (StartOfMission is_valid position) = start_mission line c m.nid_engine is_valid position
+answered line c m SessionEstablished = set_phase m.nid_engine Up

@@ -1,0 +1,49 @@
+-- Runs of sections: a hand, a pool, and each frame that names sections, is a first section and how many follow it.
+use Rattle.std.specs.Prelude.{ℕ, zero, suc, ◌+◌, ◌-◌, ◌==◌, Bool, ◌&&◌, List, [], ◌∷◌, length, if◌then◌else◌, min, max, nat_lt, nat_le}
+
+pub record Run : Type 0 where
+  pub first : ℕ
+  pub count : ℕ
+
+abbrev pub no_run : Run
+no_run = record { first = 0; count = 0 }
+
+-- consecutive numbers as a run
+abbrev pub run_of : List ℕ → Run
+run_of [] = no_run
+run_of (s ∷ ss) = record { first = s; count = length ss + 1 }
+
+-- the section is one of the run
+unfoldable pub within : Run → ℕ → Bool
+within r s = nat_le r.first s && nat_lt s (r.first + r.count)
+
+-- the first number behind the run
+abbrev pub behind : Run → ℕ
+behind r = r.first + r.count
+
+abbrev pub is_empty : Run → Bool
+is_empty r = r.count == 0
+
+-- the part of the run before a number, and the part from it on
+abbrev pub part_before : ℕ → Run → Run
+part_before s r = record { first = r.first; count = min r.count (s - r.first) }
+
+abbrev pub part_from : ℕ → Run → Run
+part_from s r = record { first = max r.first s; count = behind r - max r.first s }
+
+-- what two runs share
+abbrev pub shared : Run → Run → Run
+shared a b = part_from b.first (part_before (behind b) a)
+
+-- a run and one that follows it at once, as one; an empty one adds nothing
+abbrev pub joined : Run → Run → Run
+joined a b = if is_empty a then b else record { first = a.first; count = a.count + b.count }
+
+-- how many sections pass the test, one after another from a first, at most so many
+unfoldable pub longest : (ℕ → Bool) → ℕ → ℕ → ℕ
+longest test first zero = 0
+longest test first (suc most) = if test first then suc (longest test (first + 1) most) else 0
+
+-- how many of the first sections of the run pass the test, one after another
+abbrev pub passing : (ℕ → Bool) → Run → ℕ
+passing test r = longest test r.first r.count

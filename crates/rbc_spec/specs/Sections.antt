@@ -1,0 +1,34 @@
+-- Sections of the line by their numbers, and as runs.
+use Rattle.std.specs.Prelude.{ℕ, ◌==◌, Bool, false, ◌&&◌, length, slice_get}
+use Rattle.std.specs.List.{list_all, filter, sum_by, range_with_len}
+use Rattle.std.specs.Option.{option_map_or}
+use Rattle.rbc_spec.specs.Line.{Line, section, is_home}
+use Rattle.rbc_spec.specs.Runs.{Run, run_of}
+
+-- NID_RBC of a centre of the line
+abbrev pub nid_rbc : Line → ℕ → ℕ
+nid_rbc line c = option_map_or (λ p. p.nid_rbc) (slice_get line.centres c) 0
+
+-- how many sections the line has
+abbrev pub section_count : Line → ℕ
+section_count line = length line.sections
+
+-- the section is of the line, and of this track
+abbrev pub is_on : Line → ℕ → ℕ → Bool
+is_on line track s = option_map_or (λ p. p.track == track) (section line s) false
+
+-- the sections of the line that pass a test, as a run: the first, and how many they are
+abbrev pub run_where : Line → (ℕ → Bool) → Run
+run_where line test = run_of (filter test (range_with_len 0 (section_count line)))
+
+-- the sections of one home on one track, which are consecutive
+abbrev pub home_run : Line → ℕ → ℕ → Run
+home_run line c track = run_where line (λ s. is_home line c s && is_on line track s)
+
+-- all sections of the run are of one track
+abbrev pub is_on_track : Line → ℕ → Run → Bool
+is_on_track line track r = list_all (λ s. is_on line track s) (range_with_len r.first r.count)
+
+-- the end of a track: where its last section ends, in metres
+abbrev pub track_end : Line → ℕ → ℕ
+track_end line track = sum_by (λ p. p.metres) (filter (λ p. p.track == track) line.sections)

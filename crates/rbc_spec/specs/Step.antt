@@ -1,0 +1,215 @@
+-- The step of a centre: an event, its stamp and its refusal, the answer of a link, and the frames with their numbers.
+use Rattle.std.specs.Prelude.{ℕ, ◌+◌, ◌-◌, ◌*◌, ◌==◌, Bool, true, false, ◌&&◌, ◌||◌, not, if◌then◌else◌, List, [], ◌∷◌, ◌++◌, length, max, Option, Some, None, is_some, is_none, nat_lt, nat_le, Result, Ok, Err}
+use Rattle.std.specs.Option.{option_map_or}
+use Rattle.std.specs.List.{find, list_any, range_with_len}
+use Rattle.rbc_spec.specs.Maps.{put}
+use Rattle.rbc_spec.specs.Runs.{behind}
+use Rattle.rbc_spec.specs.Line.{Line, is_home, is_linked, end, train_number}
+use Rattle.rbc_spec.specs.Sections.{section_count}
+use Rattle.rbc_spec.specs.Place.{Position, extent, has_front, group_start}
+use Rattle.rbc_spec.specs.Message.{TrainMessage, TrainBody, TrainData, Request, Report, ShorteningGranted, ShorteningRejected, EndOfMission, InitiationOfSession, TerminationOfSession, StartOfMission, SessionEstablished}
+use Rattle.rbc_spec.specs.Frame.{Frame, Body, RouteWithdraw}
+use Rattle.rbc_spec.specs.Outcome.{Reason, StaleStamp, NoSession, ForeignEngine, NoPlace, NotSupervised, NoTrainData, ProposalPending, Unasked, MissionEnded, WrongPhase, Outcome, Done, Asked, NotHome, Taken as LinkAnswer, Next, Old, Early, NoLink}
+use Rattle.rbc_spec.specs.Centre.{Centre, Entry, Shut, Open, Taken, Out, Phase, Silent, Opened, Up, Mission, is_up, is_unused, is_expected}
+use Rattle.rbc_spec.specs.Acts.{Act, Reply, become, rest, ◌>>◌, send, hear, propose_if_so}
+use Rattle.rbc_spec.specs.Rules.{tell, answered, place_on}
+use Rattle.rbc_spec.specs.Links.{received}
+
+-- what a step takes: a train's message, a set or an unset of the interlocking, or a frame of another centre
+pub data Event : Type 0 where
+  Train : (m : TrainMessage) → Event
+  Set : (s : ℕ) → Event
+  Unset : (s : ℕ) → Event
+  Deliver : (from : ℕ) (frame : Frame) → Event
+
+-- ## Silence
+
+-- T_TRAIN is not above the last that was heard: the message came late or again (3.16.3)
+abbrev pub is_stale : ℕ → Option ℕ → Bool
+is_stale stamp heard = option_map_or (λ last. nat_le stamp last) heard false
+
+abbrev pub is_silent : Phase → Bool
+is_silent Silent = true
+is_silent Opened = false
+is_silent Up = false
+
+abbrev pub mission_has : (Mission → Bool) → Option Mission → Bool
+mission_has test mission = option_map_or test mission false
+
+-- a report elsewhere concerns this centre: the train is expected, and its front is in a section of home c
+abbrev pub is_awaited : Line → ℕ → Centre → ℕ → Position → Bool
+is_awaited line c k t position = is_expected line k t
+    && option_map_or (λ place. list_any (λ s. is_home line c s && has_front line place s) (range_with_len 0 (section_count line))) (extent line position) false
+
+-- a request has a place on the mission's track, not past the hand's end, which has room in L_ENDSECTION
+abbrev pub may_request : Line → Mission → Position → Bool
+may_request line m position = option_map_or
+    (λ place. nat_le place.front (10 * end line (behind m.hand - 1)) && nat_le (end line (behind m.hand - 1)) (group_start line place + 32767))
+    (place_on line m.place.track position) false
+
+-- the train is not supervised here, and its message does not concern this centre otherwise
+abbrev pub is_unsupervised : Line → ℕ → Centre → ℕ → TrainBody → Bool
+is_unsupervised line c k t (Report position) = is_none (k.mission t) && not (is_awaited line c k t position)
+is_unsupervised line c k t body = is_none (k.mission t)
+
+-- a request, or a report to its supervisor, that has no place to be taken at
+abbrev pub has_no_place : Line → Option Mission → TrainBody → Bool
+has_no_place line mission (Request position) = mission_has (λ m. not (may_request line m position)) mission
+has_no_place line mission (Report position) = mission_has (λ m. is_none (place_on line m.place.track position)) mission
+has_no_place line mission body = false
+
+-- the session is not in the phase for the message: up already, or not up, or a start waits
+abbrev pub is_out_of_phase : Centre → ℕ → TrainBody → Bool
+is_out_of_phase k t SessionEstablished = is_up (k.phase t)
+is_out_of_phase k t (StartOfMission is_valid position) = not (is_up (k.phase t)) || is_some (k.wait t)
+is_out_of_phase k t body = not (is_up (k.phase t))
+
+-- the request that is answered does not stand
+abbrev pub is_unasked : Option Mission → TrainBody → Bool
+is_unasked mission (ShorteningGranted stamp position) = not (mission_has (λ m. option_map_or (λ p. p.stamp == stamp) m.proposal false) mission)
+is_unasked mission (ShorteningRejected stamp position) = not (mission_has (λ m. option_map_or (λ p. p.stamp == stamp) m.proposal false) mission)
+is_unasked mission body = false
+
+-- the reason holds of the message
+abbrev pub holds : Line → ℕ → Centre → TrainMessage → Reason → Bool
+holds line c k m StaleStamp = is_stale m.t_train (k.heard m.nid_engine)
+holds line c k m NoSession = is_silent (k.phase m.nid_engine)
+holds line c k m ForeignEngine = is_none (train_number line m.nid_engine)
+holds line c k m NoPlace = has_no_place line (k.mission m.nid_engine) m.body
+holds line c k m NotSupervised = is_unsupervised line c k m.nid_engine m.body
+holds line c k m NoTrainData = mission_has (λ n. not n.has_data) (k.mission m.nid_engine)
+holds line c k m ProposalPending = mission_has (λ n. is_some n.proposal) (k.mission m.nid_engine)
+holds line c k m Unasked = is_unasked (k.mission m.nid_engine) m.body
+holds line c k m MissionEnded = mission_has (λ n. n.is_ended) (k.mission m.nid_engine)
+holds line c k m WrongPhase = is_out_of_phase k m.nid_engine m.body
+
+-- the reasons for which a message may be left without an answer, in the order in which they are looked for
+abbrev pub reasons_of : TrainBody → List Reason
+reasons_of InitiationOfSession = ForeignEngine ∷ StaleStamp ∷ []
+reasons_of SessionEstablished = ForeignEngine ∷ StaleStamp ∷ NoSession ∷ WrongPhase ∷ []
+reasons_of TerminationOfSession = ForeignEngine ∷ StaleStamp ∷ NoSession ∷ []
+reasons_of (StartOfMission is_valid position) = ForeignEngine ∷ StaleStamp ∷ NoSession ∷ WrongPhase ∷ []
+reasons_of (TrainData position) = ForeignEngine ∷ StaleStamp ∷ NoSession ∷ WrongPhase ∷ NotSupervised ∷ MissionEnded ∷ []
+reasons_of (Request position) =
+    ForeignEngine ∷ StaleStamp ∷ NoSession ∷ WrongPhase ∷ NotSupervised ∷ MissionEnded ∷ NoTrainData ∷ ProposalPending ∷ NoPlace ∷ []
+reasons_of (Report position) = ForeignEngine ∷ StaleStamp ∷ NoSession ∷ WrongPhase ∷ NotSupervised ∷ NoPlace ∷ []
+reasons_of (ShorteningGranted stamp position) = ForeignEngine ∷ StaleStamp ∷ NoSession ∷ WrongPhase ∷ NotSupervised ∷ Unasked ∷ []
+reasons_of (ShorteningRejected stamp position) = ForeignEngine ∷ StaleStamp ∷ NoSession ∷ WrongPhase ∷ NotSupervised ∷ Unasked ∷ []
+reasons_of (EndOfMission position) = ForeignEngine ∷ StaleStamp ∷ NoSession ∷ WrongPhase ∷ NotSupervised ∷ MissionEnded ∷ []
+
+abbrev pub silence : Line → ℕ → Centre → TrainMessage → Option Reason
+silence line c k m = find (holds line c k m) (reasons_of m.body)
+
+-- ## The interlocking
+
+-- a section that is in use is wished back: its hand is proposed to be cut, or it is withdrawn from where it is out
+abbrev pub wished : Line → ℕ → Entry → Act
+wished line s (Taken t) = propose_if_so line t s
+wished line s (Out t d) = send d (RouteWithdraw t s)
+wished line s e = rest
+
+abbrev pub make : ℕ → Entry → Bool → Act
+make s entry wish = become (λ k. record k { book = put k.book s entry; wish = put k.wish s wish })
+
+abbrev pub set : Line → ℕ → ℕ → Act
+set line c s k =
+    if not (is_home line c s) then tell (NotHome s) k
+    else (become (λ j. record j { wish = put j.wish s false }) >> ((if is_unused (k.book s) then make s Open false else rest) >> tell (Done s))) k
+
+abbrev pub unset : Line → ℕ → ℕ → Act
+unset line c s k =
+    if not (is_home line c s) then tell (NotHome s) k
+    else (if is_unused (k.book s) then (make s Shut false >> tell (Done s))
+    else ((become (λ j. record j { wish = put j.wish s true }) >> tell (Asked s)) >> wished line s (k.book s))) k
+
+-- ## Links
+
+-- what the link says to frame number n after so many
+abbrev pub offered : ℕ → ℕ → LinkAnswer
+offered count n = if n == count + 1 then Next else (if nat_le n count then Old else Early)
+
+abbrev pub link_answer : Line → ℕ → Centre → ℕ → Frame → LinkAnswer
+link_answer line c k d f = if is_linked line c d then offered (k.taken d) f.number else NoLink
+
+-- only the next frame is taken
+abbrev pub taken_by : Line → ℕ → ℕ → Frame → LinkAnswer → Act
+taken_by line c d f Next = become (λ k. record k { taken = put k.taken d f.number }) >> received line c d f.body
+taken_by line c d f answer = rest
+
+-- ## The step
+
+-- a message that is not silent is heard and answered
+abbrev pub hear_and_answer : Line → ℕ → TrainMessage → Act
+hear_and_answer line c m = hear m >> answered line c m m.body
+
+-- what an event does, with the link's answer and the reason of silence
+pub record Effect : Type 0 where
+  pub reply : Reply
+  pub link : Option LinkAnswer
+  pub silence : Option Reason
+
+abbrev pub effect : Line → ℕ → Centre → Event → Effect
+effect line c k (Train m) = option_map_or
+    (λ why. record { reply = rest k; link = None; silence = Some why })
+    (silence line c k m)
+    (record { reply = hear_and_answer line c m k; link = None; silence = None })
+effect line c k (Set s) = record { reply = set line c s k; link = None; silence = None }
+effect line c k (Unset s) = record { reply = unset line c s k; link = None; silence = None }
+effect line c k (Deliver d f) =
+    let answer = link_answer line c k d f in record { reply = taken_by line c d f answer k; link = Some answer; silence = None }
+
+-- the stamp of a step is one above the last, and above that of the frame that it is handed
+abbrev pub stamp_of : Centre → Event → ℕ
+stamp_of k (Deliver d f) = max k.clock f.stamp + 1
+stamp_of k event = k.clock + 1
+
+abbrev pub last_stamp : ℕ
+last_stamp = 1073741823
+
+-- a link has fewer than four of its 65 536 numbers left
+abbrev pub has_full_link : Line → ℕ → Centre → Bool
+has_full_link line c k = list_any (λ d. is_linked line c d && nat_lt 65532 (length (k.sent d))) (range_with_len 0 (length line.centres))
+
+-- why a step is refused: its stamp would pass the last one, or a link is full
+pub data Refusal : Type 0 where
+  ClockEnd : Refusal
+  LinkFull : Refusal
+
+abbrev pub refusal : Line → ℕ → Centre → Event → Option Refusal
+refusal line c k event =
+    if nat_lt last_stamp (stamp_of k event) then Some ClockEnd else (if has_full_link line c k then Some LinkFull else None)
+
+-- bodies as frames: numbered behind those sent before, with the step's stamp
+abbrev pub numbered : ℕ → ℕ → List Body → List Frame
+numbered stamp count [] = []
+numbered stamp count (body ∷ bodies) = record { number = count + 1; stamp = stamp; body = body } ∷ numbered stamp (count + 1) bodies
+
+abbrev pub frames_of : ℕ → Centre → Reply → ℕ → List Frame
+frames_of stamp k reply d = numbered stamp (length (k.sent d)) (reply.frames d)
+
+abbrev pub outcome_of : ℕ → Centre → Effect → Outcome
+outcome_of stamp k e = record {
+  stamp = stamp;
+  sayings = e.reply.sayings;
+  frames = frames_of stamp k e.reply;
+  words = e.reply.words;
+  link = e.link;
+  silence = e.silence;
+}
+
+abbrev pub state_after : ℕ → Centre → Effect → Centre
+state_after stamp k e = record (e.reply.state) { sent = λ d. k.sent d ++ frames_of stamp k e.reply d }
+
+-- the clock of a step shows its stamp
+abbrev pub ticked : ℕ → Centre → Centre
+ticked stamp k = record k { clock = stamp }
+
+-- what an event comes to at a centre that does not refuse it
+abbrev pub taken : Line → ℕ → Event → Centre → Outcome × Centre
+taken line c event k =
+    let stamp = stamp_of k event in
+    let e = effect line c (ticked stamp k) event in
+    (outcome_of stamp k e, state_after stamp k e)
+
+unfoldable pub step : Line → ℕ → Event → Centre → Result (Outcome × Centre) Refusal
+step line c event k = option_map_or (λ why. Err why) (refusal line c k event) (Ok (taken line c event k))

@@ -1,0 +1,87 @@
+-- What is claimed of the centres of a line: the main theorem, and that of a line which one centre has alone.
+use Rattle.std.specs.Prelude.{◌≡◌, ℕ, List, [], ◌∷◌, true, Option, Some, None, Ok}
+use Rattle.std.specs.List.{All}
+use Rattle.rbc_spec.specs.Line.{Line, IsLine}
+use Rattle.rbc_spec.specs.Place.{Place}
+use Rattle.rbc_spec.specs.Message.{TrainMessage, TrainBody, StartOfMission}
+use Rattle.rbc_spec.specs.Outcome.{Outcome, Reason}
+use Rattle.rbc_spec.specs.Centre.{is_registrar_of}
+use Rattle.rbc_spec.specs.Rules.{fit_place}
+use Rattle.rbc_spec.specs.LineCentre.{LineState, hears, line_beginning, Said}
+use Rattle.rbc_spec.specs.OwnSteps.{Accepts, may_start, begins}
+use Rattle.rbc_spec.specs.Quiet.{Quiet, Propose, Proposes}
+use Rattle.rbc_spec.specs.World.{World, Event, Bytes, Unset, Answer, Answered, new_world, world_run}
+use Rattle.rbc_spec.specs.Run.{Piece, Goes, silence}
+use Rattle.rbc_spec.specs.ReadOff.{StandsFor, IsLineRun}
+
+-- ## The whole line
+
+-- Whatever happens to the centres of a line: what they answer and hold is a run of the one line centre
+abbrev pub WholeLineTheorem : Type 0
+WholeLineTheorem = (line : Line) (events : List Event) (answers : List Answer) (w : World)
+    → IsLine line → world_run line (new_world line) events ≡ Ok (answers, w) → IsLineRun line events answers w
+
+-- ## A line that one centre has alone
+
+-- c is the home of all sections, and every train's registrar
+pub record IsOneCentreLine (line : Line) (c : ℕ) : Type 0 where
+  pub homes : All (λ p. p.home ≡ c) line.sections
+  pub registrars : All (λ p. p.registrar ≡ c) line.trains
+
+-- a start at the registrar is accepted wherever the train has no mission and the sections are released
+abbrev pub IsStartAccepted : Line → LineState → ℕ → TrainMessage → TrainBody → Said → LineState → Type 0
+IsStartAccepted line v c m (StartOfMission is_valid position) said new =
+    (place : Place) → fit_place line is_valid position ≡ Some place → may_start line v c place ≡ true → is_registrar_of line c m.nid_engine ≡ true
+    → v.mission m.nid_engine ≡ None → Accepts m.nid_engine c v (begins line m.nid_engine c place v) said new
+IsStartAccepted line v c m body said new = Unit {0}
+
+-- the own step of a message leaves no choice: it is silent for its reason, also a report elsewhere, and accepts where it may
+pub record StepsAlone (line : Line) (v : LineState) (c : ℕ) (m : TrainMessage) (said : Said) (new : LineState) (why : Option Reason) : Type 0 where
+  pub silent : why ≡ silence line v c m
+  pub starts : why ≡ None → IsStartAccepted line (hears c m v) c m m.body said new
+
+-- message 9 may be sent to the train for this section
+abbrev pub MayPropose : Line → LineState → ℕ → ℕ → ℕ → Type 0
+MayPropose line v t c s = (said : Said) × (new : LineState) × Proposes line v t c s said new
+
+-- behind an unset it is sent where it may be, and nothing else is done
+pub data Asks (line : Line) (v : LineState) (c s : ℕ) : List Quiet → Type 0 where
+  asked : (t : ℕ) → MayPropose line v t c s → Asks line v c s (Propose t c s ∷ [])
+  not_asked : ((t : ℕ) → MayPropose line v t c s → ⊥) → Asks line v c s []
+
+-- what follows an event's own step: message 9 behind an unset that asks for it, and no other quiet step
+abbrev pub FollowsAlone : Line → LineState → Event → List Quiet → Type 0
+FollowsAlone line mid (Unset c s) quiets = Asks line mid c s quiets
+FollowsAlone line mid event quiets = quiets ≡ []
+
+abbrev pub OwnStepAlone : Line → LineState → Event → Said → LineState → Option Reason → Type 0
+OwnStepAlone line v (Bytes c (Ok m)) said new why = StepsAlone line v c m said new why
+OwnStepAlone line v event said new why = Unit {0}
+
+-- a piece without free choice
+pub record PieceAlone (line : Line) (v : LineState) (event : Event) (outcome : Outcome) (new : LineState) : Type 0 where
+  pub piece : Piece line v event outcome new
+  pub own_step : OwnStepAlone line v event piece.own piece.mid piece.why
+  pub quiet_steps : FollowsAlone line piece.mid event piece.quiets
+
+abbrev pub GoesAlone : Line → LineState → Event → Answer → LineState → Type 0
+GoesAlone line v event (Answered outcome) new = PieceAlone line v event outcome new
+GoesAlone line v event answer new = Goes line v event answer new
+
+-- the answers to the events lead from v to new without free choice
+abbrev pub RunsAlone : Line → LineState → List Event → List Answer → LineState → Type 0
+RunsAlone line v [] [] new = new ≡ v
+RunsAlone line v (event ∷ events) (answer ∷ answers) new =
+    (mid : LineState) × GoesAlone line v event answer mid × RunsAlone line mid events answers new
+RunsAlone line v events answers new = ⊥
+
+-- of a whole list of events and the answers to it
+pub record IsOneCentreRun (line : Line) (events : List Event) (answers : List Answer) (w : World) : Type 0 where
+  pub last : LineState
+  pub is_run : RunsAlone line line_beginning events answers last
+  pub stands : StandsFor line w last
+
+-- Where one centre has all sections and is every train's registrar, the run leaves no choice
+abbrev pub OneCentreTheorem : Type 0
+OneCentreTheorem = (line : Line) (c : ℕ) (events : List Event) (answers : List Answer) (w : World)
+    → IsLine line → IsOneCentreLine line c → world_run line (new_world line) events ≡ Ok (answers, w) → IsOneCentreRun line events answers w
