@@ -2,3 +2,5 @@ pub mod Spelled
 mod Steps
 pub mod TrainLaws
 pub mod TrackLaws
+mod Further
+mod Lengths

@@ -1,50 +1,16 @@
--- The bits of fields and of the bytes that they fill up.
-use Rattle.std.proofs.Common.{◌≡◌, ℕ, ◌+◌, ◌*◌, ◌^◌, ◌<◌, ◌≤◌, Bool, false, List, [], ◌∷◌, ◌++◌, length, take, drop, replicate, refl, sym, ap, ◌∙◌, append_assoc, length-append, arith}
+-- The bytes that bits fill up, and NID_MESSAGE and L_MESSAGE at their front.
+use Rattle.std.proofs.Common.{◌≡◌, ℕ, ◌+◌, ◌*◌, ◌^◌, ◌<◌, ◌≤◌, Bool, false, List, ◌++◌, length, take, drop, replicate, refl, sym, ap, ◌∙◌, append_assoc, length-append, arith}
 use Rattle.std.proofs.Math.Seq.{take-append-add}
-use Rattle.std.proofs.lemmas.List.{append-nil, take-append-drop, take_at, drop_at, length-replicate}
+use Rattle.std.proofs.lemmas.List.{take-append-drop, take_at, drop_at, length-replicate}
 use Rattle.std.specs.Int.{bytes_high_first}
 use Rattle.std.proofs.lemmas.List.Elements.{All-from_recursion}
 use Rattle.rbc_bits.specs.Bits.{field, bits_of, value_of, filling, filled}
 use Rattle.rbc_bits.proofs.Fields.{length-field, field-append, field-injective}
 use Rattle.rbc_bits.proofs.Bytes.{length-bits_of, bits_of-append, take-bits_of, bits_of-made, bytes_high_first-fit, length-bytes_high_first}
-use Rattle.rbc_msgs.specs.Layout.{Field, joined, Begins, IsFilling, IsBytes}
-
--- ---- the bits of fields
-
-pub joined-nil : joined [] ≡ []
-unfolding joined
-joined-nil = refl
-
-pub joined-cons : (f : Field) (fields : List Field) → joined (f ∷ fields) ≡ field f.0 f.1 ++ joined fields
-unfolding joined
-joined-cons f fields = refl
-
-pub joined-append : (a b : List Field) → joined (a ++ b) ≡ joined a ++ joined b
-joined-append [] b = sym (ap (λ t. t ++ joined b) joined-nil)
-joined-append (f ∷ fields) b =
-    joined-cons f (fields ++ b) ∙ ap (λ t. field f.0 f.1 ++ t) (joined-append fields b) ∙ sym (append_assoc (field f.0 f.1) (joined fields) (joined b)) ∙ ap (λ t. t ++ joined b) (sym (joined-cons f fields))
-
--- the fields with which a message begins, as they are written
-pub joined-start : (number l_message t : ℕ) → joined ((8, number) ∷ (10, l_message) ∷ (32, t) ∷ []) ≡ field 8 number ++ field 10 l_message ++ field 32 t
-unfolding joined
-joined-start number l_message t = simp (append-nil, append_assoc)
-
-abbrev pub widths : List (ℕ × ℕ) → ℕ
-widths [] = 0
-widths (f ∷ fields) = f.0 + widths fields
-
-pub length-joined : (fields : List Field) → length (joined fields) ≡ widths fields
-length-joined [] = ap length joined-nil
-length-joined (f ∷ fields) =
-    let l = length-append (field f.0 f.1) (joined fields) in
-    rw (joined-cons f fields, l, length-field f.0 f.1, length-joined fields) refl
+use Rattle.rbc_packets.proofs.Filled.{filled-parts}
+use Rattle.rbc_msgs.specs.Layout.{Begins, IsFilling, IsBytes}
 
 -- ---- filling bits
-
--- bits and what fills them up to whole bytes
-pub filled-parts : (bits : List Bool) → filled bits ≡ bits ++ replicate (filling (length bits)) false
-unfolding filled
-filled-parts bits = refl
 
 pub is-filling : (bits : List Bool) → IsFilling (replicate (filling (length bits)) false)
 is-filling bits =
@@ -56,14 +22,6 @@ pub filled-from : (bytes : List ℕ) (bits rest : List Bool) → bits_of bytes �
 filled-from bytes bits rest e h =
     let l : length rest ≡ filling (length bits) = omega (arith, h.0, ap length e, length-append bits rest, length-bits_of bytes) in
     e ∙ ap (λ t. bits ++ t) (h.1 ∙ ap (λ n. replicate n false) l) ∙ sym (filled-parts bits)
-
-pub length-filled_bits : (bits : List Bool) → length (filled bits) ≡ length bits + filling (length bits)
-length-filled_bits bits =
-    ap length (filled-parts bits) ∙ length-append bits (replicate (filling (length bits)) false) ∙ ap (λ n. length bits + n) (length-replicate (filling (length bits)) false)
-
--- how many bytes there are
-pub length-filled : (bytes : List ℕ) (bits : List Bool) → bits_of bytes ≡ filled bits → 8 * length bytes ≡ length bits + filling (length bits)
-length-filled bytes bits e = sym (length-bits_of bytes) ∙ ap length e ∙ length-filled_bits bits
 
 -- ---- NID_MESSAGE and L_MESSAGE
 

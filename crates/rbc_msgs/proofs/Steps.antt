@@ -9,9 +9,9 @@ use Rattle.rbc_bits.specs.Reading.{field_at}
 use Rattle.rbc_bits.proofs.Fields.{length-field, field-zero}
 use Rattle.rbc_bits.proofs.Taking.{field_at-field}
 use Rattle.rbc_msgs.specs.declared.fault.MsgFault.{MsgFault}
-use Rattle.rbc_msgs.specs.declared.fault.MsgFault.TheVariants.{Short}
+use Rattle.rbc_msgs.specs.declared.fault.MsgFault.TheVariants.{Short, Missing}
 use Rattle.rbc_msgs.specs.Layout.{IsFilling}
-use Rattle.rbc_msgs.specs.Reading.{start_at, whole_at, time_at, fixed_at, end_at}
+use Rattle.rbc_msgs.specs.Reading.{start_at, whole_at, time_at, fixed_at, required_at, end_at}
 use Rattle.rbc_msgs.proofs.Spelled.{starts, start-whole, start-front}
 
 pub start_at-again : (bytes : List ℕ) (number : ℕ) (rest : List Bool) → 3 ≤ length bytes → length bytes < 2 ^ 10 → number < 2 ^ 8 → starts bytes number rest
@@ -41,6 +41,12 @@ unfolding fixed_at
 fixed_at-again n value rest fits =
     let same : eqb value value ≡ true = eq-eqb value value refl in
     rw (field_at-field Short n value rest fits, same) refl
+
+pub required_at-again : (n : ℕ) (rest : List Bool) → n < 2 ^ 8 → required_at n (field 8 n ++ rest) ≡ Ok (tt, rest)
+unfolding required_at
+required_at-again n rest fits =
+    let same : eqb n n ≡ true = eq-eqb n n refl in
+    rw (field_at-field Missing 8 n rest fits, same) refl
 
 pub end_at-again : (more : MsgFault) (bits : List Bool) → IsFilling bits → end_at more bits ≡ Ok tt
 unfolding end_at

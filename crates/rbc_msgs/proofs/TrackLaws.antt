@@ -1,22 +1,25 @@
 -- What holds of the spellings of centres' messages: what is spelled so is read, and each has one.
-use Rattle.std.proofs.Common.{◌≡◌, ℕ, ◌^◌, ◌<◌, Bool, true, false, cond, eqb, List, [], ◌∷◌, ◌++◌, length, take, replicate, Result, Ok, Err, refl, sym, ap, ◌∙◌, append_assoc, arith}
-use Rattle.std.proofs.lemmas.Bool.{eqb-true}
-use Rattle.std.proofs.lemmas.List.{append-nil}
+use Rattle.std.proofs.Common.{◌≡◌, ℕ, ◌+◌, ◌*◌, ◌^◌, ◌<◌, ◌≤◌, Bool, false, List, [], ◌∷◌, ◌++◌, length, take, replicate, Result, Ok, refl, sym, ap, ◌∙◌, append_assoc, arith}
 use Rattle.std.proofs.lemmas.List.Elements.{recursion_from_All}
-use Rattle.rbc_spec.specs.Message.{TrackBody, SystemVersion, TrackMessage, unknown_time}
+use Rattle.rbc_spec.specs.Message.{TrackBody, Authority, DataAcknowledged, ShorteningRequest, Transition, EndSession, SystemVersion, TerminationAcknowledged, TrainRejected, TrainAccepted, TrackMessage}
 use Rattle.rbc_bits.specs.Bits.{field, bits_of, filling, filled}
 use Rattle.rbc_bits.proofs.Bytes.{bits_of-injective}
 use Rattle.rbc_bits.proofs.Taking.{field_at-field}
+use Rattle.rbc_packets.specs.Layout.{Field, joined, widths, track_packet}
+use Rattle.rbc_packets.specs.TrackSpelling.{authority_fields, transition_fields, session_order_fields}
+use Rattle.rbc_packets.proofs.Filled.{filled-parts, length-filled, length-filled_bits}
+use Rattle.rbc_packets.proofs.Joined.{joined-nil, joined-cons, joined-behind, length-joined}
+use Rattle.rbc_packets.proofs.TrackAgain.{authority_at-again, transition_at-again, session_order_at-again}
 use Rattle.rbc_msgs.specs.declared.fault.MsgFault.{MsgFault}
-use Rattle.rbc_msgs.specs.declared.fault.MsgFault.TheVariants.{Short, Length, UnknownNumber}
+use Rattle.rbc_msgs.specs.declared.fault.MsgFault.TheVariants.{Short, Length, Missing}
 use Rattle.rbc_msgs.specs.declared.number.TrackNumber.{TrackNumber}
 use Rattle.rbc_msgs.specs.declared.number.TrackNumber.TheVariants as number
-use Rattle.rbc_msgs.specs.Numbers.{track_of_number}
-use Rattle.rbc_msgs.specs.Layout.{joined, length_limit, Begins, IsFilling, IsBytes}
-use Rattle.rbc_msgs.specs.TrackSpelling.{track_number, track_body_fields, track_fields, SpellsTrack}
-use Rattle.rbc_msgs.specs.TrackReading.{track_body_at, read_track}
-use Rattle.rbc_msgs.proofs.Spelled.{joined-nil, joined-cons, joined-start, length-joined, filled-parts, is-filling, filled-from, length-filled, length-filled_bits, filled-made, start-found, starts, starts-apart}
-use Rattle.rbc_msgs.proofs.Steps.{start_at-again, whole_at-again, time_at-again, fixed_at-again, end_at-again}
+use Rattle.rbc_msgs.specs.Numbers.{track_of_number, least_track_length}
+use Rattle.rbc_msgs.specs.Layout.{length_limit, Begins, IsFilling, IsBytes}
+use Rattle.rbc_msgs.specs.TrackSpelling.{track_number, track_body_fields, track_fields, track_length, TrackBodyFits, TrackFits, SpellsTrack}
+use Rattle.rbc_msgs.specs.TrackReading.{end_of_authority_at, transition_order_at, end_of_session_at, general_at, track_body_at, read_track}
+use Rattle.rbc_msgs.proofs.Spelled.{is-filling, filled-from, filled-made, start-found, starts, starts-apart}
+use Rattle.rbc_msgs.proofs.Steps.{start_at-again, whole_at-again, time_at-again, fixed_at-again, required_at-again, end_at-again}
 
 -- ---- the bits of a message
 
@@ -39,86 +42,156 @@ starts-spelled : (bytes : List ℕ) (m : TrackMessage) → SpellsTrack bytes m �
 unfolding fillings
 starts-spelled bytes m s = s.text ∙ filled-parts (joined (track_fields (length bytes) m)) ∙ parts (length bytes) m _
 
+-- how many bits it has
+length-fields : (l_message : ℕ) (m : TrackMessage) → length (joined (track_fields l_message m)) ≡ 75 + widths (track_body_fields m.body)
+length-fields l_message m = omega (arith, length-joined (track_fields l_message m))
+
 -- ---- what the code read is a spelling
-
-read_number : (b : Bool) (k : TrackNumber) → cond b (Ok number.SystemVersion) (Err UnknownNumber) ≡ Ok k → b ≡ true
-read_number true k e = refl
-read_number false k e = absurd cc
-
--- the number of a message that is read
-number-is : (n : ℕ) (k : TrackNumber) → track_of_number n ≡ Ok k → n ≡ 32
-number-is n k e = eqb-true n 32 (read_number (eqb n 32) k e)
-
-pub number-same : (n i : ℕ) (k : TrackNumber) → track_of_number n ≡ Ok k → track_of_number i ≡ Ok k → n ≡ i
-number-same n i k p q = number-is n k p ∙ sym (number-is i k q)
 
 pub spells : (bytes : List ℕ) (m : TrackMessage) (n l_message start : ℕ) (b c d e f : List Bool)
     → n ≡ track_number m.body → length bytes ≡ l_message → Begins (bits_of (take 3 bytes)) (field 8 n ++ field 10 l_message) → bits_of bytes ≡ field 18 start ++ b
     → b ≡ field 32 m.t_train ++ c → c ≡ field 1 0 ++ d → d ≡ field 24 m.nid_lrbg ++ e → e ≡ joined (track_body_fields m.body) ++ f → IsFilling f
-    → length bytes < length_limit → m.t_train < unknown_time → m.nid_lrbg < 2 ^ 24 → SpellsTrack bytes m
+    → length bytes < length_limit → TrackFits m → SpellsTrack bytes m
 unfolding behind
-spells bytes m n l_message start b c d e f number-at len front whole t ack group body fill fits known group-fits =
+spells bytes m n l_message start b c d e f number-at len front whole t ack group body fill limit fits =
     let tail : b ≡ behind m f =
     t ∙ ap (λ x. field 32 m.t_train ++ x) (ack ∙ ap (λ x. field 1 0 ++ x) (group ∙ ap (λ x. field 24 m.nid_lrbg ++ x) body)) in
     let all : bits_of bytes ≡ joined (track_fields (length bytes) m) ++ f =
     start-found bytes n l_message start b front whole len ∙ ap (λ k. field 8 k ++ (field 10 (length bytes) ++ b)) number-at ∙ ap (λ x. field 8 (track_number m.body) ++ (field 10 (length bytes) ++ x)) tail ∙ sym (parts (length bytes) m f) in
-    record { text = filled-from bytes (joined (track_fields (length bytes) m)) f all fill; l_message = fits; t_train = known; nid_lrbg = group-fits }
+    record { text = filled-from bytes (joined (track_fields (length bytes) m)) f all fill; l_message = limit; fits = fits }
 
 -- ---- what is spelled so is read
 
-pub version-bits : joined (track_body_fields SystemVersion) ≡ field 7 32
-version-bits = joined-cons (7, 32) [] ∙ ap (λ t. field 7 32 ++ t) joined-nil ∙ append-nil (field 7 32)
+-- a packet, and the bits behind it
+packet-parts : (n : ℕ) (fields : List Field) (rest : List Bool) → joined ((8, n) ∷ fields) ++ rest ≡ field 8 n ++ (joined fields ++ rest)
+packet-parts n fields rest = ap (λ t. t ++ rest) (joined-cons (8, n) fields) ∙ append_assoc (field 8 n) (joined fields) rest
 
-version_again : (rest : List Bool) → track_body_at number.SystemVersion (joined (track_body_fields SystemVersion) ++ rest) ≡ Ok (SystemVersion, rest)
-unfolding track_body_at
-version_again rest =
-    let one : joined (track_body_fields SystemVersion) ++ rest ≡ field 7 32 ++ rest =
-    ap (λ t. t ++ rest) version-bits in
-    rw (one, fixed_at-again 7 32 rest (omega arith)) refl
+authority-again : (l : ℕ) (rest : List Bool) → l < 2 ^ 15 → end_of_authority_at (joined ((8, 15) ∷ track_packet (authority_fields (record { l_endsection = l }))) ++ rest) ≡ Ok (l, rest)
+unfolding end_of_authority_at
+authority-again l rest fits =
+    rw (packet-parts 15 (track_packet (authority_fields (record { l_endsection = l }))) rest, required_at-again 15 _ (omega arith), authority_at-again (record { l_endsection = l }) rest fits) refl
 
-again : (bytes : List ℕ) (t n : ℕ) (body : TrackBody) → SpellsTrack bytes (record { t_train = t; nid_lrbg = n; body = body }) → read_track bytes ≡ Ok (record { t_train = t; nid_lrbg = n; body = body })
-unfolding read_track behind fillings
-again bytes t n SystemVersion s =
-    let m : TrackMessage = record { t_train = t; nid_lrbg = n; body = SystemVersion } in
-    let width = length-joined (track_fields (length bytes) m) in
-    let long : length bytes ≡ 11 = omega (arith, length-filled bytes (joined (track_fields (length bytes) m)) s.text, width) in
-    let fill = is-filling (joined (track_fields (length bytes) m)) in
-    let at = starts-spelled bytes m s in
-    rw (start_at-again bytes 32 _ (omega arith) s.l_message (omega arith) at, whole_at-again 11 bytes 32 _ (omega arith) s.l_message (omega arith) at, time_at-again t _ s.t_train, fixed_at-again 1 0 _ (omega arith), field_at-field Short 24 n _ s.nid_lrbg, version_again (fillings (length bytes) m), end_at-again Length _ fill) refl
+transition-again : (d c r : ℕ) (rest : List Bool) → TrackBodyFits (Transition d c r) → general_at (joined (track_body_fields (Transition d c r)) ++ rest) ≡ Ok (Transition d c r, rest)
+unfolding general_at transition_order_at
+transition-again d c r rest fits =
+    rw (packet-parts 131 (track_packet (transition_fields (record { d_rbctr = d; nid_c = c; nid_rbc = r }))) rest, field_at-field Missing 8 131 _ (omega arith), transition_at-again (record { d_rbctr = d; nid_c = c; nid_rbc = r }) rest fits) refl
+
+session-again : (c r : ℕ) (rest : List Bool) → TrackBodyFits (EndSession c r) → general_at (joined (track_body_fields (EndSession c r)) ++ rest) ≡ Ok (EndSession c r, rest)
+unfolding general_at end_of_session_at
+session-again c r rest fits =
+    rw (packet-parts 42 (track_packet (session_order_fields (record { nid_c = c; nid_rbc = r }))) rest, field_at-field Missing 8 42 _ (omega arith), session_order_at-again (record { nid_c = c; nid_rbc = r }) rest fits) refl
+
+kind : TrackBody → TrackNumber
+kind (Authority l) = number.MovementAuthority
+kind (DataAcknowledged stamp) = number.DataAcknowledged
+kind (ShorteningRequest l) = number.ShorteningRequest
+kind (Transition d c r) = number.GeneralMessage
+kind (EndSession c r) = number.GeneralMessage
+kind SystemVersion = number.SystemVersion
+kind TerminationAcknowledged = number.TerminationAcknowledged
+kind TrainRejected = number.TrainRejected
+kind TrainAccepted = number.TrainAccepted
+
+number-again : (b : TrackBody) → track_of_number (track_number b) ≡ Ok (kind b)
+unfolding track_of_number kind
+number-again (Authority l) = refl
+number-again (DataAcknowledged stamp) = refl
+number-again (ShorteningRequest l) = refl
+number-again (Transition d c r) = refl
+number-again (EndSession c r) = refl
+number-again SystemVersion = refl
+number-again TerminationAcknowledged = refl
+number-again TrainRejected = refl
+number-again TrainAccepted = refl
+
+number-fits : (b : TrackBody) → track_number b < 2 ^ 8
+number-fits (Authority l) = omega arith
+number-fits (DataAcknowledged stamp) = omega arith
+number-fits (ShorteningRequest l) = omega arith
+number-fits (Transition d c r) = omega arith
+number-fits (EndSession c r) = omega arith
+number-fits SystemVersion = omega arith
+number-fits TerminationAcknowledged = omega arith
+number-fits TrainRejected = omega arith
+number-fits TrainAccepted = omega arith
+
+least : (b : TrackBody) (n : ℕ) → 75 + widths (track_body_fields b) ≤ 8 * n → least_track_length (kind b) ≤ n
+unfolding kind
+least (Authority l) n h = omega arith
+least (DataAcknowledged stamp) n h = omega arith
+least (ShorteningRequest l) n h = omega arith
+least (Transition d c r) n h = omega arith
+least (EndSession c r) n h = omega arith
+least SystemVersion n h = omega arith
+least TerminationAcknowledged n h = omega arith
+least TrainRejected n h = omega arith
+least TrainAccepted n h = omega arith
+
+most : (b : TrackBody) → widths (track_body_fields b) ≤ 200
+most (Authority l) = omega arith
+most (DataAcknowledged stamp) = omega arith
+most (ShorteningRequest l) = omega arith
+most (Transition d c r) = omega arith
+most (EndSession c r) = omega arith
+most SystemVersion = omega arith
+most TerminationAcknowledged = omega arith
+most TrainRejected = omega arith
+most TrainAccepted = omega arith
+
+one-field : (n v : ℕ) (rest : List Bool) → joined ((n, v) ∷ []) ++ rest ≡ field n v ++ rest
+one-field n v rest = joined-behind ((n, v) ∷ []) rest
+
+no-field : (rest : List Bool) → joined [] ++ rest ≡ rest
+no-field rest = ap (λ t. t ++ rest) joined-nil
+
+body-again : (b : TrackBody) (rest : List Bool) → TrackBodyFits b → track_body_at (kind b) (joined (track_body_fields b) ++ rest) ≡ Ok (b, rest)
+unfolding kind
+body-again (Authority l) rest fits = rw (authority-again l rest fits) refl
+body-again (DataAcknowledged stamp) rest fits =
+    rw (one-field 32 stamp rest, field_at-field Short 32 stamp rest fits) refl
+body-again (ShorteningRequest l) rest fits = rw (authority-again l rest fits) refl
+body-again (Transition d c r) rest fits = transition-again d c r rest fits
+body-again (EndSession c r) rest fits = session-again c r rest fits
+body-again SystemVersion rest fits = rw (one-field 7 32 rest, fixed_at-again 7 32 rest (omega arith)) refl
+body-again TerminationAcknowledged rest fits = rw (no-field rest) refl
+body-again TrainRejected rest fits = rw (no-field rest) refl
+body-again TrainAccepted rest fits = rw (no-field rest) refl
 
 pub read_track-again : (bytes : List ℕ) (m : TrackMessage) → SpellsTrack bytes m → read_track bytes ≡ Ok m
-read_track-again bytes m s = again bytes m.t_train m.nid_lrbg m.body s
+unfolding read_track behind fillings
+read_track-again bytes m s =
+    let bits = joined (track_fields (length bytes) m) in
+    let wide : 75 + widths (track_body_fields m.body) ≤ 8 * length bytes = omega (arith, length-filled bytes bits s.text, length-fields (length bytes) m) in
+    let at = starts-spelled bytes m s in
+    rw (start_at-again bytes (track_number m.body) _ (omega arith) s.l_message (number-fits m.body) at, number-again m.body, whole_at-again (least_track_length (kind m.body)) bytes (track_number m.body) _ (least m.body (length bytes) wide) s.l_message (number-fits m.body) at, time_at-again m.t_train _ s.fits.t_train, fixed_at-again 1 0 _ (omega arith), field_at-field Short 24 m.nid_lrbg _ s.fits.nid_lrbg, body-again m.body (fillings (length bytes) m) s.fits.body, end_at-again Length _ (is-filling bits)) refl
 
 -- ---- what is written is a spelling
 
-pub written : (bytes : List ℕ) (t n : ℕ) (body : TrackBody) (start ack group all : List Bool) → start ≡ joined ((8, 32) ∷ (10, 11) ∷ (32, t) ∷ []) → ack ≡ start ++ field 1 0 → group ≡ ack ++ field 24 n → all ≡ group ++ field 7 32
-    → bits_of bytes ≡ filled all → t < unknown_time → n < 2 ^ 24 → SpellsTrack bytes (record { t_train = t; nid_lrbg = n; body = body })
-written bytes t n SystemVersion start ack group all start-is ack-is group-is all-is text known group-fits =
-    let m : TrackMessage = record { t_train = t; nid_lrbg = n; body = SystemVersion } in
-    let fields : all ≡ joined (track_fields 11 m) =
-    all-is ∙ ap (λ s. s ++ field 7 32) (group-is ∙ ap (λ s. s ++ field 24 n) (ack-is ∙ ap (λ s. s ++ field 1 0) (start-is ∙ joined-start 32 11 t))) ∙ sym (fields-bits 11 m ∙ rw version-bits (simp append_assoc)) in
-    let spelled : bits_of bytes ≡ filled (joined (track_fields 11 m)) = text ∙ ap filled fields in
-    let len : length bytes ≡ 11 = omega (arith, length-filled bytes (joined (track_fields 11 m)) spelled, length-joined (track_fields 11 m)) in
-    record { text = spelled ∙ ap (λ k. filled (joined (track_fields k m))) (sym len); l_message = omega arith; t_train = known; nid_lrbg = group-fits }
+pub written : (bytes : List ℕ) (m : TrackMessage) (l_message : ℕ) (all : List Bool) → all ≡ joined (track_fields l_message m) → bits_of bytes ≡ filled all
+    → l_message ≡ track_length m.body → TrackFits m → SpellsTrack bytes m
+written bytes m l_message all all-is text l-is fits =
+    let spelled : bits_of bytes ≡ filled (joined (track_fields l_message m)) = text ∙ ap filled all-is in
+    let len : length bytes ≡ l_message = omega (arith, length-filled bytes (joined (track_fields l_message m)) spelled, length-fields l_message m) in
+    record { text = spelled ∙ ap (λ k. filled (joined (track_fields k m))) (sym len); l_message = omega (arith, most m.body); fits = fits }
+
+-- the header, and what is written behind it
+pub written-parts : (m : TrackMessage) (number l_message : ℕ) (header all : List Bool) → header ≡ joined ((8, number) ∷ (10, l_message) ∷ (32, m.t_train) ∷ (1, 0) ∷ (24, m.nid_lrbg) ∷ [])
+    → number ≡ track_number m.body → all ≡ header ++ joined (track_body_fields m.body) → all ≡ joined (track_fields l_message m)
+unfolding joined
+written-parts m number l_message header all header-is number-is all-is = rw (all-is, header-is, number-is) (simp append_assoc)
 
 -- ---- the laws of spellings
 
-has-spelling : (t n : ℕ) (body : TrackBody) → t < unknown_time → n < 2 ^ 24 → (bytes : List ℕ) × IsBytes bytes × SpellsTrack bytes (record { t_train = t; nid_lrbg = n; body = body })
-has-spelling t n SystemVersion known fits =
-    let m : TrackMessage = record { t_train = t; nid_lrbg = n; body = SystemVersion } in
-    let fields = joined (track_fields 11 m) in
-    let made = filled-made fields 11 (omega (arith, length-filled_bits fields, length-joined (track_fields 11 m))) in
-    let text : bits_of made.0 ≡ filled (joined (track_fields (length made.0) m)) = made.2 ∙ ap (λ k. filled (joined (track_fields k m))) (sym made.3) in
-    (made.0, made.1, record { text = text; l_message = omega (arith, made.3); t_train = known; nid_lrbg = fits })
-
-pub each_track_message : (m : TrackMessage) → m.t_train < unknown_time → m.nid_lrbg < 2 ^ 24 → (bytes : List ℕ) × IsBytes bytes × SpellsTrack bytes m
-each_track_message m known fits = has-spelling m.t_train m.nid_lrbg m.body known fits
+pub each_track_message : (m : TrackMessage) → TrackFits m → (bytes : List ℕ) × IsBytes bytes × SpellsTrack bytes m
+each_track_message m fits =
+    let k = track_length m.body in
+    let bits = joined (track_fields k m) in
+    let made = filled-made bits k (omega (arith, length-filled_bits bits, length-fields k m)) in
+    (made.0, made.1, written made.0 m k bits refl made.2 refl fits)
 
 pub one_track_spelling : (a b : List ℕ) (m : TrackMessage) → IsBytes a → IsBytes b → SpellsTrack a m → SpellsTrack b m → a ≡ b
 one_track_spelling a b m a-bytes b-bytes p q =
-    let wa = length-joined (track_fields (length a) m) in
-    let wb = length-joined (track_fields (length b) m) in
-    let len : length a ≡ length b = omega (arith, length-filled a _ p.text, length-filled b _ q.text, wa, wb) in
+    let len : length a ≡ length b = omega (arith, length-filled a _ p.text, length-filled b _ q.text, length-fields (length a) m, length-fields (length b) m) in
     let bits : bits_of a ≡ bits_of b = p.text ∙ ap (λ n. filled (joined (track_fields n m))) len ∙ sym q.text in
     bits_of-injective a b (recursion_from_All (λ x. x < 256) a a-bytes) (recursion_from_All (λ x. x < 256) b b-bytes) bits
 

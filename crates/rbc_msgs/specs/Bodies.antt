@@ -1,22 +1,27 @@
--- What messages say, as the rules of a centre have it.
+-- What messages to trains say, as the rules of a centre have it.
 use Rattle.rbc_spec.specs.Message as said
-use Rattle.rbc_msgs.specs.declared.train.TrainBody.{TrainBody}
-use Rattle.rbc_msgs.specs.declared.train.TrainBody.TheVariants as train
 use Rattle.rbc_msgs.specs.declared.track.TrackBody.{TrackBody}
 use Rattle.rbc_msgs.specs.declared.track.TrackBody.TheVariants as track
 
--- what a train's message says
-abbrev pub train_body : TrainBody → said.TrainBody
-train_body train.InitiationOfSession = said.InitiationOfSession
-
--- and back
-abbrev pub train_body_back : said.TrainBody → TrainBody
-train_body_back said.InitiationOfSession = train.InitiationOfSession
-
--- what a message to a train says
 abbrev pub track_body : TrackBody → said.TrackBody
+track_body (track.Authority a) = said.Authority a.l_endsection
+track_body (track.DataAcknowledged stamp) = said.DataAcknowledged stamp
+track_body (track.ShorteningRequest a) = said.ShorteningRequest a.l_endsection
+track_body (track.Transition t) = said.Transition t.d_rbctr t.nid_c t.nid_rbc
+track_body (track.EndSession o) = said.EndSession o.nid_c o.nid_rbc
 track_body track.SystemVersion = said.SystemVersion
+track_body track.TerminationAcknowledged = said.TerminationAcknowledged
+track_body track.TrainRejected = said.TrainRejected
+track_body track.TrainAccepted = said.TrainAccepted
 
 -- and back
 abbrev pub track_body_back : said.TrackBody → TrackBody
+track_body_back (said.Authority l) = track.Authority (record { l_endsection = l })
+track_body_back (said.DataAcknowledged stamp) = track.DataAcknowledged stamp
+track_body_back (said.ShorteningRequest l) = track.ShorteningRequest (record { l_endsection = l })
+track_body_back (said.Transition d c r) = track.Transition (record { d_rbctr = d; nid_c = c; nid_rbc = r })
+track_body_back (said.EndSession c r) = track.EndSession (record { nid_c = c; nid_rbc = r })
 track_body_back said.SystemVersion = track.SystemVersion
+track_body_back said.TerminationAcknowledged = track.TerminationAcknowledged
+track_body_back said.TrainRejected = track.TrainRejected
+track_body_back said.TrainAccepted = track.TrainAccepted

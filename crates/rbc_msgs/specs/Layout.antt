@@ -1,16 +1,5 @@
--- How a radio message is laid out (SUBSET-026 chapters 7 and 8): its fields stand one behind the other, bit by bit,
--- and zero bits fill up the last byte (profile).
-use Rattle.std.specs.Prelude.{◌≡◌, ℕ, ◌<◌, Bool, false, List, [], ◌∷◌, ◌++◌, length, replicate, All}
-use Rattle.rbc_bits.specs.Bits.{field}
-
--- a field: how many bits it has, and its value
-abbrev pub Field : Type 0
-Field = ℕ × ℕ
-
--- the bits of fields that stand one behind the other
-unfoldable pub joined : List Field → List Bool
-joined [] = []
-joined (f ∷ fields) = field f.0 f.1 ++ joined fields
+-- What is said of the bytes of all messages (SUBSET-026 chapters 7 and 8): zero bits fill up the last byte (profile).
+use Rattle.std.specs.Prelude.{◌≡◌, ℕ, ◌<◌, Bool, false, List, ◌++◌, length, replicate, All}
 
 -- L_MESSAGE is below this: a message has at most 1 023 bytes
 abbrev pub length_limit : ℕ

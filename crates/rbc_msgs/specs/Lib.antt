@@ -1,3 +1,4 @@
+pub mod TrainText
 pub mod Bodies
 pub mod TrainView
 pub mod TrackView
@@ -9,3 +10,4 @@ pub mod Numbers
 pub mod Reading
 pub mod TrainReading
 pub mod TrackReading
+pub mod StepMessage

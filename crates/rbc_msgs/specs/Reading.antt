@@ -1,26 +1,18 @@
 -- The order in which bytes are tested, for the parts that all messages have: the first fault is answered (profile).
-use Rattle.std.specs.Prelude.{◌≡◌, ℕ, ◌==◌, Bool, true, false, not, List, length, take, Result, Ok, Err, nat_lt, nat_le}
+use Rattle.std.specs.Prelude.{◌≡◌, ◌≢◌, ℕ, ◌==◌, Bool, not, List, length, take, Result, Ok, Err, nat_lt, nat_le}
 use Rattle.rbc_spec.specs.Message.{unknown_time}
 use Rattle.rbc_bits.specs.Bits.{bits_of}
 use Rattle.rbc_bits.specs.Reading.{field_at}
+use Rattle.rbc_packets.specs.Steps.{◌>>=◌, refuse}
+use Rattle.rbc_packets.specs.declared.fault.PacketFault.{PacketFault}
+use Rattle.rbc_packets.specs.declared.fault.PacketFault.TheVariants as packet
 use Rattle.rbc_msgs.specs.declared.fault.MsgFault.{MsgFault}
-use Rattle.rbc_msgs.specs.declared.fault.MsgFault.TheVariants.{Short, Length, Padding, Value}
+use Rattle.rbc_msgs.specs.declared.fault.MsgFault.TheVariants.{Short, Length, Padding, Packet, Missing, Value, Memory}
 
--- a step, and then the next with what it gave
-infixl 10 ◌>>=◌
-abbrev pub ◌>>=◌ : {A B : Type 0} → Result A MsgFault → (A → Result B MsgFault) → Result B MsgFault
-(Ok x) >>= f = f x
-(Err e) >>= f = Err e
-
--- the fault, if the test holds
-abbrev pub refuse : Bool → MsgFault → Result (Unit {0}) MsgFault
-refuse true fault = Err fault
-refuse false fault = Ok tt
-
--- what the program answered, seen by view, and the bits behind it, are what reading gives
-abbrev pub Takes : {A B : Type 0} → (A → B) → Result A MsgFault → List Bool → Result (B × List Bool) MsgFault → Type 0
-Takes view (Ok x) rest read = read ≡ Ok (view x, rest)
-Takes view (Err e) rest read = read ≡ Err e
+-- what the program answered, seen by view, is what reading gives, unless the program answered that memory ran out
+abbrev pub Gives : {A B : Type 0} → (A → B) → Result A MsgFault → Result B MsgFault → Type 0
+Gives view (Ok x) read = read ≡ Ok (view x)
+Gives view (Err e) read = e ≢ Memory → read ≡ Err e
 
 -- NID_MESSAGE and L_MESSAGE, which three bytes hold
 unfoldable pub start_at : List ℕ → Result (ℕ × ℕ) MsgFault
@@ -52,6 +44,24 @@ fixed_at n value bits = do
   found ← field_at Short n bits
   _ ← refuse (not (found.0 == value)) Value
   Ok (tt, found.1)
+
+-- NID_PACKET of a packet that has to stand there
+unfoldable pub required_at : ℕ → List Bool → Result (Unit {0} × List Bool) MsgFault
+required_at nid_packet bits = do
+  found ← field_at Missing 8 bits
+  _ ← refuse (not (found.0 == nid_packet)) Missing
+  Ok (tt, found.1)
+
+-- the fault of a message with a packet that has this fault
+abbrev pub packet_fault : PacketFault → MsgFault
+packet_fault packet.Short = Packet
+packet_fault packet.Length = Packet
+packet_fault packet.Value = Value
+packet_fault packet.Memory = Memory
+
+abbrev pub packet_read : {A : Type 0} → Result A PacketFault → Result A MsgFault
+packet_read (Ok x) = Ok x
+packet_read (Err fault) = Err (packet_fault fault)
 
 -- behind the last field: fewer than 8 bits, else the fault more, and all of them zero
 unfoldable pub end_at : MsgFault → List Bool → Result (Unit {0}) MsgFault

@@ -1,19 +1,51 @@
 -- The order in which the bytes of a centre's message are tested (profile).
-use Rattle.std.specs.Prelude.{ℕ, Bool, List, Result, Ok}
-use Rattle.rbc_spec.specs.Message.{TrackBody, SystemVersion, TrackMessage}
+use Rattle.std.specs.Prelude.{ℕ, ◌==◌, Bool, List, Result, Ok, Err, if◌then◌else◌}
+use Rattle.rbc_spec.specs.Message.{TrackBody, Authority, DataAcknowledged, ShorteningRequest, Transition, EndSession, SystemVersion, TerminationAcknowledged, TrainRejected, TrainAccepted, TrackMessage}
 use Rattle.rbc_bits.specs.Reading.{field_at}
+use Rattle.rbc_packets.specs.Steps.{◌>>=◌}
+use Rattle.rbc_packets.specs.TrackReading.{authority_at, transition_at, session_order_at}
 use Rattle.rbc_msgs.specs.Numbers.{track_of_number, least_track_length}
-use Rattle.rbc_msgs.specs.Reading.{◌>>=◌, start_at, whole_at, time_at, fixed_at, end_at}
+use Rattle.rbc_msgs.specs.Reading.{start_at, whole_at, time_at, fixed_at, required_at, packet_read, end_at}
 use Rattle.rbc_msgs.specs.declared.fault.MsgFault.{MsgFault}
-use Rattle.rbc_msgs.specs.declared.fault.MsgFault.TheVariants.{Short, Length}
+use Rattle.rbc_msgs.specs.declared.fault.MsgFault.TheVariants.{Short, Length, Missing}
 use Rattle.rbc_msgs.specs.declared.number.TrackNumber.{TrackNumber}
 use Rattle.rbc_msgs.specs.declared.number.TrackNumber.TheVariants as number
 
--- what stands behind the header: M_VERSION, which has to be version 2.0
-unfoldable pub track_body_at : TrackNumber → List Bool → Result (TrackBody × List Bool) MsgFault
-track_body_at number.SystemVersion bits = do
-  version ← fixed_at 7 32 bits
-  Ok (SystemVersion, version.1)
+-- L_ENDSECTION of packet 15, which has to stand there
+unfoldable pub end_of_authority_at : List Bool → Result (ℕ × List Bool) MsgFault
+end_of_authority_at bits = do
+  found ← required_at 15 bits
+  authority ← packet_read (authority_at found.1)
+  Ok (authority.0.l_endsection, authority.1)
+
+-- packet 131 behind its number
+unfoldable pub transition_order_at : List Bool → Result (TrackBody × List Bool) MsgFault
+transition_order_at bits = do
+  transition ← packet_read (transition_at bits)
+  Ok (Transition transition.0.d_rbctr transition.0.nid_c transition.0.nid_rbc, transition.1)
+
+-- packet 42 behind its number
+unfoldable pub end_of_session_at : List Bool → Result (TrackBody × List Bool) MsgFault
+end_of_session_at bits = do
+  order ← packet_read (session_order_at bits)
+  Ok (EndSession order.0.nid_c order.0.nid_rbc, order.1)
+
+-- packet 131 or packet 42, one of which has to stand there
+unfoldable pub general_at : List Bool → Result (TrackBody × List Bool) MsgFault
+general_at bits = do
+  found ← field_at Missing 8 bits
+  if found.0 == 131 then transition_order_at found.1 else (if found.0 == 42 then end_of_session_at found.1 else Err Missing)
+
+-- what stands behind the header. M_VERSION has to be version 2.0
+abbrev pub track_body_at : TrackNumber → List Bool → Result (TrackBody × List Bool) MsgFault
+track_body_at number.MovementAuthority bits = end_of_authority_at bits >>= λ l. Ok (Authority l.0, l.1)
+track_body_at number.DataAcknowledged bits = field_at Short 32 bits >>= λ stamp. Ok (DataAcknowledged stamp.0, stamp.1)
+track_body_at number.ShorteningRequest bits = end_of_authority_at bits >>= λ l. Ok (ShorteningRequest l.0, l.1)
+track_body_at number.GeneralMessage bits = general_at bits
+track_body_at number.SystemVersion bits = fixed_at 7 32 bits >>= λ version. Ok (SystemVersion, version.1)
+track_body_at number.TerminationAcknowledged bits = Ok (TerminationAcknowledged, bits)
+track_body_at number.TrainRejected bits = Ok (TrainRejected, bits)
+track_body_at number.TrainAccepted bits = Ok (TrainAccepted, bits)
 
 -- M_ACK has to ask for no acknowledgement.
 unfoldable pub read_track : List ℕ → Result TrackMessage MsgFault

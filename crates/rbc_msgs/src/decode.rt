@@ -1,31 +1,32 @@
-ghost use Rattle.std.specs.Prelude.{◌≡◌, ◌++◌, IfOk};
-ghost use Rattle.rbc_spec.specs.Message.{TrainMessage, TrackMessage};
-ghost use Rattle.rbc_msgs.specs.Bodies.{track_body};
-ghost use Rattle.rbc_msgs.specs.Layout.{joined};
-ghost use Rattle.rbc_msgs.specs.Numbers.{track_of_number};
-ghost use Rattle.rbc_msgs.specs.Reading.{Takes};
+ghost use Rattle.std.specs.Prelude.{◌≡◌, Ok, IfOk};
+ghost use Rattle.rbc_spec.specs.Message.{TrackMessage};
+ghost use Rattle.rbc_msgs.specs.TrainText.{TrainText};
+ghost use Rattle.rbc_msgs.specs.Reading.{Gives};
 ghost use Rattle.rbc_msgs.specs.TrainSpelling.{SpellsTrain};
 ghost use Rattle.rbc_msgs.specs.TrainReading.{read_train};
-ghost use Rattle.rbc_msgs.specs.TrackSpelling.{track_number, track_body_fields, SpellsTrack};
-ghost use Rattle.rbc_msgs.specs.TrackReading.{read_track, track_body_at};
+ghost use Rattle.rbc_msgs.specs.TrackSpelling.{SpellsTrack};
+ghost use Rattle.rbc_msgs.specs.TrackReading.{read_track};
 
 use crate::fault::MsgFault;
 use crate::number::{TrackNumber, TrainNumber};
 use crate::reading::{end, start_of, take, take_fixed, take_time, whole};
-use crate::track::{TrackBody, TrackMsg, VERSION_2_0};
-use crate::train::{TrainBody, TrainMsg};
-use rbc_bits::BitReader;
+use crate::track::TrackMsg;
+use crate::track_reading;
+use crate::train::TrainMsg;
+use crate::train_reading::{read_body, read_further};
+use std::alloc::Global;
 
-/// The message of a train that the bytes spell, all of the bytes.
-pub fn decode_train(bytes: &[u8]) -> Result<TrainMsg, MsgFault>
+/// The message of a train that the bytes spell, all of the bytes. Only packets that are kept without being read take
+/// memory.
+pub fn decode_train(alloc: Global, bytes: &[u8]) -> Result<TrainMsg, MsgFault>
     // What is read is spelled so.
     ensures found { IfOk result (λ m. SpellsTrain bytes.now m) }
-    // What is spelled so is read.
-    ensures only { (m : TrainMessage) → SpellsTrain bytes.now m → result ≡ Ok m }
+    // What is spelled so is read, unless memory runs out.
+    ensures only { (m : TrainText) → SpellsTrain bytes.now m → Gives (λ x. x) result (Ok m) }
     // Which fault it is.
-    ensures exact { result ≡ read_train bytes.now }
+    ensures exact { Gives (λ x. x) result (read_train bytes.now) }
 {
-    train_from(bytes)
+    train_from(alloc, bytes)
 }
 
 /// The message of a centre that the bytes spell, all of the bytes.
@@ -41,8 +42,8 @@ pub fn decode_track(bytes: &[u8]) -> Result<TrackMsg, MsgFault>
 }
 
 #[tactic(auto, unfolding(crate::specs::TrainReading::read_train))]
-fn train_from(bytes: &[u8]) -> Result<TrainMsg, MsgFault>
-    ensures exact { result ≡ read_train bytes.now }
+fn train_from(alloc: Global, bytes: &[u8]) -> Result<TrainMsg, MsgFault>
+    ensures exact { Gives (λ x. x) result (read_train bytes.now) }
     ensures found { IfOk result (λ m. SpellsTrain bytes.now m) }
 {
     let (number, l_message) = start_of(bytes)?;
@@ -50,11 +51,10 @@ fn train_from(bytes: &[u8]) -> Result<TrainMsg, MsgFault>
     let mut reader = whole(number.least_length(), l_message, bytes)?;
     let t_train = take_time(&mut reader)?;
     let nid_engine = take(&mut reader, 24)? as u32;
-    let body = match number {
-        TrainNumber::InitiationOfSession => TrainBody::InitiationOfSession,
-    };
+    let body = read_body(alloc, number, &mut reader)?;
+    let further = read_further(alloc, &mut reader)?;
     end(reader, MsgFault::Packet)?;
-    Ok(TrainMsg::new(t_train, nid_engine, body))
+    Ok(TrainMsg::new(t_train, nid_engine, body, further))
 }
 
 #[tactic(auto, unfolding(crate::specs::TrackReading::read_track))]
@@ -68,21 +68,7 @@ fn track_from(bytes: &[u8]) -> Result<TrackMsg, MsgFault>
     let t_train = take_time(&mut reader)?;
     take_fixed(&mut reader, 1, 0)?;
     let nid_lrbg = take(&mut reader, 24)? as u32;
-    let body = body_of_track(number, &mut reader)?;
+    let body = track_reading::read_body(number, &mut reader)?;
     end(reader, MsgFault::Length)?;
     Ok(TrackMsg::new(t_train, nid_lrbg, body))
-}
-
-#[tactic(auto, unfolding(crate::specs::TrackReading::track_body_at))]
-fn body_of_track(number: TrackNumber, reader: &mut BitReader) -> Result<TrackBody, MsgFault>
-    ensures exact { Takes track_body result reader.new (track_body_at number reader.old) }
-    ensures taken { IfOk result (λ body. reader.old ≡ joined (track_body_fields (track_body body)) ++ reader.new) }
-    ensures number { IfOk result (λ body. track_of_number (track_number (track_body body)) ≡ Ok number) }
-{
-    match number {
-        TrackNumber::SystemVersion => {
-            take_fixed(reader, 7, VERSION_2_0)?;
-            Ok(TrackBody::SystemVersion)
-        }
-    }
 }

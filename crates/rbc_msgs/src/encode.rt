@@ -1,61 +1,45 @@
-ghost use Rattle.std.specs.Prelude.{◌≡◌, ◌^◌, ◌<◌, [], ◌∷◌, IfOk, IsOkUnless};
-ghost use Rattle.rbc_msgs.specs.Layout.{joined, length_limit};
-ghost use Rattle.rbc_msgs.specs.TrainSpelling.{SpellsTrain};
+ghost use Rattle.std.specs.Prelude.{◌≡◌, ◌<◌, ◌↔◌, IfOk, IsErrOf, IsOkUnless};
+ghost use Rattle.rbc_msgs.specs.Layout.{length_limit};
+ghost use Rattle.rbc_msgs.specs.TrainSpelling.{SpellsTrain, train_length};
 ghost use Rattle.rbc_msgs.specs.TrackSpelling.{SpellsTrack};
 
 use crate::fault::EncodeFault;
-use crate::number::{TrackNumber, TrainNumber};
-use crate::track::{TrackBody, TrackMsg, VERSION_2_0};
-use crate::train::{TrainBody, TrainMsg};
-use rbc_bits::BitWriter;
+use crate::track::TrackMsg;
+use crate::train::TrainMsg;
+use crate::{track_writing, train_writing};
 use std::alloc::Global;
 
-/// The bytes that spell the message of a train. No message that is known is too long.
+/// The bytes that spell the message of a train.
 pub fn encode_train(alloc: Global, message: &TrainMsg) -> Result<Vec<u8>, EncodeFault>
+    ensures spelled { IfOk result (λ bytes. SpellsTrain bytes.items message.now) }
+    ensures too_long { IsErrOf result EncodeFault.TooLong ↔ (1023 < train_length message.now) }
+{
+    let l_message = train_writing::length_of(message)?;
+    train_bytes(alloc, l_message, message)
+}
+
+// The bytes of a message that takes so many.
+fn train_bytes(alloc: Global, l_message: u64, message: &TrainMsg) -> Result<Vec<u8>, EncodeFault>
+    requires length { l_message ≡ train_length message.now }
+    requires limit { l_message < length_limit }
     ensures spelled { IfOk result (λ bytes. SpellsTrain bytes.items message.now) }
     ensures memory { IsOkUnless result EncodeFault.Memory }
 {
-    let number = match message.body() {
-        TrainBody::InitiationOfSession => TrainNumber::InitiationOfSession,
-    };
-    let l_message = number.least_length();
-    let mut writer = start(alloc, number as u8, l_message, message.t_train())?;
-    writer.put(message.nid_engine().into(), 24)?;
+    let writer = train_writing::header(alloc, l_message, message)?;
+    let writer = train_writing::body(writer, message.body())?;
+    let writer = train_writing::further(writer, message.further())?;
     Ok(writer.finish()?)
 }
 
-/// The bytes that spell the message of a centre. No message that is known is too long.
+/// The bytes that spell the message of a centre. None is too long.
 pub fn encode_track(alloc: Global, message: &TrackMsg) -> Result<Vec<u8>, EncodeFault>
     ensures spelled { IfOk result (λ bytes. SpellsTrack bytes.items message.now) }
     ensures memory { IsOkUnless result EncodeFault.Memory }
 {
-    let number = match message.body() {
-        TrackBody::SystemVersion => TrackNumber::SystemVersion,
-    };
-    let l_message = number.least_length();
-    let mut writer = start(alloc, number as u8, l_message, message.t_train())?;
-    writer.put(0, 1)?;
-    writer.put(message.nid_lrbg().into(), 24)?;
-    match message.body() {
-        TrackBody::SystemVersion => writer.put(VERSION_2_0, 7)?,
-    }
+    let body = message.body();
+    let number = track_writing::number_of(body);
+    let l_message = track_writing::length_of(body);
+    let writer = track_writing::header(alloc, number, l_message, message)?;
+    let writer = track_writing::body(writer, body)?;
     Ok(writer.finish()?)
-}
-
-// NID_MESSAGE, L_MESSAGE and T_TRAIN, with which each message begins.
-fn start(
-    alloc: Global,
-    number: u8,
-    l_message: usize,
-    t_train: u32,
-) -> Result<BitWriter, EncodeFault>
-    requires { l_message < length_limit }
-    ensures ok { IfOk result (λ bits. bits ≡ joined ((8, number) ∷ (10, l_message) ∷ (32, t_train) ∷ [])) }
-    ensures memory { IsOkUnless result EncodeFault.Memory }
-{
-    let mut writer = BitWriter::new(alloc);
-    writer.put(number.into(), 8)?;
-    writer.put(l_message as u64, 10)?;
-    writer.put(t_train.into(), 32)?;
-    Ok(writer)
 }

@@ -3,6 +3,8 @@ ghost use Rattle.rbc_msgs.specs.Faults.{fault_number};
 ghost use Rattle.rbc_msgs.specs.declared.fault.EncodeFault.TheVariants as encode;
 
 use rbc_bits::BitFault;
+use rbc_packets::PacketFault;
+use std::alloc::AllocFailed;
 
 /// Why bytes are no message that is read: the first fault in the order of the tests (profile).
 #[derive(Clone, Copy, Debug, PartialEq, Eq)]
@@ -34,6 +36,32 @@ impl MsgFault {
     }
 }
 
+impl From<PacketFault> for MsgFault {
+    ghost use Rattle.std.specs.Prelude.{◌≡◌};
+    ghost use Rattle.rbc_msgs.specs.Reading.{packet_fault};
+
+    ghost from_gives = { λ fault given. given ≡ packet_fault fault };
+
+    fn from(fault: PacketFault) -> MsgFault {
+        match fault {
+            PacketFault::Short | PacketFault::Length => MsgFault::Packet,
+            PacketFault::Value => MsgFault::Value,
+            PacketFault::Memory => MsgFault::Memory,
+        }
+    }
+}
+
+impl<T: Drop> From<AllocFailed<T>> for MsgFault {
+    ghost use Rattle.std.specs.Prelude.{◌≡◌};
+    ghost use Rattle.rbc_msgs.specs.declared.fault.MsgFault.TheVariants as msg;
+
+    ghost from_gives = { λ _ fault. fault ≡ msg.Memory };
+
+    fn from(_error: AllocFailed<T>) -> MsgFault {
+        MsgFault::Memory
+    }
+}
+
 /// Why a message was not written.
 #[derive(Clone, Copy, Debug, PartialEq, Eq)]
 pub enum EncodeFault {
@@ -48,6 +76,15 @@ impl From<BitFault> for EncodeFault {
     ghost from_gives = { λ _ fault. fault ≡ encode.Memory };
 
     fn from(_fault: BitFault) -> EncodeFault {
+        EncodeFault::Memory
+    }
+}
+
+// So do packets that are written.
+impl From<PacketFault> for EncodeFault {
+    ghost from_gives = { λ _ fault. fault ≡ encode.Memory };
+
+    fn from(_fault: PacketFault) -> EncodeFault {
         EncodeFault::Memory
     }
 }

@@ -1,22 +1,22 @@
 //! What holds of all spellings, whatever code reads or writes them.
 
-ghost use Rattle.std.specs.Prelude.{◌≡◌, ℕ, ◌^◌, ◌<◌, ◌++◌, List};
-ghost use Rattle.rbc_spec.specs.Message.{TrainMessage, TrackMessage, unknown_time};
-ghost use Rattle.rbc_msgs.specs.Layout.{IsBytes};
-ghost use Rattle.rbc_msgs.specs.TrainSpelling.{SpellsTrain};
-ghost use Rattle.rbc_msgs.specs.TrackSpelling.{SpellsTrack};
+ghost use Rattle.std.specs.Prelude.{◌≡◌, ℕ, ◌<◌, ◌++◌, List};
+ghost use Rattle.rbc_spec.specs.Message.{TrackMessage};
+ghost use Rattle.rbc_msgs.specs.TrainText.{TrainText};
+ghost use Rattle.rbc_msgs.specs.Layout.{length_limit, IsBytes};
+ghost use Rattle.rbc_msgs.specs.TrainSpelling.{train_length, TrainFits, SpellsTrain};
+ghost use Rattle.rbc_msgs.specs.TrackSpelling.{TrackFits, SpellsTrack};
 
-/// Each message whose values have room in their fields has a spelling.
+/// Each message whose values have room in their fields has a spelling, if it takes at most 1 023 bytes.
 pub fn each_message_has_a_spelling()
-    ensures train { (m : TrainMessage) → m.t_train < unknown_time → m.nid_engine < 2 ^ 24 →
+    ensures train { (m : TrainText) → TrainFits m → train_length m < length_limit →
         (bytes : List ℕ) × IsBytes bytes × SpellsTrain bytes m }
-    ensures track { (m : TrackMessage) → m.t_train < unknown_time → m.nid_lrbg < 2 ^ 24 →
-        (bytes : List ℕ) × IsBytes bytes × SpellsTrack bytes m }
+    ensures track { (m : TrackMessage) → TrackFits m → (bytes : List ℕ) × IsBytes bytes × SpellsTrack bytes m }
 {}
 
 /// A message has at most one spelling.
 pub fn one_spelling()
-    ensures train { (a b : List ℕ) (m : TrainMessage) →
+    ensures train { (a b : List ℕ) (m : TrainText) →
         IsBytes a → IsBytes b → SpellsTrain a m → SpellsTrain b m → a ≡ b }
     ensures track { (a b : List ℕ) (m : TrackMessage) →
         IsBytes a → IsBytes b → SpellsTrack a m → SpellsTrack b m → a ≡ b }
@@ -24,13 +24,13 @@ pub fn one_spelling()
 
 /// Bytes spell at most one message.
 pub fn one_message()
-    ensures train { (a : List ℕ) (m n : TrainMessage) → SpellsTrain a m → SpellsTrain a n → m ≡ n }
+    ensures train { (a : List ℕ) (m n : TrainText) → SpellsTrain a m → SpellsTrain a n → m ≡ n }
     ensures track { (a : List ℕ) (m n : TrackMessage) → SpellsTrack a m → SpellsTrack a n → m ≡ n }
 {}
 
 /// No spelling begins another: of messages that stand back to back each can be told where it ends.
 pub fn no_spelling_begins_another()
-    ensures train { (a b x y : List ℕ) (m n : TrainMessage) →
+    ensures train { (a b x y : List ℕ) (m n : TrainText) →
         SpellsTrain a m → SpellsTrain b n → a ++ x ≡ b ++ y → (a ≡ b) × (x ≡ y) }
     ensures track { (a b x y : List ℕ) (m n : TrackMessage) →
         SpellsTrack a m → SpellsTrack b n → a ++ x ≡ b ++ y → (a ≡ b) × (x ≡ y) }

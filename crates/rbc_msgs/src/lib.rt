@@ -9,7 +9,12 @@ mod laws;
 mod number;
 mod reading;
 mod track;
+mod track_reading;
+mod track_writing;
 mod train;
+mod train_body;
+mod train_reading;
+mod train_writing;
 
 pub use decode::{decode_track, decode_train};
 pub use encode::{encode_track, encode_train};
@@ -18,4 +23,5 @@ pub use laws::{
     each_message_has_a_spelling, no_spelling_begins_another, one_message, one_spelling,
 };
 pub use track::{NID_LRBG_UNKNOWN, TrackBody, TrackMsg};
-pub use train::{TrainBody, TrainMsg};
+pub use train::TrainMsg;
+pub use train_body::TrainBody;

@@ -5,7 +5,8 @@ ghost use Rattle.rbc_bits.specs.Bits.{field, bits_of};
 ghost use Rattle.rbc_spec.specs.Message.{unknown_time};
 ghost use Rattle.rbc_bits.specs.Reading.{field_at};
 ghost use Rattle.rbc_msgs.specs.Layout.{Begins, IsFilling, length_limit};
-ghost use Rattle.rbc_msgs.specs.Reading.{Takes, start_at, whole_at, time_at, fixed_at, end_at};
+ghost use Rattle.rbc_packets.specs.Steps.{Takes};
+ghost use Rattle.rbc_msgs.specs.Reading.{start_at, whole_at, time_at, fixed_at, required_at, end_at};
 
 use crate::fault::MsgFault;
 use rbc_bits::BitReader;
@@ -78,6 +79,30 @@ pub(crate) fn take_fixed(reader: &mut BitReader, n: u32, value: u64) -> Result<(
         return Err(MsgFault::Value);
     }
     Ok(())
+}
+
+/// NID_PACKET of a packet that has to stand there.
+#[tactic(auto, unfolding(crate::specs::Reading::required_at))]
+pub(crate) fn required(reader: &mut BitReader, nid_packet: u64) -> Result<(), MsgFault>
+    ensures exact { Takes (λ x. x) result reader.new (required_at nid_packet reader.old) }
+    ensures taken { OnOk result (reader.old ≡ field 8 nid_packet ++ reader.new) }
+{
+    if take_number(reader)? != nid_packet {
+        return Err(MsgFault::Missing);
+    }
+    Ok(())
+}
+
+/// NID_PACKET of a packet that has to stand there, whichever it is.
+pub(crate) fn take_number(reader: &mut BitReader) -> Result<u64, MsgFault>
+    ensures exact { Takes (λ x. x) result reader.new (field_at MsgFault.Missing 8 reader.old) }
+    ensures taken { IfOk result (λ v. reader.old ≡ field 8 v ++ reader.new) }
+    ensures fits { IfOk result (λ v. v < 2 ^ 8) }
+{
+    match reader.take(8) {
+        Ok(value) => Ok(value),
+        Err(_) => Err(MsgFault::Missing),
+    }
 }
 
 /// What stands behind the last field: the filling bits, and the fault `more` where they are 8 or more.

@@ -2,6 +2,8 @@ ghost use Rattle.std.specs.Prelude.{◌≡◌, ◌^◌, ◌<◌};
 ghost use Rattle.rbc_spec.specs.Message.{unknown_time};
 ghost use Rattle.rbc_msgs.specs.Bodies.{track_body};
 
+use rbc_packets::{Authority, SessionOrder, Transition};
+use rbc_vars::TTrain;
 use std::marker::Model;
 
 /// NID_LRBG of a message that names no balise group (SUBSET-026 7.5.1).
@@ -13,8 +15,24 @@ pub(crate) const VERSION_2_0: u64 = 32;
 /// What a centre says to a train (SUBSET-026 8.7).
 #[derive(Clone, Copy, Debug, PartialEq, Eq)]
 pub enum TrackBody {
+    /// Message 3, Movement Authority (3.8).
+    Authority(Authority),
+    /// Message 8, Acknowledgement of Train Data: T_TRAIN of the train data.
+    DataAcknowledged(TTrain),
+    /// Message 9, Request to Shorten MA (3.8.6).
+    ShorteningRequest(Authority),
+    /// Message 24, General Message, with packet 131: the RBC transition order (3.15.1).
+    Transition(Transition),
+    /// Message 24, General Message, with packet 42: the session is to be terminated (3.5.5).
+    EndSession(SessionOrder),
     /// Message 32, RBC/RIU System Version: version 2.0 (3.5.3).
     SystemVersion,
+    /// Message 39, Acknowledgement of termination of a communication session (3.5.5).
+    TerminationAcknowledged,
+    /// Message 40, Train Rejected (5.4).
+    TrainRejected,
+    /// Message 41, Train Accepted (5.4).
+    TrainAccepted,
 }
 
 /// A message to a train. It asks for no acknowledgement (profile).
@@ -37,6 +55,10 @@ impl Model for TrackMsg {
     ghost invariant = { HasTrackRanges };
 
     ghost inverse = { track_inside };
+
+    ghost use Rattle.rbc_msgs.specs.TrackView.{track_back};
+
+    ghost inverse_ok = { track_back };
 }
 
 impl TrackMsg {

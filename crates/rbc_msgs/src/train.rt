@@ -1,49 +1,46 @@
-ghost use Rattle.std.specs.Prelude.{◌≡◌, ◌^◌, ◌<◌};
+ghost use Rattle.std.specs.Prelude.{◌≡◌, ◌≢◌, ◌^◌, ◌<◌, All};
 ghost use Rattle.rbc_spec.specs.Message.{unknown_time};
-ghost use Rattle.rbc_msgs.specs.Bodies.{train_body};
+ghost use Rattle.rbc_msgs.specs.TrainView.{HasItsPackets};
 
+use crate::train_body::TrainBody;
+use rbc_packets::Opaque;
 use std::marker::Model;
 
-/// What a train says (SUBSET-026 8.6).
-#[derive(Clone, Copy, Debug, PartialEq, Eq)]
-pub enum TrainBody {
-    /// Message 155, Initiation of a communication session (3.5.3).
-    InitiationOfSession,
-}
-
 /// A message of a train.
-#[derive(Clone, Copy, Debug, PartialEq, Eq)]
+#[derive(Debug, Drop)]
 pub struct TrainMsg {
     t_train: u32,
     nid_engine: u32,
     body: TrainBody,
+    further: Vec<Opaque>,
 }
 
 impl Model for TrainMsg {
-    ghost use Rattle.rbc_spec.specs.Message.{TrainMessage};
+    ghost use Rattle.rbc_msgs.specs.TrainText.{TrainText};
 
-    ghost Value = { TrainMessage };
+    ghost Value = { TrainText };
 
-    ghost use Rattle.rbc_msgs.specs.TrainView.{train_message, HasTrainRanges, train_inside};
+    ghost use Rattle.rbc_msgs.specs.TrainView.{train_text, HasTrainRanges};
 
-    ghost view = { train_message };
+    ghost view = { train_text };
 
     ghost invariant = { HasTrainRanges };
-
-    ghost inverse = { train_inside };
 }
 
 impl TrainMsg {
-    /// A message of the train with this NID_ENGINE, as its clock shows T_TRAIN.
-    pub fn new(t_train: u32, nid_engine: u32, body: TrainBody) -> TrainMsg
+    /// A message of the train with this NID_ENGINE, as its clock shows T_TRAIN, with further packets behind its body.
+    pub fn new(t_train: u32, nid_engine: u32, body: TrainBody, further: Vec<Opaque>) -> TrainMsg
         requires time { t_train < unknown_time }
         requires engine { nid_engine < 2 ^ 24 }
-        ensures { result ≡ record { t_train = t_train; nid_engine = nid_engine; body = train_body body } }
+        requires packets { HasItsPackets body }
+        requires further { All (λ p. p.nid_packet ≢ 0) further.items }
+        ensures { result ≡ record { t_train = t_train; nid_engine = nid_engine; body = body; further = further.items } }
     {
         TrainMsg {
             t_train,
             nid_engine,
             body,
+            further,
         }
     }
 
@@ -64,9 +61,18 @@ impl TrainMsg {
     }
 
     /// What it says.
-    pub fn body(&self) -> TrainBody
-        ensures { train_body result ≡ self.now.body }
+    pub fn body(&self) -> &TrainBody
+        ensures value { result.now ≡ self.now.body }
+        ensures packets { HasItsPackets result.now }
     {
-        self.body
+        &self.body
+    }
+
+    /// The packets behind those that the message must have, in their order.
+    pub fn further(&self) -> &[Opaque]
+        ensures value { result.now ≡ self.now.further }
+        ensures numbers { All (λ p. p.nid_packet ≢ 0) result.now }
+    {
+        &self.further
     }
 }

@@ -1,6 +1,8 @@
-use Rattle.std.proofs.Common.{◌∙◌}
+use Rattle.std.proofs.Common.{subst}
+use Rattle.rbc_msgs.specs.Reading.{Gives}
 use Rattle.rbc_msgs.proofs.TrainLaws.{read_train-again}
 use Rattle.rbc_msgs.proofs.decode.decode_train.Goals as goal
 
 pub returns-clause-only : goal.returns-clause-only
-returns-clause-only c = λ m s. c.train_from.ensures.exact ∙ read_train-again c.args.bytes.now m s
+returns-clause-only c =
+    λ m s. subst (λ r. Gives (λ x. x) c.train_from.result r) (read_train-again c.args.bytes.now m s) c.train_from.ensures.exact

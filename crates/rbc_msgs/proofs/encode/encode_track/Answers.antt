@@ -1,17 +1,16 @@
-use Rattle.std.proofs.Common.{[], ap, arith, ◌++◌, ◌∙◌, ◌∷◌}
-use Rattle.rbc_bits.specs.Bits.{field}
-use Rattle.rbc_msgs.specs.Layout.{joined}
-use Rattle.rbc_msgs.proofs.TrackLaws.{written}
+use Rattle.std.proofs.Common.{◌∙◌, ◌++◌, ap}
+use Rattle.rbc_packets.specs.Layout.{joined}
+use Rattle.rbc_msgs.specs.TrackSpelling.{track_number, track_body_fields, track_length}
+use Rattle.rbc_msgs.proofs.TrackLaws.{written, written-parts}
 use Rattle.rbc_msgs.proofs.encode.encode_track.Goals as goal
 
 pub returns-clause-spelled : goal.returns-clause-spelled
 returns-clause-spelled c =
     let m = c.args.message.now in
-    let start = c.in_ok-writer.writer in
-    let ack = c.put.new.self in
-    let length = ap (λ n. joined ((8, 32) ∷ (10, n) ∷ (32, c.t_train.result) ∷ [])) c.least_length-l_message.ensures in
-    let time = ap (λ t. joined ((8, 32) ∷ (10, 11) ∷ (32, t) ∷ [])) c.t_train.ensures.value in
-    let group = ap (λ n. ack ++ field 24 n) (c.into.ensures ∙ c.nid_lrbg.ensures.value) in
-    written c.in_ok-finish.field-0.items m.t_train m.nid_lrbg m.body start ack c.put-2.new.self c.put-3.new.self
-    (c.in_ok-writer.ensures.ok ∙ length ∙ time) c.in_ok-put.ensures.ok (c.in_ok-put-2.ensures.ok ∙ group) c.in_ok-put-3.ensures.ok c.in_ok-finish.ensures.ok
-    (omega (arith, c.t_train.ensures.value, c.t_train.ensures.range)) (omega (arith, c.nid_lrbg.ensures.value, c.nid_lrbg.ensures.range))
+    let header = c.in_ok-writer.writer in
+    let all = c.in_ok-writer-2.writer in
+    let body = c.in_ok-writer-2.ensures.ok ∙ ap (λ b. header ++ joined (track_body_fields b)) c.body-body.ensures in
+    written c.in_ok-finish.field-0.items m c.length_of-l_message.result all
+    (written-parts m c.number_of-number.result c.length_of-l_message.result header all c.in_ok-writer.ensures.ok (c.number_of-number.ensures.value ∙ ap track_number c.body-body.ensures) body)
+    c.in_ok-finish.ensures.ok (c.length_of-l_message.ensures.value ∙ ap track_length c.body-body.ensures)
+    (record { t_train = c.in_ok-writer.ensures.fits.0; nid_lrbg = c.in_ok-writer.ensures.fits.1; body = rw c.body-body.ensures at c.in_ok-writer-2.ensures.fits })

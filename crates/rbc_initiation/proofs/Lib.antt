@@ -1,0 +1,4 @@
+pub mod Spelled
+mod Steps
+pub mod TrainLaws
+pub mod TrackLaws

@@ -1,0 +1,13 @@
+pub mod Message
+pub mod Step
+pub mod Bodies
+pub mod TrainView
+pub mod TrackView
+pub mod Layout
+pub mod TrainSpelling
+pub mod TrackSpelling
+pub mod Faults
+pub mod Numbers
+pub mod Reading
+pub mod TrainReading
+pub mod TrackReading

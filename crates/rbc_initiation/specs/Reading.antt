@@ -1,0 +1,61 @@
+-- The order in which bytes are tested, for the parts that all messages have: the first fault is answered (profile).
+use Rattle.std.specs.Prelude.{◌≡◌, ℕ, ◌==◌, Bool, true, false, not, List, length, take, Result, Ok, Err, nat_lt, nat_le}
+use Rattle.rbc_initiation.specs.Message.{unknown_time}
+use Rattle.rbc_bits.specs.Bits.{bits_of}
+use Rattle.rbc_bits.specs.Reading.{field_at}
+use Rattle.rbc_initiation.specs.declared.fault.MsgFault.{MsgFault}
+use Rattle.rbc_initiation.specs.declared.fault.MsgFault.TheVariants.{Short, Length, Padding, Value}
+
+-- a step, and then the next with what it gave
+infixl 10 ◌>>=◌
+abbrev pub ◌>>=◌ : {A B : Type 0} → Result A MsgFault → (A → Result B MsgFault) → Result B MsgFault
+(Ok x) >>= f = f x
+(Err e) >>= f = Err e
+
+-- the fault, if the test holds
+abbrev pub refuse : Bool → MsgFault → Result (Unit {0}) MsgFault
+refuse true fault = Err fault
+refuse false fault = Ok tt
+
+-- what the program answered, seen by view, and the bits behind it, are what reading gives
+abbrev pub Takes : {A B : Type 0} → (A → B) → Result A MsgFault → List Bool → Result (B × List Bool) MsgFault → Type 0
+Takes view (Ok x) rest read = read ≡ Ok (view x, rest)
+Takes view (Err e) rest read = read ≡ Err e
+
+-- NID_MESSAGE and L_MESSAGE, which three bytes hold
+unfoldable pub start_at : List ℕ → Result (ℕ × ℕ) MsgFault
+start_at bytes = do
+  _ ← refuse (nat_lt (length bytes) 3) Short
+  number ← field_at Short 8 (bits_of (take 3 bytes))
+  l_message ← field_at Short 10 number.1
+  Ok (number.0, l_message.0)
+
+-- The bits behind them. L_MESSAGE is at least what the message needs, and as many bytes are there.
+unfoldable pub whole_at : ℕ → ℕ → List ℕ → Result (List Bool) MsgFault
+whole_at least l_message bytes = do
+  _ ← refuse (nat_lt l_message least) Length
+  _ ← refuse (nat_lt (length bytes) l_message) Short
+  _ ← refuse (nat_lt l_message (length bytes)) Length
+  start ← field_at Short 18 (bits_of bytes)
+  Ok start.1
+
+-- T_TRAIN of a header: an unknown time is refused
+unfoldable pub time_at : List Bool → Result (ℕ × List Bool) MsgFault
+time_at bits = do
+  t_train ← field_at Short 32 bits
+  _ ← refuse (t_train.0 == unknown_time) Value
+  Ok t_train
+
+-- a field of n bits that is given one value: any other is refused
+unfoldable pub fixed_at : ℕ → ℕ → List Bool → Result (Unit {0} × List Bool) MsgFault
+fixed_at n value bits = do
+  found ← field_at Short n bits
+  _ ← refuse (not (found.0 == value)) Value
+  Ok (tt, found.1)
+
+-- behind the last field: fewer than 8 bits, else the fault more, and all of them zero
+unfoldable pub end_at : MsgFault → List Bool → Result (Unit {0}) MsgFault
+end_at more bits = do
+  _ ← refuse (nat_le 8 (length bits)) more
+  filling ← field_at Short (length bits) bits
+  refuse (not (filling.0 == 0)) Padding

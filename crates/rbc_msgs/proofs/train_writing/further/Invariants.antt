@@ -1,0 +1,10 @@
+use Rattle.std.proofs.Common.{◌≡◌, ◌++◌, take}
+use Rattle.std.specs.List.{flat_map, AllByRecursion}
+use Rattle.rbc_msgs.specs.TrainSpelling.{packet_bits, IsFurther}
+use Rattle.rbc_msgs.proofs.train_writing.further.Given as goal
+
+abbrev pub invariant-loop-packet : goal.invariant-loop-packet
+invariant-loop-packet l = record {
+  text : l.writer ≡ l.fn.writer ++ flat_map packet_bits (take l.packet-index l.packets);
+  fits : AllByRecursion IsFurther (take l.packet-index l.packets);
+}

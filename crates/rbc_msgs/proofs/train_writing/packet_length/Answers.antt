@@ -1,0 +1,7 @@
+use Rattle.std.proofs.Common.{length, ap, arith}
+use Rattle.rbc_msgs.proofs.TrainLaws.{length-packet}
+use Rattle.rbc_msgs.proofs.train_writing.packet_length.Goals as goal
+
+pub returns-clause-value : goal.returns-clause-value
+returns-clause-value c =
+    omega (arith, length-packet c.args.packet.now, c.from.ensures, c.remaining.ensures, ap length c.bits.ensures.bits)

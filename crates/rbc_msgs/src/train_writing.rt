@@ -1,0 +1,177 @@
+//! The parts of a train's message, written one behind the other, and how long they are.
+
+ghost use Rattle.std.specs.Prelude.{◌≡◌, ◌≢◌, ◌+◌, ◌<◌, ◌≤◌, ◌++◌, ◌^◌, length, All, IfOk, IfErr, OnOk, IsOkUnless};
+ghost use Rattle.std.specs.List.{flat_map, AllByRecursion};
+ghost use Rattle.rbc_packets.specs.Layout.{joined};
+ghost use Rattle.rbc_spec.specs.Message.{unknown_time};
+ghost use Rattle.rbc_msgs.specs.Layout.{length_limit};
+ghost use Rattle.rbc_msgs.specs.TrainView.{HasItsPackets};
+ghost use Rattle.rbc_msgs.specs.TrainSpelling.{train_number, train_header, train_body_bits, packet_bits, train_length, TrainBodyFits, IsFurther};
+
+use crate::fault::EncodeFault;
+use crate::number::TrainNumber;
+use crate::train::TrainMsg;
+use crate::train_body::TrainBody;
+use rbc_bits::BitWriter;
+use rbc_packets::Opaque;
+use std::alloc::Global;
+
+// NID_MESSAGE, L_MESSAGE, T_TRAIN and NID_ENGINE.
+const HEADER_BITS: u64 = 74;
+
+// NID_PACKET and L_PACKET.
+const PACKET_HEADER_BITS: u64 = 21;
+
+// What 1 023 bytes have.
+const MOST_BITS: u64 = 8184;
+
+/// L_MESSAGE: how many bytes the message has.
+pub(crate) fn length_of(message: &TrainMsg) -> Result<u64, EncodeFault>
+    ensures ok { IfOk result (λ n. n ≡ train_length message.now) }
+    ensures limit { IfOk result (λ n. n < length_limit) }
+    ensures fault { IfErr result (λ e. e ≡ EncodeFault.TooLong) }
+    ensures too_long { IfErr result (λ e. 1023 < train_length message.now) }
+{
+    let bits = HEADER_BITS + body_bits(message.body());
+    let bits = with_further(bits, message.further())?;
+    if bits > MOST_BITS {
+        return Err(EncodeFault::TooLong);
+    }
+    Ok((bits + 7) / 8)
+}
+
+// How many bits there are with those of the packets. It does not count on where they are too many.
+fn with_further(front: u64, packets: &[Opaque]) -> Result<u64, EncodeFault>
+    requires { front < 2 ^ 14 }
+    ensures ok { IfOk result (λ n. n ≡ front + length (flat_map packet_bits packets.now)) }
+    ensures few { IfOk result (λ n. n < 2 ^ 15) }
+    ensures fault { IfErr result (λ e. e ≡ EncodeFault.TooLong) }
+    ensures too_long { IfErr result (λ e. 8184 < front + length (flat_map packet_bits packets.now)) }
+{
+    let mut bits = front;
+    for packet in packets {
+        if bits > MOST_BITS {
+            return Err(EncodeFault::TooLong);
+        }
+        bits += packet_length(packet);
+    }
+    Ok(bits)
+}
+
+// How many bits a packet has.
+fn packet_length(packet: &Opaque) -> u64
+    ensures value { result ≡ length (packet_bits packet.now) }
+    ensures range { result < 2 ^ 13 }
+{
+    PACKET_HEADER_BITS + u64::from(packet.bits().remaining())
+}
+
+// How many bits stand between the header and the further packets.
+fn body_bits(body: &TrainBody) -> u64
+    ensures value { result ≡ length (train_body_bits body.now) }
+    ensures range { result < 8400 }
+{
+    match body {
+        TrainBody::TrainData { position, packet } => { position.l_packet() + packet_length(packet) }
+        TrainBody::Request { position, .. } => 5 + position.l_packet(),
+        TrainBody::Report { position } => position.l_packet(),
+        TrainBody::ShorteningGranted { position, .. } => 32 + position.l_packet(),
+        TrainBody::ShorteningRejected { position, .. } => 32 + position.l_packet(),
+        TrainBody::EndOfMission { position } => position.l_packet(),
+        TrainBody::StartOfMission { position, .. } => 2 + position.l_packet(),
+        TrainBody::InitiationOfSession
+        | TrainBody::TerminationOfSession
+        | TrainBody::SessionEstablished => 0,
+    }
+}
+
+// NID_MESSAGE.
+fn number_of(body: &TrainBody) -> u64
+    ensures value { result ≡ train_number body.now }
+    ensures range { result < 2 ^ 8 }
+{
+    let number = match body {
+        TrainBody::TrainData { .. } => TrainNumber::TrainData,
+        TrainBody::Request { .. } => TrainNumber::Request,
+        TrainBody::Report { .. } => TrainNumber::Report,
+        TrainBody::ShorteningGranted { .. } => TrainNumber::ShorteningGranted,
+        TrainBody::ShorteningRejected { .. } => TrainNumber::ShorteningRejected,
+        TrainBody::EndOfMission { .. } => TrainNumber::EndOfMission,
+        TrainBody::InitiationOfSession => TrainNumber::InitiationOfSession,
+        TrainBody::TerminationOfSession => TrainNumber::TerminationOfSession,
+        TrainBody::StartOfMission { .. } => TrainNumber::StartOfMission,
+        TrainBody::SessionEstablished => TrainNumber::SessionEstablished,
+    };
+    number as u64
+}
+
+/// The header.
+#[tactic(auto, unfolding(rbc_packets::specs::Layout::joined))]
+pub(crate) fn header(
+    alloc: Global,
+    l_message: u64,
+    message: &TrainMsg,
+) -> Result<BitWriter, EncodeFault>
+    requires { l_message < length_limit }
+    ensures ok { IfOk result (λ w. w ≡ joined (train_header l_message message.now)) }
+    ensures fits { OnOk result ((message.now.t_train < unknown_time) × (message.now.nid_engine < 2 ^ 24)) }
+    ensures memory { IsOkUnless result EncodeFault.Memory }
+{
+    let mut writer = BitWriter::new(alloc);
+    writer.put(number_of(message.body()), 8)?;
+    writer.put(l_message, 10)?;
+    writer.put(message.t_train().into(), 32)?;
+    writer.put(message.nid_engine().into(), 24)?;
+    Ok(writer)
+}
+
+/// The fixed fields and the packets that have to stand behind the header.
+#[tactic(auto, unfolding(rbc_packets::specs::Layout::joined))]
+pub(crate) fn body(mut writer: BitWriter, body: &TrainBody) -> Result<BitWriter, EncodeFault>
+    requires { HasItsPackets body.now }
+    ensures ok { IfOk result (λ w. w ≡ writer ++ train_body_bits body.now) }
+    ensures fits { OnOk result (TrainBodyFits body.now) }
+    ensures memory { IsOkUnless result EncodeFault.Memory }
+{
+    match body {
+        TrainBody::TrainData { position, packet } => {
+            let writer = position.write_packet(writer)?;
+            Ok(packet.write_packet(writer)?)
+        }
+        TrainBody::Request {
+            q_marqstreason,
+            position,
+        } => {
+            writer.put(q_marqstreason.value(), 5)?;
+            Ok(position.write_packet(writer)?)
+        }
+        TrainBody::Report { position } | TrainBody::EndOfMission { position } => {
+            Ok(position.write_packet(writer)?)
+        }
+        TrainBody::ShorteningGranted { request, position }
+        | TrainBody::ShorteningRejected { request, position } => {
+            writer.put(request.value(), 32)?;
+            Ok(position.write_packet(writer)?)
+        }
+        TrainBody::StartOfMission { q_status, position } => {
+            writer.put(q_status.value(), 2)?;
+            Ok(position.write_packet(writer)?)
+        }
+        TrainBody::InitiationOfSession
+        | TrainBody::TerminationOfSession
+        | TrainBody::SessionEstablished => Ok(writer),
+    }
+}
+
+/// The further packets, in their order.
+pub(crate) fn further(mut writer: BitWriter, packets: &[Opaque]) -> Result<BitWriter, EncodeFault>
+    requires { All (λ p. p.nid_packet ≢ 0) packets.now }
+    ensures ok { IfOk result (λ w. w ≡ writer ++ flat_map packet_bits packets.now) }
+    ensures fits { OnOk result (AllByRecursion IsFurther packets.now) }
+    ensures memory { IsOkUnless result EncodeFault.Memory }
+{
+    for packet in packets {
+        writer = packet.write_packet(writer)?;
+    }
+    Ok(writer)
+}

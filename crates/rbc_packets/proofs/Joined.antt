@@ -1,0 +1,59 @@
+-- The bits of fields that stand one behind the other.
+use Rattle.std.proofs.Common.{◌≡◌, ℕ, ◌+◌, Bool, List, [], ◌∷◌, ◌++◌, length, refl, sym, ap, ◌∙◌, append_assoc, length-append, arith}
+use Rattle.std.proofs.lemmas.List.{append-nil}
+use Rattle.rbc_bits.specs.Bits.{field}
+use Rattle.rbc_bits.proofs.Fields.{length-field}
+use Rattle.rbc_packets.specs.Layout.{Field, joined, widths}
+use Rattle.rbc_packets.specs.Packet.{Packet}
+use Rattle.rbc_packets.specs.OpaqueReading.{opaque_bits}
+
+pub joined-nil : joined [] ≡ []
+unfolding joined
+joined-nil = refl
+
+pub joined-cons : (f : Field) (fields : List Field) → joined (f ∷ fields) ≡ field f.0 f.1 ++ joined fields
+unfolding joined
+joined-cons f fields = refl
+
+pub joined-append : (a b : List Field) → joined (a ++ b) ≡ joined a ++ joined b
+joined-append [] b = sym (ap (λ t. t ++ joined b) joined-nil)
+joined-append (f ∷ fields) b =
+    joined-cons f (fields ++ b) ∙ ap (λ t. field f.0 f.1 ++ t) (joined-append fields b) ∙ sym (append_assoc (field f.0 f.1) (joined fields) (joined b)) ∙ ap (λ t. t ++ joined b) (sym (joined-cons f fields))
+
+pub widths-append : (a b : List Field) → widths (a ++ b) ≡ widths a + widths b
+widths-append [] b = sym (omega arith)
+widths-append (f ∷ fields) b = omega (arith, widths-append fields b)
+
+pub length-joined : (fields : List Field) → length (joined fields) ≡ widths fields
+length-joined [] = ap length joined-nil
+length-joined (f ∷ fields) =
+    let l = length-append (field f.0 f.1) (joined fields) in
+    rw (joined-cons f fields, l, length-field f.0 f.1, length-joined fields) refl
+
+-- ---- fields, and bits behind them
+
+abbrev pub behind : List Field → List Bool → List Bool
+behind [] rest = rest
+behind (f ∷ fields) rest = field f.0 f.1 ++ behind fields rest
+
+pub joined-behind : (fields : List Field) (rest : List Bool) → joined fields ++ rest ≡ behind fields rest
+joined-behind [] rest = ap (λ t. t ++ rest) joined-nil
+joined-behind (f ∷ fields) rest =
+    ap (λ t. t ++ rest) (joined-cons f fields) ∙ append_assoc (field f.0 f.1) (joined fields) rest ∙ ap (λ t. field f.0 f.1 ++ t) (joined-behind fields rest)
+
+pub behind-append : (a b : List Field) (rest : List Bool) → behind (a ++ b) rest ≡ behind a (behind b rest)
+behind-append [] b rest = refl
+behind-append (f ∷ fields) b rest = ap (λ t. field f.0 f.1 ++ t) (behind-append fields b rest)
+
+-- ---- what is written
+
+-- fields behind what stands already, and others behind them
+pub written-then : (w x y : List Bool) (a b : List Field) → x ≡ w ++ joined a → y ≡ x ++ joined b → y ≡ w ++ joined (a ++ b)
+written-then w x y a b p q =
+    q ∙ ap (λ t. t ++ joined b) p ∙ append_assoc w (joined a) (joined b) ∙ ap (λ t. w ++ t) (sym (joined-append a b))
+
+pub opaque-written : (w head all bits : List Bool) (n l : ℕ) (p : Packet) → head ≡ w ++ joined ((8, n) ∷ (13, l) ∷ []) → all ≡ head ++ bits
+    → n ≡ p.nid_packet → l ≡ 21 + length p.bits → bits ≡ p.bits → all ≡ w ++ (joined ((8, p.nid_packet) ∷ []) ++ opaque_bits p)
+unfolding opaque_bits joined
+opaque-written w head all bits n l p head-is all-is n-is l-is bits-is =
+    rw (all-is, head-is, n-is, l-is, bits-is) (simp (append-nil, append_assoc))

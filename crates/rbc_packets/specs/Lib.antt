@@ -1,0 +1,10 @@
+pub mod Layout
+pub mod Steps
+pub mod Packet
+pub mod OpaqueView
+pub mod PositionSpelling
+pub mod TrackSpelling
+pub mod Reading
+pub mod PositionReading
+pub mod TrackReading
+pub mod OpaqueReading

@@ -1,0 +1,13 @@
+-- What the bytes of an opaque packet stand for.
+use Rattle.std.specs.Prelude.{◌*◌, ◌^◌, ◌<◌, ◌≤◌, length, take}
+use Rattle.rbc_bits.specs.Bits.{bits_of}
+use Rattle.rbc_packets.specs.Packet.{Packet}
+use Rattle.rbc_packets.specs.declared.opaque.Opaque.TheInside.{Inside}
+
+-- the first bits of its bytes
+abbrev pub packet_of : Inside → Packet
+packet_of p = record { nid_packet = p.nid_packet; bits = take p.count (bits_of p.bytes.items) }
+
+-- as many as there are, and no more than L_PACKET can say
+abbrev pub HasPacketRanges : Inside → Type 0
+HasPacketRanges p = (p.count ≤ 8 * length p.bytes.items) × (p.count < 8171) × (length p.bytes.items ≤ 2 ^ 28)

@@ -1,0 +1,124 @@
+ghost use Rattle.std.specs.Prelude.{◌≡◌, ◌++◌, ◌∷◌, [], IfOk, OnOk, IsOkUnless, Bool, List, Ok};
+ghost use Rattle.rbc_packets.specs.Layout.{joined, track_packet};
+ghost use Rattle.rbc_packets.specs.Steps.{Takes};
+ghost use Rattle.rbc_packets.specs.TrackSpelling.{authority_fields, AuthorityFits};
+ghost use Rattle.rbc_packets.specs.TrackReading.{authority_at, authority_fields_at, sections_at, no_more_at};
+
+use crate::fault::PacketFault;
+use crate::reading::{end, take, take_fixed, track_part};
+use crate::writing::put_track_header;
+use rbc_bits::{BitReader, BitWriter};
+use rbc_vars::LEndsection;
+
+/// Packet 15, Level 2/3 Movement Authority, of one section and without timers, danger point or overlap (7.4.2.4, profile).
+#[derive(Clone, Copy, Debug, PartialEq, Eq)]
+pub struct Authority {
+    /// The end of the authority, from the balise group of the message.
+    pub l_endsection: LEndsection,
+}
+
+impl Authority {
+    /// NID_PACKET of a movement authority.
+    pub const NID_PACKET: u64 = 15;
+
+    /// L_PACKET: how many bits the packet has.
+    pub const L_PACKET: u64 = 66;
+
+    /// Reads the packet behind its NID_PACKET.
+    pub fn read_packet(reader: &mut BitReader) -> Result<Self, PacketFault>
+        // What is read is spelled so.
+        ensures found { IfOk result (λ a. (reader.old ≡ joined (track_packet (authority_fields a)) ++ reader.new) × AuthorityFits a) }
+        // What is spelled so is read.
+        ensures only { (a : Authority) (rest : List Bool) → AuthorityFits a → reader.old ≡ joined (track_packet (authority_fields a)) ++ rest → (result ≡ Ok a) × (reader.new ≡ rest) }
+        // Which fault it is.
+        ensures exact { Takes (λ x. x) result reader.new (authority_at reader.old) }
+    {
+        Authority::read(reader)
+    }
+
+    #[tactic(auto, unfolding(crate::specs::TrackReading::authority_at))]
+    fn read(reader: &mut BitReader) -> Result<Self, PacketFault>
+        ensures exact { Takes (λ x. x) result reader.new (authority_at reader.old) }
+        ensures taken { IfOk result (λ a. reader.old ≡ joined (track_packet (authority_fields a)) ++ reader.new) }
+        ensures fits { IfOk result AuthorityFits }
+    {
+        let mut part = track_part(reader)?;
+        let authority = Authority::fields(&mut part)?;
+        end(part)?;
+        Ok(authority)
+    }
+
+    #[tactic(auto, unfolding(crate::specs::TrackReading::authority_fields_at, crate::specs::Layout::joined))]
+    fn fields(part: &mut BitReader) -> Result<Self, PacketFault>
+        ensures exact { Takes (λ x. x) result part.new (authority_fields_at part.old) }
+        ensures taken { IfOk result (λ a. part.old ≡ joined (authority_fields a) ++ part.new) }
+        ensures fits { IfOk result AuthorityFits }
+    {
+        take_sections(part)?;
+        let l_endsection = LEndsection::new(take(part, 15)?);
+        take_no_more(part)?;
+        Ok(Authority { l_endsection })
+    }
+
+    /// Writes the packet. A refusal leaves nothing of the writer.
+    #[tactic(auto, unfolding(crate::specs::Layout::joined))]
+    pub fn write_packet(&self, mut writer: BitWriter) -> Result<BitWriter, PacketFault>
+        ensures ok { IfOk result (λ w. w ≡ writer ++ joined ((8, 15) ∷ track_packet (authority_fields self.now))) }
+        ensures fits { OnOk result (AuthorityFits self.now) }
+        ensures memory { IsOkUnless result PacketFault.Memory }
+    {
+        put_track_header(&mut writer, Authority::NID_PACKET, Authority::L_PACKET)?;
+        put_sections(&mut writer)?;
+        writer.put(self.l_endsection.value(), 15)?;
+        put_no_more(&mut writer)?;
+        Ok(writer)
+    }
+}
+
+// Q_SCALE (1 m), END_SPEED (0), END_TIME (1 023, no limit) and N_ITER (0): one section.
+#[tactic(auto, unfolding(crate::specs::TrackReading::sections_at, crate::specs::Layout::joined))]
+fn take_sections(part: &mut BitReader) -> Result<(), PacketFault>
+    ensures exact { Takes (λ x. x) result part.new (sections_at part.old) }
+    ensures taken { OnOk result (part.old ≡ joined ((2, 1) ∷ (7, 0) ∷ (10, 1023) ∷ (5, 0) ∷ []) ++ part.new) }
+{
+    take_fixed(part, 2, 1)?;
+    take_fixed(part, 7, 0)?;
+    take_fixed(part, 10, 1023)?;
+    take_fixed(part, 5, 0)
+}
+
+// Q_SECTIONTIMER, Q_ENDTIMER, Q_DANGERPOINT and Q_OVERLAP: none.
+#[tactic(auto, unfolding(crate::specs::TrackReading::no_more_at, crate::specs::Layout::joined))]
+fn take_no_more(part: &mut BitReader) -> Result<(), PacketFault>
+    ensures exact { Takes (λ x. x) result part.new (no_more_at part.old) }
+    ensures taken { OnOk result (part.old ≡ joined ((1, 0) ∷ (1, 0) ∷ (1, 0) ∷ (1, 0) ∷ []) ++ part.new) }
+{
+    take_fixed(part, 1, 0)?;
+    take_fixed(part, 1, 0)?;
+    take_fixed(part, 1, 0)?;
+    take_fixed(part, 1, 0)
+}
+
+#[tactic(auto, unfolding(crate::specs::Layout::joined))]
+fn put_sections(writer: &mut BitWriter) -> Result<(), PacketFault>
+    ensures ok { OnOk result (writer.new ≡ writer.old ++ joined ((2, 1) ∷ (7, 0) ∷ (10, 1023) ∷ (5, 0) ∷ [])) }
+    ensures memory { IsOkUnless result PacketFault.Memory }
+{
+    writer.put(1, 2)?;
+    writer.put(0, 7)?;
+    writer.put(1023, 10)?;
+    writer.put(0, 5)?;
+    Ok(())
+}
+
+#[tactic(auto, unfolding(crate::specs::Layout::joined))]
+fn put_no_more(writer: &mut BitWriter) -> Result<(), PacketFault>
+    ensures ok { OnOk result (writer.new ≡ writer.old ++ joined ((1, 0) ∷ (1, 0) ∷ (1, 0) ∷ (1, 0) ∷ [])) }
+    ensures memory { IsOkUnless result PacketFault.Memory }
+{
+    writer.put(0, 1)?;
+    writer.put(0, 1)?;
+    writer.put(0, 1)?;
+    writer.put(0, 1)?;
+    Ok(())
+}

@@ -1,0 +1,26 @@
+ghost use Rattle.std.specs.Prelude.{◌≡◌};
+ghost use Rattle.rbc_packets.specs.declared.fault.PacketFault.TheVariants.{Memory};
+
+use rbc_bits::BitFault;
+
+/// Why bits are no packet that is read, or a packet was not read or written for want of memory.
+#[derive(Clone, Copy, Debug, PartialEq, Eq)]
+pub enum PacketFault {
+    /// The header is cut off, or L_PACKET passes the end of the message.
+    Short = 1,
+    /// L_PACKET is not the length that the packet's fields have.
+    Length = 2,
+    /// A field has a value that is refused.
+    Value = 3,
+    /// Memory ran out.
+    Memory = 4,
+}
+
+// A writer refuses for want of memory alone.
+impl From<BitFault> for PacketFault {
+    ghost from_gives = { λ _ fault. fault ≡ Memory };
+
+    fn from(_fault: BitFault) -> PacketFault {
+        PacketFault::Memory
+    }
+}

@@ -1,0 +1,86 @@
+ghost use Rattle.std.specs.Prelude.{◌≡◌, ◌++◌, IfOk, OnOk, IsOkUnless};
+ghost use Rattle.rbc_packets.specs.Layout.{joined, widths};
+ghost use Rattle.rbc_packets.specs.Steps.{Takes};
+ghost use Rattle.rbc_packets.specs.PositionSpelling.{level_fields, LevelFits};
+ghost use Rattle.rbc_packets.specs.PositionReading.{level_at};
+
+use crate::fault::PacketFault;
+use crate::reading::{m_level, take};
+use rbc_bits::{BitReader, BitWriter};
+use rbc_vars::{MLevel, NidNtc};
+
+/// M_LEVEL and NID_NTC: the level under which the train runs, and the national system where it is level NTC.
+#[derive(Clone, Copy, Debug, PartialEq, Eq)]
+pub enum Level {
+    /// Level 0.
+    Level0,
+    /// Level NTC, under this national train control system.
+    Ntc(NidNtc),
+    /// Level 1.
+    Level1,
+    /// Level 2.
+    Level2,
+    /// Level 3.
+    Level3,
+    /// A value without a meaning.
+    Spare5,
+    /// A value without a meaning.
+    Spare6,
+    /// A value without a meaning.
+    Spare7,
+}
+
+impl Level {
+    #[tactic(auto, unfolding(crate::specs::PositionReading::level_at, crate::specs::Layout::joined))]
+    pub(crate) fn read(part: &mut BitReader) -> Result<Self, PacketFault>
+        ensures exact { Takes (λ x. x) result part.new (level_at part.old) }
+        ensures taken { IfOk result (λ l. part.old ≡ joined (level_fields l) ++ part.new) }
+        ensures fits { IfOk result LevelFits }
+    {
+        match m_level(part)? {
+            MLevel::Level0 => Ok(Level::Level0),
+            MLevel::Ntc => {
+                let nid_ntc = NidNtc::new(take(part, 8)?);
+                Ok(Level::Ntc(nid_ntc))
+            }
+            MLevel::Level1 => Ok(Level::Level1),
+            MLevel::Level2 => Ok(Level::Level2),
+            MLevel::Level3 => Ok(Level::Level3),
+            MLevel::Spare5 => Ok(Level::Spare5),
+            MLevel::Spare6 => Ok(Level::Spare6),
+            MLevel::Spare7 => Ok(Level::Spare7),
+        }
+    }
+
+    #[tactic(auto, unfolding(crate::specs::Layout::joined))]
+    pub(crate) fn write(&self, writer: &mut BitWriter) -> Result<(), PacketFault>
+        ensures ok { OnOk result (writer.new ≡ writer.old ++ joined (level_fields self.now)) }
+        ensures fits { OnOk result (LevelFits self.now) }
+        ensures memory { IsOkUnless result PacketFault.Memory }
+    {
+        match self {
+            Level::Level0 => writer.put(0, 3)?,
+            Level::Ntc(nid_ntc) => {
+                writer.put(1, 3)?;
+                writer.put(nid_ntc.value(), 8)?;
+            }
+            Level::Level1 => writer.put(2, 3)?,
+            Level::Level2 => writer.put(3, 3)?,
+            Level::Level3 => writer.put(4, 3)?,
+            Level::Spare5 => writer.put(5, 3)?,
+            Level::Spare6 => writer.put(6, 3)?,
+            Level::Spare7 => writer.put(7, 3)?,
+        }
+        Ok(())
+    }
+
+    /// How many bits its fields have.
+    pub(crate) fn bits(&self) -> u64
+        ensures { result ≡ widths (level_fields self.now) }
+    {
+        match self {
+            Level::Ntc(_) => 11,
+            _ => 3,
+        }
+    }
+}

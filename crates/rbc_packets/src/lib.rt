@@ -1,0 +1,25 @@
+//! The packets of radio messages (SUBSET-026 7.4): each a struct of typed fields, read from the bits behind NID_PACKET with
+//! the first fault that is met, and written as its one spelling.
+#![tactic(auto)]
+
+mod authority;
+mod fault;
+mod level;
+mod location;
+mod opaque;
+mod position;
+mod reading;
+mod session_order;
+mod train_length;
+mod transition;
+mod writing;
+
+pub use authority::Authority;
+pub use fault::PacketFault;
+pub use level::Level;
+pub use location::Location;
+pub use opaque::Opaque;
+pub use position::Position;
+pub use session_order::SessionOrder;
+pub use train_length::TrainLength;
+pub use transition::Transition;

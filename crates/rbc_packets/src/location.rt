@@ -1,0 +1,71 @@
+ghost use Rattle.std.specs.Prelude.{◌≡◌, ◌++◌, IfOk, OnOk, IsOkUnless};
+ghost use Rattle.rbc_packets.specs.Layout.{joined};
+ghost use Rattle.rbc_packets.specs.Steps.{Takes};
+ghost use Rattle.rbc_packets.specs.PositionSpelling.{location_fields, LocationFits};
+ghost use Rattle.rbc_packets.specs.PositionReading.{location_at};
+
+use crate::fault::PacketFault;
+use crate::reading::{direction, q_scale, take};
+use rbc_bits::{BitReader, BitWriter};
+use rbc_vars::{DLrbg, Direction, LDoubtover, LDoubtunder, NidLrbg, QScale};
+
+/// Where the train is: its estimated front end from a balise group, and how far it may be behind and ahead of it.
+#[derive(Clone, Copy, Debug, PartialEq, Eq)]
+pub struct Location {
+    /// The unit of the distances.
+    pub q_scale: QScale,
+    /// The balise group.
+    pub nid_lrbg: NidLrbg,
+    /// From the group to the estimated front end.
+    pub d_lrbg: DLrbg,
+    /// Which way the train stands.
+    pub q_dirlrbg: Direction,
+    /// On which side of the group its front end is.
+    pub q_dlrbg: Direction,
+    /// How far it may be behind.
+    pub l_doubtover: LDoubtover,
+    /// How far it may be ahead.
+    pub l_doubtunder: LDoubtunder,
+}
+
+impl Location {
+    #[tactic(auto, unfolding(crate::specs::PositionReading::location_at, crate::specs::Layout::joined))]
+    pub(crate) fn read(part: &mut BitReader) -> Result<Self, PacketFault>
+        ensures exact { Takes (λ x. x) result part.new (location_at part.old) }
+        ensures taken { IfOk result (λ l. part.old ≡ joined (location_fields l) ++ part.new) }
+        ensures fits { IfOk result LocationFits }
+    {
+        let q_scale = q_scale(part)?;
+        let nid_lrbg = NidLrbg::new(take(part, 24)?);
+        let d_lrbg = DLrbg::new(take(part, 15)?);
+        let q_dirlrbg = direction(part)?;
+        let q_dlrbg = direction(part)?;
+        let l_doubtover = LDoubtover::new(take(part, 15)?);
+        let l_doubtunder = LDoubtunder::new(take(part, 15)?);
+        Ok(Location {
+            q_scale,
+            nid_lrbg,
+            d_lrbg,
+            q_dirlrbg,
+            q_dlrbg,
+            l_doubtover,
+            l_doubtunder,
+        })
+    }
+
+    #[tactic(auto, unfolding(crate::specs::Layout::joined))]
+    pub(crate) fn write(&self, writer: &mut BitWriter) -> Result<(), PacketFault>
+        ensures ok { OnOk result (writer.new ≡ writer.old ++ joined (location_fields self.now)) }
+        ensures fits { OnOk result (LocationFits self.now) }
+        ensures memory { IsOkUnless result PacketFault.Memory }
+    {
+        writer.put(self.q_scale.value(), 2)?;
+        writer.put(self.nid_lrbg.value(), 24)?;
+        writer.put(self.d_lrbg.value(), 15)?;
+        writer.put(self.q_dirlrbg.value(), 2)?;
+        writer.put(self.q_dlrbg.value(), 2)?;
+        writer.put(self.l_doubtover.value(), 15)?;
+        writer.put(self.l_doubtunder.value(), 15)?;
+        Ok(())
+    }
+}

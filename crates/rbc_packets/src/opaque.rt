@@ -1,0 +1,126 @@
+ghost use Rattle.std.specs.Prelude.{◌≡◌, ◌^◌, ◌<◌, ◌++◌, ◌∷◌, [], length, IfOk, OnOk, IsOkUnless, Bool, List, Ok};
+ghost use Rattle.rbc_packets.specs.Layout.{joined};
+ghost use Rattle.rbc_packets.specs.Packet.{Packet, PacketFits};
+ghost use Rattle.rbc_packets.specs.Steps.{TakesUnless};
+ghost use Rattle.rbc_packets.specs.OpaqueReading.{opaque_at, opaque_bits};
+
+use crate::fault::PacketFault;
+use crate::reading::train_part;
+use crate::writing::put_train_header;
+use rbc_bits::{BitReader, BitWriter};
+use std::alloc::Global;
+use std::marker::Model;
+
+/// A packet of a train that is kept without being read: its NID_PACKET, and the bits behind its header.
+#[derive(Debug, Drop)]
+pub struct Opaque {
+    nid_packet: u8,
+    count: u32,
+    bytes: Vec<u8>,
+}
+
+impl Model for Opaque {
+    ghost use Rattle.rbc_packets.specs.Packet.{Packet};
+
+    ghost Value = { Packet };
+
+    ghost use Rattle.rbc_packets.specs.OpaqueView.{packet_of, HasPacketRanges};
+
+    ghost view = { packet_of };
+
+    ghost invariant = { HasPacketRanges };
+}
+
+impl Opaque {
+    /// A packet of these bits, which L_PACKET has room for.
+    pub fn new(alloc: Global, nid_packet: u8, bits: BitReader) -> Result<Self, PacketFault>
+        requires { length bits < 8171 }
+        ensures ok { IfOk result (λ p. p ≡ record { nid_packet = nid_packet; bits = bits.entry }) }
+        ensures memory { IsOkUnless result PacketFault.Memory }
+    {
+        let count = bits.remaining();
+        let mut writer = BitWriter::new(alloc);
+        copy(bits, &mut writer)?;
+        Ok(Opaque {
+            nid_packet,
+            count,
+            bytes: writer.finish()?,
+        })
+    }
+
+    /// Reads the packet of this NID_PACKET behind it.
+    pub fn read_packet(
+        alloc: Global,
+        nid_packet: u8,
+        reader: &mut BitReader,
+    ) -> Result<Self, PacketFault>
+        // What is read is spelled so.
+        ensures found { IfOk result (λ p. (reader.old ≡ opaque_bits p ++ reader.new) × (p.nid_packet ≡ nid_packet) × PacketFits p) }
+        // What is spelled so is read, unless memory runs out.
+        ensures only { (p : Packet) (rest : List Bool) → PacketFits p → p.nid_packet ≡ nid_packet → reader.old ≡ opaque_bits p ++ rest →
+            TakesUnless PacketFault.Memory (λ x. x) result reader.new (Ok (p, rest)) }
+        // Which fault it is.
+        ensures exact { TakesUnless PacketFault.Memory (λ x. x) result reader.new (opaque_at nid_packet reader.old) }
+    {
+        Opaque::read(alloc, nid_packet, reader)
+    }
+
+    #[tactic(auto, unfolding(crate::specs::OpaqueReading::opaque_at))]
+    fn read(alloc: Global, nid_packet: u8, reader: &mut BitReader) -> Result<Self, PacketFault>
+        ensures exact { TakesUnless PacketFault.Memory (λ x. x) result reader.new (opaque_at nid_packet reader.old) }
+        ensures taken { IfOk result (λ p. reader.old ≡ opaque_bits p ++ reader.new) }
+        ensures number { IfOk result (λ p. p.nid_packet ≡ nid_packet) }
+        ensures fits { IfOk result PacketFits }
+    {
+        let part = train_part(reader)?;
+        Opaque::new(alloc, nid_packet, part)
+    }
+
+    /// Writes the packet. A refusal leaves nothing of the writer.
+    pub fn write_packet(&self, mut writer: BitWriter) -> Result<BitWriter, PacketFault>
+        ensures ok { IfOk result (λ w. w ≡ writer ++ (joined ((8, self.now.nid_packet) ∷ []) ++ opaque_bits self.now)) }
+        ensures fits { OnOk result (PacketFits self.now) }
+        ensures memory { IsOkUnless result PacketFault.Memory }
+    {
+        let bits = self.bits();
+        let l_packet = 21 + u64::from(bits.remaining());
+        put_train_header(&mut writer, self.nid_packet().into(), l_packet)?;
+        copy(bits, &mut writer)?;
+        Ok(writer)
+    }
+
+    /// NID_PACKET.
+    pub fn nid_packet(&self) -> u8
+        ensures value { result ≡ self.now.nid_packet }
+        ensures range { result < 2 ^ 8 }
+    {
+        self.nid_packet
+    }
+
+    /// The bits behind the header.
+    pub fn bits(&self) -> BitReader<'_>
+        ensures bits { result ≡ self.now.bits }
+        ensures few { length result < 8171 }
+    {
+        let mut all = BitReader::new(&self.bytes);
+        match all.cut(self.count) {
+            Ok(bits) => bits,
+            Err(_) => unreachable!(),
+        }
+    }
+}
+
+// Writes all bits of a part, words at a time.
+fn copy(mut part: BitReader, writer: &mut BitWriter) -> Result<(), PacketFault>
+    ensures ok { OnOk result (writer.new ≡ writer.old ++ part.entry) }
+    ensures memory { IsOkUnless result PacketFault.Memory }
+{
+    while let Ok(word) = part.take(64) {
+        writer.put(word, 64)?;
+    }
+    let n = part.remaining();
+    match part.take(n) {
+        Ok(last) => Ok(writer.put(last, n)?),
+        Err(_) => unreachable!(),
+    }
+}

@@ -1,0 +1,119 @@
+ghost use Rattle.std.specs.Prelude.{◌≡◌, ◌+◌, ◌≤◌, ◌++◌, ◌∷◌, IfOk, OnOk, IsOkUnless, Bool, List, Ok};
+ghost use Rattle.rbc_packets.specs.Layout.{joined, widths, train_packet};
+ghost use Rattle.rbc_packets.specs.Steps.{Takes};
+ghost use Rattle.rbc_packets.specs.PositionSpelling.{position_fields, running_fields, RunningFits, PositionFits};
+ghost use Rattle.rbc_packets.specs.PositionReading.{position_at, position_fields_at};
+
+use crate::fault::PacketFault;
+use crate::level::Level;
+use crate::location::Location;
+use crate::reading::{direction, end, take, train_part};
+use crate::train_length::TrainLength;
+use crate::writing::put_train_header;
+use rbc_bits::{BitReader, BitWriter};
+use rbc_vars::{Direction, MMode, VTrain};
+
+/// Packet 0, position report (7.4.3.1).
+#[derive(Clone, Copy, Debug, PartialEq, Eq)]
+pub struct Position {
+    /// Where the train is.
+    pub location: Location,
+    /// Its integrity and length.
+    pub train_length: TrainLength,
+    /// Its speed.
+    pub v_train: VTrain,
+    /// Which way it moves.
+    pub q_dirtrain: Direction,
+    /// The mode of its equipment.
+    pub m_mode: MMode,
+    /// The level under which it runs.
+    pub level: Level,
+}
+
+// The bits of the header and of the fields that each report has, but for Q_LENGTH and M_LEVEL.
+const FIXED_BITS: u64 = 109;
+
+impl Position {
+    /// NID_PACKET of a position report.
+    pub const NID_PACKET: u64 = 0;
+
+    /// Reads the packet behind its NID_PACKET.
+    pub fn read_packet(reader: &mut BitReader) -> Result<Self, PacketFault>
+        // What is read is spelled so.
+        ensures found { IfOk result (λ p. (reader.old ≡ joined (train_packet (position_fields p)) ++ reader.new) × PositionFits p) }
+        // What is spelled so is read.
+        ensures only { (p : Position) (rest : List Bool) → PositionFits p → reader.old ≡ joined (train_packet (position_fields p)) ++ rest → (result ≡ Ok p) × (reader.new ≡ rest) }
+        // Which fault it is.
+        ensures exact { Takes (λ x. x) result reader.new (position_at reader.old) }
+    {
+        Position::read(reader)
+    }
+
+    #[tactic(auto, unfolding(crate::specs::PositionReading::position_at))]
+    fn read(reader: &mut BitReader) -> Result<Self, PacketFault>
+        ensures exact { Takes (λ x. x) result reader.new (position_at reader.old) }
+        ensures taken { IfOk result (λ p. reader.old ≡ joined (train_packet (position_fields p)) ++ reader.new) }
+        ensures fits { IfOk result PositionFits }
+    {
+        let mut part = train_part(reader)?;
+        let position = Position::fields(&mut part)?;
+        end(part)?;
+        Ok(position)
+    }
+
+    #[tactic(auto, unfolding(crate::specs::PositionReading::position_fields_at, crate::specs::Layout::joined))]
+    fn fields(part: &mut BitReader) -> Result<Self, PacketFault>
+        ensures exact { Takes (λ x. x) result part.new (position_fields_at part.old) }
+        ensures taken { IfOk result (λ p. part.old ≡ joined (position_fields p) ++ part.new) }
+        ensures fits { IfOk result PositionFits }
+    {
+        let location = Location::read(part)?;
+        let train_length = TrainLength::read(part)?;
+        let v_train = VTrain::new(take(part, 7)?);
+        let q_dirtrain = direction(part)?;
+        let m_mode = MMode::new(take(part, 4)?);
+        let level = Level::read(part)?;
+        Ok(Position {
+            location,
+            train_length,
+            v_train,
+            q_dirtrain,
+            m_mode,
+            level,
+        })
+    }
+
+    /// Writes the packet. A refusal leaves nothing of the writer.
+    pub fn write_packet(&self, mut writer: BitWriter) -> Result<BitWriter, PacketFault>
+        ensures ok { IfOk result (λ w. w ≡ writer ++ joined ((8, 0) ∷ train_packet (position_fields self.now))) }
+        ensures fits { OnOk result (PositionFits self.now) }
+        ensures memory { IsOkUnless result PacketFault.Memory }
+    {
+        put_train_header(&mut writer, Position::NID_PACKET, self.l_packet())?;
+        self.location.write(&mut writer)?;
+        self.train_length.write(&mut writer)?;
+        self.write_running(&mut writer)?;
+        self.level.write(&mut writer)?;
+        Ok(writer)
+    }
+
+    /// L_PACKET: how many bits the packet has.
+    pub fn l_packet(&self) -> u64
+        ensures value { result ≡ 21 + widths (position_fields self.now) }
+        ensures range { result ≤ 137 }
+    {
+        FIXED_BITS + self.train_length.bits() + self.level.bits()
+    }
+
+    #[tactic(auto, unfolding(crate::specs::Layout::joined))]
+    fn write_running(&self, writer: &mut BitWriter) -> Result<(), PacketFault>
+        ensures ok { OnOk result (writer.new ≡ writer.old ++ joined (running_fields self.now)) }
+        ensures fits { OnOk result (RunningFits self.now) }
+        ensures memory { IsOkUnless result PacketFault.Memory }
+    {
+        writer.put(self.v_train.value(), 7)?;
+        writer.put(self.q_dirtrain.value(), 2)?;
+        writer.put(self.m_mode.value(), 4)?;
+        Ok(())
+    }
+}

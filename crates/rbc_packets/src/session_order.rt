@@ -1,0 +1,84 @@
+ghost use Rattle.std.specs.Prelude.{◌≡◌, ◌++◌, ◌∷◌, IfOk, OnOk, IsOkUnless, Bool, List, Ok};
+ghost use Rattle.rbc_packets.specs.Layout.{joined, track_packet};
+ghost use Rattle.rbc_packets.specs.Steps.{Takes};
+ghost use Rattle.rbc_packets.specs.TrackSpelling.{session_order_fields, SessionOrderFits};
+ghost use Rattle.rbc_packets.specs.TrackReading.{session_order_at, session_order_fields_at};
+
+use crate::fault::PacketFault;
+use crate::reading::{end, take, take_fixed, take_radio, track_part};
+use crate::writing::{put_radio, put_track_header};
+use rbc_bits::{BitReader, BitWriter};
+use rbc_vars::{NidC, NidRbc};
+
+/// Packet 42, session management: the session with this centre is to be terminated (7.4.2.11, profile).
+#[derive(Clone, Copy, Debug, PartialEq, Eq)]
+pub struct SessionOrder {
+    /// The country or region of the centre.
+    pub nid_c: NidC,
+    /// The centre.
+    pub nid_rbc: NidRbc,
+}
+
+impl SessionOrder {
+    /// NID_PACKET of session management.
+    pub const NID_PACKET: u64 = 42;
+
+    /// L_PACKET: how many bits the packet has.
+    pub const L_PACKET: u64 = 113;
+
+    /// Reads the packet behind its NID_PACKET.
+    pub fn read_packet(reader: &mut BitReader) -> Result<Self, PacketFault>
+        // What is read is spelled so.
+        ensures found { IfOk result (λ s. (reader.old ≡ joined (track_packet (session_order_fields s)) ++ reader.new) × SessionOrderFits s) }
+        // What is spelled so is read.
+        ensures only { (s : SessionOrder) (rest : List Bool) → SessionOrderFits s → reader.old ≡ joined (track_packet (session_order_fields s)) ++ rest → (result ≡ Ok s) × (reader.new ≡ rest) }
+        // Which fault it is.
+        ensures exact { Takes (λ x. x) result reader.new (session_order_at reader.old) }
+    {
+        SessionOrder::read(reader)
+    }
+
+    #[tactic(auto, unfolding(crate::specs::TrackReading::session_order_at))]
+    fn read(reader: &mut BitReader) -> Result<Self, PacketFault>
+        ensures exact { Takes (λ x. x) result reader.new (session_order_at reader.old) }
+        ensures taken { IfOk result (λ s. reader.old ≡ joined (track_packet (session_order_fields s)) ++ reader.new) }
+        ensures fits { IfOk result SessionOrderFits }
+    {
+        let mut part = track_part(reader)?;
+        let session_order = SessionOrder::fields(&mut part)?;
+        end(part)?;
+        Ok(session_order)
+    }
+
+    #[tactic(auto, unfolding(crate::specs::TrackReading::session_order_fields_at, crate::specs::Layout::joined))]
+    fn fields(part: &mut BitReader) -> Result<Self, PacketFault>
+        ensures exact { Takes (λ x. x) result part.new (session_order_fields_at part.old) }
+        ensures taken { IfOk result (λ s. part.old ≡ joined (session_order_fields s) ++ part.new) }
+        ensures fits { IfOk result SessionOrderFits }
+    {
+        take_fixed(part, 1, 0)?;
+        let nid_c = NidC::new(take(part, 10)?);
+        let nid_rbc = NidRbc::new(take(part, 14)?);
+        take_radio(part)?;
+        Ok(SessionOrder { nid_c, nid_rbc })
+    }
+
+    /// Writes the packet. A refusal leaves nothing of the writer.
+    #[tactic(auto, unfolding(crate::specs::Layout::joined))]
+    pub fn write_packet(&self, mut writer: BitWriter) -> Result<BitWriter, PacketFault>
+        ensures ok { IfOk result (λ w. w ≡ writer ++ joined ((8, 42) ∷ track_packet (session_order_fields self.now))) }
+        ensures fits { OnOk result (SessionOrderFits self.now) }
+        ensures memory { IsOkUnless result PacketFault.Memory }
+    {
+        put_track_header(
+            &mut writer,
+            SessionOrder::NID_PACKET,
+            SessionOrder::L_PACKET,
+        )?;
+        writer.put(0, 1)?;
+        writer.put(self.nid_c.value(), 10)?;
+        writer.put(self.nid_rbc.value(), 14)?;
+        put_radio(&mut writer)?;
+        Ok(writer)
+    }
+}

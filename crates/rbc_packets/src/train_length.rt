@@ -1,0 +1,76 @@
+ghost use Rattle.std.specs.Prelude.{◌≡◌, ◌++◌, IfOk, OnOk, IsOkUnless};
+ghost use Rattle.rbc_packets.specs.Layout.{joined, widths};
+ghost use Rattle.rbc_packets.specs.Steps.{Takes};
+ghost use Rattle.rbc_packets.specs.PositionSpelling.{train_length_fields, TrainLengthFits};
+ghost use Rattle.rbc_packets.specs.PositionReading.{train_length_at};
+
+use crate::fault::PacketFault;
+use crate::reading::{q_length, take};
+use rbc_bits::{BitReader, BitWriter};
+use rbc_vars::{LTrainint, QLength};
+
+/// Q_LENGTH and L_TRAININT: what is known of the train's integrity, and its length where it is confirmed.
+#[derive(Clone, Copy, Debug, PartialEq, Eq)]
+pub enum TrainLength {
+    /// Nothing is known.
+    NoInformation,
+    /// Integrity is confirmed by a monitoring device.
+    ConfirmedByDevice(LTrainint),
+    /// Integrity is confirmed by the driver.
+    ConfirmedByDriver(LTrainint),
+    /// The train may have been parted.
+    Lost,
+}
+
+impl TrainLength {
+    #[tactic(auto, unfolding(crate::specs::PositionReading::train_length_at, crate::specs::Layout::joined))]
+    pub(crate) fn read(part: &mut BitReader) -> Result<Self, PacketFault>
+        ensures exact { Takes (λ x. x) result part.new (train_length_at part.old) }
+        ensures taken { IfOk result (λ l. part.old ≡ joined (train_length_fields l) ++ part.new) }
+        ensures fits { IfOk result TrainLengthFits }
+    {
+        match q_length(part)? {
+            QLength::NoInformation => Ok(TrainLength::NoInformation),
+            QLength::ConfirmedByDevice => {
+                let l_trainint = LTrainint::new(take(part, 15)?);
+                Ok(TrainLength::ConfirmedByDevice(l_trainint))
+            }
+            QLength::ConfirmedByDriver => {
+                let l_trainint = LTrainint::new(take(part, 15)?);
+                Ok(TrainLength::ConfirmedByDriver(l_trainint))
+            }
+            QLength::Lost => Ok(TrainLength::Lost),
+        }
+    }
+
+    #[tactic(auto, unfolding(crate::specs::Layout::joined))]
+    pub(crate) fn write(&self, writer: &mut BitWriter) -> Result<(), PacketFault>
+        ensures ok { OnOk result (writer.new ≡ writer.old ++ joined (train_length_fields self.now)) }
+        ensures fits { OnOk result (TrainLengthFits self.now) }
+        ensures memory { IsOkUnless result PacketFault.Memory }
+    {
+        match self {
+            TrainLength::NoInformation => writer.put(0, 2)?,
+            TrainLength::ConfirmedByDevice(l_trainint) => {
+                writer.put(1, 2)?;
+                writer.put(l_trainint.value(), 15)?;
+            }
+            TrainLength::ConfirmedByDriver(l_trainint) => {
+                writer.put(2, 2)?;
+                writer.put(l_trainint.value(), 15)?;
+            }
+            TrainLength::Lost => writer.put(3, 2)?,
+        }
+        Ok(())
+    }
+
+    /// How many bits its fields have.
+    pub(crate) fn bits(&self) -> u64
+        ensures { result ≡ widths (train_length_fields self.now) }
+    {
+        match self {
+            TrainLength::NoInformation | TrainLength::Lost => 2,
+            TrainLength::ConfirmedByDevice(_) | TrainLength::ConfirmedByDriver(_) => 17,
+        }
+    }
+}

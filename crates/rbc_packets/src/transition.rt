@@ -1,0 +1,88 @@
+ghost use Rattle.std.specs.Prelude.{◌≡◌, ◌++◌, ◌∷◌, IfOk, OnOk, IsOkUnless, Bool, List, Ok};
+ghost use Rattle.rbc_packets.specs.Layout.{joined, track_packet};
+ghost use Rattle.rbc_packets.specs.Steps.{Takes};
+ghost use Rattle.rbc_packets.specs.TrackSpelling.{transition_fields, TransitionFits};
+ghost use Rattle.rbc_packets.specs.TrackReading.{transition_at, transition_fields_at};
+
+use crate::fault::PacketFault;
+use crate::reading::{end, take, take_fixed, take_radio, track_part};
+use crate::writing::{put_radio, put_track_header};
+use rbc_bits::{BitReader, BitWriter};
+use rbc_vars::{DRbctr, NidC, NidRbc};
+
+/// Packet 131, RBC transition order: where another centre takes over, and which one (7.4.2.38, profile).
+#[derive(Clone, Copy, Debug, PartialEq, Eq)]
+pub struct Transition {
+    /// The border, from the balise group of the message.
+    pub d_rbctr: DRbctr,
+    /// The country or region of the accepting centre.
+    pub nid_c: NidC,
+    /// The accepting centre.
+    pub nid_rbc: NidRbc,
+}
+
+impl Transition {
+    /// NID_PACKET of an RBC transition order.
+    pub const NID_PACKET: u64 = 131;
+
+    /// L_PACKET: how many bits the packet has.
+    pub const L_PACKET: u64 = 129;
+
+    /// Reads the packet behind its NID_PACKET.
+    pub fn read_packet(reader: &mut BitReader) -> Result<Self, PacketFault>
+        // What is read is spelled so.
+        ensures found { IfOk result (λ t. (reader.old ≡ joined (track_packet (transition_fields t)) ++ reader.new) × TransitionFits t) }
+        // What is spelled so is read.
+        ensures only { (t : Transition) (rest : List Bool) → TransitionFits t → reader.old ≡ joined (track_packet (transition_fields t)) ++ rest → (result ≡ Ok t) × (reader.new ≡ rest) }
+        // Which fault it is.
+        ensures exact { Takes (λ x. x) result reader.new (transition_at reader.old) }
+    {
+        Transition::read(reader)
+    }
+
+    #[tactic(auto, unfolding(crate::specs::TrackReading::transition_at))]
+    fn read(reader: &mut BitReader) -> Result<Self, PacketFault>
+        ensures exact { Takes (λ x. x) result reader.new (transition_at reader.old) }
+        ensures taken { IfOk result (λ t. reader.old ≡ joined (track_packet (transition_fields t)) ++ reader.new) }
+        ensures fits { IfOk result TransitionFits }
+    {
+        let mut part = track_part(reader)?;
+        let transition = Transition::fields(&mut part)?;
+        end(part)?;
+        Ok(transition)
+    }
+
+    #[tactic(auto, unfolding(crate::specs::TrackReading::transition_fields_at, crate::specs::Layout::joined))]
+    fn fields(part: &mut BitReader) -> Result<Self, PacketFault>
+        ensures exact { Takes (λ x. x) result part.new (transition_fields_at part.old) }
+        ensures taken { IfOk result (λ t. part.old ≡ joined (transition_fields t) ++ part.new) }
+        ensures fits { IfOk result TransitionFits }
+    {
+        take_fixed(part, 2, 1)?;
+        let d_rbctr = DRbctr::new(take(part, 15)?);
+        let nid_c = NidC::new(take(part, 10)?);
+        let nid_rbc = NidRbc::new(take(part, 14)?);
+        take_radio(part)?;
+        Ok(Transition {
+            d_rbctr,
+            nid_c,
+            nid_rbc,
+        })
+    }
+
+    /// Writes the packet. A refusal leaves nothing of the writer.
+    #[tactic(auto, unfolding(crate::specs::Layout::joined))]
+    pub fn write_packet(&self, mut writer: BitWriter) -> Result<BitWriter, PacketFault>
+        ensures ok { IfOk result (λ w. w ≡ writer ++ joined ((8, 131) ∷ track_packet (transition_fields self.now))) }
+        ensures fits { OnOk result (TransitionFits self.now) }
+        ensures memory { IsOkUnless result PacketFault.Memory }
+    {
+        put_track_header(&mut writer, Transition::NID_PACKET, Transition::L_PACKET)?;
+        writer.put(1, 2)?;
+        writer.put(self.d_rbctr.value(), 15)?;
+        writer.put(self.nid_c.value(), 10)?;
+        writer.put(self.nid_rbc.value(), 14)?;
+        put_radio(&mut writer)?;
+        Ok(writer)
+    }
+}

@@ -1,0 +1,55 @@
+//! The headers of packets.
+
+ghost use Rattle.std.specs.Prelude.{◌≡◌, ◌^◌, ◌<◌, ◌++◌, ◌∷◌, [], OnOk, IsOkUnless};
+ghost use Rattle.rbc_packets.specs.Layout.{joined};
+ghost use Rattle.rbc_packets.specs.TrackSpelling.{no_radio};
+
+use crate::fault::PacketFault;
+use crate::reading::NO_RADIO;
+use rbc_bits::BitWriter;
+
+/// NID_PACKET and L_PACKET of a train's packet.
+#[tactic(auto, unfolding(crate::specs::Layout::joined))]
+pub(crate) fn put_train_header(
+    writer: &mut BitWriter,
+    nid_packet: u64,
+    l_packet: u64,
+) -> Result<(), PacketFault>
+    requires number { nid_packet < 2 ^ 8 }
+    requires length { l_packet < 2 ^ 13 }
+    ensures ok { OnOk result (writer.new ≡ writer.old ++ joined ((8, nid_packet) ∷ (13, l_packet) ∷ [])) }
+    ensures memory { IsOkUnless result PacketFault.Memory }
+{
+    writer.put(nid_packet, 8)?;
+    writer.put(l_packet, 13)?;
+    Ok(())
+}
+
+/// NID_PACKET, Q_DIR (nominal) and L_PACKET of a packet of a centre.
+#[tactic(auto, unfolding(crate::specs::Layout::joined))]
+pub(crate) fn put_track_header(
+    writer: &mut BitWriter,
+    nid_packet: u64,
+    l_packet: u64,
+) -> Result<(), PacketFault>
+    requires number { nid_packet < 2 ^ 8 }
+    requires length { l_packet < 2 ^ 13 }
+    ensures ok { OnOk result (writer.new ≡ writer.old ++ joined ((8, nid_packet) ∷ (2, 1) ∷ (13, l_packet) ∷ [])) }
+    ensures memory { IsOkUnless result PacketFault.Memory }
+{
+    writer.put(nid_packet, 8)?;
+    writer.put(1, 2)?;
+    writer.put(l_packet, 13)?;
+    Ok(())
+}
+
+/// NID_RADIO, without a number, and Q_SLEEPSESSION, which is not asked for.
+#[tactic(auto, unfolding(crate::specs::Layout::joined))]
+pub(crate) fn put_radio(writer: &mut BitWriter) -> Result<(), PacketFault>
+    ensures ok { OnOk result (writer.new ≡ writer.old ++ joined ((64, no_radio) ∷ (1, 0) ∷ [])) }
+    ensures memory { IsOkUnless result PacketFault.Memory }
+{
+    writer.put(NO_RADIO, 64)?;
+    writer.put(0, 1)?;
+    Ok(())
+}
