@@ -1,5 +1,5 @@
 -- The rows of a tested line file, and the faults of a text.
-use Rattle.std.proofs.Common.{◌≡◌, ℕ, ◌+◌, ◌<◌, ◌==◌, true, not, inl, inr, List, [], ◌∷◌, length, map, take, filter, sum_by, Some, None, option_map, refl, ap, sym, ◌∙◌, arith}
+use Rattle.std.proofs.Common.{◌≡◌, ℕ, ◌+◌, ◌<◌, ◌==◌, true, not, inl, inr, List, [], ◌∷◌, length, map, take, filter, sum_by, Some, option_map, MatchOption, refl, ap, sym, ◌∙◌, arith}
 use Rattle.std.specs.List.{slice_get, list_any}
 use Rattle.std.specs.Str.{bytes_eq}
 use Rattle.std.proofs.lemmas.Bool.{cases_Bool}
@@ -13,7 +13,7 @@ use Rattle.rbc_line.specs.declared.fault.LineFault.{LineFault}
 use Rattle.rbc_line.specs.declared.fault.LineFault.TheVariants.{Memory, Text, Shape, Centres, Tracks, Sections, Trains, Length, Number, Twice, Home, Order}
 use Rattle.rbc_line.specs.declared.parts.Rows.{Rows}
 use Rattle.rbc_line.specs.declared.parts.Section.{Section as SectionRow}
-use Rattle.rbc_line.specs.Faults.{number_of, Applies, AppliesToFile, HasNoneBelow, HasOrderFault, IsLowest, Names}
+use Rattle.rbc_line.specs.Faults.{AppliesToFile, AppliesToTables, HasNoneBelow, HasOrderFault, IsLowest, Names}
 use Rattle.rbc_line.specs.Homes.{HasOwnStarts, IsAscending, IsSplit, IsUnsplit}
 use Rattle.rbc_line.specs.LineFile.{FileSection, LineFile, line_file, line_section, centre_number, line_of}
 use Rattle.rbc_line.specs.Tables.{HasStarts}
@@ -124,23 +124,8 @@ none_at_all file none order Twice found = none Twice (omega arith) found
 none_at_all file none order Home found = none Home (omega arith) found
 none_at_all file none order Order found = order found
 
-below_two : (fault : LineFault) → number_of fault < 2 → fault ≡ Text → ⊥
-below_two fault below e = absurd (omega (arith, ap number_of e))
-
-below_three : (fault : LineFault) → number_of fault < 3 → fault ≡ Shape → ⊥
-below_three fault below e = absurd (omega (arith, ap number_of e))
-
-pub at_text : (text : List ℕ) → parse_document text ≡ None → IsLowest (Applies text) Text
-at_text text none = record { found = rw none refl; lowest = λ other below found. below_two other below (rw none at found) }
-
-pub at_shape : (text : List ℕ) (ms : Members) → parse_document text ≡ Some ms → line_file ms ≡ None → IsLowest (Applies text) Shape
-at_shape text ms some none = record { found = rw some (rw none refl); lowest = λ other below found. below_three other below (rw none at (rw some at found)) }
-
-pub at_file : (text : List ℕ) (ms : Members) (file : LineFile) (fault : LineFault) → parse_document text ≡ Some ms → line_file ms ≡ Some file → IsLowest (AppliesToFile file) fault → IsLowest (Applies text) fault
-at_file text ms file fault some same low = record { found = rw some (rw same low.found); lowest = λ other below found. low.lowest other below (rw same at (rw some at found)) }
-
-pub named : (text : List ℕ) (ms : Members) (file : LineFile) (line : Line) → parse_document text ≡ Some ms → line_file ms ≡ Some file → ((fault : LineFault) → ¬ AppliesToFile file fault) → line ≡ line_of file → Names text line
-named text ms file line some same none is_line = record { sound = λ fault found. none fault (rw same at (rw some at found)); named = rw some (rw same is_line) }
+pub named : (text : List ℕ) (ms : Members) (line : Line) → parse_document text ≡ Some ms → ((fault : LineFault) → ¬ AppliesToTables ms fault) → MatchOption (line_file ms) ⊥ (λ file. line ≡ line_of file) → Names text line
+named text ms line some none is_line = record { sound = λ fault found. none fault (rw some at found); named = rw some is_line }
 
 -- the order of homes is the last fault
 pub at_order : (file : LineFile) → HasNoneBelow (AppliesToFile file) 12 → HasOrderFault file → IsLowest (AppliesToFile file) Order

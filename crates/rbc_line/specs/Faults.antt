@@ -4,6 +4,7 @@ use Rattle.std.specs.List.{list_any, list_all}
 use Rattle.std.specs.Char.{is_ascii_alphanumeric}
 use Rattle.std.specs.Ordering.{int_eq}
 use Rattle.std.specs.Str.{bytes_eq}
+use Rattle.toml.specs.Data.{Members}
 use Rattle.toml.specs.Parse.{parse_document}
 use Rattle.rbc_spec.specs.Line.{Line}
 use Rattle.rbc_line.specs.LineFile.{FileSection, LineFile, line_file, line_of}
@@ -102,10 +103,13 @@ AppliesToFile file Twice = IsTrue (has_twice_fault file)
 AppliesToFile file Home = IsTrue (has_home_fault file)
 AppliesToFile file Order = HasOrderFault file
 
--- the fault applies to the text: it is no TOML, its tables are of another shape, or what they say breaks a limit
+-- the fault applies to the tables of a text: they are of another shape, or what they say breaks a limit
+abbrev pub AppliesToTables : Members → LineFault → Type 0
+AppliesToTables ms fault = MatchOption (line_file ms) (fault ≡ Shape) (λ file. AppliesToFile file fault)
+
+-- the fault applies to the text: it is no TOML, or the fault applies to its tables
 abbrev pub Applies : List ℕ → LineFault → Type 0
-Applies text fault =
-    MatchOption (parse_document text) (fault ≡ Text) (λ ms. MatchOption (line_file ms) (fault ≡ Shape) (λ file. AppliesToFile file fault))
+Applies text fault = MatchOption (parse_document text) (fault ≡ Text) (λ ms. AppliesToTables ms fault)
 
 -- no fault of a lower number is found
 abbrev pub HasNoneBelow : (LineFault → Type 0) → ℕ → Type 0

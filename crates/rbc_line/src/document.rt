@@ -1,9 +1,10 @@
 //! From the text of a line file to the line.
-ghost use Rattle.std.specs.Prelude.{◌≡◌, ◌≢◌, length, IfOk, IfErr};
+ghost use Rattle.std.specs.Prelude.{◌≡◌, ◌≢◌, length, IfOk, IfErr, MatchOption};
+ghost use Rattle.toml.specs.View.{table_view};
 ghost use Rattle.rbc_spec.specs.Line.{IsLine};
 ghost use Rattle.rbc_line.specs.DraftViews.{file_view};
-ghost use Rattle.rbc_line.specs.Faults.{Applies, AppliesToFile, HasNoneBelow, IsLowest, Names};
-ghost use Rattle.rbc_line.specs.LineFile.{line_of};
+ghost use Rattle.rbc_line.specs.Faults.{Applies, AppliesToFile, AppliesToTables, HasNoneBelow, IsLowest, Names};
+ghost use Rattle.rbc_line.specs.LineFile.{line_file, line_of};
 ghost use Rattle.rbc_line.specs.declared.fault.LineFault.{LineFault};
 ghost use Rattle.rbc_line.specs.Tested.{Ascends};
 
@@ -15,6 +16,7 @@ use crate::layout::Line;
 use crate::lowest::lowest_fault;
 use crate::read::read_draft;
 use std::alloc::Global;
+use toml::Table;
 
 /// The line of a draft to which at most the last fault applies.
 fn line_of_tested(alloc: Global, draft: &Draft) -> Result<Line, LineFault>
@@ -48,6 +50,21 @@ fn line_of_draft(alloc: Global, draft: &Draft) -> Result<Line, LineFault>
     }
 }
 
+/// The line that the tables of a text name, or the lowest fault that applies to them.
+pub(crate) fn line_of_tables(alloc: Global, table: &Table) -> Result<Line, LineFault>
+    ensures named { IfOk result (λ line. MatchOption (line_file (table_view table.now)) ⊥ (λ file. line ≡ line_of file)) }
+    ensures sound { IfOk result (λ _. (fault : LineFault) → ¬ AppliesToTables (table_view table.now) fault) }
+    ensures line { IfOk result IsLine }
+    ensures fault { IfErr result
+        (λ f. f ≢ LineFault.Memory → IsLowest (AppliesToTables (table_view table.now)) f) }
+{
+    let Some(draft) = read_draft(alloc, table)? else {
+        return Err(LineFault::Shape);
+    };
+    let line = line_of_draft(alloc, &draft)?;
+    Ok(line)
+}
+
 impl Line {
     /// Reads a line file. A text that no fault applies to gives the line that its tables name; for any other the
     /// lowest fault that applies is named. `Memory` comes where an allocation was refused, in place of any answer.
@@ -65,10 +82,7 @@ impl Line {
                 return Err(LineFault::Text);
             }
         };
-        let Some(draft) = read_draft(alloc, &table)? else {
-            return Err(LineFault::Shape);
-        };
-        let line = line_of_draft(alloc, &draft)?;
+        let line = line_of_tables(alloc, &table)?;
         Ok(line)
     }
 }

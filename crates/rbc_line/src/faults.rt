@@ -11,14 +11,14 @@ use std::alloc::{AllocError, Global};
 use std::collections::HashSet;
 
 /// The number is not from low to high.
-fn is_outside(low: u32, high: u32, n: i64) -> bool
+pub(crate) fn is_outside(low: u32, high: u32, n: i64) -> bool
     ensures { result ≡ is_outside low high n }
 {
     n < i64::from(low) || n > i64::from(high)
 }
 
 /// 1 to 16 ASCII letters and digits.
-fn is_name(name: &str) -> bool
+pub(crate) fn is_name(name: &str) -> bool
     ensures { result ≡ is_name name.now }
 {
     let bytes = name.as_bytes();

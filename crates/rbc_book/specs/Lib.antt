@@ -1,0 +1,4 @@
+pub mod Entries
+pub mod Book
+pub mod Claim
+pub mod Answers

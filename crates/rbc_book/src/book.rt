@@ -1,0 +1,227 @@
+ghost use Rattle.std.specs.Prelude.{◌≡◌, ℕ, ◌==◌, ◌&&◌, not, true, false, if◌then◌else◌, IfOk, OnErr, MatchResult};
+ghost use Rattle.rbc_spec.specs.Centre as spec;
+ghost use Rattle.rbc_spec.specs.Line.{is_home};
+ghost use Rattle.rbc_spec.specs.Maps.{put};
+ghost use Rattle.rbc_book.specs.Book.{page_of};
+
+use crate::answer::{Back, NotHome, Unset};
+use crate::claim::Claim;
+use crate::page::{Entry, Page};
+use rbc_line::Line;
+use std::alloc::{AllocError, Global};
+use std::marker::Model;
+
+/// The home sections of one centre: of each a page. Sections are numbered over the whole line.
+#[derive(Debug, Drop)]
+pub struct Book {
+    /// A page for each section of the line whose home the centre is.
+    pages: Vec<Option<Page>>,
+}
+
+impl Model for Book {
+    ghost use Rattle.rbc_book.specs.Book.{Pages};
+
+    ghost Value = { Pages };
+
+    ghost view = { λ b. b.pages.items };
+}
+
+impl Book {
+    ghost use Rattle.rbc_spec.specs.Centre.{is_open, is_unused, is_out_for};
+    ghost use Rattle.rbc_book.specs.Entries.{entry_of};
+    ghost use Rattle.rbc_book.specs.Book.{is_own, entry_at, wish_at};
+    ghost use Rattle.rbc_book.specs.Claim.{section_of, train_of, claim_if, is_taken_by};
+    ghost use Rattle.rbc_book.specs.Answers.{unset_answer, back_answer};
+
+    /// The book of a centre of the line at its beginning: every section is shut, and none is wished back.
+    pub fn new(alloc: Global, line: &Line, centre: u8) -> Result<Book, AllocError>
+        ensures homes { IfOk result (λ b. (k : ℕ) → is_own b k ≡ is_home line.now centre k) }
+        ensures entry { IfOk result (λ b. (k : ℕ) → entry_at b k ≡ spec.Shut) }
+        ensures wish { IfOk result (λ b. (k : ℕ) → wish_at b k ≡ false) }
+    {
+        let count = line.section_count();
+        let mut pages = Vec::with_capacity(alloc, count as usize)?;
+        for s in 0..count {
+            let page = if line.is_home(centre, s) {
+                Some(Page::SHUT)
+            } else {
+                None
+            };
+            pages.push(page)?;
+        }
+        Ok(Book { pages })
+    }
+
+    /// Whether the section is of this book's home.
+    #[tactic(auto, unfolding(crate::specs::Book::is_own))]
+    pub fn has(&self, s: u16) -> bool
+        ensures { result ≡ is_own self.now s }
+    {
+        own_page(&self.pages, s).is_some()
+    }
+
+    /// What the book has of a section; one of another home, or of no line, is shut.
+    pub fn page(&self, s: u16) -> Page
+        ensures entry { entry_of result.entry ≡ entry_at self.now s }
+        ensures wish { result.is_wished ≡ wish_at self.now s }
+        ensures foreign { is_own self.now s ≡ false → result ≡ Page.SHUT }
+    {
+        own_page(&self.pages, s).unwrap_or(Page::SHUT)
+    }
+
+    // Writes the page of a section of this book's home.
+    fn write(&mut self, s: u16, entry: Entry, is_wished: bool)
+        requires { is_own self.old s ≡ true }
+        ensures homes { (k : ℕ) → is_own self.new k ≡ is_own self.old k }
+        ensures entry { (k : ℕ) → entry_at self.new k ≡ put (entry_at self.old) s (entry_of entry) k }
+        ensures wish { (k : ℕ) → wish_at self.new k ≡ put (wish_at self.old) s is_wished k }
+    {
+        self.pages[s as usize] = Some(Page { entry, is_wished });
+    }
+
+    /// The interlocking releases a section: one that is in no use becomes open, and a wish to have it back ends.
+    pub fn set(&mut self, s: u16) -> Result<(), NotHome>
+        ensures own { MatchResult result (λ _. is_own self.old s ≡ true) (λ _. is_own self.old s ≡ false) }
+        ensures homes { (k : ℕ) → is_own self.new k ≡ is_own self.old k }
+        ensures entry { (k : ℕ) → entry_at self.new k
+            ≡ (if (is_own self.old s && is_unused (entry_at self.old s)) && (k == s)
+            then spec.Open else entry_at self.old k) }
+        ensures wish { (k : ℕ) → wish_at self.new k
+            ≡ (if is_own self.old s && (k == s) then false else wish_at self.old k) }
+        ensures err { OnErr result (self.new ≡ self.old) }
+    {
+        if !self.has(s) {
+            return Err(NotHome);
+        }
+        let page = self.page(s);
+        let entry = if page.entry.is_unused() {
+            Entry::Open
+        } else {
+            page.entry
+        };
+        self.write(s, entry, false);
+        Ok(())
+    }
+
+    /// The interlocking takes a section back: one that is in no use becomes shut; of one that is in use the wish is noted.
+    pub fn unset(&mut self, s: u16) -> Result<Unset, NotHome>
+        ensures own { MatchResult result (λ _. is_own self.old s ≡ true) (λ _. is_own self.old s ≡ false) }
+        ensures answer { IfOk result (λ answer. answer ≡ unset_answer (entry_at self.old s)) }
+        ensures homes { (k : ℕ) → is_own self.new k ≡ is_own self.old k }
+        ensures entry { (k : ℕ) → entry_at self.new k
+            ≡ (if (is_own self.old s && is_unused (entry_at self.old s)) && (k == s)
+            then spec.Shut else entry_at self.old k) }
+        ensures wish { (k : ℕ) → wish_at self.new k
+            ≡ (if is_own self.old s && (k == s) then not (is_unused (entry_at self.old s)) else wish_at self.old k) }
+        ensures err { OnErr result (self.new ≡ self.old) }
+    {
+        if !self.has(s) {
+            return Err(NotHome);
+        }
+        let page = self.page(s);
+        if page.entry.is_unused() {
+            self.write(s, Entry::Shut, false);
+            Ok(Unset::Done)
+        } else {
+            self.write(s, page.entry, true);
+            Ok(Unset::Asked)
+        }
+    }
+
+    /// Takes a section into use for a train. None exactly where it is not open.
+    pub fn take(&mut self, s: u16, nid_engine: u32) -> Option<Claim>
+        ensures claim { result ≡ claim_if (is_open (entry_at self.old s)) s nid_engine }
+        ensures homes { (k : ℕ) → is_own self.new k ≡ is_own self.old k }
+        ensures entry { (k : ℕ) → entry_at self.new k
+            ≡ (if is_open (entry_at self.old s) && (k == s) then spec.Taken nid_engine else entry_at self.old k) }
+        ensures wish { (k : ℕ) → wish_at self.new k ≡ wish_at self.old k }
+    {
+        let page = self.page(s);
+        if !page.entry.is_open() {
+            return None;
+        }
+        self.write(s, Entry::Taken { nid_engine }, page.is_wished);
+        Some(Claim {
+            section: s,
+            nid_engine,
+        })
+    }
+
+    /// Gives a section back: it becomes open, or shut where it is wished back, and then the wish ends. A claim whose section
+    /// this book does not have as taken for its train changes nothing, and is answered as open.
+    pub fn give_back(&mut self, claim: Claim) -> Back
+        ensures answer { result ≡ back_answer (is_taken_by self.old claim && wish_at self.old (section_of claim)) }
+        ensures homes { (k : ℕ) → is_own self.new k ≡ is_own self.old k }
+        ensures entry { (k : ℕ) → entry_at self.new k
+            ≡ (if is_taken_by self.old claim && (k == section_of claim)
+            then (if wish_at self.old (section_of claim) then spec.Shut else spec.Open) else entry_at self.old k) }
+        ensures wish { (k : ℕ) → wish_at self.new k
+            ≡ (if is_taken_by self.old claim && (k == section_of claim) then false else wish_at self.old k) }
+    {
+        let Claim {
+            section,
+            nid_engine,
+        } = claim;
+        let page = self.page(section);
+        if !page.entry.is_taken_for(nid_engine) {
+            return Back::Open;
+        }
+        if page.is_wished {
+            self.write(section, Entry::Shut, false);
+            Back::Told
+        } else {
+            self.write(section, Entry::Open, false);
+            Back::Open
+        }
+    }
+
+    /// Lends a section to another centre, where its train runs on. A claim whose section this book does not have as taken
+    /// for its train changes nothing.
+    pub fn lend(&mut self, claim: Claim, to: u8)
+        ensures homes { (k : ℕ) → is_own self.new k ≡ is_own self.old k }
+        ensures entry { (k : ℕ) → entry_at self.new k
+            ≡ (if is_taken_by self.old claim && (k == section_of claim)
+            then spec.Out (train_of claim) to else entry_at self.old k) }
+        ensures wish { (k : ℕ) → wish_at self.new k ≡ wish_at self.old k }
+    {
+        let Claim {
+            section,
+            nid_engine,
+        } = claim;
+        let page = self.page(section);
+        if page.entry.is_taken_for(nid_engine) {
+            let entry = Entry::Out {
+                nid_engine,
+                centre: to,
+            };
+            self.write(section, entry, page.is_wished);
+        }
+    }
+
+    /// Takes a section of a train back from another centre. None exactly where it is not out so.
+    pub fn reclaim(&mut self, s: u16, nid_engine: u32, from: u8) -> Option<Claim>
+        ensures claim { result ≡ claim_if (is_out_for nid_engine from (entry_at self.old s)) s nid_engine }
+        ensures homes { (k : ℕ) → is_own self.new k ≡ is_own self.old k }
+        ensures entry { (k : ℕ) → entry_at self.new k
+            ≡ (if is_out_for nid_engine from (entry_at self.old s) && (k == s)
+            then spec.Taken nid_engine else entry_at self.old k) }
+        ensures wish { (k : ℕ) → wish_at self.new k ≡ wish_at self.old k }
+    {
+        let page = self.page(s);
+        if !page.entry.is_out_for(nid_engine, from) {
+            return None;
+        }
+        self.write(s, Entry::Taken { nid_engine }, page.is_wished);
+        Some(Claim {
+            section: s,
+            nid_engine,
+        })
+    }
+}
+
+/// The page of a section of the book's home.
+fn own_page(pages: &[Option<Page>], s: u16) -> Option<Page>
+    ensures { result ≡ page_of pages.now s }
+{
+    pages.get(s as usize).copied().flatten()
+}

@@ -1,0 +1,69 @@
+ghost use Rattle.std.specs.Prelude.{◌≡◌};
+
+/// What a home section is used for.
+#[derive(Clone, Copy, Debug, PartialEq, Eq)]
+pub enum Entry {
+    /// Not released by the interlocking.
+    Shut,
+    /// Released, and in no use.
+    Open,
+    /// In use for a train, with its claim at this centre.
+    Taken { nid_engine: u32 },
+    /// In use for a train at another centre.
+    Out { nid_engine: u32, centre: u8 },
+}
+
+impl Entry {
+    ghost use Rattle.rbc_spec.specs.Centre.{is_open, is_unused, is_taken_for, is_out_for};
+    ghost use Rattle.rbc_book.specs.Entries.{entry_of};
+
+    /// Whether the section is released and in no use.
+    pub fn is_open(self) -> bool
+        ensures { result ≡ is_open (entry_of self) }
+    {
+        matches!(self, Entry::Open)
+    }
+
+    /// Whether the section is in no use.
+    pub fn is_unused(self) -> bool
+        ensures { result ≡ is_unused (entry_of self) }
+    {
+        matches!(self, Entry::Shut | Entry::Open)
+    }
+
+    /// Whether the section is in use for this train, with its claim at this centre.
+    pub fn is_taken_for(self, train: u32) -> bool
+        ensures { result ≡ is_taken_for train (entry_of self) }
+    {
+        match self {
+            Entry::Taken { nid_engine } => nid_engine == train,
+            _ => false,
+        }
+    }
+
+    /// Whether the section is in use for this train at that centre.
+    pub fn is_out_for(self, train: u32, to: u8) -> bool
+        ensures { result ≡ is_out_for train to (entry_of self) }
+    {
+        match self {
+            Entry::Out { nid_engine, centre } => nid_engine == train && centre == to,
+            _ => false,
+        }
+    }
+}
+
+/// What a centre's book has of a section.
+#[derive(Clone, Copy, Debug, PartialEq, Eq)]
+pub struct Page {
+    pub entry: Entry,
+    /// The interlocking wishes the section back.
+    pub is_wished: bool,
+}
+
+impl Page {
+    /// A section that is in no use and not released.
+    pub const SHUT: Page = Page {
+        entry: Entry::Shut,
+        is_wished: false,
+    };
+}

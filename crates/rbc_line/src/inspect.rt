@@ -1,0 +1,265 @@
+//! One walk through the tables of a line file that notes all that is wrong, table by table.
+ghost use Rattle.std.specs.Prelude.{◌≡◌, Some, IfOk};
+ghost use Rattle.std.specs.List.Sorted.{IsNonDecreasingBy};
+ghost use Rattle.rbc_line.specs.Findings.{fault_number, first_fault};
+
+use crate::fault::LineFault;
+use crate::finding::{Counted, Finding, Flaw, Place};
+use crate::inspection::{Inspection, first_place};
+use std::alloc::{AllocError, Global};
+use std::collections::HashSet;
+use toml::value::Array;
+use toml::{Table, Value};
+
+/// The homes along one track so far.
+#[derive(Drop)]
+struct Homes<'a> {
+    begun: HashSet<&'a str>,
+    last: Option<&'a str>,
+}
+
+impl<'a> Homes<'a> {
+    /// One more section of this home: whether the home comes again, behind another.
+    fn comes_again(&mut self, home: &'a str) -> Result<bool, AllocError> {
+        if self.last == Some(home) {
+            return Ok(false);
+        }
+        self.last = Some(home);
+        Ok(!self.begun.insert(home)?)
+    }
+}
+
+/// All that is wrong in the tables of a text, the lowest fault first, and each fault's cases in the order of the file.
+fn findings_in(alloc: Global, table: &Table) -> Result<Vec<Finding<'_>>, AllocError>
+    ensures { IfOk result (λ v. IsNonDecreasingBy fault_number v.items) }
+{
+    let mut inspection = Inspection::new(alloc);
+    inspection.file(alloc, table)?;
+    let mut findings = inspection.findings;
+    findings.sort_by_key(|finding| finding.fault().number())?;
+    Ok(findings)
+}
+
+fn first_fault(findings: &[Finding]) -> Option<LineFault>
+    ensures { result ≡ first_fault findings.now }
+{
+    match findings.first() {
+        Some(finding) => Some(finding.fault()),
+        None => None,
+    }
+}
+
+/// All that is wrong in tables to which this fault applies as the lowest. If the walk did not find a case of it first,
+/// the fault alone is named: so what is told of a file is never at odds with the fault for which it is refused.
+pub(crate) fn cases_from(
+    alloc: Global,
+    lowest: LineFault,
+    table: &Table,
+) -> Result<Vec<Finding<'_>>, AllocError>
+    ensures first { IfOk result (λ v. first_fault v.items ≡ Some lowest) }
+    ensures order { IfOk result (λ v. IsNonDecreasingBy fault_number v.items) }
+{
+    let findings = findings_in(alloc, table)?;
+    if let Some(fault) = first_fault(&findings) {
+        if fault == lowest {
+            return Ok(findings);
+        }
+    }
+    let mut unplaced = Vec::new(alloc);
+    unplaced.push(Finding {
+        place: Place::File,
+        flaw: Flaw::Unplaced { fault: lowest },
+    })?;
+    Ok(unplaced)
+}
+
+impl<'a> Inspection<'a> {
+    fn file(&mut self, alloc: Global, table: &'a Table) -> Result<(), AllocError> {
+        let file = Place::File;
+        self.keys(file, table, &["nid_c", "centre", "track", "train"])?;
+        self.number(file, table, "nid_c", 1023)?;
+        if let Some(centres) = self.array(file, table, "centre")? {
+            self.centres(centres)?;
+        }
+        if let Some(tracks) = self.array(file, table, "track")? {
+            self.tracks(alloc, tracks)?;
+        }
+        if let Some(trains) = self.array(file, table, "train")? {
+            self.trains(trains)?;
+        }
+        Ok(())
+    }
+
+    fn centres(&mut self, centres: &'a Array) -> Result<(), AllocError> {
+        self.has_centres = true;
+        self.count(Counted::Centres, centres.len())?;
+        for (number, centre) in centres.iter().enumerate() {
+            self.centre(number, centre)?;
+        }
+        Ok(())
+    }
+
+    fn centre(&mut self, number: usize, centre: &'a Value) -> Result<(), AllocError> {
+        let name = name_in(centre);
+        let place = Place::Centre { number, name };
+        let Some(table) = self.table(place, centre, &["name", "nid_rbc"])? else {
+            return Ok(());
+        };
+        if let Some(name) = self.name(place, table)? {
+            if let Some(first) = first_place(&mut self.centre_names, name, place)? {
+                self.note(place, Flaw::NameTwice { name, first })?;
+            }
+        }
+        if let Some(value) = self.number(place, table, "nid_rbc", 16382)? {
+            let first = first_place(&mut self.nid_rbcs, value, place)?;
+            self.note_first(place, "nid_rbc", value, first)?;
+        }
+        Ok(())
+    }
+
+    fn tracks(&mut self, alloc: Global, tracks: &'a Array) -> Result<(), AllocError> {
+        self.count(Counted::Tracks, tracks.len())?;
+        let mut sections = 0;
+        for (number, track) in tracks.iter().enumerate() {
+            sections = self.track(alloc, number, sections, track)?;
+        }
+        // A track without a section is found at the track.
+        if sections > 0 {
+            self.count(Counted::Sections, sections)?;
+        }
+        Ok(())
+    }
+
+    /// A track, whose first section has this number: the number of the section behind it.
+    fn track(
+        &mut self,
+        alloc: Global,
+        number: usize,
+        sections: usize,
+        track: &'a Value,
+    ) -> Result<usize, AllocError> {
+        let place = Place::Track {
+            number,
+            name: name_in(track),
+        };
+        let Some(table) = self.table(place, track, &["name", "section"])? else {
+            return Ok(sections);
+        };
+        let name = self.name(place, table)?;
+        if let Some(name) = name {
+            if let Some(first) = first_place(&mut self.track_names, name, place)? {
+                self.note(place, Flaw::NameTwice { name, first })?;
+            }
+        }
+        let Some(items) = self.array(place, table, "section")? else {
+            return Ok(sections);
+        };
+        if items.is_empty() {
+            self.note(place, Flaw::Empty)?;
+        }
+        self.sections(alloc, name, sections, items)
+    }
+
+    fn sections(
+        &mut self,
+        alloc: Global,
+        track: Option<&'a str>,
+        first: usize,
+        sections: &'a Array,
+    ) -> Result<usize, AllocError> {
+        let mut number = first;
+        let mut homes = Homes {
+            begun: HashSet::new(alloc),
+            last: None,
+        };
+        for section in sections {
+            let place = Place::Section { number, track };
+            if let Some(home) = self.section(place, section)? {
+                if homes.comes_again(home)? {
+                    self.note(place, Flaw::Order { home })?;
+                }
+            }
+            number = number.saturating_add(1);
+        }
+        Ok(number)
+    }
+
+    /// A section: its home, where it has one.
+    fn section(
+        &mut self,
+        place: Place<'a>,
+        section: &'a Value,
+    ) -> Result<Option<&'a str>, AllocError> {
+        let Some(table) = self.table(place, section, &["length", "home", "balise"])? else {
+            return Ok(None);
+        };
+        self.length(place, table)?;
+        let home = self.centre_name(place, table, "home")?;
+        if let Some(value) = self.number(place, table, "balise", 16382)? {
+            let first = first_place(&mut self.balises, value, place)?;
+            self.note_first(place, "balise", value, first)?;
+        }
+        Ok(home)
+    }
+
+    fn trains(&mut self, trains: &'a Array) -> Result<(), AllocError> {
+        self.count(Counted::Trains, trains.len())?;
+        for (number, train) in trains.iter().enumerate() {
+            self.train(number, train)?;
+        }
+        Ok(())
+    }
+
+    fn train(&mut self, number: usize, train: &'a Value) -> Result<(), AllocError> {
+        let engine = engine_in(train);
+        let place = Place::Train { number, engine };
+        let Some(table) = self.table(place, train, &["engine", "registrar"])? else {
+            return Ok(());
+        };
+        if let Some(value) = self.number(place, table, "engine", 16777215)? {
+            let first = first_place(&mut self.engines, value, place)?;
+            self.note_first(place, "engine", value, first)?;
+        }
+        self.centre_name(place, table, "registrar")?;
+        Ok(())
+    }
+
+    /// The name of a centre of the file.
+    fn centre_name(
+        &mut self,
+        place: Place<'a>,
+        table: &'a Table,
+        key: &'static str,
+    ) -> Result<Option<&'a str>, AllocError> {
+        let text = self.text(place, table, key)?;
+        if let Some(name) = text {
+            if self.has_centres && !self.centre_names.contains_key(name) {
+                self.note(place, Flaw::Home { key, name })?;
+            }
+        }
+        Ok(text)
+    }
+
+    fn note_first(
+        &mut self,
+        place: Place<'a>,
+        key: &'static str,
+        value: i64,
+        first: Option<Place<'a>>,
+    ) -> Result<(), AllocError> {
+        match first {
+            Some(first) => self.note(place, Flaw::NumberTwice { key, value, first }),
+            None => Ok(()),
+        }
+    }
+}
+
+/// The name in a table, to find the place by.
+fn name_in(value: &Value) -> Option<&str> {
+    value.as_table()?.get("name")?.as_str()
+}
+
+/// The engine in a table, to find the place by.
+fn engine_in(value: &Value) -> Option<i64> {
+    value.as_table()?.get("engine")?.as_integer()
+}

@@ -1,0 +1,10 @@
+//! The communication sessions of a radio block centre with its trains (SUBSET-026 3.5): at most one a train. A session is a
+//! key that can't be copied or dropped, and its type says how far the session has come, so none is used in a phase that it
+//! is not in. What is known of a session stands in one place, under its key.
+#![tactic(auto)]
+
+mod session;
+mod sessions;
+
+pub use session::{Opened, Phase, Session, Standing, Up};
+pub use sessions::Sessions;
