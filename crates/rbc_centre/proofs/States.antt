@@ -5,7 +5,7 @@ use Rattle.std.proofs.lemmas.List.Quantifiers.{position-Some}
 use Rattle.std.specs.Option.{option_map_or}
 use Rattle.rbc_spec.specs.Maps.{put}
 use Rattle.rbc_spec.specs.Line.{Line, Train, train_number}
-use Rattle.rbc_centre.specs.State.{of_trains, of_pages}
+use Rattle.rbc_centre.specs.State.{of_trains}
 use Rattle.rbc_centre.specs.declared.train.TrainState.{TrainState}
 
 -- ## Lists
@@ -28,10 +28,7 @@ part-replicate part zero x i = refl
 part-replicate part (suc n) x zero = refl
 part-replicate part (suc n) x (suc i) = part-replicate part n x i
 
--- ## Pages and trains at the beginning
-
-pub of_pages-replicate : {X : Type 0} (part : _ → X) (n : ℕ) (page : _) (s : ℕ) → of_pages part (part page) (replicate n page) s ≡ part page
-of_pages-replicate part n page s = part-replicate part n page s
+-- ## Trains at the beginning
 
 pub of_trains-replicate : {X : Type 0} (part : TrainState → X) (line : Line) (n : ℕ) (state : TrainState) (t : ℕ) → of_trains part (part state) line (replicate n state) t ≡ part state
 of_trains-replicate part line n state t = by_number (train_number line t)

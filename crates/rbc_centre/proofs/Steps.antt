@@ -1,30 +1,41 @@
 -- What a centre stands for before and after its step.
-use Rattle.std.proofs.Common.{◌≡◌, ℕ, ◌+◌, ◌==◌, ◌<◌, ◌≤◌, Bool, true, false, cond, List, [], ◌∷◌, length, Option, Some, None, is_none, slice_get, set, replicate, zero, suc, refl, sym, ap, ◌∙◌, arith, Ok, Err, option_and_then, find, nat_lt, unwrap_or}
+use Rattle.std.proofs.Common.{◌≡◌, ℕ, ◌+◌, ◌==◌, ◌<◌, ◌≤◌, ◌&&◌, Bool, true, false, cond, not, if◌then◌else◌, List, [], ◌∷◌, length, Option, Some, None, is_none, slice_get, set, replicate, zero, suc, refl, sym, ap, ◌∙◌, arith, Ok, Err, option_and_then, find, nat_lt, unwrap_or}
 use Rattle.std.specs.Option.{option_map_or}
+use Rattle.std.specs.List.{list_any, range_with_len}
 use Rattle.std.proofs.lemmas.Bool.Decides.{nat_tests}
 use Rattle.rbc_spec.specs.Maps.{put}
 use Rattle.std.proofs.lemmas.List.{length-replicate}
 use Rattle.std.proofs.lemmas.List.Quantifiers.{position-Some}
-use Rattle.rbc_spec.specs.Line.{Line, Train, train_number}
-use Rattle.rbc_spec.specs.Message.{TrainMessage, TrainBody, InitiationOfSession, SystemVersion, unknown_group}
-use Rattle.rbc_spec.specs.Outcome.{Reason, StaleStamp, ForeignEngine, Saying, Outcome}
+use Rattle.rbc_spec.specs.Line.{Line, Train as TrainOfLine, train_number, is_home, is_linked}
+use Rattle.rbc_spec.specs.Message.{TrainMessage, InitiationOfSession, SystemVersion, unknown_group}
+use Rattle.rbc_spec.specs.Outcome.{Reason, StaleStamp, ForeignEngine, Saying, Word, Done, NotHome, Outcome}
 use Rattle.rbc_spec.specs.Centre as centre
-use Rattle.rbc_centre.specs.State.{stands_for, of_trains, of_pages, entry_of, phase_of}
-use Rattle.rbc_centre.specs.declared.book.Page.{Page}
+use Rattle.rbc_spec.specs.Centre.{is_unused}
+use Rattle.rbc_spec.specs.Acts.{Reply, ◌>>◌, hear}
+use Rattle.rbc_spec.specs.Rules.{answered}
+use Rattle.rbc_spec.specs.Step as step
+use Rattle.rbc_spec.specs.Step.{Event, Train, Set, Unset, Deliver}
+use Rattle.rbc_initiation.specs.Message as msgs
+use Rattle.rbc_initiation.specs.Step.{step_body, step_message}
+use Rattle.rbc_book.specs.Book.{Pages, is_own, entry_at, wish_at}
+use Rattle.rbc_centre.specs.State.{stands_for, of_trains, phase_of}
+use Rattle.rbc_centre.specs.Views.{event_of}
+use Rattle.rbc_centre.specs.declared.event.Event.{Event as EventOfCode}
+use Rattle.rbc_centre.specs.declared.event.Event.TheVariants as code
 use Rattle.rbc_centre.specs.declared.train.TrainState.{TrainState}
 use Rattle.rbc_centre.specs.declared.train.Phase.TheVariants.{NoSession, Opened}
-use Rattle.rbc_centre.proofs.States.{of_pages-replicate, of_trains-replicate, of_trains-set}
+use Rattle.rbc_centre.proofs.States.{of_trains-replicate, of_trains-set}
 
 -- ## The beginning
 
-pub stands_at_beginning : (line : Line) (n k : ℕ) (page : Page) (state : TrainState) → entry_of page.entry ≡ centre.Shut → page.is_wished ≡ false
-    → phase_of state.phase ≡ centre.NoSession → state.heard ≡ None → state.said ≡ 0
-    → stands_for line 0 (replicate n page) (replicate k state) ≡ centre.beginning
+pub stands_at_beginning : (line : Line) (c k : ℕ) (pages : Pages) (state : TrainState) → ((s : ℕ) → entry_at pages s ≡ centre.Shut) → ((s : ℕ) → wish_at pages s ≡ false)
+    → phase_of state.phase ≡ centre.Silent → state.heard ≡ None → state.said ≡ 0
+    → stands_for line c 0 pages (replicate k state) ≡ centre.beginning line c
 unfolding stands_for centre.beginning
-stands_at_beginning line n k page state shut unwished silent unheard unsaid = λ i. record {
+stands_at_beginning line c k pages state shut unwished silent unheard unsaid = λ i. record (centre.beginning line c) {
   clock = 0;
-  book = λ s. (ap (λ e. of_pages (λ p. entry_of p.entry) e (replicate n page) s) (sym shut) ∙ of_pages-replicate (λ p. entry_of p.entry) n page s ∙ shut) i;
-  wish = λ s. (ap (λ e. of_pages (λ p. p.is_wished) e (replicate n page) s) (sym unwished) ∙ of_pages-replicate (λ p. p.is_wished) n page s ∙ unwished) i;
+  book = λ s. shut s i;
+  wish = λ s. unwished s i;
   phase = λ t. (ap (λ e. of_trains (λ p. phase_of p.phase) e line (replicate k state) t) (sym silent) ∙ of_trains-replicate (λ p. phase_of p.phase) line k state t ∙ silent) i;
   heard = λ t. (ap (λ e. of_trains (λ p. p.heard) e line (replicate k state) t) (sym unheard) ∙ of_trains-replicate (λ p. p.heard) line k state t ∙ unheard) i;
   said = λ t. (ap (λ e. of_trains (λ p. p.said) e line (replicate k state) t) (sym unsaid) ∙ of_trains-replicate (λ p. p.said) line k state t ∙ unsaid) i;
@@ -56,7 +67,11 @@ pub record IsInitiated (m : TrainMessage) (old new : TrainState) : Type 0 where
   pub heard : new.heard ≡ Some m.t_train
   pub said : new.said ≡ old.said + 1
 
-module _ (line : Line) (clock : ℕ) (pages : List Page) (states : List TrainState) (m : TrainMessage) (i : ℕ) (old new : TrainState)
+-- putting what is there changes nothing
+put_none : {X : Type 0} (t : ℕ) (x : X) (u : ℕ) → put (λ _. x) t x u ≡ x
+put_none t x u = elim (u == t) as (λ b. cond b x x ≡ x) [ true ↦ refl | false ↦ refl ]
+
+module _ (line : Line) (c clock : ℕ) (pages : Pages) (states : List TrainState) (m : TrainMessage) (i : ℕ) (old new : TrainState)
     (number : train_number line m.nid_engine ≡ Some i) (at : slice_get states i ≡ Some old) (within : i < length states) where
   -- what is kept of the train is its state
   pub kept_of : {X : Type 0} (part : TrainState → X) (none : X) → of_trains part none line states m.nid_engine ≡ part old
@@ -72,28 +87,34 @@ module _ (line : Line) (clock : ℕ) (pages : List Page) (states : List TrainSta
   abbrev saying_with : ℕ → Saying
   saying_with count = record { nid_engine = m.nid_engine; message = record { t_train = count; nid_lrbg = unknown_group; body = SystemVersion } }
 
-  initiated_state : IsInitiated m old new → stands_for line clock pages (set states i new) ≡ (centre.answered InitiationOfSession m.nid_engine (centre.hear m (stands_for line clock pages states))).state
-  unfolding stands_for
-  initiated_state done = λ k. record {
-    clock = clock;
-    book = of_pages (λ p. entry_of p.entry) centre.Shut pages;
-    wish = of_pages (λ p. p.is_wished) false pages;
-    phase = λ u. (part_set (λ p. phase_of p.phase) centre.NoSession centre.Opened done.phase u
-        ∙ sym (put_over m.nid_engine centre.Opened centre.NoSession (of_trains (λ p. phase_of p.phase) centre.NoSession line states) u)) k;
+  abbrev initiation : Reply
+  initiation = (hear m >> answered line c m InitiationOfSession) (stands_for line c clock pages states)
+
+  initiated_state : IsInitiated m old new → stands_for line c clock pages (set states i new) ≡ initiation.state
+  unfolding stands_for centre.beginning ◌>>◌
+  initiated_state done = λ k. record (stands_for line c clock pages states) {
+    phase = λ u. (part_set (λ p. phase_of p.phase) centre.Silent centre.Opened done.phase u
+        ∙ sym (put_over m.nid_engine centre.Opened centre.Silent (of_trains (λ p. phase_of p.phase) centre.Silent line states) u)) k;
     heard = λ u. part_set (λ p. p.heard) None (Some m.t_train) done.heard u k;
     said = λ u. part_set (λ p. p.said) 0 (of_trains (λ p. p.said) 0 line states m.nid_engine + 1) (done.said ∙ sym next_said) u k;
+    mission = λ u. sym (put_none {X = Option centre.Mission} m.nid_engine None u) k;
   }
 
-  initiated_saying : (saying : Saying) → saying ≡ saying_with (old.said + 1) → saying ∷ [] ≡ (centre.answered InitiationOfSession m.nid_engine (centre.hear m (stands_for line clock pages states))).sayings
-  unfolding stands_for
+  initiated_saying : (saying : Saying) → saying ≡ saying_with (old.said + 1) → saying ∷ [] ≡ initiation.sayings
+  unfolding stands_for centre.beginning ◌>>◌
   initiated_saying saying say = ap (λ (x : Saying). x ∷ []) (say ∙ ap saying_with (sym next_said))
 
+  abbrev says_one : centre.Centre → Saying → Reply
+  says_one k saying = record { state = k; frames = λ d. []; sayings = saying ∷ []; words = [] }
+
+  initiated_reply : (saying : Saying) → IsInitiated m old new → saying ≡ saying_with (old.said + 1) → says_one (stands_for line c clock pages (set states i new)) saying ≡ initiation
+  unfolding ◌>>◌ stands_for centre.beginning
+  initiated_reply saying done say = λ k. record { state = initiated_state done k; frames = λ d. []; sayings = initiated_saying saying say k; words = [] }
+
   pub initiation_stands : (saying : Saying) → m.body ≡ InitiationOfSession → IsInitiated m old new → saying ≡ saying_with (old.said + 1)
-      → record { state = stands_for line clock pages (set states i new); sayings = saying ∷ [] }
-      ≡ centre.answered m.body m.nid_engine (centre.hear m (stands_for line clock pages states))
+      → says_one (stands_for line c clock pages (set states i new)) saying ≡ step.hear_and_answer line c m (stands_for line c clock pages states)
   initiation_stands saying body done say =
-      (λ k. record { state = initiated_state done k; sayings = initiated_saying saying say k })
-      ∙ ap (λ b. centre.answered b m.nid_engine (centre.hear m (stands_for line clock pages states))) (sym body)
+      initiated_reply saying done say ∙ ap (λ b. (hear m >> answered line c m b) (stands_for line c clock pages states)) (sym body)
 
 -- the four changes of a train's state in turn
 pub initiated : (m : TrainMessage) (old heard closed opened counted : TrainState) (t n : ℕ) → t ≡ m.t_train → heard ≡ record old { heard = Some t } → closed ≡ record heard { phase = NoSession }
@@ -114,90 +135,168 @@ saying_counts m old counted n t done count engine = λ k. record {
 
 -- the number of a train of the line is one of those kept
 pub number_within : (line : Line) (states : List TrainState) (t i : ℕ) → train_number line t ≡ Some i → length states ≡ length line.trains → i < length states
-number_within line states t i h each = let w = position-Some (λ (q : Train). q.nid_engine == t) line.trains i (record { nid_engine = 0; registrar = 0 }) h in omega (arith, w.0)
+number_within line states t i h each = let w = position-Some (λ (q : TrainOfLine). q.nid_engine == t) line.trains i (record { nid_engine = 0; registrar = 0 }) h in omega (arith, w.0)
 
 -- ## Silence
 
-pub only_initiation : (b : TrainBody) → b ≡ InitiationOfSession
-only_initiation InitiationOfSession = refl
-
-module _ (line : Line) (m : TrainMessage) (k : centre.Centre) where
+module _ (line : Line) (c : ℕ) (m : TrainMessage) (k : centre.Centre) (initiates : m.body ≡ InitiationOfSession) where
   -- where no reason holds, and where one does
-  pub silence_by : (foreign stale : Bool) → is_none (train_number line m.nid_engine) ≡ foreign → centre.is_stale m.t_train (k.heard m.nid_engine) ≡ stale
-      → centre.silence line k m ≡ cond foreign (Some ForeignEngine) (cond stale (Some StaleStamp) None)
+  pub silence_by : (foreign stale : Bool) → is_none (train_number line m.nid_engine) ≡ foreign → step.is_stale m.t_train (k.heard m.nid_engine) ≡ stale
+      → step.silence line c k m ≡ cond foreign (Some ForeignEngine) (cond stale (Some StaleStamp) None)
   silence_by foreign stale f s =
-      ap (λ b. find (centre.holds line k m) (centre.reasons_of b)) (only_initiation m.body) ∙ rw (f, s) refl
-
-  outcome_with : ℕ → List Saying → Option Reason → Outcome
-  outcome_with stamp sayings silence = record { stamp = stamp; sayings = sayings; words = []; silence = silence }
-
-  -- a silent step
-  pub silent_taken : (reason : Reason) → centre.silence line k m ≡ Some reason → (record { stamp = k.clock + 1; sayings = []; words = []; silence = Some reason }, centre.tick k) ≡ centre.taken line m k
-  unfolding centre.taken
-  silent_taken reason h = rw h refl
-
-  -- a step that answers
-  pub answered_taken : (reply : centre.Reply) → centre.silence line k m ≡ None → reply ≡ centre.answered m.body m.nid_engine (centre.hear m (centre.tick k))
-      → (record { stamp = k.clock + 1; sayings = reply.sayings; words = []; silence = None }, reply.state) ≡ centre.taken line m k
-  unfolding centre.taken
-  answered_taken reply h r = rw (h, r) refl
+      ap (λ b. find (step.holds line c k m) (step.reasons_of b)) initiates ∙ rw (f, s) refl
 
 -- ## The step of a message
 
-pub silent_stands : (line : Line) (clock : ℕ) (pages : List Page) (states : List TrainState) (m : TrainMessage) (reason : Reason) (outcome : Outcome)
-    → outcome ≡ record { stamp = clock + 1; sayings = []; words = []; silence = Some reason } → centre.silence line (stands_for line clock pages states) m ≡ Some reason
-    → (outcome, stands_for line (clock + 1) pages states) ≡ centre.taken line m (stands_for line clock pages states)
-unfolding stands_for
-silent_stands line clock pages states m reason outcome o h =
-    ap (λ (x : Outcome). (x, stands_for line (clock + 1) pages states)) o ∙ silent_taken line m (stands_for line clock pages states) reason h
+abbrev spoken : ℕ → List Saying → Option Reason → Outcome
+spoken stamp sayings silence = record { stamp = stamp; sayings = sayings; frames = λ d. []; words = []; link = None; silence = silence }
 
-pub answer_stands : (line : Line) (clock stamp : ℕ) (pages : List Page) (states : List TrainState) (m : TrainMessage) (reply : centre.Reply) (outcome : Outcome)
-    → outcome ≡ record { stamp = stamp; sayings = reply.sayings; words = []; silence = None } → stamp ≡ clock + 1
-    → reply ≡ centre.answered m.body m.nid_engine (centre.hear m (stands_for line (clock + 1) pages states))
-    → centre.silence line (stands_for line clock pages states) m ≡ None
-    → (outcome, reply.state) ≡ centre.taken line m (stands_for line clock pages states)
-unfolding stands_for
-answer_stands line clock stamp pages states m reply outcome o s r h =
-    ap (λ (x : Outcome). (x, reply.state)) (o ∙ ap (λ n. record { stamp = n; sayings = reply.sayings; words = []; silence = None }) s)
-    ∙ answered_taken line m (stands_for line clock pages states) reply h r
+pub silent_stands : (line : Line) (c clock : ℕ) (pages : Pages) (states : List TrainState) (m : TrainMessage) (reason : Reason) (outcome : Outcome)
+    → outcome ≡ spoken (clock + 1) [] (Some reason) → step.silence line c (stands_for line c (clock + 1) pages states) m ≡ Some reason
+    → (outcome, stands_for line c (clock + 1) pages states) ≡ step.taken line c (Train m) (stands_for line c clock pages states)
+unfolding stands_for centre.beginning
+silent_stands line c clock pages states m reason outcome o h =
+    ap (λ (x : Outcome). (x, stands_for line c (clock + 1) pages states)) o ∙ rw h refl
+
+-- the centre that an answer leaves stands for a state that has sent no frame
+pub answer_stands : (line new_line : Line) (c d clock stamp new_clock : ℕ) (pages after : Pages) (states left : List TrainState) (m : TrainMessage) (sayings : List Saying) (outcome : Outcome)
+    → outcome ≡ spoken stamp sayings None → stamp ≡ clock + 1
+    → record { state = stands_for new_line d new_clock after left; frames = λ d. []; sayings = sayings; words = [] } ≡ step.hear_and_answer line c m (stands_for line c (clock + 1) pages states)
+    → step.silence line c (stands_for line c (clock + 1) pages states) m ≡ None
+    → (outcome, stands_for new_line d new_clock after left) ≡ step.taken line c (Train m) (stands_for line c clock pages states)
+unfolding stands_for centre.beginning
+answer_stands line new_line c d clock stamp new_clock pages after states left m sayings outcome o s r h =
+    ap (λ (x : Outcome). (x, stands_for new_line d new_clock after left)) (o ∙ ap (λ n. spoken n sayings None) s)
+    ∙ rw h (ap (λ (reply : Reply). (
+      step.outcome_of (clock + 1) (stands_for line c clock pages states) (record { reply = reply; link = None; silence = None }),
+      step.state_after (clock + 1) (stands_for line c clock pages states) (record { reply = reply; link = None; silence = None }),
+    )) r)
+
+-- ## What the interlocking says
+
+abbrev told : ℕ → Word → Outcome
+told stamp word = record { stamp = stamp; sayings = []; frames = λ d. []; words = word ∷ []; link = None; silence = None }
+
+module _ (line : Line) (c clock : ℕ) (old new : Pages) (states : List TrainState) (s : ℕ) (outcome : Outcome) where
+  abbrev Stands : Event → Type 0
+  Stands event = (outcome, stands_for line c (clock + 1) new states) ≡ step.taken line c event (stands_for line c clock old states)
+
+  -- a section that is in no use is released, or taken back
+  pub set_stands : is_own old s ≡ is_home line c s → is_own old s ≡ true → is_unused (entry_at old s) ≡ true
+      → ((k : ℕ) → entry_at new k ≡ (if (is_own old s && is_unused (entry_at old s)) && (k == s) then centre.Open else entry_at old k))
+      → ((k : ℕ) → wish_at new k ≡ (if is_own old s && (k == s) then false else wish_at old k))
+      → outcome ≡ told (clock + 1) (Done s) → Stands (Set s)
+  unfolding stands_for centre.beginning ◌>>◌
+  set_stands home own unused entry wish o =
+      let of_home : is_home line c s ≡ true = sym home ∙ own in
+      let entries : (k : ℕ) → entry_at new k ≡ put (entry_at old) s centre.Open k = λ k. rw (own, unused) at (entry k) in
+      let wishes : (k : ℕ) → wish_at new k ≡ put (put (wish_at old) s false) s false k = λ k. (rw own at (wish k)) ∙ sym (put_over s false false (wish_at old) k) in
+      ap (λ (x : Outcome). (x, stands_for line c (clock + 1) new states)) o
+      ∙ rw (of_home, unused) (λ i. (told (clock + 1) (Done s), record (stands_for line c (clock + 1) old states) { book = λ k. entries k i; wish = λ k. wishes k i }))
+
+  pub unset_stands : is_own old s ≡ is_home line c s → is_own old s ≡ true → is_unused (entry_at old s) ≡ true
+      → ((k : ℕ) → entry_at new k ≡ (if (is_own old s && is_unused (entry_at old s)) && (k == s) then centre.Shut else entry_at old k))
+      → ((k : ℕ) → wish_at new k ≡ (if is_own old s && (k == s) then not (is_unused (entry_at old s)) else wish_at old k))
+      → outcome ≡ told (clock + 1) (Done s) → Stands (Unset s)
+  unfolding stands_for centre.beginning ◌>>◌
+  unset_stands home own unused entry wish o =
+      let of_home : is_home line c s ≡ true = sym home ∙ own in
+      let entries : (k : ℕ) → entry_at new k ≡ put (entry_at old) s centre.Shut k = λ k. rw (own, unused) at (entry k) in
+      let wishes : (k : ℕ) → wish_at new k ≡ put (wish_at old) s false k = λ k. rw (own, unused) at (wish k) in
+      ap (λ (x : Outcome). (x, stands_for line c (clock + 1) new states)) o
+      ∙ rw (of_home, unused) (λ i. (told (clock + 1) (Done s), record (stands_for line c (clock + 1) old states) { book = λ k. entries k i; wish = λ k. wishes k i }))
+
+  -- a section of another home
+  pub foreign_set : is_own old s ≡ is_home line c s → is_own old s ≡ false → new ≡ old → outcome ≡ told (clock + 1) (NotHome s) → Stands (Set s)
+  unfolding stands_for centre.beginning
+  foreign_set home own same o =
+      let of_home : is_home line c s ≡ false = sym home ∙ own in
+      ap (λ (x : Outcome). (x, stands_for line c (clock + 1) new states)) o ∙ ap (λ (p : Pages). (told (clock + 1) (NotHome s), stands_for line c (clock + 1) p states)) same ∙ rw of_home refl
+
+  pub foreign_unset : is_own old s ≡ is_home line c s → is_own old s ≡ false → new ≡ old → outcome ≡ told (clock + 1) (NotHome s) → Stands (Unset s)
+  unfolding stands_for centre.beginning
+  foreign_unset home own same o =
+      let of_home : is_home line c s ≡ false = sym home ∙ own in
+      ap (λ (x : Outcome). (x, stands_for line c (clock + 1) new states)) o ∙ ap (λ (p : Pages). (told (clock + 1) (NotHome s), stands_for line c (clock + 1) p states)) same ∙ rw of_home refl
 
 -- ## Which messages are silent
 
-module _ (line : Line) (clock : ℕ) (pages : List Page) (states : List TrainState) (m : TrainMessage) where
-  pub foreign_silence : train_number line m.nid_engine ≡ None → centre.silence line (stands_for line clock pages states) m ≡ Some ForeignEngine
-  foreign_silence none = silence_by line m (stands_for line clock pages states) true _ (ap is_none none) refl
+module _ (line : Line) (c clock : ℕ) (pages : Pages) (states : List TrainState) (m : TrainMessage) (initiates : m.body ≡ InitiationOfSession) where
+  pub foreign_silence : train_number line m.nid_engine ≡ None → step.silence line c (stands_for line c clock pages states) m ≡ Some ForeignEngine
+  foreign_silence none = silence_by line c m (stands_for line c clock pages states) initiates true _ (ap is_none none) refl
 
-  heard_of : (i : ℕ) (state : TrainState) → train_number line m.nid_engine ≡ Some i → slice_get states i ≡ Some state → (stands_for line clock pages states).heard m.nid_engine ≡ state.heard
+  heard_of : (i : ℕ) (state : TrainState) → train_number line m.nid_engine ≡ Some i → slice_get states i ≡ Some state → (stands_for line c clock pages states).heard m.nid_engine ≡ state.heard
   unfolding stands_for
   heard_of i state number at =
       ap (λ n. option_map_or (λ (p : TrainState). p.heard) (option_and_then (λ j. slice_get states j) n) None) number ∙ ap (λ o. option_map_or (λ (p : TrainState). p.heard) o None) at
 
-  pub known_silence : (i : ℕ) (state : TrainState) (stale : Bool) → train_number line m.nid_engine ≡ Some i → slice_get states i ≡ Some state → centre.is_stale m.t_train state.heard ≡ stale
-      → centre.silence line (stands_for line clock pages states) m ≡ cond stale (Some StaleStamp) None
+  pub known_silence : (i : ℕ) (state : TrainState) (stale : Bool) → train_number line m.nid_engine ≡ Some i → slice_get states i ≡ Some state → step.is_stale m.t_train state.heard ≡ stale
+      → step.silence line c (stands_for line c clock pages states) m ≡ cond stale (Some StaleStamp) None
   known_silence i state stale number at s =
-      silence_by line m (stands_for line clock pages states) false stale (ap is_none number) (ap (centre.is_stale m.t_train) (heard_of i state number at) ∙ s)
+      silence_by line c m (stands_for line c clock pages states) initiates false stale (ap is_none number) (ap (step.is_stale m.t_train) (heard_of i state number at) ∙ s)
+
+-- the one message that is read is an initiation
+pub initiates : (body : msgs.TrainBody) → step_body body ≡ InitiationOfSession
+initiates msgs.InitiationOfSession = refl
 
 -- ## The whole step
 
-pub refused_step : (line : Line) (m : TrainMessage) (clock : ℕ) (pages : List Page) (states : List TrainState) → 1073741823 ≤ clock
-    → centre.step line m (stands_for line clock pages states) ≡ Err centre.ClockEnd
-unfolding centre.step stands_for
-refused_step line m clock pages states late =
-    let e : nat_lt centre.last_stamp (clock + 1) ≡ true = grind (arith, nat_tests) in
-    rw e refl
+-- an event that brings no frame is stamped one above the clock
+pub data BringsNoFrame : Event → Type 0 where
+  of_train : (m : TrainMessage) → BringsNoFrame (Train m)
+  of_set : (s : ℕ) → BringsNoFrame (Set s)
+  of_unset : (s : ℕ) → BringsNoFrame (Unset s)
 
-pub taken_step : (line : Line) (m : TrainMessage) (clock : ℕ) (pages : List Page) (states : List TrainState) (p : Outcome × centre.Centre) → clock < 1073741823
-    → p ≡ centre.taken line m (stands_for line clock pages states) → centre.step line m (stands_for line clock pages states) ≡ Ok p
-unfolding centre.step stands_for
-taken_step line m clock pages states p early t =
-    let e : nat_lt centre.last_stamp (clock + 1) ≡ false = grind (arith, nat_tests) in
-    rw e (ap (λ q. Ok q) (sym t))
+pub frameless : (event : EventOfCode) → BringsNoFrame (event_of event)
+frameless (code.Train m) = of_train (step_message m)
+frameless (code.Set s) = of_set s
+frameless (code.Unset s) = of_unset s
 
--- ## What is kept of a section or a train
+next_stamp : (k : centre.Centre) (event : Event) → BringsNoFrame event → step.stamp_of k event ≡ k.clock + 1
+next_stamp k _ (of_train m) = refl
+next_stamp k _ (of_set s) = refl
+next_stamp k _ (of_unset s) = refl
 
-pub part_of_page : {X : Type 0} (part : Page → X) (pages : List Page) (s : ℕ) (none : Page) (found : Option Page) → found ≡ slice_get pages s → part (unwrap_or found none) ≡ of_pages part (part none) pages s
-part_of_page part pages s none (Some p) f = ap (λ o. option_map_or part o (part none)) f
-part_of_page part pages s none None f = ap (λ o. option_map_or part o (part none)) f
+-- no link is full where no frame was sent
+none_of : (ds : List ℕ) → list_any (λ d. false) ds ≡ false
+none_of [] = refl
+none_of (d ∷ ds) = none_of ds
+
+and_false : (b : Bool) → (b && false) ≡ false
+and_false true = refl
+and_false false = refl
+
+none_full : (line : Line) (c : ℕ) (ds : List ℕ) → list_any (λ d. is_linked line c d && false) ds ≡ false
+none_full line c ds = ap (λ (f : ℕ → Bool). list_any f ds) (λ i d. and_false (is_linked line c d) i) ∙ none_of ds
+
+refusal_at_end : (line : Line) (event : Event) (c : ℕ) (k : centre.Centre) → BringsNoFrame event → 1073741823 ≤ k.clock → step.refusal line c k event ≡ Some step.ClockEnd
+refusal_at_end line event c k brings late =
+    let e : nat_lt step.last_stamp (k.clock + 1) ≡ true = grind (arith, nat_tests) in
+    rw (next_stamp k event brings) (rw e refl)
+
+no_refusal : (line : Line) (event : Event) (c clock : ℕ) (pages : Pages) (states : List TrainState) → BringsNoFrame event → clock < 1073741823 → step.refusal line c (stands_for line c clock pages states) event ≡ None
+unfolding stands_for centre.beginning
+no_refusal line event c clock pages states brings early =
+    let e : nat_lt step.last_stamp (clock + 1) ≡ false = grind (arith, nat_tests) in
+    rw (next_stamp (stands_for line c clock pages states) event brings) (rw (e, none_full line c (range_with_len 0 (length line.centres))) refl)
+
+clock_of : (line : Line) (c clock : ℕ) (pages : Pages) (states : List TrainState) → (stands_for line c clock pages states).clock ≡ clock
+unfolding stands_for
+clock_of line c clock pages states = refl
+
+pub refused_step : (line : Line) (event : Event) (c clock : ℕ) (pages : Pages) (states : List TrainState) → BringsNoFrame event → 1073741823 ≤ clock
+    → step.step line c event (stands_for line c clock pages states) ≡ Err step.ClockEnd
+unfolding step.step
+refused_step line event c clock pages states brings late =
+    let k = stands_for line c clock pages states in
+    rw (refusal_at_end line event c k brings (rw (clock_of line c clock pages states) late)) refl
+
+pub taken_step : (line : Line) (event : Event) (c clock : ℕ) (pages : Pages) (states : List TrainState) (p : Outcome × centre.Centre) → BringsNoFrame event → clock < 1073741823
+    → p ≡ step.taken line c event (stands_for line c clock pages states) → step.step line c event (stands_for line c clock pages states) ≡ Ok p
+unfolding step.step
+taken_step line event c clock pages states p brings early t = rw (no_refusal line event c clock pages states brings early) (ap (λ q. Ok q) (sym t))
+
+-- ## What is kept of a train
 
 pub part_of_train : {X : Type 0} (part : TrainState → X) (none : X) (line : Line) (states : List TrainState) (t i : ℕ) (state : TrainState) → train_number line t ≡ Some i → slice_get states i ≡ Some state → part state ≡ of_trains part none line states t
 part_of_train part none line states t i state number at =

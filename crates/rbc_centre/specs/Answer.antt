@@ -1,16 +1,16 @@
 -- The step's definition, seen from the code.
 use Rattle.std.specs.Prelude.{◌≡◌, Result, Ok, Err}
-use Rattle.rbc_spec.specs.Centre as centre
+use Rattle.rbc_spec.specs.Step as step
 use Rattle.rbc_centre.specs.declared.fault.StepFault.{StepFault}
 use Rattle.rbc_centre.specs.declared.fault.StepFault.TheVariants.{Memory, LinkFull, ClockEnd}
 
 -- the fault is the refusal that the definition gives; a step takes no memory, and no link can be full yet
-abbrev pub IsRefusal : {Y : Type 0} → StepFault → Result Y centre.Refusal → Type 0
-IsRefusal Memory step = ⊥
-IsRefusal LinkFull step = ⊥
-IsRefusal ClockEnd step = step ≡ Err centre.ClockEnd
+abbrev pub IsRefusal : {Y : Type 0} → StepFault → Result Y step.Refusal → Type 0
+IsRefusal Memory r = ⊥
+IsRefusal LinkFull r = ⊥
+IsRefusal ClockEnd r = r ≡ Err step.ClockEnd
 
 -- what a step returned, seen by view, is what the definition gives
-abbrev pub Steps : {X Y : Type 0} → (X → Y) → Result X StepFault → Result Y centre.Refusal → Type 0
-Steps view (Ok x) step = step ≡ Ok (view x)
-Steps view (Err fault) step = IsRefusal fault step
+abbrev pub Steps : {X Y : Type 0} → (X → Y) → Result X StepFault → Result Y step.Refusal → Type 0
+Steps view (Ok x) r = r ≡ Ok (view x)
+Steps view (Err fault) r = IsRefusal fault r

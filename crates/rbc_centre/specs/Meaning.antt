@@ -12,4 +12,4 @@ abbrev pub number_of : Centre → ℕ
 number_of k = k.number
 
 abbrev pub meaning : Centre → centre.Centre
-meaning k = stands_for k.line k.clock k.pages.items k.trains.items
+meaning k = stands_for k.line k.number k.clock k.book k.trains.items

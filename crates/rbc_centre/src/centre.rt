@@ -1,16 +1,20 @@
 ghost use Rattle.std.specs.Prelude.{◌≡◌, ◌+◌, ◌≤◌, ◌<◌, ℕ, slice_get, true, length, IfOk, OnErr, Some, [], ◌∷◌};
-ghost use Rattle.rbc_spec.specs.Line.{is_centre, train_number};
+ghost use Rattle.rbc_spec.specs.Line.{is_centre, is_home, train_number};
+ghost use Rattle.rbc_book.specs.Book.{is_own, entry_at};
+ghost use Rattle.rbc_spec.specs.Centre.{is_unused};
+ghost use Rattle.rbc_book.specs.Entries.{entry_of};
 ghost use Rattle.rbc_spec.specs.Centre.{beginning};
-ghost use Rattle.rbc_spec.specs.Centre as spec;
+ghost use Rattle.rbc_spec.specs.Step as spec;
+ghost use Rattle.rbc_initiation.specs.Step.{step_message};
 ghost use Rattle.rbc_centre.specs.declared.train.TrainState.{TrainState};
 
-use crate::book::Page;
 use crate::event::Event;
 use crate::fault::StepFault;
-use crate::outcome::{Outcome, Saying, Silence};
+use crate::outcome::{Outcome, Saying, Silence, Word};
 use crate::train::TrainState;
+use rbc_book::{Book, NotHome, Page, Unset};
+use rbc_initiation::{TrackBody, TrainBody, TrainMsg};
 use rbc_line::Line;
-use rbc_msgs::{TrackBody, TrainBody, TrainMsg};
 use std::alloc::{AllocError, Global};
 
 /// The greatest stamp of a step.
@@ -23,20 +27,21 @@ pub struct Centre {
     number: u8,
     /// The stamp of the last step, 0 before the first.
     clock: u32,
-    /// A page for each section of the line.
-    pages: Vec<Page>,
+    /// What its home sections are used for.
+    book: Book,
     /// What is kept of each train, in the order of the line file.
     trains: Vec<TrainState>,
     ghost in_time: { clock ≤ 1073741823 },
-    ghost each_section: { length pages.items ≡ length line.sections },
+    ghost own_sections: { (s : ℕ) → is_own book s ≡ is_home line number s },
+    ghost none_in_use: { (s : ℕ) → is_unused (entry_at book s) ≡ true },
     ghost each_train: { length trains.items ≡ length line.trains },
     ghost counted: { (i : ℕ) → (p : TrainState) → slice_get trains.items i ≡ Some p → p.said ≤ clock },
 }
 
 impl Centre {
     ghost use Rattle.rbc_centre.specs.Meaning.{line_of, number_of, meaning};
-    ghost use Rattle.rbc_centre.specs.Views.{message_of, outcome_of, saying_of};
-    ghost use Rattle.rbc_centre.specs.State.{entry_of, phase_of};
+    ghost use Rattle.rbc_centre.specs.Views.{event_of, outcome_of, saying_of};
+    ghost use Rattle.rbc_centre.specs.State.{phase_of};
     ghost use Rattle.rbc_centre.specs.Answer.{Steps};
 
     /// A centre of the line at its beginning. It keeps a copy of the line.
@@ -44,15 +49,15 @@ impl Centre {
         requires { is_centre line.now number ≡ true }
         ensures line { IfOk result (λ k. line_of k ≡ line.now) }
         ensures number { IfOk result (λ k. number_of k ≡ number) }
-        ensures beginning { IfOk result (λ k. meaning k ≡ beginning) }
+        ensures beginning { IfOk result (λ k. meaning k ≡ beginning line.now number) }
     {
-        let pages = vec![in alloc; Page::SHUT; line.section_count() as usize]?;
+        let book = Book::new(alloc, line, number)?;
         let trains = vec![in alloc; TrainState::UNKNOWN; line.train_count() as usize]?;
         Ok(Centre {
             line: line.copied(alloc)?,
             number,
             clock: 0,
-            pages,
+            book,
             trains,
         })
     }
@@ -69,7 +74,7 @@ impl Centre {
         ensures entry { entry_of result.entry ≡ (meaning self.now).book s }
         ensures wish { result.is_wished ≡ (meaning self.now).wish s }
     {
-        page_at(&self.pages, s as usize).unwrap_or(Page::SHUT)
+        self.book.page(s)
     }
 
     /// What the centre keeps of a train; a foreign engine was never heard.
@@ -89,7 +94,7 @@ impl Centre {
         ensures line { line_of self.new ≡ line_of self.old }
         ensures number { number_of self.new ≡ number_of self.old }
         ensures exact { Steps (λ o. (outcome_of o, meaning self.new)) result
-            (spec.step (line_of self.old) (message_of event.now) (meaning self.old)) }
+            (spec.step (line_of self.old) (number_of self.old) (event_of event.now) (meaning self.old)) }
         ensures err { OnErr result (meaning self.new ≡ meaning self.old) }
     {
         if self.clock >= LAST_STAMP {
@@ -97,6 +102,39 @@ impl Centre {
         }
         match event {
             Event::Train(message) => Ok(self.take(message)),
+            Event::Set(s) => Ok(self.set(*s)),
+            Event::Unset(s) => Ok(self.unset(*s)),
+        }
+    }
+
+    // The interlocking releases a section.
+    fn set(&mut self, s: u16) -> Outcome
+        requires { self.old.clock < 1073741823 }
+        ensures line { line_of self.new ≡ line_of self.old }
+        ensures number { number_of self.new ≡ number_of self.old }
+        ensures exact { (outcome_of result, meaning self.new)
+            ≡ spec.taken (line_of self.old) (number_of self.old) (spec.Set s) (meaning self.old) }
+    {
+        self.clock += 1;
+        match self.book.set(s) {
+            Ok(()) => Outcome::told(self.clock, Word::Done(s)),
+            Err(NotHome) => Outcome::told(self.clock, Word::NotHome(s)),
+        }
+    }
+
+    // The interlocking takes a section back.
+    fn unset(&mut self, s: u16) -> Outcome
+        requires { self.old.clock < 1073741823 }
+        ensures line { line_of self.new ≡ line_of self.old }
+        ensures number { number_of self.new ≡ number_of self.old }
+        ensures exact { (outcome_of result, meaning self.new)
+            ≡ spec.taken (line_of self.old) (number_of self.old) (spec.Unset s) (meaning self.old) }
+    {
+        self.clock += 1;
+        match self.book.unset(s) {
+            Ok(Unset::Done) => Outcome::told(self.clock, Word::Done(s)),
+            Ok(Unset::Asked) => Outcome::told(self.clock, Word::Asked(s)),
+            Err(NotHome) => Outcome::told(self.clock, Word::NotHome(s)),
         }
     }
 
@@ -106,7 +144,7 @@ impl Centre {
         ensures line { line_of self.new ≡ line_of self.old }
         ensures number { number_of self.new ≡ number_of self.old }
         ensures exact { (outcome_of result, meaning self.new)
-            ≡ spec.taken (line_of self.old) message.now (meaning self.old) }
+            ≡ spec.taken (line_of self.old) (number_of self.old) (spec.Train (step_message message.now)) (meaning self.old) }
     {
         self.clock += 1;
         let Some(i) = self.line.train_number(message.nid_engine()) else {
@@ -126,9 +164,8 @@ impl Centre {
         ensures line { line_of self.new ≡ line_of self.old }
         ensures number { number_of self.new ≡ number_of self.old }
         ensures clock { self.new.clock ≡ self.old.clock }
-        ensures exact { record { state = meaning self.new; sayings = saying_of result ∷ [] }
-            ≡ spec.answered message.now.body message.now.nid_engine
-            (spec.hear message.now (meaning self.old)) }
+        ensures exact { record { state = meaning self.new; frames = λ d. []; sayings = saying_of result ∷ []; words = [] }
+            ≡ spec.hear_and_answer (line_of self.old) (number_of self.old) (step_message message.now) (meaning self.old) }
     {
         let train = &mut self.trains[i];
         train.hear(message.t_train());
@@ -144,10 +181,4 @@ impl Centre {
             }
         }
     }
-}
-
-fn page_at(pages: &[Page], s: usize) -> Option<Page>
-    ensures { result ≡ slice_get pages.now s }
-{
-    pages.get(s).copied()
 }

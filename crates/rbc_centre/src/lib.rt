@@ -2,16 +2,14 @@
 //! `rbc_spec.specs.Centre`; the contract of `Centre::step` is one equation with the step defined there.
 #![tactic(auto)]
 
-mod book;
 mod centre;
 mod event;
 mod fault;
 mod outcome;
 mod train;
 
-pub use book::{Entry, Page};
 pub use centre::{Centre, LAST_STAMP};
 pub use event::Event;
 pub use fault::StepFault;
-pub use outcome::{Outcome, Saying, Silence};
+pub use outcome::{Outcome, Saying, Silence, Word};
 pub use train::{Phase, TrainState};

@@ -1,9 +1,10 @@
 ghost use Rattle.std.specs.Prelude.{◌≡◌, ◌<◌, [], ◌∷◌, Some, None};
 ghost use Rattle.rbc_spec.specs.Message.{unknown_group};
-ghost use Rattle.rbc_msgs.specs.Bodies.{track_body};
+ghost use Rattle.rbc_initiation.specs.Bodies.{track_body};
+ghost use Rattle.rbc_initiation.specs.Step.{said_body};
 
 use arrayvec::ArrayVec;
-use rbc_msgs::{NID_LRBG_UNKNOWN, TrackBody, TrackMsg};
+use rbc_initiation::{NID_LRBG_UNKNOWN, TrackBody, TrackMsg};
 
 /// Why a train's message is left without an answer.
 #[derive(Clone, Copy, Debug, PartialEq, Eq)]
@@ -38,7 +39,7 @@ impl Saying {
     /// A message that names no balise group, and counts so many to the train.
     pub(crate) fn of_count(nid_engine: u32, count: u32, body: TrackBody) -> Saying
         requires { count < 4294967295 }
-        ensures { saying_of result ≡ record { nid_engine = nid_engine; message = record { t_train = count; nid_lrbg = unknown_group; body = track_body body } } }
+        ensures { saying_of result ≡ record { nid_engine = nid_engine; message = record { t_train = count; nid_lrbg = unknown_group; body = said_body (track_body body) } } }
     {
         Saying {
             nid_engine,
@@ -57,6 +58,24 @@ impl Default for Saying {
     }
 }
 
+/// A word to the interlocking of a section, by its number over the whole line.
+#[derive(Clone, Copy, Debug, PartialEq, Eq)]
+pub enum Word {
+    /// A set or an unset is done.
+    Done(u16),
+    /// The section is in use, and its return is asked for.
+    Asked(u16),
+    /// The section is not of this centre's home.
+    NotHome(u16),
+}
+
+impl Default for Word {
+    /// What fills the places of a row of words that are not in use.
+    fn default() -> Word {
+        Word::Done(0)
+    }
+}
+
 /// What a step of a centre answers.
 #[derive(Debug, Drop)]
 pub struct Outcome {
@@ -64,33 +83,51 @@ pub struct Outcome {
     pub stamp: u32,
     /// The messages to trains, in order.
     pub sayings: ArrayVec<Saying, 2>,
+    /// The words to the interlocking, in order.
+    pub words: ArrayVec<Word, 1>,
     /// Why a train's message was left without an answer.
     pub silence: Option<Silence>,
 }
 
 impl Outcome {
-    ghost use Rattle.rbc_centre.specs.Views.{outcome_of, saying_of, reason_of};
+    ghost use Rattle.rbc_centre.specs.Views.{outcome_of, saying_of, word_of, reason_of};
 
     /// A step that does not answer.
     pub(crate) fn silent(stamp: u32, why: Silence) -> Outcome
-        ensures { outcome_of result ≡ record { stamp = stamp; sayings = []; words = []; silence = Some (reason_of why) } }
+        ensures { outcome_of result ≡ record { stamp = stamp; sayings = []; frames = λ d. []; words = []; link = None; silence = Some (reason_of why) } }
     {
         Outcome {
             stamp,
             sayings: ArrayVec::new(),
+            words: ArrayVec::new(),
             silence: Some(why),
         }
     }
 
     /// A step that answers with one message.
     pub(crate) fn said(stamp: u32, saying: Saying) -> Outcome
-        ensures { outcome_of result ≡ record { stamp = stamp; sayings = saying_of saying ∷ []; words = []; silence = None } }
+        ensures { outcome_of result ≡ record { stamp = stamp; sayings = saying_of saying ∷ []; frames = λ d. []; words = []; link = None; silence = None } }
     {
         let mut sayings = ArrayVec::new();
         sayings.push(saying);
         Outcome {
             stamp,
             sayings,
+            words: ArrayVec::new(),
+            silence: None,
+        }
+    }
+
+    /// A step that answers the interlocking with one word.
+    pub(crate) fn told(stamp: u32, word: Word) -> Outcome
+        ensures { outcome_of result ≡ record { stamp = stamp; sayings = []; frames = λ d. []; words = word_of word ∷ []; link = None; silence = None } }
+    {
+        let mut words = ArrayVec::new();
+        words.push(word);
+        Outcome {
+            stamp,
+            sayings: ArrayVec::new(),
+            words,
             silence: None,
         }
     }

@@ -1,5 +1,5 @@
 ghost use Rattle.std.specs.Prelude.{◌≡◌, ◌+◌, ◌<◌, Some};
-ghost use Rattle.rbc_spec.specs.Centre.{is_stale};
+ghost use Rattle.rbc_spec.specs.Step.{is_stale};
 
 /// How far the communication session with a train has come (3.5.3).
 #[derive(Clone, Copy, Debug, PartialEq, Eq)]

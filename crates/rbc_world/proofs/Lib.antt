@@ -1,4 +1,5 @@
 pub mod Sight
+pub mod Idle
 pub mod Pieces
 pub mod Whole
 pub mod Steps

@@ -2,8 +2,7 @@
 use Rattle.std.proofs.Common.{◌≡◌, ℕ, ◌==◌, true, false, cond, refl, sym, ap, ◌∙◌, inl, inr, List, [], ◌∷◌}
 use Rattle.std.proofs.lemmas.Bool.Decides.{eqb_tells}
 use Rattle.std.specs.List.{filter}
-use Rattle.rbc_spec.specs.Maps.{put}
-use Rattle.rbc_spec.specs.LineCentre.{put_pair}
+use Rattle.rbc_spec.specs.Maps.{put, put_pair}
 
 -- what a change of one centre leaves of it is left at every centre
 pub put_keeps : {X Y : Type 0} (f : X → Y) (at : ℕ → X) (c : ℕ) (new : X) → f new ≡ f (at c) → (d : ℕ) → f (put at c new d) ≡ f (at d)

@@ -7,24 +7,33 @@ use Rattle.std.proofs.lemmas.Option.{slice_get_past}
 use Rattle.rbc_spec.specs.Maps.{put}
 use Rattle.rbc_spec.specs.Line.{Line, Section, is_centre}
 use Rattle.rbc_spec.specs.LineCentre as line_centre
-use Rattle.rbc_spec.specs.Message.{TrainMessage}
+use Rattle.rbc_spec.specs.Message.{TrainMessage, InitiationOfSession}
 use Rattle.rbc_spec.specs.Outcome.{Outcome}
 use Rattle.rbc_spec.specs.Centre as centre
-use Rattle.rbc_spec.specs.World.{World, Event, Bytes, Delivery, Answered, NoCentre, NotSent, Fault, new_world, world_step, received, stepped, mention}
-use Rattle.rbc_spec.specs.Run.{Goes, read_off, mark_of}
+use Rattle.rbc_spec.specs.Step as step
+use Rattle.rbc_spec.specs.World.{World, Bytes, Set, Unset, Delivery, Answered, NoCentre, NotSent, Fault, new_world, world_step, at_centre as told_at, reads, stepped, takes, mention}
+use Rattle.rbc_spec.specs.Run.{Goes}
+use Rattle.rbc_spec.specs.ReadOff.{read_off, mark_of}
 use Rattle.rbc_centre.specs.Meaning as one
 use Rattle.rbc_centre.specs.Answer as one_step
 use Rattle.rbc_centre.specs.declared.centre.Centre.{Centre}
 use Rattle.rbc_centre.specs.declared.fault.StepFault.{StepFault}
 use Rattle.rbc_centre.specs.declared.fault.StepFault.TheVariants.{Memory, LinkFull, ClockEnd}
+use Rattle.rbc_centre.specs.State as kept
 use Rattle.rbc_world.specs.Meaning.{centres_of, stands_for, AtBeginning}
 use Rattle.rbc_world.specs.View.{EachOf}
 use Rattle.rbc_world.specs.Answers.{Gives, IsRefusal}
-use Rattle.rbc_msgs.specs.Faults.{fault_number}
-use Rattle.rbc_msgs.specs.declared.fault.MsgFault.{MsgFault}
+use Rattle.rbc_initiation.specs.Message as msgs
+use Rattle.rbc_initiation.specs.Step.{step_message, step_body}
+use Rattle.rbc_initiation.specs.Faults.{fault_number}
+use Rattle.rbc_initiation.specs.declared.fault.MsgFault.{MsgFault}
 use Rattle.rbc_world.specs.Views.{answer_of, numbered}
 use Rattle.rbc_world.specs.declared.event.Answer.{Answer}
-use Rattle.rbc_world.proofs.Pieces.{world_step_goes}
+use Rattle.rbc_world.specs.declared.event.WorldEvent.{WorldEvent}
+use Rattle.rbc_world.specs.declared.event.WorldEvent.TheVariants as event
+use Rattle.rbc_world.specs.Views.{event_of}
+use Rattle.rbc_world.proofs.Idle.{IsIdle, begins_idle, none_delivered}
+use Rattle.rbc_world.proofs.Pieces.{IsToday, initiates, unread, is_set, is_unset, delivered, world_step_goes}
 
 -- ## Lists
 
@@ -42,67 +51,72 @@ slice_get-set_other (y ∷ ys) (suc i) (suc j) x h = slice_get-set_other ys i j 
 
 -- ## Centres by their numbers
 
-pub centre_at : (cs : List Centre) (c : ℕ) (k : Centre) → slice_get cs c ≡ Some k → centres_of cs c ≡ one.meaning k
-centre_at cs c k at = ap (λ o. option_map_or one.meaning o centre.beginning) at
+pub centre_at : (line : Line) (cs : List Centre) (c : ℕ) (k : Centre) → slice_get cs c ≡ Some k → centres_of line cs c ≡ one.meaning k
+centre_at line cs c k at = ap (λ o. option_map_or one.meaning o (centre.beginning line c)) at
 
-pub centres_of-set : (cs : List Centre) (c : ℕ) (k : Centre) → c < length cs → (d : ℕ) → centres_of (set cs c k) d ≡ put (centres_of cs) c (one.meaning k) d
-centres_of-set cs c k within d = elim (eqb_tells d c) as (λ _. centres_of (set cs c k) d ≡ put (centres_of cs) c (one.meaning k) d) [
-  | inl e ↦ rw (e.0) (ap (centres_of (set cs c k)) (e.1) ∙ centre_at (set cs c k) c k (slice_get-set_same cs c k within))
-  | inr e ↦ rw (e.0) (ap (λ o. option_map_or one.meaning o centre.beginning) (slice_get-set_other cs c d k (e.1)))
+pub centres_of-set : (line : Line) (cs : List Centre) (c : ℕ) (k : Centre) → c < length cs → (d : ℕ) → centres_of line (set cs c k) d ≡ put (centres_of line cs) c (one.meaning k) d
+centres_of-set line cs c k within d = elim (eqb_tells d c) as (λ _. centres_of line (set cs c k) d ≡ put (centres_of line cs) c (one.meaning k) d) [
+  | inl e ↦ rw (e.0) (ap (centres_of line (set cs c k)) (e.1) ∙ centre_at line (set cs c k) c k (slice_get-set_same cs c k within))
+  | inr e ↦ rw (e.0) (ap (λ o. option_map_or one.meaning o (centre.beginning line d)) (slice_get-set_other cs c d k (e.1)))
 ]
 
 -- a centre that means what it meant leaves the centres as they were
-pub centres_of-kept : (cs : List Centre) (c : ℕ) (k new : Centre) → slice_get cs c ≡ Some k → c < length cs → one.meaning new ≡ one.meaning k → (d : ℕ) → centres_of (set cs c new) d ≡ centres_of cs d
-centres_of-kept cs c k new at within same d = centres_of-set cs c new within d
-    ∙ elim (eqb_tells d c) as (λ _. put (centres_of cs) c (one.meaning new) d ≡ centres_of cs d) [
-      | inl e ↦ rw (e.0) (same ∙ sym (centre_at cs c k at) ∙ ap (centres_of cs) (sym (e.1)))
+pub centres_of-kept : (line : Line) (cs : List Centre) (c : ℕ) (k new : Centre) → slice_get cs c ≡ Some k → c < length cs → one.meaning new ≡ one.meaning k → (d : ℕ) → centres_of line (set cs c new) d ≡ centres_of line cs d
+centres_of-kept line cs c k new at within same d = centres_of-set line cs c new within d
+    ∙ elim (eqb_tells d c) as (λ _. put (centres_of line cs) c (one.meaning new) d ≡ centres_of line cs d) [
+      | inl e ↦ rw (e.0) (same ∙ sym (centre_at line cs c k at) ∙ ap (centres_of line cs) (sym (e.1)))
       | inr e ↦ rw (e.0) refl
     ]
 
-beginning_by : (cs : List Centre) (line : Line) (c : ℕ) (o : Option Centre) → slice_get cs c ≡ o → ((d : ℕ) (k : Centre) → slice_get cs d ≡ Some k → AtBeginning line k) → option_map_or one.meaning o centre.beginning ≡ centre.beginning
+beginning_by : (cs : List Centre) (line : Line) (c : ℕ) (o : Option Centre) → slice_get cs c ≡ o → ((d : ℕ) (k : Centre) → slice_get cs d ≡ Some k → AtBeginning line d k)
+    → option_map_or one.meaning o (centre.beginning line c) ≡ centre.beginning line c
 beginning_by cs line c (Some k) at each = (each c k at).meaning
 beginning_by cs line c None at each = refl
 
 -- the world of centres at their beginning
-pub new_world_stands : (cs : List Centre) (line : Line) (trains : List ℕ) → ((d : ℕ) (k : Centre) → slice_get cs d ≡ Some k → AtBeginning line k) → trains ≡ [] → stands_for cs trains ≡ new_world
+pub new_world_stands : (cs : List Centre) (line own : Line) (trains : List ℕ) → own ≡ line → ((d : ℕ) (k : Centre) → slice_get cs d ≡ Some k → AtBeginning line d k) → trains ≡ [] → stands_for own cs trains ≡ new_world line
 unfolding stands_for new_world
-new_world_stands cs line trains each none = λ i. record { at = λ c. beginning_by cs line c (slice_get cs c) refl each i; trains = none i }
+new_world_stands cs line own trains same each none =
+    ap (λ l. stands_for l cs trains) same ∙ (λ i. record { at = λ c. beginning_by cs line c (slice_get cs c) refl each i; trains = none i })
 
--- the centres keep their line
-pub lines_kept : (cs : List Centre) (line : Line) (c : ℕ) (k new : Centre) → slice_get cs c ≡ Some k → c < length cs → one.line_of new ≡ one.line_of k
-    → ((d : ℕ) (j : Centre) → slice_get cs d ≡ Some j → one.line_of j ≡ line) → (d : ℕ) (j : Centre) → slice_get (set cs c new) d ≡ Some j → one.line_of j ≡ line
-lines_kept cs line c k new at within same each d j found = elim (eqb_tells d c) as (λ _. one.line_of j ≡ line) [
+-- what holds of each centre by its number is kept where the centre that stepped keeps it
+pub each_kept : (P : ℕ → Centre → Type 0) (cs : List Centre) (c : ℕ) (new : Centre) → c < length cs → P c new
+    → ((d : ℕ) (j : Centre) → slice_get cs d ≡ Some j → P d j) → (d : ℕ) (j : Centre) → slice_get (set cs c new) d ≡ Some j → P d j
+each_kept P cs c new within holds each d j found = elim (eqb_tells d c) as (λ _. P d j) [
   | inl e ↦
       let here : Some new ≡ Some j = sym (slice_get-set_same cs c new within) ∙ ap (slice_get (set cs c new)) (sym (e.1)) ∙ found in
       let is : new ≡ j = cc in
-      ap one.line_of (sym is) ∙ same ∙ each c k at
+      subst (P d) is (subst (λ (n : ℕ). P n new) (sym (e.1)) holds)
   | inr e ↦ each d j (sym (slice_get-set_other cs c d new (e.1)) ∙ found)
 ]
 
--- ## A message at a centre
+-- ## An event that centre c takes
 
-module _ (line : Line) (cs : List Centre) (trains : List ℕ) (m : TrainMessage) (c : ℕ) (k new : Centre) (at : slice_get cs c ≡ Some k) (within : c < length cs) (of_line : one.line_of k ≡ line) where
+module _ (line : Line) (cs : List Centre) (trains : List ℕ) (event : step.Event) (c : ℕ) (k new : Centre) (at : slice_get cs c ≡ Some k) (within : c < length cs)
+    (of_line : one.line_of k ≡ line) (of_number : one.number_of k ≡ c) where
   -- the step of the definition is that of the centre
-  same_step : centre.step line m ((stands_for cs trains).at c) ≡ centre.step (one.line_of k) m (one.meaning k)
+  same_step : step.step line c event ((stands_for line cs trains).at c) ≡ step.step (one.line_of k) (one.number_of k) event (one.meaning k)
   unfolding stands_for
-  same_step = ap (λ l. centre.step l m (centres_of cs c)) (sym of_line) ∙ ap (centre.step (one.line_of k) m) (centre_at cs c k at)
+  same_step =
+      ap (λ l. step.step l c event (centres_of line cs c)) (sym of_line) ∙ ap (λ n. step.step (one.line_of k) n event (centres_of line cs c)) (sym of_number)
+      ∙ ap (step.step (one.line_of k) (one.number_of k) event) (centre_at line cs c k at)
 
-  pub heard_ok : (outcome : Outcome) (after : List ℕ) → centre.step (one.line_of k) m (one.meaning k) ≡ Ok (outcome, one.meaning new) → after ≡ mention line m.nid_engine trains
-      → stepped line (stands_for cs trains) c m.nid_engine (centre.step line m ((stands_for cs trains).at c)) ≡ Ok (Answered outcome, stands_for (set cs c new) after)
+  pub step_ok : (outcome : Outcome) (named after : List ℕ) → step.step (one.line_of k) (one.number_of k) event (one.meaning k) ≡ Ok (outcome, one.meaning new) → after ≡ named
+      → takes line (stands_for line cs trains) c named event ≡ Ok (Answered outcome, stands_for line (set cs c new) after)
   unfolding stands_for
-  heard_ok outcome after s named =
-      ap (stepped line (stands_for cs trains) c m.nid_engine) (same_step ∙ s)
-      ∙ (λ i. Ok (Answered outcome, record { at = λ d. sym (centres_of-set cs c new within d) i; trains = sym named i }))
+  step_ok outcome named after s same =
+      ap (stepped (stands_for line cs trains) c named) (same_step ∙ s)
+      ∙ (λ i. Ok (Answered outcome, record { at = λ d. sym (centres_of-set line cs c new within d) i; trains = sym same i }))
 
-  pub heard_err : (fault : StepFault) → one_step.IsRefusal fault (centre.step (one.line_of k) m (one.meaning k))
-      → IsRefusal fault (stepped line (stands_for cs trains) c m.nid_engine (centre.step line m ((stands_for cs trains).at c)))
-  heard_err Memory never = tt
-  heard_err LinkFull never = never
-  heard_err ClockEnd s = ap (stepped line (stands_for cs trains) c m.nid_engine) (same_step ∙ s)
+  pub step_err : (named : List ℕ) (fault : StepFault) → one_step.IsRefusal fault (step.step (one.line_of k) (one.number_of k) event (one.meaning k))
+      → IsRefusal fault (takes line (stands_for line cs trains) c named event)
+  step_err named Memory never = tt
+  step_err named LinkFull never = never
+  step_err named ClockEnd s = ap (stepped (stands_for line cs trains) c named) (same_step ∙ s)
 
-  pub kept : one.meaning new ≡ one.meaning k → stands_for (set cs c new) trains ≡ stands_for cs trains
-  unfolding stands_for
-  kept same = λ i. record { at = λ d. centres_of-kept cs c k new at within same d i; trains = trains }
+pub world_kept : (line : Line) (cs : List Centre) (trains : List ℕ) (c : ℕ) (k new : Centre) → slice_get cs c ≡ Some k → c < length cs → one.meaning new ≡ one.meaning k → stands_for line (set cs c new) trains ≡ stands_for line cs trains
+unfolding stands_for
+world_kept line cs trains c k new at within same = λ i. record { at = λ d. centres_of-kept line cs c k new at within same d i; trains = trains }
 
 -- ## Bytes and deliveries
 
@@ -116,56 +130,108 @@ pub no_centre : (line : Line) (w : World) (cs : List Centre) (c : ℕ) (read : R
 unfolding world_step
 no_centre line w cs c read each past = rw (is_centre_past line cs c each past) refl
 
-pub at_centre : (line : Line) (w : World) (cs : List Centre) (c : ℕ) (read : Result TrainMessage ℕ) → length cs ≡ length line.centres → c < length cs → world_step line w (Bytes c read) ≡ received line w c read
+pub at_centre : (line : Line) (w : World) (cs : List Centre) (c : ℕ) (read : Result TrainMessage ℕ) → length cs ≡ length line.centres → c < length cs → world_step line w (Bytes c read) ≡ reads line w c read
 unfolding world_step
 at_centre line w cs c read each within = rw (is_centre_within line cs c each within) refl
 
-pub never_sent : (line : Line) (w : World) (from to number : ℕ) → world_step line w (Delivery from to number) ≡ Ok (NotSent, w)
+pub told_within : (line : Line) (w : World) (cs : List Centre) (c : ℕ) (event : step.Event) → length cs ≡ length line.centres → c < length cs
+    → told_at line w c (takes line w c w.trains event) ≡ takes line w c w.trains event
+told_within line w cs c event each within = rw (is_centre_within line cs c each within) refl
+
+pub told_err : (line : Line) (cs : List Centre) (trains : List ℕ) (event : step.Event) (c : ℕ) (k new : Centre) → slice_get cs c ≡ Some k → c < length cs → one.line_of k ≡ line → one.number_of k ≡ c
+    → length cs ≡ length line.centres → (fault : StepFault) → one_step.IsRefusal fault (step.step (one.line_of k) (one.number_of k) event (one.meaning k))
+    → IsRefusal fault (told_at line (stands_for line cs trains) c (takes line (stands_for line cs trains) c (stands_for line cs trains).trains event))
+told_err line cs trains event c k new at within of_line of_number each fault s =
+    rw (told_within line (stands_for line cs trains) cs c event each within)
+    (step_err line cs trains event c k new at within of_line of_number (stands_for line cs trains).trains fault s)
+
+pub told_past : (line : Line) (w : World) (cs : List Centre) (c : ℕ) (event : step.Event) → length cs ≡ length line.centres → length cs ≤ c
+    → told_at line w c (takes line w c w.trains event) ≡ Ok (NoCentre, w)
+told_past line w cs c event each past = rw (is_centre_past line cs c each past) refl
+
+pub set_told : (line : Line) (w : World) (c s : ℕ) → world_step line w (Set c s) ≡ told_at line w c (takes line w c w.trains (step.Set s))
 unfolding world_step
-never_sent line w from to number = refl
+set_told line w c s = refl
+
+pub unset_told : (line : Line) (w : World) (c s : ℕ) → world_step line w (Unset c s) ≡ told_at line w c (takes line w c w.trains (step.Unset s))
+unfolding world_step
+unset_told line w c s = refl
+
+-- ## Idle centres
+
+-- what a centre stands for has no mission, no waiting start and no frame that was sent
+centre_idle : (k : Centre) → IsIdle (one.meaning k)
+unfolding kept.stands_for centre.beginning
+centre_idle k = record { mission = λ t. refl; wait = λ t. refl; sent = λ d. refl; unused = k.none_in_use }
+
+idle_by : (line : Line) (c : ℕ) (o : Option Centre) → IsIdle (option_map_or one.meaning o (centre.beginning line c))
+idle_by line c (Some k) = centre_idle k
+idle_by line c None = begins_idle line c
+
+pub world_idle : (line : Line) (cs : List Centre) (trains : List ℕ) (c : ℕ) → IsIdle ((stands_for line cs trains).at c)
+unfolding stands_for
+world_idle line cs trains c = idle_by line c (slice_get cs c)
+
+pub never_sent : (line : Line) (cs : List Centre) (trains : List ℕ) (from to number : ℕ) → world_step line (stands_for line cs trains) (Delivery from to number) ≡ Ok (NotSent, stands_for line cs trains)
+never_sent line cs trains from to number = none_delivered line (stands_for line cs trains) (world_idle line cs trains) from to number
 
 -- ## The piece
 
-pub step_piece : (line : Line) (w new : World) (event : Event) (result : Result Answer StepFault) → Gives (λ a. (answer_of a, new)) result (world_step line w event)
-    → IfOk result (λ a. Goes line (read_off line w) event (answer_of a) (read_off line new))
-step_piece line w new event (Ok a) s = world_step_goes line w event (answer_of a) new s
-step_piece line w new event (Err fault) s = tt
+initiation : (body : msgs.TrainBody) → step_body body ≡ InitiationOfSession
+initiation msgs.InitiationOfSession = refl
+
+read_today : (c : ℕ) (read : Result msgs.TrainMessage MsgFault) → IsToday (Bytes c (numbered read))
+read_today c (Ok m) = initiates c (step_message m) (initiation m.body)
+read_today c (Err fault) = unread c (fault_number fault)
+
+today : (e : WorldEvent) → IsToday (event_of e)
+today (event.Train c bytes) = read_today c _
+today (event.Set c s) = is_set c s
+today (event.Unset c s) = is_unset c s
+today (event.Deliver a b number) = delivered a b number
+
+pub step_piece : (line kept_line : Line) (cs left : List Centre) (trains named : List ℕ) (e : WorldEvent) (result : Result Answer StepFault)
+    → Gives (λ a. (answer_of a, stands_for kept_line left named)) result (world_step line (stands_for line cs trains) (event_of e))
+    → IfOk result (λ a. Goes line (read_off line (stands_for line cs trains)) (event_of e) (answer_of a) (read_off line (stands_for kept_line left named)))
+step_piece line kept_line cs left trains named e (Ok a) s =
+    world_step_goes line (stands_for line cs trains) (stands_for kept_line left named) (event_of e) (answer_of a) (world_idle line cs trains) (world_idle kept_line left named) (today e) s
+step_piece line kept_line cs left trains named e (Err fault) s = tt
 
 -- ## Bytes that were read
 
-pub message_step : (line : Line) (w : World) (cs : List Centre) (c : ℕ) (read : Result TrainMessage MsgFault) (m : TrainMessage) → length cs ≡ length line.centres → c < length cs → read ≡ Ok m
-    → world_step line w (Bytes c (numbered read)) ≡ stepped line w c m.nid_engine (centre.step line m (w.at c))
-message_step line w cs c read m each within e = at_centre line w cs c (numbered read) each within ∙ ap (λ r. received line w c (numbered r)) e
+pub message_step : (line : Line) (w : World) (cs : List Centre) (c : ℕ) (read : Result msgs.TrainMessage MsgFault) (m : msgs.TrainMessage) → length cs ≡ length line.centres → c < length cs → read ≡ Ok m
+    → world_step line w (Bytes c (numbered read)) ≡ takes line w c (mention line m.nid_engine w.trains) (step.Train (step_message m))
+message_step line w cs c read m each within e = at_centre line w cs c (numbered read) each within ∙ ap (λ r. reads line w c (numbered r)) e
 
-pub fault_step : (line : Line) (w : World) (cs : List Centre) (c : ℕ) (read : Result TrainMessage MsgFault) (fault : MsgFault) → length cs ≡ length line.centres → c < length cs → read ≡ Err fault
+pub fault_step : (line : Line) (w : World) (cs : List Centre) (c : ℕ) (read : Result msgs.TrainMessage MsgFault) (fault : MsgFault) → length cs ≡ length line.centres → c < length cs → read ≡ Err fault
     → world_step line w (Bytes c (numbered read)) ≡ Ok (Fault (fault_number fault), w)
-fault_step line w cs c read fault each within e = at_centre line w cs c (numbered read) each within ∙ ap (λ r. received line w c (numbered r)) e
+fault_step line w cs c read fault each within e = at_centre line w cs c (numbered read) each within ∙ ap (λ r. reads line w c (numbered r)) e
 
 -- ## A row of centres
 
 -- what holds of each item of a row, and of one more
-pub each_pushed : {X : Type 0} (P : X → Type 0) (xs : List X) (x : X) → ((d : ℕ) (k : X) → slice_get xs d ≡ Some k → P k) → P x → (d : ℕ) (k : X) → slice_get (xs ++ x ∷ []) d ≡ Some k → P k
-each_pushed P [] x each p zero k found = let is : x ≡ k = cc in subst P is p
+pub each_pushed : {X : Type 0} (P : ℕ → X → Type 0) (xs : List X) (x : X) → ((d : ℕ) (k : X) → slice_get xs d ≡ Some k → P d k) → P (length xs) x → (d : ℕ) (k : X) → slice_get (xs ++ x ∷ []) d ≡ Some k → P d k
+each_pushed P [] x each p zero k found = let is : x ≡ k = cc in subst (P zero) is p
 each_pushed P [] x each p (suc d) k found = cc
 each_pushed P (y ∷ ys) x each p zero k found = each zero k found
-each_pushed P (y ∷ ys) x each p (suc d) k found = each_pushed P ys x (λ e j h. each (suc e) j h) p d k found
+each_pushed P (y ∷ ys) x each p (suc d) k found = each_pushed (λ e. P (suc e)) ys x (λ e j h. each (suc e) j h) p d k found
 
 -- ## What is read of a centre
 
-module _ (cs : List Centre) (trains : List ℕ) (c : ℕ) where
-  pub seen_at : {X : Type 0} (part : centre.Centre → X) (k : Centre) → slice_get cs c ≡ Some k → part (one.meaning k) ≡ part ((stands_for cs trains).at c)
+module _ (line : Line) (cs : List Centre) (trains : List ℕ) (c : ℕ) where
+  pub seen_at : {X : Type 0} (part : centre.Centre → X) (k : Centre) → slice_get cs c ≡ Some k → part (one.meaning k) ≡ part ((stands_for line cs trains).at c)
   unfolding stands_for
-  seen_at part k at = ap part (sym (centre_at cs c k at))
+  seen_at part k at = ap part (sym (centre_at line cs c k at))
 
-  pub seen_past : {X : Type 0} (part : centre.Centre → X) → length cs ≤ c → part centre.beginning ≡ part ((stands_for cs trains).at c)
+  pub seen_past : {X : Type 0} (part : centre.Centre → X) → length cs ≤ c → part (centre.beginning line c) ≡ part ((stands_for line cs trains).at c)
   unfolding stands_for
-  seen_past part past = ap (λ (o : Option Centre). part (option_map_or one.meaning o centre.beginning)) (sym (slice_get_past cs c past))
+  seen_past part past = ap (λ (o : Option Centre). part (option_map_or one.meaning o (centre.beginning line c))) (sym (slice_get_past cs c past))
 
-  pub shut_past : (s : ℕ) → length cs ≤ c → centre.Shut ≡ ((stands_for cs trains).at c).book s
+  pub shut_past : (s : ℕ) → length cs ≤ c → centre.Shut ≡ ((stands_for line cs trains).at c).book s
   unfolding centre.beginning
   shut_past s past = seen_past (λ k. k.book s) past
 
-  pub unwished_past : (s : ℕ) → length cs ≤ c → false ≡ ((stands_for cs trains).at c).wish s
+  pub unwished_past : (s : ℕ) → length cs ≤ c → false ≡ ((stands_for line cs trains).at c).wish s
   unfolding centre.beginning
   unwished_past s past = seen_past (λ k. k.wish s) past
 
@@ -179,7 +245,7 @@ pub at_no_home : {X : Type 0} (f : ℕ → X) (none : X) (o : Option Section) �
 at_no_home f none (Some p) e = cc
 at_no_home f none None e = refl
 
-pub marked : (f : Section → centre.Entry) (o : Option Section) → mark_of (option_map_or f o centre.Shut) ≡ option_map_or (λ p. mark_of (f p)) o line_centre.Shut
+pub marked : (f : Section → centre.Entry) (o : Option Section) → mark_of None (option_map_or f o centre.Shut) ≡ option_map_or (λ p. mark_of None (f p)) o line_centre.Shut
 marked f (Some p) = refl
 marked f None = refl
 

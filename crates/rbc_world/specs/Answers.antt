@@ -2,18 +2,18 @@
 use Rattle.std.specs.Prelude.{◌≡◌, List, Result, Ok, Err}
 use Rattle.rbc_spec.specs.Line.{Line}
 use Rattle.rbc_spec.specs.World.{Event, new_world, IsRefused}
-use Rattle.rbc_spec.specs.Centre as centre
+use Rattle.rbc_spec.specs.Step.{Refusal, ClockEnd as AtClockEnd}
 use Rattle.rbc_centre.specs.declared.fault.StepFault.{StepFault}
 use Rattle.rbc_centre.specs.declared.fault.StepFault.TheVariants.{Memory, LinkFull, ClockEnd}
 
 -- but for want of memory the fault is the refusal that the definition gives
-abbrev pub IsRefusal : {Y : Type 0} → StepFault → Result Y centre.Refusal → Type 0
+abbrev pub IsRefusal : {Y : Type 0} → StepFault → Result Y Refusal → Type 0
 IsRefusal Memory step = Unit {0}
 IsRefusal LinkFull step = ⊥
-IsRefusal ClockEnd step = step ≡ Err centre.ClockEnd
+IsRefusal ClockEnd step = step ≡ Err AtClockEnd
 
 -- what was returned, seen by view, is what the definition gives
-abbrev pub Gives : {X Y : Type 0} → (X → Y) → Result X StepFault → Result Y centre.Refusal → Type 0
+abbrev pub Gives : {X Y : Type 0} → (X → Y) → Result X StepFault → Result Y Refusal → Type 0
 Gives view (Ok x) step = step ≡ Ok (view x)
 Gives view (Err fault) step = IsRefusal fault step
 
@@ -21,4 +21,4 @@ Gives view (Err fault) step = IsRefusal fault step
 abbrev pub IsRefusedRun : Line → List Event → StepFault → Type 0
 IsRefusedRun line events Memory = Unit {0}
 IsRefusedRun line events LinkFull = ⊥
-IsRefusedRun line events ClockEnd = IsRefused line new_world events centre.ClockEnd
+IsRefusedRun line events ClockEnd = IsRefused line (new_world line) events AtClockEnd

@@ -7,14 +7,15 @@ use Rattle.rbc_spec.specs.World as spec
 use Rattle.rbc_centre.specs.Meaning as one
 use Rattle.rbc_centre.specs.declared.centre.Centre.{Centre}
 
--- the centres by their numbers; there is none at another number
-abbrev pub centres_of : List Centre → ℕ → centre.Centre
-centres_of centres c = option_map_or one.meaning (slice_get centres c) centre.beginning
+-- the centres by their numbers; one at another number stays at its beginning
+abbrev pub centres_of : Line → List Centre → ℕ → centre.Centre
+centres_of line centres c = option_map_or one.meaning (slice_get centres c) (centre.beginning line c)
 
-unfoldable pub stands_for : List Centre → List ℕ → spec.World
-stands_for centres trains = record { at = centres_of centres; trains = trains }
+unfoldable pub stands_for : Line → List Centre → List ℕ → spec.World
+stands_for line centres trains = record { at = centres_of line centres; trains = trains }
 
 -- a centre of the line at its beginning
-pub record AtBeginning (line : Line) (k : Centre) : Type 0 where
+pub record AtBeginning (line : Line) (c : ℕ) (k : Centre) : Type 0 where
   pub line_of : one.line_of k ≡ line
-  pub meaning : one.meaning k ≡ centre.beginning
+  pub number_of : one.number_of k ≡ c
+  pub meaning : one.meaning k ≡ centre.beginning line c

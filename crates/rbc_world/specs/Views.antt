@@ -1,25 +1,29 @@
 -- What events and answers stand for.
 use Rattle.std.specs.Prelude.{ℕ, Result, Ok, Err}
 use Rattle.rbc_spec.specs.Message.{TrainMessage}
-use Rattle.rbc_spec.specs.World.{Event, Bytes, Delivery}
+use Rattle.rbc_spec.specs.World.{Event, Bytes, Set, Unset, Delivery}
 use Rattle.rbc_spec.specs.World as world
-use Rattle.rbc_msgs.specs.Faults.{fault_number}
-use Rattle.rbc_msgs.specs.TrainReading.{read_train}
-use Rattle.rbc_msgs.specs.declared.fault.MsgFault.{MsgFault}
+use Rattle.rbc_initiation.specs.Message as msgs
+use Rattle.rbc_initiation.specs.Step.{step_message}
+use Rattle.rbc_initiation.specs.Faults.{fault_number}
+use Rattle.rbc_initiation.specs.TrainReading.{read_train}
+use Rattle.rbc_initiation.specs.declared.fault.MsgFault.{MsgFault}
 use Rattle.rbc_centre.specs.Views.{outcome_of}
 use Rattle.rbc_world.specs.declared.event.WorldEvent.{WorldEvent}
 use Rattle.rbc_world.specs.declared.event.WorldEvent.TheVariants as event
 use Rattle.rbc_world.specs.declared.event.Answer.{Answer}
 use Rattle.rbc_world.specs.declared.event.Answer.TheVariants as answer
 
--- a fault by its number
-abbrev pub numbered : Result TrainMessage MsgFault → Result TrainMessage ℕ
-numbered (Ok m) = Ok m
+-- what a step reads of a message, or a fault by its number
+abbrev pub numbered : Result msgs.TrainMessage MsgFault → Result TrainMessage ℕ
+numbered (Ok m) = Ok (step_message m)
 numbered (Err fault) = Err (fault_number fault)
 
 -- bytes are the message that they spell, or the first fault that they show
 abbrev pub event_of : WorldEvent → Event
 event_of (event.Train c bytes) = Bytes c (numbered (read_train bytes.items))
+event_of (event.Set c s) = Set c s
+event_of (event.Unset c s) = Unset c s
 event_of (event.Deliver from to number) = Delivery from to number
 
 abbrev pub answer_of : Answer → world.Answer

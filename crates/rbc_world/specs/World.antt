@@ -9,4 +9,4 @@ abbrev pub line_of : World → Line
 line_of w = w.line
 
 abbrev pub meaning : World → spec.World
-meaning w = stands_for w.centres.items w.trains.keys
+meaning w = stands_for w.line w.centres.items w.trains.keys

@@ -1,11 +1,15 @@
 use rbc_centre::Outcome;
-use rbc_msgs::MsgFault;
+use rbc_initiation::MsgFault;
 
 /// What happens to the centres of a line.
 #[derive(Debug, Drop)]
 pub enum WorldEvent {
     /// Bytes come from a train to a centre.
     Train { centre: u8, bytes: Vec<u8> },
+    /// The interlocking releases a section at a centre.
+    Set { centre: u8, section: u16 },
+    /// The interlocking takes a section back.
+    Unset { centre: u8, section: u16 },
     /// A frame that one centre sent to another under a number is delivered, perhaps late or again.
     Deliver { from: u8, to: u8, number: u32 },
 }

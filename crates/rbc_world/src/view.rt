@@ -2,13 +2,14 @@ ghost use Rattle.std.specs.Prelude.{◌≡◌, ◌<◌, length, slice_get, IfOk,
 ghost use Rattle.std.specs.Option.{option_map_or};
 ghost use Rattle.rbc_spec.specs.Centre.{Shut};
 ghost use Rattle.rbc_spec.specs.Line.{section};
-ghost use Rattle.rbc_spec.specs.Run.{read_off, mark_of};
-ghost use Rattle.rbc_centre.specs.State.{entry_of};
+ghost use Rattle.rbc_spec.specs.ReadOff.{read_off, mark_of};
+ghost use Rattle.rbc_book.specs.Entries.{entry_of};
 ghost use Rattle.rbc_world.specs.World.{line_of, meaning};
 ghost use Rattle.rbc_world.specs.View.{mark_shown, EachOf, ShowsSection, ShowsSession, ShowsTrain, Shows};
 
 use crate::world::World;
-use rbc_centre::{Entry, Page, Phase};
+use rbc_book::{Entry, Page};
+use rbc_centre::Phase;
 use rbc_line::Line;
 use std::alloc::{AllocError, Global};
 
@@ -28,7 +29,7 @@ pub enum Mark {
 impl Mark {
     /// A section that is in use is kept: no centre has a movement authority yet.
     fn of(entry: Entry) -> Mark
-        ensures { mark_shown result ≡ mark_of (entry_of entry) }
+        ensures { mark_shown result ≡ mark_of None (entry_of entry) }
     {
         match entry {
             Entry::Shut => Mark::Shut,

@@ -1,18 +1,21 @@
 ghost use Rattle.std.specs.Prelude.{◌≡◌, ◌<◌, ◌≤◌, ℕ, true, length, slice_get, IfOk, OnErr, Some};
-ghost use Rattle.rbc_spec.specs.Centre.{step};
-ghost use Rattle.rbc_spec.specs.World.{new_world, world_step, stepped, mention, Bytes};
-ghost use Rattle.rbc_msgs.specs.TrainReading.{read_train};
+ghost use Rattle.rbc_spec.specs.World.{new_world, world_step, at_centre, takes, mention, Bytes};
+ghost use Rattle.rbc_spec.specs.Step.{Train};
+ghost use Rattle.rbc_initiation.specs.Step.{step_message};
+ghost use Rattle.rbc_initiation.specs.TrainReading.{read_train};
 ghost use Rattle.indexmap.specs.IndexSet.{spare};
 ghost use Rattle.rbc_world.specs.Meaning.{AtBeginning};
-ghost use Rattle.rbc_spec.specs.Run.{Goes, read_off};
+ghost use Rattle.rbc_spec.specs.Run.{Goes};
+ghost use Rattle.rbc_spec.specs.ReadOff.{read_off};
 ghost use Rattle.rbc_centre.specs.declared.centre.Centre.{Centre};
 ghost use Rattle.rbc_centre.specs.Meaning as one;
+ghost use Rattle.rbc_centre.specs.Views.{event_of as one_event};
 
 use crate::event::{Answer, WorldEvent};
 use indexmap::IndexSet;
 use rbc_centre::{Centre, Event, StepFault};
+use rbc_initiation::{MsgFault, TrainMsg, decode_train};
 use rbc_line::Line;
-use rbc_msgs::{MsgFault, TrainMsg, decode_train};
 use std::alloc::{AllocError, Global};
 
 /// The centres of a line side by side.
@@ -24,6 +27,7 @@ pub struct World {
     trains: IndexSet<u32>,
     ghost each_centre: { length centres.items ≡ length line.centres },
     ghost one_line: { (c : ℕ) → (k : Centre) → slice_get centres.items c ≡ Some k → one.line_of k ≡ line },
+    ghost in_order: { (c : ℕ) → (k : Centre) → slice_get centres.items c ≡ Some k → one.number_of k ≡ c },
 }
 
 impl World {
@@ -34,7 +38,7 @@ impl World {
     /// The centres of the line at their beginning. A copy of the line is kept.
     pub fn new(alloc: Global, line: &Line) -> Result<World, AllocError>
         ensures line { IfOk result (λ w. line_of w ≡ line.now) }
-        ensures beginning { IfOk result (λ w. meaning w ≡ new_world) }
+        ensures beginning { IfOk result (λ w. meaning w ≡ new_world line.now) }
     {
         Ok(World {
             line: line.copied(alloc)?,
@@ -73,8 +77,24 @@ impl World {
     {
         match event {
             WorldEvent::Train { centre, bytes } => self.receive(*centre, bytes),
+            WorldEvent::Set { centre, section } => self.tell(*centre, &Event::Set(*section)),
+            WorldEvent::Unset { centre, section } => self.tell(*centre, &Event::Unset(*section)),
             WorldEvent::Deliver { .. } => Ok(Answer::NotSent),
         }
+    }
+
+    // The interlocking says something to a centre.
+    fn tell(&mut self, c: u8, event: &Event) -> Result<Answer, StepFault>
+        ensures line { line_of self.new ≡ line_of self.old }
+        ensures exact { Gives (λ a. (answer_of a, meaning self.new)) result
+            (at_centre (line_of self.old) (meaning self.old) c (takes (line_of self.old) (meaning self.old) c (meaning self.old).trains (one_event event.now))) }
+        ensures err { OnErr result (meaning self.new ≡ meaning self.old) }
+    {
+        if c as usize >= self.centres.len() {
+            return Ok(Answer::NoCentre);
+        }
+        let outcome = self.centres[c as usize].step(event)?;
+        Ok(Answer::Outcome(outcome))
     }
 
     // Bytes from a train come to a centre.
@@ -99,7 +119,7 @@ impl World {
         requires { c < length self.old.centres.items }
         ensures line { line_of self.new ≡ line_of self.old }
         ensures exact { Gives (λ a. (answer_of a, meaning self.new)) result
-            (stepped (line_of self.old) (meaning self.old) c message.nid_engine (step (line_of self.old) message ((meaning self.old).at c))) }
+            (takes (line_of self.old) (meaning self.old) c (mention (line_of self.old) message.nid_engine (meaning self.old).trains) (Train (step_message message))) }
         ensures err { OnErr result (meaning self.new ≡ meaning self.old) }
     {
         self.trains.reserve(1)?;
@@ -112,7 +132,7 @@ impl World {
 // The centres of the line, in order.
 fn centres_of(alloc: Global, line: &Line) -> Result<Vec<Centre>, AllocError>
     ensures count { IfOk result (λ centres. length centres.items ≡ length line.now.centres) }
-    ensures each { IfOk result (λ centres. (c : ℕ) → (k : Centre) → slice_get centres.items c ≡ Some k → AtBeginning line.now k) }
+    ensures each { IfOk result (λ centres. (c : ℕ) → (k : Centre) → slice_get centres.items c ≡ Some k → AtBeginning line.now c k) }
 {
     let mut centres = Vec::new(alloc);
     for c in 0..line.centre_count() {

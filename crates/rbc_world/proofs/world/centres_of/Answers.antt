@@ -7,5 +7,6 @@ use Rattle.rbc_world.proofs.world.centres_of.Goals as goal
 pub loop-c-preserved : goal.loop-c-preserved
 loop-c-preserved c = record {
   count = grind (arith, common_steps);
-  each = rw c.in_ok-push.ensures.items (each_pushed (AtBeginning c.args.line.now) _ _ c.loop-c.invariant.each (record { line_of = c.in_ok-new.ensures.line; meaning = c.in_ok-new.ensures.beginning }));
+  each = rw c.in_ok-push.ensures.items (each_pushed (AtBeginning c.args.line.now) _ _ c.loop-c.invariant.each
+      (rw c.loop-c.invariant.count (record { line_of = c.in_ok-new.ensures.line; number_of = c.in_ok-new.ensures.number; meaning = c.in_ok-new.ensures.beginning })));
 }

@@ -6,5 +6,5 @@ use Rattle.rbc_world.proofs.world.centres_of.Given as goal
 abbrev pub invariant-loop-c : goal.invariant-loop-c
 invariant-loop-c l = record {
   count : length l.centres.items ≡ l.c;
-  each : (d : ℕ) → (k : Centre) → slice_get l.centres.items d ≡ Some k → AtBeginning l.line k;
+  each : (d : ℕ) → (k : Centre) → slice_get l.centres.items d ≡ Some k → AtBeginning l.line d k;
 }

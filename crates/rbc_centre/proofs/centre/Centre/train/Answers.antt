@@ -1,6 +1,6 @@
-use Rattle.std.proofs.Common.{◌≡◌, ◌∙◌, sym, refl, slice_get, Some, None}
+use Rattle.std.proofs.Common.{◌∙◌, sym, refl, None}
 use Rattle.std.proofs.lemmas.Option.{slice_get_read}
-use Rattle.rbc_spec.specs.Centre.{NoSession}
+use Rattle.rbc_spec.specs.Centre.{Silent}
 use Rattle.rbc_centre.specs.State.{stands_for, phase_of}
 use Rattle.rbc_centre.proofs.Steps.{part_of_train, part_of_foreign, number_within}
 use Rattle.rbc_centre.proofs.centre.Centre.train.Goals as goal
@@ -10,12 +10,12 @@ unfolding stands_for
 returns-in-Some-clause-phase c =
     let number = sym c.train_number.ensures.value ∙ c.in-Some.is in
     let within = number_within c.args.self.now.line c.args.self.now.trains.items c.args.nid_engine _ number c.args.self.now.each_train in
-    part_of_train (λ p. phase_of p.phase) NoSession c.args.self.now.line c.args.self.now.trains.items c.args.nid_engine _ c.index.result.now number (slice_get_read _ _ _ _ refl within c.index.ensures)
+    part_of_train (λ p. phase_of p.phase) Silent c.args.self.now.line c.args.self.now.trains.items c.args.nid_engine _ c.index.result.now number (slice_get_read _ _ _ _ refl within c.index.ensures)
 
 pub returns-in-None-clause-phase : goal.returns-in-None-clause-phase
 unfolding stands_for
 returns-in-None-clause-phase c =
-    part_of_foreign (λ p. phase_of p.phase) NoSession c.args.self.now.line c.args.self.now.trains.items c.args.nid_engine (sym c.train_number.ensures.value ∙ c.in-None.is)
+    part_of_foreign (λ p. phase_of p.phase) Silent c.args.self.now.line c.args.self.now.trains.items c.args.nid_engine (sym c.train_number.ensures.value ∙ c.in-None.is)
 
 pub returns-in-Some-clause-heard : goal.returns-in-Some-clause-heard
 unfolding stands_for

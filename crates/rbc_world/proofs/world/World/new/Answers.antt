@@ -7,7 +7,8 @@ pub invariant_of-result : goal.invariant_of-result
 invariant_of-result c = record {
   each_centre = c.in_ok-centres_of.ensures.count ∙ ap (λ (l : Line). length l.centres) (sym c.in_ok-copied.ensures.value);
   one_line = λ d k at. (c.in_ok-centres_of.ensures.each d k at).line_of ∙ sym c.in_ok-copied.ensures.value;
+  in_order = λ d k at. (c.in_ok-centres_of.ensures.each d k at).number_of;
 }
 
 pub returns-clause-beginning : goal.returns-clause-beginning
-returns-clause-beginning c = new_world_stands _ c.args.line.now _ c.in_ok-centres_of.ensures.each c.new.ensures.empty
+returns-clause-beginning c = new_world_stands _ c.args.line.now _ _ c.in_ok-copied.ensures.value c.in_ok-centres_of.ensures.each c.new.ensures.empty

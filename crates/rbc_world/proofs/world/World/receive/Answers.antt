@@ -1,6 +1,6 @@
 use Rattle.std.proofs.Common.{◌<◌, ◌≤◌, refl, sym, rules, length, Result, subst}
 use Rattle.rbc_spec.specs.World.{World, Answer}
-use Rattle.rbc_spec.specs.Centre.{Refusal}
+use Rattle.rbc_spec.specs.Step.{Refusal}
 use Rattle.rbc_world.specs.Views.{answer_of}
 use Rattle.rbc_world.specs.Answers.{Gives}
 use Rattle.rbc_world.specs.World.{meaning}

@@ -1,4 +1,4 @@
-use Rattle.rbc_spec.specs.Run.{read_off}
+use Rattle.rbc_spec.specs.ReadOff.{read_off}
 use Rattle.rbc_world.specs.World.{line_of, meaning}
 use Rattle.rbc_world.specs.View.{ShowsSession}
 use Rattle.rbc_world.proofs.Steps.{one_more_of}

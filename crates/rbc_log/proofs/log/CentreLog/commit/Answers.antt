@@ -1,0 +1,29 @@
+use Rattle.std.proofs.Common.{◌≡◌, ◌∙◌, ◌++◌, ◌∷◌, [], List, ap, map}
+use Rattle.rbc_centre.specs.Meaning.{line_of, number_of, meaning}
+use Rattle.rbc_centre.specs.Views.{event_of, outcome_of}
+use Rattle.rbc_log.specs.Replay.{LogEntry}
+use Rattle.rbc_log.specs.Entries.{entry_of}
+use Rattle.rbc_log.proofs.Growing.{grown, map_push}
+use Rattle.rbc_log.proofs.log.CentreLog.commit.Goals as goal
+
+pub invariant_of-self-2 : goal.invariant_of-self-2
+invariant_of-self-2 c =
+    let old = c.self.inside.core in
+    let front : List LogEntry = map entry_of c.self.inside.entries.items in
+    let grows : map entry_of c.push_reserved.new.self.items ≡ front ++ record { centre = number_of old; event = event_of c.args.event; outcome = outcome_of c.in_ok-outcome.outcome } ∷ [] =
+    ap (map entry_of) c.push_reserved.ensures.items ∙ map_push entry_of c.reserve.new.self.items _
+    ∙ (λ i. map entry_of (c.in_ok-reserve.ensures.items i) ++ record { centre = (c.number.ensures ∙ c.in_ok-outcome.ensures.number) i; event = event_of c.args.event; outcome = c.copy_of.ensures i } ∷ [])
+    in
+    grown (line_of old) (line_of c.step.new.self) (number_of old) (number_of c.step.new.self) (meaning old) (meaning c.step.new.self) front (map entry_of c.push_reserved.new.self.items)
+    (event_of c.args.event) (outcome_of c.in_ok-outcome.outcome) c.self.invariant c.in_ok-outcome.ensures.exact grows c.in_ok-outcome.ensures.line c.in_ok-outcome.ensures.number
+
+pub returns-clause-replays : goal.returns-clause-replays
+returns-clause-replays c =
+    let old = c.self.inside.core in
+    let front : List LogEntry = map entry_of c.self.inside.entries.items in
+    let grows : map entry_of c.push_reserved.new.self.items ≡ front ++ record { centre = number_of old; event = event_of c.args.event; outcome = outcome_of c.in_ok-outcome.outcome } ∷ [] =
+    ap (map entry_of) c.push_reserved.ensures.items ∙ map_push entry_of c.reserve.new.self.items _
+    ∙ (λ i. map entry_of (c.in_ok-reserve.ensures.items i) ++ record { centre = (c.number.ensures ∙ c.in_ok-outcome.ensures.number) i; event = event_of c.args.event; outcome = c.copy_of.ensures i } ∷ [])
+    in
+    grown (line_of old) (line_of c.step.new.self) (number_of old) (number_of c.step.new.self) (meaning old) (meaning c.step.new.self) front (map entry_of c.push_reserved.new.self.items)
+    (event_of c.args.event) (outcome_of c.in_ok-outcome.outcome) c.self.invariant c.in_ok-outcome.ensures.exact grows c.in_ok-outcome.ensures.line c.in_ok-outcome.ensures.number

@@ -1,0 +1,4 @@
+pub mod Replay
+pub mod Entries
+pub mod Log
+pub mod Faults

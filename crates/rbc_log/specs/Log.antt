@@ -1,0 +1,46 @@
+-- A centre with its log.
+use Rattle.std.specs.Prelude.{◌≡◌, ℕ, ◌≤◌, ◌<◌, List, [], ◌∷◌, ◌++◌, length, map, Ok, Err}
+use Rattle.rbc_spec.specs.Outcome.{Outcome}
+use Rattle.rbc_spec.specs.Centre.{beginning}
+use Rattle.rbc_spec.specs.Step.{Event, step, ClockEnd as AtClockEnd}
+use Rattle.rbc_centre.specs.Meaning.{line_of, number_of, meaning}
+use Rattle.rbc_centre.specs.declared.centre.Centre.{Centre}
+use Rattle.rbc_log.specs.Replay.{Replays}
+use Rattle.rbc_log.specs.Entries.{entry_of}
+use Rattle.rbc_log.specs.declared.entry.Entry.{Entry}
+use Rattle.rbc_log.specs.declared.fault.CommitFault.{CommitFault}
+use Rattle.rbc_log.specs.declared.fault.CommitFault.TheVariants.{Memory, LinkFull, ClockEnd, LogFull}
+
+pub record LogValue : Type 0 where
+  pub core : Centre
+  pub entries : List Entry
+
+-- how many entries a log holds at most (profile)
+abbrev pub most_entries : ℕ
+most_entries = 1000000
+
+-- the entries lead from the centre's beginning to the centre as it is
+abbrev pub IsReplaying : LogValue → Type 0
+IsReplaying l = Replays (line_of l.core) (number_of l.core) (beginning (line_of l.core) (number_of l.core)) (map entry_of l.entries) (meaning l.core)
+
+-- the event was taken: it stands behind the entries with the outcome of the centre's step, and the centre is as that step leaves it
+pub record Appends (old new : LogValue) (event : Event) (outcome : Outcome) : Type 0 where
+  pub room : length old.entries < most_entries
+  pub entries : map entry_of new.entries ≡ map entry_of old.entries ++ record { centre = number_of old.core; event = event; outcome = outcome } ∷ []
+  pub core : step (line_of old.core) (number_of old.core) event (meaning old.core) ≡ Ok (outcome, meaning new.core)
+  pub line : line_of new.core ≡ line_of old.core
+  pub number : number_of new.core ≡ number_of old.core
+
+-- nothing changed
+pub record IsUnchanged (old new : LogValue) : Type 0 where
+  pub entries : new.entries ≡ old.entries
+  pub core : meaning new.core ≡ meaning old.core
+  pub line : line_of new.core ≡ line_of old.core
+  pub number : number_of new.core ≡ number_of old.core
+
+-- when a fault comes: LogFull exactly where no entry has room, else the refusal of the step; no link can be full yet
+abbrev pub IsRefusal : LogValue → Event → CommitFault → Type 0
+IsRefusal l event Memory = length l.entries < most_entries
+IsRefusal l event LinkFull = ⊥
+IsRefusal l event ClockEnd = (length l.entries < most_entries) × (step (line_of l.core) (number_of l.core) event (meaning l.core) ≡ Err AtClockEnd)
+IsRefusal l event LogFull = most_entries ≤ length l.entries

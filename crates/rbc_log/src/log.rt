@@ -1,0 +1,85 @@
+ghost use Rattle.std.specs.Prelude.{◌≡◌, true, [], IfOk, IfErr, OnErr};
+ghost use Rattle.rbc_spec.specs.Line.{is_centre};
+ghost use Rattle.rbc_centre.specs.Meaning.{line_of, number_of};
+ghost use Rattle.rbc_centre.specs.Views.{event_of, outcome_of};
+ghost use Rattle.rbc_log.specs.Log.{IsReplaying, Appends, IsUnchanged, IsRefusal};
+
+use crate::entry::{Entry, copy_of};
+use crate::fault::CommitFault;
+use rbc_centre::{Centre, Event, Outcome};
+use rbc_line::Line;
+use std::alloc::{AllocError, Global};
+use std::marker::Model;
+
+/// How many entries a log holds at most.
+pub const MOST_ENTRIES: usize = 1_000_000;
+
+/// A centre, and the log of all that it took.
+#[derive(Drop)]
+pub struct CentreLog {
+    core: Centre,
+    entries: Vec<Entry>,
+}
+
+impl Model for CentreLog {
+    ghost use Rattle.rbc_log.specs.Log.{LogValue, IsReplaying};
+
+    ghost Value = { LogValue };
+
+    ghost view = { λ l. record { core = l.core; entries = l.entries.items } };
+
+    ghost invariant = { λ l. IsReplaying (record { core = l.core; entries = l.entries.items }) };
+}
+
+impl CentreLog {
+    /// A centre of the line at its beginning, which has taken nothing.
+    pub fn new(alloc: Global, line: &Line, centre: u8) -> Result<CentreLog, AllocError>
+        requires { is_centre line.now centre ≡ true }
+        ensures line { IfOk result (λ l. line_of l.core ≡ line.now) }
+        ensures number { IfOk result (λ l. number_of l.core ≡ centre) }
+        ensures empty { IfOk result (λ l. l.entries ≡ []) }
+        ensures replays { IfOk result IsReplaying }
+    {
+        Ok(CentreLog {
+            core: Centre::new(alloc, line, centre)?,
+            entries: Vec::new(alloc),
+        })
+    }
+
+    /// The centre.
+    pub fn core(&self) -> &Centre
+        ensures value { result.now ≡ self.now.core }
+        ensures replays { IsReplaying self.now }
+    {
+        &self.core
+    }
+
+    /// What it took, in order.
+    pub fn entries(&self) -> &[Entry]
+        ensures value { result.now ≡ self.now.entries }
+        ensures replays { IsReplaying self.now }
+    {
+        self.entries.as_slice()
+    }
+
+    /// The centre takes the event, and the log has it with what was answered. Room for the entry is made first.
+    pub fn commit(&mut self, event: Event) -> Result<Outcome, CommitFault>
+        ensures appends { IfOk result (λ o. Appends self.old self.new (event_of event) (outcome_of o)) }
+        ensures refused { IfErr result (IsRefusal self.old (event_of event)) }
+        ensures err { OnErr result (IsUnchanged self.old self.new) }
+        ensures replays { IsReplaying self.new }
+    {
+        if self.entries.len() >= MOST_ENTRIES {
+            return Err(CommitFault::LogFull);
+        }
+        self.entries.reserve(1)?;
+        let outcome = self.core.step(&event)?;
+        let entry = Entry {
+            centre: self.core.number(),
+            event,
+            outcome: copy_of(&outcome),
+        };
+        self.entries.push_reserved(entry);
+        Ok(outcome)
+    }
+}
