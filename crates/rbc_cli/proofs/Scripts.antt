@@ -61,13 +61,13 @@ asked_none line (a ∷ b ∷ c ∷ d ∷ e ∷ words) one three four = refl
 own : IsNumeralModel (λ ds. all_ascii_digits ds ≡ true) (digits_value 10)
 own = numerals_by_value _ tells_all_ascii_digits
 
-abbrev is_number : List ℕ → Bool
-is_number bs = nat_lt 0 (length bs) && all_ascii_digits bs && nat_lt (digits_value 10 bs) (2 ^ 32)
+abbrev is_number : ℕ → List ℕ → Bool
+is_number bits bs = nat_lt 0 (length bs) && all_ascii_digits bs && nat_lt (digits_value 10 bs) (2 ^ bits)
 
-is_number-true : (bs : List ℕ) → all_ascii_digits bs ≡ true → 0 < length bs → digits_value 10 bs < 2 ^ 32 → is_number bs ≡ true
-is_number-true bs digits some fits =
+is_number-true : (bits : ℕ) (bs : List ℕ) → all_ascii_digits bs ≡ true → 0 < length bs → digits_value 10 bs < 2 ^ bits → is_number bits bs ≡ true
+is_number-true bits bs digits some fits =
     let a : nat_lt 0 (length bs) ≡ true = search (rules, tests) in
-    let b : nat_lt (digits_value 10 bs) (2 ^ 32) ≡ true = search (rules, tests) in
+    let b : nat_lt (digits_value 10 bs) (2 ^ bits) ≡ true = search (rules, tests) in
     both_true (both_true a digits) b
 
 true_left : (a b : Bool) → (a && b) ≡ true → a ≡ true
@@ -82,17 +82,17 @@ if_false : {A : Type 0} (b : Bool) (x : A) → (b ≡ true → ⊥) → cond b (
 if_false true x h = absurd (h refl)
 if_false false x h = refl
 
-pub number_of-Ok : (E : Type 0) (bs : List ℕ) (n : ℕ) → ParsesUnsigned {E = E} 32 10 bs (Ok n) → (get_or bs 0 0 ≡ 43 → ⊥) → number_of bs ≡ Some n
-number_of-Ok E bs n h plain =
-    let p = parse_plain own {E = E} 32 bs (Ok n) h plain in
-    let t : is_number bs ≡ true = is_number-true bs p.0.0 p.0.1 p.0.2 in
+pub number_of-Ok : (bits : ℕ) (E : Type 0) (bs : List ℕ) (n : ℕ) → ParsesUnsigned {E = E} bits 10 bs (Ok n) → (get_or bs 0 0 ≡ 43 → ⊥) → number_of bits bs ≡ Some n
+number_of-Ok bits E bs n h plain =
+    let p = parse_plain own {E = E} bits bs (Ok n) h plain in
+    let t : is_number bits bs ≡ true = is_number-true bits bs p.0.0 p.0.1 p.0.2 in
     ap (λ b. cond b (Some (digits_value 10 bs)) None) t ∙ ap Some (sym p.1)
 
-pub number_of-Err : (E : Type 0) (bs : List ℕ) (e : E) → ParsesUnsigned {E = E} 32 10 bs (Err e) → (get_or bs 0 0 ≡ 43 → ⊥) → number_of bs ≡ None
-number_of-Err E bs e h plain =
-    let p = parse_plain own {E = E} 32 bs (Err e) h plain in
-    if_false (is_number bs) (digits_value 10 bs) (λ t.
-    let front = true_left (nat_lt 0 (length bs) && all_ascii_digits bs) (nat_lt (digits_value 10 bs) (2 ^ 32)) t in
+pub number_of-Err : (bits : ℕ) (E : Type 0) (bs : List ℕ) (e : E) → ParsesUnsigned {E = E} bits 10 bs (Err e) → (get_or bs 0 0 ≡ 43 → ⊥) → number_of bits bs ≡ None
+number_of-Err bits E bs e h plain =
+    let p = parse_plain own {E = E} bits bs (Err e) h plain in
+    if_false (is_number bits bs) (digits_value 10 bs) (λ t.
+    let front = true_left (nat_lt 0 (length bs) && all_ascii_digits bs) (nat_lt (digits_value 10 bs) (2 ^ bits)) t in
     let some : nat_lt 0 (length bs) ≡ true = true_left _ (all_ascii_digits bs) front in
-    let fits : nat_lt (digits_value 10 bs) (2 ^ 32) ≡ true = true_right (nat_lt 0 (length bs) && all_ascii_digits bs) _ t in
+    let fits : nat_lt (digits_value 10 bs) (2 ^ bits) ≡ true = true_right (nat_lt 0 (length bs) && all_ascii_digits bs) _ t in
     p (true_right (nat_lt 0 (length bs)) _ front, search (rules, tests), search (rules, tests)))

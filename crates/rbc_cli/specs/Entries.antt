@@ -2,7 +2,7 @@
 use Rattle.std.specs.Prelude.{◌≡◌, ℕ, ◌+◌, List, map, filter, position, Option, Some, None, option_map, Result, Ok, Err, ⊤}
 use Rattle.rbc_spec.specs.Line.{Line}
 use Rattle.rbc_world.specs.declared.event.WorldEvent.{WorldEvent}
-use Rattle.rbc_world.specs.declared.event.WorldEvent.TheVariants.{Train, Deliver}
+use Rattle.rbc_world.specs.declared.event.WorldEvent.TheVariants.{Train, Set, Unset, Deliver}
 use Rattle.rbc_cli.specs.declared.script.Entry.{Entry}
 use Rattle.rbc_cli.specs.declared.script.Entry.TheVariants as entry
 use Rattle.rbc_cli.specs.declared.script.EntryFault.{EntryFault}
@@ -19,6 +19,8 @@ Finds view (Err why) found = why ≡ refused.Form → found ≡ None
 
 abbrev pub event_of : WorldEvent → Asked
 event_of (Train centre bytes) = script.Train centre bytes.items
+event_of (Set centre section) = script.Set centre section
+event_of (Unset centre section) = script.Unset centre section
 event_of (Deliver from to number) = script.Deliver from to number
 
 -- what an entry asks for

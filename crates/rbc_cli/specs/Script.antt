@@ -11,6 +11,8 @@ use Rattle.rbc_spec.specs.Line.{Line}
 pub data Asked : Type 0 where
   Show : Asked
   Train : (centre : ℕ) → (bytes : List ℕ) → Asked
+  Set : (centre section : ℕ) → Asked
+  Unset : (centre section : ℕ) → Asked
   Deliver : (from to number : ℕ) → Asked
 
 -- the centre of this name
@@ -21,10 +23,10 @@ centre_named line word = position (λ p. bytes_eq p.name word) line.centres
 abbrev pub bytes_of : List ℕ → Option (List ℕ)
 bytes_of word = if length word == 0 then None else result_ok (decode_of word)
 
--- the number that decimal digits without a sign stand for, where 32 bits hold it
-abbrev pub number_of : List ℕ → Option ℕ
-number_of word =
-    if nat_lt 0 (length word) && all_ascii_digits word && nat_lt (digits_value 10 word) (2 ^ 32)
+-- the number that decimal digits without a sign stand for, where so many bits hold it
+abbrev pub number_of : ℕ → List ℕ → Option ℕ
+number_of bits word =
+    if nat_lt 0 (length word) && all_ascii_digits word && nat_lt (digits_value 10 word) (2 ^ bits)
     then Some (digits_value 10 word) else None
 
 -- `show`: print the line that the centres supervise
@@ -32,24 +34,36 @@ abbrev pub show_of : List ℕ → Option Asked
 show_of verb = if bytes_eq verb (codes "show") then Some Show else None
 
 -- `train A 9B02`: the bytes come from a train to a centre
-abbrev pub train_of : Line → List ℕ → List ℕ → List ℕ → Option Asked
-train_of line verb centre digits =
-    if bytes_eq verb (codes "train")
-    then option_and_then (λ c. option_map (λ bytes. Train c bytes) (bytes_of digits)) (centre_named line centre)
-    else None
+abbrev pub train_of : Line → List ℕ → List ℕ → Option Asked
+train_of line centre digits = option_and_then (λ c. option_map (λ bytes. Train c bytes) (bytes_of digits)) (centre_named line centre)
+
+-- `set A 3`: the interlocking releases a section, by its number over the whole line
+abbrev pub set_of : Line → List ℕ → List ℕ → Option Asked
+set_of line centre section = option_and_then (λ c. option_map (λ s. Set c s) (number_of 16 section)) (centre_named line centre)
+
+-- `unset A 3`: it takes the section back
+abbrev pub unset_of : Line → List ℕ → List ℕ → Option Asked
+unset_of line centre section = option_and_then (λ c. option_map (λ s. Unset c s) (number_of 16 section)) (centre_named line centre)
+
+-- what comes to a centre from a train or from the interlocking
+abbrev pub at_centre_of : Line → List ℕ → List ℕ → List ℕ → Option Asked
+at_centre_of line verb centre word =
+    if bytes_eq verb (codes "train") then train_of line centre word
+    else (if bytes_eq verb (codes "set") then set_of line centre word
+    else (if bytes_eq verb (codes "unset") then unset_of line centre word else None))
 
 -- `deliver A B 1`: the frame that one centre sent to another under a number is delivered
 abbrev pub delivery_of : Line → List ℕ → List ℕ → List ℕ → List ℕ → Option Asked
 delivery_of line verb from to number =
     if bytes_eq verb (codes "deliver")
-    then option_and_then (λ a. option_and_then (λ b. option_map (λ n. Deliver a b n) (number_of number))
+    then option_and_then (λ a. option_and_then (λ b. option_map (λ n. Deliver a b n) (number_of 32 number))
     (centre_named line to)) (centre_named line from)
     else None
 
 -- what the words of a line ask for; none where the line has no form that a script may have
 abbrev pub asked : Line → List (List ℕ) → Option Asked
 asked line (verb ∷ []) = show_of verb
-asked line (verb ∷ centre ∷ digits ∷ []) = train_of line verb centre digits
+asked line (verb ∷ centre ∷ word ∷ []) = at_centre_of line verb centre word
 asked line (verb ∷ from ∷ to ∷ number ∷ []) = delivery_of line verb from to number
 asked line _ = None
 

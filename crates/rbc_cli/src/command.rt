@@ -1,5 +1,6 @@
 ghost use Rattle.rbc_cli.specs.Statuses.{IsReported, IsStatus};
 
+use crate::explain::explain;
 use crate::fault::Fault;
 use crate::files::Files;
 use crate::run::{check, run};
@@ -35,6 +36,7 @@ fn obey<'a, S: AsStr, F: Files, O: Write>(
 ) -> Result<(), Fault<'a>> {
     match requested(alloc, words)? {
         Request::Check { file } => check(alloc, file, files, out),
+        Request::Explain { file } => explain(alloc, file, files, out),
         Request::Run { file, script } => run(alloc, file, script, files, out),
     }
 }

@@ -3,8 +3,10 @@
 
 mod command;
 mod disk;
+mod explain;
 mod fault;
 mod files;
+mod picture;
 mod print;
 mod run;
 mod script;

@@ -1,9 +1,9 @@
 //! What `run` prints: events, what they lead to, and the line.
 
 use crate::fault::Fault;
-use rbc_centre::{Outcome, Saying, StepFault};
+use rbc_centre::{Outcome, Saying, StepFault, Word};
+use rbc_initiation::encode_track;
 use rbc_line::Line;
-use rbc_msgs::encode_track;
 use rbc_world::{Answer, Mark, SectionView, World, WorldEvent};
 use std::alloc::Global;
 use std::io::Write;
@@ -32,6 +32,12 @@ pub fn print_event<W: Write>(
         WorldEvent::Train { centre, bytes } => {
             let digits = hex::encode_upper(alloc, bytes)?;
             writeln!(out, "> train {} {digits}", name_of(line, *centre))?;
+        }
+        WorldEvent::Set { centre, section } => {
+            writeln!(out, "> set {} {section}", name_of(line, *centre))?;
+        }
+        WorldEvent::Unset { centre, section } => {
+            writeln!(out, "> unset {} {section}", name_of(line, *centre))?;
         }
         WorldEvent::Deliver { from, to, number } => {
             let from = name_of(line, *from);
@@ -70,10 +76,27 @@ fn print_outcome<W: Write>(
     for saying in outcome.sayings.as_slice() {
         print_saying(alloc, out, centre, saying)?;
     }
+    for word in outcome.words.as_slice() {
+        print_word(out, centre, word)?;
+    }
     match outcome.silence {
         Some(why) => writeln!(out, "{centre} silent {}", why.number())?,
-        None if outcome.sayings.is_empty() => writeln!(out, "{centre} ok")?,
+        None if says_nothing(outcome) => writeln!(out, "{centre} ok")?,
         None => {}
+    }
+    Ok(())
+}
+
+// Whether a step has nothing to say to a train or to the interlocking.
+fn says_nothing(outcome: &Outcome) -> bool {
+    outcome.sayings.is_empty() && outcome.words.is_empty()
+}
+
+fn print_word<W: Write>(out: &mut W, centre: &str, word: &Word) -> Result<(), Fault<'static>> {
+    match word {
+        Word::Done(section) => writeln!(out, "{centre} {section} Done")?,
+        Word::Asked(section) => writeln!(out, "{centre} {section} Asked")?,
+        Word::NotHome(section) => writeln!(out, "{centre} {section} NotHome")?,
     }
     Ok(())
 }
@@ -141,11 +164,14 @@ fn print_train<W: Write>(
 fn centre_of(event: &WorldEvent) -> u8 {
     match event {
         WorldEvent::Train { centre, .. } => *centre,
+        WorldEvent::Set { centre, .. } => *centre,
+        WorldEvent::Unset { centre, .. } => *centre,
         WorldEvent::Deliver { to, .. } => *to,
     }
 }
 
-fn name_of(line: &Line, centre: u8) -> &str {
+/// The name of a centre of the line.
+pub fn name_of(line: &Line, centre: u8) -> &str {
     line.centre_name(centre).unwrap_or("?")
 }
 

@@ -2,7 +2,7 @@
 
 ghost use Rattle.std.specs.Prelude.{◌≡◌, ◌<◌, ◌==◌, IfOk, IfErr, map};
 ghost use Rattle.std.specs.List.{slice_split};
-ghost use Rattle.rbc_cli.specs.Script.{asked, bytes_of, centre_named, delivery_of, is_kept, number_of, row_asks, rows, show_of, train_of};
+ghost use Rattle.rbc_cli.specs.Script.{asked, at_centre_of, bytes_of, centre_named, delivery_of, is_kept, number_of, row_asks, rows, set_of, show_of, train_of, unset_of};
 ghost use Rattle.rbc_cli.specs.Entries.{AreAsked, Finds, IsFirstFault, asked_of};
 
 use hex::FromHexError;
@@ -113,7 +113,7 @@ fn entry_in(alloc: Global, line: &Line, words: &[&str]) -> Result<Entry, EntryFa
 {
     match words {
         [verb] => show_in(verb),
-        [verb, centre, digits] => train_in(alloc, line, verb, centre, digits),
+        [verb, centre, word] => at_centre_in(alloc, line, verb, centre, word),
         [verb, from, to, number] => delivery_in(line, verb, from, to, number),
         _ => Err(EntryFault::Form),
     }
@@ -128,21 +128,50 @@ fn show_in(verb: &str) -> Result<Entry, EntryFault>
     Ok(Entry::Show)
 }
 
-fn train_in(
+/// What comes to a centre from a train or from the interlocking.
+fn at_centre_in(
     alloc: Global,
     line: &Line,
     verb: &str,
     centre: &str,
-    digits: &str,
+    word: &str,
 ) -> Result<Entry, EntryFault>
-    ensures { Finds asked_of result (train_of line.now verb.now centre.now digits.now) }
+    ensures { Finds asked_of result (at_centre_of line.now verb.now centre.now word.now) }
 {
-    if verb != "train" {
-        return Err(EntryFault::Form);
+    if verb == "train" {
+        return train_in(alloc, line, centre, word);
     }
+    if verb == "set" {
+        return set_in(line, centre, word);
+    }
+    if verb == "unset" {
+        return unset_in(line, centre, word);
+    }
+    Err(EntryFault::Form)
+}
+
+fn train_in(alloc: Global, line: &Line, centre: &str, digits: &str) -> Result<Entry, EntryFault>
+    ensures { Finds asked_of result (train_of line.now centre.now digits.now) }
+{
     let centre = centre_in(line, centre)?;
     let bytes = bytes_in(alloc, digits)?;
     Ok(Entry::Event(WorldEvent::Train { centre, bytes }))
+}
+
+fn set_in(line: &Line, centre: &str, section: &str) -> Result<Entry, EntryFault>
+    ensures { Finds asked_of result (set_of line.now centre.now section.now) }
+{
+    let centre = centre_in(line, centre)?;
+    let section = section_in(section)?;
+    Ok(Entry::Event(WorldEvent::Set { centre, section }))
+}
+
+fn unset_in(line: &Line, centre: &str, section: &str) -> Result<Entry, EntryFault>
+    ensures { Finds asked_of result (unset_of line.now centre.now section.now) }
+{
+    let centre = centre_in(line, centre)?;
+    let section = section_in(section)?;
+    Ok(Entry::Event(WorldEvent::Unset { centre, section }))
 }
 
 fn delivery_in(
@@ -192,9 +221,22 @@ fn bytes_in(alloc: Global, word: &str) -> Result<Vec<u8>, EntryFault>
     }
 }
 
-/// The number that decimal digits without a sign stand for, where 32 bits hold it.
+/// The number of a section: what decimal digits without a sign stand for, where 16 bits hold it.
+fn section_in(word: &str) -> Result<u16, EntryFault>
+    ensures { Finds (λ n. n) result (number_of 16 word.now) }
+{
+    if word.starts_with('+') {
+        return Err(EntryFault::Form);
+    }
+    match word.parse() {
+        Ok(number) => Ok(number),
+        Err(_) => Err(EntryFault::Form),
+    }
+}
+
+/// The number of a frame: what decimal digits without a sign stand for, where 32 bits hold it.
 fn number_in(word: &str) -> Result<u32, EntryFault>
-    ensures { Finds (λ n. n) result (number_of word.now) }
+    ensures { Finds (λ n. n) result (number_of 32 word.now) }
 {
     if word.starts_with('+') {
         return Err(EntryFault::Form);

@@ -1,5 +1,7 @@
 //! `command` on texts in memory.
 
+mod line_file;
+
 use crate::command::command;
 use crate::files::Files;
 use std::alloc::Global;
@@ -106,26 +108,6 @@ impl Write for Refusing {
 }
 
 #[test]
-fn checks_a_line_file(rt: HostRuntime) -> Result<(), Fail> {
-    let ended = end_of(rt.alloc(), &["check", "line.toml"], &[("line.toml", LINE)]);
-    assert_eq!(rt;
-        from_utf8(&ended.out)?,
-        "ok: 2 centres, 1 tracks, 8 sections, 2 trains\n"
-    );
-    assert!(rt; ended.err.is_empty());
-    assert_eq!(rt; ended.status, 0);
-    let ended = end_of(
-        rt.alloc(),
-        &["check", "line.toml"],
-        &[("line.toml", "nid_c = 5\n")],
-    );
-    assert_eq!(rt; from_utf8(&ended.err)?, "rbcline: line fault 3\n");
-    assert!(rt; ended.out.is_empty());
-    assert_eq!(rt; ended.status, 4);
-    Ok(())
-}
-
-#[test]
 fn prints_each_event_and_the_line(rt: HostRuntime) -> Result<(), Fail> {
     let session = "train A 9B028000000040000040\n";
     let cases = [
@@ -182,6 +164,43 @@ A silent 1
 }
 
 #[test]
+fn sets_sections_and_takes_them_back(rt: HostRuntime) -> Result<(), Fail> {
+    let script =
+        "set A 0\nset A 0\nset B 7\nunset A 0\nunset A 4\nset B 3\nset A 8\nunset B 65535\nset A 03\n";
+    let ended = played(rt.alloc(), script);
+    let expected = "> set A 0
+A 0 Done
+> set A 0
+A 0 Done
+> set B 7
+B 7 Done
+> unset A 0
+A 0 Done
+> unset A 4
+A 4 NotHome
+> set B 3
+B 3 NotHome
+> set A 8
+A 8 NotHome
+> unset B 65535
+B 65535 NotHome
+> set A 3
+A 3 Done
+section 0 A shut
+section 1 A shut
+section 2 A shut
+section 3 A open
+section 4 B shut
+section 5 B shut
+section 6 B shut
+section 7 B open
+";
+    assert_eq!(rt; from_utf8(&ended.out)?, expected);
+    assert_eq!(rt; ended.status, 0);
+    Ok(())
+}
+
+#[test]
 fn names_the_first_line_that_has_no_form(rt: HostRuntime) -> Result<(), Fail> {
     let cases = [
         ("show \n", 1),
@@ -190,8 +209,12 @@ fn names_the_first_line_that_has_no_form(rt: HostRuntime) -> Result<(), Fail> {
         ("SHOW\n", 1),
         ("show\tA\n", 1),
         ("show A\n", 1),
-        ("set A 1\n", 1),
-        ("unset A 1\n", 1),
+        ("set A\n", 1),
+        ("set C 1\n", 1),
+        ("set A -1\n", 1),
+        ("set A 65536\n", 1),
+        ("unset A x\n", 1),
+        ("unset A 1 2\n", 1),
         ("train A\n", 1),
         ("train A \n", 1),
         ("train A 9B0\n", 1),
@@ -258,6 +281,8 @@ fn refuses_words_before_files(rt: HostRuntime) {
         &["run", "line.toml", "script", "script"],
         &["check"],
         &["check", "line.toml", "line.toml"],
+        &["explain"],
+        &["explain", "line.toml", "line.toml"],
     ];
     for words in cases {
         let ended = end_of(alloc, words, &[]);

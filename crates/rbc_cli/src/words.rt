@@ -9,6 +9,8 @@ use std::convert::AsStr;
 pub enum Request<'a> {
     /// Read the line, and say how much of each thing it has.
     Check { file: &'a str },
+    /// Say all that is wrong in the line file, or show the line.
+    Explain { file: &'a str },
     /// Run the script on the line.
     Run { file: &'a str, script: &'a str },
 }
@@ -24,12 +26,15 @@ pub fn requested<'a, S: AsStr>(alloc: Global, words: &'a [S]) -> Result<Request<
 }
 
 fn named<'a>(matches: &ArgMatches<'a>) -> Option<Request<'a>> {
-    match matches.subcommand_matches("check") {
-        Some(check) => Some(Request::Check {
-            file: check.get_str("FILE")?,
-        }),
-        None => named_run(matches),
+    if let Some(check) = matches.subcommand_matches("check") {
+        let file = check.get_str("FILE")?;
+        return Some(Request::Check { file });
     }
+    if let Some(explain) = matches.subcommand_matches("explain") {
+        let file = explain.get_str("FILE")?;
+        return Some(Request::Explain { file });
+    }
+    named_run(matches)
 }
 
 fn named_run<'a>(matches: &ArgMatches<'a>) -> Option<Request<'a>> {
@@ -50,12 +55,20 @@ fn rbcline<'a>(alloc: Global) -> Result<Command<'a>, AllocError> {
         .subcommand_required(true)
         .arg_required_else_help(true);
     let command = command.subcommand(check(alloc)?)?;
+    let command = command.subcommand(explain(alloc)?)?;
     command.subcommand(run(alloc)?)
 }
 
 fn check<'a>(alloc: Global) -> Result<Command<'a>, AllocError> {
     let command = Command::new(alloc, "check").about(
         "Reads a line file, and says how many centres, tracks, sections and trains it has",
+    );
+    command.arg(file(alloc, "FILE", "The line file"))
+}
+
+fn explain<'a>(alloc: Global) -> Result<Command<'a>, AllocError> {
+    let command = Command::new(alloc, "explain").about(
+        "Says in plain words all that is wrong in a line file, or shows the line",
     );
     command.arg(file(alloc, "FILE", "The line file"))
 }

@@ -1,6 +1,7 @@
 use crate::line::two_centres;
+use rbc_book::Entry;
 use rbc_centre::{Centre, Event, Phase, Silence};
-use rbc_msgs::{NID_LRBG_UNKNOWN, TrackBody, TrackMsg, TrainBody, TrainMsg};
+use rbc_initiation::{NID_LRBG_UNKNOWN, TrackBody, TrackMsg, TrainBody, TrainMsg};
 use std::test::*;
 
 #[test]
@@ -24,5 +25,21 @@ fn a_session_is_opened_once(rt: HostRuntime) -> Result<(), Fail> {
     assert_eq!(rt; again.stamp, 2);
     assert_eq!(rt; again.silence, Some(Silence::StaleStamp));
     assert_eq!(rt; again.sayings.len(), 0);
+    Ok(())
+}
+
+#[test]
+fn sections_are_released_and_taken_back(rt: HostRuntime) -> Result<(), Fail> {
+    let line = two_centres(rt.alloc())?;
+    let mut centre = Centre::new(rt.alloc(), &line, 0)?;
+    let set = centre.step(&Event::Set(1)).ok().ok_or("the step is taken")?;
+    assert_eq!(rt; set.words.len(), 1);
+    assert_eq!(rt; centre.page(1).entry, Entry::Open);
+    let unset = centre
+        .step(&Event::Unset(1))
+        .ok()
+        .ok_or("the step is taken")?;
+    assert_eq!(rt; unset.stamp, 2);
+    assert_eq!(rt; centre.page(1).entry, Entry::Shut);
     Ok(())
 }

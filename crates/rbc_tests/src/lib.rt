@@ -4,12 +4,26 @@
 #[cfg(test)]
 mod bits;
 #[cfg(test)]
+mod book;
+#[cfg(test)]
 mod centre;
+#[cfg(test)]
+mod codec;
+#[cfg(test)]
+mod codec_faults;
+#[cfg(test)]
+mod codec_shown;
+#[cfg(test)]
+mod codec_values;
 #[cfg(test)]
 mod line;
 #[cfg(test)]
 mod line_faults;
 #[cfg(test)]
+mod log;
+#[cfg(test)]
 mod messages;
+#[cfg(test)]
+mod sessions;
 #[cfg(test)]
 mod world;

@@ -1,4 +1,4 @@
-use rbc_msgs::{
+use rbc_initiation::{
     MsgFault, NID_LRBG_UNKNOWN, TrackBody, TrackMsg, TrainBody, TrainMsg, decode_track,
     decode_train, encode_track, encode_train,
 };
