@@ -4,7 +4,7 @@ use Rattle.std.proofs.lemmas.Bool.{and_parts, leb-true, ltb-true, cases_Bool, ca
 use Rattle.rbc_spec.specs.Runs.{Run, within, behind}
 use Rattle.rbc_spec.specs.Line.{Line, is_centre, is_home, end}
 use Rattle.rbc_spec.specs.Sections.{section_count, is_on}
-use Rattle.rbc_spec.specs.Place.{Place, Position, covers, covered, group_start}
+use Rattle.rbc_spec.specs.Place.{Place, Position, covered, group_start}
 use Rattle.rbc_spec.specs.Message.{TrainMessage, TrainBody, TrainData, Request, Report, ShorteningGranted, ShorteningRejected, EndOfMission, InitiationOfSession, TerminationOfSession, StartOfMission, SessionEstablished, TrackBody}
 use Rattle.rbc_spec.specs.Outcome.{Word, Reason}
 use Rattle.rbc_spec.specs.Centre.{is_registrar_of}
@@ -108,7 +108,7 @@ request_is line v t c position choice (Some place) is bound = tt
 -- ## Starts of mission
 
 begins_within : (line : Line) (t c : ℕ) (place : Place) (v : LineState) → IsWithinLine line v.mark → IsWithinLine line (begins line t c place v).mark
-begins_within line t c place v bound = within_given line (covers line place) t v (covered_within line place) bound
+begins_within line t c place v bound = within_given line (within (covered line place)) t v (covered_within line place) bound
 
 start_here_is : (line : Line) (t c : ℕ) (place : Place) (v : LineState) (choice : Choice) → IsWithinLine line v.mark
     → Valid (Does line (StartsHere line t c place v)) (start_here line t c place v choice)
@@ -127,7 +127,7 @@ start_new_is : (line : Line) (t c : ℕ) (place : Place) (v : LineState) (choice
 start_new_is line t c place v choice bound =
     valid_if _ _ (λ r. IsWithinLine line r.state.mark) (may_start line v c place) _ _
     (valid_if _ _ (λ r. IsWithinLine line r.state.mark) (is_registrar_of line c t) _ _
-    (start_here_is line t c place v choice bound) (record { said_is = refl; new_is = refl }, within_kept line (covers line place) t v bound))
+    (start_here_is line t c place v choice bound) (record { said_is = refl; new_is = refl }, within_kept line (within (covered line place)) t v bound))
     (record { said_is = refl; new_is = refl }, bound)
 
 start_is : (line : Line) (t c : ℕ) (place : Option Place) (v : LineState) (choice : Choice) → IsWithinLine line v.mark

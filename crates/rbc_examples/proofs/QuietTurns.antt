@@ -6,7 +6,8 @@ use Rattle.std.proofs.lemmas.Bool.{and_parts, leb-true, ltb-true, cases_Bool, eq
 use Rattle.std.proofs.lemmas.Option.{none-some, same_Some}
 use Rattle.rbc_spec.specs.Line.{Line, is_home, start, next_centre}
 use Rattle.rbc_spec.specs.Sections.{section_count}
-use Rattle.rbc_spec.specs.Place.{covers, group_start}
+use Rattle.rbc_spec.specs.Runs.{within}
+use Rattle.rbc_spec.specs.Place.{covered, group_start}
 use Rattle.rbc_spec.specs.Centre.{Phase, Silent, Opened, Up, is_up}
 use Rattle.rbc_spec.specs.LineCentre.{LineState, Mark, Shut, Open, Kept, Given, Mission, Supervisor, At, Parted, is_given_to, is_kept_for, is_mark_open, is_at, supervises, is_waiting_at}
 use Rattle.rbc_spec.specs.Quiet.{Quiet, Keep, Unkeep, Admit, Dismiss, LayDown, TakeUp, Propose, Order, EndOrder, TakesQuiet, TakesAll}
@@ -80,7 +81,7 @@ quiet_is line v (Unkeep t s) bound = valid_allowed (IsQuiet line v (Unkeep t s))
 quiet_is line v (Admit t c) bound = valid_some (IsQuiet line v (Admit t c)) _ (v.wait t c) (λ place is.
     valid_allowed (IsQuiet line v (Admit t c)) _ _ (λ so. (
       record { place = place; waits = is; no_mission = none_is (v.mission t) so; says = record { said_is = refl; new_is = refl } },
-      within_given line (covers line place) t v (covered_within line place) bound,
+      within_given line (within (covered line place)) t v (covered_within line place) bound,
     )))
 quiet_is line v (Dismiss t c) bound = valid_some (IsQuiet line v (Dismiss t c)) _ (v.wait t c) (λ place is.
     (record { place = place; waits = is; says = record { said_is = refl; new_is = refl } }, within_free line (is_waiting_at line v t c) v bound))

@@ -1,6 +1,7 @@
 -- Frames that no world sends: a centre takes them without effect.
 use Rattle.std.specs.Prelude.{ℕ, Bool, true, false, List, [], ◌∷◌, ◌++◌, map, Option, Some, None, Result, Ok, Err, pos}
 use Rattle.std.specs.List.{filter, filter_map, range_with_len}
+use Rattle.rbc_spec.specs.Reach.{Whole}
 use Rattle.rbc_spec.specs.Runs.{Run, no_run}
 use Rattle.rbc_spec.specs.Line.{Line}
 use Rattle.rbc_spec.specs.Sections.{section_count}
@@ -76,7 +77,7 @@ world_in w (Err why) = w
 
 -- a centre of the line behind a scene
 unfoldable pub centre_behind : List Scene → ℕ → Centre
-centre_behind scene c = (world_in (new_world line) (world_run line (new_world line) (filter_map event_of scene))).at c
+centre_behind scene c = (world_in (new_world line) (world_run Whole line (new_world line) (filter_map event_of scene))).at c
 
 -- A waits for sections from 4 on, with sections 1 to 3 in train 1's hand
 abbrev pub asking : Centre

@@ -7,7 +7,7 @@ use Rattle.rbc_spec.specs.Maps.{put, put_pair}
 use Rattle.rbc_spec.specs.Runs.{Run, within}
 use Rattle.rbc_spec.specs.Line.{Line, is_home}
 use Rattle.rbc_spec.specs.Sections.{section_count}
-use Rattle.rbc_spec.specs.Place.{Place, covers}
+use Rattle.rbc_spec.specs.Place.{Place, covered}
 use Rattle.rbc_spec.specs.Message.{TrainMessage, TrackBody}
 use Rattle.rbc_spec.specs.Outcome.{Saying, Word, Told}
 use Rattle.rbc_spec.specs.Centre.{Phase, Silent, Proposal}
@@ -84,7 +84,7 @@ supervises v c t = option_map_or (λ m. is_at c m.supervisor) (v.mission t) fals
 
 -- the sections of a start of mission that waits at the centre
 abbrev pub is_waiting_at : Line → LineState → ℕ → ℕ → ℕ → Bool
-is_waiting_at line v t c s = option_map_or (λ place. covers line place s) (v.wait t c) false
+is_waiting_at line v t c s = option_map_or (λ place. within (covered line place) s) (v.wait t c) false
 
 -- at some centre a start of mission of the train waits for the section
 abbrev pub is_waiting : Line → LineState → ℕ → ℕ → Bool

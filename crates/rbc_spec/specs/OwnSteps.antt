@@ -6,7 +6,7 @@ use Rattle.rbc_spec.specs.Maps.{put, put_pair}
 use Rattle.rbc_spec.specs.Runs.{Run, within, behind}
 use Rattle.rbc_spec.specs.Line.{Line, is_home, end}
 use Rattle.rbc_spec.specs.Sections.{is_on}
-use Rattle.rbc_spec.specs.Place.{Place, covers, covered, is_cleared, group_start}
+use Rattle.rbc_spec.specs.Place.{Place, covered, is_cleared, group_start}
 use Rattle.rbc_spec.specs.Message.{TrainMessage, TrainBody, TrainData, Request, Report, ShorteningGranted, ShorteningRejected, EndOfMission, InitiationOfSession, TerminationOfSession, StartOfMission, SessionEstablished, TrackBody, Authority, DataAcknowledged, SystemVersion, TerminationAcknowledged, TrainRejected, TrainAccepted, unknown_group}
 use Rattle.rbc_spec.specs.Outcome.{Word, Done, Asked, NotHome}
 use Rattle.rbc_spec.specs.Centre.{Phase, Silent, Opened, Up, is_registrar_of}
@@ -55,7 +55,7 @@ begun_at c place = record { place = place; has_data = false; is_ended = false; p
 
 -- the place's sections are given, and a mission begins there
 abbrev pub begins : Line → ℕ → ℕ → Place → LineState → LineState
-begins line t c place v = set_mission t (Some (begun_at c place)) (mark_all (covers line place) (Given t) v)
+begins line t c place v = set_mission t (Some (begun_at c place)) (mark_all (within (covered line place)) (Given t) v)
 
 abbrev pub restarted : ℕ → Place → LineState → LineState
 restarted t place v =
@@ -63,7 +63,7 @@ restarted t place v =
 
 -- the sections are kept, and the start waits
 abbrev pub waits : Line → ℕ → ℕ → Place → LineState → LineState
-waits line t c place v = record (mark_all (covers line place) (Kept t) v) { wait = put_pair v.wait t c (Some place) }
+waits line t c place v = record (mark_all (within (covered line place)) (Kept t) v) { wait = put_pair v.wait t c (Some place) }
 
 abbrev pub Rejects : ℕ → ℕ → LineState → Said → LineState → Type 0
 Rejects t c v = Says t c unknown_group TrainRejected [] v v

@@ -3,6 +3,7 @@ use Rattle.std.specs.Prelude.{ℕ, ◌+◌, ◌-◌, ◌*◌, ◌==◌, Bool, tr
 use Rattle.std.specs.Option.{option_map_or}
 use Rattle.std.specs.List.{list_all, range_with_len}
 use Rattle.rbc_spec.specs.Maps.{put}
+use Rattle.rbc_spec.specs.Reach.{Reach, starts_missions}
 use Rattle.rbc_spec.specs.Runs.{Run, no_run, within, behind, is_empty, part_before, part_from, joined, longest, passing}
 use Rattle.rbc_spec.specs.Line.{Line, is_centre, is_home, end, next_centre, registrar}
 use Rattle.rbc_spec.specs.Sections.{is_on}
@@ -203,16 +204,17 @@ answer_granted line c t position = with_some (λ k. k.mission t) (λ m. with_som
 
 -- ## A train's message
 
-abbrev pub answered : Line → ℕ → TrainMessage → TrainBody → Act
-answered line c m (TrainData position) =
+abbrev pub answered : Reach → Line → ℕ → TrainMessage → TrainBody → Act
+answered reach line c m (TrainData position) =
     change_mission m.nid_engine (λ n. record n { has_data = true }) >> say m.nid_engine unknown_group (DataAcknowledged m.t_train)
-answered line c m (Request position) = request line c m.nid_engine position
-answered line c m (Report position) = report line c m.nid_engine position
-answered line c m (ShorteningGranted stamp position) = answer_granted line c m.nid_engine position
-answered line c m (ShorteningRejected stamp position) = change_mission m.nid_engine (λ n. record n { proposal = None })
-answered line c m (EndOfMission position) = end_mission line c m.nid_engine position
-answered line c m InitiationOfSession =
+answered reach line c m (Request position) = request line c m.nid_engine position
+answered reach line c m (Report position) = report line c m.nid_engine position
+answered reach line c m (ShorteningGranted stamp position) = answer_granted line c m.nid_engine position
+answered reach line c m (ShorteningRejected stamp position) = change_mission m.nid_engine (λ n. record n { proposal = None })
+answered reach line c m (EndOfMission position) = end_mission line c m.nid_engine position
+answered reach line c m InitiationOfSession =
     (close_session line c m.nid_engine >> set_phase m.nid_engine Opened) >> say m.nid_engine unknown_group SystemVersion
-answered line c m TerminationOfSession = close_session line c m.nid_engine >> say m.nid_engine unknown_group TerminationAcknowledged
-answered line c m (StartOfMission is_valid position) = start_mission line c m.nid_engine is_valid position
-answered line c m SessionEstablished = set_phase m.nid_engine Up
+answered reach line c m TerminationOfSession = close_session line c m.nid_engine >> say m.nid_engine unknown_group TerminationAcknowledged
+answered reach line c m (StartOfMission is_valid position) =
+    if starts_missions reach then start_mission line c m.nid_engine is_valid position else reject m.nid_engine
+answered reach line c m SessionEstablished = set_phase m.nid_engine Up

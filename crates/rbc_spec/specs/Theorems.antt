@@ -2,6 +2,7 @@
 use Rattle.std.specs.Prelude.{◌≡◌, ℕ, List, [], ◌∷◌, true, Option, Some, None, Ok}
 use Rattle.std.specs.List.{All}
 use Rattle.rbc_spec.specs.Line.{Line, IsLine}
+use Rattle.rbc_spec.specs.Reach.{Whole}
 use Rattle.rbc_spec.specs.Place.{Place}
 use Rattle.rbc_spec.specs.Message.{TrainMessage, TrainBody, StartOfMission}
 use Rattle.rbc_spec.specs.Outcome.{Outcome, Reason}
@@ -19,7 +20,7 @@ use Rattle.rbc_spec.specs.ReadOff.{StandsFor, IsLineRun}
 -- Whatever happens to the centres of a line: what they answer and hold is a run of the one line centre
 abbrev pub WholeLineTheorem : Type 0
 WholeLineTheorem = (line : Line) (events : List Event) (answers : List Answer) (w : World)
-    → IsLine line → world_run line (new_world line) events ≡ Ok (answers, w) → IsLineRun line events answers w
+    → IsLine line → world_run Whole line (new_world line) events ≡ Ok (answers, w) → IsLineRun line events answers w
 
 -- ## A line that one centre has alone
 
@@ -84,4 +85,4 @@ pub record IsOneCentreRun (line : Line) (events : List Event) (answers : List An
 -- Where one centre has all sections and is every train's registrar, the run leaves no choice
 abbrev pub OneCentreTheorem : Type 0
 OneCentreTheorem = (line : Line) (c : ℕ) (events : List Event) (answers : List Answer) (w : World)
-    → IsLine line → IsOneCentreLine line c → world_run line (new_world line) events ≡ Ok (answers, w) → IsOneCentreRun line events answers w
+    → IsLine line → IsOneCentreLine line c → world_run Whole line (new_world line) events ≡ Ok (answers, w) → IsOneCentreRun line events answers w
