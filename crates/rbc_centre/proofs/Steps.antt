@@ -7,23 +7,23 @@ use Rattle.rbc_spec.specs.Maps.{put}
 use Rattle.std.proofs.lemmas.List.{length-replicate}
 use Rattle.std.proofs.lemmas.List.Quantifiers.{position-Some}
 use Rattle.rbc_spec.specs.Line.{Line, Train as TrainOfLine, train_number, is_home, is_linked}
-use Rattle.rbc_spec.specs.Message.{TrainMessage, InitiationOfSession, SystemVersion, unknown_group}
+use Rattle.rbc_spec.specs.Reach.{Sessions}
+use Rattle.rbc_spec.specs.Message.{TrainMessage, TrackBody, unknown_group}
 use Rattle.rbc_spec.specs.Outcome.{Reason, StaleStamp, ForeignEngine, Saying, Word, Done, NotHome, Outcome}
 use Rattle.rbc_spec.specs.Centre as centre
 use Rattle.rbc_spec.specs.Centre.{is_unused}
-use Rattle.rbc_spec.specs.Acts.{Reply, ◌>>◌, hear}
-use Rattle.rbc_spec.specs.Rules.{answered}
+use Rattle.rbc_spec.specs.Acts.{Reply, ◌>>◌}
 use Rattle.rbc_spec.specs.Step as step
 use Rattle.rbc_spec.specs.Step.{Event, Train, Set, Unset, Deliver}
-use Rattle.rbc_initiation.specs.Message as msgs
-use Rattle.rbc_initiation.specs.Step.{step_body, step_message}
+use Rattle.rbc_msgs.specs.StepMessage.{step_message}
 use Rattle.rbc_book.specs.Book.{Pages, is_own, entry_at, wish_at}
 use Rattle.rbc_centre.specs.State.{stands_for, of_trains, phase_of}
 use Rattle.rbc_centre.specs.Views.{event_of}
 use Rattle.rbc_centre.specs.declared.event.Event.{Event as EventOfCode}
 use Rattle.rbc_centre.specs.declared.event.Event.TheVariants as code
 use Rattle.rbc_centre.specs.declared.train.TrainState.{TrainState}
-use Rattle.rbc_centre.specs.declared.train.Phase.TheVariants.{NoSession, Opened}
+use Rattle.rbc_centre.specs.Sessions.{Rule, session_rule}
+use Rattle.rbc_centre.proofs.Rules.{put_over, put_same, none_of, IsIdleFor, reason_in, after, saying, replied, foreign_silence, stale_silence, timely_silence}
 use Rattle.rbc_centre.proofs.States.{of_trains-replicate, of_trains-set}
 
 -- ## The beginning
@@ -56,95 +56,71 @@ none_said states n state e none i p at =
     let said : p.said ≡ 0 = ap (λ (q : TrainState). q.said) (sym is) ∙ none in
     omega arith
 
--- ## The answer to an initiation of a session
+-- ## The answer to a message
 
-put_over : {X : Type 0} (t : ℕ) (x y : X) (f : ℕ → X) (u : ℕ) → put (put f t y) t x u ≡ put f t x u
-put_over t x y f u = elim (u == t) as (λ b. cond b x (cond b y (f u)) ≡ cond b x (f u)) [ true ↦ refl | false ↦ refl ]
+-- what a train's count of messages becomes
+abbrev pub said_after : Option TrackBody → ℕ → ℕ
+said_after (Some body) n = n + 1
+said_after None n = n
 
--- the state of one train after the answer
-pub record IsInitiated (m : TrainMessage) (old new : TrainState) : Type 0 where
-  pub phase : phase_of new.phase ≡ centre.Opened
-  pub heard : new.heard ≡ Some m.t_train
-  pub said : new.said ≡ old.said + 1
+abbrev pub sayings_with : ℕ → Option TrackBody → ℕ → List Saying
+sayings_with t (Some body) count = saying t count body ∷ []
+sayings_with t None count = []
 
--- putting what is there changes nothing
-put_none : {X : Type 0} (t : ℕ) (x : X) (u : ℕ) → put (λ _. x) t x u ≡ x
-put_none t x u = elim (u == t) as (λ b. cond b x x ≡ x) [ true ↦ refl | false ↦ refl ]
+-- the state of one train after a message was heard and answered
+pub record IsHeard (t_train : ℕ) (phase : centre.Phase) (answer : Option TrackBody) (old new : TrainState) : Type 0 where
+  pub phase_is : phase_of new.phase ≡ phase
+  pub heard : new.heard ≡ Some t_train
+  pub said : new.said ≡ said_after answer old.said
 
-module _ (line : Line) (c clock : ℕ) (pages : Pages) (states : List TrainState) (m : TrainMessage) (i : ℕ) (old new : TrainState)
-    (number : train_number line m.nid_engine ≡ Some i) (at : slice_get states i ≡ Some old) (within : i < length states) where
+module _ (line : Line) (c clock : ℕ) (pages : Pages) (states : List TrainState) (t i : ℕ) (old new : TrainState)
+    (number : train_number line t ≡ Some i) (at : slice_get states i ≡ Some old) (within : i < length states) where
   -- what is kept of the train is its state
-  pub kept_of : {X : Type 0} (part : TrainState → X) (none : X) → of_trains part none line states m.nid_engine ≡ part old
+  pub kept_of : {X : Type 0} (part : TrainState → X) (none : X) → of_trains part none line states t ≡ part old
   kept_of part none = ap (λ n. option_map_or part (option_and_then (λ j. slice_get states j) n) none) number ∙ ap (λ o. option_map_or part o none) at
 
   -- a change of the train's state changes this part for that train alone
-  part_set : {X : Type 0} (part : TrainState → X) (none value : X) → part new ≡ value → (u : ℕ) → of_trains part none line (set states i new) u ≡ put (of_trains part none line states) m.nid_engine value u
-  part_set part none value same u = of_trains-set part none line states m.nid_engine i new number within u ∙ ap (λ x. put (of_trains part none line states) m.nid_engine x u) same
+  part_set : {X : Type 0} (part : TrainState → X) (none value : X) → part new ≡ value → (u : ℕ) → of_trains part none line (set states i new) u ≡ put (of_trains part none line states) t value u
+  part_set part none value same u = of_trains-set part none line states t i new number within u ∙ ap (λ x. put (of_trains part none line states) t x u) same
 
-  next_said : of_trains (λ p. p.said) 0 line states m.nid_engine + 1 ≡ old.said + 1
+  next_said : of_trains (λ p. p.said) 0 line states t + 1 ≡ old.said + 1
   next_said = ap (λ n. n + 1) (kept_of (λ p. p.said) 0)
 
-  abbrev saying_with : ℕ → Saying
-  saying_with count = record { nid_engine = m.nid_engine; message = record { t_train = count; nid_lrbg = unknown_group; body = SystemVersion } }
+  abbrev says : centre.Centre → List Saying → Reply
+  says k sayings = record { state = k; frames = λ d. []; sayings = sayings; words = [] }
 
-  abbrev initiation : Reply
-  initiation = (hear m >> answered line c m InitiationOfSession) (stands_for line c clock pages states)
-
-  initiated_state : IsInitiated m old new → stands_for line c clock pages (set states i new) ≡ initiation.state
-  unfolding stands_for centre.beginning ◌>>◌
-  initiated_state done = λ k. record (stands_for line c clock pages states) {
-    phase = λ u. (part_set (λ p. phase_of p.phase) centre.Silent centre.Opened done.phase u
-        ∙ sym (put_over m.nid_engine centre.Opened centre.Silent (of_trains (λ p. phase_of p.phase) centre.Silent line states) u)) k;
-    heard = λ u. part_set (λ p. p.heard) None (Some m.t_train) done.heard u k;
-    said = λ u. part_set (λ p. p.said) 0 (of_trains (λ p. p.said) 0 line states m.nid_engine + 1) (done.said ∙ sym next_said) u k;
-    mission = λ u. sym (put_none {X = Option centre.Mission} m.nid_engine None u) k;
+  pub reply_stands : (t_train : ℕ) (phase : centre.Phase) (answer : Option TrackBody) → IsHeard t_train phase answer old new
+      → says (stands_for line c clock pages (set states i new)) (sayings_with t answer (old.said + 1)) ≡ replied t answer (after (stands_for line c clock pages states) t_train t phase)
+  unfolding stands_for centre.beginning
+  reply_stands t_train phase (Some body) h = λ j. record {
+    state = record (stands_for line c clock pages states) {
+      phase = λ u. part_set (λ p. phase_of p.phase) centre.Silent phase h.phase_is u j;
+      heard = λ u. part_set (λ p. p.heard) None (Some t_train) h.heard u j;
+      said = λ u. part_set (λ p. p.said) 0 (of_trains (λ p. p.said) 0 line states t + 1) (h.said ∙ sym next_said) u j;
+    };
+    frames = λ d. [];
+    sayings = saying t (sym next_said j) body ∷ [];
+    words = [];
+  }
+  reply_stands t_train phase None h = λ j. record {
+    state = record (stands_for line c clock pages states) {
+      phase = λ u. part_set (λ p. phase_of p.phase) centre.Silent phase h.phase_is u j;
+      heard = λ u. part_set (λ p. p.heard) None (Some t_train) h.heard u j;
+      said = λ u. (part_set (λ p. p.said) 0 old.said h.said u ∙ put_same t old.said (of_trains (λ p. p.said) 0 line states) (kept_of (λ p. p.said) 0) u) j;
+    };
+    frames = λ d. [];
+    sayings = [];
+    words = [];
   }
 
-  initiated_saying : (saying : Saying) → saying ≡ saying_with (old.said + 1) → saying ∷ [] ≡ initiation.sayings
-  unfolding stands_for centre.beginning ◌>>◌
-  initiated_saying saying say = ap (λ (x : Saying). x ∷ []) (say ∙ ap saying_with (sym next_said))
-
-  abbrev says_one : centre.Centre → Saying → Reply
-  says_one k saying = record { state = k; frames = λ d. []; sayings = saying ∷ []; words = [] }
-
-  initiated_reply : (saying : Saying) → IsInitiated m old new → saying ≡ saying_with (old.said + 1) → says_one (stands_for line c clock pages (set states i new)) saying ≡ initiation
-  unfolding ◌>>◌ stands_for centre.beginning
-  initiated_reply saying done say = λ k. record { state = initiated_state done k; frames = λ d. []; sayings = initiated_saying saying say k; words = [] }
-
-  pub initiation_stands : (saying : Saying) → m.body ≡ InitiationOfSession → IsInitiated m old new → saying ≡ saying_with (old.said + 1)
-      → says_one (stands_for line c clock pages (set states i new)) saying ≡ step.hear_and_answer line c m (stands_for line c clock pages states)
-  initiation_stands saying body done say =
-      initiated_reply saying done say ∙ ap (λ b. (hear m >> answered line c m b) (stands_for line c clock pages states)) (sym body)
-
--- the four changes of a train's state in turn
-pub initiated : (m : TrainMessage) (old heard closed opened counted : TrainState) (t n : ℕ) → t ≡ m.t_train → heard ≡ record old { heard = Some t } → closed ≡ record heard { phase = NoSession }
-    → opened ≡ record closed { phase = Opened } → counted ≡ record opened { said = n } → n ≡ opened.said + 1 → IsInitiated m old counted
-initiated m old heard closed opened counted t n time h c o k next = record {
-  phase = ap (λ (p : TrainState). phase_of p.phase) k ∙ ap (λ (p : TrainState). phase_of p.phase) o;
-  heard = ap (λ (p : TrainState). p.heard) k ∙ ap (λ (p : TrainState). p.heard) o ∙ ap (λ (p : TrainState). p.heard) c ∙ ap (λ (p : TrainState). p.heard) h ∙ ap (λ x. Some x) time;
-  said = ap (λ (p : TrainState). p.said) k ∙ next ∙ ap (λ (p : TrainState). p.said + 1) o ∙ ap (λ (p : TrainState). p.said + 1) c ∙ ap (λ (p : TrainState). p.said + 1) h;
-}
-
-pub saying_counts : (m : TrainMessage) (old counted : TrainState) (n t : ℕ) → IsInitiated m old counted → counted.said ≡ n → t ≡ m.nid_engine
-    → ◌≡◌ {A = Saying} (record { nid_engine = t; message = record { t_train = n; nid_lrbg = unknown_group; body = SystemVersion } })
-    (record { nid_engine = m.nid_engine; message = record { t_train = old.said + 1; nid_lrbg = unknown_group; body = SystemVersion } })
-saying_counts m old counted n t done count engine = λ k. record {
-  nid_engine = engine k;
-  message = record { t_train = (sym count ∙ done.said) k; nid_lrbg = unknown_group; body = SystemVersion };
-}
+-- no train is under way
+pub idle_for : (line : Line) (c clock : ℕ) (pages : Pages) (states : List TrainState) (t : ℕ) → IsIdleFor (stands_for line c clock pages states) t
+unfolding stands_for centre.beginning
+idle_for line c clock pages states t = record { mission = refl; wait = refl; expects = λ d. refl }
 
 -- the number of a train of the line is one of those kept
 pub number_within : (line : Line) (states : List TrainState) (t i : ℕ) → train_number line t ≡ Some i → length states ≡ length line.trains → i < length states
 number_within line states t i h each = let w = position-Some (λ (q : TrainOfLine). q.nid_engine == t) line.trains i (record { nid_engine = 0; registrar = 0 }) h in omega (arith, w.0)
-
--- ## Silence
-
-module _ (line : Line) (c : ℕ) (m : TrainMessage) (k : centre.Centre) (initiates : m.body ≡ InitiationOfSession) where
-  -- where no reason holds, and where one does
-  pub silence_by : (foreign stale : Bool) → is_none (train_number line m.nid_engine) ≡ foreign → step.is_stale m.t_train (k.heard m.nid_engine) ≡ stale
-      → step.silence line c k m ≡ cond foreign (Some ForeignEngine) (cond stale (Some StaleStamp) None)
-  silence_by foreign stale f s =
-      ap (λ b. find (step.holds line c k m) (step.reasons_of b)) initiates ∙ rw (f, s) refl
 
 -- ## The step of a message
 
@@ -153,7 +129,7 @@ spoken stamp sayings silence = record { stamp = stamp; sayings = sayings; frames
 
 pub silent_stands : (line : Line) (c clock : ℕ) (pages : Pages) (states : List TrainState) (m : TrainMessage) (reason : Reason) (outcome : Outcome)
     → outcome ≡ spoken (clock + 1) [] (Some reason) → step.silence line c (stands_for line c (clock + 1) pages states) m ≡ Some reason
-    → (outcome, stands_for line c (clock + 1) pages states) ≡ step.taken line c (Train m) (stands_for line c clock pages states)
+    → (outcome, stands_for line c (clock + 1) pages states) ≡ step.taken Sessions line c (Train m) (stands_for line c clock pages states)
 unfolding stands_for centre.beginning
 silent_stands line c clock pages states m reason outcome o h =
     ap (λ (x : Outcome). (x, stands_for line c (clock + 1) pages states)) o ∙ rw h refl
@@ -161,9 +137,9 @@ silent_stands line c clock pages states m reason outcome o h =
 -- the centre that an answer leaves stands for a state that has sent no frame
 pub answer_stands : (line new_line : Line) (c d clock stamp new_clock : ℕ) (pages after : Pages) (states left : List TrainState) (m : TrainMessage) (sayings : List Saying) (outcome : Outcome)
     → outcome ≡ spoken stamp sayings None → stamp ≡ clock + 1
-    → record { state = stands_for new_line d new_clock after left; frames = λ d. []; sayings = sayings; words = [] } ≡ step.hear_and_answer line c m (stands_for line c (clock + 1) pages states)
+    → record { state = stands_for new_line d new_clock after left; frames = λ d. []; sayings = sayings; words = [] } ≡ step.hear_and_answer Sessions line c m (stands_for line c (clock + 1) pages states)
     → step.silence line c (stands_for line c (clock + 1) pages states) m ≡ None
-    → (outcome, stands_for new_line d new_clock after left) ≡ step.taken line c (Train m) (stands_for line c clock pages states)
+    → (outcome, stands_for new_line d new_clock after left) ≡ step.taken Sessions line c (Train m) (stands_for line c clock pages states)
 unfolding stands_for centre.beginning
 answer_stands line new_line c d clock stamp new_clock pages after states left m sayings outcome o s r h =
     ap (λ (x : Outcome). (x, stands_for new_line d new_clock after left)) (o ∙ ap (λ n. spoken n sayings None) s)
@@ -179,7 +155,7 @@ told stamp word = record { stamp = stamp; sayings = []; frames = λ d. []; words
 
 module _ (line : Line) (c clock : ℕ) (old new : Pages) (states : List TrainState) (s : ℕ) (outcome : Outcome) where
   abbrev Stands : Event → Type 0
-  Stands event = (outcome, stands_for line c (clock + 1) new states) ≡ step.taken line c event (stands_for line c clock old states)
+  Stands event = (outcome, stands_for line c (clock + 1) new states) ≡ step.taken Sessions line c event (stands_for line c clock old states)
 
   -- a section that is in no use is released, or taken back
   pub set_stands : is_own old s ≡ is_home line c s → is_own old s ≡ true → is_unused (entry_at old s) ≡ true
@@ -221,23 +197,32 @@ module _ (line : Line) (c clock : ℕ) (old new : Pages) (states : List TrainSta
 
 -- ## Which messages are silent
 
-module _ (line : Line) (c clock : ℕ) (pages : Pages) (states : List TrainState) (m : TrainMessage) (initiates : m.body ≡ InitiationOfSession) where
-  pub foreign_silence : train_number line m.nid_engine ≡ None → step.silence line c (stands_for line c clock pages states) m ≡ Some ForeignEngine
-  foreign_silence none = silence_by line c m (stands_for line c clock pages states) initiates true _ (ap is_none none) refl
+module _ (line : Line) (c clock : ℕ) (pages : Pages) (states : List TrainState) (m : TrainMessage) where
+  abbrev k : centre.Centre
+  k = stands_for line c clock pages states
 
-  heard_of : (i : ℕ) (state : TrainState) → train_number line m.nid_engine ≡ Some i → slice_get states i ≡ Some state → (stands_for line c clock pages states).heard m.nid_engine ≡ state.heard
-  unfolding stands_for
-  heard_of i state number at =
-      ap (λ n. option_map_or (λ (p : TrainState). p.heard) (option_and_then (λ j. slice_get states j) n) None) number ∙ ap (λ o. option_map_or (λ (p : TrainState). p.heard) o None) at
+  abbrev idle : IsIdleFor k m.nid_engine
+  idle = idle_for line c clock pages states m.nid_engine
 
-  pub known_silence : (i : ℕ) (state : TrainState) (stale : Bool) → train_number line m.nid_engine ≡ Some i → slice_get states i ≡ Some state → step.is_stale m.t_train state.heard ≡ stale
-      → step.silence line c (stands_for line c clock pages states) m ≡ cond stale (Some StaleStamp) None
-  known_silence i state stale number at s =
-      silence_by line c m (stands_for line c clock pages states) initiates false stale (ap is_none number) (ap (step.is_stale m.t_train) (heard_of i state number at) ∙ s)
+  pub foreign_is_silent : train_number line m.nid_engine ≡ None → step.silence line c k m ≡ Some ForeignEngine
+  foreign_is_silent none = foreign_silence line c k m.t_train m.nid_engine idle m.body (ap is_none none)
 
--- the one message that is read is an initiation
-pub initiates : (body : msgs.TrainBody) → step_body body ≡ InitiationOfSession
-initiates msgs.InitiationOfSession = refl
+  module _ (i : ℕ) (state : TrainState) (number : train_number line m.nid_engine ≡ Some i) (at : slice_get states i ≡ Some state) where
+    heard_of : k.heard m.nid_engine ≡ state.heard
+    unfolding stands_for
+    heard_of = ap (λ n. option_map_or (λ (p : TrainState). p.heard) (option_and_then (λ j. slice_get states j) n) None) number ∙ ap (λ o. option_map_or (λ (p : TrainState). p.heard) o None) at
+
+    pub phase_is : k.phase m.nid_engine ≡ phase_of state.phase
+    unfolding stands_for
+    phase_is = ap (λ n. option_map_or (λ (p : TrainState). phase_of p.phase) (option_and_then (λ j. slice_get states j) n) centre.Silent) number
+        ∙ ap (λ o. option_map_or (λ (p : TrainState). phase_of p.phase) o centre.Silent) at
+
+    pub stale_is_silent : step.is_stale m.t_train state.heard ≡ true → step.silence line c k m ≡ Some StaleStamp
+    stale_is_silent s = stale_silence line c k m.t_train m.nid_engine idle m.body (ap is_none number) (ap (step.is_stale m.t_train) heard_of ∙ s)
+
+    pub timely_is_silent : (rule : Rule) → step.is_stale m.t_train state.heard ≡ false → session_rule (phase_of state.phase) m.body ≡ rule → step.silence line c k m ≡ reason_in rule
+    timely_is_silent rule s r =
+        timely_silence line c k m.t_train m.nid_engine idle (phase_of state.phase) m.body (ap is_none number) (ap (step.is_stale m.t_train) heard_of ∙ s) phase_is ∙ ap reason_in r
 
 -- ## The whole step
 
@@ -258,10 +243,6 @@ next_stamp k _ (of_set s) = refl
 next_stamp k _ (of_unset s) = refl
 
 -- no link is full where no frame was sent
-none_of : (ds : List ℕ) → list_any (λ d. false) ds ≡ false
-none_of [] = refl
-none_of (d ∷ ds) = none_of ds
-
 and_false : (b : Bool) → (b && false) ≡ false
 and_false true = refl
 and_false false = refl
@@ -285,14 +266,14 @@ unfolding stands_for
 clock_of line c clock pages states = refl
 
 pub refused_step : (line : Line) (event : Event) (c clock : ℕ) (pages : Pages) (states : List TrainState) → BringsNoFrame event → 1073741823 ≤ clock
-    → step.step line c event (stands_for line c clock pages states) ≡ Err step.ClockEnd
+    → step.step Sessions line c event (stands_for line c clock pages states) ≡ Err step.ClockEnd
 unfolding step.step
 refused_step line event c clock pages states brings late =
     let k = stands_for line c clock pages states in
     rw (refusal_at_end line event c k brings (rw (clock_of line c clock pages states) late)) refl
 
 pub taken_step : (line : Line) (event : Event) (c clock : ℕ) (pages : Pages) (states : List TrainState) (p : Outcome × centre.Centre) → BringsNoFrame event → clock < 1073741823
-    → p ≡ step.taken line c event (stands_for line c clock pages states) → step.step line c event (stands_for line c clock pages states) ≡ Ok p
+    → p ≡ step.taken Sessions line c event (stands_for line c clock pages states) → step.step Sessions line c event (stands_for line c clock pages states) ≡ Ok p
 unfolding step.step
 taken_step line event c clock pages states p brings early t = rw (no_refusal line event c clock pages states brings early) (ap (λ q. Ok q) (sym t))
 

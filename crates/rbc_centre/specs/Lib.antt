@@ -1,3 +1,5 @@
+pub mod Reasons
+pub mod Sessions
 pub mod Views
 pub mod State
 pub mod Meaning

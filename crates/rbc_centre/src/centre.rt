@@ -1,20 +1,23 @@
-ghost use Rattle.std.specs.Prelude.{◌≡◌, ◌+◌, ◌≤◌, ◌<◌, ℕ, slice_get, true, length, IfOk, OnErr, Some, [], ◌∷◌};
+ghost use Rattle.std.specs.Prelude.{◌≡◌, ◌+◌, ◌≤◌, ◌<◌, ℕ, slice_get, true, false, length, IfOk, OnErr, Some, Ok, []};
 ghost use Rattle.rbc_spec.specs.Line.{is_centre, is_home, train_number};
-ghost use Rattle.rbc_book.specs.Book.{is_own, entry_at};
+ghost use Rattle.rbc_book.specs.Book.{is_own, entry_at, wish_at};
 ghost use Rattle.rbc_spec.specs.Centre.{is_unused};
 ghost use Rattle.rbc_book.specs.Entries.{entry_of};
 ghost use Rattle.rbc_spec.specs.Centre.{beginning};
 ghost use Rattle.rbc_spec.specs.Step as spec;
-ghost use Rattle.rbc_initiation.specs.Step.{step_message};
+ghost use Rattle.rbc_spec.specs.Reach.{Sessions};
+ghost use Rattle.rbc_msgs.specs.StepMessage.{step_body, step_message};
+ghost use Rattle.rbc_centre.specs.Sessions.{session_rule};
 ghost use Rattle.rbc_centre.specs.declared.train.TrainState.{TrainState};
 
 use crate::event::Event;
 use crate::fault::StepFault;
 use crate::outcome::{Outcome, Saying, Silence, Word};
+use crate::session_act::SessionAct;
 use crate::train::TrainState;
 use rbc_book::{Book, NotHome, Page, Unset};
-use rbc_initiation::{TrackBody, TrainBody, TrainMsg};
 use rbc_line::Line;
+use rbc_msgs::TrainMsg;
 use std::alloc::{AllocError, Global};
 
 /// The greatest stamp of a step.
@@ -34,13 +37,14 @@ pub struct Centre {
     ghost in_time: { clock ≤ 1073741823 },
     ghost own_sections: { (s : ℕ) → is_own book s ≡ is_home line number s },
     ghost none_in_use: { (s : ℕ) → is_unused (entry_at book s) ≡ true },
+    ghost none_wished: { (s : ℕ) → wish_at book s ≡ false },
     ghost each_train: { length trains.items ≡ length line.trains },
     ghost counted: { (i : ℕ) → (p : TrainState) → slice_get trains.items i ≡ Some p → p.said ≤ clock },
 }
 
 impl Centre {
     ghost use Rattle.rbc_centre.specs.Meaning.{line_of, number_of, meaning};
-    ghost use Rattle.rbc_centre.specs.Views.{event_of, outcome_of, saying_of};
+    ghost use Rattle.rbc_centre.specs.Views.{event_of, outcome_of, sayings_of};
     ghost use Rattle.rbc_centre.specs.State.{phase_of};
     ghost use Rattle.rbc_centre.specs.Answer.{Steps};
 
@@ -94,7 +98,7 @@ impl Centre {
         ensures line { line_of self.new ≡ line_of self.old }
         ensures number { number_of self.new ≡ number_of self.old }
         ensures exact { Steps (λ o. (outcome_of o, meaning self.new)) result
-            (spec.step (line_of self.old) (number_of self.old) (event_of event.now) (meaning self.old)) }
+            (spec.step Sessions (line_of self.old) (number_of self.old) (event_of event.now) (meaning self.old)) }
         ensures err { OnErr result (meaning self.new ≡ meaning self.old) }
     {
         if self.clock >= LAST_STAMP {
@@ -113,7 +117,7 @@ impl Centre {
         ensures line { line_of self.new ≡ line_of self.old }
         ensures number { number_of self.new ≡ number_of self.old }
         ensures exact { (outcome_of result, meaning self.new)
-            ≡ spec.taken (line_of self.old) (number_of self.old) (spec.Set s) (meaning self.old) }
+            ≡ spec.taken Sessions (line_of self.old) (number_of self.old) (spec.Set s) (meaning self.old) }
     {
         self.clock += 1;
         match self.book.set(s) {
@@ -128,7 +132,7 @@ impl Centre {
         ensures line { line_of self.new ≡ line_of self.old }
         ensures number { number_of self.new ≡ number_of self.old }
         ensures exact { (outcome_of result, meaning self.new)
-            ≡ spec.taken (line_of self.old) (number_of self.old) (spec.Unset s) (meaning self.old) }
+            ≡ spec.taken Sessions (line_of self.old) (number_of self.old) (spec.Unset s) (meaning self.old) }
     {
         self.clock += 1;
         match self.book.unset(s) {
@@ -144,41 +148,42 @@ impl Centre {
         ensures line { line_of self.new ≡ line_of self.old }
         ensures number { number_of self.new ≡ number_of self.old }
         ensures exact { (outcome_of result, meaning self.new)
-            ≡ spec.taken (line_of self.old) (number_of self.old) (spec.Train (step_message message.now)) (meaning self.old) }
+            ≡ spec.taken Sessions (line_of self.old) (number_of self.old) (spec.Train (step_message message.now)) (meaning self.old) }
     {
         self.clock += 1;
         let Some(i) = self.line.train_number(message.nid_engine()) else {
             return Outcome::silent(self.clock, Silence::ForeignEngine);
         };
-        if self.trains[i as usize].is_stale(message.t_train()) {
+        let train = self.trains[i as usize];
+        if train.is_stale(message.t_train()) {
             return Outcome::silent(self.clock, Silence::StaleStamp);
         }
-        let saying = self.answer(i as usize, message);
-        Outcome::said(self.clock, saying)
+        match train.phase.act_on(message.body()) {
+            Ok(act) => Outcome::said(self.clock, self.answer(i as usize, message, act)),
+            Err(why) => Outcome::silent(self.clock, why),
+        }
     }
 
     // The answer to a message that is not silent, from train number i of the line.
-    fn answer(&mut self, i: usize, message: &TrainMsg) -> Saying
+    fn answer(&mut self, i: usize, message: &TrainMsg, act: SessionAct) -> Option<Saying>
         requires number { train_number (line_of self.old) message.now.nid_engine ≡ Some i }
         requires time { (p : TrainState) → slice_get self.old.trains.items i ≡ Some p → p.said < self.old.clock }
+        requires rule { session_rule ((meaning self.old).phase message.now.nid_engine) (step_body message.now.body) ≡ Ok act }
         ensures line { line_of self.new ≡ line_of self.old }
         ensures number { number_of self.new ≡ number_of self.old }
         ensures clock { self.new.clock ≡ self.old.clock }
-        ensures exact { record { state = meaning self.new; frames = λ d. []; sayings = saying_of result ∷ []; words = [] }
-            ≡ spec.hear_and_answer (line_of self.old) (number_of self.old) (step_message message.now) (meaning self.old) }
+        ensures exact { record { state = meaning self.new; frames = λ d. []; sayings = sayings_of result; words = [] }
+            ≡ spec.hear_and_answer Sessions (line_of self.old) (number_of self.old) (step_message message.now) (meaning self.old) }
     {
         let train = &mut self.trains[i];
-        train.hear(message.t_train());
-        match message.body() {
-            TrainBody::InitiationOfSession => {
-                train.close_session();
-                train.open_session();
-                Saying::of_count(
-                    message.nid_engine(),
-                    train.count_message(),
-                    TrackBody::SystemVersion,
-                )
-            }
+        train.hear(message.t_train(), act.phase_after(train.phase));
+        match act.answer() {
+            Some(body) => Some(Saying::of_count(
+                message.nid_engine(),
+                train.count_message(),
+                body,
+            )),
+            None => None,
         }
     }
 }

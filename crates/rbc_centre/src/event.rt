@@ -1,7 +1,7 @@
-use rbc_initiation::TrainMsg;
+use rbc_msgs::TrainMsg;
 
 /// What a step of a centre takes.
-#[derive(Clone, Copy, Debug, PartialEq, Eq)]
+#[derive(Debug, Drop)]
 pub enum Event {
     /// A train's message.
     Train(TrainMsg),

@@ -1,4 +1,4 @@
-//! One radio block centre: its state, and the step that takes a train's message to an answer. The rules are
+//! One radio block centre: its state, and the step that takes an event to an answer. The rules are
 //! `rbc_spec.specs.Centre`; the contract of `Centre::step` is one equation with the step defined there.
 #![tactic(auto)]
 
@@ -6,6 +6,7 @@ mod centre;
 mod event;
 mod fault;
 mod outcome;
+mod session_act;
 mod train;
 
 pub use centre::{Centre, LAST_STAMP};

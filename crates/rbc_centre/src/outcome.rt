@@ -1,22 +1,27 @@
 ghost use Rattle.std.specs.Prelude.{◌≡◌, ◌<◌, [], ◌∷◌, Some, None};
 ghost use Rattle.rbc_spec.specs.Message.{unknown_group};
-ghost use Rattle.rbc_initiation.specs.Bodies.{track_body};
-ghost use Rattle.rbc_initiation.specs.Step.{said_body};
+ghost use Rattle.rbc_msgs.specs.Bodies.{track_body};
 
 use arrayvec::ArrayVec;
-use rbc_initiation::{NID_LRBG_UNKNOWN, TrackBody, TrackMsg};
+use rbc_msgs::{NID_LRBG_UNKNOWN, TrackBody, TrackMsg};
 
 /// Why a train's message is left without an answer.
 #[derive(Clone, Copy, Debug, PartialEq, Eq)]
 pub enum Silence {
     /// Its T_TRAIN is not above the last that the centre has heard of the train (3.16.3).
     StaleStamp = 1,
+    /// No session stands with the train (3.5.3).
+    NoSession = 2,
     /// The train is not of the line.
     ForeignEngine = 3,
+    /// The train is not supervised by this centre.
+    NotSupervised = 5,
+    /// The session is up already, or not up yet (3.5.3).
+    WrongPhase = 10,
 }
 
 impl Silence {
-    ghost use Rattle.rbc_centre.specs.Views.{number_of_silence};
+    ghost use Rattle.rbc_centre.specs.Reasons.{number_of_silence};
 
     /// The number that is printed.
     pub fn number(self) -> u8
@@ -39,7 +44,7 @@ impl Saying {
     /// A message that names no balise group, and counts so many to the train.
     pub(crate) fn of_count(nid_engine: u32, count: u32, body: TrackBody) -> Saying
         requires { count < 4294967295 }
-        ensures { saying_of result ≡ record { nid_engine = nid_engine; message = record { t_train = count; nid_lrbg = unknown_group; body = said_body (track_body body) } } }
+        ensures { saying_of result ≡ record { nid_engine = nid_engine; message = record { t_train = count; nid_lrbg = unknown_group; body = track_body body } } }
     {
         Saying {
             nid_engine,
@@ -90,7 +95,8 @@ pub struct Outcome {
 }
 
 impl Outcome {
-    ghost use Rattle.rbc_centre.specs.Views.{outcome_of, saying_of, word_of, reason_of};
+    ghost use Rattle.rbc_centre.specs.Views.{outcome_of, sayings_of, word_of};
+    ghost use Rattle.rbc_centre.specs.Reasons.{reason_of};
 
     /// A step that does not answer.
     pub(crate) fn silent(stamp: u32, why: Silence) -> Outcome
@@ -104,12 +110,14 @@ impl Outcome {
         }
     }
 
-    /// A step that answers with one message.
-    pub(crate) fn said(stamp: u32, saying: Saying) -> Outcome
-        ensures { outcome_of result ≡ record { stamp = stamp; sayings = saying_of saying ∷ []; frames = λ d. []; words = []; link = None; silence = None } }
+    /// A step that answers with one message or none.
+    pub(crate) fn said(stamp: u32, saying: Option<Saying>) -> Outcome
+        ensures { outcome_of result ≡ record { stamp = stamp; sayings = sayings_of saying; frames = λ d. []; words = []; link = None; silence = None } }
     {
         let mut sayings = ArrayVec::new();
-        sayings.push(saying);
+        if let Some(saying) = saying {
+            sayings.push(saying);
+        }
         Outcome {
             stamp,
             sayings,

@@ -39,22 +39,12 @@ impl TrainState {
         }
     }
 
-    pub(crate) fn hear(&mut self, t_train: u32)
-        ensures { self.new ≡ record self.old { heard = Some t_train } }
+    /// A message of this T_TRAIN is heard, which leaves the session in this phase.
+    pub(crate) fn hear(&mut self, t_train: u32, phase: Phase)
+        ensures { self.new ≡ record self.old { heard = Some t_train; phase = phase } }
     {
         self.heard = Some(t_train);
-    }
-
-    pub(crate) fn close_session(&mut self)
-        ensures { self.new ≡ record self.old { phase = Phase.NoSession } }
-    {
-        self.phase = Phase::NoSession;
-    }
-
-    pub(crate) fn open_session(&mut self)
-        ensures { self.new ≡ record self.old { phase = Phase.Opened } }
-    {
-        self.phase = Phase::Opened;
+        self.phase = phase;
     }
 
     /// Counts one more message to the train, and gives its T_TRAIN.

@@ -2,8 +2,8 @@
 
 use crate::fault::Fault;
 use rbc_centre::{Outcome, Saying, StepFault, Word};
-use rbc_initiation::encode_track;
 use rbc_line::Line;
+use rbc_msgs::encode_track;
 use rbc_world::{Answer, Mark, SectionView, World, WorldEvent};
 use std::alloc::Global;
 use std::io::Write;

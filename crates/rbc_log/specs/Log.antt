@@ -1,5 +1,6 @@
 -- A centre with its log.
 use Rattle.std.specs.Prelude.{◌≡◌, ℕ, ◌≤◌, ◌<◌, List, [], ◌∷◌, ◌++◌, length, map, Ok, Err}
+use Rattle.rbc_spec.specs.Reach.{Sessions}
 use Rattle.rbc_spec.specs.Outcome.{Outcome}
 use Rattle.rbc_spec.specs.Centre.{beginning}
 use Rattle.rbc_spec.specs.Step.{Event, step, ClockEnd as AtClockEnd}
@@ -27,7 +28,7 @@ IsReplaying l = Replays (line_of l.core) (number_of l.core) (beginning (line_of 
 pub record Appends (old new : LogValue) (event : Event) (outcome : Outcome) : Type 0 where
   pub room : length old.entries < most_entries
   pub entries : map entry_of new.entries ≡ map entry_of old.entries ++ record { centre = number_of old.core; event = event; outcome = outcome } ∷ []
-  pub core : step (line_of old.core) (number_of old.core) event (meaning old.core) ≡ Ok (outcome, meaning new.core)
+  pub core : step Sessions (line_of old.core) (number_of old.core) event (meaning old.core) ≡ Ok (outcome, meaning new.core)
   pub line : line_of new.core ≡ line_of old.core
   pub number : number_of new.core ≡ number_of old.core
 
@@ -42,5 +43,5 @@ pub record IsUnchanged (old new : LogValue) : Type 0 where
 abbrev pub IsRefusal : LogValue → Event → CommitFault → Type 0
 IsRefusal l event Memory = length l.entries < most_entries
 IsRefusal l event LinkFull = ⊥
-IsRefusal l event ClockEnd = (length l.entries < most_entries) × (step (line_of l.core) (number_of l.core) event (meaning l.core) ≡ Err AtClockEnd)
+IsRefusal l event ClockEnd = (length l.entries < most_entries) × (step Sessions (line_of l.core) (number_of l.core) event (meaning l.core) ≡ Err AtClockEnd)
 IsRefusal l event LogFull = most_entries ≤ length l.entries

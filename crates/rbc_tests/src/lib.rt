@@ -22,8 +22,6 @@ mod line_faults;
 #[cfg(test)]
 mod log;
 #[cfg(test)]
-mod messages;
-#[cfg(test)]
 mod sessions;
 #[cfg(test)]
 mod world;

@@ -3,6 +3,7 @@
 use Rattle.std.proofs.Common.{◌≡◌, ℕ, zero, suc, ◌-◌, Bool, true, false, cond, ◌==◌, Option, None, option_map, refl, ap, ◌∙◌, List, [], ◌∷◌, ◌++◌, drop, map, slice_get, Ok}
 use Rattle.std.specs.Option.{option_map_or}
 use Rattle.std.specs.List.{find, filter_map, flat_map}
+use Rattle.rbc_spec.specs.Reach.{Sessions}
 use Rattle.rbc_spec.specs.Line.{Line, section}
 use Rattle.rbc_spec.specs.Runs.{within}
 use Rattle.rbc_spec.specs.Frame.{Frame}
@@ -15,13 +16,15 @@ use Rattle.rbc_spec.specs.ReadOff.{read_off, mark_of, held_at, handed_over, fram
 pub record IsIdle (k : centre.Centre) : Type 0 where
   pub mission : (t : ℕ) → k.mission t ≡ None
   pub wait : (t : ℕ) → k.wait t ≡ None
+  pub expects : (d t : ℕ) → k.expects d t ≡ None
   pub sent : (d : ℕ) → k.sent d ≡ []
   pub unused : (s : ℕ) → centre.is_unused (k.book s) ≡ true
+  pub unwished : (s : ℕ) → k.wish s ≡ false
 
 -- a centre at its beginning
 pub begins_idle : (line : Line) (c : ℕ) → IsIdle (centre.beginning line c)
 unfolding centre.beginning
-begins_idle line c = record { mission = λ t. refl; wait = λ t. refl; sent = λ d. refl; unused = λ s. refl }
+begins_idle line c = record { mission = λ t. refl; wait = λ t. refl; expects = λ d t. refl; sent = λ d. refl; unused = λ s. refl; unwished = λ s. refl }
 
 -- ## Lists
 
@@ -98,6 +101,6 @@ module _ (line : Line) (w : World) (idle : (c : ℕ) → IsIdle (w.at c)) where
     | false ↦ ap (λ (fs : List Frame). slice_get fs (number - 1)) ((idle a).sent b)
   ]
 
-  pub none_delivered : (a b number : ℕ) → world_step line w (Delivery a b number) ≡ Ok (NotSent, w)
+  pub none_delivered : (a b number : ℕ) → world_step Sessions line w (Delivery a b number) ≡ Ok (NotSent, w)
   unfolding world_step
   none_delivered a b number = rw (no_frame a b number) refl

@@ -1,5 +1,9 @@
 pub mod Sight
 pub mod Idle
+pub mod Seen
+pub mod Starts
+pub mod Messages
+pub mod Told
 pub mod Pieces
 pub mod Whole
 pub mod Steps

@@ -1,6 +1,7 @@
 -- A run of a world as it goes on.
 use Rattle.std.proofs.Common.{◌≡◌, ℕ, ◌+◌, ◌<◌, ◌≤◌, zero, suc, List, [], ◌∷◌, ◌++◌, length, map, drop, get_or, Result, Ok, Err, refl, sym, ap, subst, ◌∙◌, append_assoc, append-nil, arith}
 use Rattle.std.specs.Result.{IfOk, IfErr}
+use Rattle.rbc_spec.specs.Reach.{Sessions}
 use Rattle.rbc_spec.specs.Line.{Line}
 use Rattle.rbc_spec.specs.Step.{Refusal, ClockEnd as AtClockEnd}
 use Rattle.rbc_spec.specs.LineCentre.{LineState, line_beginning}
@@ -19,32 +20,32 @@ with_front answers others = Ok (answers ++ others.0, others.1)
 
 -- after some of the events, with these answers to them, the world is w, and the rest is still to come
 pub record Reaches (line : Line) (all rest : List Event) (answers : List Answer) (w : World) : Type 0 where
-  pub same : world_run line (new_world line) all ≡ (world_run line w rest >>= with_front answers)
+  pub same : world_run Sessions line (new_world line) all ≡ (world_run Sessions line w rest >>= with_front answers)
 
 none_in_front : (r : Result (List Answer × World) Refusal) → r ≡ (r >>= with_front [])
 none_in_front (Ok p) = refl
 none_in_front (Err why) = refl
 
 pub at_start : (line : Line) (all : List Event) → Reaches line all all [] (new_world line)
-at_start line all = record { same = none_in_front (world_run line (new_world line) all) }
+at_start line all = record { same = none_in_front (world_run Sessions line (new_world line) all) }
 
 one_more : (answers : List Answer) (answer : Answer) (r : Result (List Answer × World) Refusal) → ((r >>= with_first answer) >>= with_front answers) ≡ (r >>= with_front (answers ++ answer ∷ []))
 one_more answers answer (Ok p) = ap (λ (front : List Answer). Ok (front, p.1)) (sym (append_assoc answers (answer ∷ []) p.0))
 one_more answers answer (Err why) = refl
 
 pub goes_on : (line : Line) (all rest : List Event) (answers : List Answer) (w : World) (event : Event) (answer : Answer) (new : World)
-    → Reaches line all (event ∷ rest) answers w → world_step line w event ≡ Ok (answer, new) → Reaches line all rest (answers ++ answer ∷ []) new
+    → Reaches line all (event ∷ rest) answers w → world_step Sessions line w event ≡ Ok (answer, new) → Reaches line all rest (answers ++ answer ∷ []) new
 goes_on line all rest answers w event answer new so_far s = record {
-  same = so_far.same ∙ ap (λ r. r >>= with_front answers) (whole_run line w event rest (answer, new) (world_run line new rest) s refl)
-      ∙ one_more answers answer (world_run line new rest);
+  same = so_far.same ∙ ap (λ r. r >>= with_front answers) (whole_run line w event rest (answer, new) (world_run Sessions line new rest) s refl)
+      ∙ one_more answers answer (world_run Sessions line new rest);
 }
 
-pub at_end : (line : Line) (all : List Event) (answers : List Answer) (w : World) → Reaches line all [] answers w → world_run line (new_world line) all ≡ Ok (answers, w)
+pub at_end : (line : Line) (all : List Event) (answers : List Answer) (w : World) → Reaches line all [] answers w → world_run Sessions line (new_world line) all ≡ Ok (answers, w)
 at_end line all answers w so_far =
     so_far.same ∙ ap (λ r. r >>= with_front answers) (run_of_none line w) ∙ ap (λ (front : List Answer). Ok (front, w)) (append-nil answers)
 
 pub stops : (line : Line) (all rest : List Event) (answers : List Answer) (w : World) (event : Event) (fault : StepFault)
-    → Reaches line all (event ∷ rest) answers w → IsRefusal fault (world_step line w event) → IsRefusal fault (world_run line (new_world line) all)
+    → Reaches line all (event ∷ rest) answers w → IsRefusal fault (world_step Sessions line w event) → IsRefusal fault (world_run Sessions line (new_world line) all)
 stops line all rest answers w event Memory so_far s = tt
 stops line all rest answers w event LinkFull so_far s = s
 stops line all rest answers w event ClockEnd so_far s =
@@ -85,17 +86,17 @@ ends_run line all answers w idle so_far = record {
 -- ## What a whole run is
 
 module _ {X : Type 0} (line : Line) (events : List Event) (answers : X → List Answer) (world : X → World) where
-  pub names_trains : (result : Result X StepFault) → Gives (λ o. (answers o, world o)) result (world_run line (new_world line) events) → IfOk result (λ o. (world o).trains ≡ all_named line events [])
+  pub names_trains : (result : Result X StepFault) → Gives (λ o. (answers o, world o)) result (world_run Sessions line (new_world line) events) → IfOk result (λ o. (world o).trains ≡ all_named line events [])
   unfolding new_world
   names_trains (Ok o) e = run_names line (new_world line) events (answers o) (world o) e
   names_trains (Err fault) e = tt
 
-  refused_by : (fault : StepFault) → IsRefusal fault (world_run line (new_world line) events) → IsRefusedRun line events fault
+  refused_by : (fault : StepFault) → IsRefusal fault (world_run Sessions line (new_world line) events) → IsRefusedRun line events fault
   refused_by Memory e = tt
   refused_by LinkFull e = e
   refused_by ClockEnd e = run_refused line events AtClockEnd (new_world line) e
 
-  pub is_refused : (result : Result X StepFault) → Gives (λ o. (answers o, world o)) result (world_run line (new_world line) events) → IfErr result (IsRefusedRun line events)
+  pub is_refused : (result : Result X StepFault) → Gives (λ o. (answers o, world o)) result (world_run Sessions line (new_world line) events) → IfErr result (IsRefusedRun line events)
   is_refused (Ok o) e = tt
   is_refused (Err fault) e = refused_by fault e
 

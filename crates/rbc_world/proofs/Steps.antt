@@ -4,10 +4,11 @@ use Rattle.std.specs.Result.{IfOk}
 use Rattle.std.specs.Option.{option_map_or}
 use Rattle.std.proofs.lemmas.Bool.Decides.{eqb_tells, nat_tests}
 use Rattle.std.proofs.lemmas.Option.{slice_get_past}
+use Rattle.rbc_spec.specs.Reach.{Sessions}
 use Rattle.rbc_spec.specs.Maps.{put}
 use Rattle.rbc_spec.specs.Line.{Line, Section, is_centre}
 use Rattle.rbc_spec.specs.LineCentre as line_centre
-use Rattle.rbc_spec.specs.Message.{TrainMessage, InitiationOfSession}
+use Rattle.rbc_spec.specs.Message.{TrainMessage}
 use Rattle.rbc_spec.specs.Outcome.{Outcome}
 use Rattle.rbc_spec.specs.Centre as centre
 use Rattle.rbc_spec.specs.Step as step
@@ -23,17 +24,17 @@ use Rattle.rbc_centre.specs.State as kept
 use Rattle.rbc_world.specs.Meaning.{centres_of, stands_for, AtBeginning}
 use Rattle.rbc_world.specs.View.{EachOf}
 use Rattle.rbc_world.specs.Answers.{Gives, IsRefusal}
-use Rattle.rbc_initiation.specs.Message as msgs
-use Rattle.rbc_initiation.specs.Step.{step_message, step_body}
-use Rattle.rbc_initiation.specs.Faults.{fault_number}
-use Rattle.rbc_initiation.specs.declared.fault.MsgFault.{MsgFault}
+use Rattle.rbc_msgs.specs.TrainText.{TrainText}
+use Rattle.rbc_msgs.specs.StepMessage.{step_message}
+use Rattle.rbc_msgs.specs.Faults.{fault_number}
+use Rattle.rbc_msgs.specs.declared.fault.MsgFault.{MsgFault}
 use Rattle.rbc_world.specs.Views.{answer_of, numbered}
 use Rattle.rbc_world.specs.declared.event.Answer.{Answer}
 use Rattle.rbc_world.specs.declared.event.WorldEvent.{WorldEvent}
 use Rattle.rbc_world.specs.declared.event.WorldEvent.TheVariants as event
 use Rattle.rbc_world.specs.Views.{event_of}
 use Rattle.rbc_world.proofs.Idle.{IsIdle, begins_idle, none_delivered}
-use Rattle.rbc_world.proofs.Pieces.{IsToday, initiates, unread, is_set, is_unset, delivered, world_step_goes}
+use Rattle.rbc_world.proofs.Pieces.{world_step_goes}
 
 -- ## Lists
 
@@ -95,21 +96,21 @@ each_kept P cs c new within holds each d j found = elim (eqb_tells d c) as (λ _
 module _ (line : Line) (cs : List Centre) (trains : List ℕ) (event : step.Event) (c : ℕ) (k new : Centre) (at : slice_get cs c ≡ Some k) (within : c < length cs)
     (of_line : one.line_of k ≡ line) (of_number : one.number_of k ≡ c) where
   -- the step of the definition is that of the centre
-  same_step : step.step line c event ((stands_for line cs trains).at c) ≡ step.step (one.line_of k) (one.number_of k) event (one.meaning k)
+  same_step : step.step Sessions line c event ((stands_for line cs trains).at c) ≡ step.step Sessions (one.line_of k) (one.number_of k) event (one.meaning k)
   unfolding stands_for
   same_step =
-      ap (λ l. step.step l c event (centres_of line cs c)) (sym of_line) ∙ ap (λ n. step.step (one.line_of k) n event (centres_of line cs c)) (sym of_number)
-      ∙ ap (step.step (one.line_of k) (one.number_of k) event) (centre_at line cs c k at)
+      ap (λ l. step.step Sessions l c event (centres_of line cs c)) (sym of_line) ∙ ap (λ n. step.step Sessions (one.line_of k) n event (centres_of line cs c)) (sym of_number)
+      ∙ ap (step.step Sessions (one.line_of k) (one.number_of k) event) (centre_at line cs c k at)
 
-  pub step_ok : (outcome : Outcome) (named after : List ℕ) → step.step (one.line_of k) (one.number_of k) event (one.meaning k) ≡ Ok (outcome, one.meaning new) → after ≡ named
-      → takes line (stands_for line cs trains) c named event ≡ Ok (Answered outcome, stands_for line (set cs c new) after)
+  pub step_ok : (outcome : Outcome) (named after : List ℕ) → step.step Sessions (one.line_of k) (one.number_of k) event (one.meaning k) ≡ Ok (outcome, one.meaning new) → after ≡ named
+      → takes Sessions line (stands_for line cs trains) c named event ≡ Ok (Answered outcome, stands_for line (set cs c new) after)
   unfolding stands_for
   step_ok outcome named after s same =
       ap (stepped (stands_for line cs trains) c named) (same_step ∙ s)
       ∙ (λ i. Ok (Answered outcome, record { at = λ d. sym (centres_of-set line cs c new within d) i; trains = sym same i }))
 
-  pub step_err : (named : List ℕ) (fault : StepFault) → one_step.IsRefusal fault (step.step (one.line_of k) (one.number_of k) event (one.meaning k))
-      → IsRefusal fault (takes line (stands_for line cs trains) c named event)
+  pub step_err : (named : List ℕ) (fault : StepFault) → one_step.IsRefusal fault (step.step Sessions (one.line_of k) (one.number_of k) event (one.meaning k))
+      → IsRefusal fault (takes Sessions line (stands_for line cs trains) c named event)
   step_err named Memory never = tt
   step_err named LinkFull never = never
   step_err named ClockEnd s = ap (stepped (stands_for line cs trains) c named) (same_step ∙ s)
@@ -126,34 +127,34 @@ is_centre_within line cs c each within = grind (arith, nat_tests)
 is_centre_past : (line : Line) (cs : List Centre) (c : ℕ) → length cs ≡ length line.centres → length cs ≤ c → is_centre line c ≡ false
 is_centre_past line cs c each past = grind (arith, nat_tests)
 
-pub no_centre : (line : Line) (w : World) (cs : List Centre) (c : ℕ) (read : Result TrainMessage ℕ) → length cs ≡ length line.centres → length cs ≤ c → world_step line w (Bytes c read) ≡ Ok (NoCentre, w)
+pub no_centre : (line : Line) (w : World) (cs : List Centre) (c : ℕ) (read : Result TrainMessage ℕ) → length cs ≡ length line.centres → length cs ≤ c → world_step Sessions line w (Bytes c read) ≡ Ok (NoCentre, w)
 unfolding world_step
 no_centre line w cs c read each past = rw (is_centre_past line cs c each past) refl
 
-pub at_centre : (line : Line) (w : World) (cs : List Centre) (c : ℕ) (read : Result TrainMessage ℕ) → length cs ≡ length line.centres → c < length cs → world_step line w (Bytes c read) ≡ reads line w c read
+pub at_centre : (line : Line) (w : World) (cs : List Centre) (c : ℕ) (read : Result TrainMessage ℕ) → length cs ≡ length line.centres → c < length cs → world_step Sessions line w (Bytes c read) ≡ reads Sessions line w c read
 unfolding world_step
 at_centre line w cs c read each within = rw (is_centre_within line cs c each within) refl
 
 pub told_within : (line : Line) (w : World) (cs : List Centre) (c : ℕ) (event : step.Event) → length cs ≡ length line.centres → c < length cs
-    → told_at line w c (takes line w c w.trains event) ≡ takes line w c w.trains event
+    → told_at line w c (takes Sessions line w c w.trains event) ≡ takes Sessions line w c w.trains event
 told_within line w cs c event each within = rw (is_centre_within line cs c each within) refl
 
 pub told_err : (line : Line) (cs : List Centre) (trains : List ℕ) (event : step.Event) (c : ℕ) (k new : Centre) → slice_get cs c ≡ Some k → c < length cs → one.line_of k ≡ line → one.number_of k ≡ c
-    → length cs ≡ length line.centres → (fault : StepFault) → one_step.IsRefusal fault (step.step (one.line_of k) (one.number_of k) event (one.meaning k))
-    → IsRefusal fault (told_at line (stands_for line cs trains) c (takes line (stands_for line cs trains) c (stands_for line cs trains).trains event))
+    → length cs ≡ length line.centres → (fault : StepFault) → one_step.IsRefusal fault (step.step Sessions (one.line_of k) (one.number_of k) event (one.meaning k))
+    → IsRefusal fault (told_at line (stands_for line cs trains) c (takes Sessions line (stands_for line cs trains) c (stands_for line cs trains).trains event))
 told_err line cs trains event c k new at within of_line of_number each fault s =
     rw (told_within line (stands_for line cs trains) cs c event each within)
     (step_err line cs trains event c k new at within of_line of_number (stands_for line cs trains).trains fault s)
 
 pub told_past : (line : Line) (w : World) (cs : List Centre) (c : ℕ) (event : step.Event) → length cs ≡ length line.centres → length cs ≤ c
-    → told_at line w c (takes line w c w.trains event) ≡ Ok (NoCentre, w)
+    → told_at line w c (takes Sessions line w c w.trains event) ≡ Ok (NoCentre, w)
 told_past line w cs c event each past = rw (is_centre_past line cs c each past) refl
 
-pub set_told : (line : Line) (w : World) (c s : ℕ) → world_step line w (Set c s) ≡ told_at line w c (takes line w c w.trains (step.Set s))
+pub set_told : (line : Line) (w : World) (c s : ℕ) → world_step Sessions line w (Set c s) ≡ told_at line w c (takes Sessions line w c w.trains (step.Set s))
 unfolding world_step
 set_told line w c s = refl
 
-pub unset_told : (line : Line) (w : World) (c s : ℕ) → world_step line w (Unset c s) ≡ told_at line w c (takes line w c w.trains (step.Unset s))
+pub unset_told : (line : Line) (w : World) (c s : ℕ) → world_step Sessions line w (Unset c s) ≡ told_at line w c (takes Sessions line w c w.trains (step.Unset s))
 unfolding world_step
 unset_told line w c s = refl
 
@@ -162,7 +163,7 @@ unset_told line w c s = refl
 -- what a centre stands for has no mission, no waiting start and no frame that was sent
 centre_idle : (k : Centre) → IsIdle (one.meaning k)
 unfolding kept.stands_for centre.beginning
-centre_idle k = record { mission = λ t. refl; wait = λ t. refl; sent = λ d. refl; unused = k.none_in_use }
+centre_idle k = record { mission = λ t. refl; wait = λ t. refl; expects = λ d t. refl; sent = λ d. refl; unused = k.none_in_use; unwished = k.none_wished }
 
 idle_by : (line : Line) (c : ℕ) (o : Option Centre) → IsIdle (option_map_or one.meaning o (centre.beginning line c))
 idle_by line c (Some k) = centre_idle k
@@ -172,40 +173,27 @@ pub world_idle : (line : Line) (cs : List Centre) (trains : List ℕ) (c : ℕ) 
 unfolding stands_for
 world_idle line cs trains c = idle_by line c (slice_get cs c)
 
-pub never_sent : (line : Line) (cs : List Centre) (trains : List ℕ) (from to number : ℕ) → world_step line (stands_for line cs trains) (Delivery from to number) ≡ Ok (NotSent, stands_for line cs trains)
+pub never_sent : (line : Line) (cs : List Centre) (trains : List ℕ) (from to number : ℕ) → world_step Sessions line (stands_for line cs trains) (Delivery from to number) ≡ Ok (NotSent, stands_for line cs trains)
 never_sent line cs trains from to number = none_delivered line (stands_for line cs trains) (world_idle line cs trains) from to number
 
 -- ## The piece
 
-initiation : (body : msgs.TrainBody) → step_body body ≡ InitiationOfSession
-initiation msgs.InitiationOfSession = refl
-
-read_today : (c : ℕ) (read : Result msgs.TrainMessage MsgFault) → IsToday (Bytes c (numbered read))
-read_today c (Ok m) = initiates c (step_message m) (initiation m.body)
-read_today c (Err fault) = unread c (fault_number fault)
-
-today : (e : WorldEvent) → IsToday (event_of e)
-today (event.Train c bytes) = read_today c _
-today (event.Set c s) = is_set c s
-today (event.Unset c s) = is_unset c s
-today (event.Deliver a b number) = delivered a b number
-
 pub step_piece : (line kept_line : Line) (cs left : List Centre) (trains named : List ℕ) (e : WorldEvent) (result : Result Answer StepFault)
-    → Gives (λ a. (answer_of a, stands_for kept_line left named)) result (world_step line (stands_for line cs trains) (event_of e))
+    → Gives (λ a. (answer_of a, stands_for kept_line left named)) result (world_step Sessions line (stands_for line cs trains) (event_of e))
     → IfOk result (λ a. Goes line (read_off line (stands_for line cs trains)) (event_of e) (answer_of a) (read_off line (stands_for kept_line left named)))
 step_piece line kept_line cs left trains named e (Ok a) s =
-    world_step_goes line (stands_for line cs trains) (stands_for kept_line left named) (event_of e) (answer_of a) (world_idle line cs trains) (world_idle kept_line left named) (today e) s
+    world_step_goes line (stands_for line cs trains) (stands_for kept_line left named) (event_of e) (answer_of a) (world_idle line cs trains) (world_idle kept_line left named) s
 step_piece line kept_line cs left trains named e (Err fault) s = tt
 
 -- ## Bytes that were read
 
-pub message_step : (line : Line) (w : World) (cs : List Centre) (c : ℕ) (read : Result msgs.TrainMessage MsgFault) (m : msgs.TrainMessage) → length cs ≡ length line.centres → c < length cs → read ≡ Ok m
-    → world_step line w (Bytes c (numbered read)) ≡ takes line w c (mention line m.nid_engine w.trains) (step.Train (step_message m))
-message_step line w cs c read m each within e = at_centre line w cs c (numbered read) each within ∙ ap (λ r. reads line w c (numbered r)) e
+pub message_step : (line : Line) (w : World) (cs : List Centre) (c : ℕ) (read : Result TrainText MsgFault) (m : TrainText) → length cs ≡ length line.centres → c < length cs → read ≡ Ok m
+    → world_step Sessions line w (Bytes c (numbered read)) ≡ takes Sessions line w c (mention line m.nid_engine w.trains) (step.Train (step_message m))
+message_step line w cs c read m each within e = at_centre line w cs c (numbered read) each within ∙ ap (λ r. reads Sessions line w c (numbered r)) e
 
-pub fault_step : (line : Line) (w : World) (cs : List Centre) (c : ℕ) (read : Result msgs.TrainMessage MsgFault) (fault : MsgFault) → length cs ≡ length line.centres → c < length cs → read ≡ Err fault
-    → world_step line w (Bytes c (numbered read)) ≡ Ok (Fault (fault_number fault), w)
-fault_step line w cs c read fault each within e = at_centre line w cs c (numbered read) each within ∙ ap (λ r. reads line w c (numbered r)) e
+pub fault_step : (line : Line) (w : World) (cs : List Centre) (c : ℕ) (read : Result TrainText MsgFault) (fault : MsgFault) → length cs ≡ length line.centres → c < length cs → read ≡ Err fault
+    → world_step Sessions line w (Bytes c (numbered read)) ≡ Ok (Fault (fault_number fault), w)
+fault_step line w cs c read fault each within e = at_centre line w cs c (numbered read) each within ∙ ap (λ r. reads Sessions line w c (numbered r)) e
 
 -- ## A row of centres
 

@@ -3,11 +3,11 @@ use Rattle.std.specs.Prelude.{ℕ, Result, Ok, Err}
 use Rattle.rbc_spec.specs.Message.{TrainMessage}
 use Rattle.rbc_spec.specs.World.{Event, Bytes, Set, Unset, Delivery}
 use Rattle.rbc_spec.specs.World as world
-use Rattle.rbc_initiation.specs.Message as msgs
-use Rattle.rbc_initiation.specs.Step.{step_message}
-use Rattle.rbc_initiation.specs.Faults.{fault_number}
-use Rattle.rbc_initiation.specs.TrainReading.{read_train}
-use Rattle.rbc_initiation.specs.declared.fault.MsgFault.{MsgFault}
+use Rattle.rbc_msgs.specs.TrainText.{TrainText}
+use Rattle.rbc_msgs.specs.StepMessage.{step_message}
+use Rattle.rbc_msgs.specs.Faults.{fault_number}
+use Rattle.rbc_msgs.specs.TrainReading.{read_train}
+use Rattle.rbc_msgs.specs.declared.fault.MsgFault.{MsgFault}
 use Rattle.rbc_centre.specs.Views.{outcome_of}
 use Rattle.rbc_world.specs.declared.event.WorldEvent.{WorldEvent}
 use Rattle.rbc_world.specs.declared.event.WorldEvent.TheVariants as event
@@ -15,7 +15,7 @@ use Rattle.rbc_world.specs.declared.event.Answer.{Answer}
 use Rattle.rbc_world.specs.declared.event.Answer.TheVariants as answer
 
 -- what a step reads of a message, or a fault by its number
-abbrev pub numbered : Result msgs.TrainMessage MsgFault → Result TrainMessage ℕ
+abbrev pub numbered : Result TrainText MsgFault → Result TrainMessage ℕ
 numbered (Ok m) = Ok (step_message m)
 numbered (Err fault) = Err (fault_number fault)
 

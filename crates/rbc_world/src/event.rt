@@ -1,5 +1,5 @@
 use rbc_centre::Outcome;
-use rbc_initiation::MsgFault;
+use rbc_msgs::MsgFault;
 
 /// What happens to the centres of a line.
 #[derive(Debug, Drop)]

@@ -1,4 +1,5 @@
 ghost use Rattle.std.specs.Prelude.{◌≡◌, ◌≢◌, [], map, IfOk, IfErr};
+ghost use Rattle.rbc_spec.specs.Reach.{Sessions};
 ghost use Rattle.rbc_spec.specs.World.{new_world, world_run, all_named, IsRefused};
 ghost use Rattle.rbc_spec.specs.ReadOff.{IsLineRun};
 ghost use Rattle.rbc_world.specs.World.{meaning};
@@ -39,14 +40,14 @@ impl World {
         ensures trains { IfOk result (λ o. (meaning o.world).trains ≡ all_named line.now (map event_of events.now) []) }
         // But for want of memory a run is refused exactly where one of its steps is.
         ensures refused { IfErr result (IsRefusedRun line.now (map event_of events.now)) }
-        ensures exact { Gives (λ o. (map answer_of o.answers.items, meaning o.world)) result (world_run line.now (new_world line.now) (map event_of events.now)) }
+        ensures exact { Gives (λ o. (map answer_of o.answers.items, meaning o.world)) result (world_run Sessions line.now (new_world line.now) (map event_of events.now)) }
     {
         World::outputs(alloc, line, events)
     }
 
     fn outputs(alloc: Global, line: &Line, events: &[WorldEvent]) -> Result<Outputs, StepFault>
         ensures run { IfOk result (λ o. IsLineRun line.now (map event_of events.now) (map answer_of o.answers.items) (meaning o.world)) }
-        ensures exact { Gives (λ o. (map answer_of o.answers.items, meaning o.world)) result (world_run line.now (new_world line.now) (map event_of events.now)) }
+        ensures exact { Gives (λ o. (map answer_of o.answers.items, meaning o.world)) result (world_run Sessions line.now (new_world line.now) (map event_of events.now)) }
     {
         let mut world = World::new(alloc, line)?;
         let mut answers = Vec::with_capacity(alloc, events.len())?;

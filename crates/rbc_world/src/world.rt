@@ -1,8 +1,9 @@
 ghost use Rattle.std.specs.Prelude.{◌≡◌, ◌<◌, ◌≤◌, ℕ, true, length, slice_get, IfOk, OnErr, Some};
 ghost use Rattle.rbc_spec.specs.World.{new_world, world_step, at_centre, takes, mention, Bytes};
 ghost use Rattle.rbc_spec.specs.Step.{Train};
-ghost use Rattle.rbc_initiation.specs.Step.{step_message};
-ghost use Rattle.rbc_initiation.specs.TrainReading.{read_train};
+ghost use Rattle.rbc_spec.specs.Reach.{Sessions};
+ghost use Rattle.rbc_msgs.specs.StepMessage.{step_message};
+ghost use Rattle.rbc_msgs.specs.TrainReading.{read_train};
 ghost use Rattle.indexmap.specs.IndexSet.{spare};
 ghost use Rattle.rbc_world.specs.Meaning.{AtBeginning};
 ghost use Rattle.rbc_spec.specs.Run.{Goes};
@@ -14,13 +15,14 @@ ghost use Rattle.rbc_centre.specs.Views.{event_of as one_event};
 use crate::event::{Answer, WorldEvent};
 use indexmap::IndexSet;
 use rbc_centre::{Centre, Event, StepFault};
-use rbc_initiation::{MsgFault, TrainMsg, decode_train};
 use rbc_line::Line;
+use rbc_msgs::{MsgFault, TrainMsg, decode_train};
 use std::alloc::{AllocError, Global};
 
 /// The centres of a line side by side.
 #[derive(Drop)]
 pub struct World {
+    alloc: Global,
     pub(crate) line: Line,
     pub(crate) centres: Vec<Centre>,
     /// The trains of the line that messages have named, in the order of first mention.
@@ -41,6 +43,7 @@ impl World {
         ensures beginning { IfOk result (λ w. meaning w ≡ new_world line.now) }
     {
         Ok(World {
+            alloc,
             line: line.copied(alloc)?,
             centres: centres_of(alloc, line)?,
             trains: IndexSet::new(alloc),
@@ -60,7 +63,7 @@ impl World {
         ensures line { line_of self.new ≡ line_of self.old }
         // What is answered and left is what the definition of a world's step gives.
         ensures exact { Gives (λ a. (answer_of a, meaning self.new)) result
-            (world_step (line_of self.old) (meaning self.old) (event_of event.now)) }
+            (world_step Sessions (line_of self.old) (meaning self.old) (event_of event.now)) }
         // It is one piece of the one line centre's run, or none.
         ensures piece { IfOk result (λ a. Goes (line_of self.old) (read_off (line_of self.old) (meaning self.old))
             (event_of event.now) (answer_of a) (read_off (line_of self.old) (meaning self.new))) }
@@ -72,7 +75,7 @@ impl World {
     fn take(&mut self, event: &WorldEvent) -> Result<Answer, StepFault>
         ensures line { line_of self.new ≡ line_of self.old }
         ensures exact { Gives (λ a. (answer_of a, meaning self.new)) result
-            (world_step (line_of self.old) (meaning self.old) (event_of event.now)) }
+            (world_step Sessions (line_of self.old) (meaning self.old) (event_of event.now)) }
         ensures err { OnErr result (meaning self.new ≡ meaning self.old) }
     {
         match event {
@@ -87,7 +90,7 @@ impl World {
     fn tell(&mut self, c: u8, event: &Event) -> Result<Answer, StepFault>
         ensures line { line_of self.new ≡ line_of self.old }
         ensures exact { Gives (λ a. (answer_of a, meaning self.new)) result
-            (at_centre (line_of self.old) (meaning self.old) c (takes (line_of self.old) (meaning self.old) c (meaning self.old).trains (one_event event.now))) }
+            (at_centre (line_of self.old) (meaning self.old) c (takes Sessions (line_of self.old) (meaning self.old) c (meaning self.old).trains (one_event event.now))) }
         ensures err { OnErr result (meaning self.new ≡ meaning self.old) }
     {
         if c as usize >= self.centres.len() {
@@ -101,13 +104,13 @@ impl World {
     fn receive(&mut self, c: u8, bytes: &[u8]) -> Result<Answer, StepFault>
         ensures line { line_of self.new ≡ line_of self.old }
         ensures exact { Gives (λ a. (answer_of a, meaning self.new)) result
-            (world_step (line_of self.old) (meaning self.old) (Bytes c (numbered (read_train bytes.now)))) }
+            (world_step Sessions (line_of self.old) (meaning self.old) (Bytes c (numbered (read_train bytes.now)))) }
         ensures err { OnErr result (meaning self.new ≡ meaning self.old) }
     {
         if c as usize >= self.centres.len() {
             return Ok(Answer::NoCentre);
         }
-        match decode_train(bytes) {
+        match decode_train(self.alloc, bytes) {
             Ok(message) => self.hear(c as usize, message),
             Err(MsgFault::Memory) => Err(StepFault::Memory),
             Err(fault) => Ok(Answer::Fault(fault)),
@@ -119,12 +122,13 @@ impl World {
         requires { c < length self.old.centres.items }
         ensures line { line_of self.new ≡ line_of self.old }
         ensures exact { Gives (λ a. (answer_of a, meaning self.new)) result
-            (takes (line_of self.old) (meaning self.old) c (mention (line_of self.old) message.nid_engine (meaning self.old).trains) (Train (step_message message))) }
+            (takes Sessions (line_of self.old) (meaning self.old) c (mention (line_of self.old) message.nid_engine (meaning self.old).trains) (Train (step_message message))) }
         ensures err { OnErr result (meaning self.new ≡ meaning self.old) }
     {
         self.trains.reserve(1)?;
+        let nid_engine = message.nid_engine();
         let outcome = self.centres[c].step(&Event::Train(message))?;
-        add_mention(&self.line, &mut self.trains, message.nid_engine());
+        add_mention(&self.line, &mut self.trains, nid_engine);
         Ok(Answer::Outcome(outcome))
     }
 }

@@ -4,7 +4,7 @@ use Rattle.std.proofs.lemmas.Option.{slice_get_read}
 use Rattle.std.proofs.lemmas.Result.{err_from_is_err_and}
 use Rattle.rbc_spec.specs.Step.{Train}
 use Rattle.rbc_spec.specs.World.{mention}
-use Rattle.rbc_initiation.specs.Step.{step_message}
+use Rattle.rbc_msgs.specs.StepMessage.{step_message}
 use Rattle.rbc_centre.specs.Meaning as one
 use Rattle.rbc_world.specs.Meaning.{stands_for}
 use Rattle.rbc_world.proofs.Steps.{step_ok, step_err, world_kept, each_kept}

@@ -1,5 +1,6 @@
 use Rattle.std.proofs.Common.{◌+◌, ◌∙◌, List, ap, sym, map, drop, subst}
 use Rattle.std.proofs.lemmas.Result.{err_from_is_err_and}
+use Rattle.rbc_spec.specs.Reach.{Sessions}
 use Rattle.rbc_spec.specs.Line.{Line}
 use Rattle.rbc_spec.specs.World.{Event, Answer, world_step}
 use Rattle.rbc_world.specs.World.{meaning}
@@ -21,7 +22,7 @@ returns-in_err-step-clause-exact c =
     let so_far = subst (λ (left : List Event). Reaches line (map event_of events) left (map answer_of c.loop-event.answers.items) (meaning c.loop-event.world))
     (map_drop event_of events c.loop-event.event-index item c.loop-event-test.true c.event-item.is) c.loop-event.invariant.reaches
     in
-    let refused = subst (λ (l : Line). IsRefusal c.in_err-step.field-0.0 (world_step l (meaning c.loop-event.world) (event_of item))) c.loop-event.invariant.line c.in_err-step.ensures.exact in
+    let refused = subst (λ (l : Line). IsRefusal c.in_err-step.field-0.0 (world_step Sessions l (meaning c.loop-event.world) (event_of item))) c.loop-event.invariant.line c.in_err-step.ensures.exact in
     rw (p.1, p.2) (stops line (map event_of events) rest _ _ (event_of item) c.in_err-step.field-0.0 so_far refused)
 
 pub loop-event-init : goal.loop-event-init
@@ -38,7 +39,7 @@ loop-event-preserved c =
     let so_far = subst (λ (left : List Event). Reaches line (map event_of events) left (map answer_of c.loop-event.answers.items) (meaning c.loop-event.world))
     (map_drop event_of events c.loop-event.event-index item c.loop-event-test.true c.event-item.is) c.loop-event.invariant.reaches
     in
-    let done = ap (λ (l : Line). world_step l (meaning c.loop-event.world) (event_of item)) (sym c.loop-event.invariant.line) ∙ c.in_ok-step.ensures.exact in
+    let done = ap (λ (l : Line). world_step Sessions l (meaning c.loop-event.world) (event_of item)) (sym c.loop-event.invariant.line) ∙ c.in_ok-step.ensures.exact in
     let more = goes_on line (map event_of events) rest (map answer_of c.loop-event.answers.items) (meaning c.loop-event.world) (event_of item) (answer_of c.in_ok-step.field-0) (meaning c.step.new.self) so_far done in
     let runs = subst (λ (left : List Event). RunsTo line (map event_of events) left (map answer_of c.loop-event.answers.items) (meaning c.loop-event.world))
     (map_drop event_of events c.loop-event.event-index item c.loop-event-test.true c.event-item.is) c.loop-event.invariant.runs

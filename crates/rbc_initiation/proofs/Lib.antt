@@ -1,4 +1,0 @@
-pub mod Spelled
-mod Steps
-pub mod TrainLaws
-pub mod TrackLaws

@@ -1,9 +1,0 @@
-use Rattle.rbc_initiation.proofs.TrainLaws.{train_spellings-apart}
-use Rattle.rbc_initiation.proofs.TrackLaws.{track_spellings-apart}
-use Rattle.rbc_initiation.proofs.laws.no_spelling_begins_another.Goals as goal
-
-pub returns-clause-train : goal.returns-clause-train
-returns-clause-train c = train_spellings-apart
-
-pub returns-clause-track : goal.returns-clause-track
-returns-clause-track c = track_spellings-apart
