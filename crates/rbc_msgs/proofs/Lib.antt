@@ -4,3 +4,4 @@ pub mod TrainLaws
 pub mod TrackLaws
 mod Further
 mod Lengths
+pub mod SameBits

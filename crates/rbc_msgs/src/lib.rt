@@ -13,7 +13,9 @@ mod track_reading;
 mod track_writing;
 mod train;
 mod train_body;
+mod train_copy;
 mod train_reading;
+mod train_same;
 mod train_writing;
 
 pub use decode::{decode_track, decode_train};
