@@ -4,4 +4,6 @@ pub mod TrainLaws
 pub mod TrackLaws
 mod Further
 mod Lengths
-pub mod SameBits
+mod SameBits
+pub mod Needed
+pub mod Streams

@@ -29,6 +29,7 @@ use Rattle.rbc_msgs.specs.Numbers.{train_of_number, least_train_length}
 use Rattle.rbc_msgs.specs.Layout.{length_limit, Begins, IsFilling, IsBytes}
 use Rattle.rbc_msgs.specs.TrainSpelling.{train_number, train_header, position_packet, packet_bits, train_body_bits, train_bits, train_length, TrainBodyFits, IsFurther, TrainFits, SpellsTrain}
 use Rattle.rbc_msgs.specs.TrainReading.{position_packet_at, data_packet_at, train_data_at, request_at, answered_at, start_of_mission_at, train_body_at, further_packet_at, further_at, read_train}
+use Rattle.rbc_msgs.specs.Streams.{l_message_at}
 use Rattle.rbc_msgs.proofs.Spelled.{is-filling, filled-from, filled-made, start-found, starts, starts-apart}
 use Rattle.rbc_msgs.proofs.Steps.{start_at-again, whole_at-again, time_at-again, required_at-again, end_at-again}
 
@@ -227,6 +228,14 @@ read_train-again bytes m s =
     let fill = is-filling bits in
     let rest = fillings (length bytes) m in
     rw (start_at-again bytes (train_number m.body) _ (omega arith) s.l_message (number-fits m.body) at, number-again m.body, whole_at-again (least_train_length (kind m.body)) bytes (train_number m.body) _ (least m.body (length bytes) wide) s.l_message (number-fits m.body) at, time_at-again m.t_train _ s.fits.t_train, field_at-field faults.Short 24 m.nid_engine _ s.fits.nid_engine, body-again m.body (flat_map packet_bits m.further ++ rest) s.fits.body, further-again (length (flat_map packet_bits m.further ++ rest)) m.further rest s.fits.further fill.0 (omega arith), end_at-again faults.Packet rest fill) refl
+
+-- L_MESSAGE is known from the front
+pub l_message_at-again : (bytes : List ℕ) (m : TrainText) → SpellsTrain bytes m → (10 ≤ length bytes) × (l_message_at bytes ≡ Ok (length bytes))
+unfolding l_message_at
+l_message_at-again bytes m s =
+    let wide : 74 + length (train_body_bits m.body) ≤ 8 * length bytes = omega (arith, length-filled bytes (train_bits (length bytes) m) s.text, length-bits (length bytes) m) in
+    let enough : ltb (length bytes) (least_train_length (kind m.body)) ≡ false = le-ltb _ _ (least m.body (length bytes) wide) in
+    (omega arith, rw (start_at-again bytes (train_number m.body) _ (omega arith) s.l_message (number-fits m.body) (starts-spelled bytes m s), number-again m.body, enough) refl)
 
 -- ---- what is written is a spelling
 

@@ -11,3 +11,5 @@ pub mod Reading
 pub mod TrainReading
 pub mod TrackReading
 pub mod StepMessage
+pub mod Streams
+pub mod StreamView

@@ -1,10 +1,10 @@
 ghost use Rattle.std.specs.Prelude.{◌≡◌};
-ghost use Rattle.rbc_msgs.specs.Faults.{fault_number};
+ghost use Rattle.rbc_msgs.specs.Faults.{fault_number, stream_fault_number};
 ghost use Rattle.rbc_msgs.specs.declared.fault.EncodeFault.TheVariants as encode;
 
 use rbc_bits::BitFault;
 use rbc_packets::PacketFault;
-use std::alloc::AllocFailed;
+use std::alloc::{AllocError, AllocFailed};
 
 /// Why bytes are no message that is read: the first fault in the order of the tests (profile).
 #[derive(Clone, Copy, Debug, PartialEq, Eq)]
@@ -51,6 +51,17 @@ impl From<PacketFault> for MsgFault {
     }
 }
 
+impl From<AllocError> for MsgFault {
+    ghost use Rattle.std.specs.Prelude.{◌≡◌};
+    ghost use Rattle.rbc_msgs.specs.declared.fault.MsgFault.TheVariants as msg;
+
+    ghost from_gives = { λ _ fault. fault ≡ msg.Memory };
+
+    fn from(_error: AllocError) -> MsgFault {
+        MsgFault::Memory
+    }
+}
+
 impl<T: Drop> From<AllocFailed<T>> for MsgFault {
     ghost use Rattle.std.specs.Prelude.{◌≡◌};
     ghost use Rattle.rbc_msgs.specs.declared.fault.MsgFault.TheVariants as msg;
@@ -59,6 +70,38 @@ impl<T: Drop> From<AllocFailed<T>> for MsgFault {
 
     fn from(_error: AllocFailed<T>) -> MsgFault {
         MsgFault::Memory
+    }
+}
+
+/// Why a stream of messages was not read further.
+#[derive(Clone, Copy, Debug, PartialEq, Eq)]
+pub enum StreamFault {
+    /// The message that stands there has this fault.
+    Message(MsgFault),
+    /// An earlier call met a fault.
+    Failed,
+}
+
+impl StreamFault {
+    /// The number by which a program names the fault: that of the message's fault, or 9.
+    pub fn number(self) -> u8
+        ensures { result ≡ stream_fault_number self }
+    {
+        match self {
+            StreamFault::Message(fault) => fault.number(),
+            StreamFault::Failed => 9,
+        }
+    }
+}
+
+impl From<MsgFault> for StreamFault {
+    ghost use Rattle.std.specs.Prelude.{◌≡◌};
+    ghost use Rattle.rbc_msgs.specs.declared.fault.StreamFault.TheVariants.{Message};
+
+    ghost from_gives = { λ fault given. given ≡ Message fault };
+
+    fn from(fault: MsgFault) -> StreamFault {
+        StreamFault::Message(fault)
     }
 }
 

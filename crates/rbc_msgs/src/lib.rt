@@ -8,6 +8,8 @@ mod fault;
 mod laws;
 mod number;
 mod reading;
+mod stream;
+mod stream_reading;
 mod track;
 mod track_reading;
 mod track_writing;
@@ -20,10 +22,11 @@ mod train_writing;
 
 pub use decode::{decode_track, decode_train};
 pub use encode::{encode_track, encode_train};
-pub use fault::{EncodeFault, MsgFault};
+pub use fault::{EncodeFault, MsgFault, StreamFault};
 pub use laws::{
     each_message_has_a_spelling, no_spelling_begins_another, one_message, one_spelling,
 };
+pub use stream::Stream;
 pub use track::{NID_LRBG_UNKNOWN, TrackBody, TrackMsg};
 pub use train::TrainMsg;
 pub use train_body::TrainBody;

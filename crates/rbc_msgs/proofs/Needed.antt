@@ -1,0 +1,148 @@
+-- How many bytes of a message have to be there, and what its first bytes settle.
+use Rattle.std.proofs.Common.{◌≡◌, inl, inr, ℕ, ◌^◌, ◌<◌, ◌≤◌, Bool, true, false, ltb, List, ◌++◌, length, take, Result, Ok, Err, refl, sym, ap, ◌∙◌, subst, length-append, arith}
+use borrow.Author.Tests.{ltb-false}
+use Rattle.std.proofs.lemmas.Bool.{lt-ltb, le-ltb, cases_lt}
+use Rattle.std.proofs.lemmas.List.{take-append-le}
+use Rattle.rbc_bits.specs.Bits.{bits_of}
+use Rattle.rbc_bits.specs.Reading.{field_at}
+use Rattle.rbc_bits.proofs.Taking.{field_at_ok}
+use Rattle.rbc_packets.specs.Steps.{◌>>=◌, refuse}
+use Rattle.rbc_msgs.specs.TrainText.{TrainText}
+use Rattle.rbc_msgs.specs.Numbers.{train_of_number, least_train_length}
+use Rattle.rbc_msgs.specs.Reading.{start_at}
+use Rattle.rbc_msgs.specs.TrainSpelling.{SpellsTrain}
+use Rattle.rbc_msgs.specs.TrainReading.{read_train}
+use Rattle.rbc_msgs.specs.Streams.{l_message_at, needed_at, IsRest, ShowsFault}
+use Rattle.rbc_msgs.specs.declared.fault.MsgFault.{MsgFault}
+use Rattle.rbc_msgs.specs.declared.fault.MsgFault.TheVariants.{Short, Length}
+use Rattle.rbc_msgs.specs.declared.number.TrainNumber.{TrainNumber}
+use Rattle.rbc_msgs.specs.declared.number.TrainNumber.TheVariants.{TrainData, Request, Report, ShorteningGranted, ShorteningRejected, EndOfMission, InitiationOfSession, TerminationOfSession, StartOfMission, SessionEstablished}
+use Rattle.rbc_msgs.proofs.TrainLaws.{l_message_at-again}
+
+-- ---- steps back
+
+-- two steps gave an answer, so each did
+bind-ok : {A B : Type 0} (r : Result A MsgFault) (f : A → Result B MsgFault) (y : B) → (r >>= f) ≡ Ok y → (x : A) × (r ≡ Ok x) × (f x ≡ Ok y)
+bind-ok (Ok x) f y e = (x, refl, e)
+bind-ok (Err fault) f y e = cc
+
+not-refused : (b : Bool) (fault : MsgFault) (x : Unit {0}) → refuse b fault ≡ Ok x → b ≡ false
+not-refused true fault x e = cc
+not-refused false fault x e = refl
+
+-- ---- L_MESSAGE is in its range
+
+-- L_MESSAGE, and then the answer
+then-l_message : ℕ → List Bool → Result (ℕ × ℕ) MsgFault
+then-l_message number bits = field_at Short 10 bits >>= λ l. Ok (number, l.0)
+
+-- NID_MESSAGE, and then L_MESSAGE
+then-number : List ℕ → Result (ℕ × ℕ) MsgFault
+then-number bytes = field_at Short 8 (bits_of (take 3 bytes)) >>= λ number. then-l_message number.0 number.1
+
+start-range : (bytes : List ℕ) (x : ℕ × ℕ) → start_at bytes ≡ Ok x → x.1 < 2 ^ 10
+unfolding start_at then-number then-l_message
+start-range bytes x e =
+    let long = bind-ok (refuse (ltb (length bytes) 3) Short) (λ _. then-number bytes) x e in
+    let number = bind-ok (field_at Short 8 (bits_of (take 3 bytes))) (λ n. then-l_message n.0 n.1) x long.2 in
+    let l = bind-ok (field_at Short 10 number.0.1) (λ l. Ok (number.0.0, l.0)) x number.2 in
+    let range = (field_at_ok Short 10 number.0.1 l.0.0 l.0.1 l.1).1 in
+    let same : l.0.0 ≡ x.1 = cc l.2 in
+    subst (λ n. n < 2 ^ 10) same range
+
+least-some : (k : TrainNumber) → 10 ≤ least_train_length k
+least-some TrainData = omega arith
+least-some Request = omega arith
+least-some Report = omega arith
+least-some ShorteningGranted = omega arith
+least-some ShorteningRejected = omega arith
+least-some EndOfMission = omega arith
+least-some InitiationOfSession = omega arith
+least-some TerminationOfSession = omega arith
+least-some StartOfMission = omega arith
+least-some SessionEstablished = omega arith
+
+-- the test of L_MESSAGE, and then the answer
+then-tested : ℕ → TrainNumber → Result ℕ MsgFault
+then-tested l_message number = refuse (ltb l_message (least_train_length number)) Length >>= λ _. Ok l_message
+
+-- NID_MESSAGE, and then the test
+then-known : ℕ × ℕ → Result ℕ MsgFault
+then-known start = train_of_number start.0 >>= λ number. then-tested start.1 number
+
+l_message-range : (bytes : List ℕ) (n : ℕ) → l_message_at bytes ≡ Ok n → (10 ≤ n) × (n < 2 ^ 10)
+unfolding l_message_at then-known then-tested
+l_message-range bytes n e =
+    let start = bind-ok (start_at bytes) then-known n e in
+    let number = bind-ok (train_of_number start.0.0) (λ k. then-tested start.0.1 k) n start.2 in
+    let enough = bind-ok (refuse (ltb start.0.1 (least_train_length number.0)) Length) (λ _. Ok start.0.1) n number.2 in
+    let least = ltb-false start.0.1 (least_train_length number.0) (not-refused _ Length enough.0 enough.1) in
+    let same : start.0.1 ≡ n = cc enough.2 in
+    let few = start-range bytes start.0 start.1 in
+    let some = least-some number.0 in
+    (omega arith, omega arith)
+
+-- ---- with fewer bytes than three, and with more
+
+pub needed-few : (bytes : List ℕ) → length bytes < 3 → needed_at bytes ≡ Ok 3
+unfolding needed_at
+needed-few bytes few = let t : ltb (length bytes) 3 ≡ true = lt-ltb _ _ few in rw t refl
+
+needed-many : (bytes : List ℕ) → 3 ≤ length bytes → needed_at bytes ≡ l_message_at bytes
+unfolding needed_at
+needed-many bytes many = let t : ltb (length bytes) 3 ≡ false = le-ltb _ _ many in rw t refl
+
+pub needed-range : (bytes : List ℕ) (n : ℕ) → needed_at bytes ≡ Ok n → (3 ≤ n) × (n < 2 ^ 10)
+needed-range bytes n e =
+    elim (cases_lt (length bytes) 3) [
+      | inl few ↦ let same : 3 ≡ n = cc (needed-few bytes few) in (omega arith, omega arith)
+      | inr many ↦ let range = l_message-range bytes n (sym (needed-many bytes many) ∙ e) in (omega arith, omega arith)
+    ]
+
+-- no more than 1 022 bytes are kept
+pub rest-short : (bytes : List ℕ) → IsRest bytes → length bytes < 1023
+rest-short bytes h = let range = needed-range bytes h.needed h.at in let fewer = h.fewer in omega arith
+
+-- ---- the first three bytes settle it
+
+l_message-front : (a b : List ℕ) → 3 ≤ length a → l_message_at (a ++ b) ≡ l_message_at a
+unfolding l_message_at start_at
+l_message-front a b many =
+    let here : ltb (length a) 3 ≡ false = le-ltb _ _ many in
+    let there : ltb (length (a ++ b)) 3 ≡ false = le-ltb _ _ (omega (arith, length-append a b)) in
+    rw (here, there, take-append-le 3 a b many) refl
+
+pub needed-front : (a b : List ℕ) → 3 ≤ length a → needed_at (a ++ b) ≡ needed_at a
+needed-front a b many =
+    needed-many (a ++ b) (omega (arith, length-append a b)) ∙ l_message-front a b many ∙ sym (needed-many a many)
+
+-- where something is wrong with them, they are there
+err-many : (bytes : List ℕ) (fault : MsgFault) → needed_at bytes ≡ Err fault → 3 ≤ length bytes
+err-many bytes fault e =
+    elim (cases_lt (length bytes) 3) [ inl few ↦ (let no : 3 ≤ length bytes = cc (needed-few bytes few) in no) | inr many ↦ many ]
+
+-- and so are they where no more bytes are needed
+whole-many : (bytes : List ℕ) (n : ℕ) → needed_at bytes ≡ Ok n → n ≤ length bytes → 3 ≤ length bytes
+whole-many bytes n e whole = let range = needed-range bytes n e in omega arith
+
+-- ---- faults, whatever comes behind
+
+pub shows-front : (a b : List ℕ) (fault : MsgFault) → ShowsFault a fault → ShowsFault (a ++ b) fault
+shows-front a b fault (inl e) = inl (needed-front a b (err-many a fault e) ∙ e)
+shows-front a b fault (inr h) =
+    let le = h.whole in
+    inr (record {
+      l_message = h.l_message;
+      at = needed-front a b (whole-many a h.l_message h.at h.whole) ∙ h.at;
+      whole = omega (arith, length-append a b);
+      refused = ap read_train (take-append-le h.l_message a b h.whole) ∙ h.refused;
+    })
+
+-- ---- spellings
+
+-- as many bytes are needed as there are, also where more stand behind
+pub spelled-needed : (first later : List ℕ) (m : TrainText) → SpellsTrain first m → needed_at (first ++ later) ≡ Ok (length first)
+spelled-needed first later m s =
+    let l = l_message_at-again first m s in
+    let ten = l.0 in
+    needed-front first later (omega arith) ∙ needed-many first (omega arith) ∙ l.1

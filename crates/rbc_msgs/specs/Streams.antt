@@ -1,0 +1,93 @@
+-- The messages of a train on a stream of bytes, one behind another, in whatever pieces the bytes come (profile).
+use Rattle.std.specs.Prelude.{◌≡◌, ◌≢◌, ◌⊎◌, ℕ, ◌<◌, ◌≤◌, List, [], ◌∷◌, ◌++◌, length, take, Option, Some, None, Result, Ok, Err, nat_lt, if◌then◌else◌}
+use Rattle.rbc_packets.specs.Steps.{◌>>=◌, refuse}
+use Rattle.rbc_msgs.specs.TrainText.{TrainText}
+use Rattle.rbc_msgs.specs.Numbers.{train_of_number, least_train_length}
+use Rattle.rbc_msgs.specs.Reading.{start_at}
+use Rattle.rbc_msgs.specs.TrainSpelling.{SpellsTrain}
+use Rattle.rbc_msgs.specs.TrainReading.{read_train}
+use Rattle.rbc_msgs.specs.declared.fault.MsgFault.{MsgFault}
+use Rattle.rbc_msgs.specs.declared.fault.MsgFault.TheVariants as message
+use Rattle.rbc_msgs.specs.declared.fault.StreamFault.{StreamFault}
+use Rattle.rbc_msgs.specs.declared.fault.StreamFault.TheVariants.{Message, Failed}
+
+-- ## Where a message ends, and what of it is enough to refuse it
+
+-- L_MESSAGE of a message that begins so: its number has to be known, and L_MESSAGE as long as it needs
+unfoldable pub l_message_at : List ℕ → Result ℕ MsgFault
+l_message_at bytes = do
+  start ← start_at bytes
+  number ← train_of_number start.0
+  _ ← refuse (nat_lt start.1 (least_train_length number)) message.Length
+  Ok start.1
+
+-- how many bytes have to be there before more can be said: the three that hold NID_MESSAGE and L_MESSAGE, then L_MESSAGE
+unfoldable pub needed_at : List ℕ → Result ℕ MsgFault
+needed_at bytes = if nat_lt (length bytes) 3 then Ok 3 else l_message_at bytes
+
+-- what has come of a message that is not whole, and that nothing is wrong with so far
+pub record IsRest (bytes : List ℕ) : Type 0 where
+  pub needed : ℕ
+  pub at : needed_at bytes ≡ Ok needed
+  pub fewer : length bytes < needed
+
+-- the fault is there with the message's last byte, whatever stands behind it
+pub record ShowsAtLast (bytes : List ℕ) (fault : MsgFault) : Type 0 where
+  pub l_message : ℕ
+  pub at : needed_at bytes ≡ Ok l_message
+  pub whole : l_message ≤ length bytes
+  pub refused : read_train (take l_message bytes) ≡ Err fault
+
+-- the message that begins there shows this fault: an unknown number and a too small L_MESSAGE with its third byte, any
+-- other fault with its last
+abbrev pub ShowsFault : List ℕ → MsgFault → Type 0
+ShowsFault bytes fault = (needed_at bytes ≡ Err fault) ⊎ ShowsAtLast bytes fault
+
+-- ## Whole streams
+
+-- the bytes are the spellings of these messages, one behind another, and then the rest
+abbrev pub Spell : List ℕ → List TrainText → List ℕ → Type 0
+Spell bytes [] rest = bytes ≡ rest
+Spell bytes (m ∷ others) rest = (first : List ℕ) × (later : List ℕ) × (bytes ≡ first ++ later) × SpellsTrain first m × Spell later others rest
+
+-- new is old and, behind it, the messages that the bytes spell up to the rest
+pub record Adds (old new : List TrainText) (bytes rest : List ℕ) : Type 0 where
+  pub messages : List TrainText
+  pub behind : new ≡ old ++ messages
+  pub spelled : Spell bytes messages rest
+
+-- the same, and behind the last of them the fault, or memory ran out there
+pub record Halts (old new : List TrainText) (bytes : List ℕ) (fault : MsgFault) : Type 0 where
+  pub rest : List ℕ
+  pub adds : Adds old new bytes rest
+  pub shows : fault ≢ message.Memory → ShowsFault rest fault
+
+-- ## A piece that comes: what was kept, the piece, the messages before and after, the answer, and what is kept now. After
+-- a fault nothing is kept.
+
+-- the messages that are whole now are appended, and what is left of the bytes is kept
+pub record Continues (before : Option (List ℕ)) (piece : List ℕ) (old new : List TrainText) (after : Option (List ℕ)) : Type 0 where
+  pub kept : List ℕ
+  pub rest : List ℕ
+  pub was : before ≡ Some kept
+  pub now : after ≡ Some rest
+  pub adds : Adds old new (kept ++ piece) rest
+  pub ends : IsRest rest
+
+-- the messages before the fault are appended
+pub record Stops (before : Option (List ℕ)) (piece : List ℕ) (old new : List TrainText) (fault : MsgFault) (after : Option (List ℕ)) : Type 0 where
+  pub kept : List ℕ
+  pub was : before ≡ Some kept
+  pub now : after ≡ None
+  pub halts : Halts old new (kept ++ piece) fault
+
+-- a stream that has met a fault takes nothing more
+pub record HasStopped (before : Option (List ℕ)) (old new : List TrainText) (after : Option (List ℕ)) : Type 0 where
+  pub was : before ≡ None
+  pub now : after ≡ None
+  pub same : new ≡ old
+
+abbrev pub Fed : Option (List ℕ) → List ℕ → List TrainText → List TrainText → Result (Unit {0}) StreamFault → Option (List ℕ) → Type 0
+Fed before piece old new (Ok _) after = Continues before piece old new after
+Fed before piece old new (Err (Message fault)) after = Stops before piece old new fault after
+Fed before piece old new (Err Failed) after = HasStopped before old new after

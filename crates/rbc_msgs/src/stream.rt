@@ -1,0 +1,63 @@
+ghost use Rattle.std.specs.Prelude.{◌≡◌, ◌<◌, [], Some, length, IfSome};
+ghost use Rattle.rbc_msgs.specs.Streams.{Fed};
+
+use crate::fault::StreamFault;
+use crate::stream_reading::read_on;
+use crate::train::TrainMsg;
+use std::alloc::Global;
+use std::marker::Model;
+use std::mem;
+
+/// The bytes that come from a train, in whatever pieces, as messages that stand one behind another (profile).
+/// It keeps what has come of a message that is not whole, at most 1 022 bytes. After a fault it reads nothing more.
+#[derive(Debug, Drop)]
+pub struct Stream {
+    alloc: Global,
+    state: State,
+}
+
+#[derive(Debug, Drop)]
+enum State {
+    // What has come of a message that is not whole.
+    Reading(Vec<u8>),
+    Failed,
+}
+
+impl Model for Stream {
+    ghost use Rattle.std.specs.Prelude.{ℕ, List, Option};
+
+    ghost Value = { Option (List ℕ) };
+
+    ghost use Rattle.rbc_msgs.specs.StreamView.{kept_bytes, KeepsARest};
+
+    ghost view = { kept_bytes };
+
+    ghost invariant = { KeepsARest };
+}
+
+impl Stream {
+    /// The stream of a connection that nothing has come over yet.
+    pub fn new(alloc: Global) -> Stream
+        ensures { result ≡ Some [] }
+    {
+        Stream {
+            alloc,
+            state: State::Reading(Vec::new(alloc)),
+        }
+    }
+
+    /// Takes the next piece of the stream, and appends each message that is whole now. An unknown NID_MESSAGE and a too
+    /// small L_MESSAGE are found with the third byte of a message, any other fault with its last; the messages before
+    /// it are appended. After any fault, also where memory ran out, each later call answers `Failed`.
+    pub fn feed(&mut self, piece: &[u8], out: &mut Vec<TrainMsg>) -> Result<(), StreamFault>
+        ensures fed { Fed self.old piece.now out.old.items out.new.items result self.new }
+        ensures few { IfSome self.new (λ rest. length rest < 1023) }
+    {
+        let State::Reading(mut rest) = mem::replace(&mut self.state, State::Failed) else {
+            return Err(StreamFault::Failed);
+        };
+        read_on(self.alloc, &mut rest, piece, out)?;
+        self.state = State::Reading(rest);
+        Ok(())
+    }
+}
