@@ -7,6 +7,7 @@ mod event;
 mod fault;
 mod outcome;
 mod session_act;
+mod same;
 mod train;
 
 pub use centre::{Centre, LAST_STAMP};

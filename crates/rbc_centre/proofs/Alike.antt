@@ -1,0 +1,49 @@
+-- Two outcomes that say the same.
+use Rattle.std.proofs.Common.{◌≡◌, Bool, List, [], ◌∷◌, map, ap, refl}
+use Rattle.std.specs.Bool.{Decides}
+use Rattle.std.specs.Cmp.Lexicographic.{pointwise}
+use Rattle.std.proofs.lemmas.Slice.Eq.{slice_eq-Decides}
+use Rattle.rbc_initiation.specs.Message.{TrackBody, SystemVersion}
+use Rattle.rbc_initiation.specs.Step.{said_body}
+use Rattle.rbc_centre.specs.Views.{saying_of, word_of}
+use Rattle.rbc_centre.specs.declared.outcome.Saying.{Saying}
+use Rattle.rbc_centre.specs.declared.outcome.Word.{Word}
+use Rattle.rbc_centre.specs.declared.outcome.Word.TheVariants.{Done, Asked, NotHome}
+
+map_apart : {A B : Type 0} (f : A → B) → ((a b : A) → f a ≡ f b → a ≡ b) → (xs ys : List A) → map f xs ≡ map f ys → xs ≡ ys
+map_apart f apart [] [] e = refl
+map_apart f apart [] (y ∷ ys) e = cc
+map_apart f apart (x ∷ xs) [] e = cc
+map_apart f apart (x ∷ xs) (y ∷ ys) e =
+    let head : f x ≡ f y = cc in
+    let tail : map f xs ≡ map f ys = cc in
+    let first = apart x y head in
+    let rest = map_apart f apart xs ys tail in cc
+
+-- the elements' `==` decides whether they are one, and a view keeps them apart: then `==` of the lists decides whether they look alike
+pub alike : {A B : Type 0} (f : A → B) (E : A → A → Bool) → ((a b : A) → Decides (E a b) (a ≡ b)) → ((a b : A) → f a ≡ f b → a ≡ b)
+    → (xs ys : List A) (r : Bool) → r ≡ pointwise E xs ys → Decides r (map f xs ≡ map f ys)
+alike f E decides apart xs ys r h =
+    let d = slice_eq-Decides decides xs ys r h in (λ t. ap (map f) (d.0 t), λ e. d.1 (map_apart f apart xs ys e))
+
+pub words_apart : (a b : Word) → word_of a ≡ word_of b → a ≡ b
+words_apart (Done s) (Done t) e = cc
+words_apart (Done s) (Asked t) e = cc
+words_apart (Done s) (NotHome t) e = cc
+words_apart (Asked s) (Done t) e = cc
+words_apart (Asked s) (Asked t) e = cc
+words_apart (Asked s) (NotHome t) e = cc
+words_apart (NotHome s) (Done t) e = cc
+words_apart (NotHome s) (Asked t) e = cc
+words_apart (NotHome s) (NotHome t) e = cc
+
+bodies_apart : (a b : TrackBody) → said_body a ≡ said_body b → a ≡ b
+bodies_apart SystemVersion SystemVersion e = refl
+
+pub sayings_apart : (a b : Saying) → saying_of a ≡ saying_of b → a ≡ b
+sayings_apart a b e =
+    let body = bodies_apart a.message.body b.message.body (ap (λ s. s.message.body) e) in
+    λ i. record {
+      nid_engine = (ap (λ s. s.nid_engine) e) i;
+      message = record { t_train = (ap (λ s. s.message.t_train) e) i; nid_lrbg = (ap (λ s. s.message.nid_lrbg) e) i; body = body i };
+    }

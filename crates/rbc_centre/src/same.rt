@@ -1,0 +1,69 @@
+ghost use Rattle.std.specs.Prelude.{◌≡◌, ◌↔◌, map, IsTrue, IfOk};
+ghost use Rattle.rbc_centre.specs.Views.{saying_of, word_of, outcome_of};
+
+use crate::event::Event;
+use crate::outcome::{Outcome, Saying, Word};
+use arrayvec::ArrayVec;
+use std::alloc::{AllocError, Global};
+
+impl Event {
+    /// Whether another event says the same.
+    pub fn is_same(&self, other: &Event) -> bool
+        ensures { IsTrue result ↔ (self.now ≡ other.now) }
+    {
+        self == other
+    }
+
+    /// Another event that says the same.
+    pub fn copied(&self, _alloc: Global) -> Result<Event, AllocError>
+        ensures { IfOk result (λ event. event ≡ self.now) }
+    {
+        Ok(*self)
+    }
+}
+
+// Whether the same messages are said, in the same order.
+fn same_sayings(sayings: &[Saying], others: &[Saying]) -> bool
+    ensures { IsTrue result ↔ (map saying_of sayings.now ≡ map saying_of others.now) }
+{
+    sayings == others
+}
+
+// Whether the same words are told, in the same order.
+fn same_words(words: &[Word], others: &[Word]) -> bool
+    ensures { IsTrue result ↔ (map word_of words.now ≡ map word_of others.now) }
+{
+    words == others
+}
+
+impl Outcome {
+    /// Whether another outcome says the same.
+    pub fn is_same(&self, other: &Outcome) -> bool
+        ensures { IsTrue result ↔ (outcome_of self.now ≡ outcome_of other.now) }
+    {
+        self.stamp == other.stamp
+            && same_sayings(self.sayings.as_slice(), other.sayings.as_slice())
+            && same_words(self.words.as_slice(), other.words.as_slice())
+            && self.silence == other.silence
+    }
+
+    /// Another outcome that says the same.
+    pub fn copied(&self) -> Outcome
+        ensures { outcome_of result ≡ outcome_of self.now }
+    {
+        let mut sayings = ArrayVec::new();
+        let Ok(()) = sayings.try_extend_from_slice(self.sayings.as_slice()) else {
+            unreachable!()
+        };
+        let mut words = ArrayVec::new();
+        let Ok(()) = words.try_extend_from_slice(self.words.as_slice()) else {
+            unreachable!()
+        };
+        Outcome {
+            stamp: self.stamp,
+            sayings,
+            words,
+            silence: self.silence,
+        }
+    }
+}
