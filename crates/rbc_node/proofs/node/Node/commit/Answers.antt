@@ -1,0 +1,11 @@
+use Rattle.std.proofs.lemmas.Result.{IfOk-weaker, IfErr-weaker}
+use Rattle.rbc_node.proofs.node.Node.commit.Goals as goal
+
+-- the log under the lock is the one to which the share committed
+pub returns-clause-commits : goal.returns-clause-commits
+returns-clause-commits g c =
+    IfOk-weaker c.commit-answer.result _ _ (λ o h. (c.deref_mut.result.now, c.commit-answer.new.log, c.commit-answer.ensures.replayed, h)) c.commit-answer.ensures.commits
+
+pub returns-clause-refused : goal.returns-clause-refused
+returns-clause-refused g c =
+    IfErr-weaker c.commit-answer.result _ _ (λ fault h. (c.deref_mut.result.now, c.commit-answer.ensures.replayed, h)) c.commit-answer.ensures.refused

@@ -1,0 +1,4 @@
+pub mod Receipts
+pub mod Faults
+pub mod Commit
+pub mod Node

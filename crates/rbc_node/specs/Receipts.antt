@@ -1,0 +1,29 @@
+-- What a share has, and where a log has a receipt.
+use Rattle.std.specs.Prelude.{◌≡◌, ℕ, ◌-◌, List, length, Option, Some, slice_get}
+use Rattle.rbc_spec.specs.Outcome.{Outcome}
+use Rattle.rbc_centre.specs.Views.{outcome_of}
+use Rattle.rbc_centre.specs.declared.event.Event.{Event}
+use Rattle.rbc_log.specs.declared.entry.Entry.{Entry}
+use Rattle.rbc_node.specs.declared.receipt.Receipt.{Receipt}
+
+-- a centre's number, and the receipts of what was committed to its log, in order
+pub record ShareValue : Type 0 where
+  pub centre : ℕ
+  pub receipts : List Receipt
+
+-- what a receipt says: the event, what the centre answered, and the place of their entry in the log
+pub record Committed : Type 0 where
+  pub event : Event
+  pub outcome : Outcome
+  pub place : ℕ
+
+abbrev pub committed_of : Receipt → Committed
+committed_of r = record { event = r.event; outcome = outcome_of r.outcome; place = r.place }
+
+-- the last receipt, if there is one
+abbrev pub last_receipt : ShareValue → Option Receipt
+last_receipt share = slice_get share.receipts (length share.receipts - 1)
+
+-- the entry at the receipt's place has its event and its outcome
+abbrev pub Has : List Entry → Receipt → Type 0
+Has entries r = (e : Entry) × (slice_get entries r.place ≡ Some e) × (e.event ≡ r.event) × (outcome_of e.outcome ≡ outcome_of r.outcome)

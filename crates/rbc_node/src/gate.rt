@@ -1,0 +1,18 @@
+/// What is told of each commit at a node, by its centre's number: a test can hold one commit back until another is answered.
+pub trait Gate {
+    /// The lock of the centre's log is held, and the commit comes next.
+    fn inside(&self, centre: u8);
+
+    /// The lock is free again, whatever the commit was answered.
+    fn after(&self, centre: u8);
+}
+
+/// The gate that holds nothing back.
+#[derive(Clone, Copy, Debug)]
+pub struct Open;
+
+impl Gate for Open {
+    fn inside(&self, _centre: u8) {}
+
+    fn after(&self, _centre: u8) {}
+}
