@@ -3,8 +3,6 @@ use Rattle.std.proofs.Common.{◌≡◌, Bool, List, [], ◌∷◌, map, ap, ref
 use Rattle.std.specs.Bool.{Decides}
 use Rattle.std.specs.Cmp.Lexicographic.{pointwise}
 use Rattle.std.proofs.lemmas.Slice.Eq.{slice_eq-Decides}
-use Rattle.rbc_initiation.specs.Message.{TrackBody, SystemVersion}
-use Rattle.rbc_initiation.specs.Step.{said_body}
 use Rattle.rbc_centre.specs.Views.{saying_of, word_of}
 use Rattle.rbc_centre.specs.declared.outcome.Saying.{Saying}
 use Rattle.rbc_centre.specs.declared.outcome.Word.{Word}
@@ -37,13 +35,5 @@ words_apart (NotHome s) (Done t) e = cc
 words_apart (NotHome s) (Asked t) e = cc
 words_apart (NotHome s) (NotHome t) e = cc
 
-bodies_apart : (a b : TrackBody) → said_body a ≡ said_body b → a ≡ b
-bodies_apart SystemVersion SystemVersion e = refl
-
 pub sayings_apart : (a b : Saying) → saying_of a ≡ saying_of b → a ≡ b
-sayings_apart a b e =
-    let body = bodies_apart a.message.body b.message.body (ap (λ s. s.message.body) e) in
-    λ i. record {
-      nid_engine = (ap (λ s. s.nid_engine) e) i;
-      message = record { t_train = (ap (λ s. s.message.t_train) e) i; nid_lrbg = (ap (λ s. s.message.nid_lrbg) e) i; body = body i };
-    }
+sayings_apart a b e = λ i. record { nid_engine = (ap (λ s. s.nid_engine) e) i; message = (ap (λ s. s.message) e) i }

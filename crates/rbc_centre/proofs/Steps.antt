@@ -1,8 +1,8 @@
 -- What a centre stands for before and after its step.
-use Rattle.std.proofs.Common.{◌≡◌, ℕ, ◌+◌, ◌==◌, ◌<◌, ◌≤◌, ◌&&◌, Bool, true, false, cond, not, if◌then◌else◌, List, [], ◌∷◌, length, Option, Some, None, is_none, slice_get, set, replicate, zero, suc, refl, sym, ap, ◌∙◌, arith, Ok, Err, option_and_then, find, nat_lt, unwrap_or}
+use Rattle.std.proofs.Common.{◌≡◌, ℕ, ◌+◌, ◌==◌, ◌<◌, ◌≤◌, ◌&&◌, Bool, true, false, cond, not, if◌then◌else◌, List, [], ◌∷◌, length, Option, Some, None, is_none, slice_get, set, replicate, zero, suc, refl, sym, ap, ◌∙◌, arith, Ok, Err, option_and_then, find, nat_lt, unwrap_or, subst, inl, inr}
 use Rattle.std.specs.Option.{option_map_or}
 use Rattle.std.specs.List.{list_any, range_with_len}
-use Rattle.std.proofs.lemmas.Bool.Decides.{nat_tests}
+use Rattle.std.proofs.lemmas.Bool.Decides.{nat_tests, eqb_tells}
 use Rattle.rbc_spec.specs.Maps.{put}
 use Rattle.std.proofs.lemmas.List.{length-replicate}
 use Rattle.std.proofs.lemmas.List.Quantifiers.{position-Some}
@@ -22,9 +22,10 @@ use Rattle.rbc_centre.specs.Views.{event_of}
 use Rattle.rbc_centre.specs.declared.event.Event.{Event as EventOfCode}
 use Rattle.rbc_centre.specs.declared.event.Event.TheVariants as code
 use Rattle.rbc_centre.specs.declared.train.TrainState.{TrainState}
-use Rattle.rbc_centre.specs.Sessions.{Rule, session_rule}
-use Rattle.rbc_centre.proofs.Rules.{put_over, put_same, none_of, IsIdleFor, reason_in, after, saying, replied, foreign_silence, stale_silence, timely_silence}
-use Rattle.rbc_centre.proofs.States.{of_trains-replicate, of_trains-set}
+use Rattle.rbc_centre.specs.Sessions.{Rule, session_rule, phase_after, answer_of}
+use Rattle.rbc_centre.specs.declared.session_act.SessionAct.{SessionAct}
+use Rattle.rbc_centre.proofs.Rules.{put_over, put_same, none_of, IsIdleFor, reason_in, after, saying, replied, foreign_silence, stale_silence, timely_silence, reply_is}
+use Rattle.rbc_centre.proofs.States.{slice_get-set_same, slice_get-set_other, of_trains-replicate, of_trains-set}
 
 -- ## The beginning
 
@@ -117,6 +118,36 @@ module _ (line : Line) (c clock : ℕ) (pages : Pages) (states : List TrainState
 pub idle_for : (line : Line) (c clock : ℕ) (pages : Pages) (states : List TrainState) (t : ℕ) → IsIdleFor (stands_for line c clock pages states) t
 unfolding stands_for centre.beginning
 idle_for line c clock pages states t = record { mission = refl; wait = refl; expects = λ d. refl }
+
+pub phase_at_train : (line : Line) (c clock : ℕ) (pages : Pages) (states : List TrainState) (t i : ℕ) (state : TrainState) → train_number line t ≡ Some i → slice_get states i ≡ Some state
+    → (stands_for line c clock pages states).phase t ≡ phase_of state.phase
+unfolding stands_for
+phase_at_train line c clock pages states t i state number at =
+    ap (λ n. option_map_or (λ (p : TrainState). phase_of p.phase) (option_and_then (λ j. slice_get states j) n) centre.Silent) number
+    ∙ ap (λ o. option_map_or (λ (p : TrainState). phase_of p.phase) o centre.Silent) at
+
+-- the answer that the rules give, from the change of the train's state
+pub answer_is : (line : Line) (c clock : ℕ) (pages : Pages) (states : List TrainState) (m : TrainMessage) (i : ℕ) (old new : TrainState) (a : SessionAct) (sayings : List Saying)
+    → train_number line m.nid_engine ≡ Some i → slice_get states i ≡ Some old → i < length states
+    → IsHeard m.t_train (phase_after a (phase_of old.phase)) (answer_of a) old new → session_rule (phase_of old.phase) m.body ≡ Ok a → sayings ≡ sayings_with m.nid_engine (answer_of a) (old.said + 1)
+    → record { state = stands_for line c clock pages (set states i new); frames = λ d. []; sayings = sayings; words = [] } ≡ step.hear_and_answer Sessions line c m (stands_for line c clock pages states)
+answer_is line c clock pages states m i old new a sayings number at within heard rule said =
+    let k = stands_for line c clock pages states in
+    let t = m.nid_engine in
+    ap (λ (xs : List Saying). record { state = stands_for line c clock pages (set states i new); frames = λ d. []; sayings = xs; words = [] }) said
+    ∙ reply_stands line c clock pages states t i old new number at within m.t_train (phase_after a (phase_of old.phase)) (answer_of a) heard
+    ∙ sym (reply_is line c k m.t_train t (idle_for line c clock pages states t) (phase_of old.phase) m.body a (phase_at_train line c clock pages states t i old number at) rule)
+
+-- what was said to each train is counted by the clock, also behind a change of one
+pub counted_after : (states : List TrainState) (i clock : ℕ) (new : TrainState) → i < length states → new.said ≤ clock
+    → ((j : ℕ) (p : TrainState) → slice_get states j ≡ Some p → p.said ≤ clock) → (j : ℕ) (p : TrainState) → slice_get (set states i new) j ≡ Some p → p.said ≤ clock
+counted_after states i clock new within few each j p found = elim (eqb_tells j i) as (λ _. p.said ≤ clock) [
+  | inl e ↦
+      let here : Some new ≡ Some p = sym (slice_get-set_same states i new within) ∙ ap (slice_get (set states i new)) (sym (e.1)) ∙ found in
+      let is : new ≡ p = cc in
+      subst (λ (q : TrainState). q.said ≤ clock) is few
+  | inr e ↦ each j p (sym (slice_get-set_other states i j new (e.1)) ∙ found)
+]
 
 -- the number of a train of the line is one of those kept
 pub number_within : (line : Line) (states : List TrainState) (t i : ℕ) → train_number line t ≡ Some i → length states ≡ length line.trains → i < length states
@@ -212,10 +243,8 @@ module _ (line : Line) (c clock : ℕ) (pages : Pages) (states : List TrainState
     unfolding stands_for
     heard_of = ap (λ n. option_map_or (λ (p : TrainState). p.heard) (option_and_then (λ j. slice_get states j) n) None) number ∙ ap (λ o. option_map_or (λ (p : TrainState). p.heard) o None) at
 
-    pub phase_is : k.phase m.nid_engine ≡ phase_of state.phase
-    unfolding stands_for
-    phase_is = ap (λ n. option_map_or (λ (p : TrainState). phase_of p.phase) (option_and_then (λ j. slice_get states j) n) centre.Silent) number
-        ∙ ap (λ o. option_map_or (λ (p : TrainState). phase_of p.phase) o centre.Silent) at
+    phase_is : k.phase m.nid_engine ≡ phase_of state.phase
+    phase_is = phase_at_train line c clock pages states m.nid_engine i state number at
 
     pub stale_is_silent : step.is_stale m.t_train state.heard ≡ true → step.silence line c k m ≡ Some StaleStamp
     stale_is_silent s = stale_silence line c k m.t_train m.nid_engine idle m.body (ap is_none number) (ap (step.is_stale m.t_train) heard_of ∙ s)

@@ -11,14 +11,31 @@ impl Event {
     pub fn is_same(&self, other: &Event) -> bool
         ensures { IsTrue result ↔ (self.now ≡ other.now) }
     {
-        self == other
+        match self {
+            Event::Train(message) => match other {
+                Event::Train(another) => message.is_same(another),
+                Event::Set(_) | Event::Unset(_) => false,
+            },
+            Event::Set(s) => match other {
+                Event::Set(another) => s == another,
+                Event::Train(_) | Event::Unset(_) => false,
+            },
+            Event::Unset(s) => match other {
+                Event::Unset(another) => s == another,
+                Event::Train(_) | Event::Set(_) => false,
+            },
+        }
     }
 
-    /// Another event that says the same.
-    pub fn copied(&self, _alloc: Global) -> Result<Event, AllocError>
+    /// Another event that says the same. Only the packets of a train's message that are kept without being read take memory.
+    pub fn copied(&self, alloc: Global) -> Result<Event, AllocError>
         ensures { IfOk result (λ event. event ≡ self.now) }
     {
-        Ok(*self)
+        match self {
+            Event::Train(message) => Ok(Event::Train(message.copied(alloc)?)),
+            Event::Set(s) => Ok(Event::Set(*s)),
+            Event::Unset(s) => Ok(Event::Unset(*s)),
+        }
     }
 }
 

@@ -4,7 +4,7 @@ ghost use Rattle.rbc_centre.specs.Meaning.{line_of, number_of};
 ghost use Rattle.rbc_centre.specs.Views.{event_of, outcome_of};
 ghost use Rattle.rbc_log.specs.Log.{IsReplaying, Appends, IsUnchanged, IsRefusal};
 
-use crate::entry::{Entry, copy_of};
+use crate::entry::Entry;
 use crate::fault::CommitFault;
 use rbc_centre::{Centre, Event, Outcome};
 use rbc_line::Line;
@@ -77,7 +77,7 @@ impl CentreLog {
         let entry = Entry {
             centre: self.core.number(),
             event,
-            outcome: copy_of(&outcome),
+            outcome: outcome.copied(),
         };
         self.entries.push_reserved(entry);
         Ok(outcome)

@@ -16,6 +16,7 @@ invariant_of-result c = record {
   in_time = omega arith;
   own_sections = λ s. c.in_ok-book.ensures.homes s ∙ ap (λ (l : Line). is_home l c.args.number s) (sym c.in_ok-copied.ensures.value);
   none_in_use = λ s. ap is_unused (c.in_ok-book.ensures.entry s);
+  none_wished = λ s. c.in_ok-book.ensures.wish s;
   each_train = filled_count _ _ _ _ (c.in_ok-trains.ensures.items_if_clones_equal (λ state e. e)) (c.train_count.ensures.value ∙ ap (λ (l : Line). length l.trains) (sym c.in_ok-copied.ensures.value));
   counted = none_said _ _ _ (c.in_ok-trains.ensures.items_if_clones_equal (λ state e. e)) refl;
 }

@@ -12,7 +12,7 @@ invariant_of-self-2 c =
     let front : List LogEntry = map entry_of c.self.inside.entries.items in
     let grows : map entry_of c.push_reserved.new.self.items ≡ front ++ record { centre = number_of old; event = event_of c.args.event; outcome = outcome_of c.in_ok-outcome.outcome } ∷ [] =
     ap (map entry_of) c.push_reserved.ensures.items ∙ map_push entry_of c.reserve.new.self.items _
-    ∙ (λ i. map entry_of (c.in_ok-reserve.ensures.items i) ++ record { centre = (c.number.ensures ∙ c.in_ok-outcome.ensures.number) i; event = event_of c.args.event; outcome = c.copy_of.ensures i } ∷ [])
+    ∙ (λ i. map entry_of (c.in_ok-reserve.ensures.items i) ++ record { centre = (c.number.ensures ∙ c.in_ok-outcome.ensures.number) i; event = event_of c.args.event; outcome = c.copied.ensures i } ∷ [])
     in
     grown (line_of old) (line_of c.step.new.self) (number_of old) (number_of c.step.new.self) (meaning old) (meaning c.step.new.self) front (map entry_of c.push_reserved.new.self.items)
     (event_of c.args.event) (outcome_of c.in_ok-outcome.outcome) c.self.invariant c.in_ok-outcome.ensures.exact grows c.in_ok-outcome.ensures.line c.in_ok-outcome.ensures.number
@@ -23,7 +23,7 @@ returns-clause-replays c =
     let front : List LogEntry = map entry_of c.self.inside.entries.items in
     let grows : map entry_of c.push_reserved.new.self.items ≡ front ++ record { centre = number_of old; event = event_of c.args.event; outcome = outcome_of c.in_ok-outcome.outcome } ∷ [] =
     ap (map entry_of) c.push_reserved.ensures.items ∙ map_push entry_of c.reserve.new.self.items _
-    ∙ (λ i. map entry_of (c.in_ok-reserve.ensures.items i) ++ record { centre = (c.number.ensures ∙ c.in_ok-outcome.ensures.number) i; event = event_of c.args.event; outcome = c.copy_of.ensures i } ∷ [])
+    ∙ (λ i. map entry_of (c.in_ok-reserve.ensures.items i) ++ record { centre = (c.number.ensures ∙ c.in_ok-outcome.ensures.number) i; event = event_of c.args.event; outcome = c.copied.ensures i } ∷ [])
     in
     grown (line_of old) (line_of c.step.new.self) (number_of old) (number_of c.step.new.self) (meaning old) (meaning c.step.new.self) front (map entry_of c.push_reserved.new.self.items)
     (event_of c.args.event) (outcome_of c.in_ok-outcome.outcome) c.self.invariant c.in_ok-outcome.ensures.exact grows c.in_ok-outcome.ensures.line c.in_ok-outcome.ensures.number
