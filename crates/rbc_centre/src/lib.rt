@@ -14,4 +14,5 @@ pub use centre::{Centre, LAST_STAMP};
 pub use event::Event;
 pub use fault::StepFault;
 pub use outcome::{Outcome, Saying, Silence, Word};
+pub use session_act::SessionAct;
 pub use train::{Phase, TrainState};

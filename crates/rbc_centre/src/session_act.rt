@@ -6,7 +6,7 @@ use rbc_msgs::{TrackBody, TrainBody};
 
 /// What a message that is answered comes to, as long as no train is under way.
 #[derive(Clone, Copy, Debug, PartialEq, Eq)]
-pub(crate) enum SessionAct {
+pub enum SessionAct {
     /// A session that stands is closed, and one is opened (3.5.3).
     Open,
     /// The train has confirmed the session (3.5.3).

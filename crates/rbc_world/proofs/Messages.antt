@@ -32,7 +32,7 @@ put_pair_none {X} t c u d =
 
 -- putting at a pair what is there changes nothing
 put_pair_same : {X : Type 0} (f : ℕ → ℕ → X) (t c : ℕ) (x : X) → f t c ≡ x → (u d : ℕ) → put_pair f t c x u d ≡ f u d
-put_pair_same f t c x there u d = ap (λ (g : ℕ → X). put f t g u d) (λ i d. put_same c x (f t) there d i) ∙ ap (λ (g : ℕ → X). g d) (put_same t (f t) f refl u)
+put_pair_same {X = X} f t c x there u d = ap (λ (g : ℕ → X). put f t g u d) (λ i d. put_same c x (f t) there d i) ∙ ap (λ (g : ℕ → X). g d) (put_same t (f t) f refl u)
 
 -- ## The line's reasons of silence
 
@@ -155,13 +155,10 @@ module _ (line : Line) (w : World) (idle : (c : ℕ) → IsIdle (w.at c)) (c t_t
     quiet_steps : TakesAll line mid quiets later (line_answered c t (answer_of a) (line_heard c t_train t (phase_after a phase) now))
     says_it : both own later ≡ said_by (answer_of a)
 
-  spoken : (answer : Option TrackBody) (phase : centre.Phase) → (replied t answer (after k t_train t phase)).sayings ≡ (said_by answer).sayings
-  spoken (Some body) phase = refl
-  spoken None phase = refl
-
-  no_words : (answer : Option TrackBody) (phase : centre.Phase) → (replied t answer (after k t_train t phase)).words ≡ (said_by answer).words
-  no_words (Some body) phase = refl
-  no_words None phase = refl
+  same_said : (answer : Option TrackBody) (phase : centre.Phase)
+      → record { sayings = (replied t answer (after k t_train t phase)).sayings; words = (replied t answer (after k t_train t phase)).words } ≡ said_by answer
+  same_said (Some body) phase = refl
+  same_said None phase = refl
 
   heard_by : (answer : Option TrackBody) (phase : centre.Phase) (new : centre.Centre)
       → new ≡ step.state_after ((w.at c).clock + 1) (w.at c) (record { reply = replied t answer (after k t_train t phase); link = None; silence = None })
@@ -182,10 +179,8 @@ module _ (line : Line) (w : World) (idle : (c : ℕ) → IsIdle (w.at c)) (c t_t
         later = answers.later;
         own_step = (at, heard g refl (record { own = answers.own_step }));
         quiet_steps = subst (λ (new : LineState). TakesAll line answers.mid answers.quiets answers.later new) (sym goes) answers.quiet_steps;
-        says = rw (h, is) (λ i. record {
-          said = (λ j. record { sayings = spoken (answer_of a) (phase_after a phase) j; words = no_words (answer_of a) (phase_after a phase) j }) i;
-          silence = None;
-        }) ∙ ap (λ (said : Said). record { said = said; silence = None }) (sym answers.says_it);
+        says = rw (h, is) (ap (λ (said : Said). record { said = said; silence = None }) (same_said (answer_of a) (phase_after a phase)))
+            ∙ ap (λ (said : Said). record { said = said; silence = None }) (sym answers.says_it);
       }
 
   -- ## The answers

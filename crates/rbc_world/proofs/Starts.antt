@@ -56,7 +56,7 @@ put_pair_back f t c x y there u d = elim (eqb_tells u t) as (λ _. put_pair (put
     | inl g ↦ rw (e.0, g.0) (sym there ∙ ap (λ n. f n c) (sym e.1) ∙ ap (f u) (sym g.1))
     | inr g ↦ rw (e.0, g.0) (elim (eqb_tells t t) as (λ _. put_pair f t c x t d ≡ f u d) [ inl h ↦ rw (h.0, g.0) (ap (λ n. f n d) (sym e.1)) | inr h ↦ absurd (h.1 refl) ])
   ]
-  | inr e ↦ rw (e.0) (rw (e.0) refl)
+  | inr e ↦ rw (e.0) refl
 ]
 
 and_false : (b : Bool) → (b && false) ≡ false

@@ -1,6 +1,6 @@
 -- What a world stands for before and after a step.
 use Rattle.std.proofs.Common.{◌≡◌, ℕ, zero, suc, ◌+◌, ◌<◌, ◌≤◌, ◌≢◌, true, false, List, [], ◌∷◌, ◌++◌, length, Option, Some, None, option_map, length-append, slice_get, set, refl, sym, ap, ◌∙◌, inl, inr, arith, Result, Ok, Err, subst}
-use Rattle.std.specs.Result.{IfOk}
+use Rattle.std.specs.Result.{IfOk, IfErr}
 use Rattle.std.specs.Option.{option_map_or}
 use Rattle.std.proofs.lemmas.Bool.Decides.{eqb_tells, nat_tests}
 use Rattle.std.proofs.lemmas.Option.{slice_get_past}
@@ -28,7 +28,8 @@ use Rattle.rbc_msgs.specs.TrainText.{TrainText}
 use Rattle.rbc_msgs.specs.StepMessage.{step_message}
 use Rattle.rbc_msgs.specs.Faults.{fault_number}
 use Rattle.rbc_msgs.specs.declared.fault.MsgFault.{MsgFault}
-use Rattle.rbc_world.specs.Views.{answer_of, numbered}
+use Rattle.rbc_msgs.specs.declared.fault.MsgFault.TheVariants as of_message
+use Rattle.rbc_world.specs.Views.{answer_of, numbered, IsFaultOf}
 use Rattle.rbc_world.specs.declared.event.Answer.{Answer}
 use Rattle.rbc_world.specs.declared.event.WorldEvent.{WorldEvent}
 use Rattle.rbc_world.specs.declared.event.WorldEvent.TheVariants as event
@@ -194,6 +195,12 @@ message_step line w cs c read m each within e = at_centre line w cs c (numbered 
 pub fault_step : (line : Line) (w : World) (cs : List Centre) (c : ℕ) (read : Result TrainText MsgFault) (fault : MsgFault) → length cs ≡ length line.centres → c < length cs → read ≡ Err fault
     → world_step Sessions line w (Bytes c (numbered read)) ≡ Ok (Fault (fault_number fault), w)
 fault_step line w cs c read fault each within e = at_centre line w cs c (numbered read) each within ∙ ap (λ r. reads Sessions line w c (numbered r)) e
+
+pub unread_gives : (line : Line) (w : World) (cs : List Centre) (c : ℕ) (read : Result TrainText MsgFault) (fault : MsgFault) (result : Result Answer StepFault) → length cs ≡ length line.centres → c < length cs
+    → (fault ≢ of_message.Memory → read ≡ Err fault) → IfOk result (IsFaultOf fault) → IfErr result (λ e. e ≡ Memory)
+    → Gives (λ a. (answer_of a, w)) result (world_step Sessions line w (Bytes c (numbered read)))
+unread_gives line w cs c read fault (Ok a) each within shows ok err = fault_step line w cs c read fault each within (shows ok.1) ∙ ap (λ x. Ok (x, w)) (sym ok.0)
+unread_gives line w cs c read fault (Err e) each within shows ok err = rw err tt
 
 -- ## A row of centres
 

@@ -1,5 +1,5 @@
 -- What events and answers stand for.
-use Rattle.std.specs.Prelude.{ℕ, Result, Ok, Err}
+use Rattle.std.specs.Prelude.{◌≡◌, ◌≢◌, ℕ, Result, Ok, Err}
 use Rattle.rbc_spec.specs.Message.{TrainMessage}
 use Rattle.rbc_spec.specs.World.{Event, Bytes, Set, Unset, Delivery}
 use Rattle.rbc_spec.specs.World as world
@@ -8,6 +8,7 @@ use Rattle.rbc_msgs.specs.StepMessage.{step_message}
 use Rattle.rbc_msgs.specs.Faults.{fault_number}
 use Rattle.rbc_msgs.specs.TrainReading.{read_train}
 use Rattle.rbc_msgs.specs.declared.fault.MsgFault.{MsgFault}
+use Rattle.rbc_msgs.specs.declared.fault.MsgFault.TheVariants.{Memory}
 use Rattle.rbc_centre.specs.Views.{outcome_of}
 use Rattle.rbc_world.specs.declared.event.WorldEvent.{WorldEvent}
 use Rattle.rbc_world.specs.declared.event.WorldEvent.TheVariants as event
@@ -31,3 +32,7 @@ answer_of (answer.Outcome o) = world.Answered (outcome_of o)
 answer_of answer.NoCentre = world.NoCentre
 answer_of answer.NotSent = world.NotSent
 answer_of (answer.Fault fault) = world.Fault (fault_number fault)
+
+-- the answer to bytes that show this fault, which is not that memory ran out
+abbrev pub IsFaultOf : MsgFault → Answer → Type 0
+IsFaultOf fault a = (answer_of a ≡ world.Fault (fault_number fault)) × (fault ≢ Memory)

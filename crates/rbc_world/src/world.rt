@@ -1,4 +1,4 @@
-ghost use Rattle.std.specs.Prelude.{◌≡◌, ◌<◌, ◌≤◌, ℕ, true, length, slice_get, IfOk, OnErr, Some};
+ghost use Rattle.std.specs.Prelude.{◌≡◌, ◌<◌, ◌≤◌, ℕ, true, length, slice_get, IfOk, IfErr, OnErr, Some};
 ghost use Rattle.rbc_spec.specs.World.{new_world, world_step, at_centre, takes, mention, Bytes};
 ghost use Rattle.rbc_spec.specs.Step.{Train};
 ghost use Rattle.rbc_spec.specs.Reach.{Sessions};
@@ -6,6 +6,8 @@ ghost use Rattle.rbc_msgs.specs.StepMessage.{step_message};
 ghost use Rattle.rbc_msgs.specs.TrainReading.{read_train};
 ghost use Rattle.indexmap.specs.IndexSet.{spare};
 ghost use Rattle.rbc_world.specs.Meaning.{AtBeginning};
+ghost use Rattle.rbc_world.specs.Views.{IsFaultOf};
+ghost use Rattle.rbc_centre.specs.declared.fault.StepFault.TheVariants.{Memory};
 ghost use Rattle.rbc_spec.specs.Run.{Goes};
 ghost use Rattle.rbc_spec.specs.ReadOff.{read_off};
 ghost use Rattle.rbc_centre.specs.declared.centre.Centre.{Centre};
@@ -112,8 +114,7 @@ impl World {
         }
         match decode_train(self.alloc, bytes) {
             Ok(message) => self.hear(c as usize, message),
-            Err(MsgFault::Memory) => Err(StepFault::Memory),
-            Err(fault) => Ok(Answer::Fault(fault)),
+            Err(fault) => unread(fault),
         }
     }
 
@@ -143,6 +144,23 @@ fn centres_of(alloc: Global, line: &Line) -> Result<Vec<Centre>, AllocError>
         centres.push(Centre::new(alloc, line, c)?)?;
     }
     Ok(centres)
+}
+
+// What bytes without a message lead to.
+fn unread(fault: MsgFault) -> Result<Answer, StepFault>
+    ensures ok { IfOk result (IsFaultOf fault) }
+    ensures err { IfErr result (λ e. e ≡ Memory) }
+{
+    match fault {
+        MsgFault::Memory => Err(StepFault::Memory),
+        MsgFault::Short
+        | MsgFault::Length
+        | MsgFault::Padding
+        | MsgFault::UnknownNumber
+        | MsgFault::Packet
+        | MsgFault::Missing
+        | MsgFault::Value => Ok(Answer::Fault(fault)),
+    }
 }
 
 // A message of the train was heard.

@@ -34,10 +34,20 @@ invariant_of-self-2 c =
       in_order = each_kept (λ d k. one.number_of k ≡ d) cs c.args.c c.step.new.self c.requires (c.in_ok-outcome.ensures.number ∙ c.args.self.now.in_order _ _ at) c.args.self.now.in_order;
     }
 
+pub invariant_of-self-in-Break-branch-2 : goal.invariant_of-self-in-Break-branch-2
+invariant_of-self-in-Break-branch-2 c =
+    let cs = c.args.self.now.centres.items in
+    let at : slice_get cs c.args.c ≡ Some c.index_mut.result.now = slice_get_read _ _ _ _ refl c.requires c.index_mut.ensures.value in
+    record {
+      each_centre = simp length-set c.args.self.now.each_centre;
+      one_line = each_kept (λ d k. one.line_of k ≡ c.args.self.now.line) cs c.args.c c.step.new.self c.requires (c.in_err-outcome.ensures.line ∙ c.args.self.now.one_line _ _ at) c.args.self.now.one_line;
+      in_order = each_kept (λ d k. one.number_of k ≡ d) cs c.args.c c.step.new.self c.requires (c.in_err-outcome.ensures.number ∙ c.args.self.now.in_order _ _ at) c.args.self.now.in_order;
+    }
+
 pub returns-clause-exact : goal.returns-clause-exact
 unfolding stands_for
 returns-clause-exact c =
     let at : slice_get c.args.self.now.centres.items c.args.c ≡ Some c.index_mut.result.now = slice_get_read _ _ _ _ refl c.requires c.index_mut.ensures.value in
     step_ok c.args.self.now.line c.args.self.now.centres.items c.args.self.now.trains.keys (Train (step_message c.args.message)) c.args.c c.index_mut.result.now c.step.new.self at c.requires
     (c.args.self.now.one_line _ _ at) (c.args.self.now.in_order _ _ at) _ _ c.add_mention.new.trains.keys c.in_ok-outcome.ensures.exact
-    (c.add_mention.ensures ∙ ap (λ t. mention c.args.self.now.line t c.reserve.new.self.keys) c.nid_engine.ensures.value ∙ ap (mention c.args.self.now.line c.args.message.nid_engine) c.in_ok-reserve.ensures.keys)
+    (c.add_mention.ensures ∙ ap (λ t. mention c.args.self.now.line t c.reserve.new.self.keys) c.nid_engine-nid_engine.ensures.value ∙ ap (mention c.args.self.now.line c.args.message.nid_engine) c.in_ok-reserve.ensures.keys)
