@@ -7,3 +7,6 @@ mod Lengths
 mod SameBits
 pub mod Needed
 pub mod Streams
+mod OneReading
+mod Cuts
+mod FirstFault

@@ -88,7 +88,7 @@ pub needed-few : (bytes : List ℕ) → length bytes < 3 → needed_at bytes ≡
 unfolding needed_at
 needed-few bytes few = let t : ltb (length bytes) 3 ≡ true = lt-ltb _ _ few in rw t refl
 
-needed-many : (bytes : List ℕ) → 3 ≤ length bytes → needed_at bytes ≡ l_message_at bytes
+pub needed-many : (bytes : List ℕ) → 3 ≤ length bytes → needed_at bytes ≡ l_message_at bytes
 unfolding needed_at
 needed-many bytes many = let t : ltb (length bytes) 3 ≡ false = le-ltb _ _ many in rw t refl
 
@@ -117,12 +117,12 @@ needed-front a b many =
     needed-many (a ++ b) (omega (arith, length-append a b)) ∙ l_message-front a b many ∙ sym (needed-many a many)
 
 -- where something is wrong with them, they are there
-err-many : (bytes : List ℕ) (fault : MsgFault) → needed_at bytes ≡ Err fault → 3 ≤ length bytes
+pub err-many : (bytes : List ℕ) (fault : MsgFault) → needed_at bytes ≡ Err fault → 3 ≤ length bytes
 err-many bytes fault e =
     elim (cases_lt (length bytes) 3) [ inl few ↦ (let no : 3 ≤ length bytes = cc (needed-few bytes few) in no) | inr many ↦ many ]
 
 -- and so are they where no more bytes are needed
-whole-many : (bytes : List ℕ) (n : ℕ) → needed_at bytes ≡ Ok n → n ≤ length bytes → 3 ≤ length bytes
+pub whole-many : (bytes : List ℕ) (n : ℕ) → needed_at bytes ≡ Ok n → n ≤ length bytes → 3 ≤ length bytes
 whole-many bytes n e whole = let range = needed-range bytes n e in omega arith
 
 -- ---- faults, whatever comes behind

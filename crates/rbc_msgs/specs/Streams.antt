@@ -91,3 +91,20 @@ abbrev pub Fed : Option (List ℕ) → List ℕ → List TrainText → List Trai
 Fed before piece old new (Ok _) after = Continues before piece old new after
 Fed before piece old new (Err (Message fault)) after = Stops before piece old new fault after
 Fed before piece old new (Err Failed) after = HasStopped before old new after
+
+-- ## Laws
+
+-- where a row of spellings can go no further: a rest, or a fault
+abbrev pub IsEnd : List ℕ → Type 0
+IsEnd bytes = IsRest bytes ⊎ ((fault : MsgFault) × ShowsFault bytes fault)
+
+-- it is no want of memory
+abbrev pub HadMemory : Result (Unit {0}) StreamFault → Type 0
+HadMemory result = result ≢ Err (Message message.Memory)
+
+-- the decoder of whole messages gives the fault of the shortest beginning of the bytes that it does not call too short
+pub record IsFirstFault (bytes : List ℕ) (fault : MsgFault) : Type 0 where
+  pub count : ℕ
+  pub there : count ≤ length bytes
+  pub found : read_train (take count bytes) ≡ Err fault
+  pub before : (k : ℕ) → k < count → read_train (take k bytes) ≡ Err message.Short

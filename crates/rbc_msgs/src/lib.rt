@@ -9,6 +9,7 @@ mod laws;
 mod number;
 mod reading;
 mod stream;
+mod stream_laws;
 mod stream_reading;
 mod track;
 mod track_reading;
@@ -27,6 +28,7 @@ pub use laws::{
     each_message_has_a_spelling, no_spelling_begins_another, one_message, one_spelling,
 };
 pub use stream::Stream;
+pub use stream_laws::{a_fault_is_the_first, a_rest_is_short, no_cut_matters, one_reading};
 pub use track::{NID_LRBG_UNKNOWN, TrackBody, TrackMsg};
 pub use train::TrainMsg;
 pub use train_body::TrainBody;

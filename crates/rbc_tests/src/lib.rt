@@ -24,4 +24,6 @@ mod log;
 #[cfg(test)]
 mod sessions;
 #[cfg(test)]
+mod stream;
+#[cfg(test)]
 mod world;

@@ -1,0 +1,99 @@
+-- Two pieces of a stream and both at once.
+use Rattle.std.proofs.Common.{◌≡◌, ◌≢◌, inl, inr, ℕ, List, ◌++◌, Option, Some, None, Result, Ok, Err, refl, sym, ap, ◌∙◌, subst, append_assoc}
+use Rattle.rbc_msgs.specs.TrainText.{TrainText}
+use Rattle.rbc_msgs.specs.Streams.{IsRest, ShowsFault, IsEnd, Adds, Halts, Continues, Fed, HadMemory}
+use Rattle.rbc_msgs.specs.declared.fault.MsgFault.{MsgFault}
+use Rattle.rbc_msgs.specs.declared.fault.MsgFault.TheVariants as message
+use Rattle.rbc_msgs.specs.declared.fault.StreamFault.{StreamFault}
+use Rattle.rbc_msgs.specs.declared.fault.StreamFault.TheVariants.{Message, Failed}
+use Rattle.rbc_msgs.proofs.Streams.{adds-then, adds-behind, halts-then, halts-behind}
+use Rattle.rbc_msgs.proofs.OneReading.{one-adding, rest-no-fault, one-fault}
+
+one-kept : (before : Option (List ℕ)) (x y : List ℕ) → before ≡ Some x → before ≡ Some y → x ≡ y
+one-kept before x y p q = cc
+
+not-none : (before : Option (List ℕ)) (x : List ℕ) → before ≡ Some x → before ≡ None → ⊥
+not-none before x p q = cc
+
+known : (fault : MsgFault) → HadMemory (Err (Message fault)) → fault ≢ message.Memory
+known fault h e = h (ap (λ f. Err (Message f)) e)
+
+-- ---- both pieces at once
+
+both-bytes : (old new : List TrainText) (kept a b r : List ℕ) → Adds old new (kept ++ a) r → Adds old new (kept ++ (a ++ b)) (r ++ b)
+both-bytes old new kept a b r p =
+    subst (λ x. Adds old new x (r ++ b)) (append_assoc kept a b) (adds-behind old new (kept ++ a) r b p)
+
+then-halts : (old new : List TrainText) (kept a b : List ℕ) (fault : MsgFault) → Halts old new (kept ++ a) fault → Halts old new (kept ++ (a ++ b)) fault
+then-halts old new kept a b fault h =
+    subst (λ x. Halts old new x fault) (append_assoc kept a b) (halts-behind old new (kept ++ a) b fault h)
+
+pub fed-then : (before middle after : Option (List ℕ)) (a b : List ℕ) (old mid new : List TrainText) (result : Result (Unit {0}) StreamFault)
+    → Continues before a old mid middle → Fed middle b mid new result after → Fed before (a ++ b) old new result after
+fed-then before middle after a b old mid new (Ok u) p q =
+    let same : q.kept ≡ p.rest = one-kept middle q.kept p.rest q.was p.now in
+    let later : Adds mid new (p.rest ++ b) q.rest = subst (λ x. Adds mid new (x ++ b) q.rest) same q.adds in
+    record {
+      kept = p.kept;
+      rest = q.rest;
+      was = p.was;
+      now = q.now;
+      adds = adds-then old mid new (p.kept ++ (a ++ b)) (p.rest ++ b) q.rest (both-bytes old mid p.kept a b p.rest p.adds) later;
+      ends = q.ends;
+    }
+fed-then before middle after a b old mid new (Err (Message fault)) p q =
+    let same : q.kept ≡ p.rest = one-kept middle q.kept p.rest q.was p.now in
+    let later : Halts mid new (p.rest ++ b) fault = subst (λ x. Halts mid new (x ++ b) fault) same q.halts in
+    record {
+      kept = p.kept;
+      was = p.was;
+      now = q.now;
+      halts = halts-then old mid new (p.kept ++ (a ++ b)) (p.rest ++ b) fault (both-bytes old mid p.kept a b p.rest p.adds) later;
+    }
+fed-then before middle after a b old mid new (Err Failed) p q = absurd (not-none middle p.rest p.now q.was)
+
+pub fault-then : (before after : Option (List ℕ)) (a b : List ℕ) (old new : List TrainText) (fault : StreamFault)
+    → Fed before a old new (Err fault) after → Fed before (a ++ b) old new (Err fault) after
+fault-then before after a b old new (Message fault) p =
+    record { kept = p.kept; was = p.was; now = p.now; halts = then-halts old new p.kept a b fault p.halts }
+fault-then before after a b old new Failed p = p
+
+-- ---- what a call gives is one
+
+ends-of : (old new : List TrainText) (bytes : List ℕ) (fault : MsgFault) → (h : Halts old new bytes fault) → fault ≢ message.Memory → IsEnd h.rest
+ends-of old new bytes fault h ne = inr (fault, h.shows ne)
+
+-- two calls from one rest
+same-bytes : (before : Option (List ℕ)) (piece x y : List ℕ) → before ≡ Some x → before ≡ Some y → y ++ piece ≡ x ++ piece
+same-bytes before piece x y p q = ap (λ k. k ++ piece) (one-kept before y x q p)
+
+pub one-answer : (before after once : Option (List ℕ)) (piece : List ℕ) (old new whole : List TrainText) (result answer : Result (Unit {0}) StreamFault)
+    → Fed before piece old new result after → HadMemory result → Fed before piece old whole answer once → HadMemory answer → (whole ≡ new) × (answer ≡ result) × (once ≡ after)
+one-answer before after once piece old new whole (Ok u) (Ok v) p p-had q q-had =
+    let adds : Adds old whole (p.kept ++ piece) q.rest = subst (λ x. Adds old whole x q.rest) (same-bytes before piece p.kept q.kept p.was q.was) q.adds in
+    let one = one-adding old new whole (p.kept ++ piece) p.rest q.rest p.adds adds (inl p.ends) (inl q.ends) in
+    (one.0, refl, q.now ∙ ap (λ x. Some x) one.1 ∙ sym p.now)
+one-answer before after once piece old new whole (Ok u) (Err (Message f)) p p-had q q-had =
+    let halts : Halts old whole (p.kept ++ piece) f = subst (λ x. Halts old whole x f) (same-bytes before piece p.kept q.kept p.was q.was) q.halts in
+    let shows = halts.shows (known f q-had) in
+    let one = one-adding old new whole (p.kept ++ piece) p.rest halts.rest p.adds halts.adds (inl p.ends) (inr (f, shows)) in
+    absurd (rest-no-fault halts.rest f (subst IsRest (sym one.1) p.ends) shows)
+one-answer before after once piece old new whole (Ok u) (Err Failed) p p-had q q-had = absurd (not-none before p.kept p.was q.was)
+one-answer before after once piece old new whole (Err (Message e)) (Ok v) p p-had q q-had =
+    let halts : Halts old new (q.kept ++ piece) e = subst (λ x. Halts old new x e) (same-bytes before piece q.kept p.kept q.was p.was) p.halts in
+    let shows = halts.shows (known e p-had) in
+    let one = one-adding old new whole (q.kept ++ piece) halts.rest q.rest halts.adds q.adds (inr (e, shows)) (inl q.ends) in
+    absurd (rest-no-fault halts.rest e (subst IsRest one.1 q.ends) shows)
+one-answer before after once piece old new whole (Err (Message e)) (Err (Message f)) p p-had q q-had =
+    let halts : Halts old whole (p.kept ++ piece) f = subst (λ x. Halts old whole x f) (same-bytes before piece p.kept q.kept p.was q.was) q.halts in
+    let first = p.halts in
+    let shows = first.shows (known e p-had) in
+    let others = halts.shows (known f q-had) in
+    let one = one-adding old new whole (p.kept ++ piece) first.rest halts.rest first.adds halts.adds (inr (e, shows)) (inr (f, others)) in
+    let fault : f ≡ e = one-fault first.rest f e (subst (λ x. ShowsFault x f) one.1 others) shows in
+    (one.0, ap (λ x. Err (Message x)) fault, q.now ∙ sym p.now)
+one-answer before after once piece old new whole (Err (Message e)) (Err Failed) p p-had q q-had = absurd (not-none before p.kept p.was q.was)
+one-answer before after once piece old new whole (Err Failed) (Ok v) p p-had q q-had = absurd (not-none before q.kept q.was p.was)
+one-answer before after once piece old new whole (Err Failed) (Err (Message f)) p p-had q q-had = absurd (not-none before q.kept q.was p.was)
+one-answer before after once piece old new whole (Err Failed) (Err Failed) p p-had q q-had =
+    (q.same ∙ sym p.same, refl, q.now ∙ sym p.now)

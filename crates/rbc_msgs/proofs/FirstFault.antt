@@ -1,0 +1,114 @@
+-- The fault of a stream is that of a decoder which sees the bytes come.
+use Rattle.std.proofs.Common.{◌≡◌, inl, inr, ℕ, ◌<◌, ◌≤◌, Bool, true, false, ltb, List, length, take, drop, Result, Ok, Err, refl, sym, ap, ◌∙◌, length-take, arith}
+use Rattle.std.proofs.lemmas.Bool.{lt-ltb, cases_lt}
+use Rattle.std.proofs.lemmas.List.{take-append-drop}
+use Rattle.rbc_msgs.specs.Numbers.{train_of_number, least_train_length}
+use Rattle.rbc_msgs.specs.Reading.{start_at, whole_at}
+use Rattle.rbc_msgs.specs.TrainReading.{read_train}
+use Rattle.rbc_msgs.specs.Streams.{l_message_at, needed_at, IsRest, ShowsFault, IsFirstFault}
+use Rattle.rbc_msgs.specs.declared.fault.MsgFault.{MsgFault}
+use Rattle.rbc_msgs.specs.declared.fault.MsgFault.TheVariants.{Short, Length}
+use Rattle.rbc_msgs.specs.declared.number.TrainNumber.{TrainNumber}
+use Rattle.rbc_msgs.proofs.Needed.{needed-many, needed-front, err-many}
+
+-- ---- what a decoder of whole messages answers, by the start of the bytes
+
+abbrev failed : MsgFault → Result ℕ MsgFault
+failed fault = Err fault
+
+one-err : (e f : MsgFault) → failed e ≡ failed f → e ≡ f
+one-err e f p = cc
+
+early-tested : (bytes : List ℕ) (fault : MsgFault) (start : ℕ × ℕ) (number : TrainNumber) (b : Bool) → start_at bytes ≡ Ok start → train_of_number start.0 ≡ Ok number
+    → ltb start.1 (least_train_length number) ≡ b → l_message_at bytes ≡ Err fault → read_train bytes ≡ Err fault
+unfolding l_message_at read_train whole_at
+early-tested bytes fault start number true s-at n-at t e =
+    let found : Length ≡ fault = one-err Length fault (rw (s-at, n-at, t) at e) in rw (s-at, n-at, t) (ap (λ f. Err f) found)
+early-tested bytes fault start number false s-at n-at t e =
+    let found : Ok start.1 ≡ Err fault = rw (s-at, n-at, t) at e in cc
+
+early-known : (bytes : List ℕ) (fault : MsgFault) (start : ℕ × ℕ) (number : Result TrainNumber MsgFault) → start_at bytes ≡ Ok start → train_of_number start.0 ≡ number
+    → l_message_at bytes ≡ Err fault → read_train bytes ≡ Err fault
+unfolding l_message_at read_train
+early-known bytes fault start (Ok number) s-at n-at e = early-tested bytes fault start number (ltb start.1 (least_train_length number)) s-at n-at refl e
+early-known bytes fault start (Err other) s-at n-at e =
+    let found : other ≡ fault = one-err other fault (rw (s-at, n-at) at e) in rw (s-at, n-at) (ap (λ f. Err f) found)
+
+early-by : (bytes : List ℕ) (fault : MsgFault) (start : Result (ℕ × ℕ) MsgFault) → start_at bytes ≡ start → l_message_at bytes ≡ Err fault → read_train bytes ≡ Err fault
+unfolding l_message_at read_train
+early-by bytes fault (Ok start) s-at e = early-known bytes fault start (train_of_number start.0) s-at refl e
+early-by bytes fault (Err other) s-at e =
+    let found : other ≡ fault = one-err other fault (rw s-at at e) in rw s-at (ap (λ f. Err f) found)
+
+-- the start shows a fault
+read-early : (bytes : List ℕ) (fault : MsgFault) → l_message_at bytes ≡ Err fault → read_train bytes ≡ Err fault
+read-early bytes fault e = early-by bytes fault (start_at bytes) refl e
+
+short-tested : (bytes : List ℕ) (n : ℕ) (start : ℕ × ℕ) (number : TrainNumber) (b : Bool) → start_at bytes ≡ Ok start → train_of_number start.0 ≡ Ok number
+    → ltb start.1 (least_train_length number) ≡ b → l_message_at bytes ≡ Ok n → length bytes < n → read_train bytes ≡ Err Short
+unfolding l_message_at read_train whole_at
+short-tested bytes n start number true s-at n-at t e few =
+    let found : Err Length ≡ Ok n = rw (s-at, n-at, t) at e in cc
+short-tested bytes n start number false s-at n-at t e few =
+    let found : Ok start.1 ≡ Ok n = rw (s-at, n-at, t) at e in
+    let same : start.1 ≡ n = cc found in
+    let less : ltb (length bytes) start.1 ≡ true = lt-ltb _ _ (omega arith) in
+    rw (s-at, n-at, t, less) refl
+
+short-known : (bytes : List ℕ) (n : ℕ) (start : ℕ × ℕ) (number : Result TrainNumber MsgFault) → start_at bytes ≡ Ok start → train_of_number start.0 ≡ number
+    → l_message_at bytes ≡ Ok n → length bytes < n → read_train bytes ≡ Err Short
+unfolding l_message_at
+short-known bytes n start (Ok number) s-at n-at e few = short-tested bytes n start number (ltb start.1 (least_train_length number)) s-at n-at refl e few
+short-known bytes n start (Err other) s-at n-at e few =
+    let found : Err other ≡ Ok n = rw (s-at, n-at) at e in cc
+
+short-by : (bytes : List ℕ) (n : ℕ) (start : Result (ℕ × ℕ) MsgFault) → start_at bytes ≡ start → l_message_at bytes ≡ Ok n → length bytes < n → read_train bytes ≡ Err Short
+unfolding l_message_at
+short-by bytes n (Ok start) s-at e few = short-known bytes n start (train_of_number start.0) s-at refl e few
+short-by bytes n (Err other) s-at e few = let found : Err other ≡ Ok n = rw s-at at e in cc
+
+-- fewer than three bytes
+read-few : (bytes : List ℕ) → length bytes < 3 → read_train bytes ≡ Err Short
+unfolding read_train start_at
+read-few bytes few = let t : ltb (length bytes) 3 ≡ true = lt-ltb _ _ few in rw t refl
+
+-- fewer than are needed
+pub rest-read : (bytes : List ℕ) → IsRest bytes → read_train bytes ≡ Err Short
+rest-read bytes h =
+    elim (cases_lt (length bytes) 3) [
+      | inl few ↦ read-few bytes few
+      | inr many ↦ short-by bytes h.needed (start_at bytes) refl (sym (needed-many bytes many) ∙ h.at) h.fewer
+    ]
+
+-- ---- beginnings of the bytes
+
+front-needed : (bytes : List ℕ) (k : ℕ) → 3 ≤ k → k ≤ length bytes → needed_at (take k bytes) ≡ needed_at bytes
+front-needed bytes k three le =
+    sym (needed-front (take k bytes) (drop k bytes) (omega (arith, length-take k bytes))) ∙ ap needed_at (take-append-drop k bytes)
+
+-- a beginning of fewer bytes than are needed
+front-short : (bytes : List ℕ) (n k : ℕ) → needed_at bytes ≡ Ok n → k < n → k ≤ length bytes → read_train (take k bytes) ≡ Err Short
+front-short bytes n k at less le =
+    elim (cases_lt k 3) [
+      | inl few ↦ read-few (take k bytes) (omega (arith, length-take k bytes))
+      | inr many ↦ rest-read (take k bytes) (record { needed = n; at = front-needed bytes k many le ∙ at; fewer = omega (arith, length-take k bytes) })
+    ]
+
+pub first-fault : (bytes : List ℕ) (fault : MsgFault) → ShowsFault bytes fault → IsFirstFault bytes fault
+first-fault bytes fault (inl e) =
+    let many = err-many bytes fault e in
+    let front : needed_at (take 3 bytes) ≡ Err fault = front-needed bytes 3 (omega arith) many ∙ e in
+    record {
+      count = 3;
+      there = many;
+      found = read-early (take 3 bytes) fault (sym (needed-many (take 3 bytes) (omega (arith, length-take 3 bytes))) ∙ front);
+      before = λ k few. read-few (take k bytes) (omega (arith, length-take k bytes));
+    }
+first-fault bytes fault (inr h) =
+    let whole = h.whole in
+    record {
+      count = h.l_message;
+      there = h.whole;
+      found = h.refused;
+      before = λ k less. front-short bytes h.l_message k h.at less (omega arith);
+    }

@@ -1,0 +1,44 @@
+//! What holds of all streams, whatever code reads them.
+
+ghost use Rattle.std.specs.Prelude.{◌≡◌, ℕ, ◌<◌, ◌++◌, List, length, Option, Result, Ok, Err};
+ghost use Rattle.rbc_msgs.specs.TrainText.{TrainText};
+ghost use Rattle.rbc_msgs.specs.TrainSpelling.{SpellsTrain};
+ghost use Rattle.rbc_msgs.specs.TrainReading.{read_train};
+ghost use Rattle.rbc_msgs.specs.Streams.{IsRest, IsEnd, IsFirstFault, ShowsFault, Spell, Fed, HadMemory};
+ghost use Rattle.rbc_msgs.specs.declared.fault.MsgFault.{MsgFault};
+ghost use Rattle.rbc_msgs.specs.declared.fault.StreamFault.{StreamFault};
+
+/// It does not matter how a stream is cut into pieces: two pieces, one fed after the other, give the messages, the answer
+/// and the rest that both give at once, unless memory runs out.
+pub fn no_cut_matters()
+    ensures both { (before middle after once : Option (List ℕ)) (a b : List ℕ) (old mid new whole : List TrainText)
+        (result answer : Result (Unit {0}) StreamFault) →
+        Fed before a old mid (Ok tt) middle → Fed middle b mid new result after → HadMemory result →
+        Fed before (a ++ b) old whole answer once → HadMemory answer →
+        (whole ≡ new) × (answer ≡ result) × (once ≡ after) }
+    ensures fault { (before after once : Option (List ℕ)) (a b : List ℕ) (old new whole : List TrainText)
+        (fault : StreamFault) (answer : Result (Unit {0}) StreamFault) →
+        Fed before a old new (Err fault) after → HadMemory (Err fault) →
+        Fed before (a ++ b) old whole answer once → HadMemory answer →
+        (whole ≡ new) × (answer ≡ Err fault) × (once ≡ after) }
+{}
+
+/// A stream says one thing at most: its bytes are messages and then a rest, or messages and then a fault, in one way.
+pub fn one_reading()
+    ensures messages { (bytes r s : List ℕ) (ms ns : List TrainText) →
+        Spell bytes ms r → Spell bytes ns s → IsEnd r → IsEnd s → (ms ≡ ns) × (r ≡ s) }
+    ensures rest { (bytes : List ℕ) (fault : MsgFault) → IsRest bytes → ShowsFault bytes fault → ⊥ }
+    ensures fault { (bytes : List ℕ) (e f : MsgFault) → ShowsFault bytes e → ShowsFault bytes f → e ≡ f }
+{}
+
+/// What is kept of a stream begins with no whole message, is too short for `decode_train`, and has at most 1 022 bytes.
+pub fn a_rest_is_short()
+    ensures no_message { (first later : List ℕ) (m : TrainText) → SpellsTrain first m → IsRest (first ++ later) → ⊥ }
+    ensures short { (rest : List ℕ) → IsRest rest → read_train rest ≡ Err MsgFault.Short }
+    ensures few { (rest : List ℕ) → IsRest rest → length rest < 1023 }
+{}
+
+/// A stream's fault is the one that `decode_train` gives of the shortest beginning of the bytes that is not too short.
+pub fn a_fault_is_the_first()
+    ensures { (bytes : List ℕ) (fault : MsgFault) → ShowsFault bytes fault → IsFirstFault bytes fault }
+{}
