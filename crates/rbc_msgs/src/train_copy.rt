@@ -22,41 +22,34 @@ impl TrainMsg {
 fn copied_body(alloc: Global, body: &TrainBody) -> Result<TrainBody, AllocError>
     ensures { IfOk result (λ copy. copy ≡ body.now) }
 {
-    match body {
-        TrainBody::TrainData { position, packet } => {
+    match *body {
+        TrainBody::TrainData {
+            position,
+            ref packet,
+        } => {
             let packet = copied_packet(alloc, packet)?;
-            Ok(TrainBody::TrainData {
-                position: *position,
-                packet,
-            })
+            Ok(TrainBody::TrainData { position, packet })
         }
         TrainBody::Request {
             q_marqstreason,
             position,
         } => Ok(TrainBody::Request {
-            q_marqstreason: *q_marqstreason,
-            position: *position,
+            q_marqstreason,
+            position,
         }),
-        TrainBody::Report { position } => Ok(TrainBody::Report {
-            position: *position,
-        }),
-        TrainBody::ShorteningGranted { request, position } => Ok(TrainBody::ShorteningGranted {
-            request: *request,
-            position: *position,
-        }),
-        TrainBody::ShorteningRejected { request, position } => Ok(TrainBody::ShorteningRejected {
-            request: *request,
-            position: *position,
-        }),
-        TrainBody::EndOfMission { position } => Ok(TrainBody::EndOfMission {
-            position: *position,
-        }),
+        TrainBody::Report { position } => Ok(TrainBody::Report { position }),
+        TrainBody::ShorteningGranted { request, position } => {
+            Ok(TrainBody::ShorteningGranted { request, position })
+        }
+        TrainBody::ShorteningRejected { request, position } => {
+            Ok(TrainBody::ShorteningRejected { request, position })
+        }
+        TrainBody::EndOfMission { position } => Ok(TrainBody::EndOfMission { position }),
         TrainBody::InitiationOfSession => Ok(TrainBody::InitiationOfSession),
         TrainBody::TerminationOfSession => Ok(TrainBody::TerminationOfSession),
-        TrainBody::StartOfMission { q_status, position } => Ok(TrainBody::StartOfMission {
-            q_status: *q_status,
-            position: *position,
-        }),
+        TrainBody::StartOfMission { q_status, position } => {
+            Ok(TrainBody::StartOfMission { q_status, position })
+        }
         TrainBody::SessionEstablished => Ok(TrainBody::SessionEstablished),
     }
 }

@@ -24,55 +24,34 @@ impl TrainMsg {
 fn is_same_body(a: &TrainBody, b: &TrainBody) -> bool
     ensures { IsTrue result ↔ (a.now ≡ b.now) }
 {
-    match (a, b) {
-        (
-            TrainBody::TrainData { position, packet },
-            TrainBody::TrainData {
-                position: other,
-                packet: other_packet,
-            },
-        ) => is_same_position(position, other) && is_same_packet(packet, other_packet),
-        (
-            TrainBody::Request {
-                q_marqstreason,
-                position,
-            },
-            TrainBody::Request {
-                q_marqstreason: other_reason,
-                position: other,
-            },
-        ) => *q_marqstreason == *other_reason && is_same_position(position, other),
-        (TrainBody::Report { position }, TrainBody::Report { position: other }) => {
-            is_same_position(position, other)
+    match a {
+        TrainBody::TrainData { position, packet } => {
+            matches!(b, TrainBody::TrainData { position: p, packet: q } if is_same_position(position, p) && is_same_packet(packet, q))
         }
-        (TrainBody::EndOfMission { position }, TrainBody::EndOfMission { position: other }) => {
-            is_same_position(position, other)
+        TrainBody::Request {
+            q_marqstreason,
+            position,
+        } => {
+            matches!(b, TrainBody::Request { q_marqstreason: q, position: p } if *q_marqstreason == *q && is_same_position(position, p))
         }
-        (
-            TrainBody::ShorteningGranted { request, position },
-            TrainBody::ShorteningGranted {
-                request: other_request,
-                position: other,
-            },
-        ) => *request == *other_request && is_same_position(position, other),
-        (
-            TrainBody::ShorteningRejected { request, position },
-            TrainBody::ShorteningRejected {
-                request: other_request,
-                position: other,
-            },
-        ) => *request == *other_request && is_same_position(position, other),
-        (
-            TrainBody::StartOfMission { q_status, position },
-            TrainBody::StartOfMission {
-                q_status: other_status,
-                position: other,
-            },
-        ) => *q_status == *other_status && is_same_position(position, other),
-        (TrainBody::InitiationOfSession, TrainBody::InitiationOfSession)
-        | (TrainBody::TerminationOfSession, TrainBody::TerminationOfSession)
-        | (TrainBody::SessionEstablished, TrainBody::SessionEstablished) => true,
-        _ => false,
+        TrainBody::Report { position } => {
+            matches!(b, TrainBody::Report { position: p } if is_same_position(position, p))
+        }
+        TrainBody::ShorteningGranted { request, position } => {
+            matches!(b, TrainBody::ShorteningGranted { request: r, position: p } if *request == *r && is_same_position(position, p))
+        }
+        TrainBody::ShorteningRejected { request, position } => {
+            matches!(b, TrainBody::ShorteningRejected { request: r, position: p } if *request == *r && is_same_position(position, p))
+        }
+        TrainBody::EndOfMission { position } => {
+            matches!(b, TrainBody::EndOfMission { position: p } if is_same_position(position, p))
+        }
+        TrainBody::InitiationOfSession => matches!(b, TrainBody::InitiationOfSession),
+        TrainBody::TerminationOfSession => matches!(b, TrainBody::TerminationOfSession),
+        TrainBody::StartOfMission { q_status, position } => {
+            matches!(b, TrainBody::StartOfMission { q_status: q, position: p } if *q_status == *q && is_same_position(position, p))
+        }
+        TrainBody::SessionEstablished => matches!(b, TrainBody::SessionEstablished),
     }
 }
 

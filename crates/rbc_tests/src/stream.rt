@@ -13,18 +13,9 @@ const STREAMS: [(&str, &str); 11] = [
         "9B,02,80,00,00,00,40,00,00,40",
         "none; none; none; none; none; none; none; none; none; 155 t_train=1 nid_engine=1",
     ),
-    (
-        "9B,02,40",
-        "none; none; fault 2",
-    ),
-    (
-        "920280,9B028000000040000040,-",
-        "fault 4; fault 9; fault 9",
-    ),
-    (
-        "9B028000000040000040",
-        "155 t_train=1 nid_engine=1",
-    ),
+    ("9B,02,40", "none; none; fault 2"),
+    ("920280,9B028000000040000040,-", "fault 4; fault 9; fault 9"),
+    ("9B028000000040000040", "155 t_train=1 nid_engine=1"),
     (
         "9B0280000000400000409D0680000000C00000500040A0280CA096140050014406400418",
         "155 t_train=1 nid_engine=1 + 157 t_train=3 nid_engine=1 q_status=1 [0 q_scale=1 nid_lrbg=82021 d_lrbg=600 q_dirlrbg=1 q_dlrbg=1 l_doubtover=10 l_doubtunder=20 q_length=1 l_trainint=200 v_train=0 q_dirtrain=1 m_mode=0 m_level=3]",
@@ -41,18 +32,12 @@ const STREAMS: [(&str, &str); 11] = [
         "9B0280000000400000409B0280000000400000419B028000000040000040,9B028000000040000040",
         "155 t_train=1 nid_engine=1 + fault 3; fault 9",
     ),
-    (
-        "9B0280000000400000,41",
-        "none; fault 3",
-    ),
+    ("9B0280000000400000,41", "none; fault 3"),
     (
         "9B02800000004000004092,02,80",
         "155 t_train=1 nid_engine=1; none; fault 4",
     ),
-    (
-        "9B02BFFFFFFFC00000,40",
-        "none; fault 7",
-    ),
+    ("9B02BFFFFFFFC00000,40", "none; fault 7"),
 ];
 
 #[test]
@@ -84,7 +69,10 @@ fn answer_to(alloc: Global, stream: &mut Stream, piece: &[u8]) -> Result<Vec<u8>
         add(&mut said, &shown)?;
     }
     if let Err(fault) = result {
-        add(&mut said, format!(in alloc; "fault {}", fault.number())?.as_bytes())?;
+        add(
+            &mut said,
+            format!(in alloc; "fault {}", fault.number())?.as_bytes(),
+        )?;
     }
     if said.is_empty() {
         add(&mut said, b"none")?;
@@ -102,7 +90,9 @@ fn add(said: &mut Vec<u8>, text: &[u8]) -> Result<(), Fail> {
 
 #[test]
 fn no_cut_matters(rt: HostRuntime) -> Result<(), Fail> {
-    let mut draws = Draws { state: 2_463_534_242 };
+    let mut draws = Draws {
+        state: 2_463_534_242,
+    };
     let bytes = all_messages(rt.alloc())?;
     for most in [1, 2, 3, 7, 29, 300, 5_000] {
         for _ in 0..20 {
