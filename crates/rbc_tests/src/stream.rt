@@ -4,6 +4,7 @@ use crate::codec_shown::show_train;
 use crate::codec_values::TRAIN;
 use rbc_msgs::{MsgFault, Stream, StreamFault, TrainMsg, decode_train};
 use std::alloc::Global;
+use std::mem;
 use std::test::*;
 
 // A stream in pieces, parted by commas (`-` has no bytes), and what each call gives, parted by semicolons: the messages
@@ -96,16 +97,12 @@ fn no_cut_matters(rt: HostRuntime) -> Result<(), Fail> {
     let bytes = all_messages(rt.alloc())?;
     for most in [1, 2, 3, 7, 29, 300, 5_000] {
         for _ in 0..20 {
+            let pieces = draws.pieces(rt.alloc(), &bytes, most)?;
             let mut stream = Stream::new(rt.alloc());
             let mut messages = Vec::new(rt.alloc());
-            let mut left = bytes.as_slice();
-            while !left.is_empty() {
-                let count = (draws.below(most) + 1).min(left.len());
-                stream
-                    .feed(&left[..count], &mut messages)
-                    .ok()
-                    .ok_or("no fault is there")?;
-                left = &left[count..];
+            for piece in &pieces {
+                let fed = stream.feed(piece, &mut messages);
+                assert!(rt; fed == Ok(()));
             }
             are_all(rt.alloc(), &messages)?;
         }
@@ -143,14 +140,15 @@ fn a_megabyte_comes_in_one_piece(rt: HostRuntime) -> Result<(), Fail> {
     for _ in 0..40_330 {
         bytes.extend_from_slice(&message)?;
     }
+    bytes.extend_from_slice(&message[..message.len().min(9)])?;
     let mut stream = Stream::new(rt.alloc());
     let mut messages = Vec::new(rt.alloc());
-    let fed = stream.feed(&bytes[..bytes.len() - 1], &mut messages);
-    assert!(rt; fed == Ok(()));
-    assert_eq!(rt; messages.len(), 40_329);
-    let fed = stream.feed(&bytes[bytes.len() - 1..], &mut messages);
+    let fed = stream.feed(&bytes, &mut messages);
     assert!(rt; fed == Ok(()));
     assert_eq!(rt; messages.len(), 40_330);
+    let fed = stream.feed(&message[message.len().min(9)..], &mut messages);
+    assert!(rt; fed == Ok(()));
+    assert_eq!(rt; messages.len(), 40_331);
     Ok(())
 }
 
@@ -164,6 +162,35 @@ fn a_fault_is_named_once(rt: HostRuntime) {
     assert!(rt; stream.feed(&[0x9B], &mut messages) == Err(StreamFault::Failed));
     assert_eq!(rt; StreamFault::Failed.number(), 9);
     assert!(rt; messages.is_empty());
+}
+
+// Message 129 takes memory for its packet 11.
+const TRAIN_DATA: [u8; 28] = [
+    0x81, 0x07, 0x00, 0x00, 0x00, 0x01, 0x00, 0x00, 0x00, 0x40, 0x01, 0x02, 0x80, 0xA0, 0x32, 0x82,
+    0x58, 0x50, 0x01, 0x40, 0x05, 0x10, 0x19, 0x00, 0x10, 0x61, 0x60, 0x15,
+];
+
+// Made to be run with each allocation failing in turn (`rt try --test --fail-alloc N`).
+#[test]
+fn want_of_memory_is_a_fault_too(rt: HostRuntime) {
+    let mut stream = Stream::new(rt.alloc());
+    let mut messages = Vec::new(rt.alloc());
+    let mut memory = true;
+    for piece in [&TRAIN_DATA[..], &TRAIN_DATA[..20], &TRAIN_DATA[20..]] {
+        let fed = stream.feed(piece, &mut messages);
+        if memory {
+            memory = fed == Ok(());
+            assert!(rt; memory || fed == Err(StreamFault::Message(MsgFault::Memory)));
+        } else {
+            assert!(rt; fed == Err(StreamFault::Failed));
+        }
+    }
+    assert_eq!(rt; messages.len() == 2, memory);
+    for message in &messages {
+        if let Ok(copy) = message.copied(rt.alloc()) {
+            assert!(rt; copy.is_same(message));
+        }
+    }
 }
 
 #[test]
@@ -194,10 +221,31 @@ struct Draws {
 }
 
 impl Draws {
-    fn below(&mut self, most: usize) -> usize {
+    fn below(&mut self, most: u64) -> u64 {
         self.state ^= self.state << 13;
         self.state ^= self.state >> 7;
         self.state ^= self.state << 17;
-        (self.state % most.max(1) as u64) as usize
+        self.state % most.max(1)
+    }
+
+    // The bytes in pieces of at most so many.
+    fn pieces(&mut self, alloc: Global, bytes: &[u8], most: u64) -> Result<Vec<Vec<u8>>, Fail> {
+        let mut pieces = Vec::new(alloc);
+        let mut piece = Vec::new(alloc);
+        let mut left = self.below(most);
+        for byte in bytes {
+            piece.push(*byte).ok().ok_or("memory")?;
+            if left == 0 {
+                pieces
+                    .push(mem::replace(&mut piece, Vec::new(alloc)))
+                    .ok()
+                    .ok_or("memory")?;
+                left = self.below(most);
+            } else {
+                left -= 1;
+            }
+        }
+        pieces.push(piece).ok().ok_or("memory")?;
+        Ok(pieces)
     }
 }
