@@ -22,6 +22,8 @@ mod line_faults;
 #[cfg(test)]
 mod log;
 #[cfg(test)]
+mod node;
+#[cfg(test)]
 mod sessions;
 #[cfg(test)]
 mod stream;

@@ -1,0 +1,176 @@
+use crate::line::two_centres;
+use rbc_centre::{Event, Word};
+use rbc_line::Line;
+use rbc_log::CentreLog;
+use rbc_node::{Gate, Node, Open, ShareFault};
+use std::alloc::Global;
+use std::sync::atomic::{AtomicBool, AtomicU32, Ordering};
+use std::test::*;
+use std::thread;
+
+/// Four sections of centre A, and then four of centre B.
+const EIGHT_SECTIONS: &str = "nid_c = 5
+[[centre]]
+name = \"A\"
+nid_rbc = 1
+[[centre]]
+name = \"B\"
+nid_rbc = 2
+[[track]]
+name = \"main\"
+section = [
+  { length = 1000, home = \"A\", balise = 100 },
+  { length = 1000, home = \"A\", balise = 101 },
+  { length = 1000, home = \"A\", balise = 102 },
+  { length = 1000, home = \"A\", balise = 103 },
+  { length = 1000, home = \"B\", balise = 104 },
+  { length = 1000, home = \"B\", balise = 105 },
+  { length = 1000, home = \"B\", balise = 106 },
+  { length = 1000, home = \"B\", balise = 107 },
+]
+[[train]]
+engine = 1
+registrar = \"A\"
+[[train]]
+engine = 2
+registrar = \"B\"
+";
+
+const A: u8 = 0;
+
+const B: u8 = 1;
+
+/// A node of each centre.
+fn both(alloc: Global, line: &Line) -> Result<(Node, Node), Fail> {
+    if line.centre_count() < 2 {
+        return Err("there are two centres".into());
+    }
+    let a = Node::new(alloc, line, A)?;
+    let b = Node::new(alloc, line, B)?;
+    Ok((a, b))
+}
+
+#[test]
+fn a_share_of_another_centre_is_stray(rt: HostRuntime) -> Result<(), Fail> {
+    let line = two_centres(rt.alloc())?;
+    let (a, b) = both(rt.alloc(), &line)?;
+    let mut share = a.share();
+    let first = a
+        .commit(&rt, &Open, &mut share, Event::Set(0))
+        .ok()
+        .ok_or("the first is taken")?;
+    let second = a
+        .commit(&rt, &Open, &mut share, Event::Set(0))
+        .ok()
+        .ok_or("the second is taken")?;
+    assert_eq!(rt; first.stamp, 1);
+    assert_eq!(rt; second.stamp, 2);
+    assert_eq!(rt; share.receipts().len(), 2);
+    let last = share.receipts().last().ok_or("there are receipts")?;
+    assert_eq!(rt; last.place, 1);
+    assert_eq!(rt; last.outcome.stamp, 2);
+    let third = a
+        .commit(&rt, &Open, &mut b.share(), Event::Set(0))
+        .err()
+        .ok_or("a share of another centre is refused")?;
+    assert_eq!(rt; third, ShareFault::Stray);
+    assert_eq!(rt; third.number(), 5);
+    Ok(())
+}
+
+#[test]
+fn a_share_is_stray_where_its_last_receipt_is_not(rt: HostRuntime) -> Result<(), Fail> {
+    let line = two_centres(rt.alloc())?;
+    let (a, _b) = both(rt.alloc(), &line)?;
+    let (begun_again, _b) = both(rt.alloc(), &line)?;
+    let mut share = a.share();
+    assert!(rt; a.commit(&rt, &Open, &mut share, Event::Set(0)).is_ok());
+    let lacking = begun_again.commit(&rt, &Open, &mut share, Event::Set(0));
+    assert_eq!(rt; lacking.err(), Some(ShareFault::Stray));
+    let mut other = begun_again.share();
+    assert!(rt;
+        begun_again
+            .commit(&rt, &Open, &mut other, Event::Set(1))
+            .is_ok()
+    );
+    let differing = begun_again.commit(&rt, &Open, &mut share, Event::Set(0));
+    assert_eq!(rt; differing.err(), Some(ShareFault::Stray));
+    assert_eq!(rt; share.receipts().len(), 1);
+    Ok(())
+}
+
+#[test]
+fn a_share_commits_to_a_log_that_it_is_lent(rt: HostRuntime) -> Result<(), Fail> {
+    let line = two_centres(rt.alloc())?;
+    let mut log = CentreLog::new(rt.alloc(), &line, A)?;
+    let (a, _b) = both(rt.alloc(), &line)?;
+    let mut share = a.share();
+    assert!(rt; share.commit(&mut log, Event::Set(1)).is_ok());
+    assert_eq!(rt; log.entries().len(), 1);
+    assert_eq!(rt; share.receipts().len(), 1);
+    Ok(())
+}
+
+/// Holds back the commits of A until the commit of B is answered, or so many turns have passed. Counts the commits that are over.
+#[derive(Drop)]
+struct Held {
+    answered: AtomicBool,
+    gave_up: AtomicBool,
+    over: AtomicU32,
+}
+
+const TURNS: u32 = 10_000_000;
+
+impl Gate for Held {
+    fn inside(&self, centre: u8) {
+        if centre != A {
+            return;
+        }
+        for _ in 0..TURNS {
+            if self.answered.load(Ordering::SeqCst) {
+                return;
+            }
+            thread::yield_now();
+        }
+        self.gave_up.store(true, Ordering::SeqCst);
+    }
+
+    fn after(&self, _centre: u8) {
+        self.over.fetch_add(1, Ordering::SeqCst);
+    }
+}
+
+#[test]
+fn a_commit_of_one_centre_waits_for_no_other(rt: HostRuntime) -> Result<(), Fail> {
+    let line = Line::from_toml(rt.alloc(), EIGHT_SECTIONS)
+        .ok()
+        .ok_or("the line file is accepted")?;
+    let (a, b) = both(rt.alloc(), &line)?;
+    let mut of_a = a.share();
+    let mut of_b = b.share();
+    let gate = Held {
+        answered: AtomicBool::new(false),
+        gave_up: AtomicBool::new(false),
+        over: AtomicU32::new(0),
+    };
+    let (first, second) = thread::join(
+        &rt,
+        || a.commit(&rt, &gate, &mut of_a, Event::Set(0)),
+        || {
+            let answer = b.commit(&rt, &gate, &mut of_b, Event::Set(4));
+            gate.answered.store(true, Ordering::SeqCst);
+            answer
+        },
+    );
+    assert!(rt; !gate.gave_up.load(Ordering::SeqCst));
+    assert_eq!(rt; gate.over.load(Ordering::SeqCst), 2);
+    let first = first.ok().ok_or("A takes its set")?;
+    let second = second.ok().ok_or("B takes its set")?;
+    assert_eq!(rt; first.stamp, 1);
+    assert_eq!(rt; second.stamp, 1);
+    assert_eq!(rt; first.words.as_slice(), [Word::Done(0)].as_slice());
+    assert_eq!(rt; second.words.as_slice(), [Word::Done(4)].as_slice());
+    assert_eq!(rt; of_a.receipts().len(), 1);
+    assert_eq!(rt; of_b.receipts().len(), 1);
+    Ok(())
+}
