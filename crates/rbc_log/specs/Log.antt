@@ -5,7 +5,9 @@ use Rattle.rbc_spec.specs.Outcome.{Outcome}
 use Rattle.rbc_spec.specs.Centre.{beginning}
 use Rattle.rbc_spec.specs.Step.{Event, step, ClockEnd as AtClockEnd}
 use Rattle.rbc_centre.specs.Meaning.{line_of, number_of, meaning}
+use Rattle.rbc_centre.specs.Views.{event_of}
 use Rattle.rbc_centre.specs.declared.centre.Centre.{Centre}
+use Rattle.rbc_centre.specs.declared.event.Event.{Event as EventInMemory}
 use Rattle.rbc_log.specs.Replay.{Replays}
 use Rattle.rbc_log.specs.Entries.{entry_of}
 use Rattle.rbc_log.specs.declared.entry.Entry.{Entry}
@@ -24,11 +26,12 @@ most_entries = 1000000
 abbrev pub IsReplaying : LogValue → Type 0
 IsReplaying l = Replays (line_of l.core) (number_of l.core) (beginning (line_of l.core) (number_of l.core)) (map entry_of l.entries) (meaning l.core)
 
--- the event was taken: it stands behind the entries with the outcome of the centre's step, and the centre is as that step leaves it
-pub record Appends (old new : LogValue) (event : Event) (outcome : Outcome) : Type 0 where
+-- the event was taken: it stands behind the entries, whole, with the outcome of the centre's step, and the centre is as that step leaves it
+pub record Appends (old new : LogValue) (event : EventInMemory) (outcome : Outcome) : Type 0 where
   pub room : length old.entries < most_entries
-  pub entries : map entry_of new.entries ≡ map entry_of old.entries ++ record { centre = number_of old.core; event = event; outcome = outcome } ∷ []
-  pub core : step Sessions (line_of old.core) (number_of old.core) event (meaning old.core) ≡ Ok (outcome, meaning new.core)
+  pub entries : map entry_of new.entries ≡ map entry_of old.entries ++ record { centre = number_of old.core; event = event_of event; outcome = outcome } ∷ []
+  pub events : map (λ e. e.event) new.entries ≡ map (λ e. e.event) old.entries ++ event ∷ []
+  pub core : step Sessions (line_of old.core) (number_of old.core) (event_of event) (meaning old.core) ≡ Ok (outcome, meaning new.core)
   pub line : line_of new.core ≡ line_of old.core
   pub number : number_of new.core ≡ number_of old.core
 

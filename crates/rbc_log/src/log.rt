@@ -64,7 +64,7 @@ impl CentreLog {
 
     /// The centre takes the event, and the log has it with what was answered. Room for the entry is made first.
     pub fn commit(&mut self, event: Event) -> Result<Outcome, CommitFault>
-        ensures appends { IfOk result (λ o. Appends self.old self.new (event_of event) (outcome_of o)) }
+        ensures appends { IfOk result (λ o. Appends self.old self.new event (outcome_of o)) }
         ensures refused { IfErr result (IsRefusal self.old (event_of event)) }
         ensures err { OnErr result (IsUnchanged self.old self.new) }
         ensures replays { IsReplaying self.new }

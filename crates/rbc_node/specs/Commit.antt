@@ -18,7 +18,7 @@ pub record Fits (share : ShareValue) (log : LogValue) : Type 0 where
 -- the log took the event, with this outcome in its last entry, and the share has that entry's receipt behind the others
 pub record Commits (old new : ShareValue) (before after : LogValue) (event : Event) (outcome : Outcome) : Type 0 where
   pub fits : Fits old before
-  pub appends : Appends before after (event_of event) outcome
+  pub appends : Appends before after event outcome
   pub replays : IsReplaying after
   pub centre : new.centre ≡ old.centre
   pub receipts : map committed_of new.receipts ≡ map committed_of old.receipts ++ record { event = event; outcome = outcome; place = length before.entries } ∷ []
