@@ -24,6 +24,10 @@ both-bytes : (old new : List TrainText) (kept a b r : List ℕ) → Adds old new
 both-bytes old new kept a b r p =
     subst (λ x. Adds old new x (r ++ b)) (append_assoc kept a b) (adds-behind old new (kept ++ a) r b p)
 
+-- the messages of the first piece, and then those of what it left and the second
+pub adds-both : (old mid new : List TrainText) (a b r s : List ℕ) → Adds old mid a r → Adds mid new (r ++ b) s → Adds old new (a ++ b) s
+adds-both old mid new a b r s p q = adds-then old mid new (a ++ b) (r ++ b) s (adds-behind old mid a r b p) q
+
 then-halts : (old new : List TrainText) (kept a b : List ℕ) (fault : MsgFault) → Halts old new (kept ++ a) fault → Halts old new (kept ++ (a ++ b)) fault
 then-halts old new kept a b fault h =
     subst (λ x. Halts old new x fault) (append_assoc kept a b) (halts-behind old new (kept ++ a) b fault h)

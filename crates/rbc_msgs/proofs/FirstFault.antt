@@ -1,5 +1,5 @@
 -- The fault of a stream is that of a decoder which sees the bytes come.
-use Rattle.std.proofs.Common.{◌≡◌, inl, inr, ℕ, ◌<◌, ◌≤◌, Bool, true, false, ltb, List, length, take, drop, Result, Ok, Err, refl, sym, ap, ◌∙◌, length-take, arith}
+use Rattle.std.proofs.Common.{◌≡◌, ◌≢◌, inl, inr, ℕ, ◌<◌, ◌≤◌, Bool, true, false, ltb, List, length, take, drop, Result, Ok, Err, refl, sym, ap, ◌∙◌, length-take, arith}
 use Rattle.std.proofs.lemmas.Bool.{lt-ltb, cases_lt}
 use Rattle.std.proofs.lemmas.List.{take-append-drop}
 use Rattle.rbc_msgs.specs.Numbers.{train_of_number, least_train_length}
@@ -9,7 +9,8 @@ use Rattle.rbc_msgs.specs.Streams.{l_message_at, needed_at, IsRest, ShowsFault, 
 use Rattle.rbc_msgs.specs.declared.fault.MsgFault.{MsgFault}
 use Rattle.rbc_msgs.specs.declared.fault.MsgFault.TheVariants.{Short, Length}
 use Rattle.rbc_msgs.specs.declared.number.TrainNumber.{TrainNumber}
-use Rattle.rbc_msgs.proofs.Needed.{needed-many, needed-front, err-many}
+use Rattle.rbc_msgs.proofs.NotShort.{long-l_message, long-read}
+use Rattle.rbc_msgs.proofs.Needed.{needed-range, needed-many, needed-front, err-many}
 
 -- ---- what a decoder of whole messages answers, by the start of the bytes
 
@@ -94,6 +95,12 @@ front-short bytes n k at less le =
       | inr many ↦ rest-read (take k bytes) (record { needed = n; at = front-needed bytes k many le ∙ at; fewer = omega (arith, length-take k bytes) })
     ]
 
+front-long : (bytes : List ℕ) (n : ℕ) → needed_at bytes ≡ Ok n → n ≤ length bytes → read_train (take n bytes) ≢ Err Short
+front-long bytes n at le =
+    let range = needed-range bytes n at in
+    let count : length (take n bytes) ≡ n = omega (arith, length-take n bytes) in
+    long-read (take n bytes) (front-needed bytes n (omega arith) le ∙ at ∙ ap (λ k. Ok k) (sym count))
+
 pub first-fault : (bytes : List ℕ) (fault : MsgFault) → ShowsFault bytes fault → IsFirstFault bytes fault
 first-fault bytes fault (inl e) =
     let many = err-many bytes fault e in
@@ -102,6 +109,7 @@ first-fault bytes fault (inl e) =
       count = 3;
       there = many;
       found = read-early (take 3 bytes) fault (sym (needed-many (take 3 bytes) (omega (arith, length-take 3 bytes))) ∙ front);
+      told = λ short. long-l_message bytes many (sym (needed-many bytes many) ∙ e ∙ ap (λ f. Err f) short);
       before = λ k few. read-few (take k bytes) (omega (arith, length-take k bytes));
     }
 first-fault bytes fault (inr h) =
@@ -110,5 +118,6 @@ first-fault bytes fault (inr h) =
       count = h.l_message;
       there = h.whole;
       found = h.refused;
+      told = λ short. front-long bytes h.l_message h.at h.whole (h.refused ∙ ap (λ f. Err f) short);
       before = λ k less. front-short bytes h.l_message k h.at less (omega arith);
     }

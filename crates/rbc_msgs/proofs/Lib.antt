@@ -9,4 +9,5 @@ pub mod Needed
 pub mod Streams
 mod OneReading
 mod Cuts
+mod NotShort
 mod FirstFault

@@ -22,11 +22,11 @@ use Rattle.rbc_msgs.proofs.TrainLaws.{l_message_at-again}
 -- ---- steps back
 
 -- two steps gave an answer, so each did
-bind-ok : {A B : Type 0} (r : Result A MsgFault) (f : A → Result B MsgFault) (y : B) → (r >>= f) ≡ Ok y → (x : A) × (r ≡ Ok x) × (f x ≡ Ok y)
+pub bind-ok : {A B : Type 0} (r : Result A MsgFault) (f : A → Result B MsgFault) (y : B) → (r >>= f) ≡ Ok y → (x : A) × (r ≡ Ok x) × (f x ≡ Ok y)
 bind-ok (Ok x) f y e = (x, refl, e)
 bind-ok (Err fault) f y e = cc
 
-not-refused : (b : Bool) (fault : MsgFault) (x : Unit {0}) → refuse b fault ≡ Ok x → b ≡ false
+pub not-refused : (b : Bool) (fault : MsgFault) (x : Unit {0}) → refuse b fault ≡ Ok x → b ≡ false
 not-refused true fault x e = cc
 not-refused false fault x e = refl
 
@@ -50,7 +50,7 @@ start-range bytes x e =
     let same : l.0.0 ≡ x.1 = cc l.2 in
     subst (λ n. n < 2 ^ 10) same range
 
-least-some : (k : TrainNumber) → 10 ≤ least_train_length k
+pub least-some : (k : TrainNumber) → 10 ≤ least_train_length k
 least-some TrainData = omega arith
 least-some Request = omega arith
 least-some Report = omega arith
@@ -63,11 +63,11 @@ least-some StartOfMission = omega arith
 least-some SessionEstablished = omega arith
 
 -- the test of L_MESSAGE, and then the answer
-then-tested : ℕ → TrainNumber → Result ℕ MsgFault
+unfoldable pub then-tested : ℕ → TrainNumber → Result ℕ MsgFault
 then-tested l_message number = refuse (ltb l_message (least_train_length number)) Length >>= λ _. Ok l_message
 
 -- NID_MESSAGE, and then the test
-then-known : ℕ × ℕ → Result ℕ MsgFault
+unfoldable pub then-known : ℕ × ℕ → Result ℕ MsgFault
 then-known start = train_of_number start.0 >>= λ number. then-tested start.1 number
 
 l_message-range : (bytes : List ℕ) (n : ℕ) → l_message_at bytes ≡ Ok n → (10 ≤ n) × (n < 2 ^ 10)

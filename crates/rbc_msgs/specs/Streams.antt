@@ -107,4 +107,5 @@ pub record IsFirstFault (bytes : List ℕ) (fault : MsgFault) : Type 0 where
   pub count : ℕ
   pub there : count ≤ length bytes
   pub found : read_train (take count bytes) ≡ Err fault
+  pub told : fault ≢ message.Short
   pub before : (k : ℕ) → k < count → read_train (take k bytes) ≡ Err message.Short

@@ -4,13 +4,15 @@ ghost use Rattle.std.specs.Prelude.{◌≡◌, ℕ, ◌<◌, ◌++◌, List, len
 ghost use Rattle.rbc_msgs.specs.TrainText.{TrainText};
 ghost use Rattle.rbc_msgs.specs.TrainSpelling.{SpellsTrain};
 ghost use Rattle.rbc_msgs.specs.TrainReading.{read_train};
-ghost use Rattle.rbc_msgs.specs.Streams.{IsRest, IsEnd, IsFirstFault, ShowsFault, Spell, Fed, HadMemory};
+ghost use Rattle.rbc_msgs.specs.Streams.{IsRest, IsEnd, IsFirstFault, ShowsFault, Spell, Adds, Fed, HadMemory};
 ghost use Rattle.rbc_msgs.specs.declared.fault.MsgFault.{MsgFault};
 ghost use Rattle.rbc_msgs.specs.declared.fault.StreamFault.{StreamFault};
 
 /// It does not matter how a stream is cut into pieces: two pieces, one fed after the other, give the messages, the answer
 /// and the rest that both give at once, unless memory runs out.
 pub fn no_cut_matters()
+    ensures messages { (old mid new : List TrainText) (a b r s : List ℕ) →
+        Adds old mid a r → Adds mid new (r ++ b) s → Adds old new (a ++ b) s }
     ensures both { (before middle after once : Option (List ℕ)) (a b : List ℕ) (old mid new whole : List TrainText)
         (result answer : Result (Unit {0}) StreamFault) →
         Fed before a old mid (Ok tt) middle → Fed middle b mid new result after → HadMemory result →

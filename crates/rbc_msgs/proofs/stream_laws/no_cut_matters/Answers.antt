@@ -1,6 +1,9 @@
 use Rattle.std.proofs.Common.{Err}
-use Rattle.rbc_msgs.proofs.Cuts.{fed-then, fault-then, one-answer}
+use Rattle.rbc_msgs.proofs.Cuts.{adds-both, fed-then, fault-then, one-answer}
 use Rattle.rbc_msgs.proofs.stream_laws.no_cut_matters.Goals as goal
+
+pub returns-clause-messages : goal.returns-clause-messages
+returns-clause-messages c = adds-both
 
 pub returns-clause-both : goal.returns-clause-both
 returns-clause-both c =
