@@ -1,7 +1,8 @@
 -- The fault of a stream is that of a decoder which sees the bytes come.
 use Rattle.std.proofs.Common.{◌≡◌, ◌≢◌, inl, inr, ℕ, ◌<◌, ◌≤◌, Bool, true, false, ltb, List, length, take, drop, Result, Ok, Err, refl, sym, ap, ◌∙◌, length-take, arith}
-use Rattle.std.proofs.lemmas.Bool.{lt-ltb, cases_lt}
+use Rattle.std.proofs.lemmas.Bool.{lt-ltb, le-ltb, cases_lt}
 use Rattle.std.proofs.lemmas.List.{take-append-drop}
+use Rattle.rbc_msgs.specs.TrainText.{TrainText}
 use Rattle.rbc_msgs.specs.Numbers.{train_of_number, least_train_length}
 use Rattle.rbc_msgs.specs.Reading.{start_at, whole_at}
 use Rattle.rbc_msgs.specs.TrainReading.{read_train}
@@ -10,7 +11,13 @@ use Rattle.rbc_msgs.specs.declared.fault.MsgFault.{MsgFault}
 use Rattle.rbc_msgs.specs.declared.fault.MsgFault.TheVariants.{Short, Length}
 use Rattle.rbc_msgs.specs.declared.number.TrainNumber.{TrainNumber}
 use Rattle.rbc_msgs.proofs.NotShort.{long-l_message, long-read}
-use Rattle.rbc_msgs.proofs.Needed.{needed-range, needed-many, needed-front, err-many}
+use Rattle.rbc_msgs.proofs.Needed.{Announces, announced, needed-few, needed-many, needed-front, needed-range, err-many}
+
+abbrev refused-as : MsgFault → Result TrainText MsgFault
+refused-as fault = Err fault
+
+not-short : (fault : MsgFault) → fault ≢ Short → refused-as fault ≢ refused-as Short
+not-short fault ne e = ne (cc e)
 
 -- ---- what a decoder of whole messages answers, by the start of the bytes
 
@@ -45,28 +52,22 @@ early-by bytes fault (Err other) s-at e =
 read-early : (bytes : List ℕ) (fault : MsgFault) → l_message_at bytes ≡ Err fault → read_train bytes ≡ Err fault
 read-early bytes fault e = early-by bytes fault (start_at bytes) refl e
 
-short-tested : (bytes : List ℕ) (n : ℕ) (start : ℕ × ℕ) (number : TrainNumber) (b : Bool) → start_at bytes ≡ Ok start → train_of_number start.0 ≡ Ok number
-    → ltb start.1 (least_train_length number) ≡ b → l_message_at bytes ≡ Ok n → length bytes < n → read_train bytes ≡ Err Short
-unfolding l_message_at read_train whole_at
-short-tested bytes n start number true s-at n-at t e few =
-    let found : Err Length ≡ Ok n = rw (s-at, n-at, t) at e in cc
-short-tested bytes n start number false s-at n-at t e few =
-    let found : Ok start.1 ≡ Ok n = rw (s-at, n-at, t) at e in
-    let same : start.1 ≡ n = cc found in
-    let less : ltb (length bytes) start.1 ≡ true = lt-ltb _ _ (omega arith) in
-    rw (s-at, n-at, t, less) refl
+-- fewer bytes than L_MESSAGE says
+read-short : (bytes : List ℕ) (n : ℕ) → Announces bytes n → length bytes < n → read_train bytes ≡ Err Short
+unfolding read_train whole_at
+read-short bytes n h few =
+    let same = h.same in
+    let less : ltb (length bytes) h.start.1 ≡ true = lt-ltb _ _ (omega arith) in
+    rw (h.started, h.known, h.enough, less) refl
 
-short-known : (bytes : List ℕ) (n : ℕ) (start : ℕ × ℕ) (number : Result TrainNumber MsgFault) → start_at bytes ≡ Ok start → train_of_number start.0 ≡ number
-    → l_message_at bytes ≡ Ok n → length bytes < n → read_train bytes ≡ Err Short
-unfolding l_message_at
-short-known bytes n start (Ok number) s-at n-at e few = short-tested bytes n start number (ltb start.1 (least_train_length number)) s-at n-at refl e few
-short-known bytes n start (Err other) s-at n-at e few =
-    let found : Err other ≡ Ok n = rw (s-at, n-at) at e in cc
-
-short-by : (bytes : List ℕ) (n : ℕ) (start : Result (ℕ × ℕ) MsgFault) → start_at bytes ≡ start → l_message_at bytes ≡ Ok n → length bytes < n → read_train bytes ≡ Err Short
-unfolding l_message_at
-short-by bytes n (Ok start) s-at e few = short-known bytes n start (train_of_number start.0) s-at refl e few
-short-by bytes n (Err other) s-at e few = let found : Err other ≡ Ok n = rw s-at at e in cc
+-- more bytes
+read-more : (bytes : List ℕ) (n : ℕ) → Announces bytes n → n < length bytes → read_train bytes ≡ Err Length
+unfolding read_train whole_at
+read-more bytes n h many =
+    let same = h.same in
+    let there : ltb (length bytes) h.start.1 ≡ false = le-ltb _ _ (omega arith) in
+    let more : ltb h.start.1 (length bytes) ≡ true = lt-ltb _ _ (omega arith) in
+    rw (h.started, h.known, h.enough, there, more) refl
 
 -- fewer than three bytes
 read-few : (bytes : List ℕ) → length bytes < 3 → read_train bytes ≡ Err Short
@@ -78,7 +79,30 @@ pub rest-read : (bytes : List ℕ) → IsRest bytes → read_train bytes ≡ Err
 rest-read bytes h =
     elim (cases_lt (length bytes) 3) [
       | inl few ↦ read-few bytes few
-      | inr many ↦ short-by bytes h.needed (start_at bytes) refl (sym (needed-many bytes many) ∙ h.at) h.fewer
+      | inr many ↦ read-short bytes h.needed (announced bytes h.needed (sym (needed-many bytes many) ∙ h.at)) h.fewer
+    ]
+
+rest-by : (bytes : List ℕ) (r : Result ℕ MsgFault) → 3 ≤ length bytes → l_message_at bytes ≡ r → read_train bytes ≡ Err Short → IsRest bytes
+rest-by bytes (Err fault) many at e =
+    let same : fault ≡ Short = cc (read-early bytes fault at, e) in
+    absurd (long-l_message bytes many (at ∙ ap (λ f. Err f) same))
+rest-by bytes (Ok n) many at e =
+    let needed : needed_at bytes ≡ Ok n = needed-many bytes many ∙ at in
+    elim (cases_lt (length bytes) n) [
+      | inl fewer ↦ record { needed = n; at = needed; fewer = fewer }
+      | inr whole ↦
+          elim (cases_lt n (length bytes)) [
+            | inl more ↦ absurd (not-short Length (λ s. cc) (sym (read-more bytes n (announced bytes n at) more) ∙ e))
+            | inr all ↦ (let same : n ≡ length bytes = omega arith in absurd (long-read bytes (needed ∙ ap (λ k. Ok k) same) e))
+          ]
+    ]
+
+-- what a decoder calls too short
+pub read-rest : (bytes : List ℕ) → read_train bytes ≡ Err Short → IsRest bytes
+read-rest bytes e =
+    elim (cases_lt (length bytes) 3) [
+      | inl few ↦ record { needed = 3; at = needed-few bytes few; fewer = few }
+      | inr many ↦ rest-by bytes (l_message_at bytes) many refl e
     ]
 
 -- ---- beginnings of the bytes

@@ -63,23 +63,37 @@ least-some StartOfMission = omega arith
 least-some SessionEstablished = omega arith
 
 -- the test of L_MESSAGE, and then the answer
-unfoldable pub then-tested : ℕ → TrainNumber → Result ℕ MsgFault
+then-tested : ℕ → TrainNumber → Result ℕ MsgFault
 then-tested l_message number = refuse (ltb l_message (least_train_length number)) Length >>= λ _. Ok l_message
 
 -- NID_MESSAGE, and then the test
-unfoldable pub then-known : ℕ × ℕ → Result ℕ MsgFault
+then-known : ℕ × ℕ → Result ℕ MsgFault
 then-known start = train_of_number start.0 >>= λ number. then-tested start.1 number
 
-l_message-range : (bytes : List ℕ) (n : ℕ) → l_message_at bytes ≡ Ok n → (10 ≤ n) × (n < 2 ^ 10)
+-- the start of a message that is read, with an L_MESSAGE that it may have
+pub record Announces (bytes : List ℕ) (n : ℕ) : Type 0 where
+  pub start : ℕ × ℕ
+  pub number : TrainNumber
+  pub started : start_at bytes ≡ Ok start
+  pub known : train_of_number start.0 ≡ Ok number
+  pub enough : ltb start.1 (least_train_length number) ≡ false
+  pub same : start.1 ≡ n
+
+pub announced : (bytes : List ℕ) (n : ℕ) → l_message_at bytes ≡ Ok n → Announces bytes n
 unfolding l_message_at then-known then-tested
-l_message-range bytes n e =
+announced bytes n e =
     let start = bind-ok (start_at bytes) then-known n e in
     let number = bind-ok (train_of_number start.0.0) (λ k. then-tested start.0.1 k) n start.2 in
     let enough = bind-ok (refuse (ltb start.0.1 (least_train_length number.0)) Length) (λ _. Ok start.0.1) n number.2 in
-    let least = ltb-false start.0.1 (least_train_length number.0) (not-refused _ Length enough.0 enough.1) in
-    let same : start.0.1 ≡ n = cc enough.2 in
-    let few = start-range bytes start.0 start.1 in
-    let some = least-some number.0 in
+    record { start = start.0; number = number.0; started = start.1; known = number.1; enough = not-refused _ Length enough.0 enough.1; same = cc enough.2 }
+
+l_message-range : (bytes : List ℕ) (n : ℕ) → l_message_at bytes ≡ Ok n → (10 ≤ n) × (n < 2 ^ 10)
+l_message-range bytes n e =
+    let h = announced bytes n e in
+    let least = ltb-false _ _ h.enough in
+    let same = h.same in
+    let few = start-range bytes h.start h.started in
+    let some = least-some h.number in
     (omega arith, omega arith)
 
 -- ---- with fewer bytes than three, and with more

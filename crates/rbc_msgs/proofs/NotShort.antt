@@ -19,7 +19,7 @@ use Rattle.rbc_packets.specs.declared.fault.PacketFault.{PacketFault}
 use Rattle.rbc_packets.specs.declared.fault.PacketFault.TheVariants as packet
 use Rattle.rbc_msgs.specs.Numbers.{train_number_value, train_numbers, train_of_number, least_train_length}
 use Rattle.rbc_msgs.specs.Streams.{l_message_at, needed_at}
-use Rattle.rbc_msgs.proofs.Needed.{bind-ok, not-refused, least-some, then-known, then-tested, needed-many, needed-range}
+use Rattle.rbc_msgs.proofs.Needed.{bind-ok, not-refused, least-some, announced, needed-many, needed-range}
 use Rattle.rbc_msgs.specs.Reading.{start_at, whole_at, time_at, required_at, packet_read, end_at}
 use Rattle.rbc_msgs.specs.TrainReading.{position_packet_at, data_packet_at, train_data_at, request_at, answered_at, start_of_mission_at, train_body_at, further_packet_at, further_at, read_train}
 use Rattle.rbc_msgs.specs.declared.fault.MsgFault.{MsgFault}
@@ -111,9 +111,9 @@ unfolding further_at
 long-further zero bits = long-ok _
 long-further (suc n) bits =
     elim (ltb-cases (length bits) 8) [
-      inl t ↦ rw t (long-ok _)
-    | inr t ↦
-      rw t (long-then (further_packet_at bits) _ (long-further_packet bits (ltb-false _ _ t)) (λ x e. long-then (further_at n x.1) _ (long-further n x.1) (λ y e2. long-ok _)))
+      | inl t ↦ rw t (long-ok _)
+      | inr t ↦
+          rw t (long-then (further_packet_at bits) _ (long-further_packet bits (ltb-false _ _ t)) (λ x e. long-then (further_at n x.1) _ (long-further n x.1) (λ y e2. long-ok _)))
     ]
 
 -- ---- bodies: the fixed fields have room
@@ -231,22 +231,18 @@ unfolding read_train
 long-behind start k bytes same many s-at n-at least =
     let ten = least-some k in
     rw (s-at, n-at) (long-then (whole_at (least_train_length k) start.1 bytes) _ (long-whole (least_train_length k) start.1 bytes same many) (λ bits e.
-      let left = (whole-left (least_train_length k) start.1 bytes bits e).1 in
-      long-then (time_at bits) _ (long-time bits (omega arith)) (λ t e2.
-        let t-left = time-left bits t e2 in
-        long-then (field_at faults.Short 24 t.1) _ (long-field 24 t.1 (omega arith)) (λ g e3.
-          let g-left = left-of 24 t.1 g e3 in
-          long-then (train_body_at k g.1) _ (long-body k g.1 (omega arith)) (λ b e4.
-            long-then (further_at (length b.1) b.1) _ (long-further (length b.1) b.1) (λ f e5.
-              long-then (end_at faults.Packet f.1) _ (long-end f.1) (λ u e6. long-ok _)))))))
+    let left = (whole-left (least_train_length k) start.1 bytes bits e).1 in
+    long-then (time_at bits) _ (long-time bits (omega arith)) (λ t e2.
+    let t-left = time-left bits t e2 in
+    long-then (field_at faults.Short 24 t.1) _ (long-field 24 t.1 (omega arith)) (λ g e3.
+    let g-left = left-of 24 t.1 g e3 in
+    long-then (train_body_at k g.1) _ (long-body k g.1 (omega arith)) (λ b e4.
+    long-then (further_at (length b.1) b.1) _ (long-further (length b.1) b.1) (λ f e5.
+    long-then (end_at faults.Packet f.1) _ (long-end f.1) (λ u e6. long-ok _)))))))
 
 pub long-read : (bytes : List ℕ) → needed_at bytes ≡ Ok (length bytes) → IsLong (read_train bytes)
-unfolding l_message_at then-known then-tested
 long-read bytes e =
     let range = needed-range bytes (length bytes) e in
-    let at : l_message_at bytes ≡ Ok (length bytes) = sym (needed-many bytes (omega arith)) ∙ e in
-    let start = bind-ok (start_at bytes) then-known (length bytes) at in
-    let k = bind-ok (train_of_number start.0.0) (λ n. then-tested start.0.1 n) (length bytes) start.2 in
-    let enough = bind-ok (refuse (ltb start.0.1 (least_train_length k.0)) faults.Length) (λ _. Ok start.0.1) (length bytes) k.2 in
-    let same : start.0.1 ≡ length bytes = cc enough.2 in
-    long-behind start.0 k.0 bytes same (omega arith) start.1 k.1 (ltb-false _ _ (not-refused _ faults.Length enough.0 enough.1))
+    let h = announced bytes (length bytes) (sym (needed-many bytes (omega arith)) ∙ e) in
+    let same = h.same in
+    long-behind h.start h.number bytes h.same (omega arith) h.started h.known (ltb-false _ _ h.enough)

@@ -1,6 +1,6 @@
 //! What holds of all streams, whatever code reads them.
 
-ghost use Rattle.std.specs.Prelude.{◌≡◌, ℕ, ◌<◌, ◌++◌, List, length, Option, Result, Ok, Err};
+ghost use Rattle.std.specs.Prelude.{◌≡◌, ◌↔◌, ℕ, ◌<◌, ◌++◌, List, length, Option, Result, Ok, Err};
 ghost use Rattle.rbc_msgs.specs.TrainText.{TrainText};
 ghost use Rattle.rbc_msgs.specs.TrainSpelling.{SpellsTrain};
 ghost use Rattle.rbc_msgs.specs.TrainReading.{read_train};
@@ -33,10 +33,11 @@ pub fn one_reading()
     ensures fault { (bytes : List ℕ) (e f : MsgFault) → ShowsFault bytes e → ShowsFault bytes f → e ≡ f }
 {}
 
-/// What is kept of a stream begins with no whole message, is too short for `decode_train`, and has at most 1 022 bytes.
+/// What is kept of a stream is what `decode_train` calls too short; it begins with no whole message, and has at most
+/// 1 022 bytes.
 pub fn a_rest_is_short()
     ensures no_message { (first later : List ℕ) (m : TrainText) → SpellsTrain first m → IsRest (first ++ later) → ⊥ }
-    ensures short { (rest : List ℕ) → IsRest rest → read_train rest ≡ Err MsgFault.Short }
+    ensures short { (bytes : List ℕ) → IsRest bytes ↔ (read_train bytes ≡ Err MsgFault.Short) }
     ensures few { (rest : List ℕ) → IsRest rest → length rest < 1023 }
 {}
 
