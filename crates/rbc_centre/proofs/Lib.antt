@@ -1,4 +1,5 @@
 pub mod Rules
+pub mod Standings
 pub mod States
 pub mod Steps
 pub mod Alike

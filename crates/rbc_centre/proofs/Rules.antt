@@ -211,3 +211,16 @@ module _ (line : Line) (c : ℕ) (k : Centre) (t_train t : ℕ) (idle : IsIdleFo
   reply_is Silent (EndOfMission position) a p h = cc
   reply_is Opened (EndOfMission position) a p h = cc
   reply_is Up (EndOfMission position) a p h = cc
+
+-- only a session that was opened is confirmed
+pub confirmed_was_opened : (phase : Phase) (body : TrainBody) → session_rule phase body ≡ Ok act.Establish → phase ≡ Opened
+confirmed_was_opened phase InitiationOfSession h = cc
+confirmed_was_opened Silent TerminationOfSession h = cc
+confirmed_was_opened Opened TerminationOfSession h = cc
+confirmed_was_opened Up TerminationOfSession h = cc
+confirmed_was_opened Silent SessionEstablished h = cc
+confirmed_was_opened Opened SessionEstablished h = refl
+confirmed_was_opened Up SessionEstablished h = cc
+confirmed_was_opened Silent body h = cc
+confirmed_was_opened Opened body h = refl
+confirmed_was_opened Up body h = cc

@@ -43,7 +43,7 @@ no_train : Train
 no_train = record { nid_engine = 0; registrar = 0 }
 
 -- two trains with one number in the line file are one
-same_train : (line : Line) (t u i : ℕ) → train_number line t ≡ Some i → train_number line u ≡ Some i → u ≡ t
+pub same_train : (line : Line) (t u i : ℕ) → train_number line t ≡ Some i → train_number line u ≡ Some i → u ≡ t
 same_train line t u i h g =
     let p = no_train in
     let a = position-Some (λ (q : Train). q.nid_engine == t) line.trains i p h in

@@ -1,5 +1,5 @@
 -- What a centre stands for before and after its step.
-use Rattle.std.proofs.Common.{◌≡◌, ℕ, ◌+◌, ◌==◌, ◌<◌, ◌≤◌, ◌&&◌, Bool, true, false, cond, not, if◌then◌else◌, List, [], ◌∷◌, length, Option, Some, None, is_none, slice_get, set, replicate, zero, suc, refl, sym, ap, ◌∙◌, arith, Ok, Err, option_and_then, find, nat_lt, unwrap_or, subst, inl, inr}
+use Rattle.std.proofs.Common.{◌≡◌, ℕ, ◌+◌, ◌==◌, ◌<◌, ◌≤◌, ◌&&◌, Bool, true, false, cond, not, if◌then◌else◌, List, [], ◌∷◌, length, Option, Some, None, is_none, slice_get, set, replicate, zero, suc, refl, sym, ap, ◌∙◌, arith, Ok, Err, option_and_then, find, nat_lt, unwrap_or, subst, inl, inr, ◌≢◌}
 use Rattle.std.specs.Option.{option_map_or}
 use Rattle.std.specs.List.{list_any, range_with_len}
 use Rattle.std.proofs.lemmas.Bool.Decides.{nat_tests, eqb_tells}
@@ -17,7 +17,10 @@ use Rattle.rbc_spec.specs.Step as step
 use Rattle.rbc_spec.specs.Step.{Event, Train, Set, Unset, Deliver}
 use Rattle.rbc_msgs.specs.StepMessage.{step_message}
 use Rattle.rbc_book.specs.Book.{Pages, is_own, entry_at, wish_at}
-use Rattle.rbc_centre.specs.State.{stands_for, of_trains, phase_of}
+use Rattle.rbc_session.specs.Sessions.{Records, phase_at}
+use Rattle.rbc_session.specs.Standing.{standing_phase}
+use Rattle.rbc_centre.specs.Standings.{Enters, Stands as StandsWith}
+use Rattle.rbc_centre.specs.State.{stands_for, of_trains, unknown_state}
 use Rattle.rbc_centre.specs.Views.{event_of}
 use Rattle.rbc_centre.specs.declared.event.Event.{Event as EventOfCode}
 use Rattle.rbc_centre.specs.declared.event.Event.TheVariants as code
@@ -25,19 +28,20 @@ use Rattle.rbc_centre.specs.declared.train.TrainState.{TrainState}
 use Rattle.rbc_centre.specs.Sessions.{Rule, session_rule, phase_after, answer_of}
 use Rattle.rbc_centre.specs.declared.session_act.SessionAct.{SessionAct}
 use Rattle.rbc_centre.proofs.Rules.{put_over, put_same, none_of, IsIdleFor, reason_in, after, saying, replied, foreign_silence, stale_silence, timely_silence, reply_is}
-use Rattle.rbc_centre.proofs.States.{slice_get-set_same, slice_get-set_other, of_trains-replicate, of_trains-set}
+use Rattle.rbc_centre.proofs.Standings.{stands_for_train, stands_with_train}
+use Rattle.rbc_centre.proofs.States.{slice_get-set_same, slice_get-set_other, same_train, of_trains-replicate, of_trains-set}
 
 -- ## The beginning
 
 pub stands_at_beginning : (line : Line) (c k : ℕ) (pages : Pages) (state : TrainState) → ((s : ℕ) → entry_at pages s ≡ centre.Shut) → ((s : ℕ) → wish_at pages s ≡ false)
-    → phase_of state.phase ≡ centre.Silent → state.heard ≡ None → state.said ≡ 0
+    → standing_phase state.standing ≡ centre.Silent → state.heard ≡ None → state.said ≡ 0
     → stands_for line c 0 pages (replicate k state) ≡ centre.beginning line c
 unfolding stands_for centre.beginning
 stands_at_beginning line c k pages state shut unwished silent unheard unsaid = λ i. record (centre.beginning line c) {
   clock = 0;
   book = λ s. shut s i;
   wish = λ s. unwished s i;
-  phase = λ t. (ap (λ e. of_trains (λ p. phase_of p.phase) e line (replicate k state) t) (sym silent) ∙ of_trains-replicate (λ p. phase_of p.phase) line k state t ∙ silent) i;
+  phase = λ t. (ap (λ e. of_trains (λ p. standing_phase p.standing) e line (replicate k state) t) (sym silent) ∙ of_trains-replicate (λ p. standing_phase p.standing) line k state t ∙ silent) i;
   heard = λ t. (ap (λ e. of_trains (λ p. p.heard) e line (replicate k state) t) (sym unheard) ∙ of_trains-replicate (λ p. p.heard) line k state t ∙ unheard) i;
   said = λ t. (ap (λ e. of_trains (λ p. p.said) e line (replicate k state) t) (sym unsaid) ∙ of_trains-replicate (λ p. p.said) line k state t ∙ unsaid) i;
 }
@@ -57,6 +61,13 @@ none_said states n state e none i p at =
     let said : p.said ≡ 0 = ap (λ (q : TrainState). q.said) (sym is) ∙ none in
     omega arith
 
+-- no session stands with a train that was never heard
+pub silent_everywhere : (line : Line) (sessions : Records) (states : List TrainState) (n : ℕ) → states ≡ replicate n unknown_state → ((u : ℕ) → phase_at sessions u ≡ centre.Silent)
+    → (t i : ℕ) (p : TrainState) → train_number line t ≡ Some i → slice_get states i ≡ Some p → StandsWith sessions p.standing t
+silent_everywhere line sessions states n e silent t i p number at =
+    let is : unknown_state ≡ p = item_of-replicate n i unknown_state p (sym (ap (λ xs. slice_get xs i) e) ∙ at) in
+    subst (λ (q : TrainState). StandsWith sessions q.standing t) is (silent t, λ key absent. cc)
+
 -- ## The answer to a message
 
 -- what a train's count of messages becomes
@@ -70,7 +81,7 @@ sayings_with t None count = []
 
 -- the state of one train after a message was heard and answered
 pub record IsHeard (t_train : ℕ) (phase : centre.Phase) (answer : Option TrackBody) (old new : TrainState) : Type 0 where
-  pub phase_is : phase_of new.phase ≡ phase
+  pub phase_is : standing_phase new.standing ≡ phase
   pub heard : new.heard ≡ Some t_train
   pub said : new.said ≡ said_after answer old.said
 
@@ -95,7 +106,7 @@ module _ (line : Line) (c clock : ℕ) (pages : Pages) (states : List TrainState
   unfolding stands_for centre.beginning
   reply_stands t_train phase (Some body) h = λ j. record {
     state = record (stands_for line c clock pages states) {
-      phase = λ u. part_set (λ p. phase_of p.phase) centre.Silent phase h.phase_is u j;
+      phase = λ u. part_set (λ p. standing_phase p.standing) centre.Silent phase h.phase_is u j;
       heard = λ u. part_set (λ p. p.heard) None (Some t_train) h.heard u j;
       said = λ u. part_set (λ p. p.said) 0 (of_trains (λ p. p.said) 0 line states t + 1) (h.said ∙ sym next_said) u j;
     };
@@ -105,7 +116,7 @@ module _ (line : Line) (c clock : ℕ) (pages : Pages) (states : List TrainState
   }
   reply_stands t_train phase None h = λ j. record {
     state = record (stands_for line c clock pages states) {
-      phase = λ u. part_set (λ p. phase_of p.phase) centre.Silent phase h.phase_is u j;
+      phase = λ u. part_set (λ p. standing_phase p.standing) centre.Silent phase h.phase_is u j;
       heard = λ u. part_set (λ p. p.heard) None (Some t_train) h.heard u j;
       said = λ u. (part_set (λ p. p.said) 0 old.said h.said u ∙ put_same t old.said (of_trains (λ p. p.said) 0 line states) (kept_of (λ p. p.said) 0) u) j;
     };
@@ -120,34 +131,53 @@ unfolding stands_for centre.beginning
 idle_for line c clock pages states t = record { mission = refl; wait = refl; expects = λ d. refl }
 
 pub phase_at_train : (line : Line) (c clock : ℕ) (pages : Pages) (states : List TrainState) (t i : ℕ) (state : TrainState) → train_number line t ≡ Some i → slice_get states i ≡ Some state
-    → (stands_for line c clock pages states).phase t ≡ phase_of state.phase
+    → (stands_for line c clock pages states).phase t ≡ standing_phase state.standing
 unfolding stands_for
 phase_at_train line c clock pages states t i state number at =
-    ap (λ n. option_map_or (λ (p : TrainState). phase_of p.phase) (option_and_then (λ j. slice_get states j) n) centre.Silent) number
-    ∙ ap (λ o. option_map_or (λ (p : TrainState). phase_of p.phase) o centre.Silent) at
+    ap (λ n. option_map_or (λ (p : TrainState). standing_phase p.standing) (option_and_then (λ j. slice_get states j) n) centre.Silent) number
+    ∙ ap (λ o. option_map_or (λ (p : TrainState). standing_phase p.standing) o centre.Silent) at
 
 -- the answer that the rules give, from the change of the train's state
 pub answer_is : (line : Line) (c clock : ℕ) (pages : Pages) (states : List TrainState) (m : TrainMessage) (i : ℕ) (old new : TrainState) (a : SessionAct) (sayings : List Saying)
     → train_number line m.nid_engine ≡ Some i → slice_get states i ≡ Some old → i < length states
-    → IsHeard m.t_train (phase_after a (phase_of old.phase)) (answer_of a) old new → session_rule (phase_of old.phase) m.body ≡ Ok a → sayings ≡ sayings_with m.nid_engine (answer_of a) (old.said + 1)
+    → IsHeard m.t_train (phase_after a (standing_phase old.standing)) (answer_of a) old new → session_rule (standing_phase old.standing) m.body ≡ Ok a → sayings ≡ sayings_with m.nid_engine (answer_of a) (old.said + 1)
     → record { state = stands_for line c clock pages (set states i new); frames = λ d. []; sayings = sayings; words = [] } ≡ step.hear_and_answer Sessions line c m (stands_for line c clock pages states)
 answer_is line c clock pages states m i old new a sayings number at within heard rule said =
     let k = stands_for line c clock pages states in
     let t = m.nid_engine in
     ap (λ (xs : List Saying). record { state = stands_for line c clock pages (set states i new); frames = λ d. []; sayings = xs; words = [] }) said
-    ∙ reply_stands line c clock pages states t i old new number at within m.t_train (phase_after a (phase_of old.phase)) (answer_of a) heard
-    ∙ sym (reply_is line c k m.t_train t (idle_for line c clock pages states t) (phase_of old.phase) m.body a (phase_at_train line c clock pages states t i old number at) rule)
+    ∙ reply_stands line c clock pages states t i old new number at within m.t_train (phase_after a (standing_phase old.standing)) (answer_of a) heard
+    ∙ sym (reply_is line c k m.t_train t (idle_for line c clock pages states t) (standing_phase old.standing) m.body a (phase_at_train line c clock pages states t i old number at) rule)
+
+-- what holds of each state, behind a change of one
+pub each_after : (P : ℕ → TrainState → Type 0) (states : List TrainState) (i : ℕ) (new : TrainState) → i < length states → P i new
+    → ((j : ℕ) (p : TrainState) → j ≢ i → slice_get states j ≡ Some p → P j p) → (j : ℕ) (p : TrainState) → slice_get (set states i new) j ≡ Some p → P j p
+each_after P states i new within here others j p found = elim (eqb_tells j i) as (λ _. P j p) [
+  | inl e ↦
+      let at : Some new ≡ Some p = sym (slice_get-set_same states i new within) ∙ ap (slice_get (set states i new)) (sym (e.1)) ∙ found in
+      let is : new ≡ p = cc in
+      subst (λ (n : ℕ). P n p) (sym (e.1)) (subst (P i) is here)
+  | inr e ↦ others j p (e.1) (sym (slice_get-set_other states i j new (e.1)) ∙ found)
+]
 
 -- what was said to each train is counted by the clock, also behind a change of one
 pub counted_after : (states : List TrainState) (i clock : ℕ) (new : TrainState) → i < length states → new.said ≤ clock
     → ((j : ℕ) (p : TrainState) → slice_get states j ≡ Some p → p.said ≤ clock) → (j : ℕ) (p : TrainState) → slice_get (set states i new) j ≡ Some p → p.said ≤ clock
-counted_after states i clock new within few each j p found = elim (eqb_tells j i) as (λ _. p.said ≤ clock) [
-  | inl e ↦
-      let here : Some new ≡ Some p = sym (slice_get-set_same states i new within) ∙ ap (slice_get (set states i new)) (sym (e.1)) ∙ found in
-      let is : new ≡ p = cc in
-      subst (λ (q : TrainState). q.said ≤ clock) is few
-  | inr e ↦ each j p (sym (slice_get-set_other states i j new (e.1)) ∙ found)
-]
+counted_after states i clock new within few each = each_after (λ j p. p.said ≤ clock) states i new within few (λ j p apart at. each j p at)
+
+-- the number of a train of the line is its own
+other_train : (line : Line) (t u i j : ℕ) → train_number line t ≡ Some i → train_number line u ≡ Some j → j ≢ i → u ≢ t
+other_train line t u i j at_t at_u apart same = apart (let e : Some j ≡ Some i = sym at_u ∙ ap (train_number line) same ∙ at_t in cc)
+
+-- what stands with each train, behind a change of one
+pub each_stands_after : (line : Line) (old new : Records) (states : List TrainState) (t i : ℕ) (state : TrainState) (phase : centre.Phase) → i < length states → train_number line t ≡ Some i
+    → Enters old new state.standing t phase → ((u j : ℕ) (p : TrainState) → train_number line u ≡ Some j → slice_get states j ≡ Some p → StandsWith old p.standing u)
+    → (u j : ℕ) (p : TrainState) → train_number line u ≡ Some j → slice_get (set states i state) j ≡ Some p → StandsWith new p.standing u
+each_stands_after line old new states t i state phase within at_t enters each u j p at_u found =
+    each_after (λ n q. train_number line u ≡ Some n → StandsWith new q.standing u) states i state within
+    (λ at. subst (λ (x : ℕ). StandsWith new state.standing x) (same_train line u t i at at_t) (stands_with_train new state.standing t enters.stands))
+    (λ n q apart at number. stands_with_train new q.standing u (enters.others q.standing u (other_train line t u i n at_t number apart) (stands_for_train old q.standing u (each u n q number at))))
+    j p found at_u
 
 -- the number of a train of the line is one of those kept
 pub number_within : (line : Line) (states : List TrainState) (t i : ℕ) → train_number line t ≡ Some i → length states ≡ length line.trains → i < length states
@@ -243,15 +273,20 @@ module _ (line : Line) (c clock : ℕ) (pages : Pages) (states : List TrainState
     unfolding stands_for
     heard_of = ap (λ n. option_map_or (λ (p : TrainState). p.heard) (option_and_then (λ j. slice_get states j) n) None) number ∙ ap (λ o. option_map_or (λ (p : TrainState). p.heard) o None) at
 
-    phase_is : k.phase m.nid_engine ≡ phase_of state.phase
+    phase_is : k.phase m.nid_engine ≡ standing_phase state.standing
     phase_is = phase_at_train line c clock pages states m.nid_engine i state number at
 
     pub stale_is_silent : step.is_stale m.t_train state.heard ≡ true → step.silence line c k m ≡ Some StaleStamp
     stale_is_silent s = stale_silence line c k m.t_train m.nid_engine idle m.body (ap is_none number) (ap (step.is_stale m.t_train) heard_of ∙ s)
 
-    pub timely_is_silent : (rule : Rule) → step.is_stale m.t_train state.heard ≡ false → session_rule (phase_of state.phase) m.body ≡ rule → step.silence line c k m ≡ reason_in rule
+    pub timely_is_silent : (rule : Rule) → step.is_stale m.t_train state.heard ≡ false → session_rule (standing_phase state.standing) m.body ≡ rule → step.silence line c k m ≡ reason_in rule
     timely_is_silent rule s r =
-        timely_silence line c k m.t_train m.nid_engine idle (phase_of state.phase) m.body (ap is_none number) (ap (step.is_stale m.t_train) heard_of ∙ s) phase_is ∙ ap reason_in r
+        timely_silence line c k m.t_train m.nid_engine idle (standing_phase state.standing) m.body (ap is_none number) (ap (step.is_stale m.t_train) heard_of ∙ s) phase_is ∙ ap reason_in r
+
+-- a clock that ticks changes nothing else
+pub ticked_is : (line : Line) (c old clock : ℕ) (pages : Pages) (states : List TrainState) → step.ticked clock (stands_for line c old pages states) ≡ stands_for line c clock pages states
+unfolding stands_for
+ticked_is line c old clock pages states = refl
 
 -- ## The whole step
 
@@ -305,6 +340,10 @@ pub taken_step : (line : Line) (event : Event) (c clock : ℕ) (pages : Pages) (
     → p ≡ step.taken Sessions line c event (stands_for line c clock pages states) → step.step Sessions line c event (stands_for line c clock pages states) ≡ Ok p
 unfolding step.step
 taken_step line event c clock pages states p brings early t = rw (no_refusal line event c clock pages states brings early) (ap (λ q. Ok q) (sym t))
+
+pub not_refused : (line : Line) (event : Event) (c clock : ℕ) (pages : Pages) (states : List TrainState) → BringsNoFrame event → clock < 1073741823
+    → step.step Sessions line c event (stands_for line c clock pages states) ≡ Ok (step.taken Sessions line c event (stands_for line c clock pages states))
+not_refused line event c clock pages states brings early = taken_step line event c clock pages states (step.taken Sessions line c event (stands_for line c clock pages states)) brings early refl
 
 -- ## What is kept of a train
 

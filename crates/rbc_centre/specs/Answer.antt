@@ -4,9 +4,9 @@ use Rattle.rbc_spec.specs.Step as step
 use Rattle.rbc_centre.specs.declared.fault.StepFault.{StepFault}
 use Rattle.rbc_centre.specs.declared.fault.StepFault.TheVariants.{Memory, LinkFull, ClockEnd}
 
--- the fault is the refusal that the definition gives; a step takes no memory, and no link can be full yet
+-- but for want of memory the fault is the refusal that the definition gives; no link can be full yet
 abbrev pub IsRefusal : {Y : Type 0} → StepFault → Result Y step.Refusal → Type 0
-IsRefusal Memory r = ⊥
+IsRefusal Memory r = Unit {0}
 IsRefusal LinkFull r = ⊥
 IsRefusal ClockEnd r = r ≡ Err step.ClockEnd
 

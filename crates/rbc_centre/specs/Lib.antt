@@ -1,5 +1,6 @@
 pub mod Reasons
 pub mod Sessions
+pub mod Standings
 pub mod Views
 pub mod State
 pub mod Meaning

@@ -1,5 +1,5 @@
 -- What a centre stands for: its line, its number, and its state.
-use Rattle.std.specs.Prelude.{ℕ}
+use Rattle.std.specs.Prelude.{◌≡◌, ℕ}
 use Rattle.rbc_spec.specs.Line.{Line}
 use Rattle.rbc_spec.specs.Centre as centre
 use Rattle.rbc_centre.specs.declared.centre.Centre.{Centre}
@@ -13,3 +13,11 @@ number_of k = k.number
 
 abbrev pub meaning : Centre → centre.Centre
 meaning k = stands_for k.line k.number k.clock k.book k.trains.items
+
+-- all but the room for sessions is the same
+pub record IsSame (old new : Centre) : Type 0 where
+  pub line : new.line ≡ old.line
+  pub number : new.number ≡ old.number
+  pub clock : new.clock ≡ old.clock
+  pub book : new.book ≡ old.book
+  pub trains : new.trains ≡ old.trains

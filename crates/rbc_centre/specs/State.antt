@@ -4,14 +4,9 @@ use Rattle.std.specs.Option.{option_map_or}
 use Rattle.rbc_spec.specs.Line.{Line, train_number}
 use Rattle.rbc_spec.specs.Centre as centre
 use Rattle.rbc_book.specs.Book.{Pages, entry_at, wish_at}
-use Rattle.rbc_centre.specs.declared.train.Phase.{Phase}
-use Rattle.rbc_centre.specs.declared.train.Phase.TheVariants as phase
+use Rattle.rbc_session.specs.Standing.{standing_phase}
+use Rattle.rbc_session.specs.declared.session.Standing.TheVariants as standing
 use Rattle.rbc_centre.specs.declared.train.TrainState.{TrainState}
-
-abbrev pub phase_of : Phase → centre.Phase
-phase_of phase.NoSession = centre.Silent
-phase_of phase.Opened = centre.Opened
-phase_of phase.Up = centre.Up
 
 -- what is kept of a train of the line
 abbrev pub state_at : Line → List TrainState → ℕ → Option TrainState
@@ -28,7 +23,11 @@ stands_for line number clock pages trains = record (centre.beginning line number
   clock = clock;
   book = entry_at pages;
   wish = wish_at pages;
-  phase = of_trains (λ p. phase_of p.phase) centre.Silent line trains;
+  phase = of_trains (λ p. standing_phase p.standing) centre.Silent line trains;
   heard = of_trains (λ p. p.heard) None line trains;
   said = of_trains (λ p. p.said) 0 line trains;
 }
+
+-- what is kept of a train that was never heard
+abbrev pub unknown_state : TrainState
+unknown_state = record { standing = standing.Silent; heard = None; said = 0 }

@@ -1,6 +1,6 @@
 -- What the types of a step stand for.
-use Rattle.std.specs.Prelude.{ℕ, List, [], ◌∷◌, Option, Some, None, map, option_map}
-use Rattle.rbc_spec.specs.Outcome.{Saying, Outcome}
+use Rattle.std.specs.Prelude.{ℕ, List, [], ◌∷◌, Option, Some, None, Result, Ok, Err, map, option_map}
+use Rattle.rbc_spec.specs.Outcome.{Saying, Outcome, Reason}
 use Rattle.rbc_spec.specs.Outcome as spec
 use Rattle.rbc_spec.specs.Step as step
 use Rattle.rbc_msgs.specs.StepMessage.{step_message}
@@ -9,6 +9,7 @@ use Rattle.rbc_centre.specs.declared.event.Event.{Event}
 use Rattle.rbc_centre.specs.declared.event.Event.TheVariants.{Train, Set, Unset}
 use Rattle.rbc_centre.specs.declared.fault.StepFault.{StepFault}
 use Rattle.rbc_centre.specs.declared.fault.StepFault.TheVariants as fault
+use Rattle.rbc_centre.specs.declared.outcome.Silence.{Silence}
 use Rattle.rbc_centre.specs.declared.outcome.Saying.{Saying as SayingCode}
 use Rattle.rbc_centre.specs.declared.outcome.Word.{Word}
 use Rattle.rbc_centre.specs.declared.outcome.Word.TheVariants as word
@@ -48,3 +49,8 @@ abbrev pub number_of_fault : StepFault → ℕ
 number_of_fault fault.Memory = 1
 number_of_fault fault.LinkFull = 2
 number_of_fault fault.ClockEnd = 3
+
+-- why a message is left without an answer
+abbrev pub why_of : {X : Type 0} → Result X Silence → Option Reason
+why_of (Ok x) = None
+why_of (Err why) = Some (reason_of why)

@@ -8,6 +8,7 @@ mod fault;
 mod outcome;
 mod session_act;
 mod same;
+mod standing;
 mod train;
 
 pub use centre::{Centre, LAST_STAMP};
@@ -15,4 +16,5 @@ pub use event::Event;
 pub use fault::StepFault;
 pub use outcome::{Outcome, Saying, Silence, Word};
 pub use session_act::SessionAct;
-pub use train::{Phase, TrainState};
+pub use rbc_session::Phase;
+pub use train::TrainPage;

@@ -1,8 +1,10 @@
-ghost use Rattle.std.specs.Prelude.{◌≡◌, option_map};
+ghost use Rattle.std.specs.Prelude.{◌≡◌, option_map, Ok};
+ghost use Rattle.rbc_spec.specs.Centre as spec;
 
 use crate::outcome::Silence;
-use crate::train::Phase;
+use crate::standing::{closed, established, opened};
 use rbc_msgs::{TrackBody, TrainBody};
+use rbc_session::{Phase, Sessions, Standing};
 
 /// What a message that is answered comes to, as long as no train is under way.
 #[derive(Clone, Copy, Debug, PartialEq, Eq)]
@@ -18,19 +20,60 @@ pub enum SessionAct {
 }
 
 impl SessionAct {
+    ghost use Rattle.rbc_spec.specs.Message.{TerminationOfSession, SessionEstablished};
+    ghost use Rattle.rbc_session.specs.Sessions.{phase_at, HasRoom};
+    ghost use Rattle.rbc_session.specs.Standing.{phase_of, StandsFor};
     ghost use Rattle.rbc_msgs.specs.Bodies.{track_body};
-    ghost use Rattle.rbc_centre.specs.State.{phase_of};
-    ghost use Rattle.rbc_centre.specs.Sessions.{phase_after, answer_of};
+    ghost use Rattle.rbc_msgs.specs.StepMessage.{step_body};
+    ghost use Rattle.rbc_centre.specs.Sessions.{act_seen, session_rule, if_up, phase_after, answer_of};
+    ghost use Rattle.rbc_centre.specs.Standings.{Enters};
+    ghost use Rattle.rbc_centre.specs.declared.session_act.SessionAct.TheVariants.{Open, Establish};
 
-    /// The phase that it leaves the session in.
-    pub(crate) fn phase_after(self, phase: Phase) -> Phase
-        ensures { phase_of result ≡ phase_after self (phase_of phase) }
+    /// What a message that came in time comes to in this phase of its train's session, or why it is left without an answer.
+    pub(crate) fn of(phase: Phase, body: &TrainBody) -> Result<SessionAct, Silence>
+        ensures { act_seen result ≡ session_rule (phase_of phase) (step_body body.now) }
     {
-        match self {
-            SessionAct::Open => Phase::Opened,
-            SessionAct::Establish => Phase::Up,
-            SessionAct::Close => Phase::NoSession,
-            SessionAct::RejectStart => phase,
+        match body {
+            TrainBody::InitiationOfSession => Ok(SessionAct::Open),
+            TrainBody::TerminationOfSession => SessionAct::closing(phase),
+            TrainBody::SessionEstablished => SessionAct::establishing(phase),
+            TrainBody::StartOfMission { .. } => SessionAct::if_up(phase, Ok(SessionAct::RejectStart)),
+            TrainBody::TrainData { .. }
+            | TrainBody::Request { .. }
+            | TrainBody::Report { .. }
+            | TrainBody::ShorteningGranted { .. }
+            | TrainBody::ShorteningRejected { .. }
+            | TrainBody::EndOfMission { .. } => SessionAct::if_up(phase, Err(Silence::NotSupervised)),
+        }
+    }
+
+    fn closing(phase: Phase) -> Result<SessionAct, Silence>
+        ensures { act_seen result ≡ session_rule (phase_of phase) TerminationOfSession }
+    {
+        match phase {
+            Phase::Silent => Err(Silence::NoSession),
+            Phase::Opened | Phase::Up => Ok(SessionAct::Close),
+        }
+    }
+
+    fn establishing(phase: Phase) -> Result<SessionAct, Silence>
+        ensures { act_seen result ≡ session_rule (phase_of phase) SessionEstablished }
+    {
+        match phase {
+            Phase::Silent => Err(Silence::NoSession),
+            Phase::Opened => Ok(SessionAct::Establish),
+            Phase::Up => Err(Silence::WrongPhase),
+        }
+    }
+
+    // This, where the session is up.
+    fn if_up(phase: Phase, then: Result<SessionAct, Silence>) -> Result<SessionAct, Silence>
+        ensures { act_seen result ≡ if_up (phase_of phase) (act_seen then) }
+    {
+        match phase {
+            Phase::Silent => Err(Silence::NoSession),
+            Phase::Opened => Err(Silence::WrongPhase),
+            Phase::Up => then,
         }
     }
 
@@ -45,59 +88,19 @@ impl SessionAct {
             SessionAct::RejectStart => Some(TrackBody::TrainRejected),
         }
     }
-}
 
-impl Phase {
-    ghost use Rattle.rbc_msgs.specs.StepMessage.{step_body};
-    ghost use Rattle.rbc_centre.specs.State.{phase_of};
-    ghost use Rattle.rbc_spec.specs.Message.{TerminationOfSession, SessionEstablished};
-    ghost use Rattle.rbc_centre.specs.Sessions.{act_seen, session_rule, if_up};
-
-    /// What a message that came in time comes to in this phase, or why it is left without an answer.
-    pub(crate) fn act_on(self, body: &TrainBody) -> Result<SessionAct, Silence>
-        ensures { act_seen result ≡ session_rule (phase_of self) (step_body body.now) }
-    {
-        match body {
-            TrainBody::InitiationOfSession => Ok(SessionAct::Open),
-            TrainBody::TerminationOfSession => self.close(),
-            TrainBody::SessionEstablished => self.establish(),
-            TrainBody::StartOfMission { .. } => self.if_up(Ok(SessionAct::RejectStart)),
-            TrainBody::TrainData { .. }
-            | TrainBody::Request { .. }
-            | TrainBody::Report { .. }
-            | TrainBody::ShorteningGranted { .. }
-            | TrainBody::ShorteningRejected { .. }
-            | TrainBody::EndOfMission { .. } => self.if_up(Err(Silence::NotSupervised)),
-        }
-    }
-
-    fn close(self) -> Result<SessionAct, Silence>
-        ensures { act_seen result ≡ session_rule (phase_of self) TerminationOfSession }
+    /// Changes the session of the train, and gives back what stands then.
+    pub(crate) fn carry_out(self, sessions: &mut Sessions, standing: Standing, nid_engine: u32) -> Standing
+        requires stands { StandsFor sessions.old standing nid_engine }
+        requires room { self ≡ Open → HasRoom sessions.old }
+        requires opened { self ≡ Establish → phase_at sessions.old nid_engine ≡ spec.Opened }
+        ensures { Enters sessions.old sessions.new result nid_engine (phase_after self (phase_at sessions.old nid_engine)) }
     {
         match self {
-            Phase::NoSession => Err(Silence::NoSession),
-            Phase::Opened | Phase::Up => Ok(SessionAct::Close),
-        }
-    }
-
-    fn establish(self) -> Result<SessionAct, Silence>
-        ensures { act_seen result ≡ session_rule (phase_of self) SessionEstablished }
-    {
-        match self {
-            Phase::NoSession => Err(Silence::NoSession),
-            Phase::Opened => Ok(SessionAct::Establish),
-            Phase::Up => Err(Silence::WrongPhase),
-        }
-    }
-
-    // This, where the session is up.
-    fn if_up(self, then: Result<SessionAct, Silence>) -> Result<SessionAct, Silence>
-        ensures { act_seen result ≡ if_up (phase_of self) (act_seen then) }
-    {
-        match self {
-            Phase::NoSession => Err(Silence::NoSession),
-            Phase::Opened => Err(Silence::WrongPhase),
-            Phase::Up => then,
+            SessionAct::Open => opened(sessions, standing, nid_engine),
+            SessionAct::Establish => established(sessions, standing, nid_engine),
+            SessionAct::Close => closed(sessions, standing, nid_engine),
+            SessionAct::RejectStart => standing,
         }
     }
 }

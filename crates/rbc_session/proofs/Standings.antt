@@ -48,7 +48,7 @@ module _ (old new : Records) (key t : ℕ) (phases : (u : ℕ) → phase_at new 
 module _ (old new : Records) (key t : ℕ) (stood : IsSessionOf old key Opened t)
     (phases : (u : ℕ) → phase_at new u ≡ cond (option_map_or (λ v. v == u) (train_at old key) false) Up (phase_at old u))
     (keys : (k : ℕ) → train_at new k ≡ train_at old k) where
-  confirmed_phase : (u : ℕ) → phase_at new u ≡ cond (t == u) Up (phase_at old u)
+  pub confirmed_phase : (u : ℕ) → phase_at new u ≡ cond (t == u) Up (phase_at old u)
   confirmed_phase u = phases u ∙ ap (λ o. cond (option_map_or (λ v. v == u) o false) Up (phase_at old u)) stood.is_with
 
   pub confirmed_stands : IsSessionOf new key Up t

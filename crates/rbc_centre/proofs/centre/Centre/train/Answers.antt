@@ -1,7 +1,8 @@
 use Rattle.std.proofs.Common.{◌∙◌, sym, refl, None}
 use Rattle.std.proofs.lemmas.Option.{slice_get_read}
 use Rattle.rbc_spec.specs.Centre.{Silent}
-use Rattle.rbc_centre.specs.State.{stands_for, phase_of}
+use Rattle.rbc_session.specs.Standing.{standing_phase}
+use Rattle.rbc_centre.specs.State.{stands_for}
 use Rattle.rbc_centre.proofs.Steps.{part_of_train, part_of_foreign, number_within}
 use Rattle.rbc_centre.proofs.centre.Centre.train.Goals as goal
 
@@ -10,19 +11,19 @@ unfolding stands_for
 returns-in-Some-clause-phase c =
     let number = sym c.train_number.ensures.value ∙ c.in-Some.is in
     let within = number_within c.args.self.now.line c.args.self.now.trains.items c.args.nid_engine _ number c.args.self.now.each_train in
-    part_of_train (λ p. phase_of p.phase) Silent c.args.self.now.line c.args.self.now.trains.items c.args.nid_engine _ c.index.result.now number (slice_get_read _ _ _ _ refl within c.index.ensures)
+    c.page.ensures.phase ∙ part_of_train (λ p. standing_phase p.standing) Silent c.args.self.now.line c.args.self.now.trains.items c.args.nid_engine _ c.index.result.now number (slice_get_read _ _ _ _ refl within c.index.ensures)
 
 pub returns-in-None-clause-phase : goal.returns-in-None-clause-phase
 unfolding stands_for
 returns-in-None-clause-phase c =
-    part_of_foreign (λ p. phase_of p.phase) Silent c.args.self.now.line c.args.self.now.trains.items c.args.nid_engine (sym c.train_number.ensures.value ∙ c.in-None.is)
+    part_of_foreign (λ p. standing_phase p.standing) Silent c.args.self.now.line c.args.self.now.trains.items c.args.nid_engine (sym c.train_number.ensures.value ∙ c.in-None.is)
 
 pub returns-in-Some-clause-heard : goal.returns-in-Some-clause-heard
 unfolding stands_for
 returns-in-Some-clause-heard c =
     let number = sym c.train_number.ensures.value ∙ c.in-Some.is in
     let within = number_within c.args.self.now.line c.args.self.now.trains.items c.args.nid_engine _ number c.args.self.now.each_train in
-    part_of_train (λ p. p.heard) None c.args.self.now.line c.args.self.now.trains.items c.args.nid_engine _ c.index.result.now number (slice_get_read _ _ _ _ refl within c.index.ensures)
+    c.page.ensures.heard ∙ part_of_train (λ p. p.heard) None c.args.self.now.line c.args.self.now.trains.items c.args.nid_engine _ c.index.result.now number (slice_get_read _ _ _ _ refl within c.index.ensures)
 
 pub returns-in-None-clause-heard : goal.returns-in-None-clause-heard
 unfolding stands_for
@@ -34,7 +35,7 @@ unfolding stands_for
 returns-in-Some-clause-said c =
     let number = sym c.train_number.ensures.value ∙ c.in-Some.is in
     let within = number_within c.args.self.now.line c.args.self.now.trains.items c.args.nid_engine _ number c.args.self.now.each_train in
-    part_of_train (λ p. p.said) 0 c.args.self.now.line c.args.self.now.trains.items c.args.nid_engine _ c.index.result.now number (slice_get_read _ _ _ _ refl within c.index.ensures)
+    c.page.ensures.said ∙ part_of_train (λ p. p.said) 0 c.args.self.now.line c.args.self.now.trains.items c.args.nid_engine _ c.index.result.now number (slice_get_read _ _ _ _ refl within c.index.ensures)
 
 pub returns-in-None-clause-said : goal.returns-in-None-clause-said
 unfolding stands_for

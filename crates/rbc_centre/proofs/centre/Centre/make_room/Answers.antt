@@ -1,0 +1,15 @@
+use Rattle.std.proofs.Common.{◌∙◌}
+use Rattle.rbc_centre.proofs.centre.Centre.make_room.Goals as goal
+
+pub invariant_of-self : goal.invariant_of-self
+invariant_of-self c =
+    let k = c.args.self.now in
+    record {
+      in_time = k.in_time;
+      own_sections = k.own_sections;
+      none_in_use = k.none_in_use;
+      none_wished = k.none_wished;
+      each_train = k.each_train;
+      each_stands = λ t i p number at. (c.reserve.ensures.phases t ∙ (k.each_stands t i p number at).0, λ key e. c.reserve.ensures.keys key ∙ (k.each_stands t i p number at).1 key e);
+      counted = k.counted;
+    }
