@@ -18,6 +18,6 @@ invariant_of-result c = record {
   none_in_use = λ s. ap is_unused (c.in_ok-book.ensures.entry s);
   none_wished = λ s. c.in_ok-book.ensures.wish s;
   each_train = filled_count _ _ _ _ c.in_ok-trains.ensures c.train_count.ensures.value;
-  each_stands = silent_everywhere _ _ _ _ c.in_ok-trains.ensures c.new-2.ensures.phases;
+  each_stands = silent_everywhere c.in_ok-line.line _ _ _ c.in_ok-trains.ensures c.new-2.ensures.phases;
   counted = none_said _ _ _ c.in_ok-trains.ensures refl;
 }
