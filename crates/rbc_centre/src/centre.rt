@@ -178,11 +178,7 @@ impl Centre {
         let train = &mut self.trains[i];
         train.hear(message.t_train(), act.phase_after(train.phase));
         match act.answer() {
-            Some(body) => Some(Saying::of_count(
-                message.nid_engine(),
-                train.count_message(),
-                body,
-            )),
+            Some(body) => Some(Saying::of_count(message.nid_engine(), train.count_message(), body)),
             None => None,
         }
     }

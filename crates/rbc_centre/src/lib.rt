@@ -6,8 +6,8 @@ mod centre;
 mod event;
 mod fault;
 mod outcome;
-mod session_act;
 mod same;
+mod session_act;
 mod train;
 
 pub use centre::{Centre, LAST_STAMP};
