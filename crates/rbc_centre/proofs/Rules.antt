@@ -39,7 +39,6 @@ pub record IsIdleFor (k : Centre) (t : ℕ) : Type 0 where
   pub wait : k.wait t ≡ None
   pub expects : (d : ℕ) → k.expects d t ≡ None
 
-
 abbrev pub reason_in : Rule → Option Reason
 reason_in (Ok a) = None
 reason_in (Err why) = Some why

@@ -1,12 +1,12 @@
 -- The step's definition, seen from the code.
-use Rattle.std.specs.Prelude.{◌≡◌, Result, Ok, Err}
+use Rattle.std.specs.Prelude.{◌≡◌, Result, Ok, Err, IsOk}
 use Rattle.rbc_spec.specs.Step as step
 use Rattle.rbc_centre.specs.declared.fault.StepFault.{StepFault}
 use Rattle.rbc_centre.specs.declared.fault.StepFault.TheVariants.{Memory, LinkFull, ClockEnd}
 
--- but for want of memory the fault is the refusal that the definition gives; no link can be full yet
+-- but for want of memory, where the definition does not refuse the step, the fault is the refusal that it gives; no link can be full yet
 abbrev pub IsRefusal : {Y : Type 0} → StepFault → Result Y step.Refusal → Type 0
-IsRefusal Memory r = Unit {0}
+IsRefusal Memory r = IsOk r
 IsRefusal LinkFull r = ⊥
 IsRefusal ClockEnd r = r ≡ Err step.ClockEnd
 

@@ -6,8 +6,8 @@ mod centre;
 mod event;
 mod fault;
 mod outcome;
-mod session_act;
 mod same;
+mod session_act;
 mod standing;
 mod train;
 
@@ -15,6 +15,6 @@ pub use centre::{Centre, LAST_STAMP};
 pub use event::Event;
 pub use fault::StepFault;
 pub use outcome::{Outcome, Saying, Silence, Word};
-pub use session_act::SessionAct;
 pub use rbc_session::Phase;
+pub use session_act::SessionAct;
 pub use train::TrainPage;

@@ -37,13 +37,19 @@ impl SessionAct {
             TrainBody::InitiationOfSession => Ok(SessionAct::Open),
             TrainBody::TerminationOfSession => SessionAct::closing(phase),
             TrainBody::SessionEstablished => SessionAct::establishing(phase),
-            TrainBody::StartOfMission { .. } => SessionAct::if_up(phase, Ok(SessionAct::RejectStart)),
+            TrainBody::StartOfMission { .. } => SessionAct::if_up(
+                phase,
+                Ok(SessionAct::RejectStart),
+            ),
             TrainBody::TrainData { .. }
             | TrainBody::Request { .. }
             | TrainBody::Report { .. }
             | TrainBody::ShorteningGranted { .. }
             | TrainBody::ShorteningRejected { .. }
-            | TrainBody::EndOfMission { .. } => SessionAct::if_up(phase, Err(Silence::NotSupervised)),
+            | TrainBody::EndOfMission { .. } => SessionAct::if_up(
+                phase,
+                Err(Silence::NotSupervised),
+            ),
         }
     }
 
@@ -90,7 +96,12 @@ impl SessionAct {
     }
 
     /// Changes the session of the train, and gives back what stands then.
-    pub(crate) fn carry_out(self, sessions: &mut Sessions, standing: Standing, nid_engine: u32) -> Standing
+    pub(crate) fn carry_out(
+        self,
+        sessions: &mut Sessions,
+        standing: Standing,
+        nid_engine: u32,
+    ) -> Standing
         requires stands { StandsFor sessions.old standing nid_engine }
         requires room { self ≡ Open → HasRoom sessions.old }
         requires opened { self ≡ Establish → phase_at sessions.old nid_engine ≡ spec.Opened }

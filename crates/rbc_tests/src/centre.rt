@@ -9,7 +9,12 @@ fn a_session_is_opened_once(rt: HostRuntime) -> Result<(), Fail> {
     let line = two_centres(rt.alloc())?;
     let mut centre = Centre::new(rt.alloc(), &line, 1)?;
     assert_eq!(rt; centre.number(), 1);
-    let event = Event::Train(TrainMsg::new(7, 2, TrainBody::InitiationOfSession, Vec::new(rt.alloc())));
+    let event = Event::Train(TrainMsg::new(
+        7,
+        2,
+        TrainBody::InitiationOfSession,
+        Vec::new(rt.alloc()),
+    ));
     let outcome = centre.step(&event).ok().ok_or("the step is taken")?;
     assert_eq!(rt; outcome.stamp, 1);
     assert_eq!(rt; outcome.silence, None);
@@ -26,7 +31,10 @@ fn a_session_is_opened_once(rt: HostRuntime) -> Result<(), Fail> {
     assert_eq!(rt; again.silence, Some(Silence::StaleStamp));
     assert_eq!(rt; again.sayings.len(), 0);
     let ended = TrainMsg::new(8, 2, TrainBody::TerminationOfSession, Vec::new(rt.alloc()));
-    let ended = centre.step(&Event::Train(ended)).ok().ok_or("the step is taken")?;
+    let ended = centre
+        .step(&Event::Train(ended))
+        .ok()
+        .ok_or("the step is taken")?;
     assert_eq!(rt; ended.sayings.len(), 1);
     assert_eq!(rt; centre.train(2).phase, Phase::NoSession);
     Ok(())

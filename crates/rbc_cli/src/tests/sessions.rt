@@ -27,14 +27,12 @@ const OPENED: (&str, &str) = (
     "train A 9B028000000040000040",
     "-> 1 2002C00000005FFFFFE800",
 );
+
 const UP: (&str, &str) = ("train A 9F028000000080000040", "ok");
 
 #[test]
 fn a_session_opens_and_ends(rt: HostRuntime) -> Result<(), Fail> {
-    let ends = (
-        "train A 9C0280000000C0000040",
-        "-> 1 2702800000009FFFFFE0",
-    );
+    let ends = ("train A 9C0280000000C0000040", "-> 1 2702800000009FFFFFE0");
     answers(&rt, &[OPENED, UP, ends])
 }
 
@@ -43,7 +41,10 @@ fn the_first_reason_is_printed(rt: HostRuntime) -> Result<(), Fail> {
     answers(
         &rt,
         &[
-            ("train A 9B028000000140000040", "-> 1 2002C00000005FFFFFE800"),
+            (
+                "train A 9B028000000140000040",
+                "-> 1 2002C00000005FFFFFE800",
+            ),
             ("train A 9F028000000140000040", "silent 1"),
             ("train A 9F028000000180000040", "ok"),
             (
@@ -53,7 +54,10 @@ fn the_first_reason_is_printed(rt: HostRuntime) -> Result<(), Fail> {
             ("train A 9C0280000001C0000040", "-> 1 2702800000009FFFFFE0"),
             ("train A 9F0280000001C0000040", "silent 1"),
             ("train A 9F028000000200000040", "silent 2"),
-            ("train A 9B028000000200000040", "-> 1 2002C0000000DFFFFFE800"),
+            (
+                "train A 9B028000000200000040",
+                "-> 1 2002C0000000DFFFFFE800",
+            ),
             (
                 "train A 96068000000200000040010280A0328258500140051019001060",
                 "silent 1",
