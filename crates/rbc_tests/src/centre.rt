@@ -36,7 +36,7 @@ fn a_session_is_opened_once(rt: HostRuntime) -> Result<(), Fail> {
         .ok()
         .ok_or("the step is taken")?;
     assert_eq!(rt; ended.sayings.len(), 1);
-    assert_eq!(rt; centre.train(2).phase, Phase::NoSession);
+    assert_eq!(rt; centre.train(2).phase, Phase::Silent);
     Ok(())
 }
 
