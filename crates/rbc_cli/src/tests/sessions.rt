@@ -1,26 +1,23 @@
 //! The sessions of trains, by the bytes of their messages.
 
-use super::{SHUT, played};
+use super::{Ended, SHUT, played};
+use std::alloc::Global;
 use std::str::from_utf8;
 use std::test::Fail;
 
-// Each message with what it leads to, as scripts and prints have it.
-fn answers(rt: &HostRuntime, said: &[(&str, &str)]) -> Result<(), Fail> {
-    let alloc = rt.alloc();
+// What a script of these messages prints, and what it has to print, by each message's answer.
+fn printed(alloc: Global, said: &[(&str, &str)]) -> Result<(Ended, String), Fail> {
     let mut script = String::new(alloc);
     let mut expected = String::new(alloc);
     for (message, answer) in said {
         script.push_str(message)?;
         script.push_str("\n")?;
-        let printed = format!(in alloc; "> {message}\nA {answer}\n")?;
-        expected.push_str(&printed)?;
+        let lines = format!(in alloc; "> {message}\nA {answer}\n")?;
+        expected.push_str(&lines)?;
     }
     expected.push_str(SHUT)?;
     expected.push_str("train 1 none\n")?;
-    let ended = played(alloc, &script);
-    assert_eq!(rt; from_utf8(&ended.out)?, expected.as_str());
-    assert_eq!(rt; ended.status, 0);
-    Ok(())
+    Ok((played(alloc, &script), expected))
 }
 
 const OPENED: (&str, &str) = (
@@ -33,13 +30,16 @@ const UP: (&str, &str) = ("train A 9F028000000080000040", "ok");
 #[test]
 fn a_session_opens_and_ends(rt: HostRuntime) -> Result<(), Fail> {
     let ends = ("train A 9C0280000000C0000040", "-> 1 2702800000009FFFFFE0");
-    answers(&rt, &[OPENED, UP, ends])
+    let (ended, expected) = printed(rt.alloc(), &[OPENED, UP, ends])?;
+    assert_eq!(rt; from_utf8(&ended.out)?, expected.as_str());
+    assert_eq!(rt; ended.status, 0);
+    Ok(())
 }
 
 #[test]
 fn the_first_reason_is_printed(rt: HostRuntime) -> Result<(), Fail> {
-    answers(
-        &rt,
+    let (ended, expected) = printed(
+        rt.alloc(),
         &[
             (
                 "train A 9B028000000140000040",
@@ -67,13 +67,16 @@ fn the_first_reason_is_printed(rt: HostRuntime) -> Result<(), Fail> {
                 "silent 10",
             ),
         ],
-    )
+    )?;
+    assert_eq!(rt; from_utf8(&ended.out)?, expected.as_str());
+    assert_eq!(rt; ended.status, 0);
+    Ok(())
 }
 
 #[test]
 fn a_train_that_is_not_supervised_is_not_answered(rt: HostRuntime) -> Result<(), Fail> {
-    answers(
-        &rt,
+    let (ended, expected) = printed(
+        rt.alloc(),
         &[
             OPENED,
             UP,
@@ -94,5 +97,8 @@ fn a_train_that_is_not_supervised_is_not_answered(rt: HostRuntime) -> Result<(),
                 "-> 1 2802800000009FFFFFE0",
             ),
         ],
-    )
+    )?;
+    assert_eq!(rt; from_utf8(&ended.out)?, expected.as_str());
+    assert_eq!(rt; ended.status, 0);
+    Ok(())
 }
