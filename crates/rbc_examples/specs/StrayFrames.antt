@@ -223,7 +223,7 @@ mission_at front = record (mission_at_a one_to_six no_run None) { place = record
 
 -- train 1 has asked for sections behind its hand of three
 abbrev pub calm_asking : Effect
-calm_asking = calm_at_a (mission_at_a (record { first = 1; count = 3 }) (record { first = 4; count = 0 }) None) 5 4 (Some 4) 0
+calm_asking = calm_at_a (mission_at_a (record { first = 1; count = 3 }) no_run None) 5 4 (Some 4) 0
 
 -- its hand of six is announced to B
 abbrev pub calm_announcing : Effect

@@ -3,7 +3,7 @@ use Rattle.std.specs.Prelude.{ℕ, ◌+◌, ◌-◌, ◌*◌, ◌==◌, Bool, tr
 use Rattle.std.specs.Option.{option_map_or}
 use Rattle.std.specs.List.{list_all, range_with_len}
 use Rattle.rbc_spec.specs.Maps.{put}
-use Rattle.rbc_spec.specs.Reach.{Reach, starts_missions}
+use Rattle.rbc_spec.specs.Reach.{Reach, starts_missions, crosses_borders}
 use Rattle.rbc_spec.specs.Runs.{Run, no_run, within, behind, is_empty, part_before, part_from, joined, longest, passing}
 use Rattle.rbc_spec.specs.Line.{Line, is_centre, is_home, end, next_centre, registrar}
 use Rattle.rbc_spec.specs.Sections.{is_on}
@@ -84,16 +84,19 @@ start_waiting line t place =
     >> where_so (λ k. not (k.has_asked t))
     (option_map_or (λ r. send r (AskRight t)) (registrar line t) rest >> become (λ k. record k { has_asked = put k.has_asked t true }))
 
-abbrev pub start_new : Line → ℕ → ℕ → Place → Act
-start_new line c t place =
+abbrev pub start_elsewhere : Reach → Line → ℕ → Place → Act
+start_elsewhere reach line t place = if crosses_borders reach then start_waiting line t place else reject t
+
+abbrev pub start_new : Reach → Line → ℕ → ℕ → Place → Act
+start_new reach line c t place =
     choose (λ k. all_of (is_free line c k) (covered line place))
-    (if is_registrar_of line c t then start_here line t place else start_waiting line t place)
+    (if is_registrar_of line c t then start_here line t place else start_elsewhere reach line t place)
     (reject t)
 
-abbrev pub start_mission : Line → ℕ → ℕ → Bool → Position → Act
-start_mission line c t is_valid position k =
+abbrev pub start_mission : Reach → Line → ℕ → ℕ → Bool → Position → Act
+start_mission reach line c t is_valid position k =
     option_map_or
-    (λ place. option_map_or (λ m. restart line t place m k) (k.mission t) (start_new line c t place k))
+    (λ place. option_map_or (λ m. restart line t place m k) (k.mission t) (start_new reach line c t place k))
     (fit_place line is_valid position)
     (reject t k)
 
@@ -114,7 +117,7 @@ extension line c k m = record { first = behind m.hand; count = longest (may_foll
 
 -- the mission with a longer hand, and what is left of its pool
 abbrev pub extended_by : Run → Mission → Mission
-extended_by r m = record m { hand = joined m.hand r; pool = part_from (behind r) m.pool }
+extended_by r m = record m { hand = joined m.hand r; pool = if is_empty m.pool then m.pool else part_from (behind r) m.pool }
 
 -- what follows an extension at the border: the announcement of a handover, and a question for more sections
 abbrev pub at_border : Line → ℕ → ℕ → ℕ → Act
@@ -124,16 +127,16 @@ at_border line c t d =
     (λ k. ((is_home line d (behind m.hand) && is_on line m.place.track (behind m.hand)) && nat_lt m.hand.count 32) && (is_empty m.pool && is_none (k.route_ask t)))
     (ask_route t d m))
 
-abbrev pub grant : Line → ℕ → ℕ → Mission → Act
-grant line c t m k =
+abbrev pub grant : Reach → Line → ℕ → ℕ → Mission → Act
+grant reach line c t m k =
     let r = extension line c k m in
     let n = extended_by r m in
     (((booked is_open (Taken t) r >> set_mission t (Some n)) >> say t m.place.group (Authority (authority line n)))
-    >> option_map_or (at_border line c t) (next_centre line c m.place.track) rest) k
+    >> (if crosses_borders reach then option_map_or (at_border line c t) (next_centre line c m.place.track) rest else rest)) k
 
-abbrev pub request : Line → ℕ → ℕ → Position → Act
-request line c t position = with_some (λ k. k.mission t) (λ m.
-    option_map_or (λ place. grant line c t (record m { place = place })) (place_on line m.place.track position) rest)
+abbrev pub request : Reach → Line → ℕ → ℕ → Position → Act
+request reach line c t position = with_some (λ k. k.mission t) (λ m.
+    option_map_or (λ place. grant reach line c t (record m { place = place })) (place_on line m.place.track position) rest)
 
 -- ## Report (3.6.5)
 
@@ -207,7 +210,7 @@ answer_granted line c t position = with_some (λ k. k.mission t) (λ m. with_som
 abbrev pub answered : Reach → Line → ℕ → TrainMessage → TrainBody → Act
 answered reach line c m (TrainData position) =
     change_mission m.nid_engine (λ n. record n { has_data = true }) >> say m.nid_engine unknown_group (DataAcknowledged m.t_train)
-answered reach line c m (Request position) = request line c m.nid_engine position
+answered reach line c m (Request position) = request reach line c m.nid_engine position
 answered reach line c m (Report position) = report line c m.nid_engine position
 answered reach line c m (ShorteningGranted stamp position) = answer_granted line c m.nid_engine position
 answered reach line c m (ShorteningRejected stamp position) = change_mission m.nid_engine (λ n. record n { proposal = None })
@@ -216,5 +219,5 @@ answered reach line c m InitiationOfSession =
     (close_session line c m.nid_engine >> set_phase m.nid_engine Opened) >> say m.nid_engine unknown_group SystemVersion
 answered reach line c m TerminationOfSession = close_session line c m.nid_engine >> say m.nid_engine unknown_group TerminationAcknowledged
 answered reach line c m (StartOfMission is_valid position) =
-    if starts_missions reach then start_mission line c m.nid_engine is_valid position else reject m.nid_engine
+    if starts_missions reach then start_mission reach line c m.nid_engine is_valid position else reject m.nid_engine
 answered reach line c m SessionEstablished = set_phase m.nid_engine Up
