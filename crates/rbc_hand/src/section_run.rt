@@ -1,0 +1,27 @@
+ghost use Rattle.std.specs.Prelude.{◌≡◌};
+ghost use Rattle.rbc_spec.specs.Runs.{behind, is_empty};
+
+/// Consecutive sections: the first by its number over the whole line, and how many they are.
+#[derive(Clone, Copy, Debug, PartialEq, Eq)]
+pub struct SectionRun {
+    pub first: u16,
+    pub count: u16,
+}
+
+impl SectionRun {
+    ghost use Rattle.rbc_hand.specs.SectionRuns.{run_of};
+
+    /// Whether it has no section.
+    pub fn is_empty(self) -> bool
+        ensures { result ≡ is_empty (run_of self) }
+    {
+        self.count == 0
+    }
+
+    /// The number of the section behind the last.
+    pub fn behind(self) -> u32
+        ensures { result ≡ behind (run_of self) }
+    {
+        u32::from(self.first) + u32::from(self.count)
+    }
+}
