@@ -1,12 +1,12 @@
 -- Where sections start and end on their track, and which a place covers.
-use Rattle.std.proofs.Common.{◌≡◌, ℕ, ◌+◌, ◌*◌, ◌<◌, ◌≤◌, ◌==◌, ◌&&◌, true, false, nat_lt, length, take, filter, slice_get, Option, Some, None, ℤ, pos, negsuc, int_lt, get_or, refl, sym, ap, ◌∙◌, arith, ⊎_elim, le_antisymm, ltb-true, lt-ltb, eqb-true, eq-eqb}
+use Rattle.std.proofs.Common.{Bool, ◌≡◌, ℕ, ◌+◌, ◌*◌, ◌<◌, ◌≤◌, ◌==◌, ◌&&◌, true, false, nat_lt, length, take, filter, slice_get, Option, Some, None, ℤ, pos, negsuc, int_lt, get_or, refl, sym, ap, ◌∙◌, arith, ⊎_elim, le_antisymm, ltb-true, lt-ltb, eqb-true, eq-eqb}
 use Rattle.std.specs.List.{sum_by}
 use Rattle.std.specs.Option.{option_map_or}
 use Rattle.std.proofs.lemmas.Option.{slice_get_within, slice_get_past, slice_get_cases}
 use Rattle.std.proofs.lemmas.Bool.{and_parts, and_from, and_left}
 use Rattle.rbc_spec.specs.Runs.{within}
-use Rattle.rbc_spec.specs.Line.{Line, Section, IsLine, section, start, end}
-use Rattle.rbc_spec.specs.Sections.{is_on, section_count}
+use Rattle.rbc_spec.specs.Line.{Line, Section, IsLine, section, is_home, start, end}
+use Rattle.rbc_spec.specs.Sections.{is_on, section_count, home_run}
 use Rattle.rbc_spec.specs.Place.{Place, covers, covered}
 use Rattle.rbc_spec.proofs.Convex.{IsConvex, convex_run_of}
 use Rattle.rbc_spec.proofs.Sums.{sum_up_to, sum_next, sum_rises}
@@ -81,6 +81,41 @@ between_on line ok track s m e from to one two =
     }))
     (λ (h : (length line.sections ≤ m) × (slice_get line.sections m ≡ None)). absurd (omega arith))
     (slice_get_cases line.sections m).1
+
+-- ## Homes
+
+-- the section is of home d and on the track
+abbrev pub is_home_on : Line → ℕ → ℕ → ℕ → Bool
+is_home_on line d track s = is_home line d s && is_on line track s
+
+homes_convex : (line : Line) → IsLine line → (d track : ℕ) → IsConvex (is_home_on line d track)
+homes_convex line ok d track s m e from to one two =
+    let first = and_parts (is_home line d s) (is_on line track s) one in
+    let last = and_parts (is_home line d e) (is_on line track e) two in
+    let on = between_on line ok track s m e from to first.1 last.1 in
+    let p = section_on line track s first.1 in
+    let n = section_on line track m on in
+    let q = section_on line track e last.1 in
+    and_from (is_home line d m) (is_on line track m) (home_between line ok d track s m e from to first.0 last.0 p.0 n.0 q.0 p.1 n.1 q.1) on
+  where
+    home_at : (line : Line) (d s : ℕ) (p : Section) → section line s ≡ Some p → is_home line d s ≡ true → p.home ≡ d
+    home_at line d s p at home = eqb-true p.home d (sym (ap (λ o. option_map_or (λ r. r.home == d) o false) at) ∙ home)
+
+    home_between : (line : Line) → IsLine line → (d track s m e : ℕ) → s ≤ m → m ≤ e → is_home line d s ≡ true → is_home line d e ≡ true
+        → (p n q : Section) → IsAt line track s p → IsAt line track m n → IsAt line track e q → is_home line d m ≡ true
+    home_between line ok d track s m e from to one two p n q p_at n_at q_at =
+        let first = home_at line d s p p_at.at one in
+        let last = home_at line d e q q_at.at two in
+        let same = ok.homes s m e p n q from to p_at.at n_at.at q_at.at (p_at.on ∙ sym q_at.on) (first ∙ sym last) in
+        ap (λ o. option_map_or (λ r. r.home == d) o false) n_at.at ∙ eq-eqb n.home d (same ∙ first)
+
+homes_past : (line : Line) (d track s : ℕ) → section_count line ≤ s → is_home_on line d track s ≡ false
+homes_past line d track s past =
+    and_left (is_home line d s) (is_on line track s) (ap (λ o. option_map_or (λ r. r.home == d) o false) (slice_get_past line.sections s past))
+
+-- the sections of one home on one track are a run
+pub homes_run : (line : Line) (d track s : ℕ) → IsLine line → within (home_run line d track) s ≡ is_home_on line d track s
+homes_run line d track s ok = convex_run_of (is_home_on line d track) (section_count line) s (homes_convex line ok d track) (homes_past line d track s)
 
 -- ## Places
 

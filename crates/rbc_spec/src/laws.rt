@@ -1,8 +1,8 @@
 //! What the definitions come to where a reader would look twice. The functions do nothing: each contract is a law of the definitions.
 
-ghost use Rattle.std.specs.Prelude.{◌≡◌, ℕ, ◌+◌, ◌<◌, ◌≤◌, true, false, Some, None};
-ghost use Rattle.rbc_spec.specs.Line.{Line, IsLine, start, end};
-ghost use Rattle.rbc_spec.specs.Sections.{is_on};
+ghost use Rattle.std.specs.Prelude.{◌≡◌, ℕ, ◌+◌, ◌<◌, ◌≤◌, ◌&&◌, true, false, Some, None};
+ghost use Rattle.rbc_spec.specs.Line.{Line, IsLine, is_home, start, end};
+ghost use Rattle.rbc_spec.specs.Sections.{is_on, home_run};
 ghost use Rattle.rbc_spec.specs.Runs.{within};
 ghost use Rattle.rbc_spec.specs.Place.{Place, covers, covered, is_cleared};
 ghost use Rattle.rbc_spec.specs.Outcome.{Next, Old, Early};
@@ -17,6 +17,11 @@ pub fn sections_follow_one_another()
 /// What a place covers is a run: the sections between two of them are covered too, on every line.
 pub fn a_place_covers_a_run()
     ensures { (line : Line) (place : Place) (s : ℕ) → IsLine line → within (covered line place) s ≡ covers line place s }
+{}
+
+/// The sections of one home on one track are a run.
+pub fn a_home_is_a_run()
+    ensures { (line : Line) (d track s : ℕ) → IsLine line → within (home_run line d track) s ≡ (is_home line d s && is_on line track s) }
 {}
 
 /// A section that a train has cleared is none that it covers.
