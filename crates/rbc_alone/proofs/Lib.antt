@@ -1,1 +1,5 @@
 pub mod Simple
+pub mod Ordered
+pub mod Stays
+pub mod Entries
+pub mod Hands
