@@ -3,3 +3,4 @@ pub mod Ordered
 pub mod Stays
 pub mod Entries
 pub mod Hands
+pub mod Changes
