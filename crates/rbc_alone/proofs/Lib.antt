@@ -4,3 +4,5 @@ pub mod Stays
 pub mod Entries
 pub mod Hands
 pub mod Changes
+pub mod Fits
+pub mod Missions

@@ -36,11 +36,14 @@ start_is line track s p h =
     ap (λ o. option_map_or (λ q. sum_by (λ r. r.metres) (filter (λ r. r.track == q.track) (take s line.sections))) o 0) h.at
     ∙ ap (λ t. before line t s) h.on
 
-pub end_is : (line : Line) (track s : ℕ) (p : Section) → IsAt line track s p → end line s ≡ before line track (s + 1)
+pub end_of : (line : Line) (track s : ℕ) (p : Section) → IsAt line track s p → end line s ≡ before line track s + p.metres
 unfolding end
+end_of line track s p h =
+    ap (λ o. option_map_or (λ q. start line s + q.metres) o 0) h.at ∙ ap (λ n. n + p.metres) (start_is line track s p h)
+
+pub end_is : (line : Line) (track s : ℕ) (p : Section) → IsAt line track s p → end line s ≡ before line track (s + 1)
 end_is line track s p h =
-    ap (λ o. option_map_or (λ q. start line s + q.metres) o 0) h.at
-    ∙ ap (λ n. n + p.metres) (start_is line track s p h)
+    end_of line track s p h
     ∙ sym (sum_next (λ q. q.metres) (λ q. q.track == track) line.sections s p h.at (eq-eqb p.track track h.on))
 
 before_rises : (line : Line) (track s e : ℕ) → s ≤ e → before line track s ≤ before line track e

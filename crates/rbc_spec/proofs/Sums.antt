@@ -10,10 +10,10 @@ module _ {X : Type 0} (f : X → ℕ) (test : X → Bool) where
   abbrev pub sum_up_to : List X → ℕ → ℕ
   sum_up_to xs i = sum_by f (filter test (take i xs))
 
-  sum_kept : (x : X) (xs : List X) → test x ≡ true → sum_by f (filter test (x ∷ xs)) ≡ f x + sum_by f (filter test xs)
+  pub sum_kept : (x : X) (xs : List X) → test x ≡ true → sum_by f (filter test (x ∷ xs)) ≡ f x + sum_by f (filter test xs)
   sum_kept x xs passes = ap (sum_by f) (cond-true (test x) (x ∷ filter test xs) (filter test xs) passes) ∙ sum_by-cons f x (filter test xs)
 
-  sum_left : (x : X) (xs : List X) → test x ≡ false → sum_by f (filter test (x ∷ xs)) ≡ sum_by f (filter test xs)
+  pub sum_left : (x : X) (xs : List X) → test x ≡ false → sum_by f (filter test (x ∷ xs)) ≡ sum_by f (filter test xs)
   sum_left x xs fails = ap (sum_by f) (cond-false (test x) (x ∷ filter test xs) (filter test xs) fails)
 
   -- an item that passes adds its own
