@@ -6,3 +6,4 @@ pub mod Hands
 pub mod Changes
 pub mod Fits
 pub mod Missions
+pub mod Reports

@@ -20,11 +20,11 @@ use Rattle.rbc_alone.proofs.Stays.{Stays, rest_stays, then_stays, alike_stays, o
 use Rattle.rbc_alone.proofs.Changes.{registrar_of_mission, hand_home, goes_on, ends_here, starts_here, changed, booked_alone, freed_alone, Follows}
 use Rattle.rbc_alone.proofs.Fits.{IsFit, fit_parts, all_each, begun_alone, restarted_alone}
 
-none_within : (s : ℕ) → within no_run s ≡ true → ⊥
+pub none_within : (s : ℕ) → within no_run s ≡ true → ⊥
 none_within s is = let at = within_true no_run s is in omega (arith, at)
 
 -- the place of a report is on the track that it was asked for
-place_of : (track : ℕ) (o : Option Place) (place : Place)
+pub place_of : (track : ℕ) (o : Option Place) (place : Place)
     → option_map_or (λ p. if p.track == track then Some p else None) o None ≡ Some place → (place.track ≡ track) × (o ≡ Some place)
 place_of track (Some p) place is = ⊎_elim
     (λ (here : (p.track == track) ≡ true).
