@@ -80,3 +80,9 @@ unused_taken u Shut unused = refl
 unused_taken u Open unused = refl
 unused_taken u (Taken v) unused = cc
 unused_taken u (Out v d) unused = refl
+
+pub unused_out : (u d : ℕ) (e : Entry) → is_unused e ≡ true → is_out_for u d e ≡ false
+unused_out u d Shut unused = refl
+unused_out u d Open unused = refl
+unused_out u d (Taken v) unused = refl
+unused_out u d (Out v f) unused = cc

@@ -7,3 +7,4 @@ pub mod Changes
 pub mod Fits
 pub mod Missions
 pub mod Reports
+pub mod Steps
