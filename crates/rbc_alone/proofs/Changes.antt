@@ -1,16 +1,15 @@
 -- Changes of the book and of one train's mission that leave a centre alone.
-use Rattle.std.proofs.Common.{◌≡◌, ◌⊎◌, ℕ, ◌==◌, ◌&&◌, ◌||◌, not, cond, if◌then◌else◌, Bool, true, false, List, [], Option, Some, None, option_map, is_none, refl, sym, ap, ◌∙◌, subst}
-use Rattle.std.specs.Option.{option_map_or}
+use Rattle.std.proofs.Common.{◌≡◌, ℕ, ◌&&◌, ◌||◌, not, if◌then◌else◌, Bool, true, false, Option, Some, None, option_map, is_none, refl, sym, ap, ◌∙◌, subst}
 use Rattle.std.proofs.lemmas.Option.{same_Some}
 use Rattle.std.proofs.lemmas.Bool.{both_ways, true_from_ne_false, and_parts, and_left, and_right}
 use Rattle.rbc_spec.specs.Maps.{put}
 use Rattle.rbc_spec.specs.Runs.{Run, within}
 use Rattle.rbc_spec.specs.Line.{Line, is_home}
-use Rattle.rbc_spec.specs.Centre.{Centre, Entry, Shut, Open, Taken, Mission, is_open, is_unused, is_taken_for, is_out_for, is_registrar_of, is_free}
-use Rattle.rbc_spec.specs.Acts.{Act, Reply, change_mission}
+use Rattle.rbc_spec.specs.Centre.{Centre, Entry, Shut, Open, Taken, Mission, is_open, is_unused, is_taken_for, is_registrar_of, is_free}
+use Rattle.rbc_spec.specs.Acts.{change_mission}
 use Rattle.rbc_alone.specs.Alone.{IsAloneAt, IsMissionAlone, hand_has}
 use Rattle.rbc_alone.proofs.Entries.{given, taken_given, out_given, taken_for_one, hand_given, others_given, booked_for, taken_here, taken_elsewhere, out_booked, unused_booked}
-use Rattle.rbc_alone.proofs.Stays.{Stays, Remade, remade, put_here, put_other}
+use Rattle.rbc_alone.proofs.Stays.{Stays, remade, put_here, put_other}
 
 hand_changed : (change : Mission → Mission) (o : Option Mission) (s : ℕ) → ((m : Mission) → o ≡ Some m → (change m).hand ≡ m.hand)
     → hand_has (option_map change o) s ≡ hand_has o s
@@ -155,11 +154,11 @@ module _ (line : Line) (c : ℕ) where
       → ((s : ℕ) → hand_has mission s ≡ (hand_has (k.mission t) s && not (within r s)))
       → Follows k t mission has_right
       → IsAloneAt line c (record k {
-          book = λ s. if (within r s && is_home line c s) && is_taken_for t (k.book s) then (if k.wish s then Shut else Open) else k.book s;
-          wish = λ s. not ((within r s && is_home line c s) && is_taken_for t (k.book s)) && k.wish s;
-          mission = put k.mission t mission;
-          has_right = has_right;
-        })
+        book = λ s. if (within r s && is_home line c s) && is_taken_for t (k.book s) then (if k.wish s then Shut else Open) else k.book s;
+        wish = λ s. not ((within r s && is_home line c s) && is_taken_for t (k.book s)) && k.wish s;
+        mission = put k.mission t mission;
+        has_right = has_right;
+      })
   freed_alone k t r mission has_right h hand follows =
       let back : ℕ → Bool = λ s. (within r s && is_home line c s) && is_taken_for t (k.book s) in
       remade line c k t (λ s. given (back s) (k.wish s) (k.book s)) (λ s. not (back s) && k.wish s) mission has_right h (record {

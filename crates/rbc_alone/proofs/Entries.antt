@@ -1,6 +1,6 @@
 -- Entries of the book as sections are taken and given back.
-use Rattle.std.proofs.Common.{◌≡◌, ◌⊎◌, ℕ, ◌==◌, ◌&&◌, ◌||◌, not, if◌then◌else◌, Bool, true, false, refl, sym, ap, ◌∙◌, subst, eqb-true, eq-eqb}
-use Rattle.std.proofs.lemmas.Bool.{both_ways, ne_eqb, false_from_ne_true, cases_Bool, or_right}
+use Rattle.std.proofs.Common.{◌≡◌, ℕ, ◌&&◌, ◌||◌, not, if◌then◌else◌, Bool, true, false, refl, sym, ap, ◌∙◌, eqb-true, eq-eqb}
+use Rattle.std.proofs.lemmas.Bool.{both_ways, ne_eqb, false_from_ne_true, or_right}
 use Rattle.rbc_spec.specs.Centre.{Entry, Shut, Open, Taken, Out, is_open, is_unused, is_taken_for, is_out_for}
 
 -- given back: open, or shut where it is wished back

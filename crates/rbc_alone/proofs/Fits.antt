@@ -1,18 +1,18 @@
 -- A place that is fit for a start covers some section, and at most as many as a hand may have.
-use Rattle.std.proofs.Common.{◌≡◌, ◌⊎◌, ℕ, zero, suc, ◌+◌, ◌-◌, ◌*◌, ◌<◌, ◌≤◌, ◌==◌, ◌&&◌, Bool, true, false, List, [], ◌∷◌, length, take, filter, slice_get, Option, Some, None, ℤ, pos, negsuc, int_lt, int_le, nat_lt, nat_le, refl, sym, ap, ◌∙◌, subst, arith, ⊎_elim, ltb-true, leb-true, lt-ltb, eqb-true}
+use Rattle.std.proofs.Common.{◌≡◌, ℕ, zero, suc, ◌+◌, ◌-◌, ◌*◌, ◌<◌, ◌≤◌, ◌==◌, ◌&&◌, Bool, true, false, List, [], ◌∷◌, take, filter, slice_get, Option, Some, None, ℤ, pos, negsuc, int_lt, int_le, nat_lt, nat_le, refl, sym, ap, ◌∙◌, subst, arith, ⊎_elim, ltb-true, leb-true, lt-ltb, eqb-true}
 use Rattle.std.specs.List.{sum_by, list_all, range_with_len}
 use Rattle.std.specs.Option.{option_map_or}
 use Rattle.std.proofs.lemmas.Option.{same_Some}
 use Rattle.std.proofs.lemmas.Bool.{and_parts, cases_Bool, cases_lt, cases_eq}
-use Rattle.rbc_spec.specs.Runs.{Run, within, no_run}
-use Rattle.rbc_spec.specs.Line.{Line, Section, section, start, end}
+use Rattle.rbc_spec.specs.Runs.{Run, within}
+use Rattle.rbc_spec.specs.Line.{Line, Section, end}
 use Rattle.rbc_spec.specs.Sections.{is_on, track_end}
 use Rattle.rbc_spec.specs.Place.{Place, covers, covered, is_fit}
 use Rattle.rbc_spec.specs.Rules.{all_of}
 use Rattle.rbc_spec.specs.Centre.{Mission}
 use Rattle.rbc_spec.specs.Acts.{begun}
 use Rattle.rbc_spec.proofs.Sums.{sum_up_to, sum_kept, sum_left}
-use Rattle.rbc_spec.proofs.Places.{IsAt, before, start_is, section_on, on_section, covers_parts, covers_from, end_of}
+use Rattle.rbc_spec.proofs.Places.{IsAt, start_is, section_on, on_section, covers_parts, covers_from, end_of}
 use Rattle.rbc_alone.specs.Alone.{IsOrdered, IsMissionAlone}
 use Rattle.rbc_alone.proofs.Hands.{within_true}
 
@@ -36,10 +36,10 @@ lies_in : (track : ℕ) (xs : List Section) (r : ℕ) → r < 10 * sum_by (λ q.
 lies_in track [] r low = absurd (omega arith)
 lies_in track (x ∷ xs) r low = ⊎_elim
     (λ (is : (x.track == track) ≡ true). ⊎_elim
-        (λ (here : r < 10 * x.metres). record { i = 0; x = x; at = refl; on = is; from = omega arith; to = omega (arith, here) })
-        (λ (later : 10 * x.metres ≤ r). deeper is later
-            (lies_in track xs (r - 10 * x.metres) (omega (arith, sum_kept (λ (q : Section). q.metres) (λ q. q.track == track) x xs is))))
-        (cases_lt r (10 * x.metres)))
+    (λ (here : r < 10 * x.metres). record { i = 0; x = x; at = refl; on = is; from = omega arith; to = omega (arith, here) })
+    (λ (later : 10 * x.metres ≤ r). deeper is later
+    (lies_in track xs (r - 10 * x.metres) (omega (arith, sum_kept (λ (q : Section). q.metres) (λ q. q.track == track) x xs is))))
+    (cases_lt r (10 * x.metres)))
     (λ (fails : (x.track == track) ≡ false). beside fails (lies_in track xs r (omega (arith, sum_left (λ (q : Section). q.metres) (λ q. q.track == track) x xs fails))))
     (cases_Bool (x.track == track))
   where
@@ -72,13 +72,15 @@ fit_parts line place fit =
 pub fit_covers : (line : Line) (place : Place) → IsFit line place → (s : ℕ) × (covers line place s ≡ true)
 fit_covers line place fit =
     let h = lies_in place.track line.sections fit.rear (omega (arith, fit.order, fit.bound)) in
-    let at : IsAt line place.track h.i h.x = record { at = h.at; on = eqb-true h.x.track place.track h.on } in
-    (h.i, covers_from line place h.i (record {
-      on = on_section line place.track h.i h.x at;
-      begins = omega (arith, start_is line place.track h.i h.x at, h.from, fit.order);
-      ends = ap (λ o. option_map_or (λ rear. int_lt rear (pos (10 * end line h.i))) o false) fit.rear_is
-          ∙ lt-ltb fit.rear (10 * end line h.i) (omega (arith, end_of line place.track h.i h.x at, h.to));
-    }))
+    let at : IsAt line place.track h.i h.x = record { at = h.at; on = eqb-true h.x.track place.track h.on } in (
+      h.i,
+      covers_from line place h.i (record {
+        on = on_section line place.track h.i h.x at;
+        begins = omega (arith, start_is line place.track h.i h.x at, h.from, fit.order);
+        ends = ap (λ o. option_map_or (λ rear. int_lt rear (pos (10 * end line h.i))) o false) fit.rear_is
+            ∙ lt-ltb fit.rear (10 * end line h.i) (omega (arith, end_of line place.track h.i h.x at, h.to));
+      }),
+    )
 
 -- all sections of a run pass
 each_of : (test : ℕ → Bool) (count first s : ℕ) → list_all test (range_with_len first count) ≡ true → first ≤ s → s < first + count → test s ≡ true

@@ -1,23 +1,23 @@
 -- A centre that is alone stays so as missions start, go on, and end.
-use Rattle.std.proofs.Common.{◌≡◌, ◌⊎◌, ℕ, ◌+◌, ◌-◌, ◌*◌, ◌<◌, ◌≤◌, ◌==◌, ◌&&◌, ◌||◌, not, cond, if◌then◌else◌, Bool, true, false, List, [], Option, Some, None, option_map, is_none, nat_le, min, max, refl, sym, ap, ◌∙◌, subst, arith, ⊎_elim, eqb-true}
+use Rattle.std.proofs.Common.{◌≡◌, ℕ, ◌+◌, ◌-◌, ◌==◌, ◌&&◌, ◌||◌, if◌then◌else◌, Bool, true, false, Option, Some, None, refl, sym, ap, ◌∙◌, subst, arith, ⊎_elim, eqb-true}
 use Rattle.std.specs.Option.{option_map_or}
 use Rattle.std.proofs.lemmas.Option.{same_Some}
-use Rattle.std.proofs.lemmas.Bool.{both_ways, and_parts, or_cases, cases_Bool}
+use Rattle.std.proofs.lemmas.Bool.{and_parts, or_cases, cases_Bool}
 use Rattle.rbc_spec.specs.Maps.{put}
-use Rattle.rbc_spec.specs.Reach.{Alone, crosses_borders}
-use Rattle.rbc_spec.specs.Runs.{Run, no_run, within, behind, is_empty, part_before, part_from, joined, longest, passing}
-use Rattle.rbc_spec.specs.Line.{Line, is_home, end, next_centre}
+use Rattle.rbc_spec.specs.Reach.{Alone}
+use Rattle.rbc_spec.specs.Runs.{Run, no_run, within, behind, is_empty, part_from, joined}
+use Rattle.rbc_spec.specs.Line.{Line}
 use Rattle.rbc_spec.specs.Sections.{is_on}
-use Rattle.rbc_spec.specs.Place.{Place, Position, extent, is_fit, covered, covers, is_cleared}
+use Rattle.rbc_spec.specs.Place.{Place, Position, extent, is_fit, covered}
 use Rattle.rbc_spec.specs.Message.{TrackBody, Authority}
-use Rattle.rbc_spec.specs.Centre.{Centre, Entry, Open, Taken, Phase, Mission, Proposal, is_open, is_taken_for, is_registrar_of, is_free}
-use Rattle.rbc_spec.specs.Acts.{Act, Reply, become, rest, ◌>>◌, where_so, with_some, say, booked, freed, returned, leave, set_mission, change_mission, return_pool, cancel, close, begun, yield_if_due}
-use Rattle.rbc_spec.specs.Rules.{place_on, accept, reject, all_of, restart, start_here, start_elsewhere, start_new, start_mission, fit_place, begin, extension, extended_by, may_follow, authority, at_border, grant, request, cleared, clear, report_here, report, take_over, end_mission, cut, granted, answer_granted, choose}
+use Rattle.rbc_spec.specs.Centre.{Centre, Taken, Mission, is_open, is_registrar_of, is_free}
+use Rattle.rbc_spec.specs.Acts.{Act, Reply, become, rest, ◌>>◌, say, booked, set_mission, begun, yield_if_due}
+use Rattle.rbc_spec.specs.Rules.{place_on, accept, reject, all_of, restart, start_here, start_elsewhere, start_new, start_mission, fit_place, begin, extension, extended_by, may_follow, authority, grant, request}
 use Rattle.rbc_alone.specs.Alone.{IsOrdered, IsAloneAt, IsMissionAlone, hand_has}
-use Rattle.rbc_alone.proofs.Simple.{then_rest, alike_then, HasNoHanding, no_yield, no_cancel, IsAllHome, all_home, leave_home, joined_none, no_pool_returned, close_here, no_take_over}
-use Rattle.rbc_alone.proofs.Hands.{within_true, within_from, within_rest, within_kept, within_joined, joined_is, longest_few, longest_each}
-use Rattle.rbc_alone.proofs.Stays.{Stays, rest_stays, then_stays, alike_stays, other_parts, put_here}
-use Rattle.rbc_alone.proofs.Changes.{registrar_of_mission, hand_home, goes_on, ends_here, starts_here, changed, booked_alone, freed_alone, Follows}
+use Rattle.rbc_alone.proofs.Simple.{no_yield}
+use Rattle.rbc_alone.proofs.Hands.{within_true, within_joined, joined_is, longest_few, longest_each}
+use Rattle.rbc_alone.proofs.Stays.{Stays, rest_stays, then_stays, alike_stays, other_parts}
+use Rattle.rbc_alone.proofs.Changes.{goes_on, starts_here, changed, booked_alone}
 use Rattle.rbc_alone.proofs.Fits.{IsFit, fit_parts, all_each, begun_alone, restarted_alone}
 
 pub none_within : (s : ℕ) → within no_run s ≡ true → ⊥
@@ -28,8 +28,8 @@ pub place_of : (track : ℕ) (o : Option Place) (place : Place)
     → option_map_or (λ p. if p.track == track then Some p else None) o None ≡ Some place → (place.track ≡ track) × (o ≡ Some place)
 place_of track (Some p) place is = ⊎_elim
     (λ (here : (p.track == track) ≡ true).
-        let same : p ≡ place = same_Some p place (sym (ap (λ b. if b then Some p else None) here) ∙ is) in
-        (ap (λ (q : Place). q.track) (sym same) ∙ eqb-true p.track track here, ap Some same))
+    let same : p ≡ place = same_Some p place (sym (ap (λ b. if b then Some p else None) here) ∙ is) in
+    (ap (λ (q : Place). q.track) (sym same) ∙ eqb-true p.track track here, ap Some same))
     (λ (other : (p.track == track) ≡ false). absurd (no_place (sym (ap (λ b. if b then Some p else None) other) ∙ is)))
     (cases_Bool (p.track == track))
   where
@@ -77,10 +77,10 @@ module _ (line : Line) (c : ℕ) where
     pub restarted : (t : ℕ) (place : Place) (m : Mission) (k : Centre) → IsAloneAt line c k → k.mission t ≡ Some m → IsFit line place → Stays line c (restart line t place m k)
     restarted t place m k h at fit = if_act (all_of (within m.hand) (covered line place)) _ _ k
         (λ all. then_both _ (accept t) k
-            (changed line c t (λ n. record n { place = place; has_data = false; is_ended = false; proposal = None }) k h
-                (λ n is. refl)
-                (λ n is. restarted_alone line ordered place fit n (h.mission t n is) (subst (λ (q : Mission). all_of (within q.hand) (covered line place) ≡ true) (same_Some m n (sym at ∙ is)) all)))
-            (λ j alone. said t _ _ j alone))
+        (changed line c t (λ n. record n { place = place; has_data = false; is_ended = false; proposal = None }) k h
+        (λ n is. refl)
+        (λ n is. restarted_alone line ordered place fit n (h.mission t n is) (subst (λ (q : Mission). all_of (within q.hand) (covered line place) ≡ true) (same_Some m n (sym at ∙ is)) all)))
+        (λ j alone. said t _ _ j alone))
         (λ no_room. said t _ _ k h)
 
     begun_here : (t : ℕ) (place : Place) (k : Centre) → IsAloneAt line c k → k.mission t ≡ None → IsFit line place
@@ -91,29 +91,29 @@ module _ (line : Line) (c : ℕ) where
         let j : Centre = ((booked is_open (Taken t) (covered line place) >> become (λ i. record i { has_right = put i.has_right t false })) k).state in
         then_stays line c (booked is_open (Taken t) (covered line place) >> become (λ i. record i { has_right = put i.has_right t false })) (begin line t place) k (λ d. refl)
         (then_both (set_mission t (Some (begun line place))) (accept t) j
-            (record {
-              state = booked_alone line c k t (covered line place) (Some (begun line place)) (put k.has_right t false) h
-                  (all_each (is_free line c k) (covered line place) all)
-                  (λ s. sym (ap (λ o. hand_has o s || within (covered line place) s) none))
-                  (starts_here line c k t (begun line place) here (begun_alone line ordered place fit));
-              frames = λ d. refl;
-            })
-            (λ i alone. said t _ _ i alone))
+        (record {
+          state = booked_alone line c k t (covered line place) (Some (begun line place)) (put k.has_right t false) h
+              (all_each (is_free line c k) (covered line place) all)
+              (λ s. sym (ap (λ o. hand_has o s || within (covered line place) s) none))
+              (starts_here line c k t (begun line place) here (begun_alone line ordered place fit));
+          frames = λ d. refl;
+        })
+        (λ i alone. said t _ _ i alone))
 
     pub started : (t : ℕ) (place : Place) (k : Centre) → IsAloneAt line c k → k.mission t ≡ None → IsFit line place → Stays line c (start_new Alone line c t place k)
     started t place k h none fit = if_reply (all_of (is_free line c k) (covered line place)) _ _
         (λ all. if_act (is_registrar_of line c t) (start_here line t place) (start_elsewhere Alone line t place) k
-            (λ here. if_reply (k.has_right t) _ _ (λ right. begun_here t place k h none fit all here) (λ away. said t _ _ k h))
-            (λ away. said t _ _ k h))
+        (λ here. if_reply (k.has_right t) _ _ (λ right. begun_here t place k h none fit all here) (λ away. said t _ _ k h))
+        (λ away. said t _ _ k h))
         (λ taken. said t _ _ k h)
 
     pub answered_start : (t : ℕ) (is_valid : Bool) (position : Position) (k : Centre) → IsAloneAt line c k → Stays line c (start_mission Alone line c t is_valid position k)
     answered_start t is_valid position k h = or_reply (fit_place line is_valid position) _ (reject t k)
         (λ place fits.
-            let fit = fit_parts line place (fit_of is_valid (extent line position) place fits) in
-            or_reply (k.mission t) (λ m. restart line t place m k) (start_new Alone line c t place k)
-            (λ m at. restarted t place m k h at fit)
-            (λ none. started t place k h none fit))
+        let fit = fit_parts line place (fit_of is_valid (extent line position) place fits) in
+        or_reply (k.mission t) (λ m. restart line t place m k) (start_new Alone line c t place k)
+        (λ m at. restarted t place m k h at fit)
+        (λ none. started t place k h none fit))
         (λ none. said t _ _ k h)
       where
         no_place : (place : Place) → None ≡ Some place → ⊥
@@ -123,8 +123,8 @@ module _ (line : Line) (c : ℕ) where
             → option_map_or (λ p. if is_valid && is_fit line p then Some p else None) o None ≡ Some place → is_fit line place ≡ true
         fit_of is_valid (Some p) place is = ⊎_elim
             (λ (fits : (is_valid && is_fit line p) ≡ true).
-                let same : p ≡ place = same_Some p place (sym (ap (λ b. if b then Some p else None) fits) ∙ is) in
-                subst (λ (q : Place). is_fit line q ≡ true) same (and_parts is_valid (is_fit line p) fits).1)
+            let same : p ≡ place = same_Some p place (sym (ap (λ b. if b then Some p else None) fits) ∙ is) in
+            subst (λ (q : Place). is_fit line q ≡ true) same (and_parts is_valid (is_fit line p) fits).1)
             (λ (other : (is_valid && is_fit line p) ≡ false). absurd (no_place place (sym (ap (λ b. if b then Some p else None) other) ∙ is)))
             (cases_Bool (is_valid && is_fit line p))
         fit_of is_valid None place is = cc
@@ -174,19 +174,19 @@ module _ (line : Line) (c : ℕ) where
         let alone = h.mission t m at in
         then_both ((booked is_open (Taken t) r >> set_mission t (Some (extended_by r n))) >> say t place.group (Authority (authority line (extended_by r n)))) rest k
         (then_both (booked is_open (Taken t) r >> set_mission t (Some (extended_by r n))) (say t place.group (Authority (authority line (extended_by r n)))) k
-            (then_stays line c (booked is_open (Taken t) r) (set_mission t (Some (extended_by r n))) k (λ d. refl) (record {
-              state = booked_alone line c k t r (Some (extended_by r n)) k.has_right h
-                  (follows_free k m place alone)
-                  (λ s. within_joined m.hand r.count s alone.some ∙ sym (ap (λ o. hand_has o s || within r s) at))
-                  (goes_on line c k t m (extended_by r n) h at (granted_alone k m place alone same));
-              frames = λ d. refl;
-            }))
-            (λ j stays. said t _ _ j stays))
+        (then_stays line c (booked is_open (Taken t) r) (set_mission t (Some (extended_by r n))) k (λ d. refl) (record {
+          state = booked_alone line c k t r (Some (extended_by r n)) k.has_right h
+              (follows_free k m place alone)
+              (λ s. within_joined m.hand r.count s alone.some ∙ sym (ap (λ o. hand_has o s || within r s) at))
+              (goes_on line c k t m (extended_by r n) h at (granted_alone k m place alone same));
+          frames = λ d. refl;
+        }))
+        (λ j stays. said t _ _ j stays))
         (λ j stays. rest_stays line c j stays)
 
     pub answered_request : (t : ℕ) (position : Position) (k : Centre) → IsAloneAt line c k → Stays line c (request Alone line c t position k)
     answered_request t position k h = or_reply (k.mission t) _ (rest k)
         (λ m at. or_act (place_on line m.place.track position) (λ place. grant Alone line c t (record m { place = place })) rest k
-            (λ place is. granted_more t m place k h at (place_of m.place.track (extent line position) place is).0)
-            (λ none. rest_stays line c k h))
+        (λ place is. granted_more t m place k h at (place_of m.place.track (extent line position) place is).0)
+        (λ none. rest_stays line c k h))
         (λ none. rest_stays line c k h)

@@ -1,8 +1,7 @@
 -- Each line is in order, and a centre begins alone.
 use Rattle.std.proofs.Common.{◌≡◌, ℕ, ◌&&◌, Bool, true, false, refl}
-use Rattle.rbc_spec.specs.Runs.{within}
 use Rattle.rbc_spec.specs.Line.{Line, IsLine}
-use Rattle.rbc_spec.specs.Centre.{Centre, Mission, beginning, is_registrar_of}
+use Rattle.rbc_spec.specs.Centre.{beginning, is_registrar_of}
 use Rattle.rbc_spec.proofs.Places as places
 use Rattle.rbc_alone.specs.Alone.{IsOrdered, IsAloneAt}
 

@@ -1,12 +1,11 @@
 -- What a centre that is alone has to owe for a reply: it is still alone, and sends no frame.
-use Rattle.std.proofs.Common.{◌≡◌, ◌⊎◌, ℕ, ◌==◌, ◌&&◌, ◌||◌, not, cond, if◌then◌else◌, Bool, true, false, List, [], ◌∷◌, ◌++◌, Option, Some, None, option_map, is_none, refl, sym, ap, ◌∙◌, subst, ⊎_elim, eqb-true, eq-eqb}
+use Rattle.std.proofs.Common.{◌≡◌, ℕ, ◌==◌, ◌&&◌, if◌then◌else◌, Bool, true, false, [], ◌++◌, Option, Some, None, is_none, refl, sym, ap, ◌∙◌, subst, ⊎_elim, eq-eqb}
 use Rattle.std.specs.Option.{option_map_or}
-use Rattle.std.proofs.lemmas.Bool.{cases_Bool, cases_eq, cond-true, cond-false, ne_eqb, and_left, and_right}
+use Rattle.std.proofs.lemmas.Bool.{cases_Bool, cases_eq, cond-true, cond-false, ne_eqb}
 use Rattle.rbc_spec.specs.Maps.{put}
-use Rattle.rbc_spec.specs.Runs.{Run, within}
 use Rattle.rbc_spec.specs.Line.{Line, is_home}
 use Rattle.rbc_spec.specs.Centre.{Centre, Entry, Shut, Phase, Mission, is_unused, is_taken_for, is_out_for, is_registrar_of}
-use Rattle.rbc_spec.specs.Acts.{Act, Reply, rest, ◌>>◌, where_so, with_some, change_mission, set_mission}
+use Rattle.rbc_spec.specs.Acts.{Act, Reply, rest, ◌>>◌}
 use Rattle.rbc_alone.specs.Alone.{IsAloneAt, IsMissionAlone, hand_has}
 
 pub record Stays (line : Line) (c : ℕ) (r : Reply) : Type 0 where
