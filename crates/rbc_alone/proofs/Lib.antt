@@ -8,3 +8,4 @@ pub mod Fits
 pub mod Missions
 pub mod Reports
 pub mod Steps
+pub mod Worlds

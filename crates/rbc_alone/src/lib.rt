@@ -5,4 +5,6 @@
 
 mod laws;
 
-pub use laws::{a_centre_begins_alone, a_centre_stays_alone, every_line_is_ordered};
+pub use laws::{
+    a_centre_begins_alone, a_centre_stays_alone, a_line_stays_alone, every_line_is_ordered,
+};
