@@ -10,7 +10,8 @@ ghost use Rattle.rbc_spec.specs.World.{World, Event, Answer, new_world, world_ru
 ghost use Rattle.rbc_alone.specs.Alone.{IsOrdered, IsAloneAt, IsAlone};
 ghost use Rattle.rbc_alone.specs.Stays.{StaysAlone};
 
-/// Each line is in order: the sections that a place covers are a run, and on one track the sections' ends rise.
+/// Each line is in order: the sections that a place covers are a run, those of one home on a track are one too, and on one
+/// track the sections' ends rise.
 pub fn every_line_is_ordered()
     ensures { (line : Line) → IsLine line → IsOrdered line }
 {}
