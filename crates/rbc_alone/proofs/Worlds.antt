@@ -27,7 +27,7 @@ world_of w (Err why) = w
 
 module _ (line : Line) (w : World) (alone : IsAlone line w) where
   -- one centre has changed, and is alone still
-  put_alone : (c : ℕ) (k : Centre) (trains : List ℕ) → IsAloneAt line c k → IsAlone line (record { at = put w.at c k; trains = trains })
+  pub put_alone : (c : ℕ) (k : Centre) (trains : List ℕ) → IsAloneAt line c k → IsAlone line (record { at = put w.at c k; trains = trains })
   put_alone c k trains h = record {
     each = λ d. by_same d c
         (λ here. subst (λ e. IsAloneAt line e (put w.at c k d)) (sym here) (subst (IsAloneAt line c) (sym (put_here w.at c d k here)) h))
@@ -58,7 +58,7 @@ module _ (line : Line) (w : World) (alone : IsAlone line w) where
       chosen false = stands_still NoCentre
 
   -- no frame was sent, so none is delivered
-  none_delivered : (a b number : ℕ) → frame_sent w a b number ≡ None
+  pub none_delivered : (a b number : ℕ) → frame_sent w a b number ≡ None
   none_delivered a b number = either (number == 0) ∙ ap (λ (frames : List Frame). slice_get frames (number - 1)) ((alone.each a).none_sent b)
     where
       either : (z : Bool) → (if z then None else slice_get ((w.at a).sent b) (number - 1)) ≡ slice_get ((w.at a).sent b) (number - 1)
@@ -74,7 +74,7 @@ module _ (line : Line) (w : World) (alone : IsAlone line w) where
   world_step_alone ordered (Delivery a b number) = λ answer new is. stands_still NotSent answer new
       (sym (ap (λ o. option_map_or (λ f. takes Alone line w b w.trains (centre.Deliver a f)) o (Ok (NotSent, w))) (none_delivered a b number)) ∙ is)
 
-bind_ok : {A B : Type 0} (r : Result A Refusal) (next : A → Result B Refusal) (y : B) → (r >>= next) ≡ Ok y → (x : A) × (r ≡ Ok x) × (next x ≡ Ok y)
+pub bind_ok : {A B : Type 0} (r : Result A Refusal) (next : A → Result B Refusal) (y : B) → (r >>= next) ≡ Ok y → (x : A) × (r ≡ Ok x) × (next x ≡ Ok y)
 bind_ok (Ok x) next y is = (x, refl, is)
 bind_ok (Err why) next y is = cc
 
