@@ -13,12 +13,12 @@ use crate::sections::section_end;
 use rbc_hand::SectionRun;
 use rbc_line::Line;
 
-/// What an answer leaves of the hand.
+/// What an answer cuts off the hand.
 #[derive(Clone, Copy, Debug, PartialEq, Eq)]
 pub enum Cut {
-    /// All of it.
+    /// Nothing: the hand stays as it is.
     Nothing,
-    /// So many of its first sections; the others, and the pool, are free.
+    /// All but so many of its first sections.
     Keep(u16),
 }
 
