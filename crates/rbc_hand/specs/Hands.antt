@@ -49,6 +49,9 @@ takes r s = (nat_lt r.count 32 && nat_lt s 65535) && (is_empty r || (s == behind
 abbrev pub extended : Holding → ℕ → Held → Holding
 extended h s held = record { first = if length h.holds == 0 then s else h.first; holds = h.holds ++ held ∷ [] }
 
+abbrev pub longer : Run → Run
+longer r = record r { count = r.count + 1 }
+
 abbrev pub one : ℕ → Run
 one s = record { first = s; count = 1 }
 

@@ -1,4 +1,4 @@
-ghost use Rattle.std.specs.Prelude.{◌≡◌, ◌==◌, ℕ, ◌+◌, ◌-◌, length, true, not, is_some, if◌then◌else◌, Ok, Err, IfOk, IfSome};
+ghost use Rattle.std.specs.Prelude.{◌≡◌, ◌==◌, ◌<◌, ℕ, ◌+◌, ◌-◌, length, true, not, is_some, if◌then◌else◌, Ok, Err, IsOk, IfOk, IfSome};
 
 use crate::section_run::SectionRun;
 use crate::token::Token;
@@ -31,8 +31,8 @@ impl Model for Hand {
 impl Hand {
     ghost use Rattle.rbc_hand.specs.Tokens.{section_of, held_of, Own, token_of};
     ghost use Rattle.rbc_hand.specs.SectionRuns.{run_of};
-    ghost use Rattle.rbc_hand.specs.Hands.{run, nothing, front, back, without_front, without_back, run_without_front, run_without_back, takes, extended, one, IsAllOwn};
-    ghost use Rattle.rbc_spec.specs.Runs.{no_run, is_empty, joined};
+    ghost use Rattle.rbc_hand.specs.Hands.{run, nothing, front, back, without_front, without_back, run_without_front, run_without_back, takes, extended, one, longer, IsAllOwn};
+    ghost use Rattle.rbc_spec.specs.Runs.{no_run, is_empty, joined, behind};
 
     /// The most sections that a hand has.
     pub const ROOM: u16 = 32;
@@ -103,6 +103,11 @@ impl Hand {
             then extended self.old (section_of token) (held_of token) else self.old) }
         ensures run { run self.new ≡ (if takes (run self.old) (section_of token)
             then joined (run self.old) (one (section_of token)) else run self.old) }
+        // A section that follows the last at once is taken where there is room, and any where the hand is empty.
+        ensures follows { (run self.old).count < 32 → section_of token < 65535 → section_of token ≡ behind (run self.old)
+            → IsOk result × (run self.new ≡ longer (run self.old)) }
+        ensures begins { (run self.old).count ≡ 0 → section_of token < 65535
+            → IsOk result × (run self.new ≡ one (section_of token)) }
         ensures own { (t : ℕ) → IsAllOwn t self.old → held_of token ≡ Own t → IsAllOwn t self.new }
     {
         let section = token.section();

@@ -1,8 +1,9 @@
-use Rattle.std.proofs.Common.{◌≡◌, ℕ, ◌==◌, cond, length, arith, ◌∙◌, ap, sym, subst, deque_len}
+use Rattle.std.proofs.Common.{true, ◌≡◌, ℕ, ◌==◌, cond, length, arith, ◌∙◌, ap, sym, subst, deque_len}
+use Rattle.std.proofs.lemmas.Bool.{false≢true}
 use Rattle.std.proofs.lemmas.List.{length-map}
 use Rattle.rbc_hand.specs.Tokens.{section_of, held_of}
 use Rattle.rbc_hand.specs.Hands.{Holding, run, takes}
-use Rattle.rbc_hand.proofs.Ends.{takes_fits, extends, Fits}
+use Rattle.rbc_hand.proofs.Ends.{takes_fits, takes_next, takes_first, extends, Fits}
 use Rattle.rbc_hand.proofs.hand.Hand.extend.Goals as goal
 
 abbrev begins : Holding → ℕ → ℕ
@@ -24,3 +25,13 @@ invariant_of-self c =
     c.push_back_reserved.ensures.items c.push_back_reserved.ensures.capacity
     (c.first_with-self-inside.ensures ∙ ap (begins c.args.self.now) c.section-section.ensures ∙ ap (λ h. begins h (section_of c.args.token)) (sym c.self.view_is))
     (subst (λ h. Fits h (section_of c.args.token)) (sym c.self.view_is) fits) c.self.invariant
+
+-- a token that may come is not handed back
+not_back : (c : goal.Then-not-takes) → takes (run c.args.self.now) (section_of c.args.token) ≡ true → ⊥
+not_back c taken = false≢true (sym c.if-not-takes.true ∙ c.takes.ensures ∙ ap (takes (run c.args.self.now)) c.section-section.ensures ∙ taken)
+
+pub returns-then-not-takes-clause-follows : goal.returns-then-not-takes-clause-follows
+returns-then-not-takes-clause-follows c room number next = absurd (not_back c (takes_next (run c.args.self.now) (section_of c.args.token) room number next))
+
+pub returns-then-not-takes-clause-begins : goal.returns-then-not-takes-clause-begins
+returns-then-not-takes-clause-begins c none number = absurd (not_back c (takes_first (run c.args.self.now) (section_of c.args.token) none number))
