@@ -34,8 +34,11 @@ abbrev pub without_back : Holding → Holding
 without_back h = record h { holds = take (length h.holds - 1) h.holds }
 
 -- the same of its run
+abbrev pub shorter_in_front : Run → Run
+shorter_in_front r = record { first = r.first + 1; count = r.count - 1 }
+
 abbrev pub run_without_front : Run → Run
-run_without_front r = if is_empty r then r else record { first = r.first + 1; count = r.count - 1 }
+run_without_front r = if is_empty r then r else shorter_in_front r
 
 abbrev pub run_without_back : Run → Run
 run_without_back r = record r { count = r.count - 1 }

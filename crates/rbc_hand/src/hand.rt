@@ -1,4 +1,4 @@
-ghost use Rattle.std.specs.Prelude.{◌≡◌, ◌==◌, ◌<◌, ℕ, ◌+◌, ◌-◌, length, true, not, is_some, if◌then◌else◌, Ok, Err, IsOk, IfOk, IfSome};
+ghost use Rattle.std.specs.Prelude.{◌≡◌, ◌==◌, ◌<◌, ℕ, ◌+◌, ◌-◌, length, true, not, is_some, if◌then◌else◌, Ok, Err, IsOk, IsSome, IfOk, IfSome};
 
 use crate::section_run::SectionRun;
 use crate::token::Token;
@@ -31,7 +31,7 @@ impl Model for Hand {
 impl Hand {
     ghost use Rattle.rbc_hand.specs.Tokens.{section_of, held_of, Own, token_of};
     ghost use Rattle.rbc_hand.specs.SectionRuns.{run_of};
-    ghost use Rattle.rbc_hand.specs.Hands.{run, nothing, front, back, without_front, without_back, run_without_front, run_without_back, takes, extended, one, longer, IsAllOwn};
+    ghost use Rattle.rbc_hand.specs.Hands.{run, nothing, front, back, without_front, without_back, run_without_front, run_without_back, shorter_in_front, takes, extended, one, longer, IsAllOwn};
     ghost use Rattle.rbc_spec.specs.Runs.{no_run, is_empty, joined, behind};
 
     /// The most sections that a hand has.
@@ -125,6 +125,7 @@ impl Hand {
         ensures some { is_some result ≡ not (is_empty (run self.old)) }
         ensures hand { self.new ≡ without_front self.old }
         ensures run { run self.new ≡ run_without_front (run self.old) }
+        ensures cuts { 0 < (run self.old).count → IsSome result × (run self.new ≡ shorter_in_front (run self.old)) }
         ensures own { (t : ℕ) → IsAllOwn t self.old
             → IfSome result (λ token. token ≡ token_of self.old.first (Own t)) }
         ensures rest_own { (t : ℕ) → IsAllOwn t self.old → IsAllOwn t self.new }
@@ -142,6 +143,7 @@ impl Hand {
         ensures some { is_some result ≡ not (is_empty (run self.old)) }
         ensures hand { self.new ≡ without_back self.old }
         ensures run { run self.new ≡ run_without_back (run self.old) }
+        ensures cuts { 0 < (run self.old).count → IsSome result }
         ensures own { (t : ℕ) → IsAllOwn t self.old
             → IfSome result (λ token. token ≡ token_of (self.old.first + (length self.old.holds - 1)) (Own t)) }
         ensures rest_own { (t : ℕ) → IsAllOwn t self.old → IsAllOwn t self.new }

@@ -3,10 +3,12 @@
 #![tactic(auto)]
 
 mod answer;
+mod laws;
 mod mission;
 mod request;
 mod sections;
 
 pub use answer::{Cut, Unasked, granted, rejected};
+pub use laws::what_is_cut_follows_what_is_kept;
 pub use mission::{Mission, Proposal, Shortening};
 pub use request::propose;

@@ -1,7 +1,6 @@
 ghost use Rattle.std.specs.Prelude.{◌≡◌, ◌==◌, ◌-◌, ◌+◌, ◌*◌, ◌≤◌, ℕ, true, Some, None, if◌then◌else◌};
 ghost use Rattle.rbc_spec.specs.Line.{start};
 ghost use Rattle.rbc_spec.specs.Place.{group_start};
-ghost use Rattle.rbc_spec.specs.Runs.{within};
 ghost use Rattle.rbc_spec.specs.Centre as spec;
 ghost use Rattle.rbc_spec.specs.Acts.{may_propose};
 ghost use Rattle.rbc_hand.specs.SectionRuns.{run_of};
@@ -53,11 +52,10 @@ fn is_free(mission: Mission) -> bool
 }
 
 // Whether the section is in the hand, and not its first.
-#[tactic(auto, unfolding(rbc_spec::specs::Runs::within))]
 fn is_cut_behind_first(hand: SectionRun, s: u16) -> bool
     ensures { result ≡ is_cut_behind_first (run_of hand) s }
 {
-    hand.first <= s && u32::from(s) < hand.behind() && s != hand.first
+    hand.contains(s) && s != hand.first
 }
 
 // What a request asks for that keeps the sections before one that starts there.
