@@ -1,1 +1,3 @@
 pub mod SectionRuns
+pub mod Tokens
+pub mod Hands

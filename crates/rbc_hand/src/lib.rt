@@ -1,6 +1,14 @@
-//! The sections that a train has in its movement authority, one behind another.
+//! The sections that a train has in its movement authority, one behind another: of each the token that the centre holds, a
+//! claim on a section of its own home, or the name of one that another home has lent. Tokens can't be copied or dropped, and a
+//! hand hands each out once.
 #![tactic(auto)]
 
+mod hand;
+mod lent;
 mod section_run;
+mod token;
 
+pub use hand::Hand;
+pub use lent::Lent;
 pub use section_run::SectionRun;
+pub use token::Token;

@@ -1,5 +1,5 @@
 ghost use Rattle.std.specs.Prelude.{◌≡◌};
-ghost use Rattle.rbc_spec.specs.Runs.{behind, is_empty};
+ghost use Rattle.rbc_spec.specs.Runs.{behind, is_empty, within};
 
 /// Consecutive sections: the first by its number over the whole line, and how many they are.
 #[derive(Clone, Copy, Debug, PartialEq, Eq)]
@@ -16,6 +16,14 @@ impl SectionRun {
         ensures { result ≡ is_empty (run_of self) }
     {
         self.count == 0
+    }
+
+    /// Whether the section is one of them.
+    #[tactic(auto, unfolding(rbc_spec::specs::Runs::within))]
+    pub fn contains(self, section: u16) -> bool
+        ensures { result ≡ within (run_of self) section }
+    {
+        self.first <= section && u32::from(section) < self.behind()
     }
 
     /// The number of the section behind the last.

@@ -1,0 +1,160 @@
+-- What is cut off from a hand, and what comes to it.
+use Rattle.std.proofs.Common.{◌≡◌, ℕ, zero, suc, ◌+◌, ◌-◌, ◌<◌, ◌==◌, inl, inr, true, ◌||◌, cond, List, [], ◌∷◌, ◌++◌, length, map, Option, Some, None, IfSome, MatchOption, option_map, option_to_list, slice_get, refl, ap, sym, subst, ◌∙◌, arith, length-append}
+use Rattle.std.specs.List.{AllByRecursion}
+use Rattle.std.proofs.lemmas.Bool.{and_parts, and_from, or_right, lt-ltb, eq-eqb, ltb-true, eqb-true}
+use Rattle.std.proofs.lemmas.Bool.Decides.{eqb_tells}
+use Rattle.std.proofs.lemmas.List.{map-append, length-map, append-nil}
+use Rattle.rbc_spec.specs.Runs.{Run, behind}
+use Rattle.rbc_hand.specs.Tokens.{Held, Own, section_of, held_of, token_of}
+use Rattle.rbc_hand.specs.Hands.{Holding, run, back, takes, IsAllOwn, Follow, holding, IsHand}
+use Rattle.rbc_hand.specs.declared.token.Token.{Token}
+use Rattle.rbc_hand.specs.declared.token.Token.TheVariants as code
+
+-- a token is of its section, and holds what it holds
+token_of_parts : (token : Token) → token_of (section_of token) (held_of token) ≡ token
+token_of_parts (code.Own c) = refl
+token_of_parts (code.Name lent) = refl
+
+-- ## Lists
+
+slice_get-last : {X : Type 0} (xs : List X) (x : X) → slice_get (xs ++ x ∷ []) (length xs) ≡ Some x
+slice_get-last [] x = refl
+slice_get-last (y ∷ ys) x = slice_get-last ys x
+
+each-at : {X : Type 0} (P : X → Type 0) (xs : List X) (k : ℕ) → AllByRecursion P xs → IfSome (slice_get xs k) P
+each-at P [] k h = tt
+each-at P (x ∷ xs) zero h = h.0
+each-at P (x ∷ xs) (suc k) h = each-at P xs k h.1
+
+-- ## Consecutive sections
+
+follow-front : (first : ℕ) (xs ys : List Token) → Follow first (xs ++ ys) → Follow first xs
+follow-front first [] ys h = tt
+follow-front first (x ∷ xs) ys h = (h.0, follow-front (first + 1) xs ys h.1)
+
+follow-last : (first : ℕ) (xs : List Token) (x : Token) → Follow first (xs ++ x ∷ []) → section_of x ≡ first + length xs
+follow-last first [] x h = omega (arith, h.0)
+follow-last first (y ∷ ys) x h = let rest = follow-last (first + 1) ys x h.1 in omega (arith, rest)
+
+follow-push : (first : ℕ) (xs : List Token) (x : Token) → Follow first xs → section_of x ≡ first + length xs → Follow first (xs ++ x ∷ [])
+follow-push first [] x h at = (omega (arith, at), tt)
+follow-push first (y ∷ ys) x h at = (h.0, follow-push (first + 1) ys x h.1 (omega (arith, at)))
+
+-- ## The last section is cut off
+
+-- what cutting the last section off a hand of tokens leaves, and the token
+pub record CutsBack (first : ℕ) (old new : List Token) (room : ℕ) (r : Option Token) : Type 0 where
+  pub hand : IsHand first new room
+  pub token : r ≡ back (holding first old)
+
+cut_some : (first : ℕ) (new : List Token) (room : ℕ) (x : Token) → IsHand first (new ++ x ∷ []) room → CutsBack first (new ++ x ∷ []) new room (Some x)
+cut_some first new room x is =
+    let long : length (new ++ x ∷ []) ≡ length new + 1 = length-append new (x ∷ []) in
+    record {
+      hand = record {
+        sections = follow-front first new (x ∷ []) is.sections;
+        count = omega (arith, long, is.count);
+        room = is.room;
+        behind = omega (arith, long, is.behind);
+      };
+      token = sym (at_last (map held_of (new ++ x ∷ [])) (map-append held_of new (x ∷ [])));
+    }
+  where
+    at_last : (holds : List Held) → holds ≡ map held_of new ++ held_of x ∷ [] → option_map (token_of (first + (length holds - 1))) (slice_get holds (length holds - 1)) ≡ Some x
+    at_last holds split =
+        let count : length holds - 1 ≡ length new =
+        let all : length (map held_of new ++ held_of x ∷ []) ≡ length (map held_of new) + 1 = length-append (map held_of new) (held_of x ∷ []) in
+        let held : length (map held_of new) ≡ length new = length-map new held_of in
+        let same : length holds ≡ length (map held_of new ++ held_of x ∷ []) = ap length split in
+        omega (arith, all, held, same) in
+        let found : slice_get holds (length holds - 1) ≡ Some (held_of x) =
+        ap (slice_get holds) (count ∙ sym (length-map new held_of)) ∙ ap (λ hs. slice_get hs (length (map held_of new))) split ∙ slice_get-last (map held_of new) (held_of x) in
+        ap (option_map (token_of (first + (length holds - 1)))) found
+        ∙ ap (λ n. Some (token_of (first + n) (held_of x))) count
+        ∙ ap (λ s. Some (token_of s (held_of x))) (sym (follow-last first new x is.sections))
+        ∙ ap (λ y. Some y) (token_of_parts x)
+
+pub cuts_back : (first : ℕ) (old new : List Token) (room : ℕ) (r : Option Token) (len left : ℕ) → old ≡ new ++ option_to_list r → IsHand first old room → len ≡ length old → MatchOption r ((len ≡ 0) × (left ≡ 0)) (λ _. left + 1 ≡ len) → CutsBack first old new room r
+cuts_back first old new room (Some x) len left split is long some =
+    subst (λ xs. CutsBack first xs new room (Some x)) (sym split) (cut_some first new room x (subst (λ xs. IsHand first xs room) split is))
+cuts_back first old new room None len left split is long none =
+    let same : old ≡ new = split ∙ append-nil new in
+    record {
+      hand = subst (λ xs. IsHand first xs room) same is;
+      token = no_back old (sym long ∙ none.0);
+    }
+  where
+    no_back : (xs : List Token) → length xs ≡ 0 → None ≡ back (holding first xs)
+    no_back [] h = refl
+    no_back (x ∷ xs) h = absurd (let no : ⊥ = omega (arith, h) in no)
+
+-- of a hand of own sections alone the last is one, and those before it are
+pub back_own : (h : Holding) (t : ℕ) (r : Option Token) → r ≡ back h → IsAllOwn t h → IfSome r (λ token. token ≡ token_of (h.first + (length h.holds - 1)) (Own t))
+back_own h t r is all = subst (λ o. IfSome o (λ token. token ≡ token_of (h.first + (length h.holds - 1)) (Own t))) (sym is) (by (slice_get h.holds (length h.holds - 1)) (each-at _ h.holds (length h.holds - 1) all))
+  where
+    by : (o : Option Held) → IfSome o (λ held. held ≡ Own t) → IfSome (option_map (token_of (h.first + (length h.holds - 1))) o) (λ token. token ≡ token_of (h.first + (length h.holds - 1)) (Own t))
+    by None _ = tt
+    by (Some held) e = ap (token_of (h.first + (length h.holds - 1))) e
+
+front_own : (t first : ℕ) (xs ys : List Token) → IsAllOwn t (holding first (xs ++ ys)) → IsAllOwn t (holding first xs)
+front_own t first [] ys all = tt
+front_own t first (x ∷ xs) ys all = (all.0, front_own t first xs ys all.1)
+
+pub rest_own : (t first : ℕ) (old new : List Token) (r : Option Token) → old ≡ new ++ option_to_list r → IsAllOwn t (holding first old) → IsAllOwn t (holding first new)
+rest_own t first old new r split all = front_own t first new (option_to_list r) (subst (λ xs. IsAllOwn t (holding first xs)) split all)
+
+-- ## A section comes behind the last
+
+-- the section may come
+pub record Fits (h : Holding) (s : ℕ) : Type 0 where
+  pub room : length h.holds < 32
+  pub number : s < 65535
+  pub next : cond (length h.holds == 0) s h.first + length h.holds ≡ s
+
+pub takes_fits : (h : Holding) (s : ℕ) → takes (run h) s ≡ true → Fits h s
+unfolding takes
+takes_fits h s taken =
+    let parts = and_parts _ _ taken in
+    let bounds = and_parts _ _ parts.0 in
+    record { room = ltb-true (length h.holds) 32 bounds.0; number = ltb-true s 65535 bounds.1; next = by (length h.holds) (h.first) parts.1 }
+  where
+    by : (n first : ℕ) → ((n == 0) || (s == first + n)) ≡ true → cond (n == 0) s first + n ≡ s
+    by n first =
+        elim (eqb_tells n 0) as (λ _. ((n == 0) || (s == first + n)) ≡ true → cond (n == 0) s first + n ≡ s) [
+          | inl e ↦ λ h. rw (e.0) (omega (arith, e.1))
+          | inr e ↦ rw (e.0) (λ h. sym (eqb-true s (first + n) h))
+        ]
+
+-- the tokens with one more are a hand
+pub extends : (first : ℕ) (old new : List Token) (room more : ℕ) (x : Token) (from : ℕ) → new ≡ old ++ x ∷ [] → more ≡ room → from ≡ cond (length (map held_of old) == 0) (section_of x) first → Fits (holding first old) (section_of x) → IsHand first old room → IsHand from new more
+extends first old new room more x from push same begins fits is =
+    let held : length (map held_of old) ≡ length old = length-map old held_of in
+    let long : length new ≡ length old + 1 = ap length push ∙ length-append old (x ∷ []) in
+    let next : from + length (map held_of old) ≡ section_of x = ap (λ f. f + length (map held_of old)) begins ∙ fits.next in
+    record {
+      sections = subst (Follow from) (sym push) (follow-push from old x (moved old from (λ some. begins ∙ at_some (length (map held_of old)) (omega (arith, held, some))) is.sections) (omega (arith, held, next)));
+      count = omega (arith, fits.room, held, long);
+      room = omega (arith, is.room, same);
+      behind = omega (arith, fits.number, next, held, long);
+    }
+  where
+    at_some : (n : ℕ) → 0 < n → cond (n == 0) (section_of x) first ≡ first
+    at_some n some =
+        elim (eqb_tells n 0) as (λ _. cond (n == 0) (section_of x) first ≡ first) [
+          | inl e ↦ absurd (let no : ⊥ = omega (arith, e.1, some) in no)
+          | inr e ↦ rw (e.0) refl
+        ]
+
+    moved : (xs : List Token) (f : ℕ) → (0 < length xs → f ≡ first) → Follow first xs → Follow f xs
+    moved [] f e h = tt
+    moved (y ∷ ys) f e h = subst (λ n. Follow n (y ∷ ys)) (sym (e (omega arith))) h
+
+pub takes_next : (r : Run) (s : ℕ) → r.count < 32 → s < 65535 → s ≡ behind r → takes r s ≡ true
+unfolding takes
+takes_next r s room number next =
+    and_from _ _ (and_from _ _ (lt-ltb r.count 32 room) (lt-ltb s 65535 number)) (or_right (r.count == 0) (s == behind r) (eq-eqb s (behind r) next))
+
+pub takes_first : (r : Run) (s : ℕ) → r.count ≡ 0 → s < 65535 → takes r s ≡ true
+unfolding takes
+takes_first r s none number =
+    and_from _ _ (and_from _ _ (lt-ltb r.count 32 (omega (arith, none))) (lt-ltb s 65535 number)) (ap (λ b. b || (s == behind r)) (eq-eqb r.count 0 none))

@@ -1,0 +1,81 @@
+-- Hands: consecutive sections, and what is held of each.
+use Rattle.std.specs.Prelude.{◌≡◌, ℕ, ◌+◌, ◌-◌, ◌≤◌, ◌==◌, Bool, ◌&&◌, ◌||◌, List, [], ◌∷◌, ◌++◌, length, map, take, drop, if◌then◌else◌, Option, option_map, nat_lt, slice_get}
+use Rattle.std.specs.List.{AllByRecursion}
+use Rattle.rbc_spec.specs.Runs.{Run, behind, is_empty}
+use Rattle.rbc_hand.specs.declared.token.Token.{Token}
+use Rattle.rbc_hand.specs.Tokens.{Held, Own, section_of, held_of, token_of}
+
+-- the first section, and what is held of it and of each that follows. An empty hand has the first that it had when it became so
+pub record Holding : Type 0 where
+  pub first : ℕ
+  pub holds : List Held
+
+abbrev pub run : Holding → Run
+run h = record { first = h.first; count = length h.holds }
+
+abbrev pub nothing : Holding
+nothing = record { first = 0; holds = [] }
+
+-- the token of the k-th section, from 0
+abbrev pub token_at : Holding → ℕ → Option Token
+token_at h k = option_map (token_of (h.first + k)) (slice_get h.holds k)
+
+abbrev pub front : Holding → Option Token
+front h = token_at h 0
+
+abbrev pub back : Holding → Option Token
+back h = token_at h (length h.holds - 1)
+
+-- the hand without its first section, and without its last; an empty one stays as it is
+abbrev pub without_front : Holding → Holding
+without_front h = if length h.holds == 0 then h else record { first = h.first + 1; holds = drop 1 h.holds }
+
+abbrev pub without_back : Holding → Holding
+without_back h = record h { holds = take (length h.holds - 1) h.holds }
+
+-- the same of its run
+abbrev pub shorter_in_front : Run → Run
+shorter_in_front r = record { first = r.first + 1; count = r.count - 1 }
+
+abbrev pub run_without_front : Run → Run
+run_without_front r = if is_empty r then r else shorter_in_front r
+
+abbrev pub run_without_back : Run → Run
+run_without_back r = record r { count = r.count - 1 }
+
+-- the section may come behind the last of a hand: there is room, and it follows it, or the hand is empty. No line has a
+-- section 65 535
+unfoldable pub takes : Run → ℕ → Bool
+takes r s = (nat_lt r.count 32 && nat_lt s 65535) && (is_empty r || (s == behind r))
+
+-- the hand with one section more
+abbrev pub extended : Holding → ℕ → Held → Holding
+extended h s held = record { first = if length h.holds == 0 then s else h.first; holds = h.holds ++ held ∷ [] }
+
+abbrev pub longer : Run → Run
+longer r = record r { count = r.count + 1 }
+
+abbrev pub one : ℕ → Run
+one s = record { first = s; count = 1 }
+
+-- each section is an own one of the hand's centre, with its claim for the train
+abbrev pub IsAllOwn : ℕ → Holding → Type 0
+IsAllOwn t h = AllByRecursion (λ held. held ≡ Own t) h.holds
+
+-- ## In memory
+
+-- tokens of consecutive sections, from a first
+abbrev pub Follow : ℕ → List Token → Type 0
+Follow first [] = Unit {0}
+Follow first (token ∷ tokens) = (section_of token ≡ first) × Follow (first + 1) tokens
+
+-- what is held by these tokens, from a first
+abbrev pub holding : ℕ → List Token → Holding
+holding first tokens = record { first = first; holds = map held_of tokens }
+
+-- tokens of at most 32 consecutive sections, with room for 32
+pub record IsHand (first : ℕ) (tokens : List Token) (capacity : ℕ) : Type 0 where
+  pub sections : Follow first tokens
+  pub count : length tokens ≤ 32
+  pub room : 32 ≤ capacity
+  pub behind : first + length tokens ≤ 65535

@@ -1,0 +1,34 @@
+ghost use Rattle.std.specs.Prelude.{◌≡◌};
+ghost use Rattle.rbc_right.specs.Rights.{number_of_right, right_of};
+
+/// The right to supervise a train, which one holder has. It can't be copied, and not be dropped: it ends where it goes back to
+/// its registrar or into a frame, also where its centre is dropped.
+#[must_use]
+#[derive(Debug)]
+pub struct Right {
+    train: u8,
+}
+
+impl Right {
+    /// The right that has come in a frame, for the train at this place of the line file.
+    pub fn arrive(number: u8) -> Right
+        ensures { result ≡ right_of number }
+    {
+        Right { train: number }
+    }
+
+    /// Ends it, where it goes into a frame: the train's place in the line file.
+    pub fn send(self) -> u8
+        ensures { result ≡ number_of_right self }
+    {
+        let Right { train } = self;
+        train
+    }
+
+    /// The place of its train in the line file, from 0.
+    pub fn train(&self) -> u8
+        ensures { result ≡ number_of_right self.now }
+    {
+        self.train
+    }
+}

@@ -1,0 +1,3 @@
+pub mod Missions
+pub mod Requests
+pub mod Answers
