@@ -9,7 +9,7 @@ use Rattle.rbc_place.specs.Places.{with_last}
 
 -- of the first so many sections, those that pass the test
 abbrev pub IsFound : (ℕ → Bool) → ℕ → Run → Type 0
-IsFound test n r = (r ≡ run_of (filter test (range_with_len 0 n))) × (r.count ≤ n)
+IsFound test n r = (r ≡ run_of (filter test (range_with_len 0 n))) × (r.first + r.count ≤ n)
 
 grown : (ss : List ℕ) (s : ℕ) → run_of (ss ++ s ∷ []) ≡ with_last (run_of ss) s
 grown [] s = refl
@@ -33,25 +33,27 @@ one_of test n =
 pub none_found : (test : ℕ → Bool) → IsFound test 0 (record { first = 0; count = 0 })
 none_found test = (refl, omega arith)
 
-no_longer : (r : Run) (s : ℕ) → (with_last r s).count ≤ r.count + 1
-no_longer r s = by_test (r.count == 0)
+ends_next : (r : Run) (n : ℕ) → r.first + r.count ≤ n → (with_last r n).first + (with_last r n).count ≤ n + 1
+ends_next r n within = by_test (r.count == 0)
   where
-    by_test : (b : Bool) → (cond {A = Run} b (record { first = s; count = 1 }) (record { first = r.first; count = r.count + 1 })).count ≤ r.count + 1
+    by_test : (b : Bool) → (cond {A = Run} b (record { first = n; count = 1 }) (record { first = r.first; count = r.count + 1 })).first + (cond {A = Run} b (record { first = n; count = 1 }) (record { first = r.first; count = r.count + 1 })).count ≤ n + 1
     by_test true = omega arith
     by_test false = omega arith
 
 pub found_more : (test : ℕ → Bool) (n : ℕ) (r next : Run) → test n ≡ true → next ≡ with_last r n → IsFound test n r → IsFound test (n + 1) next
 found_more test n r next passes is_next so_far =
-    let one : next.count ≡ (with_last r n).count = ap (λ (q : Run). q.count) is_next in (
+    let first : next.first ≡ (with_last r n).first = ap (λ (q : Run). q.first) is_next in
+    let count : next.count ≡ (with_last r n).count = ap (λ (q : Run). q.count) is_next in (
       is_next ∙ ap (λ (q : Run). with_last q n) so_far.0 ∙ sym (grown (filter test (range_with_len 0 n)) n)
           ∙ sym (ap run_of (one_of test n ∙ ap (λ b. filter test (range_with_len 0 n) ++ cond b (n ∷ []) []) passes)),
-      omega (arith, so_far.1, no_longer r n, one),
+      omega (arith, ends_next r n so_far.1, first, count),
     )
 
 pub found_same : (test : ℕ → Bool) (n : ℕ) (r next : Run) → test n ≡ false → next ≡ r → IsFound test n r → IsFound test (n + 1) next
 found_same test n r next fails same so_far =
-    let one : next.count ≡ r.count = ap (λ (q : Run). q.count) same in (
+    let first : next.first ≡ r.first = ap (λ (q : Run). q.first) same in
+    let count : next.count ≡ r.count = ap (λ (q : Run). q.count) same in (
       same ∙ so_far.0
           ∙ sym (ap run_of (one_of test n ∙ ap (λ b. filter test (range_with_len 0 n) ++ cond b (n ∷ []) []) fails ∙ append-nil (filter test (range_with_len 0 n)))),
-      omega (arith, so_far.1, one),
+      omega (arith, so_far.1, first, count),
     )

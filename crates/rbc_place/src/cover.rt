@@ -1,4 +1,6 @@
-ghost use Rattle.std.specs.Prelude.{◌≡◌, ◌<◌};
+ghost use Rattle.std.specs.Prelude.{◌≡◌, ◌<◌, ◌≤◌, length};
+ghost use Rattle.rbc_spec.specs.Line.{IsLine};
+ghost use Rattle.rbc_spec.specs.Runs.{behind};
 ghost use Rattle.rbc_spec.specs.Place as spec;
 ghost use Rattle.rbc_hand.specs.SectionRuns.{run_of};
 ghost use Rattle.rbc_place.specs.Places.{place_of, with_last};
@@ -25,7 +27,10 @@ pub fn covers(line: &Line, place: &Place, s: u16) -> bool
 
 /// The sections that the train may stand in, as a run.
 pub fn covered(line: &Line, place: &Place) -> SectionRun
-    ensures { run_of result ≡ spec.covered line.now (place_of place.now) }
+    ensures value { run_of result ≡ spec.covered line.now (place_of place.now) }
+    // Each of them is a section of the line.
+    ensures bound { behind (run_of result) ≤ length line.now.sections }
+    ensures line { IsLine line.now }
 {
     let mut run = SectionRun { first: 0, count: 0 };
     for s in 0..line.section_count() {

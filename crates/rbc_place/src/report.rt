@@ -1,4 +1,4 @@
-ghost use Rattle.std.specs.Prelude.{◌≡◌, ◌+◌, ◌*◌, ◌<◌, ◌≤◌, pos, ◌-ℤ◌, IfSome, option_map};
+ghost use Rattle.std.specs.Prelude.{◌≡◌, ◌+◌, ◌*◌, ◌^◌, ◌<◌, ◌≤◌, pos, ◌-ℤ◌, IfSome, option_map};
 ghost use Rattle.rbc_spec.specs.Place as spec;
 ghost use Rattle.rbc_spec.specs.Rules as rules;
 ghost use Rattle.rbc_msgs.specs.StepMessage as message;
@@ -17,7 +17,9 @@ const UNKNOWN: u64 = 32_767;
 /// direction of the line, or where a distance is unknown.
 #[tactic(auto, unfolding(rbc_spec::specs::Place::extent))]
 pub fn extent(line: &Line, position: &Position) -> Option<Place>
-    ensures { option_map place_of result ≡ spec.extent line.now (position_of position.now) }
+    ensures value { option_map place_of result ≡ spec.extent line.now (position_of position.now) }
+    // NID_LRBG has 24 bits.
+    ensures group { IfSome result (λ p. p.group < 2 ^ 24) }
 {
     if !has_place(position) {
         return None;
@@ -29,7 +31,9 @@ pub fn extent(line: &Line, position: &Position) -> Option<Place>
 
 /// The place of a report, where it is on this track.
 pub fn place_on(line: &Line, track: u8, position: &Position) -> Option<Place>
-    ensures { option_map place_of result ≡ rules.place_on line.now track (position_of position.now) }
+    ensures value { option_map place_of result ≡ rules.place_on line.now track (position_of position.now) }
+    // NID_LRBG has 24 bits.
+    ensures group { IfSome result (λ p. p.group < 2 ^ 24) }
 {
     let place = extent(line, position)?;
     if place.is_on_track(track) {
@@ -86,7 +90,8 @@ fn confirmed_metres(length: TrainLength) -> Option<u32>
 /// The place behind a group at the start of a section.
 fn place_behind(section: Section, position: &Position) -> Place
     requires { section.start + section.metres ≤ 1024000 }
-    ensures { place_of result ≡ place_from section.track section.start (position_of position.now) }
+    ensures value { place_of result ≡ place_from section.track section.start (position_of position.now) }
+    ensures group { result.group < 2 ^ 24 }
 {
     let location = &position.location;
     let unit = unit(location.q_scale);
