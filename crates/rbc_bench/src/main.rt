@@ -2,6 +2,8 @@
 //! each direction. Without a word it reads and writes each once, and prints nothing.
 #![tactic(auto)]
 
+ghost use Rattle.std.specs.Prelude.{◌≡◌, ◌%◌, set};
+
 use rbc_msgs::{decode_track, decode_train, encode_track, encode_train};
 use std::time::Instant;
 use std::{env, io};
@@ -109,10 +111,13 @@ fn track(rt: &HostRuntime, name: &str, bytes: &[u8], turns: u32) -> io::Result<(
     print(rt, "encode", name, turns, &start)
 }
 
-// Each turn reads another T_TRAIN.
-fn set_time(bytes: &mut [u8], turn: u32) {
-    if let Some(byte) = bytes.get_mut(4) {
-        *byte = (turn % 256) as u8;
+// Each turn reads another T_TRAIN: the byte that lies whole in it is the turn's lowest byte. A message without it stays.
+#[tactic(auto, using(std::proofs::lemmas::List::set_past))]
+fn set_time(bytes: &mut [u8], turn: u32)
+    ensures { bytes.new ≡ set bytes.old 4 (turn % 256) }
+{
+    if bytes.len() > 4 {
+        bytes[4] = (turn % 256) as u8;
     }
 }
 

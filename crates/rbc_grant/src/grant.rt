@@ -1,0 +1,60 @@
+ghost use Rattle.std.specs.Prelude.{◌≡◌, ℕ, ◌+◌, ◌-◌, ◌<◌, ◌≤◌, true};
+ghost use Rattle.rbc_spec.specs.Runs.{behind, longest};
+ghost use Rattle.rbc_spec.specs.Line.{end};
+ghost use Rattle.rbc_spec.specs.Place as spec;
+ghost use Rattle.rbc_hand.specs.SectionRuns.{run_of};
+ghost use Rattle.rbc_place.specs.Places.{place_of};
+ghost use Rattle.rbc_grant.specs.Grants as grants;
+
+use crate::follow::{MOST_METRES, following};
+use rbc_book::Book;
+use rbc_hand::SectionRun;
+use rbc_line::Line;
+use rbc_place::{Place, group_start, section_end};
+
+/// The answer to a request: by how many sections the hand is extended, and L_ENDSECTION of the authority.
+#[derive(Clone, Copy, Debug, PartialEq, Eq)]
+pub struct Grant {
+    /// How many sections follow the hand; 0 where none may.
+    pub sections: u16,
+    /// Where the extended hand ends, in metres from the balise group of the train's place.
+    pub end: u32,
+}
+
+/// Where the last section of the hand ends, in metres from the start of its track.
+pub fn hand_end(line: &Line, hand: SectionRun) -> u32
+    ensures value { result ≡ end line.now (behind (run_of hand) - 1) }
+    ensures bound { result ≤ 1024000 }
+{
+    section_end(line, hand.behind().saturating_sub(1))
+}
+
+/// Whether a request from this place may be answered: the safe front end is not past the hand's end, which is at most 32 767
+/// metres past the balise group of the place.
+pub fn may_request(line: &Line, hand: SectionRun, place: &Place) -> bool
+    ensures { result ≡ grants.may_request line.now (run_of hand) (place_of place.now) }
+{
+    let end = hand_end(line, hand);
+    place.front <= 10 * end && end <= group_start(line, place) + MOST_METRES
+}
+
+/// The answer to a request (message 132 answered by message 3): the hand is extended by the longest run of sections that
+/// follow it on the train's track, each open in this centre's book, with at most 32 sections in the hand and an end at most
+/// 32 767 metres past the balise group of the place.
+pub fn answer_request(line: &Line, book: &Book, hand: SectionRun, place: &Place) -> Grant
+    ensures sections { result.sections ≡ longest (grants.may_follow line.now book.now (place_of place.now)) (behind (run_of hand)) (32 - hand.count) }
+    // No more than there is room for.
+    ensures room { result.sections ≤ 32 - hand.count }
+    // Each of them may follow.
+    ensures each { (k : ℕ) → k < result.sections → grants.may_follow line.now book.now (place_of place.now) (behind (run_of hand) + k) ≡ true }
+    ensures end { result.end ≡ end line.now (behind (run_of hand) + result.sections - 1) - spec.group_start line.now (place_of place.now) }
+    // L_ENDSECTION has room for it, where the request may be answered.
+    ensures fits { grants.may_request line.now (run_of hand) (place_of place.now) ≡ true → result.end ≤ 32767 }
+{
+    let sections = following(line, book, hand, place);
+    let last = (hand.behind() + u32::from(sections)).saturating_sub(1);
+    Grant {
+        sections,
+        end: section_end(line, last).saturating_sub(group_start(line, place)),
+    }
+}

@@ -1,0 +1,21 @@
+-- Places of trains in memory.
+use Rattle.std.specs.Prelude.{ℕ, ◌+◌, ◌*◌, pos, ◌-ℤ◌, option_map, if◌then◌else◌}
+use Rattle.rbc_spec.specs.Runs.{Run, is_empty}
+use Rattle.rbc_spec.specs.Place as spec
+use Rattle.rbc_place.specs.declared.place.Place.{Place}
+
+abbrev pub place_of : Place → spec.Place
+place_of p = record { track = p.track; group = p.group; front = p.front; rear = p.rear }
+
+-- the place of a report whose group is so many metres from the start of the track
+abbrev pub place_from : ℕ → ℕ → spec.Position → spec.Place
+place_from track metres p = record {
+  track = track;
+  group = p.nid_lrbg;
+  front = 10 * metres + p.scale * p.d_lrbg + p.scale * p.l_doubtunder;
+  rear = option_map (λ l. pos (10 * metres + p.scale * p.d_lrbg) -ℤ pos (p.scale * p.l_doubtover + 10 * l)) p.l_trainint;
+}
+
+-- the run with one section more behind its last, which is its first where it was empty
+abbrev pub with_last : Run → ℕ → Run
+with_last r s = if is_empty r then record { first = s; count = 1 } else record { first = r.first; count = r.count + 1 }

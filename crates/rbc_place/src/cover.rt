@@ -1,0 +1,57 @@
+ghost use Rattle.std.specs.Prelude.{◌≡◌, ◌<◌, ◌≤◌, length};
+ghost use Rattle.rbc_spec.specs.Line.{IsLine};
+ghost use Rattle.rbc_spec.specs.Runs.{behind};
+ghost use Rattle.rbc_spec.specs.Place as spec;
+ghost use Rattle.rbc_hand.specs.SectionRuns.{run_of};
+ghost use Rattle.rbc_place.specs.Places.{place_of, with_last};
+
+use crate::place::Place;
+use crate::sections::{is_on, section_end, section_start};
+use rbc_hand::SectionRun;
+use rbc_line::Line;
+
+/// Whether the train may stand in the section: on its track, the section starts before the safe front end, and ends past the
+/// safe rear end. A place whose rear end is not known covers no section.
+pub fn covers(line: &Line, place: &Place, s: u16) -> bool
+    ensures { result ≡ spec.covers line.now (place_of place.now) s }
+{
+    match place.rear {
+        Some(rear) => {
+            is_on(line, place.track, u32::from(s))
+                && 10 * section_start(line, s) < place.front
+                && rear < 10 * section_end(line, u32::from(s)) as i32
+        }
+        None => false,
+    }
+}
+
+/// The sections that the train may stand in, as a run.
+pub fn covered(line: &Line, place: &Place) -> SectionRun
+    ensures value { run_of result ≡ spec.covered line.now (place_of place.now) }
+    // Each of them is a section of the line.
+    ensures bound { behind (run_of result) ≤ length line.now.sections }
+    ensures line { IsLine line.now }
+{
+    let mut run = SectionRun { first: 0, count: 0 };
+    for s in 0..line.section_count() {
+        if covers(line, place, s) {
+            run = longer(run, s);
+        }
+    }
+    run
+}
+
+/// The run with one section more, which is its first where it was empty.
+fn longer(run: SectionRun, s: u16) -> SectionRun
+    requires { run.count < 65535 }
+    ensures { run_of result ≡ with_last (run_of run) s }
+{
+    if run.is_empty() {
+        SectionRun { first: s, count: 1 }
+    } else {
+        SectionRun {
+            first: run.first,
+            count: run.count + 1,
+        }
+    }
+}

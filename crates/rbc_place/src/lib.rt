@@ -1,0 +1,17 @@
+//! Where a position report puts its train on the line (SUBSET-026 3.6): the place of its safe front end and, where the
+//! train's integrity is confirmed, of its safe rear end, and what that says of sections. Nothing here takes memory.
+#![tactic(auto)]
+
+mod clearing;
+mod cover;
+mod fitness;
+mod place;
+mod report;
+mod sections;
+
+pub use clearing::cleared;
+pub use cover::{covered, covers};
+pub use fitness::is_fit;
+pub use place::{Place, group_start};
+pub use report::{extent, place_on};
+pub use sections::{is_on, section_end, section_start, track_end};
