@@ -1,0 +1,3 @@
+pub mod Maps
+pub mod Ranges
+pub mod Off
