@@ -1,3 +1,5 @@
 pub mod Maps
 pub mod Ranges
 pub mod Off
+pub mod Stands
+pub mod Silence
