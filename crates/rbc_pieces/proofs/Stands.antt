@@ -24,15 +24,15 @@ drop-nil : {X : Type 0} (n : ℕ) → ◌≡◌ {A = List X} (drop n []) []
 drop-nil zero = refl
 drop-nil (suc n) = refl
 
-filter_map-none : {X Y : Type 0} (xs : List X) → filter_map {Y = Y} (λ _. None) xs ≡ []
+pub filter_map-none : {X Y : Type 0} (xs : List X) → filter_map {Y = Y} (λ _. None) xs ≡ []
 filter_map-none [] = refl
 filter_map-none (x ∷ xs) = filter_map-none xs
 
-flat_map-none : {X Y : Type 0} (f : X → List Y) (xs : List X) → ((x : X) → f x ≡ []) → flat_map f xs ≡ []
+pub flat_map-none : {X Y : Type 0} (f : X → List Y) (xs : List X) → ((x : X) → f x ≡ []) → flat_map f xs ≡ []
 flat_map-none f [] none = refl
 flat_map-none f (x ∷ xs) none = rw (none x) (flat_map-none f xs none)
 
-find-none : {X : Type 0} (test : X → Bool) (xs : List X) → ((x : X) → test x ≡ false) → find test xs ≡ None
+pub find-none : {X : Type 0} (test : X → Bool) (xs : List X) → ((x : X) → test x ≡ false) → find test xs ≡ None
 find-none test [] none = refl
 find-none test (x ∷ xs) none = rw (none x) (find-none test xs none)
 
@@ -44,7 +44,7 @@ taken_is centre.Open t h = cc
 taken_is (centre.Taken u) t h = elim (eqb_tells u t) [ inl e ↦ ap (λ (x : ℕ). centre.Taken x) (e.1) | inr e ↦ absurd (let wrong : true ≡ false = sym h ∙ e.0 in cc) ]
 taken_is (centre.Out u d) t h = cc
 
-taken_there : (t : ℕ) → is_taken_for t (centre.Taken t) ≡ true
+pub taken_there : (t : ℕ) → is_taken_for t (centre.Taken t) ≡ true
 taken_there t = elim (eqb_tells t t) [ inl e ↦ e.0 | inr e ↦ absurd (e.1 refl) ]
 
 given_is_only : (entry : centre.Entry) (t : ℕ) → is_used_for t entry ≡ true → mark_alone entry ≡ line_centre.Given t
@@ -72,13 +72,13 @@ hand_of : (mission : Option centre.Mission) (s : ℕ) → hand_has mission s ≡
 hand_of None s h = cc
 hand_of (Some m) s h = (m, refl, h)
 
-two_takers : (t u : ℕ) → ◌≡◌ {A = centre.Entry} (centre.Taken t) (centre.Taken u) → t ≡ u
+pub two_takers : (t u : ℕ) → ◌≡◌ {A = centre.Entry} (centre.Taken t) (centre.Taken u) → t ≡ u
 two_takers t u h = cc
 
 module _ (line : Line) (w : World) (alone : IsAlone line w) where
   -- ## Hands
 
-  no_way : (a b : ℕ) → way w a b ≡ []
+  pub no_way : (a b : ℕ) → way w a b ≡ []
   no_way a b = ap (drop ((w.at b).taken a)) ((alone.each a).none_sent b) ∙ drop-nil ((w.at b).taken a)
 
   none_under_way : (a b : ℕ) (f : Frame) → IsOnTheWay w a b f → ⊥
