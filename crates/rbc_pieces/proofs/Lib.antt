@@ -4,3 +4,6 @@ pub mod Off
 pub mod Stands
 pub mod ReadOff
 pub mod Silence
+pub mod Missions
+pub mod Messages
+pub mod Sessions
