@@ -7,3 +7,4 @@ pub mod Silence
 pub mod Missions
 pub mod Messages
 pub mod Sessions
+pub mod Told

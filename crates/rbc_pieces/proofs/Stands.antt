@@ -68,7 +68,7 @@ one_home line c d s = by_section (section line s)
     ]
 
 -- a hand that has a section is of a mission
-hand_of : (mission : Option centre.Mission) (s : ℕ) → hand_has mission s ≡ true → (m : centre.Mission) × (mission ≡ Some m) × (within m.hand s ≡ true)
+pub hand_of : (mission : Option centre.Mission) (s : ℕ) → hand_has mission s ≡ true → (m : centre.Mission) × (mission ≡ Some m) × (within m.hand s ≡ true)
 hand_of None s h = cc
 hand_of (Some m) s h = (m, refl, h)
 
