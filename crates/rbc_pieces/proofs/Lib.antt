@@ -8,3 +8,5 @@ pub mod Missions
 pub mod Messages
 pub mod Sessions
 pub mod Told
+pub mod Books
+pub mod Starts
