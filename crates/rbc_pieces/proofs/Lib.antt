@@ -10,3 +10,4 @@ pub mod Sessions
 pub mod Told
 pub mod Books
 pub mod Starts
+pub mod Grants
