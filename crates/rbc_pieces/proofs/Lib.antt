@@ -11,3 +11,4 @@ pub mod Told
 pub mod Books
 pub mod Starts
 pub mod Grants
+pub mod Leaves
