@@ -34,7 +34,7 @@ not_false : (b : Bool) → not b ≡ false → b ≡ true
 not_false true h = refl
 not_false false h = cc
 
-some_count : (n : ℕ) → 1 ≤ n → (n == 0) ≡ false
+pub some_count : (n : ℕ) → 1 ≤ n → (n == 0) ≡ false
 some_count n some = elim (eqb_tells n 0) [ inl e ↦ absurd (let same = e.1 in let wrong : ⊥ = omega (arith, same) in wrong) | inr e ↦ e.0 ]
 
 none_within : (s : ℕ) → within no_run s ≡ false

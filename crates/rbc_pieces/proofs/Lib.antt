@@ -12,3 +12,5 @@ pub mod Books
 pub mod Starts
 pub mod Grants
 pub mod Leaves
+pub mod Acts
+pub mod Reports

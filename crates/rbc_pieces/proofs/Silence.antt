@@ -117,7 +117,7 @@ module _ (line : Line) (w : World) (alone : IsAlone line w) (c t : ℕ) where
         by_mission None = refl
         by_mission (Some n) = refl
 
-    report_elsewhere : (position : Position) → (is_none ((w.at c).mission t) && not (step.is_awaited line c k t position)) ≡ is_none ((w.at c).mission t)
+    pub report_elsewhere : (position : Position) → (is_none ((w.at c).mission t) && not (step.is_awaited line c k t position)) ≡ is_none ((w.at c).mission t)
     report_elsewhere position = by_none (is_none ((w.at c).mission t)) (is_expected line k t) _ unexpected
       where
         by_none : (b e x : Bool) → e ≡ false → (b && not (e && x)) ≡ b
