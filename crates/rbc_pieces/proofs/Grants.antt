@@ -30,14 +30,14 @@ use Rattle.rbc_pieces.proofs.Missions.{some_of, mission_becomes, mission_here}
 use Rattle.rbc_pieces.proofs.Books.{booked_marks, free_is_open}
 use Rattle.rbc_pieces.proofs.Messages.{Answers, Goes, now, ticked, message, before, reply, left, not_for, message_goes}
 
-not_false : (b : Bool) → not b ≡ false → b ≡ true
+pub not_false : (b : Bool) → not b ≡ false → b ≡ true
 not_false true h = refl
 not_false false h = cc
 
 pub some_count : (n : ℕ) → 1 ≤ n → (n == 0) ≡ false
 some_count n some = elim (eqb_tells n 0) [ inl e ↦ absurd (let same = e.1 in let wrong : ⊥ = omega (arith, same) in wrong) | inr e ↦ e.0 ]
 
-none_within : (s : ℕ) → within no_run s ≡ false
+pub none_within : (s : ℕ) → within no_run s ≡ false
 none_within s = within_after no_run s (omega arith)
 
 module _ (line : Line) (w : World) (alone : IsAlone line w) (c t_train t : ℕ) (trains : List ℕ) (at : is_centre line c ≡ true) (position : Position) where

@@ -14,3 +14,4 @@ pub mod Grants
 pub mod Leaves
 pub mod Acts
 pub mod Reports
+pub mod Cuts
