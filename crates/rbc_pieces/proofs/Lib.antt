@@ -15,3 +15,5 @@ pub mod Leaves
 pub mod Acts
 pub mod Reports
 pub mod Cuts
+pub mod Events
+pub mod Whole
