@@ -1,8 +1,7 @@
 -- What changes of the book and of what was said show on the line.
-use Rattle.std.proofs.Common.{◌≡◌, ℕ, ◌+◌, ◌==◌, ◌&&◌, not, Bool, true, false, cond, Option, Some, None, option_map, is_some, refl, sym, ap, ◌∙◌, List, if◌then◌else◌, inl, inr}
+use Rattle.std.proofs.Common.{◌≡◌, ℕ, ◌&&◌, Bool, true, false, Option, Some, None, is_some, refl, ap, ◌∙◌, if◌then◌else◌}
 use Rattle.std.specs.Option.{option_map_or}
 use Rattle.std.proofs.lemmas.Bool.{and_parts}
-use Rattle.rbc_spec.specs.Maps.{put}
 use Rattle.rbc_spec.specs.Runs.{Run, within}
 use Rattle.rbc_spec.specs.Line.{Line, is_home}
 use Rattle.rbc_spec.specs.Centre as centre
@@ -10,8 +9,6 @@ use Rattle.rbc_spec.specs.Centre.{is_open, is_free}
 use Rattle.rbc_spec.specs.LineCentre as line_centre
 use Rattle.rbc_spec.specs.LineCentre.{LineState, is_at, is_mark_open, supervises}
 use Rattle.rbc_spec.specs.World.{World}
-use Rattle.rbc_spec.specs.ReadOff.{seen}
-use Rattle.rbc_spec.specs.Run as run
 use Rattle.rbc_spec.specs.Step as step
 use Rattle.rbc_alone.specs.Alone.{IsAlone, mark_alone, alone_off}
 use Rattle.rbc_pieces.proofs.Off.{mark_stays, mark_at_home, open_is_open}

@@ -1,37 +1,36 @@
 -- A granted request to shorten is a piece of the one line centre's run.
-use Rattle.std.proofs.Common.{◌≡◌, ◌≢◌, ◌⊎◌, ℕ, ◌+◌, ◌-◌, ◌*◌, ◌<◌, ◌≤◌, ◌==◌, ◌&&◌, not, nat_le, nat_lt, max, Bool, true, false, cond, Option, Some, None, option_map, is_none, is_some, refl, sym, ap, ◌∙◌, List, [], ◌∷◌, ◌++◌, map, if◌then◌else◌, inl, inr, arith, eqb-true, ltb-true, lt-ltb}
+use Rattle.std.proofs.Common.{◌≡◌, ◌⊎◌, ℕ, ◌+◌, ◌*◌, ◌<◌, ◌≤◌, ◌==◌, ◌&&◌, not, nat_le, nat_lt, Bool, true, false, Option, Some, None, option_map, refl, sym, ap, ◌∙◌, List, [], map, if◌then◌else◌, inl, inr, arith, eqb-true, ltb-true, lt-ltb}
 use Rattle.std.specs.Option.{option_map_or}
-use Rattle.std.specs.List.{filter, list_any, range_with_len}
+use Rattle.std.specs.List.{filter, range_with_len}
 use Rattle.std.proofs.lemmas.Bool.{and_parts, and_from, both_ways}
 use Rattle.std.proofs.lemmas.Bool.Decides.{eqb_tells}
 use Rattle.rbc_spec.specs.Maps.{put}
-use Rattle.rbc_spec.specs.Runs.{Run, no_run, within, behind, is_empty, joined, part_from, part_before}
+use Rattle.rbc_spec.specs.Runs.{Run, no_run, within, joined, part_from, part_before}
 use Rattle.rbc_spec.specs.Line.{Line, is_centre, is_home, end}
-use Rattle.rbc_spec.specs.Sections.{section_count}
 use Rattle.rbc_spec.specs.Place.{Place, Position}
 use Rattle.rbc_spec.specs.Message.{TrainBody, ShorteningGranted}
 use Rattle.rbc_spec.specs.Outcome.{NotSupervised, Unasked, Word, Told}
 use Rattle.rbc_spec.specs.Centre as centre
 use Rattle.rbc_spec.specs.Centre.{is_taken_for, is_registrar_of}
-use Rattle.rbc_spec.specs.Acts.{Act, ◌>>◌, with_some, rest, yield_if_due, change_mission as change_here}
+use Rattle.rbc_spec.specs.Acts.{Act, ◌>>◌, rest, yield_if_due, change_mission as change_here}
 use Rattle.rbc_spec.specs.Rules.{place_on, cut, granted, answer_granted}
 use Rattle.rbc_spec.specs.Step as step
 use Rattle.rbc_spec.specs.LineCentre as line_centre
 use Rattle.rbc_spec.specs.LineCentre.{LineState, change_mission, set_mission, close_if_empty, release, is_given_to, Said, nothing}
-use Rattle.rbc_spec.specs.OwnSteps.{Own, release_words, is_cut_of, without_ask, shortened, shortening_words, track_of, last_kept_of}
+use Rattle.rbc_spec.specs.OwnSteps.{Own, release_words, is_cut_of, without_ask, shortened, track_of, last_kept_of}
 use Rattle.rbc_spec.specs.World.{World}
 use Rattle.rbc_spec.specs.ReadOff.{seen}
 use Rattle.rbc_alone.specs.Alone.{IsAlone, alone_off}
 use Rattle.rbc_pieces.specs.Pieces.{with_centre}
 use Rattle.rbc_pieces.proofs.Maps.{put_keeps, put_at_pair, put_over, put_there}
-use Rattle.rbc_pieces.proofs.Ranges.{within_true, within_from, within_before, within_after, stands, same_tests}
-use Rattle.rbc_pieces.proofs.Off.{Shows, shows, mark_stays, wish_stays, mission_put, registrar_of_mission, given_is_hand}
+use Rattle.rbc_pieces.proofs.Ranges.{within_true, within_from, within_before, stands, same_tests}
+use Rattle.rbc_pieces.proofs.Off.{shows, mark_stays, wish_stays, mission_put, registrar_of_mission, given_is_hand}
 use Rattle.rbc_pieces.proofs.Missions.{some_of, mission_becomes, mission_here}
-use Rattle.rbc_pieces.proofs.Grants.{some_count, not_false, none_within}
+use Rattle.rbc_pieces.proofs.Grants.{not_false, none_within}
 use Rattle.rbc_pieces.proofs.Leaves.{left_marks, left_wishes, left_words, none_given, some_given}
-use Rattle.rbc_pieces.proofs.Reports.{close_is, whole_hand, append_nil, words_alone, words_only, itself}
+use Rattle.rbc_pieces.proofs.Reports.{close_is, whole_hand, append_nil, words_alone, words_only}
 use Rattle.rbc_pieces.proofs.Acts.{Does, both_do, with_it, without_it, does_as}
-use Rattle.rbc_pieces.proofs.Messages.{Answers, Goes, now, stamp, ticked, message, before, reply, left, not_for, message_goes}
+use Rattle.rbc_pieces.proofs.Messages.{Answers, Goes, ticked, message, before, reply, left, not_for, message_goes}
 
 module _ (line : Line) (w : World) (alone : IsAlone line w) (c t_train t : ℕ) (trains : List ℕ) (at : is_centre line c ≡ true) (asked : ℕ) (position : Position)
     (m : centre.Mission) (has : (w.at c).mission t ≡ Some m) (p : centre.Proposal) (proposed : m.proposal ≡ Some p) where
@@ -122,15 +121,18 @@ module _ (line : Line) (w : World) (alone : IsAlone line w) (c t_train t : ℕ) 
         sayings_are = comes.sayings_are;
         words_are = comes.words_are;
         own_step = own;
-        quiet_steps = (refl, shows line w c (made answered) trains (without_ask t v) (record {
-          mark = λ s. mark_stays line w c s _ (λ _. refl);
-          wish = λ s. wish_stays line w c s _ (λ _. refl);
-          phase = λ u d. put_keeps (λ (j : centre.Centre). j.phase u) w.at c (made answered) refl d;
-          heard = λ u d. put_at_pair (λ (j : centre.Centre). j.heard) w.at c (made answered) t (Some t_train) (λ _. refl) u d;
-          said = λ u d. put_keeps (λ (j : centre.Centre). j.said u) w.at c (made answered) refl d;
-          wait = λ u d. refl;
-          mission = λ u. mission_becomes line w c t m (Some unasked) (Some (seen c unasked)) u alone has refl ∙ without_mission u;
-        }));
+        quiet_steps = (
+          refl,
+          shows line w c (made answered) trains (without_ask t v) (record {
+            mark = λ s. mark_stays line w c s _ (λ _. refl);
+            wish = λ s. wish_stays line w c s _ (λ _. refl);
+            phase = λ u d. put_keeps (λ (j : centre.Centre). j.phase u) w.at c (made answered) refl d;
+            heard = λ u d. put_at_pair (λ (j : centre.Centre). j.heard) w.at c (made answered) t (Some t_train) (λ _. refl) u d;
+            said = λ u d. put_keeps (λ (j : centre.Centre). j.said u) w.at c (made answered) refl d;
+            wait = λ u d. refl;
+            mission = λ u. mission_becomes line w c t m (Some unasked) (Some (seen c unasked)) u alone has refl ∙ without_mission u;
+          }),
+        );
         says_it = refl;
       }
 
@@ -342,8 +344,8 @@ module _ (line : Line) (w : World) (alone : IsAlone line w) (c t_train t : ℕ) 
   granted_goes = message_goes line w alone c t_train t trains at (ShorteningGranted asked position) (λ h.
       let here = some_of ((w.at c).mission t) (not_for line w alone c t_train t trains at (ShorteningGranted asked position) 4 NotSupervised h refl) in
       let fails : not (option_map_or (λ p. p.stamp == asked) here.0.proposal false) ≡ false =
-          sym (ap (λ (o : Option centre.Mission). not (step.mission_has (λ m. option_map_or (λ p. p.stamp == asked) m.proposal false) o)) here.1)
-          ∙ not_for line w alone c t_train t trains at (ShorteningGranted asked position) 5 Unasked h refl
+      sym (ap (λ (o : Option centre.Mission). not (step.mission_has (λ m. option_map_or (λ p. p.stamp == asked) m.proposal false) o)) here.1)
+      ∙ not_for line w alone c t_train t trains at (ShorteningGranted asked position) 5 Unasked h refl
       in
       let asks = asked_of here.0 here.0.proposal refl (not_false (option_map_or (λ p. p.stamp == asked) here.0.proposal false) fails) in
       granted_answered line w alone c t_train t trains at asked position here.0 here.1 asks.0 asks.1)

@@ -1,34 +1,32 @@
 -- A request that is granted is a piece of the one line centre's run: the hand is extended as far as it may go.
-use Rattle.std.proofs.Common.{◌≡◌, ◌⊎◌, ℕ, zero, suc, ◌+◌, ◌-◌, ◌*◌, ◌<◌, ◌≤◌, ◌==◌, ◌&&◌, ◌||◌, not, nat_le, Bool, true, false, cond, Option, Some, None, option_map, is_none, is_some, refl, sym, ap, ◌∙◌, List, [], ◌∷◌, if◌then◌else◌, inl, inr, subst, arith, leb-true, min}
+use Rattle.std.proofs.Common.{◌≡◌, ◌⊎◌, ℕ, zero, suc, ◌+◌, ◌-◌, ◌*◌, ◌<◌, ◌≤◌, ◌==◌, ◌&&◌, ◌||◌, not, nat_le, Bool, true, false, Option, Some, None, option_map, refl, sym, ap, ◌∙◌, List, [], ◌∷◌, if◌then◌else◌, inl, inr, arith, leb-true}
 use Rattle.std.specs.Option.{option_map_or}
 use Rattle.std.proofs.lemmas.Bool.{and_parts, and_from, or_left, cases_lt}
 use Rattle.std.proofs.lemmas.Bool.Decides.{eqb_tells}
 use Rattle.rbc_spec.specs.Maps.{put}
 use Rattle.rbc_spec.specs.Runs.{Run, no_run, within, behind, longest, joined}
-use Rattle.rbc_spec.specs.Line.{Line, is_centre, is_home, end}
+use Rattle.rbc_spec.specs.Line.{Line, is_centre, end}
 use Rattle.rbc_spec.specs.Sections.{is_on}
 use Rattle.rbc_spec.specs.Place.{Place, Position, group_start}
 use Rattle.rbc_spec.specs.Message.{TrainBody, Request, Authority}
-use Rattle.rbc_spec.specs.Outcome.{NotSupervised, NoPlace, Saying}
+use Rattle.rbc_spec.specs.Outcome.{NotSupervised, NoPlace}
 use Rattle.rbc_spec.specs.Centre as centre
 use Rattle.rbc_spec.specs.Centre.{is_open, is_free}
 use Rattle.rbc_spec.specs.Acts.{◌>>◌}
-use Rattle.rbc_spec.specs.Rules.{all_of, place_on, may_follow, extended_by, authority}
+use Rattle.rbc_spec.specs.Rules.{place_on, may_follow, extended_by, authority}
 use Rattle.rbc_spec.specs.Step as step
 use Rattle.rbc_spec.specs.Step.{may_request}
 use Rattle.rbc_spec.specs.LineCentre as line_centre
 use Rattle.rbc_spec.specs.LineCentre.{LineState, change_mission, mark_all, is_mark_open, says, saying_of, Said, nothing}
-use Rattle.rbc_spec.specs.OwnSteps.{Ends, off_track, not_free, full, too_far, Extends, may_be_given, track_of}
+use Rattle.rbc_spec.specs.OwnSteps.{Ends, off_track, not_free, full, too_far, may_be_given}
 use Rattle.rbc_spec.specs.World.{World}
-use Rattle.rbc_spec.specs.ReadOff.{seen}
-use Rattle.rbc_alone.specs.Alone.{IsAlone, alone_off}
-use Rattle.rbc_pieces.specs.Pieces.{with_centre}
+use Rattle.rbc_alone.specs.Alone.{IsAlone}
 use Rattle.rbc_pieces.proofs.Maps.{put_keeps, put_at_pair}
 use Rattle.rbc_pieces.proofs.Ranges.{within_true, within_from, within_after, all_within, IsLongest, longest_is}
-use Rattle.rbc_pieces.proofs.Off.{Shows, shows, wish_stays, given_is_hand}
+use Rattle.rbc_pieces.proofs.Off.{shows, wish_stays, given_is_hand}
 use Rattle.rbc_pieces.proofs.Missions.{some_of, mission_becomes, mission_here}
 use Rattle.rbc_pieces.proofs.Books.{booked_marks, free_is_open}
-use Rattle.rbc_pieces.proofs.Messages.{Answers, Goes, now, ticked, message, before, reply, left, not_for, message_goes}
+use Rattle.rbc_pieces.proofs.Messages.{Answers, Goes, ticked, message, before, not_for, message_goes}
 
 pub not_false : (b : Bool) → not b ≡ false → b ≡ true
 not_false true h = refl
@@ -155,27 +153,34 @@ module _ (line : Line) (w : World) (alone : IsAlone line w) (c t_train t : ℕ) 
           state_is = rw (has) (rw on refl);
           sayings_are = rw (has) (rw on (ap (λ (a : ℕ). saying_of t c place.group (Authority a) v ∷ []) authority_is));
           words_are = rw (has) (rw on refl);
-          own_step = (place, ap (λ (o : Option line_centre.Mission). place_on line (option_map_or (λ n. n.place.track) o 0) position) (mission_here line w c t m alone has) ∙ on, record {
-            hand = m.hand;
-            count = count;
-            is_hand = record { each = λ s. given_is_hand line w c t m alone has s };
-            each = all_within (λ s. may_be_given line v c t s && is_on line place.track s) more (λ s inside. let f = each_follows s inside in
-                and_from (may_be_given line v c t s) (is_on line place.track s) (or_left _ _ (free_is_open line w c s ∙ f.free)) f.on_track);
-            ends = ends;
-            room = omega (arith, most.fits, few);
-            within_reach = leb-true (end line (behind m.hand + count - 1)) (group_start line place + 32767) in_reach;
-            says_it = record { said_is = refl; new_is = refl };
-          });
-          quiet_steps = (refl, shows line w c _ trains shown (record {
-            mark = λ s. booked_marks line w c t more (λ e inside. (each_follows e inside).free) s;
-            wish = λ s. wish_stays line w c s _ (λ _. refl);
-            phase = λ u d. put_keeps (λ (j : centre.Centre). j.phase u) w.at c _ refl d;
-            heard = λ u d. put_at_pair (λ (j : centre.Centre). j.heard) w.at c _ t (Some t_train) (λ _. refl) u d;
-            said = λ u d. put_at_pair (λ (j : centre.Centre). j.said) w.at c _ t ((w.at c).said t + 1) (λ _. refl) u d;
-            wait = λ u d. refl;
-            mission = λ u. mission_becomes line w c t m (Some (extended_by more placed)) (option_map (λ (n : line_centre.Mission). record n { place = place }) (v.mission t)) u alone has
-                (sym (ap (option_map (λ (n : line_centre.Mission). record n { place = place })) (mission_here line w c t m alone has)));
-          }));
+          own_step = (
+            place,
+            ap (λ (o : Option line_centre.Mission). place_on line (option_map_or (λ n. n.place.track) o 0) position) (mission_here line w c t m alone has) ∙ on,
+            record {
+              hand = m.hand;
+              count = count;
+              is_hand = record { each = λ s. given_is_hand line w c t m alone has s };
+              each = all_within (λ s. may_be_given line v c t s && is_on line place.track s) more (λ s inside. let f = each_follows s inside in
+                  and_from (may_be_given line v c t s) (is_on line place.track s) (or_left _ _ (free_is_open line w c s ∙ f.free)) f.on_track);
+              ends = ends;
+              room = omega (arith, most.fits, few);
+              within_reach = leb-true (end line (behind m.hand + count - 1)) (group_start line place + 32767) in_reach;
+              says_it = record { said_is = refl; new_is = refl };
+            },
+          );
+          quiet_steps = (
+            refl,
+            shows line w c _ trains shown (record {
+              mark = λ s. booked_marks line w c t more (λ e inside. (each_follows e inside).free) s;
+              wish = λ s. wish_stays line w c s _ (λ _. refl);
+              phase = λ u d. put_keeps (λ (j : centre.Centre). j.phase u) w.at c _ refl d;
+              heard = λ u d. put_at_pair (λ (j : centre.Centre). j.heard) w.at c _ t (Some t_train) (λ _. refl) u d;
+              said = λ u d. put_at_pair (λ (j : centre.Centre). j.said) w.at c _ t ((w.at c).said t + 1) (λ _. refl) u d;
+              wait = λ u d. refl;
+              mission = λ u. mission_becomes line w c t m (Some (extended_by more placed)) (option_map (λ (n : line_centre.Mission). record n { place = place }) (v.mission t)) u alone has
+                  (sym (ap (option_map (λ (n : line_centre.Mission). record n { place = place })) (mission_here line w c t m alone has)));
+            }),
+          );
           says_it = refl;
         }
 

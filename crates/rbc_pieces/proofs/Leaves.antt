@@ -1,24 +1,24 @@
 -- Sections that leave the hand of a train: what that shows on the line, and what it says.
-use Rattle.std.proofs.Common.{◌≡◌, ◌⊎◌, ℕ, ◌+◌, ◌-◌, ◌*◌, ◌<◌, ◌≤◌, ◌==◌, ◌&&◌, not, nat_le, Bool, true, false, cond, Option, Some, None, option_map, refl, sym, ap, ◌∙◌, List, [], ◌∷◌, map, length, if◌then◌else◌, inl, inr, arith, ℤ, pos, negsuc, int_le, leb-true, le-leb}
+use Rattle.std.proofs.Common.{◌≡◌, ◌⊎◌, ℕ, ◌+◌, ◌*◌, ◌<◌, ◌≤◌, ◌==◌, ◌&&◌, not, Bool, true, false, Option, Some, None, refl, sym, ap, ◌∙◌, map, if◌then◌else◌, inl, inr, arith, ℤ, pos, negsuc, int_le, leb-true, le-leb}
 use Rattle.std.specs.Option.{option_map_or}
 use Rattle.std.specs.List.{filter, list_any, range_with_len}
 use Rattle.std.proofs.lemmas.Bool.{and_parts, and_from, both_ways, cases_lt}
 use Rattle.std.proofs.lemmas.Bool.Decides.{eqb_tells}
-use Rattle.rbc_spec.specs.Runs.{Run, within, behind, passing, longest}
+use Rattle.rbc_spec.specs.Runs.{Run, within, behind}
 use Rattle.rbc_spec.specs.Line.{Line, is_home, end}
 use Rattle.rbc_spec.specs.Sections.{is_on, section_count}
 use Rattle.rbc_spec.specs.Place.{Place, is_cleared}
-use Rattle.rbc_spec.specs.Outcome.{Word, Told}
+use Rattle.rbc_spec.specs.Outcome.{Told}
 use Rattle.rbc_spec.specs.Centre as centre
 use Rattle.rbc_spec.specs.Centre.{is_taken_for}
 use Rattle.rbc_spec.specs.LineCentre as line_centre
 use Rattle.rbc_spec.specs.LineCentre.{LineState, Mark, is_given_to, release, told}
-use Rattle.rbc_spec.specs.OwnSteps.{release_words, is_cleared_of, is_cut_of}
+use Rattle.rbc_spec.specs.OwnSteps.{release_words, is_cleared_of}
 use Rattle.rbc_spec.specs.Rules.{cleared}
 use Rattle.rbc_spec.specs.World.{World}
 use Rattle.rbc_alone.specs.Alone.{IsOrdered, IsAlone, hand_has, mark_alone, alone_off}
-use Rattle.rbc_pieces.proofs.Ranges.{within_true, within_from, within_before, within_after, same_tests, never, filter_run, any-range, any-range_none, IsLongest, longest_is}
-use Rattle.rbc_pieces.proofs.Off.{mark_stays, wish_stays, mark_at_home, wish_at_home, given_is_hand, hand_is_home}
+use Rattle.rbc_pieces.proofs.Ranges.{within_true, within_from, within_after, same_tests, filter_run, any-range, any-range_none, IsLongest, longest_is}
+use Rattle.rbc_pieces.proofs.Off.{mark_stays, wish_stays, wish_at_home, given_is_hand, hand_is_home}
 use Rattle.rbc_pieces.proofs.Silence.{on_line}
 
 -- where a section is cleared, one that ends no farther is

@@ -1,9 +1,9 @@
 -- The step of a message, in parts: it is silent, or heard and answered.
-use Rattle.std.proofs.Common.{◌≡◌, ℕ, ◌+◌, Bool, true, false, Option, Some, None, refl, sym, ap, ◌∙◌, List, [], Result, Ok, Err, subst, slice_get, is_none}
+use Rattle.std.proofs.Common.{◌≡◌, ℕ, ◌+◌, Bool, true, false, Option, Some, None, refl, sym, ap, ◌∙◌, List, [], Ok, subst, slice_get}
 use Rattle.rbc_spec.specs.Reach.{Alone}
 use Rattle.rbc_spec.specs.Line.{Line, is_centre}
 use Rattle.rbc_spec.specs.Message.{TrainMessage, TrainBody}
-use Rattle.rbc_spec.specs.Outcome.{Outcome, Reason, Saying, Word}
+use Rattle.rbc_spec.specs.Outcome.{Reason}
 use Rattle.rbc_spec.specs.Centre as centre
 use Rattle.rbc_spec.specs.Acts.{Reply}
 use Rattle.rbc_spec.specs.Step as step
@@ -12,12 +12,11 @@ use Rattle.rbc_spec.specs.LineCentre.{LineState, hears, Said, nothing}
 use Rattle.rbc_spec.specs.OwnSteps.{Own}
 use Rattle.rbc_spec.specs.Quiet.{Quiet, TakesAll, both}
 use Rattle.rbc_spec.specs.World.{World, Bytes}
-use Rattle.rbc_spec.specs.Run as run
 use Rattle.rbc_spec.specs.Run.{Piece, silent, heard}
 use Rattle.rbc_alone.specs.Alone.{IsAlone, alone_off}
 use Rattle.rbc_pieces.specs.Pieces.{with_centre}
 use Rattle.rbc_pieces.proofs.Maps.{put_keeps}
-use Rattle.rbc_pieces.proofs.Off.{Shows, shows, mark_stays, wish_stays, mission_stays}
+use Rattle.rbc_pieces.proofs.Off.{shows, mark_stays, wish_stays, mission_stays}
 use Rattle.rbc_pieces.proofs.Silence.{same_silence}
 use Rattle.rbc_pieces.proofs.Missions.{none_passes}
 
@@ -105,7 +104,7 @@ module _ (line : Line) (w : World) (alone : IsAlone line w) (c t_train t : ℕ) 
   answered_goes body h a =
       let made : Reply = record { state = a.state; frames = (reply body).frames; sayings = a.said.sayings; words = a.said.words } in
       let effect : step.effect Alone line c ticked (step.Train (message body)) ≡ record { reply = made; link = None; silence = None } =
-          rw h (λ i. record { reply = record { state = a.state_is i; frames = (reply body).frames; sayings = a.sayings_are i; words = a.words_are i }; link = None; silence = None })
+      rw h (λ i. record { reply = record { state = a.state_is i; frames = (reply body).frames; sayings = a.sayings_are i; words = a.words_are i }; link = None; silence = None })
       in
       subst (PieceOf body) (sym effect) (record {
         own = a.own;

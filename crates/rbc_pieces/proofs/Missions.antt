@@ -1,5 +1,5 @@
 -- What a change of a train's mission shows on the line, and what a message that is not silent tells.
-use Rattle.std.proofs.Common.{◌≡◌, ℕ, zero, suc, ◌==◌, ◌&&◌, Bool, true, false, cond, Option, Some, None, option_map, is_none, refl, sym, ap, ◌∙◌, inl, inr, List, [], ◌∷◌, slice_get, if◌then◌else◌}
+use Rattle.std.proofs.Common.{◌≡◌, ℕ, zero, suc, ◌==◌, Bool, true, false, cond, Option, Some, None, option_map, is_none, refl, sym, ap, ◌∙◌, inl, inr, List, [], ◌∷◌, slice_get, if◌then◌else◌}
 use Rattle.std.specs.Option.{option_map_or, option_and_then}
 use Rattle.std.specs.List.{find}
 use Rattle.std.proofs.lemmas.Bool.Decides.{eqb_tells}
@@ -12,7 +12,7 @@ use Rattle.rbc_spec.specs.LineCentre.{LineState}
 use Rattle.rbc_spec.specs.OwnSteps.{without_proposal}
 use Rattle.rbc_spec.specs.World.{World}
 use Rattle.rbc_spec.specs.ReadOff.{seen}
-use Rattle.rbc_alone.specs.Alone.{IsAloneAt, IsAlone, alone_off}
+use Rattle.rbc_alone.specs.Alone.{IsAlone, alone_off}
 use Rattle.rbc_pieces.proofs.Maps.{put_same}
 use Rattle.rbc_pieces.proofs.Off.{registrar_of_mission, mission_at_registrar, mission_stays, mission_put}
 

@@ -12,7 +12,7 @@ use Rattle.rbc_spec.specs.LineCentre.{LineState, Mark, is_given_to, is_mark_open
 use Rattle.rbc_spec.specs.OwnSteps.{is_unused_mark}
 use Rattle.rbc_spec.specs.World.{World}
 use Rattle.rbc_spec.specs.ReadOff.{seen}
-use Rattle.rbc_alone.specs.Alone.{IsAloneAt, IsAlone, IsMissionAlone, hand_has, mark_alone, alone_off}
+use Rattle.rbc_alone.specs.Alone.{IsAloneAt, IsAlone, hand_has, mark_alone, alone_off}
 use Rattle.rbc_pieces.specs.Pieces.{with_centre}
 
 -- ## A section at its home

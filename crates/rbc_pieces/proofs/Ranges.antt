@@ -1,5 +1,5 @@
 -- Laws of runs of sections, and of the lists of their numbers.
-use Rattle.std.proofs.Common.{◌≡◌, ◌≢◌, ◌⊎◌, ℕ, zero, suc, ◌+◌, ◌-◌, Option, Some, ◌<◌, ◌≤◌, ◌==◌, ◌&&◌, ◌||◌, Bool, true, false, nat_le, nat_lt, refl, sym, ap, ◌∙◌, arith, inl, inr, ⊎_elim, List, [], ◌∷◌, ◌++◌, cond, leb-true, ltb-true, le-leb, lt-ltb, le-ltb, subst}
+use Rattle.std.proofs.Common.{◌≡◌, ◌≢◌, ◌⊎◌, ℕ, zero, suc, ◌+◌, ◌-◌, Some, ◌<◌, ◌≤◌, Bool, true, false, nat_le, nat_lt, refl, sym, ap, ◌∙◌, arith, inl, inr, ⊎_elim, List, [], ◌∷◌, ◌++◌, leb-true, ltb-true, le-leb, lt-ltb, le-ltb, subst}
 use Rattle.std.specs.List.{filter, find, list_any, list_all, range_with_len}
 use Rattle.std.proofs.lemmas.Bool.{and_parts, and_from, and_left, and_right, both_ways, lt-leb, cases_lt, cases_eq, cases_Bool, cond-true, cond-false, or_left, or_right}
 use Rattle.std.proofs.lemmas.Bool.Decides.{eqb_tells}

@@ -1,7 +1,7 @@
 -- The state that is read off centres that have their missions to themselves.
-use Rattle.std.proofs.Common.{◌≡◌, ◌≢◌, ◌⊎◌, ℕ, zero, suc, ◌+◌, ◌<◌, ◌≤◌, ◌==◌, ◌&&◌, Bool, true, false, cond, Option, Some, None, option_map, is_some, refl, sym, ap, ◌∙◌, inl, inr, List, [], ◌∷◌, ◌++◌, length, map, slice_get, arith, subst}
+use Rattle.std.proofs.Common.{◌≡◌, ◌≢◌, ℕ, zero, suc, ◌+◌, ◌<◌, ◌≤◌, ◌==◌, ◌&&◌, Bool, true, false, cond, Option, Some, None, option_map, is_some, refl, sym, ap, ◌∙◌, inl, inr, List, [], ◌∷◌, ◌++◌, length, map, slice_get, arith, subst}
 use Rattle.std.specs.Option.{option_map_or, option_and_then}
-use Rattle.std.specs.List.{find, filter_map, flat_map, range_with_len, All, AllByRecursion}
+use Rattle.std.specs.List.{find, filter_map, flat_map, range_with_len, AllByRecursion}
 use Rattle.std.proofs.lemmas.Bool.{both_ways}
 use Rattle.std.proofs.lemmas.Bool.Decides.{eqb_tells}
 use Rattle.std.proofs.lemmas.List.Elements.{recursion_from_All}
@@ -14,8 +14,7 @@ use Rattle.rbc_spec.specs.LineCentre as line_centre
 use Rattle.rbc_spec.specs.World.{World, way}
 use Rattle.rbc_spec.specs.ReadOff.{read_off, mark_of, held_at, handed_over, frames_on_way, held, holder, centres_of, Held, seen}
 use Rattle.rbc_alone.specs.Alone.{IsAlone, hand_has, mark_alone, alone_off}
-use Rattle.rbc_pieces.proofs.Ranges.{never}
-use Rattle.rbc_pieces.proofs.Stands.{filter_map-none, flat_map-none, find-none, no_way, one_home, taken_there, two_takers}
+use Rattle.rbc_pieces.proofs.Stands.{flat_map-none, find-none, no_way, one_home, taken_there}
 
 -- ## Lists
 
@@ -161,7 +160,7 @@ module _ (line : Line) (w : World) (is_line : IsLine line) (alone : IsAlone line
       by_entry centre.Open is = rw (nobody centre.Open is (λ t. refl), is) refl
       by_entry (centre.Taken t) is =
           let found : holder line w s ≡ Some t = find_engine (holds_it s) line.trains t (registered c s t is) (holds_taken c s t home ∙ ap (is_taken_for t) is ∙ taken_there t)
-              (λ u h. taken_only t u (sym (holds_taken c s u home ∙ ap (is_taken_for u) is) ∙ h)) in
+          (λ u h. taken_only t u (sym (holds_taken c s u home ∙ ap (is_taken_for u) is) ∙ h)) in
           rw (found, is) refl
       by_entry (centre.Out t d) is = absurd (
           let out : centre.is_out_for t d (centre.Out t d) ≡ false = sym (ap (centre.is_out_for t d) is) ∙ (alone.each c).not_out s t d in

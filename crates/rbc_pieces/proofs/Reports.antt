@@ -1,5 +1,5 @@
 -- A position report and an end of mission are pieces of the one line centre's run.
-use Rattle.std.proofs.Common.{◌≡◌, ℕ, ◌+◌, ◌==◌, ◌&&◌, not, Bool, true, false, cond, Option, Some, None, option_map, is_none, is_some, refl, sym, ap, ◌∙◌, List, [], ◌∷◌, ◌++◌, map, if◌then◌else◌, inl, inr, arith, eqb-true}
+use Rattle.std.proofs.Common.{◌≡◌, ℕ, ◌+◌, ◌==◌, ◌&&◌, not, Bool, true, false, Option, Some, None, option_map, is_none, is_some, refl, sym, ap, ◌∙◌, List, [], ◌∷◌, ◌++◌, map, if◌then◌else◌, inl, inr, arith, eqb-true}
 use Rattle.std.specs.Option.{option_map_or}
 use Rattle.std.specs.List.{filter, list_any, range_with_len}
 use Rattle.std.proofs.lemmas.Bool.Decides.{eqb_tells}
@@ -24,14 +24,14 @@ use Rattle.rbc_spec.specs.ReadOff.{seen}
 use Rattle.rbc_alone.specs.Alone.{IsOrdered, IsAlone, alone_off}
 use Rattle.rbc_pieces.specs.Pieces.{with_centre}
 use Rattle.rbc_pieces.proofs.Maps.{put_keeps, put_at_pair, put_over, put_there}
-use Rattle.rbc_pieces.proofs.Off.{Shows, shows, mark_stays, wish_stays, mission_put, registrar_of_mission}
+use Rattle.rbc_pieces.proofs.Off.{shows, mark_stays, wish_stays, mission_put, registrar_of_mission}
 use Rattle.rbc_pieces.proofs.Missions.{some_of, mission_becomes, mission_here}
 use Rattle.rbc_pieces.proofs.Books.{supervises_is}
 use Rattle.rbc_pieces.proofs.Grants.{some_count}
 use Rattle.rbc_pieces.proofs.Leaves.{left_marks, left_wishes, left_words, none_given, some_given, cleared_inside, cleared_is, all_cleared, some_left}
 use Rattle.rbc_pieces.proofs.Silence.{report_elsewhere}
 use Rattle.rbc_pieces.proofs.Acts.{Does, both_do, with_it, without_it, does_as}
-use Rattle.rbc_pieces.proofs.Messages.{Answers, Goes, now, stamp, ticked, message, before, reply, left, not_for, message_goes}
+use Rattle.rbc_pieces.proofs.Messages.{Answers, Goes, stamp, ticked, message, before, reply, left, not_for, message_goes}
 
 -- whether the hand of the train is empty
 pub close_is : (line : Line) (t : ℕ) (v : LineState) (b : Bool) → list_any (λ s. is_given_to t (v.mark s)) (range_with_len 0 (section_count line)) ≡ b
@@ -311,10 +311,10 @@ module _ (line : Line) (ordered : IsOrdered line) (w : World) (alone : IsAlone l
         report_leaves position on =
             let body : TrainBody = Report position in
             let comes : Comes body (shortened (Some shorter) k.mission) (release_words line c is_released (alone_off line w)) =
-                report_comes position (shortened (Some shorter) k.mission) _ (does_as _ heard (shortened (Some shorter) k.mission) _ _
-                (both_do (report_here line c t position m) (yield_if_due line c t) heard (shortened (Some shorter) k.mission) (shortened (Some shorter) k.mission) _ [] (clears_part position on)
-                (not_yielded (shortened (Some shorter) k.mission) (Some shorter) kept_there (λ x is. let same : shorter ≡ x = cc in sym (ap (λ (n : centre.Mission). n.handing) same) ∙ no_handing)))
-                (append_nil (release_words line c is_released (alone_off line w))))
+            report_comes position (shortened (Some shorter) k.mission) _ (does_as _ heard (shortened (Some shorter) k.mission) _ _
+            (both_do (report_here line c t position m) (yield_if_due line c t) heard (shortened (Some shorter) k.mission) (shortened (Some shorter) k.mission) _ [] (clears_part position on)
+            (not_yielded (shortened (Some shorter) k.mission) (Some shorter) kept_there (λ x is. let same : shorter ≡ x = cc in sym (ap (λ (n : centre.Mission). n.handing) same) ∙ no_handing)))
+            (append_nil (release_words line c is_released (alone_off line w))))
             in
             record {
               state = shortened (Some shorter) k.mission;
@@ -354,13 +354,13 @@ module _ (line : Line) (ordered : IsOrdered line) (w : World) (alone : IsAlone l
         end_leaves position on =
             let body : TrainBody = EndOfMission position in
             let comes : Comes body last_left (release_words line c is_released (alone_off line w)) =
-                end_comes position last_left _ (does_as _ heard last_left _ _
-                (both_do _ (yield_if_due line c t) heard last_left last_left _ []
-                (both_do (with_some (λ j. j.mission t) (report_here line c t position)) (with_some (λ j. j.mission t) (λ n. return_pool line c t n >> change_here t (λ x. record x { is_ended = true; proposal = None }))) heard (shortened (Some shorter) k.mission) last_left _ []
-                (with_it (λ (j : centre.Centre). j.mission t) (report_here line c t position) heard (shortened (Some shorter) k.mission) m _ has (clears_part position on))
-                (with_it (λ (j : centre.Centre). j.mission t) _ (shortened (Some shorter) k.mission) last_left shorter [] kept_there ends_part))
-                (not_yielded last_left (Some at_end) (put_there (put (put k.mission t (Some shorter)) t (Some without_pool)) t (Some at_end)) (λ x is. let same : at_end ≡ x = cc in sym (ap (λ (n : centre.Mission). n.handing) same) ∙ no_handing)))
-                (words_alone (release_words line c is_released (alone_off line w))))
+            end_comes position last_left _ (does_as _ heard last_left _ _
+            (both_do _ (yield_if_due line c t) heard last_left last_left _ []
+            (both_do (with_some (λ j. j.mission t) (report_here line c t position)) (with_some (λ j. j.mission t) (λ n. return_pool line c t n >> change_here t (λ x. record x { is_ended = true; proposal = None }))) heard (shortened (Some shorter) k.mission) last_left _ []
+            (with_it (λ (j : centre.Centre). j.mission t) (report_here line c t position) heard (shortened (Some shorter) k.mission) m _ has (clears_part position on))
+            (with_it (λ (j : centre.Centre). j.mission t) _ (shortened (Some shorter) k.mission) last_left shorter [] kept_there ends_part))
+            (not_yielded last_left (Some at_end) (put_there (put (put k.mission t (Some shorter)) t (Some without_pool)) t (Some at_end)) (λ x is. let same : at_end ≡ x = cc in sym (ap (λ (n : centre.Mission). n.handing) same) ∙ no_handing)))
+            (words_alone (release_words line c is_released (alone_off line w))))
             in
             record {
               state = last_left;
@@ -373,8 +373,11 @@ module _ (line : Line) (ordered : IsOrdered line) (w : World) (alone : IsAlone l
               sayings_are = comes.sayings_are;
               words_are = comes.words_are;
               own_step = rw (track_is body position ∙ on) (record { said_is = refl; new_is = sym (ap (ended t) (left_is body)) });
-              quiet_steps = (refl, shortened_shown body at_end (put (put k.mission t (Some shorter)) t (Some without_pool)) (seen c at_end) (ended t (placed_line body)).mission
-                  (λ u. put_over t (Some at_end) (Some without_pool) (put k.mission t (Some shorter)) u ∙ put_over t (Some at_end) (Some shorter) k.mission u) refl (ended_mission body));
+              quiet_steps = (
+                refl,
+                shortened_shown body at_end (put (put k.mission t (Some shorter)) t (Some without_pool)) (seen c at_end) (ended t (placed_line body)).mission
+                    (λ u. put_over t (Some at_end) (Some without_pool) (put k.mission t (Some shorter)) u ∙ put_over t (Some at_end) (Some shorter) k.mission u) refl (ended_mission body),
+              );
               says_it = words_only (release_words line c is_released (alone_off line w));
             }
 
@@ -400,12 +403,12 @@ module _ (line : Line) (ordered : IsOrdered line) (w : World) (alone : IsAlone l
     end_anywhere position on =
         let body : TrainBody = EndOfMission position in
         let comes : Comes body ended_here [] =
-            end_comes position ended_here _
-            (both_do _ (yield_if_due line c t) heard ended_here ended_here [] []
-            (both_do (with_some (λ j. j.mission t) (report_here line c t position)) (with_some (λ j. j.mission t) (λ n. return_pool line c t n >> change_here t (λ x. record x { is_ended = true; proposal = None }))) heard heard ended_here [] []
-            (with_it (λ (j : centre.Centre). j.mission t) (report_here line c t position) heard heard m [] has (has_no_report position on))
-            (with_it (λ (j : centre.Centre). j.mission t) _ heard ended_here m [] has ends_here))
-            (not_yielded ended_here (Some done) (put_there (put k.mission t (Some without)) t (Some done)) (λ x is. let same : done ≡ x = cc in sym (ap (λ (n : centre.Mission). n.handing) same) ∙ no_handing)))
+        end_comes position ended_here _
+        (both_do _ (yield_if_due line c t) heard ended_here ended_here [] []
+        (both_do (with_some (λ j. j.mission t) (report_here line c t position)) (with_some (λ j. j.mission t) (λ n. return_pool line c t n >> change_here t (λ x. record x { is_ended = true; proposal = None }))) heard heard ended_here [] []
+        (with_it (λ (j : centre.Centre). j.mission t) (report_here line c t position) heard heard m [] has (has_no_report position on))
+        (with_it (λ (j : centre.Centre). j.mission t) _ heard ended_here m [] has ends_here))
+        (not_yielded ended_here (Some done) (put_there (put k.mission t (Some without)) t (Some done)) (λ x is. let same : done ≡ x = cc in sym (ap (λ (n : centre.Mission). n.handing) same) ∙ no_handing)))
         in
         record {
           state = ended_here;
@@ -418,17 +421,20 @@ module _ (line : Line) (ordered : IsOrdered line) (w : World) (alone : IsAlone l
           sayings_are = comes.sayings_are;
           words_are = comes.words_are;
           own_step = rw (track_is body position ∙ on) (record { said_is = refl; new_is = refl });
-          quiet_steps = (refl, shows line w c (made body ended_here) trains (ended t (v body)) (record {
-            mark = λ s. mark_stays line w c s _ (λ _. refl);
-            wish = λ s. wish_stays line w c s _ (λ _. refl);
-            phase = λ u d. put_keeps (λ (j : centre.Centre). j.phase u) w.at c (made body ended_here) refl d;
-            heard = λ u d. put_at_pair (λ (j : centre.Centre). j.heard) w.at c (made body ended_here) t (Some t_train) (λ _. refl) u d;
-            said = λ u d. put_keeps (λ (j : centre.Centre). j.said u) w.at c (made body ended_here) refl d;
-            wait = λ u d. refl;
-            mission = λ u. ap (λ (o : Option centre.Mission). if is_registrar_of line c u then option_map (seen c) o else (alone_off line w).mission u) (put_over t (Some done) (Some without) (w.at c).mission u)
-                ∙ mission_becomes line w c t m (Some done) (option_map (λ (n : line_centre.Mission). record n { is_ended = true; proposal = None }) ((alone_off line w).mission t)) u alone has
-                (sym (ap (option_map (λ (n : line_centre.Mission). record n { is_ended = true; proposal = None })) (mission_here line w c t m alone has)));
-          }));
+          quiet_steps = (
+            refl,
+            shows line w c (made body ended_here) trains (ended t (v body)) (record {
+              mark = λ s. mark_stays line w c s _ (λ _. refl);
+              wish = λ s. wish_stays line w c s _ (λ _. refl);
+              phase = λ u d. put_keeps (λ (j : centre.Centre). j.phase u) w.at c (made body ended_here) refl d;
+              heard = λ u d. put_at_pair (λ (j : centre.Centre). j.heard) w.at c (made body ended_here) t (Some t_train) (λ _. refl) u d;
+              said = λ u d. put_keeps (λ (j : centre.Centre). j.said u) w.at c (made body ended_here) refl d;
+              wait = λ u d. refl;
+              mission = λ u. ap (λ (o : Option centre.Mission). if is_registrar_of line c u then option_map (seen c) o else (alone_off line w).mission u) (put_over t (Some done) (Some without) (w.at c).mission u)
+                  ∙ mission_becomes line w c t m (Some done) (option_map (λ (n : line_centre.Mission). record n { is_ended = true; proposal = None }) ((alone_off line w).mission t)) u alone has
+                  (sym (ap (option_map (λ (n : line_centre.Mission). record n { is_ended = true; proposal = None })) (mission_here line w c t m alone has)));
+            }),
+          );
           says_it = refl;
         }
 

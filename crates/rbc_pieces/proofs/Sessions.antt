@@ -1,27 +1,25 @@
 -- Sessions, train data and rejected requests to shorten.
-use Rattle.std.proofs.Common.{◌≡◌, ℕ, ◌+◌, ◌==◌, Bool, true, false, cond, Option, Some, None, option_map, refl, sym, ap, ◌∙◌, List, [], ◌∷◌, map, length, if◌then◌else◌}
-use Rattle.std.specs.Option.{option_map_or}
-use Rattle.std.specs.List.{filter, range_with_len}
-use Rattle.rbc_spec.specs.Maps.{put, put_pair}
+use Rattle.std.proofs.Common.{◌≡◌, ℕ, ◌+◌, Bool, true, Option, Some, None, option_map, refl, sym, ap, ◌∙◌, List, [], ◌∷◌, map, length, if◌then◌else◌}
+use Rattle.std.specs.List.{range_with_len}
+use Rattle.rbc_spec.specs.Maps.{put}
 use Rattle.rbc_spec.specs.Line.{Line, is_centre}
-use Rattle.rbc_spec.specs.Place.{Place, Position}
-use Rattle.rbc_spec.specs.Message.{TrainBody, TrackBody, TrainData, ShorteningRejected, InitiationOfSession, TerminationOfSession, SessionEstablished, SystemVersion, TerminationAcknowledged, DataAcknowledged, unknown_group}
+use Rattle.rbc_spec.specs.Place.{Position}
+use Rattle.rbc_spec.specs.Message.{TrainBody, TrainData, ShorteningRejected, InitiationOfSession, TerminationOfSession, SessionEstablished, SystemVersion, TerminationAcknowledged, DataAcknowledged, unknown_group}
 use Rattle.rbc_spec.specs.Outcome.{Word, Told, NotSupervised}
 use Rattle.rbc_spec.specs.Centre as centre
 use Rattle.rbc_spec.specs.Acts.{◌>>◌}
 use Rattle.rbc_spec.specs.Step as step
-use Rattle.rbc_spec.specs.LineCentre as line_centre
 use Rattle.rbc_spec.specs.LineCentre.{LineState, change_mission, is_waiting_at, told, saying_of, says, Said, nothing}
-use Rattle.rbc_spec.specs.OwnSteps.{with_phase, session_ends, without_ask, one_message}
+use Rattle.rbc_spec.specs.OwnSteps.{with_phase, session_ends, without_ask}
 use Rattle.rbc_spec.specs.World.{World}
 use Rattle.rbc_spec.specs.ReadOff.{seen}
 use Rattle.rbc_alone.specs.Alone.{IsAlone, alone_off}
 use Rattle.rbc_pieces.specs.Pieces.{with_centre}
 use Rattle.rbc_pieces.proofs.Maps.{put_keeps, put_at_pair, put_over, put_pair_same}
 use Rattle.rbc_pieces.proofs.Ranges.{filter-none}
-use Rattle.rbc_pieces.proofs.Off.{Shows, shows, mark_stays, wish_stays, mission_stays}
+use Rattle.rbc_pieces.proofs.Off.{shows, mark_stays, wish_stays, mission_stays}
 use Rattle.rbc_pieces.proofs.Missions.{some_of, mission_changes, proposal_drops}
-use Rattle.rbc_pieces.proofs.Messages.{Answers, Goes, now, ticked, message, before, reply, left, not_for, message_goes}
+use Rattle.rbc_pieces.proofs.Messages.{Answers, Goes, ticked, message, before, reply, not_for, message_goes}
 
 module _ (line : Line) (w : World) (alone : IsAlone line w) (c t_train t : ℕ) (trains : List ℕ) (at : is_centre line c ≡ true) where
   abbrev k : centre.Centre
@@ -52,15 +50,18 @@ module _ (line : Line) (w : World) (alone : IsAlone line w) (c t_train t : ℕ) 
     sayings_are = refl;
     words_are = refl;
     own_step = record { said_is = refl; new_is = refl };
-    quiet_steps = (refl, shows line w c _ trains (with_phase t c centre.Up (v SessionEstablished)) (record {
-      mark = λ s. mark_stays line w c s _ (λ _. refl);
-      wish = λ s. wish_stays line w c s _ (λ _. refl);
-      phase = λ u d. put_at_pair (λ (j : centre.Centre). j.phase) w.at c _ t centre.Up (λ _. refl) u d;
-      heard = λ u d. put_at_pair (λ (j : centre.Centre). j.heard) w.at c _ t (Some t_train) (λ _. refl) u d;
-      said = λ u d. put_keeps (λ (j : centre.Centre). j.said u) w.at c _ refl d;
-      wait = λ u d. refl;
-      mission = λ u. mission_stays line w c u _ refl;
-    }));
+    quiet_steps = (
+      refl,
+      shows line w c _ trains (with_phase t c centre.Up (v SessionEstablished)) (record {
+        mark = λ s. mark_stays line w c s _ (λ _. refl);
+        wish = λ s. wish_stays line w c s _ (λ _. refl);
+        phase = λ u d. put_at_pair (λ (j : centre.Centre). j.phase) w.at c _ t centre.Up (λ _. refl) u d;
+        heard = λ u d. put_at_pair (λ (j : centre.Centre). j.heard) w.at c _ t (Some t_train) (λ _. refl) u d;
+        said = λ u d. put_keeps (λ (j : centre.Centre). j.said u) w.at c _ refl d;
+        wait = λ u d. refl;
+        mission = λ u. mission_stays line w c u _ refl;
+      }),
+    );
     says_it = refl;
   }
 
@@ -172,15 +173,18 @@ module _ (line : Line) (w : World) (alone : IsAlone line w) (c t_train t : ℕ) 
         sayings_are = refl;
         words_are = refl;
         own_step = record { said_is = refl; new_is = refl };
-        quiet_steps = (refl, shows line w c _ trains shown (record {
-          mark = λ s. mark_stays line w c s _ (λ _. refl);
-          wish = λ s. wish_stays line w c s _ (λ _. refl);
-          phase = λ u d. put_keeps (λ (j : centre.Centre). j.phase u) w.at c _ refl d;
-          heard = λ u d. put_at_pair (λ (j : centre.Centre). j.heard) w.at c _ t (Some t_train) (λ _. refl) u d;
-          said = λ u d. put_at_pair (λ (j : centre.Centre). j.said) w.at c _ t ((w.at c).said t + 1) (λ _. refl) u d;
-          wait = λ u d. refl;
-          mission = λ u. mission_changes line w c t here.0 (λ n. record n { has_data = true }) (λ n. record n { has_data = true }) u alone here.1 refl;
-        }));
+        quiet_steps = (
+          refl,
+          shows line w c _ trains shown (record {
+            mark = λ s. mark_stays line w c s _ (λ _. refl);
+            wish = λ s. wish_stays line w c s _ (λ _. refl);
+            phase = λ u d. put_keeps (λ (j : centre.Centre). j.phase u) w.at c _ refl d;
+            heard = λ u d. put_at_pair (λ (j : centre.Centre). j.heard) w.at c _ t (Some t_train) (λ _. refl) u d;
+            said = λ u d. put_at_pair (λ (j : centre.Centre). j.said) w.at c _ t ((w.at c).said t + 1) (λ _. refl) u d;
+            wait = λ u d. refl;
+            mission = λ u. mission_changes line w c t here.0 (λ n. record n { has_data = true }) (λ n. record n { has_data = true }) u alone here.1 refl;
+          }),
+        );
         says_it = refl;
       }
 
@@ -204,15 +208,18 @@ module _ (line : Line) (w : World) (alone : IsAlone line w) (c t_train t : ℕ) 
         sayings_are = refl;
         words_are = refl;
         own_step = record { said_is = refl; new_is = refl };
-        quiet_steps = (refl, shows line w c _ trains shown (record {
-          mark = λ s. mark_stays line w c s _ (λ _. refl);
-          wish = λ s. wish_stays line w c s _ (λ _. refl);
-          phase = λ u d. put_keeps (λ (j : centre.Centre). j.phase u) w.at c _ refl d;
-          heard = λ u d. put_at_pair (λ (j : centre.Centre). j.heard) w.at c _ t (Some t_train) (λ _. refl) u d;
-          said = λ u d. put_keeps (λ (j : centre.Centre). j.said u) w.at c _ refl d;
-          wait = λ u d. refl;
-          mission = λ u. mission_changes line w c t here.0 (λ n. record n { proposal = None }) (λ n. record n { proposal = None }) u alone here.1 refl;
-        }));
+        quiet_steps = (
+          refl,
+          shows line w c _ trains shown (record {
+            mark = λ s. mark_stays line w c s _ (λ _. refl);
+            wish = λ s. wish_stays line w c s _ (λ _. refl);
+            phase = λ u d. put_keeps (λ (j : centre.Centre). j.phase u) w.at c _ refl d;
+            heard = λ u d. put_at_pair (λ (j : centre.Centre). j.heard) w.at c _ t (Some t_train) (λ _. refl) u d;
+            said = λ u d. put_keeps (λ (j : centre.Centre). j.said u) w.at c _ refl d;
+            wait = λ u d. refl;
+            mission = λ u. mission_changes line w c t here.0 (λ n. record n { proposal = None }) (λ n. record n { proposal = None }) u alone here.1 refl;
+          }),
+        );
         says_it = refl;
       }
 

@@ -1,13 +1,12 @@
 -- The one line centre has the same reasons of silence as centres that have their missions to themselves.
-use Rattle.std.proofs.Common.{◌≡◌, ◌≢◌, ◌⊎◌, ℕ, zero, suc, ◌+◌, ◌-◌, ◌*◌, ◌<◌, ◌≤◌, ◌==◌, ◌&&◌, ◌||◌, not, Bool, true, false, cond, Option, Some, None, option_map, is_none, is_some, refl, sym, ap, ◌∙◌, inl, inr, List, [], ◌∷◌, length, slice_get, arith, nat_le}
+use Rattle.std.proofs.Common.{◌≡◌, ℕ, zero, suc, ◌+◌, ◌-◌, ◌*◌, ◌<◌, ◌==◌, ◌&&◌, not, Bool, true, false, Option, Some, None, option_map, is_none, is_some, refl, sym, ap, ◌∙◌, inl, inr, List, [], ◌∷◌, length, slice_get, arith, nat_le}
 use Rattle.std.specs.Option.{option_map_or, option_and_then}
-use Rattle.std.specs.List.{find, list_any, range_with_len}
-use Rattle.std.proofs.lemmas.Bool.{and_parts, both_ways}
+use Rattle.std.specs.List.{find}
 use Rattle.std.proofs.lemmas.Bool.Decides.{eqb_tells}
-use Rattle.rbc_spec.specs.Runs.{Run, within, behind}
+use Rattle.rbc_spec.specs.Runs.{within, behind}
 use Rattle.rbc_spec.specs.Line.{Line, Section, section, end, registrar}
 use Rattle.rbc_spec.specs.Sections.{is_on}
-use Rattle.rbc_spec.specs.Place.{Place, Position, group_start}
+use Rattle.rbc_spec.specs.Place.{Position, group_start}
 use Rattle.rbc_spec.specs.Message.{TrainMessage, TrainBody, TrainData, Request, Report, ShorteningGranted, ShorteningRejected, EndOfMission, InitiationOfSession, TerminationOfSession, StartOfMission, SessionEstablished}
 use Rattle.rbc_spec.specs.Outcome.{Reason, StaleStamp, NoSession, ForeignEngine, NoPlace, NotSupervised, NoTrainData, ProposalPending, Unasked, MissionEnded, WrongPhase}
 use Rattle.rbc_spec.specs.Centre as centre
@@ -19,9 +18,9 @@ use Rattle.rbc_spec.specs.Step as step
 use Rattle.rbc_spec.specs.World.{World}
 use Rattle.rbc_spec.specs.Run as run
 use Rattle.rbc_spec.specs.ReadOff.{seen}
-use Rattle.rbc_alone.specs.Alone.{IsAloneAt, IsAlone, alone_off}
-use Rattle.rbc_pieces.proofs.Ranges.{within_true, within_from, within_before, within_after, find-range, any-range_none, never}
-use Rattle.rbc_pieces.proofs.Off.{registrar_of_mission, mission_at_registrar, given_is_hand}
+use Rattle.rbc_alone.specs.Alone.{IsAlone, alone_off}
+use Rattle.rbc_pieces.proofs.Ranges.{within_true, within_from, within_after, find-range, any-range_none}
+use Rattle.rbc_pieces.proofs.Off.{mission_at_registrar, given_is_hand}
 
 is_at_itself : (c : ℕ) → is_at c (line_centre.At c) ≡ true
 is_at_itself c = elim (eqb_tells c c) [ inl e ↦ e.0 | inr e ↦ absurd (e.1 refl) ]
@@ -74,8 +73,8 @@ module _ (line : Line) (w : World) (alone : IsAlone line w) (c t : ℕ) where
       let given : (s : ℕ) → is_given_to t (v.mark s) ≡ within m.hand s = given_is_hand line w c t m alone has in
       let in_hand : within m.hand last ≡ true = within_from m.hand last (omega (arith, alone_m.some)) (omega (arith, alone_m.some)) in
       let is_last : (is_given_to t (v.mark last) && not (is_given_to t (v.mark (last + 1)))) ≡ true =
-          let after : within m.hand (last + 1) ≡ false = within_after m.hand (last + 1) (omega (arith, alone_m.some)) in
-          rw (given last ∙ in_hand, given (last + 1) ∙ after) refl
+      let after : within m.hand (last + 1) ≡ false = within_after m.hand (last + 1) (omega (arith, alone_m.some)) in
+      rw (given last ∙ in_hand, given (last + 1) ∙ after) refl
       in
       find-range (λ s. is_given_to t (v.mark s) && not (is_given_to t (v.mark (s + 1)))) 0 (length line.sections) last (omega arith)
       (omega (arith, on_line line m.place.track last (alone_m.on_track last in_hand))) is_last

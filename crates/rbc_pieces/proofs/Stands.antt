@@ -1,21 +1,18 @@
 -- What is read off centres that have their missions to themselves stands for them.
-use Rattle.std.proofs.Common.{◌≡◌, ◌⊎◌, ℕ, zero, suc, ◌+◌, ◌<◌, ◌≤◌, ◌==◌, Bool, true, false, cond, Option, Some, None, option_map, refl, sym, ap, ◌∙◌, inl, inr, List, [], ◌∷◌, ◌++◌, length, map, drop, slice_get, subst, arith}
+use Rattle.std.proofs.Common.{◌≡◌, ℕ, zero, suc, ◌==◌, Bool, true, false, Option, Some, None, option_map, refl, sym, ap, ◌∙◌, inl, inr, List, [], ◌∷◌, drop, subst, arith}
 use Rattle.std.specs.Option.{option_map_or, option_and_then}
-use Rattle.std.specs.List.{find, filter_map, flat_map, range_with_len, Contains, All, AllByRecursion}
-use Rattle.std.proofs.lemmas.Bool.{both_ways}
+use Rattle.std.specs.List.{find, filter_map, flat_map, Contains}
 use Rattle.std.proofs.lemmas.Bool.Decides.{eqb_tells}
-use Rattle.std.proofs.lemmas.List.Elements.{recursion_from_All}
 use Rattle.rbc_spec.specs.Runs.{Run, within}
-use Rattle.rbc_spec.specs.Line.{Line, IsLine, Section, Train, section, is_home, registrar}
+use Rattle.rbc_spec.specs.Line.{Line, Section, section, is_home, registrar}
 use Rattle.rbc_spec.specs.Frame.{Frame}
 use Rattle.rbc_spec.specs.Centre as centre
 use Rattle.rbc_spec.specs.Centre.{is_registrar_of, is_taken_for, is_used_for}
 use Rattle.rbc_spec.specs.LineCentre as line_centre
 use Rattle.rbc_spec.specs.LineCentre.{LineState, Mark, is_given_to}
 use Rattle.rbc_spec.specs.World.{World, way}
-use Rattle.rbc_spec.specs.ReadOff.{read_off, mark_of, held_at, handed_over, frames_on_way, held, holder, centres_of, Held, seen, StandsFor, HasMission, IsOnTheWay, IsHandOf, IsMissionOf, at_centre as hand_at_centre, on_the_way, supervised, parted, IsGiven, HasMark}
-use Rattle.rbc_alone.specs.Alone.{IsAloneAt, IsAlone, hand_has, mark_alone, alone_off}
-use Rattle.rbc_pieces.proofs.Ranges.{never}
+use Rattle.rbc_spec.specs.ReadOff.{seen, StandsFor, IsOnTheWay, IsHandOf, IsMissionOf, at_centre as hand_at_centre, on_the_way, supervised, parted, IsGiven, HasMark}
+use Rattle.rbc_alone.specs.Alone.{IsAlone, hand_has, mark_alone, alone_off}
 use Rattle.rbc_pieces.proofs.Off.{mark_at_home, wish_at_home, given_is, registrar_of_mission, mission_at_registrar, hand_is_home}
 
 -- ## Nothing is under way

@@ -1,11 +1,11 @@
 -- A start of mission is a piece of the one line centre's run. Where the rules would let it wait for its right at another centre than the
 -- train's registrar, it waits and is dismissed.
-use Rattle.std.proofs.Common.{◌≡◌, ℕ, ◌+◌, ◌==◌, ◌&&◌, not, Bool, true, false, cond, Option, Some, None, option_map, is_none, is_some, refl, sym, ap, ◌∙◌, List, [], ◌∷◌, map, length, if◌then◌else◌, inl, inr, subst}
+use Rattle.std.proofs.Common.{◌≡◌, ℕ, ◌+◌, ◌&&◌, not, Bool, true, false, Option, Some, None, option_map, is_none, is_some, refl, sym, ap, ◌∙◌, List, [], ◌∷◌, map, length, if◌then◌else◌, inl, subst}
 use Rattle.std.specs.Option.{option_map_or}
-use Rattle.std.specs.List.{filter, list_all, range_with_len}
+use Rattle.std.specs.List.{filter, range_with_len}
 use Rattle.std.proofs.lemmas.Bool.{and_parts}
 use Rattle.rbc_spec.specs.Maps.{put, put_pair}
-use Rattle.rbc_spec.specs.Runs.{Run, within}
+use Rattle.rbc_spec.specs.Runs.{within}
 use Rattle.rbc_spec.specs.Line.{Line, is_centre, is_home}
 use Rattle.rbc_spec.specs.Place.{Place, Position, covered}
 use Rattle.rbc_spec.specs.Message.{TrainBody, StartOfMission, TrainAccepted, TrainRejected, unknown_group}
@@ -14,21 +14,20 @@ use Rattle.rbc_spec.specs.Centre as centre
 use Rattle.rbc_spec.specs.Centre.{is_open, is_free, is_unused, is_registrar_of}
 use Rattle.rbc_spec.specs.Acts.{◌>>◌, begun}
 use Rattle.rbc_spec.specs.Rules.{all_of, fit_place}
-use Rattle.rbc_spec.specs.Step as step
 use Rattle.rbc_spec.specs.LineCentre as line_centre
 use Rattle.rbc_spec.specs.LineCentre.{LineState, Mark, is_given_to, is_mark_open, is_waiting_at, supervises, free, told, says, saying_of, Said, nothing}
 use Rattle.rbc_spec.specs.OwnSteps.{Starts, Rejects, may_start, waits, begins, restarted}
-use Rattle.rbc_spec.specs.Quiet.{Quiet, Dismiss, TakesAll, both}
+use Rattle.rbc_spec.specs.Quiet.{Dismiss, TakesAll}
 use Rattle.rbc_spec.specs.World.{World}
 use Rattle.rbc_spec.specs.ReadOff.{seen}
-use Rattle.rbc_alone.specs.Alone.{IsAlone, mark_alone, alone_off}
+use Rattle.rbc_alone.specs.Alone.{IsAlone, alone_off}
 use Rattle.rbc_pieces.specs.Pieces.{with_centre}
 use Rattle.rbc_pieces.proofs.Maps.{put_keeps, put_at_pair, put_pair_there, put_pair_back}
-use Rattle.rbc_pieces.proofs.Ranges.{filter-none, each_within, never}
-use Rattle.rbc_pieces.proofs.Off.{Shows, shows, mark_stays, wish_stays, mission_stays, mission_put, mark_at_home, wish_at_home, given_is_hand, mission_at_registrar}
-use Rattle.rbc_pieces.proofs.Missions.{mission_changes, mission_here}
+use Rattle.rbc_pieces.proofs.Ranges.{filter-none, each_within}
+use Rattle.rbc_pieces.proofs.Off.{shows, mark_stays, wish_stays, mission_stays, mission_put, wish_at_home, given_is_hand, mission_at_registrar}
+use Rattle.rbc_pieces.proofs.Missions.{mission_changes}
 use Rattle.rbc_pieces.proofs.Books.{booked_marks, free_is_open, supervises_is}
-use Rattle.rbc_pieces.proofs.Messages.{Answers, Goes, now, ticked, message, before, reply, left, not_for, message_goes}
+use Rattle.rbc_pieces.proofs.Messages.{Answers, Goes, ticked, before, reply, left, message_goes}
 
 -- ## A start that waits and is dismissed
 
@@ -207,15 +206,18 @@ module _ (line : Line) (w : World) (alone : IsAlone line w) (c t_train t : ℕ) 
             sayings_are = rw (fit) (rw (has) (rw inside refl));
             words_are = rw (fit) (rw (has) (rw inside refl));
             own_step = rw (fit) (rw (supervised) (rw (in_hand_is ∙ inside) (record { said_is = refl; new_is = refl })));
-            quiet_steps = (refl, shows line w c (made state) trains shown (record {
-              mark = λ s. mark_stays line w c s _ (λ _. refl);
-              wish = λ s. wish_stays line w c s _ (λ _. refl);
-              phase = λ u d. put_keeps (λ (j : centre.Centre). j.phase u) w.at c (made state) refl d;
-              heard = λ u d. put_at_pair (λ (j : centre.Centre). j.heard) w.at c (made state) t (Some t_train) (λ _. refl) u d;
-              said = λ u d. put_at_pair (λ (j : centre.Centre). j.said) w.at c (made state) t ((w.at c).said t + 1) (λ _. refl) u d;
-              wait = λ u d. refl;
-              mission = λ u. mission_changes line w c t m change (λ n. record n { place = place; has_data = false; is_ended = false; proposal = None }) u alone has refl;
-            }));
+            quiet_steps = (
+              refl,
+              shows line w c (made state) trains shown (record {
+                mark = λ s. mark_stays line w c s _ (λ _. refl);
+                wish = λ s. wish_stays line w c s _ (λ _. refl);
+                phase = λ u d. put_keeps (λ (j : centre.Centre). j.phase u) w.at c (made state) refl d;
+                heard = λ u d. put_at_pair (λ (j : centre.Centre). j.heard) w.at c (made state) t (Some t_train) (λ _. refl) u d;
+                said = λ u d. put_at_pair (λ (j : centre.Centre). j.said) w.at c (made state) t ((w.at c).said t + 1) (λ _. refl) u d;
+                wait = λ u d. refl;
+                mission = λ u. mission_changes line w c t m change (λ n. record n { place = place; has_data = false; is_ended = false; proposal = None }) u alone has refl;
+              }),
+            );
             says_it = refl;
           }
 
@@ -280,15 +282,18 @@ module _ (line : Line) (w : World) (alone : IsAlone line w) (c t_train t : ℕ) 
               sayings_are = rw (fit) (rw (has_none) (rw is_all_free (rw (here) (rw right refl))));
               words_are = rw (fit) (rw (has_none) (rw is_all_free (rw (here) (rw right refl))));
               own_step = rw (fit) (rw (unsupervised) (rw (may_is ∙ is_all_free) (rw here (inl (no_mission, record { said_is = refl; new_is = refl })))));
-              quiet_steps = (refl, shows line w c (made state) trains shown (record {
-                mark = λ s. booked_marks line w c t (covered line place) each_free s;
-                wish = λ s. wish_stays line w c s _ (λ _. refl);
-                phase = λ u d. put_keeps (λ (j : centre.Centre). j.phase u) w.at c (made state) refl d;
-                heard = λ u d. put_at_pair (λ (j : centre.Centre). j.heard) w.at c (made state) t (Some t_train) (λ _. refl) u d;
-                said = λ u d. put_at_pair (λ (j : centre.Centre). j.said) w.at c (made state) t ((w.at c).said t + 1) (λ _. refl) u d;
-                wait = λ u d. refl;
-                mission = λ u. mission_put line w c t (Some (begun line place)) u here;
-              }));
+              quiet_steps = (
+                refl,
+                shows line w c (made state) trains shown (record {
+                  mark = λ s. booked_marks line w c t (covered line place) each_free s;
+                  wish = λ s. wish_stays line w c s _ (λ _. refl);
+                  phase = λ u d. put_keeps (λ (j : centre.Centre). j.phase u) w.at c (made state) refl d;
+                  heard = λ u d. put_at_pair (λ (j : centre.Centre). j.heard) w.at c (made state) t (Some t_train) (λ _. refl) u d;
+                  said = λ u d. put_at_pair (λ (j : centre.Centre). j.said) w.at c (made state) t ((w.at c).said t + 1) (λ _. refl) u d;
+                  wait = λ u d. refl;
+                  mission = λ u. mission_put line w c t (Some (begun line place)) u here;
+                }),
+              );
               says_it = refl;
             }
           where

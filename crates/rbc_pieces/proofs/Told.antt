@@ -1,15 +1,13 @@
 -- A set and an unset are pieces of the one line centre's run.
-use Rattle.std.proofs.Common.{◌≡◌, ◌≢◌, ℕ, suc, ◌+◌, ◌-◌, ◌*◌, ◌==◌, ◌<◌, ◌≤◌, ◌&&◌, not, nat_le, Bool, true, false, cond, Option, Some, None, option_map, is_none, refl, sym, ap, ◌∙◌, List, [], ◌∷◌, inl, inr, subst, if◌then◌else◌, arith, leb-true}
-use Rattle.std.specs.Option.{option_map_or}
+use Rattle.std.proofs.Common.{◌≡◌, ◌≢◌, ℕ, ◌+◌, ◌-◌, ◌*◌, ◌==◌, ◌&&◌, not, nat_le, Bool, true, false, Option, Some, None, option_map, is_none, refl, sym, ap, ◌∙◌, List, [], ◌∷◌, inl, inr, subst, if◌then◌else◌, arith, leb-true}
 use Rattle.std.proofs.lemmas.Bool.{and_parts, both_ways}
 use Rattle.std.proofs.lemmas.Bool.Decides.{eqb_tells}
 use Rattle.rbc_spec.specs.Maps.{put}
-use Rattle.rbc_spec.specs.Reach.{Alone}
 use Rattle.rbc_spec.specs.Runs.{within}
 use Rattle.rbc_spec.specs.Line.{Line, is_centre, is_home, start}
 use Rattle.rbc_spec.specs.Place.{group_start}
 use Rattle.rbc_spec.specs.Message.{ShorteningRequest}
-use Rattle.rbc_spec.specs.Outcome.{Outcome, Word, Done, Asked, NotHome, Saying}
+use Rattle.rbc_spec.specs.Outcome.{Word, Done, Asked, NotHome}
 use Rattle.rbc_spec.specs.Centre as centre
 use Rattle.rbc_spec.specs.Centre.{is_up}
 use Rattle.rbc_spec.specs.Acts.{Reply, ◌>>◌, may_propose}
@@ -22,11 +20,11 @@ use Rattle.rbc_spec.specs.Quiet.{Quiet, Propose, Proposes, TakesAll, both}
 use Rattle.rbc_spec.specs.World.{World, Event, Set, Unset}
 use Rattle.rbc_spec.specs.Run.{Piece, OwnStep}
 use Rattle.rbc_spec.specs.ReadOff.{seen}
-use Rattle.rbc_alone.specs.Alone.{IsAlone, mark_alone, alone_off, hand_has}
+use Rattle.rbc_alone.specs.Alone.{IsAlone, mark_alone, alone_off}
 use Rattle.rbc_pieces.specs.Pieces.{with_centre}
 use Rattle.rbc_pieces.proofs.Maps.{put_keeps, put_at_pair, put_over}
-use Rattle.rbc_pieces.proofs.Ranges.{within_true, never}
-use Rattle.rbc_pieces.proofs.Off.{Shows, shows, mark_stays, wish_stays, mission_stays, mark_at_home, unused_is, given_is_hand}
+use Rattle.rbc_pieces.proofs.Ranges.{within_true}
+use Rattle.rbc_pieces.proofs.Off.{shows, mark_stays, wish_stays, mission_stays, mark_at_home, unused_is, given_is_hand}
 use Rattle.rbc_pieces.proofs.Stands.{hand_of, taken_there}
 use Rattle.rbc_pieces.proofs.Missions.{mission_here, mission_changes}
 use Rattle.rbc_pieces.proofs.Messages.{unseen}
@@ -278,7 +276,7 @@ module _ (line : Line) (w : World) (alone : IsAlone line w) (c s : ℕ) (trains 
     proposes : may_propose line t s m k ≡ true → Proposes line mid_of t c s proposal_said proposed
     proposes may =
         let halves = and_parts ((is_up ((w.at c).phase t) && not m.is_ended) && is_none m.proposal)
-            (((within m.hand s && not (s == m.hand.first)) && nat_le m.place.front (10 * start line s)) && nat_le (start line s) (group_start line m.place + 32767)) may in
+        (((within m.hand s && not (s == m.hand.first)) && nat_le m.place.front (10 * start line s)) && nat_le (start line s) (group_start line m.place + 32767)) may in
         let one = and_parts (is_up ((w.at c).phase t) && not m.is_ended) (is_none m.proposal) halves.0 in
         let two = and_parts (is_up ((w.at c).phase t)) (not m.is_ended) one.0 in
         let three = and_parts ((within m.hand s && not (s == m.hand.first)) && nat_le m.place.front (10 * start line s)) (nat_le (start line s) (group_start line m.place + 32767)) halves.1 in
@@ -315,15 +313,25 @@ module _ (line : Line) (w : World) (alone : IsAlone line w) (c s : ℕ) (trains 
       sayings_are = rw (home, taken) (rw (has) (rw may refl));
       words_are = rw (home, taken) (rw (has) (rw may refl));
       own_step = (at, rw (home, used) (record { said_is = refl; new_is = refl }), refl);
-      quiet_steps = (proposal_said, nothing, proposed, proposes may, (refl, shows line w c _ trains proposed (record {
-        mark = λ j. mark_stays line w c j _ (λ _. refl);
-        wish = λ j. wish_put true home j;
-        phase = λ u d. put_keeps (λ (x : centre.Centre). x.phase u) w.at c _ refl d;
-        heard = λ u d. put_keeps (λ (x : centre.Centre). x.heard u) w.at c _ refl d;
-        said = λ u d. put_at_pair (λ (x : centre.Centre). x.said) w.at c _ t ((w.at c).said t + 1) (λ _. refl) u d;
-        wait = λ u d. refl;
-        mission = λ u. mission_changes line w c t m (λ n. record n { proposal = Some asks }) (λ n. record n { proposal = Some asks }) u alone has refl;
-      })), refl);
+      quiet_steps = (
+        proposal_said,
+        nothing,
+        proposed,
+        proposes may,
+        (
+          refl,
+          shows line w c _ trains proposed (record {
+            mark = λ j. mark_stays line w c j _ (λ _. refl);
+            wish = λ j. wish_put true home j;
+            phase = λ u d. put_keeps (λ (x : centre.Centre). x.phase u) w.at c _ refl d;
+            heard = λ u d. put_keeps (λ (x : centre.Centre). x.heard u) w.at c _ refl d;
+            said = λ u d. put_at_pair (λ (x : centre.Centre). x.said) w.at c _ t ((w.at c).said t + 1) (λ _. refl) u d;
+            wait = λ u d. refl;
+            mission = λ u. mission_changes line w c t m (λ n. record n { proposal = Some asks }) (λ n. record n { proposal = Some asks }) u alone has refl;
+          }),
+        ),
+        refl,
+      );
       says_it = refl;
     }
 

@@ -1,17 +1,17 @@
 -- Whole lists of events are runs of the one line centre.
-use Rattle.std.proofs.Common.{◌≡◌, ℕ, Bool, true, false, Option, Some, None, option_map, refl, sym, ap, ◌∙◌, List, [], ◌∷◌, Result, Ok, Err, subst}
+use Rattle.std.proofs.Common.{◌≡◌, ℕ, false, Option, Some, None, option_map, refl, List, [], ◌∷◌, Result, Ok, Err, subst}
 use Rattle.std.specs.Option.{option_map_or, option_and_then}
 use Rattle.rbc_spec.specs.Reach.{Alone}
-use Rattle.rbc_spec.specs.Line.{Line, IsLine, Section, section, registrar}
+use Rattle.rbc_spec.specs.Line.{Line, Section, section, registrar}
 use Rattle.rbc_spec.specs.Centre as centre
 use Rattle.rbc_spec.specs.Step.{Refusal}
 use Rattle.rbc_spec.specs.LineCentre as line_centre
 use Rattle.rbc_spec.specs.LineCentre.{LineState, line_beginning}
 use Rattle.rbc_spec.specs.World.{World, Event, Answer, new_world, world_step, world_run, ◌>>=◌}
 use Rattle.rbc_spec.specs.Run.{Run, Goes}
-use Rattle.rbc_spec.specs.ReadOff.{StandsFor, IsLineRun, seen}
+use Rattle.rbc_spec.specs.ReadOff.{IsLineRun, seen}
 use Rattle.rbc_alone.specs.Alone.{IsOrdered, IsAlone, alone_off}
-use Rattle.rbc_pieces.specs.Pieces.{StaysAlone}
+use Rattle.rbc_pieces.specs.Pieces.{KeepsAlone}
 use Rattle.rbc_pieces.proofs.Stands.{alone_stands}
 use Rattle.rbc_pieces.proofs.Events.{event_goes}
 
@@ -40,7 +40,7 @@ bind_ok : {A B : Type 0} (r : Result A Refusal) (next : A → Result B Refusal) 
 bind_ok (Ok x) next y is = (x, refl, is)
 bind_ok (Err why) next y is = cc
 
-module _ (line : Line) (ordered : IsOrdered line) (stays : StaysAlone line) where
+module _ (line : Line) (ordered : IsOrdered line) (stays : KeepsAlone line) where
   -- from a world that is alone the one line centre meets the events with these answers
   pub run_goes : (events : List Event) (w : World) (answers : List Answer) (last : World) → IsAlone line w → world_run Alone line w events ≡ Ok (answers, last) → Run line (alone_off line w) events answers (alone_off line last) × IsAlone line last
   unfolding world_run

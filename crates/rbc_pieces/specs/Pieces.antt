@@ -12,6 +12,6 @@ abbrev pub with_centre : World → ℕ → Centre → List ℕ → World
 with_centre w c k trains = record { at = put w.at c k; trains = trains }
 
 -- missions stay at one centre each: they do at the beginning, and each event leaves it so
-pub record StaysAlone (line : Line) : Type 0 where
+pub record KeepsAlone (line : Line) : Type 0 where
   pub begins : IsAlone line (new_world line)
   pub each : (w new : World) (event : Event) (answer : Answer) → IsAlone line w → world_step Alone line w event ≡ Ok (answer, new) → IsAlone line new
