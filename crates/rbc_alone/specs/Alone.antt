@@ -1,9 +1,9 @@
 -- A centre whose missions no other centre has a part in, and what stays true of it.
-use Rattle.std.specs.Prelude.{◌≡◌, ℕ, ◌≤◌, Bool, true, false, ◌&&◌, List, [], Option, Some, None, option_map, is_none}
+use Rattle.std.specs.Prelude.{◌≡◌, ℕ, ◌≤◌, Bool, true, false, ◌&&◌, [], Option, Some, None, option_map, is_none}
 use Rattle.std.specs.Option.{option_map_or, option_and_then}
 use Rattle.rbc_spec.specs.Runs.{no_run, within}
 use Rattle.rbc_spec.specs.Line.{Line, is_home, section, end, registrar}
-use Rattle.rbc_spec.specs.Sections.{is_on}
+use Rattle.rbc_spec.specs.Sections.{is_on, home_run}
 use Rattle.rbc_spec.specs.Place.{Place, covers, covered}
 use Rattle.rbc_spec.specs.Centre.{Centre, Entry, Mission, is_unused, is_taken_for, is_out_for, is_registrar_of}
 use Rattle.rbc_spec.specs.Centre as centre
@@ -12,9 +12,11 @@ use Rattle.rbc_spec.specs.LineCentre.{LineState, Mark}
 use Rattle.rbc_spec.specs.World.{World}
 use Rattle.rbc_spec.specs.ReadOff.{seen}
 
--- what the order of a line's sections gives: those that a place covers are a run, and on one track the ends rise
+-- what the order of a line's sections gives: those that a place covers are a run, and so are those of one home on a track; on one track
+-- the ends rise
 pub record IsOrdered (line : Line) : Type 0 where
   pub covers_run : (place : Place) (s : ℕ) → within (covered line place) s ≡ covers line place s
+  pub homes_run : (d track s : ℕ) → within (home_run line d track) s ≡ (is_home line d s && is_on line track s)
   pub ends_rise : (track s e : ℕ) → s ≤ e → is_on line track s ≡ true → is_on line track e ≡ true → end line s ≤ end line e
 
 -- the section is in the hand of the mission, if there is one

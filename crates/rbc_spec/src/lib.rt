@@ -1,3 +1,11 @@
 //! What a line, a message, a centre and the one line centre are: the definitions that a reader has to believe.
-//! They stand in `specs/`, in reading order, and name no type of the crates above. There is no code here.
+//! They stand in `specs/`, in reading order, and name no type of the crates above. The functions do nothing and carry laws
+//! of the definitions.
 #![tactic(auto)]
+
+mod laws;
+
+pub use laws::{
+    a_home_is_a_run, a_place_covers_a_run, a_stamp_is_heard_once, one_number_is_next,
+    sections_follow_one_another, what_is_cleared_is_not_covered,
+};

@@ -1,0 +1,11 @@
+pub mod Simple
+pub mod Ordered
+pub mod Stays
+pub mod Entries
+pub mod Hands
+pub mod Changes
+pub mod Fits
+pub mod Missions
+pub mod Reports
+pub mod Steps
+pub mod Worlds

@@ -1,0 +1,95 @@
+-- Each world that begins and runs with missions at one centre each is alone.
+use Rattle.std.proofs.Common.{◌≡◌, ℕ, ◌-◌, Bool, true, false, List, [], ◌∷◌, Option, Some, None, Result, Ok, Err, if◌then◌else◌, slice_get, refl, sym, ap, ◌∙◌, subst, ◌==◌}
+use Rattle.std.specs.Option.{option_map_or}
+use Rattle.rbc_spec.specs.Maps.{put}
+use Rattle.rbc_spec.specs.Reach.{Alone}
+use Rattle.rbc_spec.specs.Line.{Line, is_centre}
+use Rattle.rbc_spec.specs.Frame.{Frame}
+use Rattle.rbc_spec.specs.Outcome.{Outcome}
+use Rattle.rbc_spec.specs.Centre.{Centre}
+use Rattle.rbc_spec.specs.Step as centre
+use Rattle.rbc_spec.specs.Step.{Refusal, step, refusal, taken}
+use Rattle.rbc_spec.specs.World.{World, Event, Bytes, Set, Unset, Delivery, Answer, NoCentre, NotSent, new_world, frame_sent, mention, stepped, at_centre, takes, world_step, world_run, ◌>>=◌}
+use Rattle.rbc_alone.specs.Alone.{IsOrdered, IsAloneAt, IsAlone}
+use Rattle.rbc_alone.specs.Stays.{StaysAlone}
+use Rattle.rbc_alone.proofs.Ordered.{begins_alone}
+use Rattle.rbc_alone.proofs.Stays.{put_here, put_other, by_same}
+use Rattle.rbc_alone.proofs.Steps.{train_stays, set_step_stays, unset_step_stays}
+
+pub new_alone : (line : Line) → IsAlone line (new_world line)
+unfolding new_world
+new_alone line = record { each = λ c. begins_alone line c }
+
+-- the world of an answer
+abbrev world_of : World → Result (Answer × World) Refusal → World
+world_of w (Ok x) = x.1
+world_of w (Err why) = w
+
+module _ (line : Line) (w : World) (alone : IsAlone line w) where
+  -- one centre has changed, and is alone still
+  pub put_alone : (c : ℕ) (k : Centre) (trains : List ℕ) → IsAloneAt line c k → IsAlone line (record { at = put w.at c k; trains = trains })
+  put_alone c k trains h = record {
+    each = λ d. by_same d c
+        (λ here. subst (λ e. IsAloneAt line e (put w.at c k d)) (sym here) (subst (IsAloneAt line c) (sym (put_here w.at c d k here)) h))
+        (λ apart. subst (IsAloneAt line d) (sym (put_other w.at c d k apart)) (alone.each d));
+  }
+
+  -- the world behind an answer is alone
+  abbrev LeavesAlone : Result (Answer × World) Refusal → Type 0
+  LeavesAlone r = (answer : Answer) (new : World) → r ≡ Ok (answer, new) → IsAlone line new
+
+  stands_still : (answer : Answer) → LeavesAlone (Ok (answer, w))
+  stands_still answer other new is = subst (IsAlone line) (ap (λ r. world_of w r) is) alone
+
+  stepped_alone : (c : ℕ) (trains : List ℕ) (o : Option Refusal) (x : Outcome × Centre) → IsAloneAt line c x.1
+      → LeavesAlone (stepped w c trains (option_map_or (λ why. Err why) o (Ok x)))
+  stepped_alone c trains (Some why) x h answer new is = cc
+  stepped_alone c trains None x h answer new is = subst (IsAlone line) (ap (λ r. world_of w r) is) (put_alone c x.1 trains h)
+
+  takes_alone : (c : ℕ) (trains : List ℕ) (event : centre.Event) → StaysAlone line c (w.at c) event → LeavesAlone (takes Alone line w c trains event)
+  unfolding step
+  takes_alone c trains event stays = stepped_alone c trains (refusal line c (w.at c) event) (taken Alone line c event (w.at c)) stays.state
+
+  at_alone : (c : ℕ) (done : Result (Answer × World) Refusal) → LeavesAlone done → LeavesAlone (at_centre line w c done)
+  at_alone c done h = chosen (is_centre line c)
+    where
+      chosen : (b : Bool) → LeavesAlone (if b then done else Ok (NoCentre, w))
+      chosen true = h
+      chosen false = stands_still NoCentre
+
+  -- no frame was sent, so none is delivered
+  pub none_delivered : (a b number : ℕ) → frame_sent w a b number ≡ None
+  none_delivered a b number = either (number == 0) ∙ ap (λ (frames : List Frame). slice_get frames (number - 1)) ((alone.each a).none_sent b)
+    where
+      either : (z : Bool) → (if z then None else slice_get ((w.at a).sent b) (number - 1)) ≡ slice_get ((w.at a).sent b) (number - 1)
+      either true = sym (ap (λ (frames : List Frame). slice_get frames (number - 1)) ((alone.each a).none_sent b))
+      either false = refl
+
+  pub world_step_alone : IsOrdered line → (event : Event) → LeavesAlone (world_step Alone line w event)
+  unfolding world_step
+  world_step_alone ordered (Bytes c (Ok m)) = at_alone c _ (takes_alone c (mention line m.nid_engine w.trains) (centre.Train m) (train_stays line c ordered (w.at c) m (alone.each c)))
+  world_step_alone ordered (Bytes c (Err number)) = at_alone c _ (stands_still _)
+  world_step_alone ordered (Set c s) = at_alone c _ (takes_alone c w.trains (centre.Set s) (set_step_stays line c (w.at c) s (alone.each c)))
+  world_step_alone ordered (Unset c s) = at_alone c _ (takes_alone c w.trains (centre.Unset s) (unset_step_stays line c (w.at c) s (alone.each c)))
+  world_step_alone ordered (Delivery a b number) = λ answer new is. stands_still NotSent answer new
+      (sym (ap (λ o. option_map_or (λ f. takes Alone line w b w.trains (centre.Deliver a f)) o (Ok (NotSent, w))) (none_delivered a b number)) ∙ is)
+
+pub bind_ok : {A B : Type 0} (r : Result A Refusal) (next : A → Result B Refusal) (y : B) → (r >>= next) ≡ Ok y → (x : A) × (r ≡ Ok x) × (next x ≡ Ok y)
+bind_ok (Ok x) next y is = (x, refl, is)
+bind_ok (Err why) next y is = cc
+
+-- the world of the answers
+abbrev last_of : World → Result (List Answer × World) Refusal → World
+last_of w (Ok x) = x.1
+last_of w (Err why) = w
+
+-- a run from a world that is alone
+pub run_alone : (line : Line) → IsOrdered line → (events : List Event) (w : World) → IsAlone line w → (answers : List Answer) (last : World)
+    → world_run Alone line w events ≡ Ok (answers, last) → IsAlone line last
+unfolding world_run
+run_alone line ordered [] w alone answers last is = subst (IsAlone line) (ap (λ r. last_of w r) is) alone
+run_alone line ordered (event ∷ events) w alone answers last is =
+    let first = bind_ok (world_step Alone line w event) _ (answers, last) is in
+    let others = bind_ok (world_run Alone line first.0.1 events) _ (answers, last) first.2 in
+    subst (IsAlone line) (ap (λ r. last_of w r) others.2)
+    (run_alone line ordered events first.0.1 (world_step_alone line w alone ordered event first.0.0 first.0.1 first.1) others.0.0 others.0.1 others.1)

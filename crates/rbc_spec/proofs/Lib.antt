@@ -1,0 +1,3 @@
+pub mod Convex
+pub mod Sums
+pub mod Places

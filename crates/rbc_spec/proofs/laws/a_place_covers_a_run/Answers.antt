@@ -1,0 +1,5 @@
+use Rattle.rbc_spec.proofs.Places.{covers_run}
+use Rattle.rbc_spec.proofs.laws.a_place_covers_a_run.Goals as goal
+
+pub returns : goal.returns
+returns c = covers_run

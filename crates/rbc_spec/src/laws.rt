@@ -1,0 +1,44 @@
+//! What the definitions come to where a reader would look twice. The functions do nothing: each contract is a law of the definitions.
+
+ghost use Rattle.std.specs.Prelude.{◌≡◌, ℕ, ◌+◌, ◌<◌, ◌≤◌, ◌&&◌, true, false, Some, None};
+ghost use Rattle.rbc_spec.specs.Line.{Line, IsLine, is_home, start, end};
+ghost use Rattle.rbc_spec.specs.Sections.{is_on, home_run};
+ghost use Rattle.rbc_spec.specs.Runs.{within};
+ghost use Rattle.rbc_spec.specs.Place.{Place, covers, covered, is_cleared};
+ghost use Rattle.rbc_spec.specs.Outcome.{Next, Old, Early};
+ghost use Rattle.rbc_spec.specs.Step.{is_stale, offered};
+
+/// On one track a section ends at or before the start of each later one, so that starts and ends rise.
+pub fn sections_follow_one_another()
+    ensures ends { (line : Line) (track s e : ℕ) → is_on line track s ≡ true → is_on line track e ≡ true → s ≤ e → end line s ≤ end line e }
+    ensures before { (line : Line) (track s e : ℕ) → is_on line track s ≡ true → is_on line track e ≡ true → s < e → end line s ≤ start line e }
+{}
+
+/// What a place covers is a run: the sections between two of them are covered too, on every line.
+pub fn a_place_covers_a_run()
+    ensures { (line : Line) (place : Place) (s : ℕ) → IsLine line → within (covered line place) s ≡ covers line place s }
+{}
+
+/// The sections of one home on one track are a run.
+pub fn a_home_is_a_run()
+    ensures { (line : Line) (d track s : ℕ) → IsLine line → within (home_run line d track) s ≡ (is_home line d s && is_on line track s) }
+{}
+
+/// A section that a train has cleared is none that it covers.
+pub fn what_is_cleared_is_not_covered()
+    ensures { (line : Line) (place : Place) (s : ℕ) → is_cleared line place s ≡ true → covers line place s ≡ false }
+{}
+
+/// A message that comes late or again is stale, and a later one is not.
+pub fn a_stamp_is_heard_once()
+    ensures first { (stamp : ℕ) → is_stale stamp None ≡ false }
+    ensures again { (stamp last : ℕ) → stamp ≤ last → is_stale stamp (Some last) ≡ true }
+    ensures later { (stamp last : ℕ) → last < stamp → is_stale stamp (Some last) ≡ false }
+{}
+
+/// Behind so many frames one number is the next, those up to it are old, and those past it come too early.
+pub fn one_number_is_next()
+    ensures next { (count : ℕ) → offered count (count + 1) ≡ Next }
+    ensures old { (count number : ℕ) → number ≤ count → offered count number ≡ Old }
+    ensures early { (count number : ℕ) → count + 1 < number → offered count number ≡ Early }
+{}
