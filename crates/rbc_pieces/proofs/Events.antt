@@ -12,11 +12,8 @@ use Rattle.rbc_spec.specs.Step.{Refusal}
 use Rattle.rbc_spec.specs.LineCentre.{LineState}
 use Rattle.rbc_spec.specs.World.{World, Event, Bytes, Set, Unset, Delivery, Answer, Answered, NoCentre, NotSent, Fault, world_step, takes, stepped, mention, frame_sent}
 use Rattle.rbc_spec.specs.Run.{Piece, Goes}
-use Rattle.rbc_spec.specs.ReadOff.{read_off}
-use Rattle.rbc_spec.specs.Line.{IsLine}
 use Rattle.rbc_alone.specs.Alone.{IsOrdered, IsAlone, alone_off}
 use Rattle.rbc_pieces.specs.Pieces.{with_centre}
-use Rattle.rbc_pieces.proofs.ReadOff.{read_off_alone}
 use Rattle.rbc_pieces.proofs.Sessions.{established_goes, opened_goes, ended_goes, data_goes, rejected_goes}
 use Rattle.rbc_pieces.proofs.Starts.{start_goes}
 use Rattle.rbc_pieces.proofs.Grants.{request_goes}
@@ -113,7 +110,3 @@ module _ (line : Line) (ordered : IsOrdered line) (w : World) (alone : IsAlone l
       let sent : ◌≡◌ {A = Result (Answer × World) Refusal} (Ok (NotSent, w)) (Ok (answer, new)) = sym (none_delivered a b number) ∙ e in
       let same : (NotSent, w) ≡ (answer, new) = cc in
       subst (λ (q : Answer × World). Goes line v (Delivery a b number) q.0 (alone_off line q.1)) same refl
-
-  -- the same between what is read off the worlds
-  pub read_goes : (event : Event) (answer : Answer) (new : World) → IsLine line → IsAlone line new → world_step Alone line w event ≡ Ok (answer, new) → Goes line (read_off line w) event answer (read_off line new)
-  read_goes event answer new is_line stays e = rw (read_off_alone line w is_line alone, read_off_alone line new is_line stays) (event_goes event answer new e)

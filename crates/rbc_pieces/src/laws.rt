@@ -1,14 +1,15 @@
 //! Laws of centres whose missions no other centre has a part in.
 
-ghost use Rattle.std.specs.Prelude.{◌≡◌, ℕ, Ok};
+ghost use Rattle.std.specs.Prelude.{◌≡◌, ℕ, List, Ok};
 ghost use Rattle.rbc_spec.specs.Reach.{Alone};
 ghost use Rattle.rbc_spec.specs.Line.{Line, IsLine};
 ghost use Rattle.rbc_spec.specs.Message.{TrainMessage};
 ghost use Rattle.rbc_spec.specs.Step as step;
-ghost use Rattle.rbc_spec.specs.World.{World, Event, Answer, world_step};
+ghost use Rattle.rbc_spec.specs.LineCentre.{line_beginning};
+ghost use Rattle.rbc_spec.specs.World.{World, Event, Answer, new_world, world_step, world_run};
 ghost use Rattle.rbc_spec.specs.Run as run;
-ghost use Rattle.rbc_spec.specs.ReadOff.{StandsFor, read_off};
-ghost use Rattle.rbc_alone.specs.Alone.{IsOrdered, IsAlone, alone_off};
+ghost use Rattle.rbc_spec.specs.ReadOff.{StandsFor, IsLineRun, read_off};
+ghost use Rattle.rbc_alone.specs.Alone.{IsAlone, alone_off};
 
 /// What is read off such centres: a section in use is given to its train, and each train's mission is as its registrar has
 /// it. That state stands for them.
@@ -27,8 +28,18 @@ pub fn same_reasons_of_silence()
 /// Whatever happens to the centres, the one line centre may meet it with the same answer, and goes on from what is read off
 /// them afterwards.
 pub fn each_event_is_a_piece()
-    ensures goes { (line : Line) (w new : World) (event : Event) (answer : Answer) → IsOrdered line → IsAlone line w
-        → world_step Alone line w event ≡ Ok (answer, new) → run.Goes line (alone_off line w) event answer (alone_off line new) }
-    ensures read { (line : Line) (w new : World) (event : Event) (answer : Answer) → IsLine line → IsOrdered line → IsAlone line w → IsAlone line new
+    ensures read { (line : Line) (w new : World) (event : Event) (answer : Answer) → IsLine line → IsAlone line w
         → world_step Alone line w event ≡ Ok (answer, new) → run.Goes line (read_off line w) event answer (read_off line new) }
+    ensures off { (line : Line) (w new : World) (event : Event) (answer : Answer) → IsLine line → IsAlone line w
+        → world_step Alone line w event ≡ Ok (answer, new) → run.Goes line (alone_off line w) event answer (alone_off line new) }
+{}
+
+/// What the centres of a line answer and hold, from the line's beginning on, is a run of the one line centre: where each
+/// mission stays at one centre.
+pub fn each_run_is_the_line_centres()
+    ensures run { (line : Line) (events : List Event) (answers : List Answer) (w : World) → IsLine line
+        → world_run Alone line (new_world line) events ≡ Ok (answers, w) → IsLineRun line events answers w }
+    // It ends in the state that is read off them.
+    ensures last { (line : Line) (events : List Event) (answers : List Answer) (w : World) → IsLine line
+        → world_run Alone line (new_world line) events ≡ Ok (answers, w) → run.Run line line_beginning events answers (read_off line w) }
 {}

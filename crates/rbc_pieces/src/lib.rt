@@ -5,4 +5,6 @@
 
 mod laws;
 
-pub use laws::{each_event_is_a_piece, same_reasons_of_silence, what_is_read_off};
+pub use laws::{
+    each_event_is_a_piece, each_run_is_the_line_centres, same_reasons_of_silence, what_is_read_off,
+};
