@@ -17,3 +17,4 @@ pub mod Reports
 pub mod Cuts
 pub mod Events
 pub mod Whole
+pub mod Runs
