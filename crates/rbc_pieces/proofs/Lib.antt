@@ -9,6 +9,7 @@ pub mod Messages
 pub mod Sessions
 pub mod Told
 pub mod Books
+pub mod Dismissals
 pub mod Starts
 pub mod Grants
 pub mod Leaves
