@@ -1,8 +1,10 @@
 -- What acts leave and say, one after another.
-use Rattle.std.proofs.Common.{◌≡◌, Option, Some, None, List, [], ◌++◌, ap, ◌∙◌}
+use Rattle.std.proofs.Common.{◌≡◌, refl, sym, ◌∷◌, Option, Some, None, List, [], ◌++◌, ap, ◌∙◌}
 use Rattle.std.specs.Option.{option_map_or}
 use Rattle.rbc_spec.specs.Outcome.{Word}
 use Rattle.rbc_spec.specs.Centre.{Centre}
+use Rattle.rbc_spec.specs.LineCentre.{nothing}
+use Rattle.rbc_spec.specs.Quiet.{both}
 use Rattle.rbc_spec.specs.Acts.{Act, ◌>>◌, with_some, rest}
 
 -- from j an act leaves s, and tells these words alone
@@ -39,3 +41,17 @@ without_it value act j none = record {
 -- other words
 pub does_as : (a : Act) (j s : Centre) (words others : List Word) → Does a j s words → words ≡ others → Does a j s others
 does_as a j s words others d same = record { state_is = d.state_is; sayings_are = d.sayings_are; words_are = d.words_are ∙ same }
+
+-- ## Words
+
+pub append_nil : {X : Type 0} (xs : List X) → xs ++ [] ≡ xs
+append_nil [] = refl
+append_nil (x ∷ xs) = ap (λ ys. x ∷ ys) (append_nil xs)
+
+-- acts that say nothing add nothing
+pub words_alone : {X : Type 0} (xs : List X) → (xs ++ []) ++ [] ≡ xs
+words_alone xs = append_nil (xs ++ []) ∙ append_nil xs
+
+-- words alone, and nothing behind them
+pub words_only : (words : List Word) → record { sayings = []; words = words } ≡ both (record { sayings = []; words = words }) nothing
+words_only words = ap (λ (ws : List Word). record { sayings = []; words = ws }) (sym (append_nil words))

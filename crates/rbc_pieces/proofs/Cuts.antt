@@ -23,13 +23,12 @@ use Rattle.rbc_spec.specs.ReadOff.{seen}
 use Rattle.rbc_alone.specs.Alone.{IsAlone, alone_off}
 use Rattle.rbc_pieces.specs.Pieces.{with_centre}
 use Rattle.rbc_pieces.proofs.Maps.{put_keeps, put_at_pair, put_over, put_there}
-use Rattle.rbc_pieces.proofs.Ranges.{within_true, within_from, within_before, stands, same_tests}
+use Rattle.rbc_pieces.proofs.Ranges.{within_from, not_false}
 use Rattle.rbc_pieces.proofs.Off.{shows, mark_stays, wish_stays, mission_put, registrar_of_mission, given_is_hand}
 use Rattle.rbc_pieces.proofs.Missions.{some_of, mission_becomes, mission_here}
-use Rattle.rbc_pieces.proofs.Grants.{not_false, none_within}
-use Rattle.rbc_pieces.proofs.Leaves.{left_marks, left_wishes, left_words, none_given, some_given}
-use Rattle.rbc_pieces.proofs.Reports.{close_is, whole_hand, append_nil, words_alone, words_only}
-use Rattle.rbc_pieces.proofs.Acts.{Does, both_do, with_it, without_it, does_as}
+use Rattle.rbc_pieces.proofs.Leaves.{close_is, left_marks, left_wishes, left_words, none_given, some_given}
+use Rattle.rbc_pieces.proofs.Acts.{append_nil, words_alone, words_only, Does, both_do, with_it, without_it, does_as}
+use Rattle.rbc_pieces.proofs.Tails.{released as cut_is, gone_inside as cut_inside, all_gone as whole_cut, first_kept}
 use Rattle.rbc_pieces.proofs.Messages.{Answers, Goes, ticked, message, before, reply, left, not_for, message_goes}
 
 module _ (line : Line) (w : World) (alone : IsAlone line w) (c t_train t : ℕ) (trains : List ℕ) (at : is_centre line c ≡ true) (asked : ℕ) (position : Position)
@@ -153,47 +152,14 @@ module _ (line : Line) (w : World) (alone : IsAlone line w) (c t_train t : ℕ) 
       abbrev gone : Run
       gone = joined tail m.pool
 
-      gone_is : (s : ℕ) → within gone s ≡ within tail s
-      gone_is s = by_count (tail.count == 0) refl
-        where
-          by_count : (b : Bool) → (tail.count == 0) ≡ b → within gone s ≡ within tail s
-          by_count true none = rw none (ap (λ (r : Run). within r s) ((alone.each c).mission t m has).no_pool ∙ none_within s
-              ∙ sym (within_none_of tail s (eqb-true tail.count 0 none)))
-            where
-              within_none_of : (r : Run) (s : ℕ) → r.count ≡ 0 → within r s ≡ false
-              within_none_of r s none = by_place (stands r s)
-                where
-                  by_place : ((within r s ≡ true) × (r.first ≤ s) × (s < r.first + r.count)) ⊎ ((within r s ≡ false) × ((s < r.first) ⊎ (r.first + r.count ≤ s))) → within r s ≡ false
-                  by_place (inl h) = absurd (let low = h.1 in let high = h.2 in let wrong : ⊥ = omega (arith, low, high, none) in wrong)
-                  by_place (inr h) = h.0
-          by_count false some = ap (λ (r : Run). within r s) (whole_hand tail m.pool ((alone.each c).mission t m has).no_pool some)
-
       abbrev is_released : ℕ → Bool
       is_released s = is_cut_of (alone_off line w) t p.last_kept s
 
-      tail_inside : (s : ℕ) → within tail s ≡ true → within m.hand s ≡ true
-      tail_inside s so = let ends = within_true tail s so in let low = ends.0 in let high = ends.1 in within_from m.hand s (omega (arith, low)) (omega (arith, low, high))
-
-      tail_is : (s : ℕ) → (within m.hand s && nat_lt p.last_kept s) ≡ within tail s
-      tail_is s = same_tests (within m.hand s && nat_lt p.last_kept s) (within tail s) is_tail is_cut
-        where
-          is_tail : (within m.hand s && nat_lt p.last_kept s) ≡ true → within tail s ≡ true
-          is_tail both =
-              let parts = and_parts (within m.hand s) (nat_lt p.last_kept s) both in
-              let ends = within_true m.hand s parts.0 in
-              let past = ltb-true p.last_kept s parts.1 in
-              let low = ends.0 in
-              let high = ends.1 in
-              within_from tail s (omega (arith, low, past)) (omega (arith, low, high, past))
-
-          is_cut : within tail s ≡ true → (within m.hand s && nat_lt p.last_kept s) ≡ true
-          is_cut so = let ends = within_true tail s so in let low = ends.0 in and_from (within m.hand s) (nat_lt p.last_kept s) (tail_inside s so) (lt-ltb p.last_kept s (omega (arith, low)))
-
       released : (s : ℕ) → is_released s ≡ within gone s
-      released s = ap (λ b. b && nat_lt p.last_kept s) (given_is_hand line w c t m alone has s) ∙ tail_is s ∙ sym (gone_is s)
+      released = cut_is line w alone c t m has p.last_kept
 
       gone_inside : (s : ℕ) → within gone s ≡ true → within m.hand s ≡ true
-      gone_inside s so = tail_inside s (sym (gone_is s) ∙ so)
+      gone_inside = cut_inside line w alone c t m has p.last_kept
 
       abbrev is_freed : ℕ → Bool
       is_freed s = (within gone s && is_home line c s) && is_taken_for t (k.book s)
@@ -256,13 +222,7 @@ module _ (line : Line) (w : World) (alone : IsAlone line w) (c t_train t : ℕ) 
 
       module _ (is_all : (tail.count == m.hand.count) ≡ true) where
         all_gone : (s : ℕ) → within m.hand s ≡ true → within gone s ≡ true
-        all_gone s so =
-            let ends = within_true m.hand s so in
-            let low = ends.0 in
-            let high = ends.1 in
-            let same = eqb-true tail.count m.hand.count is_all in
-            let some = ((alone.each c).mission t m has).some in
-            gone_is s ∙ within_from tail s (omega (arith, low, high, same, some)) (omega (arith, low, high, same, some))
+        all_gone = whole_cut line w alone c t m has p.last_kept is_all
 
         abbrev closed : centre.Centre
         closed = cut_off (put (put k.mission t (Some unasked)) t None) (put k.has_right t true)
@@ -301,17 +261,11 @@ module _ (line : Line) (w : World) (alone : IsAlone line w) (c t_train t : ℕ) 
           words_are = rw (on) (rw (in_time) (rw is_part (rw (no_handing) (words_alone freed_words ∙ words_are_those))));
         }
 
-        first_kept : within tail m.hand.first ≡ false
-        first_kept = elim (eqb_tells tail.count m.hand.count) [
-          | inl e ↦ absurd (both_ways (tail.count == m.hand.count) is_part e.0)
-          | inr e ↦ let differ = e.1 in within_before tail m.hand.first (omega (arith, differ))
-        ]
-
         cut_leaves : Answer
         cut_leaves = answer_cut shorter cut_line
             (cut_comes shorter words cuts_part (Some kept) (put_there (put k.mission t (Some unasked)) t (Some kept)) (λ x is. let same : kept ≡ x = cc in sym (ap (λ (n : centre.Mission). n.handing) same) ∙ no_handing))
             (shortened_is ∙ close_is line t cut_line true (some_given line w alone c t m has gone is_released released gone_inside m.hand.first
-            (let some = ((alone.each c).mission t m has).some in within_from m.hand m.hand.first (omega arith) (omega (arith, some))) (gone_is m.hand.first ∙ first_kept)))
+            (let some = ((alone.each c).mission t m has).some in within_from m.hand m.hand.first (omega arith) (omega (arith, some))) (first_kept line w alone c t m has p.last_kept is_part)))
             (cut_shown (put (put k.mission t (Some unasked)) t (Some kept)) k.has_right (Some kept) cut_line.mission (λ u. put_over t (Some kept) (Some unasked) k.mission u) without_mission)
 
       cuts : Answer

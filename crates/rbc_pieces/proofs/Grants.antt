@@ -22,21 +22,11 @@ use Rattle.rbc_spec.specs.OwnSteps.{Ends, off_track, not_free, full, too_far, ma
 use Rattle.rbc_spec.specs.World.{World}
 use Rattle.rbc_alone.specs.Alone.{IsAlone}
 use Rattle.rbc_pieces.proofs.Maps.{put_keeps, put_at_pair}
-use Rattle.rbc_pieces.proofs.Ranges.{within_true, within_from, within_after, all_within, IsLongest, longest_is}
+use Rattle.rbc_pieces.proofs.Ranges.{within_true, within_from, all_within, IsLongest, longest_is, not_false, some_count, none_within}
 use Rattle.rbc_pieces.proofs.Off.{shows, wish_stays, given_is_hand}
 use Rattle.rbc_pieces.proofs.Missions.{some_of, mission_becomes, mission_here}
 use Rattle.rbc_pieces.proofs.Books.{booked_marks, free_is_open}
 use Rattle.rbc_pieces.proofs.Messages.{Answers, Goes, ticked, message, before, not_for, message_goes}
-
-pub not_false : (b : Bool) → not b ≡ false → b ≡ true
-not_false true h = refl
-not_false false h = cc
-
-pub some_count : (n : ℕ) → 1 ≤ n → (n == 0) ≡ false
-some_count n some = elim (eqb_tells n 0) [ inl e ↦ absurd (let same = e.1 in let wrong : ⊥ = omega (arith, same) in wrong) | inr e ↦ e.0 ]
-
-pub none_within : (s : ℕ) → within no_run s ≡ false
-none_within s = within_after no_run s (omega arith)
 
 module _ (line : Line) (w : World) (alone : IsAlone line w) (c t_train t : ℕ) (trains : List ℕ) (at : is_centre line c ≡ true) (position : Position) where
   abbrev body : TrainBody

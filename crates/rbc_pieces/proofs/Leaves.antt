@@ -12,7 +12,7 @@ use Rattle.rbc_spec.specs.Outcome.{Told}
 use Rattle.rbc_spec.specs.Centre as centre
 use Rattle.rbc_spec.specs.Centre.{is_taken_for}
 use Rattle.rbc_spec.specs.LineCentre as line_centre
-use Rattle.rbc_spec.specs.LineCentre.{LineState, Mark, is_given_to, release, told}
+use Rattle.rbc_spec.specs.LineCentre.{LineState, Mark, is_given_to, release, told, set_mission, close_if_empty}
 use Rattle.rbc_spec.specs.OwnSteps.{release_words, is_cleared_of}
 use Rattle.rbc_spec.specs.Rules.{cleared}
 use Rattle.rbc_spec.specs.World.{World}
@@ -126,6 +126,11 @@ module _ (line : Line) (w : World) (alone : IsAlone line w) (c t : ℕ) (m : cen
   some_given s so out = any-range (λ e. is_given_to t ((release line c t is_released v).mark e)) 0 (section_count line) s (omega arith)
       (let below = on_line line m.place.track s (((alone.each c).mission t m has).on_track s so) in omega (arith, below))
       (still_given s ∙ rw (so, out) refl)
+
+-- whether the hand of the train is empty
+pub close_is : (line : Line) (t : ℕ) (v : LineState) (b : Bool) → list_any (λ s. is_given_to t (v.mark s)) (range_with_len 0 (section_count line)) ≡ b
+    → close_if_empty line t v ≡ (if b then v else set_mission t None v)
+close_is line t v b is = ap (λ a. if a then v else set_mission t None v) is
 
 -- ## What is cleared
 

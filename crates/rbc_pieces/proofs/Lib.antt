@@ -15,6 +15,7 @@ pub mod Grants
 pub mod Leaves
 pub mod Acts
 pub mod Reports
+pub mod Tails
 pub mod Cuts
 pub mod Events
 pub mod Whole

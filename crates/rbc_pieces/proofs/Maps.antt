@@ -58,3 +58,7 @@ put_pair_back f t c x y there u d = elim (eqb_tells u t) as (λ _. put_pair (put
   ]
   | inr e ↦ rw (e.0) refl
 ]
+
+-- a number is itself
+pub itself : (t : ℕ) → (t == t) ≡ true
+itself t = elim (eqb_tells t t) [ inl e ↦ e.0 | inr e ↦ absurd (e.1 refl) ]

@@ -1,10 +1,10 @@
 -- Laws of runs of sections, and of the lists of their numbers.
-use Rattle.std.proofs.Common.{◌≡◌, ◌≢◌, ◌⊎◌, ℕ, zero, suc, ◌+◌, ◌-◌, Some, ◌<◌, ◌≤◌, Bool, true, false, nat_le, nat_lt, refl, sym, ap, ◌∙◌, arith, inl, inr, ⊎_elim, List, [], ◌∷◌, ◌++◌, leb-true, ltb-true, le-leb, lt-ltb, le-ltb, subst}
+use Rattle.std.proofs.Common.{◌==◌, not, ◌≡◌, ◌≢◌, ◌⊎◌, ℕ, zero, suc, ◌+◌, ◌-◌, Some, ◌<◌, ◌≤◌, Bool, true, false, nat_le, nat_lt, refl, sym, ap, ◌∙◌, arith, inl, inr, ⊎_elim, List, [], ◌∷◌, ◌++◌, leb-true, ltb-true, le-leb, lt-ltb, le-ltb, subst}
 use Rattle.std.specs.List.{filter, find, list_any, list_all, range_with_len}
 use Rattle.std.proofs.lemmas.Bool.{and_parts, and_from, and_left, and_right, both_ways, lt-leb, cases_lt, cases_eq, cases_Bool, cond-true, cond-false, or_left, or_right}
 use Rattle.std.proofs.lemmas.Bool.Decides.{eqb_tells}
 use Rattle.std.proofs.lemmas.List.Elements.{filter-append}
-use Rattle.rbc_spec.specs.Runs.{Run, within, longest}
+use Rattle.rbc_spec.specs.Runs.{Run, no_run, within, longest, joined}
 use Rattle.rbc_spec.specs.Rules.{all_of}
 
 -- ## Runs
@@ -201,3 +201,22 @@ longest_is test first (suc most) =
           each = λ s low high. absurd (let no : ⊥ = omega arith in no);
           ends = λ more. ap test after ∙ fails;
         })
+
+-- ## No run, and a run joined with it
+
+pub not_false : (b : Bool) → not b ≡ false → b ≡ true
+not_false true h = refl
+not_false false h = cc
+
+pub some_count : (n : ℕ) → 1 ≤ n → (n == 0) ≡ false
+some_count n some = elim (eqb_tells n 0) [ inl e ↦ absurd (let same = e.1 in let wrong : ⊥ = omega (arith, same) in wrong) | inr e ↦ e.0 ]
+
+pub none_within : (s : ℕ) → within no_run s ≡ false
+none_within s = within_after no_run s (omega arith)
+
+-- a hand and no pool
+pub whole_hand : (hand pool : Run) → pool ≡ no_run → (hand.count == 0) ≡ false → joined hand pool ≡ hand
+whole_hand hand pool none some = ap (joined hand) none ∙ rw some (λ i. record { first = hand.first; count = e i })
+  where
+    e : hand.count + 0 ≡ hand.count
+    e = omega arith

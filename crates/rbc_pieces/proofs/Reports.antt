@@ -23,42 +23,15 @@ use Rattle.rbc_spec.specs.World.{World}
 use Rattle.rbc_spec.specs.ReadOff.{seen}
 use Rattle.rbc_alone.specs.Alone.{IsOrdered, IsAlone, alone_off}
 use Rattle.rbc_pieces.specs.Pieces.{with_centre}
-use Rattle.rbc_pieces.proofs.Maps.{put_keeps, put_at_pair, put_over, put_there}
+use Rattle.rbc_pieces.proofs.Maps.{put_keeps, put_at_pair, put_over, put_there, itself}
 use Rattle.rbc_pieces.proofs.Off.{shows, mark_stays, wish_stays, mission_put, registrar_of_mission}
 use Rattle.rbc_pieces.proofs.Missions.{some_of, mission_becomes, mission_here}
 use Rattle.rbc_pieces.proofs.Books.{supervises_is}
-use Rattle.rbc_pieces.proofs.Grants.{some_count}
-use Rattle.rbc_pieces.proofs.Leaves.{left_marks, left_wishes, left_words, none_given, some_given, cleared_inside, cleared_is, all_cleared, some_left}
+use Rattle.rbc_pieces.proofs.Ranges.{some_count, whole_hand}
+use Rattle.rbc_pieces.proofs.Leaves.{close_is, left_marks, left_wishes, left_words, none_given, some_given, cleared_inside, cleared_is, all_cleared, some_left}
 use Rattle.rbc_pieces.proofs.Silence.{report_elsewhere}
-use Rattle.rbc_pieces.proofs.Acts.{Does, both_do, with_it, without_it, does_as}
+use Rattle.rbc_pieces.proofs.Acts.{append_nil, words_alone, words_only, Does, both_do, with_it, without_it, does_as}
 use Rattle.rbc_pieces.proofs.Messages.{Answers, Goes, stamp, ticked, message, before, reply, left, not_for, message_goes}
-
--- whether the hand of the train is empty
-pub close_is : (line : Line) (t : ℕ) (v : LineState) (b : Bool) → list_any (λ s. is_given_to t (v.mark s)) (range_with_len 0 (section_count line)) ≡ b
-    → close_if_empty line t v ≡ (if b then v else set_mission t None v)
-close_is line t v b is = ap (λ a. if a then v else set_mission t None v) is
-
--- a hand and no pool
-pub whole_hand : (hand pool : Run) → pool ≡ no_run → (hand.count == 0) ≡ false → joined hand pool ≡ hand
-whole_hand hand pool none some = ap (joined hand) none ∙ rw some (λ i. record { first = hand.first; count = e i })
-  where
-    e : hand.count + 0 ≡ hand.count
-    e = omega arith
-
-pub append_nil : {X : Type 0} (xs : List X) → xs ++ [] ≡ xs
-append_nil [] = refl
-append_nil (x ∷ xs) = ap (λ ys. x ∷ ys) (append_nil xs)
-
--- acts that say nothing add nothing
-pub words_alone : {X : Type 0} (xs : List X) → (xs ++ []) ++ [] ≡ xs
-words_alone xs = append_nil (xs ++ []) ∙ append_nil xs
-
--- words alone, and nothing behind them
-pub words_only : (words : List Word) → record { sayings = []; words = words } ≡ both (record { sayings = []; words = words }) nothing
-words_only words = ap (λ (ws : List Word). record { sayings = []; words = ws }) (sym (append_nil words))
-
-pub itself : (t : ℕ) → (t == t) ≡ true
-itself t = elim (eqb_tells t t) [ inl e ↦ e.0 | inr e ↦ absurd (e.1 refl) ]
 
 module _ (line : Line) (ordered : IsOrdered line) (w : World) (alone : IsAlone line w) (c t_train t : ℕ) (trains : List ℕ) (at : is_centre line c ≡ true) where
   abbrev k : centre.Centre
