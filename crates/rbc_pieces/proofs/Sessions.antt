@@ -1,0 +1,227 @@
+-- Sessions, train data and rejected requests to shorten.
+use Rattle.std.proofs.Common.{◌≡◌, ℕ, ◌+◌, Bool, true, Option, Some, None, option_map, refl, sym, ap, ◌∙◌, List, [], ◌∷◌, map, length, if◌then◌else◌}
+use Rattle.std.specs.List.{range_with_len}
+use Rattle.rbc_spec.specs.Maps.{put}
+use Rattle.rbc_spec.specs.Line.{Line, is_centre}
+use Rattle.rbc_spec.specs.Place.{Position}
+use Rattle.rbc_spec.specs.Message.{TrainBody, TrainData, ShorteningRejected, InitiationOfSession, TerminationOfSession, SessionEstablished, SystemVersion, TerminationAcknowledged, DataAcknowledged, unknown_group}
+use Rattle.rbc_spec.specs.Outcome.{Word, Told, NotSupervised}
+use Rattle.rbc_spec.specs.Centre as centre
+use Rattle.rbc_spec.specs.Acts.{◌>>◌}
+use Rattle.rbc_spec.specs.Step as step
+use Rattle.rbc_spec.specs.LineCentre.{LineState, change_mission, is_waiting_at, told, saying_of, says, Said, nothing}
+use Rattle.rbc_spec.specs.OwnSteps.{with_phase, session_ends, without_ask}
+use Rattle.rbc_spec.specs.World.{World}
+use Rattle.rbc_spec.specs.ReadOff.{seen}
+use Rattle.rbc_alone.specs.Alone.{IsAlone, alone_off}
+use Rattle.rbc_pieces.specs.Pieces.{with_centre}
+use Rattle.rbc_pieces.proofs.Maps.{put_keeps, put_at_pair, put_over, put_pair_same}
+use Rattle.rbc_pieces.proofs.Ranges.{filter-none}
+use Rattle.rbc_pieces.proofs.Off.{shows, mark_stays, wish_stays, mission_stays}
+use Rattle.rbc_pieces.proofs.Missions.{some_of, mission_changes, proposal_drops}
+use Rattle.rbc_pieces.proofs.Messages.{Answers, Goes, ticked, message, before, reply, not_for, message_goes}
+
+module _ (line : Line) (w : World) (alone : IsAlone line w) (c t_train t : ℕ) (trains : List ℕ) (at : is_centre line c ≡ true) where
+  abbrev k : centre.Centre
+  k = ticked line w alone c t_train t trains at
+
+  abbrev v : TrainBody → LineState
+  v body = before line w alone c t_train t trains at body
+
+  abbrev is_silent : TrainBody → Type 0
+  is_silent body = step.silence line c k (message line w alone c t_train t trains at body) ≡ None
+
+  abbrev Piece_of : TrainBody → Type 0
+  Piece_of body = Goes line w alone c t_train t trains at body
+
+  abbrev Answer : TrainBody → Type 0
+  Answer body = Answers line w alone c t_train t trains at body
+
+  established : Answer SessionEstablished
+  unfolding ◌>>◌
+  established = record {
+    state = (reply line w alone c t_train t trains at SessionEstablished).state;
+    said = nothing;
+    own = nothing;
+    mid = with_phase t c centre.Up (v SessionEstablished);
+    quiets = [];
+    later = nothing;
+    state_is = refl;
+    sayings_are = refl;
+    words_are = refl;
+    own_step = record { said_is = refl; new_is = refl };
+    quiet_steps = (
+      refl,
+      shows line w c _ trains (with_phase t c centre.Up (v SessionEstablished)) (record {
+        mark = λ s. mark_stays line w c s _ (λ _. refl);
+        wish = λ s. wish_stays line w c s _ (λ _. refl);
+        phase = λ u d. put_at_pair (λ (j : centre.Centre). j.phase) w.at c _ t centre.Up (λ _. refl) u d;
+        heard = λ u d. put_at_pair (λ (j : centre.Centre). j.heard) w.at c _ t (Some t_train) (λ _. refl) u d;
+        said = λ u d. put_keeps (λ (j : centre.Centre). j.said u) w.at c _ refl d;
+        wait = λ u d. refl;
+        mission = λ u. mission_stays line w c u _ refl;
+      }),
+    );
+    says_it = refl;
+  }
+
+  pub established_goes : Piece_of SessionEstablished
+  established_goes = message_goes line w alone c t_train t trains at SessionEstablished (λ _. established)
+
+  -- ## A session opens or closes
+
+  none_told : (body : TrainBody) → told line (is_waiting_at line (v body) t c) (v body) ≡ []
+  none_told body = ap (map (λ s. Told s)) (filter-none (range_with_len 0 (length line.sections)))
+
+  -- the centre after a session ended, with another phase, and one message said
+  abbrev closed : (ℕ → centre.Phase) → centre.Centre
+  closed phase = record k {
+    heard = put k.heard t (Some t_train);
+    phase = phase;
+    mission = put k.mission t (option_map (λ (m : centre.Mission). record m { proposal = None }) (k.mission t));
+    said = put k.said t (k.said t + 1);
+  }
+
+  abbrev closed_line : centre.Phase → TrainBody → LineState
+  closed_line phase body = says t c (with_phase t c phase (session_ends line t c (v body)))
+
+  -- whatever the centre has sent
+  closed_shown : (body : TrainBody) (phase : centre.Phase) (phases : ℕ → centre.Phase) (new : centre.Centre) → ((u : ℕ) → phases u ≡ put (w.at c).phase t phase u)
+      → new.book ≡ (closed phases).book → new.wish ≡ (closed phases).wish → new.phase ≡ phases → new.heard ≡ (closed phases).heard → new.said ≡ (closed phases).said → new.mission ≡ (closed phases).mission
+      → alone_off line (with_centre w c new trains) ≡ closed_line phase body
+  closed_shown body phase phases new is book wish phase_is heard said mission = shows line w c new trains (closed_line phase body) (record {
+    mark = λ s. mark_stays line w c s (new.book s) (λ _. ap (λ (f : ℕ → centre.Entry). f s) book);
+    wish = λ s. wish_stays line w c s (new.wish s) (λ _. ap (λ (f : ℕ → Bool). f s) wish);
+    phase = λ u d. put_at_pair (λ (j : centre.Centre). j.phase) w.at c new t phase (λ n. ap (λ (f : ℕ → centre.Phase). f n) phase_is ∙ is n) u d;
+    heard = λ u d. put_at_pair (λ (j : centre.Centre). j.heard) w.at c new t (Some t_train) (λ n. ap (λ (f : ℕ → Option ℕ). f n) heard) u d;
+    said = λ u d. put_at_pair (λ (j : centre.Centre). j.said) w.at c new t ((w.at c).said t + 1) (λ n. ap (λ (f : ℕ → ℕ). f n) said) u d;
+    wait = λ u d. sym (put_pair_same (λ _ _. None) t c None refl u d);
+    mission = λ u. mission_stays_as u (ap (λ (f : ℕ → Option centre.Mission). f u) mission) ∙ proposal_drops line w c t u alone;
+  })
+    where
+      mission_stays_as : (u : ℕ) {o x : Option centre.Mission} → o ≡ x
+          → (if centre.is_registrar_of line c u then option_map (seen c) o else (alone_off line w).mission u) ≡ (if centre.is_registrar_of line c u then option_map (seen c) x else (alone_off line w).mission u)
+      mission_stays_as u e = ap (λ (o : Option centre.Mission). if centre.is_registrar_of line c u then option_map (seen c) o else (alone_off line w).mission u) e
+
+  opened : Answer InitiationOfSession
+  unfolding ◌>>◌
+  opened =
+      let said : Said = record { sayings = saying_of t c unknown_group SystemVersion (v InitiationOfSession) ∷ []; words = [] } in
+      record {
+        state = closed (put (put k.phase t centre.Silent) t centre.Opened);
+        said = said;
+        own = said;
+        mid = closed_line centre.Opened InitiationOfSession;
+        quiets = [];
+        later = nothing;
+        state_is = rw ((alone.each c).no_wait t) refl;
+        sayings_are = rw ((alone.each c).no_wait t) refl;
+        words_are = rw ((alone.each c).no_wait t) refl;
+        own_step = record {
+          said_is = ap (λ (words : List Word). record { sayings = saying_of t c unknown_group SystemVersion (v InitiationOfSession) ∷ []; words = words }) (sym (none_told InitiationOfSession));
+          new_is = refl;
+        };
+        quiet_steps = (refl, closed_shown InitiationOfSession centre.Opened (put (put k.phase t centre.Silent) t centre.Opened) _ (put_over t centre.Opened centre.Silent (w.at c).phase) refl refl refl refl refl refl);
+        says_it = refl;
+      }
+
+  pub opened_goes : Piece_of InitiationOfSession
+  opened_goes = message_goes line w alone c t_train t trains at InitiationOfSession (λ _. opened)
+
+  ended : Answer TerminationOfSession
+  unfolding ◌>>◌
+  ended =
+      let said : Said = record { sayings = saying_of t c unknown_group TerminationAcknowledged (v TerminationOfSession) ∷ []; words = [] } in
+      record {
+        state = closed (put k.phase t centre.Silent);
+        said = said;
+        own = said;
+        mid = closed_line centre.Silent TerminationOfSession;
+        quiets = [];
+        later = nothing;
+        state_is = rw ((alone.each c).no_wait t) refl;
+        sayings_are = rw ((alone.each c).no_wait t) refl;
+        words_are = rw ((alone.each c).no_wait t) refl;
+        own_step = record {
+          said_is = ap (λ (words : List Word). record { sayings = saying_of t c unknown_group TerminationAcknowledged (v TerminationOfSession) ∷ []; words = words }) (sym (none_told TerminationOfSession));
+          new_is = refl;
+        };
+        quiet_steps = (refl, closed_shown TerminationOfSession centre.Silent (put k.phase t centre.Silent) _ (λ u. refl) refl refl refl refl refl refl);
+        says_it = refl;
+      }
+
+  pub ended_goes : Piece_of TerminationOfSession
+  ended_goes = message_goes line w alone c t_train t trains at TerminationOfSession (λ _. ended)
+
+  -- ## Train data, and a rejected request to shorten
+
+  data_heard : (position : Position) → is_silent (TrainData position) → Answer (TrainData position)
+  unfolding ◌>>◌
+  data_heard position h =
+      let body : TrainBody = TrainData position in
+      let here = some_of ((w.at c).mission t) (not_for line w alone c t_train t trains at body 4 NotSupervised h refl) in
+      let said : Said = record { sayings = saying_of t c unknown_group (DataAcknowledged t_train) (v body) ∷ []; words = [] } in
+      let shown : LineState = says t c (change_mission t (λ n. record n { has_data = true }) (v body)) in
+      record {
+        state = (reply line w alone c t_train t trains at body).state;
+        said = said;
+        own = said;
+        mid = shown;
+        quiets = [];
+        later = nothing;
+        state_is = refl;
+        sayings_are = refl;
+        words_are = refl;
+        own_step = record { said_is = refl; new_is = refl };
+        quiet_steps = (
+          refl,
+          shows line w c _ trains shown (record {
+            mark = λ s. mark_stays line w c s _ (λ _. refl);
+            wish = λ s. wish_stays line w c s _ (λ _. refl);
+            phase = λ u d. put_keeps (λ (j : centre.Centre). j.phase u) w.at c _ refl d;
+            heard = λ u d. put_at_pair (λ (j : centre.Centre). j.heard) w.at c _ t (Some t_train) (λ _. refl) u d;
+            said = λ u d. put_at_pair (λ (j : centre.Centre). j.said) w.at c _ t ((w.at c).said t + 1) (λ _. refl) u d;
+            wait = λ u d. refl;
+            mission = λ u. mission_changes line w c t here.0 (λ n. record n { has_data = true }) (λ n. record n { has_data = true }) u alone here.1 refl;
+          }),
+        );
+        says_it = refl;
+      }
+
+  pub data_goes : (position : Position) → Piece_of (TrainData position)
+  data_goes position = message_goes line w alone c t_train t trains at (TrainData position) (data_heard position)
+
+  rejected : (asked : ℕ) (position : Position) → is_silent (ShorteningRejected asked position) → Answer (ShorteningRejected asked position)
+  unfolding ◌>>◌
+  rejected asked position h =
+      let body : TrainBody = ShorteningRejected asked position in
+      let here = some_of ((w.at c).mission t) (not_for line w alone c t_train t trains at body 4 NotSupervised h refl) in
+      let shown : LineState = without_ask t (v body) in
+      record {
+        state = (reply line w alone c t_train t trains at body).state;
+        said = nothing;
+        own = nothing;
+        mid = shown;
+        quiets = [];
+        later = nothing;
+        state_is = refl;
+        sayings_are = refl;
+        words_are = refl;
+        own_step = record { said_is = refl; new_is = refl };
+        quiet_steps = (
+          refl,
+          shows line w c _ trains shown (record {
+            mark = λ s. mark_stays line w c s _ (λ _. refl);
+            wish = λ s. wish_stays line w c s _ (λ _. refl);
+            phase = λ u d. put_keeps (λ (j : centre.Centre). j.phase u) w.at c _ refl d;
+            heard = λ u d. put_at_pair (λ (j : centre.Centre). j.heard) w.at c _ t (Some t_train) (λ _. refl) u d;
+            said = λ u d. put_keeps (λ (j : centre.Centre). j.said u) w.at c _ refl d;
+            wait = λ u d. refl;
+            mission = λ u. mission_changes line w c t here.0 (λ n. record n { proposal = None }) (λ n. record n { proposal = None }) u alone here.1 refl;
+          }),
+        );
+        says_it = refl;
+      }
+
+  pub rejected_goes : (asked : ℕ) (position : Position) → Piece_of (ShorteningRejected asked position)
+  rejected_goes asked position = message_goes line w alone c t_train t trains at (ShorteningRejected asked position) (rejected asked position)

@@ -1,0 +1,153 @@
+-- What is read off centres that have their missions to themselves stands for them.
+use Rattle.std.proofs.Common.{◌≡◌, ℕ, zero, suc, ◌==◌, Bool, true, false, Option, Some, None, option_map, refl, sym, ap, ◌∙◌, inl, inr, List, [], ◌∷◌, drop, subst, arith}
+use Rattle.std.specs.Option.{option_map_or, option_and_then}
+use Rattle.std.specs.List.{find, filter_map, flat_map, Contains}
+use Rattle.std.proofs.lemmas.Bool.Decides.{eqb_tells}
+use Rattle.rbc_spec.specs.Runs.{Run, within}
+use Rattle.rbc_spec.specs.Line.{Line, Section, section, is_home, registrar}
+use Rattle.rbc_spec.specs.Frame.{Frame}
+use Rattle.rbc_spec.specs.Centre as centre
+use Rattle.rbc_spec.specs.Centre.{is_registrar_of, is_taken_for, is_used_for}
+use Rattle.rbc_spec.specs.LineCentre as line_centre
+use Rattle.rbc_spec.specs.LineCentre.{LineState, Mark, is_given_to}
+use Rattle.rbc_spec.specs.World.{World, way}
+use Rattle.rbc_spec.specs.ReadOff.{seen, StandsFor, IsOnTheWay, IsHandOf, IsMissionOf, at_centre as hand_at_centre, on_the_way, supervised, parted, IsGiven, HasMark}
+use Rattle.rbc_alone.specs.Alone.{IsAlone, hand_has, mark_alone, alone_off}
+use Rattle.rbc_pieces.proofs.Off.{mark_at_home, wish_at_home, given_is, registrar_of_mission, mission_at_registrar, hand_is_home}
+
+-- ## Nothing is under way
+
+drop-nil : {X : Type 0} (n : ℕ) → ◌≡◌ {A = List X} (drop n []) []
+drop-nil zero = refl
+drop-nil (suc n) = refl
+
+pub filter_map-none : {X Y : Type 0} (xs : List X) → filter_map {Y = Y} (λ _. None) xs ≡ []
+filter_map-none [] = refl
+filter_map-none (x ∷ xs) = filter_map-none xs
+
+pub flat_map-none : {X Y : Type 0} (f : X → List Y) (xs : List X) → ((x : X) → f x ≡ []) → flat_map f xs ≡ []
+flat_map-none f [] none = refl
+flat_map-none f (x ∷ xs) none = rw (none x) (flat_map-none f xs none)
+
+pub find-none : {X : Type 0} (test : X → Bool) (xs : List X) → ((x : X) → test x ≡ false) → find test xs ≡ None
+find-none test [] none = refl
+find-none test (x ∷ xs) none = rw (none x) (find-none test xs none)
+
+-- ## Sections and trains
+
+taken_is : (entry : centre.Entry) (t : ℕ) → is_taken_for t entry ≡ true → entry ≡ centre.Taken t
+taken_is centre.Shut t h = cc
+taken_is centre.Open t h = cc
+taken_is (centre.Taken u) t h = elim (eqb_tells u t) [ inl e ↦ ap (λ (x : ℕ). centre.Taken x) (e.1) | inr e ↦ absurd (let wrong : true ≡ false = sym h ∙ e.0 in cc) ]
+taken_is (centre.Out u d) t h = cc
+
+pub taken_there : (t : ℕ) → is_taken_for t (centre.Taken t) ≡ true
+taken_there t = elim (eqb_tells t t) [ inl e ↦ e.0 | inr e ↦ absurd (e.1 refl) ]
+
+given_is_only : (entry : centre.Entry) (t : ℕ) → is_used_for t entry ≡ true → mark_alone entry ≡ line_centre.Given t
+given_is_only centre.Shut t h = cc
+given_is_only centre.Open t h = cc
+given_is_only (centre.Taken u) t h = elim (eqb_tells u t) [ inl e ↦ ap (λ (x : ℕ). line_centre.Given x) (e.1) | inr e ↦ absurd (let wrong : true ≡ false = sym h ∙ e.0 in cc) ]
+given_is_only (centre.Out u d) t h = elim (eqb_tells u t) [ inl e ↦ ap (λ (x : ℕ). line_centre.Given x) (e.1) | inr e ↦ absurd (let wrong : true ≡ false = sym h ∙ e.0 in cc) ]
+
+given_there : (t : ℕ) → is_given_to t (line_centre.Given t) ≡ true
+given_there t = elim (eqb_tells t t) [ inl e ↦ e.0 | inr e ↦ absurd (e.1 refl) ]
+
+-- a section has one home
+pub one_home : (line : Line) (c d s : ℕ) → is_home line c s ≡ true → is_home line d s ≡ true → c ≡ d
+one_home line c d s = by_section (section line s)
+  where
+    by_section : (o : Option Section) → option_map_or (λ p. p.home == c) o false ≡ true → option_map_or (λ p. p.home == d) o false ≡ true → c ≡ d
+    by_section None a b = cc
+    by_section (Some p) a b = elim (eqb_tells p.home c) [
+      | inr e ↦ absurd (let wrong : true ≡ false = sym a ∙ e.0 in cc)
+      | inl e ↦ elim (eqb_tells p.home d) [ inr g ↦ absurd (let wrong : true ≡ false = sym b ∙ g.0 in cc) | inl g ↦ sym (e.1) ∙ g.1 ]
+    ]
+
+-- a hand that has a section is of a mission
+pub hand_of : (mission : Option centre.Mission) (s : ℕ) → hand_has mission s ≡ true → (m : centre.Mission) × (mission ≡ Some m) × (within m.hand s ≡ true)
+hand_of None s h = cc
+hand_of (Some m) s h = (m, refl, h)
+
+pub two_takers : (t u : ℕ) → ◌≡◌ {A = centre.Entry} (centre.Taken t) (centre.Taken u) → t ≡ u
+two_takers t u h = cc
+
+module _ (line : Line) (w : World) (alone : IsAlone line w) where
+  -- ## Hands
+
+  pub no_way : (a b : ℕ) → way w a b ≡ []
+  no_way a b = ap (drop ((w.at b).taken a)) ((alone.each a).none_sent b) ∙ drop-nil ((w.at b).taken a)
+
+  none_under_way : (a b : ℕ) (f : Frame) → IsOnTheWay w a b f → ⊥
+  none_under_way a b f on =
+      let found : Contains [] f = subst (λ (fs : List Frame). Contains fs f) (no_way a b) on.on_way in
+      let wrong : ⊥ = omega (arith, found.1) in
+      wrong
+
+  taken_in_hand : (d t s : ℕ) (m : centre.Mission) → (w.at d).mission t ≡ Some m → within m.hand s ≡ true → (w.at d).book s ≡ centre.Taken t
+  taken_in_hand d t s m has so = taken_is ((w.at d).book s) t ((alone.each d).taken s t ∙ ap (λ (o : Option centre.Mission). hand_has o s) has ∙ so)
+
+  -- the section is in the train's hand at its home
+  record IsHeld (t s : ℕ) : Type 0 where
+    d : ℕ
+    home : is_home line d s ≡ true
+    taken : (w.at d).book s ≡ centre.Taken t
+
+  held_of_given : (t s : ℕ) → IsGiven w t s → IsHeld t s
+  held_of_given t s given = by_hand given.hand given.of_train given.in_hand
+    where
+      by_hand : (hand : Run) → IsHandOf w t hand → within hand s ≡ true → IsHeld t s
+      by_hand hand (hand_at_centre d m has is) so =
+          let inside : within m.hand s ≡ true = ap (λ (r : Run). within r s) is ∙ so in
+          record { d = d; home = hand_is_home line d t (w.at d) m (alone.each d) has.at_centre s inside; taken = taken_in_hand d t s m has.at_centre inside }
+      by_hand hand (on_the_way a b f h x e p on carries) so = absurd (none_under_way a b f on)
+
+  taken_at : (t s c : ℕ) → is_home line c s ≡ true → IsGiven w t s → (w.at c).book s ≡ centre.Taken t
+  taken_at t s c home given =
+      let h = held_of_given t s given in
+      ap (λ (d : ℕ). (w.at d).book s) (one_home line c h.d s home h.home) ∙ h.taken
+
+  given_of_taken : (t s c : ℕ) → is_taken_for t ((w.at c).book s) ≡ true → IsGiven w t s
+  given_of_taken t s c so =
+      let h = hand_of ((w.at c).mission t) s (sym ((alone.each c).taken s t) ∙ so) in
+      record { hand = h.0.hand; of_train = hand_at_centre c h.0 (record { at_centre = h.1 }) refl; in_hand = h.2 }
+
+  -- ## What stands for the world
+
+  has_mark : (s c : ℕ) → is_home line c s ≡ true → HasMark w s c (mark_alone ((w.at c).book s))
+  has_mark s c home = record {
+    given = λ t g. let is = taken_at t s c home g in (ap mark_alone is, ap (is_used_for t) is ∙ taken_there t);
+    only_given = λ t is. given_of_taken t s c (sym (given_is ((w.at c).book s) t ((alone.each c).not_out s t)) ∙ ap (is_given_to t) is ∙ given_there t);
+    kept = λ t used. inl (given_is_only ((w.at c).book s) t used);
+    opened = λ is. ap mark_alone is;
+    shut = λ is. ap mark_alone is;
+  }
+
+  mission_of : (t : ℕ) (m : line_centre.Mission) → (alone_off line w).mission t ≡ Some m → IsMissionOf w t m
+  mission_of t m = by_registrar (registrar line t)
+    where
+      by_mission : (r : ℕ) (o : Option centre.Mission) → (w.at r).mission t ≡ o → option_map (seen r) o ≡ Some m → IsMissionOf w t m
+      by_mission r None has is = cc
+      by_mission r (Some n) has is = let same : seen r n ≡ m = cc in subst (IsMissionOf w t) same (supervised r n (record { at_centre = has }))
+
+      by_registrar : (o : Option ℕ) → option_and_then (λ r. option_map (seen r) ((w.at r).mission t)) o ≡ Some m → IsMissionOf w t m
+      by_registrar None is = cc
+      by_registrar (Some r) is = by_mission r ((w.at r).mission t) refl is
+
+  each_mission_of : (t : ℕ) (m : line_centre.Mission) → IsMissionOf w t m → (alone_off line w).mission t ≡ Some m
+  each_mission_of t _ (supervised c m has) =
+      mission_at_registrar line w c t (registrar_of_mission line c t (w.at c) m (alone.each c) has.at_centre) ∙ ap (option_map (seen c)) has.at_centre
+  each_mission_of t _ (parted a b f h d e p hand on carries) = absurd (none_under_way a b f on)
+
+  pub alone_stands : StandsFor line w (alone_off line w)
+  alone_stands = record {
+    phase = λ t c. refl;
+    heard = λ t c. refl;
+    said = λ t c. refl;
+    wait = λ t c. sym ((alone.each c).no_wait t);
+    wish = λ s c h. wish_at_home line w c s h;
+    mark = λ s c h. subst (HasMark w s c) (sym (mark_at_home line w c s h)) (has_mark s c h);
+    mission = mission_of;
+    each_mission = each_mission_of;
+    one_hand = λ t u s a b. let h = held_of_given t s a in two_takers t u (sym h.taken ∙ taken_at u s h.d h.home b);
+  }

@@ -1,0 +1,14 @@
+use Rattle.std.proofs.Common.{sym, subst}
+use Rattle.rbc_spec.specs.ReadOff.{StandsFor}
+use Rattle.rbc_pieces.proofs.Stands.{alone_stands}
+use Rattle.rbc_pieces.proofs.ReadOff.{read_off_alone}
+use Rattle.rbc_pieces.proofs.laws.what_is_read_off.Goals as goal
+
+pub returns-clause-read : goal.returns-clause-read
+returns-clause-read c = read_off_alone
+
+pub returns-clause-stands : goal.returns-clause-stands
+returns-clause-stands c line w ok alone = subst (StandsFor line w) (sym (read_off_alone line w ok alone)) (alone_stands line w alone)
+
+pub returns-clause-stands_off : goal.returns-clause-stands_off
+returns-clause-stands_off c = alone_stands

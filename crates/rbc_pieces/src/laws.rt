@@ -1,0 +1,45 @@
+//! Laws of centres whose missions no other centre has a part in.
+
+ghost use Rattle.std.specs.Prelude.{◌≡◌, ℕ, List, Ok};
+ghost use Rattle.rbc_spec.specs.Reach.{Alone};
+ghost use Rattle.rbc_spec.specs.Line.{Line, IsLine};
+ghost use Rattle.rbc_spec.specs.Message.{TrainMessage};
+ghost use Rattle.rbc_spec.specs.Step as step;
+ghost use Rattle.rbc_spec.specs.LineCentre.{line_beginning};
+ghost use Rattle.rbc_spec.specs.World.{World, Event, Answer, new_world, world_step, world_run};
+ghost use Rattle.rbc_spec.specs.Run as run;
+ghost use Rattle.rbc_spec.specs.ReadOff.{StandsFor, IsLineRun, read_off};
+ghost use Rattle.rbc_alone.specs.Alone.{IsAlone, alone_off};
+
+/// What is read off such centres: a section in use is given to its train, and each train's mission is as its registrar has
+/// it. That state stands for them.
+pub fn what_is_read_off()
+    ensures read { (line : Line) (w : World) → IsLine line → IsAlone line w → read_off line w ≡ alone_off line w }
+    ensures stands { (line : Line) (w : World) → IsLine line → IsAlone line w → StandsFor line w (read_off line w) }
+    ensures stands_off { (line : Line) (w : World) → IsAlone line w → StandsFor line w (alone_off line w) }
+{}
+
+/// The one line centre leaves a train's message without an answer for the same reason as the centre that it comes to.
+pub fn same_reasons_of_silence()
+    ensures { (line : Line) (w : World) (c stamp : ℕ) (m : TrainMessage) → IsAlone line w
+        → run.silence line (alone_off line w) c m ≡ step.silence line c (step.ticked stamp (w.at c)) m }
+{}
+
+/// Whatever happens to the centres, the one line centre may meet it with the same answer, and goes on from what is read off
+/// them afterwards.
+pub fn each_event_is_a_piece()
+    ensures read { (line : Line) (w new : World) (event : Event) (answer : Answer) → IsLine line → IsAlone line w
+        → world_step Alone line w event ≡ Ok (answer, new) → run.Goes line (read_off line w) event answer (read_off line new) }
+    ensures off { (line : Line) (w new : World) (event : Event) (answer : Answer) → IsLine line → IsAlone line w
+        → world_step Alone line w event ≡ Ok (answer, new) → run.Goes line (alone_off line w) event answer (alone_off line new) }
+{}
+
+/// What the centres of a line answer and hold, from the line's beginning on, is a run of the one line centre: where each
+/// mission stays at one centre.
+pub fn each_run_is_the_line_centres()
+    ensures run { (line : Line) (events : List Event) (answers : List Answer) (w : World) → IsLine line
+        → world_run Alone line (new_world line) events ≡ Ok (answers, w) → IsLineRun line events answers w }
+    // It ends in the state that is read off them.
+    ensures last { (line : Line) (events : List Event) (answers : List Answer) (w : World) → IsLine line
+        → world_run Alone line (new_world line) events ≡ Ok (answers, w) → run.Run line line_beginning events answers (read_off line w) }
+{}
