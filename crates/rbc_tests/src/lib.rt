@@ -2,6 +2,8 @@
 #![tactic(auto)]
 
 #[cfg(test)]
+mod authority;
+#[cfg(test)]
 mod bits;
 #[cfg(test)]
 mod book;
@@ -16,6 +18,8 @@ mod codec_shown;
 #[cfg(test)]
 mod codec_values;
 #[cfg(test)]
+mod hand;
+#[cfg(test)]
 mod line;
 #[cfg(test)]
 mod line_faults;
@@ -23,6 +27,10 @@ mod line_faults;
 mod log;
 #[cfg(test)]
 mod node;
+#[cfg(test)]
+mod place;
+#[cfg(test)]
+mod right;
 #[cfg(test)]
 mod sessions;
 #[cfg(test)]

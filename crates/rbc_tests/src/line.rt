@@ -24,9 +24,64 @@ engine = 2
 registrar = \"B\"
 ";
 
+/// Four sections of centre A, and then four of centre B.
+pub const EIGHT_SECTIONS: &str = "nid_c = 5
+[[centre]]
+name = \"A\"
+nid_rbc = 1
+[[centre]]
+name = \"B\"
+nid_rbc = 2
+[[track]]
+name = \"main\"
+section = [
+  { length = 1000, home = \"A\", balise = 100 },
+  { length = 1000, home = \"A\", balise = 101 },
+  { length = 1000, home = \"A\", balise = 102 },
+  { length = 1000, home = \"A\", balise = 103 },
+  { length = 1000, home = \"B\", balise = 104 },
+  { length = 1000, home = \"B\", balise = 105 },
+  { length = 1000, home = \"B\", balise = 106 },
+  { length = 1000, home = \"B\", balise = 107 },
+]
+[[train]]
+engine = 1
+registrar = \"A\"
+[[train]]
+engine = 2
+registrar = \"B\"
+";
+
 pub fn two_centres(alloc: Global) -> Result<Line, Fail> {
+    accepted(alloc, TWO_CENTRES)
+}
+
+pub fn eight_sections(alloc: Global) -> Result<Line, Fail> {
+    accepted(alloc, EIGHT_SECTIONS)
+}
+
+/// Sections of one length, all of centre A.
+pub fn equal_sections(alloc: Global, count: u8, metres: u16) -> Result<Line, Fail> {
+    let (head, rows) = TWO_CENTRES
+        .split_once("section = [")
+        .ok_or("there are sections")?;
+    let (_rows, tail) = rows.split_once("\n]").ok_or("they end")?;
+    let mut text = format!(in alloc; "{head}section = [")?;
+    for k in 0..count {
+        let balise = 100 + u16::from(k);
+        write!(
+            text,
+            "\n  {{ length = {metres}, home = \"A\", balise = {balise} }},"
+        )?;
+    }
+    text.push_str("\n]")?;
+    text.push_str(tail)?;
+    accepted(alloc, text.as_str())
+}
+
+fn accepted(alloc: Global, text: &str) -> Result<Line, Fail> {
     Ok(
-        Line::from_toml(alloc, TWO_CENTRES)
+        Line::from_toml(alloc, text)
             .ok()
             .ok_or("the line file is accepted")?,
     )

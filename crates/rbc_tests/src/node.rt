@@ -1,4 +1,4 @@
-use crate::line::two_centres;
+use crate::line::{eight_sections, two_centres};
 use rbc_centre::{Event, Word};
 use rbc_line::Line;
 use rbc_log::CentreLog;
@@ -7,34 +7,6 @@ use std::alloc::Global;
 use std::sync::atomic::{AtomicBool, AtomicU32, Ordering};
 use std::test::*;
 use std::thread;
-
-/// Four sections of centre A, and then four of centre B.
-const EIGHT_SECTIONS: &str = "nid_c = 5
-[[centre]]
-name = \"A\"
-nid_rbc = 1
-[[centre]]
-name = \"B\"
-nid_rbc = 2
-[[track]]
-name = \"main\"
-section = [
-  { length = 1000, home = \"A\", balise = 100 },
-  { length = 1000, home = \"A\", balise = 101 },
-  { length = 1000, home = \"A\", balise = 102 },
-  { length = 1000, home = \"A\", balise = 103 },
-  { length = 1000, home = \"B\", balise = 104 },
-  { length = 1000, home = \"B\", balise = 105 },
-  { length = 1000, home = \"B\", balise = 106 },
-  { length = 1000, home = \"B\", balise = 107 },
-]
-[[train]]
-engine = 1
-registrar = \"A\"
-[[train]]
-engine = 2
-registrar = \"B\"
-";
 
 const A: u8 = 0;
 
@@ -142,9 +114,7 @@ impl Gate for Held {
 
 #[test]
 fn a_commit_of_one_centre_waits_for_no_other(rt: HostRuntime) -> Result<(), Fail> {
-    let line = Line::from_toml(rt.alloc(), EIGHT_SECTIONS)
-        .ok()
-        .ok_or("the line file is accepted")?;
+    let line = eight_sections(rt.alloc())?;
     let (a, b) = both(rt.alloc(), &line)?;
     let mut of_a = a.share();
     let mut of_b = b.share();
