@@ -15,6 +15,7 @@ mod codec_faults;
 mod codec_shown;
 #[cfg(test)]
 mod codec_values;
+pub mod draws;
 #[cfg(test)]
 mod line;
 #[cfg(test)]
