@@ -3,6 +3,7 @@
 use crate::codec_faults::{TRACK_FAULTS, TRAIN_FAULTS};
 use crate::codec_shown::{show_track, show_train};
 use crate::codec_values::{TRACK, TRAIN};
+use crate::draws::Draws;
 use rbc_bits::BitReader;
 use rbc_msgs::{
     EncodeFault, TrainBody, TrainMsg, decode_track, decode_train, encode_track, encode_train,
@@ -88,11 +89,9 @@ fn a_message_has_at_most_1023_bytes(rt: HostRuntime) -> Result<(), Fail> {
 
 #[test]
 fn bytes_at_random_are_refused_or_written_again(rt: HostRuntime) -> Result<(), Fail> {
-    let mut draws = Draws {
-        state: 88_172_645_463_325_252,
-    };
+    let mut draws = Draws::new(88_172_645_463_325_252);
     for _ in 0..100_000 {
-        let bytes = draws.bytes(rt.alloc())?;
+        let bytes = drawn_bytes(rt.alloc(), &mut draws)?;
         comes_again(rt.alloc(), &bytes)?;
     }
     Ok(())
@@ -100,10 +99,10 @@ fn bytes_at_random_are_refused_or_written_again(rt: HostRuntime) -> Result<(), F
 
 #[test]
 fn messages_at_random_are_refused_or_written_again(rt: HostRuntime) -> Result<(), Fail> {
-    let mut draws = Draws { state: 1_234_567 };
+    let mut draws = Draws::new(1_234_567);
     for _ in 0..100_000 {
-        let mut bytes = draws.bytes(rt.alloc())?;
-        let number = draws.number();
+        let mut bytes = drawn_bytes(rt.alloc(), &mut draws)?;
+        let number = drawn_number(&mut draws);
         let l_message = bytes.len() as u64;
         if let Some(first) = bytes.get_mut(0) {
             *first = number;
@@ -169,56 +168,41 @@ fn bytes_of(alloc: Global, text: &str) -> Result<Vec<u8>, Fail> {
     Ok(hex::decode(alloc, text).ok().ok_or("it is hexadecimal")?)
 }
 
-// A row of numbers that look drawn by lot, the same in each run.
-#[derive(Drop)]
-struct Draws {
-    state: u64,
+// 0 to 1 100 bytes, half of the time fewer than 64.
+fn drawn_bytes(alloc: Global, draws: &mut Draws) -> Result<Vec<u8>, Fail> {
+    let most = if draws.below(2) == 0 { 64 } else { 1101 };
+    let count = draws.below(most);
+    let mut bytes = Vec::new(alloc);
+    for _ in 0..count / 8 + 1 {
+        bytes
+            .extend_from_slice(&draws.next().to_be_bytes())
+            .ok()
+            .ok_or("memory")?;
+    }
+    bytes.truncate(count as usize);
+    Ok(bytes)
 }
 
-impl Draws {
-    fn next(&mut self) -> u64 {
-        self.state ^= self.state << 13;
-        self.state ^= self.state >> 7;
-        self.state ^= self.state << 17;
-        self.state
-    }
-
-    // 0 to 1 100 bytes, half of the time fewer than 64.
-    fn bytes(&mut self, alloc: Global) -> Result<Vec<u8>, Fail> {
-        let most = if self.next() % 2 == 0 { 64 } else { 1101 };
-        let count = self.next() % most;
-        let mut bytes = Vec::new(alloc);
-        for _ in 0..count / 8 + 1 {
-            bytes
-                .extend_from_slice(&self.next().to_be_bytes())
-                .ok()
-                .ok_or("memory")?;
-        }
-        bytes.truncate(count as usize);
-        Ok(bytes)
-    }
-
-    // NID_MESSAGE of a message that is read.
-    fn number(&mut self) -> u8 {
-        match self.next() % 18 {
-            0 => 129,
-            1 => 132,
-            2 => 136,
-            3 => 137,
-            4 => 138,
-            5 => 150,
-            6 => 155,
-            7 => 156,
-            8 => 157,
-            9 => 159,
-            10 => 3,
-            11 => 8,
-            12 => 9,
-            13 => 24,
-            14 => 32,
-            15 => 39,
-            16 => 40,
-            _ => 41,
-        }
+// NID_MESSAGE of a message that is read.
+fn drawn_number(draws: &mut Draws) -> u8 {
+    match draws.below(18) {
+        0 => 129,
+        1 => 132,
+        2 => 136,
+        3 => 137,
+        4 => 138,
+        5 => 150,
+        6 => 155,
+        7 => 156,
+        8 => 157,
+        9 => 159,
+        10 => 3,
+        11 => 8,
+        12 => 9,
+        13 => 24,
+        14 => 32,
+        15 => 39,
+        16 => 40,
+        _ => 41,
     }
 }

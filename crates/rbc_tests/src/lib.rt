@@ -17,6 +17,7 @@ mod codec_faults;
 mod codec_shown;
 #[cfg(test)]
 mod codec_values;
+pub mod draws;
 #[cfg(test)]
 mod hand;
 #[cfg(test)]

@@ -2,6 +2,7 @@
 
 use crate::codec_shown::show_train;
 use crate::codec_values::TRAIN;
+use crate::draws::Draws;
 use rbc_msgs::{MsgFault, Stream, StreamFault, TrainMsg, decode_train};
 use std::alloc::Global;
 use std::mem;
@@ -91,13 +92,11 @@ fn add(said: &mut Vec<u8>, text: &[u8]) -> Result<(), Fail> {
 
 #[test]
 fn no_cut_matters(rt: HostRuntime) -> Result<(), Fail> {
-    let mut draws = Draws {
-        state: 2_463_534_242,
-    };
+    let mut draws = Draws::new(2_463_534_242);
     let bytes = all_messages(rt.alloc())?;
     for most in [1, 2, 3, 7, 29, 300, 5_000] {
         for _ in 0..20 {
-            let pieces = draws.pieces(rt.alloc(), &bytes, most)?;
+            let pieces = drawn_pieces(rt.alloc(), &mut draws, &bytes, most)?;
             let mut stream = Stream::new(rt.alloc());
             let mut messages = Vec::new(rt.alloc());
             for piece in &pieces {
@@ -214,38 +213,28 @@ fn bytes_of(alloc: Global, text: &str) -> Result<Vec<u8>, Fail> {
     Ok(hex::decode(alloc, text).ok().ok_or("it is hexadecimal")?)
 }
 
-// A row of numbers that look drawn by lot, the same in each run.
-#[derive(Drop)]
-struct Draws {
-    state: u64,
-}
-
-impl Draws {
-    fn below(&mut self, most: u64) -> u64 {
-        self.state ^= self.state << 13;
-        self.state ^= self.state >> 7;
-        self.state ^= self.state << 17;
-        self.state % most.max(1)
-    }
-
-    // The bytes in pieces of at most so many.
-    fn pieces(&mut self, alloc: Global, bytes: &[u8], most: u64) -> Result<Vec<Vec<u8>>, Fail> {
-        let mut pieces = Vec::new(alloc);
-        let mut piece = Vec::new(alloc);
-        let mut left = self.below(most);
-        for byte in bytes {
-            piece.push(*byte).ok().ok_or("memory")?;
-            if left == 0 {
-                pieces
-                    .push(mem::replace(&mut piece, Vec::new(alloc)))
-                    .ok()
-                    .ok_or("memory")?;
-                left = self.below(most);
-            } else {
-                left -= 1;
-            }
+// The bytes in pieces of at most so many.
+fn drawn_pieces(
+    alloc: Global,
+    draws: &mut Draws,
+    bytes: &[u8],
+    most: u64,
+) -> Result<Vec<Vec<u8>>, Fail> {
+    let mut pieces = Vec::new(alloc);
+    let mut piece = Vec::new(alloc);
+    let mut left = draws.below(most);
+    for byte in bytes {
+        piece.push(*byte).ok().ok_or("memory")?;
+        if left == 0 {
+            pieces
+                .push(mem::replace(&mut piece, Vec::new(alloc)))
+                .ok()
+                .ok_or("memory")?;
+            left = draws.below(most);
+        } else {
+            left -= 1;
         }
-        pieces.push(piece).ok().ok_or("memory")?;
-        Ok(pieces)
     }
+    pieces.push(piece).ok().ok_or("memory")?;
+    Ok(pieces)
 }
