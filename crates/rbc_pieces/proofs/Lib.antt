@@ -14,6 +14,7 @@ pub mod Starts
 pub mod Grants
 pub mod Leaves
 pub mod Acts
+pub mod Clearing
 pub mod Reports
 pub mod Tails
 pub mod Cuts
