@@ -7,6 +7,7 @@ pub mod Silence
 pub mod Missions
 pub mod Messages
 pub mod Sessions
+pub mod Tellings
 pub mod Told
 pub mod Books
 pub mod Dismissals
