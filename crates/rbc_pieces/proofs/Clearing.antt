@@ -1,38 +1,30 @@
 -- What a place clears of a hand: what the centre becomes, and what that shows on the line.
-use Rattle.std.proofs.Common.{◌≡◌, ℕ, ◌+◌, ◌==◌, ◌&&◌, not, Bool, true, false, Option, Some, None, option_map, is_none, is_some, refl, sym, ap, ◌∙◌, List, [], ◌∷◌, ◌++◌, map, if◌then◌else◌, inl, inr, arith, eqb-true}
-use Rattle.std.specs.Option.{option_map_or}
-use Rattle.std.specs.List.{filter, list_any, range_with_len}
-use Rattle.std.proofs.lemmas.Bool.Decides.{eqb_tells}
+use Rattle.std.proofs.Common.{◌≡◌, ℕ, ◌==◌, ◌&&◌, not, Bool, true, false, Option, Some, None, option_map, refl, sym, ap, ◌∙◌, List, [], map, if◌then◌else◌, eqb-true}
+use Rattle.std.specs.List.{filter, range_with_len}
 use Rattle.rbc_spec.specs.Maps.{put, put_pair}
 use Rattle.rbc_spec.specs.Runs.{Run, no_run, within, behind, joined, part_from}
-use Rattle.rbc_spec.specs.Line.{Line, is_centre, is_home}
-use Rattle.rbc_spec.specs.Sections.{section_count}
+use Rattle.rbc_spec.specs.Line.{Line, is_home}
 use Rattle.rbc_spec.specs.Place.{Place, Position}
-use Rattle.rbc_spec.specs.Message.{TrainBody, Report, EndOfMission}
 use Rattle.rbc_spec.specs.Frame.{Frame}
-use Rattle.rbc_spec.specs.Outcome.{NotSupervised, NoPlace, Word, Told}
+use Rattle.rbc_spec.specs.Outcome.{Word, Told}
 use Rattle.rbc_spec.specs.Centre as centre
 use Rattle.rbc_spec.specs.Centre.{is_taken_for, is_registrar_of}
-use Rattle.rbc_spec.specs.Acts.{◌>>◌, with_some, yield_if_due, change_mission as change_here, return_pool}
-use Rattle.rbc_spec.specs.Rules.{place_on, cleared, report_here, take_over, end_mission}
+use Rattle.rbc_spec.specs.Acts.{◌>>◌, change_mission as change_here, return_pool}
+use Rattle.rbc_spec.specs.Rules.{place_on, cleared, report_here}
 use Rattle.rbc_spec.specs.Step as step
 use Rattle.rbc_spec.specs.LineCentre as line_centre
 use Rattle.rbc_spec.specs.LineCentre.{LineState, change_mission, set_mission, close_if_empty, release, is_given_to, supervises, Said, nothing}
-use Rattle.rbc_spec.specs.OwnSteps.{Own, reported, release_words, is_cleared_of, ended, track_of}
-use Rattle.rbc_spec.specs.Quiet.{both}
+use Rattle.rbc_spec.specs.OwnSteps.{reported, release_words, is_cleared_of, ended}
 use Rattle.rbc_spec.specs.World.{World}
 use Rattle.rbc_spec.specs.ReadOff.{seen}
 use Rattle.rbc_alone.specs.Alone.{IsOrdered, IsAlone, alone_off}
 use Rattle.rbc_pieces.specs.Pieces.{with_centre}
 use Rattle.rbc_pieces.proofs.Maps.{put_keeps, put_at_pair, put_over, put_there, itself}
-use Rattle.rbc_pieces.proofs.Off.{shows, mark_stays, wish_stays, mission_put, registrar_of_mission}
-use Rattle.rbc_pieces.proofs.Missions.{some_of, mission_becomes, mission_here}
-use Rattle.rbc_pieces.proofs.Books.{supervises_is}
+use Rattle.rbc_pieces.proofs.Off.{shows, mission_put, registrar_of_mission}
+use Rattle.rbc_pieces.proofs.Missions.{mission_becomes, mission_here}
 use Rattle.rbc_pieces.proofs.Ranges.{some_count, whole_hand}
 use Rattle.rbc_pieces.proofs.Leaves.{close_is, left_marks, left_wishes, left_words, none_given, some_given, cleared_inside, cleared_is, all_cleared, some_left}
-use Rattle.rbc_pieces.proofs.Silence.{report_elsewhere}
-use Rattle.rbc_pieces.proofs.Acts.{append_nil, words_alone, words_only, Does, both_do, with_it, without_it, does_as}
-use Rattle.rbc_pieces.proofs.Messages.{Answers, Goes, stamp, ticked, message, before, reply, left, not_for, message_goes}
+use Rattle.rbc_pieces.proofs.Acts.{words_alone, Does}
 
 module _ (line : Line) (ordered : IsOrdered line) (w : World) (alone : IsAlone line w) (c t_train t stamp : ℕ) (trains : List ℕ) (m : centre.Mission) (has : (w.at c).mission t ≡ Some m) where
   abbrev pub k : centre.Centre
@@ -64,11 +56,6 @@ module _ (line : Line) (ordered : IsOrdered line) (w : World) (alone : IsAlone l
   -- the centre that has heard the message
   abbrev pub heard : centre.Centre
   heard = record k { heard = put k.heard t (Some t_train) }
-
-  -- nothing is handed over
-  pub not_yielded : (j : centre.Centre) (n : Option centre.Mission) → j.mission t ≡ n → ((x : centre.Mission) → n ≡ Some x → x.handing ≡ None) → Does (yield_if_due line c t) j j []
-  not_yielded j None is none = without_it (λ (x : centre.Centre). x.mission t) _ j is
-  not_yielded j (Some n) is none = with_it (λ (x : centre.Centre). x.mission t) _ j j n [] is (without_it (λ (_ : centre.Centre). n.handing) _ j (none n refl))
 
   -- ## The place clears the whole hand
 

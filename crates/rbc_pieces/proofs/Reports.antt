@@ -1,15 +1,12 @@
 -- A position report and an end of mission are pieces of the one line centre's run.
-use Rattle.std.proofs.Common.{◌≡◌, ℕ, ◌+◌, ◌==◌, ◌&&◌, not, Bool, true, false, Option, Some, None, option_map, is_none, is_some, refl, sym, ap, ◌∙◌, List, [], ◌∷◌, ◌++◌, map, if◌then◌else◌, inl, inr, arith, eqb-true}
+use Rattle.std.proofs.Common.{◌≡◌, ℕ, ◌==◌, Bool, true, false, Option, Some, None, option_map, is_none, is_some, refl, sym, ap, ◌∙◌, List, [], if◌then◌else◌}
 use Rattle.std.specs.Option.{option_map_or}
-use Rattle.std.specs.List.{filter, list_any, range_with_len}
-use Rattle.std.proofs.lemmas.Bool.Decides.{eqb_tells}
 use Rattle.rbc_spec.specs.Maps.{put}
-use Rattle.rbc_spec.specs.Runs.{Run, no_run, within, behind, joined, part_from}
-use Rattle.rbc_spec.specs.Line.{Line, is_centre, is_home}
-use Rattle.rbc_spec.specs.Sections.{section_count}
+use Rattle.rbc_spec.specs.Runs.{no_run}
+use Rattle.rbc_spec.specs.Line.{Line, is_centre}
 use Rattle.rbc_spec.specs.Place.{Place, Position}
 use Rattle.rbc_spec.specs.Message.{TrainBody, Report, EndOfMission}
-use Rattle.rbc_spec.specs.Outcome.{NotSupervised, NoPlace, Word, Told}
+use Rattle.rbc_spec.specs.Outcome.{NotSupervised, NoPlace, Word}
 use Rattle.rbc_spec.specs.Centre as centre
 use Rattle.rbc_spec.specs.Centre.{is_taken_for, is_registrar_of}
 use Rattle.rbc_spec.specs.Acts.{◌>>◌, with_some, yield_if_due, change_mission as change_here, return_pool}
@@ -17,20 +14,16 @@ use Rattle.rbc_spec.specs.Rules.{place_on, cleared, report_here, take_over, end_
 use Rattle.rbc_spec.specs.Step as step
 use Rattle.rbc_spec.specs.LineCentre as line_centre
 use Rattle.rbc_spec.specs.LineCentre.{LineState, change_mission, set_mission, close_if_empty, release, is_given_to, supervises, Said, nothing}
-use Rattle.rbc_spec.specs.OwnSteps.{Own, reported, release_words, is_cleared_of, ended, track_of}
-use Rattle.rbc_spec.specs.Quiet.{both}
+use Rattle.rbc_spec.specs.OwnSteps.{Own, release_words, is_cleared_of, ended, track_of}
 use Rattle.rbc_spec.specs.World.{World}
 use Rattle.rbc_spec.specs.ReadOff.{seen}
 use Rattle.rbc_alone.specs.Alone.{IsOrdered, IsAlone, alone_off}
-use Rattle.rbc_pieces.specs.Pieces.{with_centre}
 use Rattle.rbc_pieces.proofs.Maps.{put_keeps, put_at_pair, put_over, put_there, itself}
-use Rattle.rbc_pieces.proofs.Off.{shows, mark_stays, wish_stays, mission_put, registrar_of_mission}
+use Rattle.rbc_pieces.proofs.Off.{shows, mark_stays, wish_stays}
 use Rattle.rbc_pieces.proofs.Missions.{some_of, mission_becomes, mission_here}
 use Rattle.rbc_pieces.proofs.Books.{supervises_is}
-use Rattle.rbc_pieces.proofs.Ranges.{some_count, whole_hand}
-use Rattle.rbc_pieces.proofs.Leaves.{close_is, left_marks, left_wishes, left_words, none_given, some_given, cleared_inside, cleared_is, all_cleared, some_left}
 use Rattle.rbc_pieces.proofs.Silence.{report_elsewhere}
-use Rattle.rbc_pieces.proofs.Acts.{append_nil, words_alone, words_only, Does, both_do, with_it, without_it, does_as}
+use Rattle.rbc_pieces.proofs.Acts.{not_yielded, append_nil, words_alone, words_only, Does, both_do, with_it, without_it, does_as}
 use Rattle.rbc_pieces.proofs.Clearing as clearing
 use Rattle.rbc_pieces.proofs.Messages.{Answers, Goes, stamp, ticked, message, before, reply, left, not_for, message_goes}
 
@@ -56,9 +49,6 @@ module _ (line : Line) (ordered : IsOrdered line) (w : World) (alone : IsAlone l
 
     no_handing : m.handing ≡ None
     no_handing = clearing.no_handing line ordered w alone c t_train t (stamp line w alone c t_train t trains at) trains m has
-
-    not_yielded : (j : centre.Centre) (n : Option centre.Mission) → j.mission t ≡ n → ((x : centre.Mission) → n ≡ Some x → x.handing ≡ None) → Does (yield_if_due line c t) j j []
-    not_yielded = clearing.not_yielded line ordered w alone c t_train t (stamp line w alone c t_train t trains at) trains m has
 
     supervised : (body : TrainBody) → supervises (v body) c t ≡ true
     supervised body = supervises_is line w c t alone ∙ ap is_some has
@@ -98,7 +88,7 @@ module _ (line : Line) (ordered : IsOrdered line) (w : World) (alone : IsAlone l
 
       module _ (is_all : ((cleared line place m).count == m.hand.count) ≡ true) where
         not_yielded_then : Does (yield_if_due line c t) closed closed []
-        not_yielded_then = not_yielded closed None (clearing.none_there line ordered w alone c t_train t (stamp line w alone c t_train t trains at) trains m has place is_all) (λ x is. cc)
+        not_yielded_then = not_yielded line c t closed None (clearing.none_there line ordered w alone c t_train t (stamp line w alone c t_train t trains at) trains m has place is_all) (λ x is. cc)
 
         answer_closed : (body : TrainBody) → Comes body closed (words)
             → Own line (v body) c (message line w alone c t_train t trains at body) body (record { sayings = []; words = words }) (set_mission t None placed_line) → Answer body
@@ -156,7 +146,7 @@ module _ (line : Line) (ordered : IsOrdered line) (w : World) (alone : IsAlone l
             let comes : Comes body kept_so (words) =
             report_comes position kept_so _ (does_as _ heard kept_so _ _
             (both_do (report_here line c t position m) (yield_if_due line c t) heard kept_so kept_so _ [] (clearing.clears_part line ordered w alone c t_train t (stamp line w alone c t_train t trains at) trains m has place is_part position on)
-            (not_yielded kept_so (Some shorter) (clearing.kept_there line ordered w alone c t_train t (stamp line w alone c t_train t trains at) trains m has place is_part) (λ x is. let same : shorter ≡ x = cc in sym (ap (λ (n : centre.Mission). n.handing) same) ∙ no_handing)))
+            (not_yielded line c t kept_so (Some shorter) (clearing.kept_there line ordered w alone c t_train t (stamp line w alone c t_train t trains at) trains m has place is_part) (λ x is. let same : shorter ≡ x = cc in sym (ap (λ (n : centre.Mission). n.handing) same) ∙ no_handing)))
             (append_nil (words)))
             in
             record {
@@ -192,7 +182,7 @@ module _ (line : Line) (ordered : IsOrdered line) (w : World) (alone : IsAlone l
             (both_do (with_some (λ j. j.mission t) (report_here line c t position)) (with_some (λ j. j.mission t) (λ n. return_pool line c t n >> change_here t (λ x. record x { is_ended = true; proposal = None }))) heard kept_so last_left _ []
             (with_it (λ (j : centre.Centre). j.mission t) (report_here line c t position) heard kept_so m _ has (clearing.clears_part line ordered w alone c t_train t (stamp line w alone c t_train t trains at) trains m has place is_part position on))
             (with_it (λ (j : centre.Centre). j.mission t) _ kept_so last_left shorter [] (clearing.kept_there line ordered w alone c t_train t (stamp line w alone c t_train t trains at) trains m has place is_part) (clearing.ends_part line ordered w alone c t_train t (stamp line w alone c t_train t trains at) trains m has place is_part)))
-            (not_yielded last_left (Some at_end) (put_there (put (put k.mission t (Some shorter)) t (Some without_pool)) t (Some at_end)) (λ x is. let same : at_end ≡ x = cc in sym (ap (λ (n : centre.Mission). n.handing) same) ∙ no_handing)))
+            (not_yielded line c t last_left (Some at_end) (put_there (put (put k.mission t (Some shorter)) t (Some without_pool)) t (Some at_end)) (λ x is. let same : at_end ≡ x = cc in sym (ap (λ (n : centre.Mission). n.handing) same) ∙ no_handing)))
             (words_alone (words)))
             in
             record {
@@ -241,7 +231,7 @@ module _ (line : Line) (ordered : IsOrdered line) (w : World) (alone : IsAlone l
         (both_do (with_some (λ j. j.mission t) (report_here line c t position)) (with_some (λ j. j.mission t) (λ n. return_pool line c t n >> change_here t (λ x. record x { is_ended = true; proposal = None }))) heard heard ended_here [] []
         (with_it (λ (j : centre.Centre). j.mission t) (report_here line c t position) heard heard m [] has (has_no_report position on))
         (with_it (λ (j : centre.Centre). j.mission t) _ heard ended_here m [] has ends_here))
-        (not_yielded ended_here (Some done) (put_there (put k.mission t (Some without)) t (Some done)) (λ x is. let same : done ≡ x = cc in sym (ap (λ (n : centre.Mission). n.handing) same) ∙ no_handing)))
+        (not_yielded line c t ended_here (Some done) (put_there (put k.mission t (Some without)) t (Some done)) (λ x is. let same : done ≡ x = cc in sym (ap (λ (n : centre.Mission). n.handing) same) ∙ no_handing)))
         in
         record {
           state = ended_here;

@@ -1,5 +1,5 @@
 -- A set and an unset are pieces of the one line centre's run.
-use Rattle.std.proofs.Common.{◌≡◌, ◌≢◌, ℕ, ◌+◌, ◌-◌, ◌*◌, ◌==◌, ◌&&◌, not, nat_le, Bool, true, false, Option, Some, None, option_map, is_none, refl, sym, ap, ◌∙◌, List, [], ◌∷◌, inl, inr, subst, if◌then◌else◌, arith, leb-true}
+use Rattle.std.proofs.Common.{◌≡◌, ◌≢◌, ℕ, ◌+◌, ◌-◌, ◌*◌, ◌==◌, ◌&&◌, not, nat_le, Bool, true, false, Option, Some, None, option_map, is_none, refl, sym, ap, ◌∙◌, List, [], ◌∷◌, inl, inr, arith, leb-true}
 use Rattle.std.proofs.lemmas.Bool.{and_parts, both_ways}
 use Rattle.std.proofs.lemmas.Bool.Decides.{eqb_tells}
 use Rattle.rbc_spec.specs.Maps.{put}
@@ -7,7 +7,7 @@ use Rattle.rbc_spec.specs.Runs.{within}
 use Rattle.rbc_spec.specs.Line.{Line, is_centre, is_home, start}
 use Rattle.rbc_spec.specs.Place.{group_start}
 use Rattle.rbc_spec.specs.Message.{ShorteningRequest}
-use Rattle.rbc_spec.specs.Outcome.{Word, Done, Asked, NotHome}
+use Rattle.rbc_spec.specs.Outcome.{Done, Asked, NotHome}
 use Rattle.rbc_spec.specs.Centre as centre
 use Rattle.rbc_spec.specs.Centre.{is_up}
 use Rattle.rbc_spec.specs.Acts.{Reply, ◌>>◌, may_propose}
@@ -16,15 +16,13 @@ use Rattle.rbc_spec.specs.Step.{Effect}
 use Rattle.rbc_spec.specs.LineCentre as line_centre
 use Rattle.rbc_spec.specs.LineCentre.{LineState, Mark, Said, nothing, change_mission, saying_of, says}
 use Rattle.rbc_spec.specs.OwnSteps.{set_mark, wished_back, is_unused_mark}
-use Rattle.rbc_spec.specs.Quiet.{Quiet, Propose, Proposes, TakesAll, both}
+use Rattle.rbc_spec.specs.Quiet.{Propose, Proposes}
 use Rattle.rbc_spec.specs.World.{World, Event, Set, Unset}
-use Rattle.rbc_spec.specs.Run.{Piece, OwnStep}
 use Rattle.rbc_spec.specs.ReadOff.{seen}
-use Rattle.rbc_alone.specs.Alone.{IsAlone, mark_alone, alone_off}
-use Rattle.rbc_pieces.specs.Pieces.{with_centre}
+use Rattle.rbc_alone.specs.Alone.{IsAlone, alone_off}
 use Rattle.rbc_pieces.proofs.Maps.{put_keeps, put_at_pair, put_over}
 use Rattle.rbc_pieces.proofs.Ranges.{within_true}
-use Rattle.rbc_pieces.proofs.Off.{shows, mark_stays, wish_stays, mission_stays, mark_at_home, unused_is, given_is_hand}
+use Rattle.rbc_pieces.proofs.Off.{shows, mark_stays, given_is_hand}
 use Rattle.rbc_pieces.proofs.Stands.{hand_of, taken_there}
 use Rattle.rbc_pieces.proofs.Missions.{mission_here, mission_changes}
 use Rattle.rbc_pieces.proofs.Messages.{unseen}
