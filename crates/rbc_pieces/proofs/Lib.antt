@@ -22,3 +22,4 @@ pub mod Cuts
 pub mod Events
 pub mod Whole
 pub mod Runs
+pub mod Loop
