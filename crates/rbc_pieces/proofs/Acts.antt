@@ -1,11 +1,12 @@
 -- What acts leave and say, one after another.
-use Rattle.std.proofs.Common.{◌≡◌, refl, sym, ◌∷◌, Option, Some, None, List, [], ◌++◌, ap, ◌∙◌}
+use Rattle.std.proofs.Common.{◌≡◌, ℕ, refl, sym, ◌∷◌, Option, Some, None, List, [], ◌++◌, ap, ◌∙◌}
 use Rattle.std.specs.Option.{option_map_or}
 use Rattle.rbc_spec.specs.Outcome.{Word}
-use Rattle.rbc_spec.specs.Centre.{Centre}
+use Rattle.rbc_spec.specs.Line.{Line}
+use Rattle.rbc_spec.specs.Centre.{Centre, Mission}
 use Rattle.rbc_spec.specs.LineCentre.{nothing}
 use Rattle.rbc_spec.specs.Quiet.{both}
-use Rattle.rbc_spec.specs.Acts.{Act, ◌>>◌, with_some, rest}
+use Rattle.rbc_spec.specs.Acts.{Act, ◌>>◌, with_some, rest, yield_if_due}
 
 -- from j an act leaves s, and tells these words alone
 pub record Does (a : Act) (j s : Centre) (words : List Word) : Type 0 where
@@ -41,6 +42,11 @@ without_it value act j none = record {
 -- other words
 pub does_as : (a : Act) (j s : Centre) (words others : List Word) → Does a j s words → words ≡ others → Does a j s others
 does_as a j s words others d same = record { state_is = d.state_is; sayings_are = d.sayings_are; words_are = d.words_are ∙ same }
+
+-- nothing is handed over
+pub not_yielded : (line : Line) (c t : ℕ) (j : Centre) (n : Option Mission) → j.mission t ≡ n → ((x : Mission) → n ≡ Some x → x.handing ≡ None) → Does (yield_if_due line c t) j j []
+not_yielded line c t j None is none = without_it (λ (x : Centre). x.mission t) _ j is
+not_yielded line c t j (Some n) is none = with_it (λ (x : Centre). x.mission t) _ j j n [] is (without_it (λ (_ : Centre). n.handing) _ j (none n refl))
 
 -- ## Words
 

@@ -1,9 +1,7 @@
 -- A granted request to shorten is a piece of the one line centre's run.
-use Rattle.std.proofs.Common.{◌≡◌, ◌⊎◌, ℕ, ◌+◌, ◌*◌, ◌<◌, ◌≤◌, ◌==◌, ◌&&◌, not, nat_le, nat_lt, Bool, true, false, Option, Some, None, option_map, refl, sym, ap, ◌∙◌, List, [], map, if◌then◌else◌, inl, inr, arith, eqb-true, ltb-true, lt-ltb}
+use Rattle.std.proofs.Common.{◌≡◌, ℕ, ◌+◌, ◌*◌, ◌==◌, ◌&&◌, not, nat_le, Bool, true, false, Option, Some, None, option_map, refl, sym, ap, ◌∙◌, List, [], map, if◌then◌else◌, arith}
 use Rattle.std.specs.Option.{option_map_or}
 use Rattle.std.specs.List.{filter, range_with_len}
-use Rattle.std.proofs.lemmas.Bool.{and_parts, and_from, both_ways}
-use Rattle.std.proofs.lemmas.Bool.Decides.{eqb_tells}
 use Rattle.rbc_spec.specs.Maps.{put}
 use Rattle.rbc_spec.specs.Runs.{Run, no_run, within, joined, part_from, part_before}
 use Rattle.rbc_spec.specs.Line.{Line, is_centre, is_home, end}
@@ -24,10 +22,10 @@ use Rattle.rbc_alone.specs.Alone.{IsAlone, alone_off}
 use Rattle.rbc_pieces.specs.Pieces.{with_centre}
 use Rattle.rbc_pieces.proofs.Maps.{put_keeps, put_at_pair, put_over, put_there}
 use Rattle.rbc_pieces.proofs.Ranges.{within_from, not_false}
-use Rattle.rbc_pieces.proofs.Off.{shows, mark_stays, wish_stays, mission_put, registrar_of_mission, given_is_hand}
+use Rattle.rbc_pieces.proofs.Off.{shows, mark_stays, wish_stays, mission_put, registrar_of_mission}
 use Rattle.rbc_pieces.proofs.Missions.{some_of, mission_becomes, mission_here}
 use Rattle.rbc_pieces.proofs.Leaves.{close_is, left_marks, left_wishes, left_words, none_given, some_given}
-use Rattle.rbc_pieces.proofs.Acts.{append_nil, words_alone, words_only, Does, both_do, with_it, without_it, does_as}
+use Rattle.rbc_pieces.proofs.Acts.{not_yielded, append_nil, words_alone, words_only, Does, both_do, with_it, does_as}
 use Rattle.rbc_pieces.proofs.Tails.{released as cut_is, gone_inside as cut_inside, all_gone as whole_cut, first_kept}
 use Rattle.rbc_pieces.proofs.Messages.{Answers, Goes, ticked, message, before, reply, left, not_for, message_goes}
 
@@ -64,10 +62,6 @@ module _ (line : Line) (w : World) (alone : IsAlone line w) (c t_train t : ℕ) 
   abbrev heard : centre.Centre
   heard = record k { heard = put k.heard t (Some t_train) }
 
-  not_yielded : (j : centre.Centre) (n : Option centre.Mission) → j.mission t ≡ n → ((x : centre.Mission) → n ≡ Some x → x.handing ≡ None) → Does (yield_if_due line c t) j j []
-  not_yielded j None is none = without_it (λ (x : centre.Centre). x.mission t) _ j is
-  not_yielded j (Some n) is none = with_it (λ (x : centre.Centre). x.mission t) _ j j n [] is (without_it (λ (_ : centre.Centre). n.handing) _ j (none n refl))
-
   -- ## The request no longer stands
 
   abbrev unasked : centre.Mission
@@ -99,7 +93,7 @@ module _ (line : Line) (w : World) (alone : IsAlone line w) (c t_train t : ℕ) 
       (with_it (λ (_ : centre.Centre). m.proposal) (granted line c t position m) heard s p words proposed
       (does_as _ heard s _ _ (both_do _ (yield_if_due line c t) heard s s words []
       (both_do (change_here t (λ x. record x { proposal = None })) (cut_where_so (place_on line m.place.track position)) heard answered s [] words answers d)
-      (not_yielded s n is none)) (append_nil words))))
+      (not_yielded line c t s n is none)) (append_nil words))))
 
   without_mission : (u : ℕ) → put (alone_off line w).mission t (Some (seen c unasked)) u ≡ (without_ask t v).mission u
   without_mission u = ap (λ (o : Option line_centre.Mission). put (alone_off line w).mission t o u) (sym (ap (option_map (λ (n : line_centre.Mission). record n { proposal = None })) (mission_here line w c t m alone has)))

@@ -1,10 +1,9 @@
 -- A request that is granted is a piece of the one line centre's run: the hand is extended as far as it may go.
-use Rattle.std.proofs.Common.{◌≡◌, ◌⊎◌, ℕ, zero, suc, ◌+◌, ◌-◌, ◌*◌, ◌<◌, ◌≤◌, ◌==◌, ◌&&◌, ◌||◌, not, nat_le, Bool, true, false, Option, Some, None, option_map, refl, sym, ap, ◌∙◌, List, [], ◌∷◌, if◌then◌else◌, inl, inr, arith, leb-true}
+use Rattle.std.proofs.Common.{◌≡◌, ◌⊎◌, ℕ, zero, suc, ◌+◌, ◌-◌, ◌*◌, ◌<◌, ◌≤◌, ◌&&◌, ◌||◌, not, nat_le, Bool, true, false, Option, Some, None, option_map, refl, sym, ap, ◌∙◌, List, [], ◌∷◌, if◌then◌else◌, inl, inr, arith, leb-true}
 use Rattle.std.specs.Option.{option_map_or}
 use Rattle.std.proofs.lemmas.Bool.{and_parts, and_from, or_left, cases_lt}
-use Rattle.std.proofs.lemmas.Bool.Decides.{eqb_tells}
 use Rattle.rbc_spec.specs.Maps.{put}
-use Rattle.rbc_spec.specs.Runs.{Run, no_run, within, behind, longest, joined}
+use Rattle.rbc_spec.specs.Runs.{Run, within, behind, longest, joined}
 use Rattle.rbc_spec.specs.Line.{Line, is_centre, end}
 use Rattle.rbc_spec.specs.Sections.{is_on}
 use Rattle.rbc_spec.specs.Place.{Place, Position, group_start}

@@ -7,6 +7,7 @@ pub mod Silence
 pub mod Missions
 pub mod Messages
 pub mod Sessions
+pub mod Tellings
 pub mod Told
 pub mod Books
 pub mod Dismissals
@@ -14,9 +15,11 @@ pub mod Starts
 pub mod Grants
 pub mod Leaves
 pub mod Acts
+pub mod Clearing
 pub mod Reports
 pub mod Tails
 pub mod Cuts
 pub mod Events
 pub mod Whole
 pub mod Runs
+pub mod Loop

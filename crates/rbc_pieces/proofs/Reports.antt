@@ -1,15 +1,12 @@
 -- A position report and an end of mission are pieces of the one line centre's run.
-use Rattle.std.proofs.Common.{◌≡◌, ℕ, ◌+◌, ◌==◌, ◌&&◌, not, Bool, true, false, Option, Some, None, option_map, is_none, is_some, refl, sym, ap, ◌∙◌, List, [], ◌∷◌, ◌++◌, map, if◌then◌else◌, inl, inr, arith, eqb-true}
+use Rattle.std.proofs.Common.{◌≡◌, ℕ, ◌==◌, Bool, true, false, Option, Some, None, option_map, is_none, is_some, refl, sym, ap, ◌∙◌, List, [], if◌then◌else◌}
 use Rattle.std.specs.Option.{option_map_or}
-use Rattle.std.specs.List.{filter, list_any, range_with_len}
-use Rattle.std.proofs.lemmas.Bool.Decides.{eqb_tells}
 use Rattle.rbc_spec.specs.Maps.{put}
-use Rattle.rbc_spec.specs.Runs.{Run, no_run, within, behind, joined, part_from}
-use Rattle.rbc_spec.specs.Line.{Line, is_centre, is_home}
-use Rattle.rbc_spec.specs.Sections.{section_count}
+use Rattle.rbc_spec.specs.Runs.{no_run}
+use Rattle.rbc_spec.specs.Line.{Line, is_centre}
 use Rattle.rbc_spec.specs.Place.{Place, Position}
 use Rattle.rbc_spec.specs.Message.{TrainBody, Report, EndOfMission}
-use Rattle.rbc_spec.specs.Outcome.{NotSupervised, NoPlace, Word, Told}
+use Rattle.rbc_spec.specs.Outcome.{NotSupervised, NoPlace, Word}
 use Rattle.rbc_spec.specs.Centre as centre
 use Rattle.rbc_spec.specs.Centre.{is_taken_for, is_registrar_of}
 use Rattle.rbc_spec.specs.Acts.{◌>>◌, with_some, yield_if_due, change_mission as change_here, return_pool}
@@ -17,20 +14,17 @@ use Rattle.rbc_spec.specs.Rules.{place_on, cleared, report_here, take_over, end_
 use Rattle.rbc_spec.specs.Step as step
 use Rattle.rbc_spec.specs.LineCentre as line_centre
 use Rattle.rbc_spec.specs.LineCentre.{LineState, change_mission, set_mission, close_if_empty, release, is_given_to, supervises, Said, nothing}
-use Rattle.rbc_spec.specs.OwnSteps.{Own, reported, release_words, is_cleared_of, ended, track_of}
-use Rattle.rbc_spec.specs.Quiet.{both}
+use Rattle.rbc_spec.specs.OwnSteps.{Own, release_words, is_cleared_of, ended, track_of}
 use Rattle.rbc_spec.specs.World.{World}
 use Rattle.rbc_spec.specs.ReadOff.{seen}
 use Rattle.rbc_alone.specs.Alone.{IsOrdered, IsAlone, alone_off}
-use Rattle.rbc_pieces.specs.Pieces.{with_centre}
 use Rattle.rbc_pieces.proofs.Maps.{put_keeps, put_at_pair, put_over, put_there, itself}
-use Rattle.rbc_pieces.proofs.Off.{shows, mark_stays, wish_stays, mission_put, registrar_of_mission}
+use Rattle.rbc_pieces.proofs.Off.{shows, mark_stays, wish_stays}
 use Rattle.rbc_pieces.proofs.Missions.{some_of, mission_becomes, mission_here}
 use Rattle.rbc_pieces.proofs.Books.{supervises_is}
-use Rattle.rbc_pieces.proofs.Ranges.{some_count, whole_hand}
-use Rattle.rbc_pieces.proofs.Leaves.{close_is, left_marks, left_wishes, left_words, none_given, some_given, cleared_inside, cleared_is, all_cleared, some_left}
 use Rattle.rbc_pieces.proofs.Silence.{report_elsewhere}
-use Rattle.rbc_pieces.proofs.Acts.{append_nil, words_alone, words_only, Does, both_do, with_it, without_it, does_as}
+use Rattle.rbc_pieces.proofs.Acts.{not_yielded, append_nil, words_alone, words_only, Does, both_do, with_it, without_it, does_as}
+use Rattle.rbc_pieces.proofs.Clearing as clearing
 use Rattle.rbc_pieces.proofs.Messages.{Answers, Goes, stamp, ticked, message, before, reply, left, not_for, message_goes}
 
 module _ (line : Line) (ordered : IsOrdered line) (w : World) (alone : IsAlone line w) (c t_train t : ℕ) (trains : List ℕ) (at : is_centre line c ≡ true) where
@@ -50,41 +44,17 @@ module _ (line : Line) (ordered : IsOrdered line) (w : World) (alone : IsAlone l
   made body state = left line w alone c t_train t trains at state (reply line w alone c t_train t trains at body)
 
   module _ (m : centre.Mission) (has : (w.at c).mission t ≡ Some m) where
-    no_handing : m.handing ≡ None
-    no_handing = ((alone.each c).mission t m has).no_handing
+    abbrev heard : centre.Centre
+    heard = clearing.heard line ordered w alone c t_train t (stamp line w alone c t_train t trains at) trains m has
 
-    here : is_registrar_of line c t ≡ true
-    here = registrar_of_mission line c t (w.at c) m (alone.each c) has
+    no_handing : m.handing ≡ None
+    no_handing = clearing.no_handing line ordered w alone c t_train t (stamp line w alone c t_train t trains at) trains m has
 
     supervised : (body : TrainBody) → supervises (v body) c t ≡ true
     supervised body = supervises_is line w c t alone ∙ ap is_some has
 
     track_is : (body : TrainBody) (position : Position) → place_on line (track_of (v body) t) position ≡ place_on line m.place.track position
     track_is body position = ap (λ (o : Option line_centre.Mission). place_on line (option_map_or (λ n. n.place.track) o 0) position) (mission_here line w c t m alone has)
-
-    -- sections of a run of the hand leave
-    abbrev is_freed : Run → ℕ → Bool
-    is_freed r s = (within r s && is_home line c s) && is_taken_for t (k.book s)
-
-    abbrev freed_book : Run → ℕ → centre.Entry
-    freed_book r s = if is_freed r s then (if k.wish s then centre.Shut else centre.Open) else k.book s
-
-    abbrev freed_wish : Run → ℕ → Bool
-    freed_wish r s = not (is_freed r s) && k.wish s
-
-    abbrev freed_words : Run → List Word
-    freed_words r = map (λ s. Told s) (filter (λ s. is_freed r s && k.wish s) (range_with_len r.first r.count))
-
-    -- the centre that has heard the message
-    abbrev heard : centre.Centre
-    heard = record k { heard = put k.heard t (Some t_train) }
-
-    -- ## What is left of a step by what its acts do
-
-    -- nothing is handed over
-    not_yielded : (j : centre.Centre) (n : Option centre.Mission) → j.mission t ≡ n → ((x : centre.Mission) → n ≡ Some x → x.handing ≡ None) → Does (yield_if_due line c t) j j []
-    not_yielded j None is none = without_it (λ (x : centre.Centre). x.mission t) _ j is
-    not_yielded j (Some n) is none = with_it (λ (x : centre.Centre). x.mission t) _ j j n [] is (without_it (λ (_ : centre.Centre). n.handing) _ j (none n refl))
 
     -- what a message leaves and tells
     record Comes (body : TrainBody) (s : centre.Centre) (words : List Word) : Type 0 where
@@ -106,102 +76,35 @@ module _ (line : Line) (ordered : IsOrdered line) (w : World) (alone : IsAlone l
 
     -- ## The place clears the whole hand
 
-    abbrev all : Run
-    all = joined m.hand m.pool
-
-    all_is : all ≡ m.hand
-    all_is = whole_hand m.hand m.pool ((alone.each c).mission t m has).no_pool (some_count m.hand.count ((alone.each c).mission t m has).some)
-
     abbrev closed : centre.Centre
-    closed = record k {
-      heard = put k.heard t (Some t_train);
-      book = freed_book all;
-      wish = freed_wish all;
-      mission = put k.mission t None;
-      has_right = put k.has_right t true;
-    }
+    closed = clearing.closed line ordered w alone c t_train t (stamp line w alone c t_train t trains at) trains m has
 
     module _ (place : Place) where
-      abbrev part : Run
-      part = cleared line place m
+      abbrev words : List Word
+      words = release_words line c (is_cleared_of line (alone_off line w) t place) (alone_off line w)
 
-      abbrev is_released : ℕ → Bool
-      is_released s = is_cleared_of line (alone_off line w) t place s
+      abbrev placed_line : LineState
+      placed_line = clearing.placed_line line ordered w alone c t_train t (stamp line w alone c t_train t trains at) trains m has place
 
-      part_is : (s : ℕ) → is_released s ≡ within part s
-      part_is = cleared_is line w ordered alone c t m has place
-
-      part_inside : (s : ℕ) → within part s ≡ true → within m.hand s ≡ true
-      part_inside = cleared_inside line w ordered alone c t m has place
-
-      abbrev placed_line : TrainBody → LineState
-      placed_line body = change_mission t (λ n. record n { place = place }) (release line c t is_released (v body))
-
-      module _ (is_all : (part.count == m.hand.count) ≡ true) where
-        all_in : (s : ℕ) → within m.hand s ≡ true → within part s ≡ true
-        all_in = all_cleared line w ordered alone c t m has place (eqb-true part.count m.hand.count is_all)
-
-        -- the whole hand is what is cleared
-        all_released : (s : ℕ) → is_released s ≡ within all s
-        all_released s = part_is s ∙ same (within part s) (within m.hand s) (part_inside s) (all_in s) ∙ sym (ap (λ (r : Run). within r s) all_is)
-          where
-            same : (a b : Bool) → (a ≡ true → b ≡ true) → (b ≡ true → a ≡ true) → a ≡ b
-            same true b to from = sym (to refl)
-            same false true to from = from refl
-            same false false to from = refl
-
-        all_inside : (s : ℕ) → within all s ≡ true → within m.hand s ≡ true
-        all_inside s so = sym (ap (λ (r : Run). within r s) all_is) ∙ so
-
-        hand_in_all : (s : ℕ) → within m.hand s ≡ true → within all s ≡ true
-        hand_in_all s so = ap (λ (r : Run). within r s) all_is ∙ so
-
-        closed_is : (body : TrainBody) → reported line t c place (v body) ≡ set_mission t None (placed_line body)
-        closed_is body = close_is line t (placed_line body) false (none_given line w alone c t m has all is_released all_released all_inside hand_in_all)
-
-        words_closed : freed_words all ≡ release_words line c is_released (alone_off line w)
-        words_closed = left_words line w alone c t m has all is_released all_released all_inside
-
-        closed_shown : (body : TrainBody) → alone_off line (with_centre w c (made body closed) trains) ≡ set_mission t None (placed_line body)
-        closed_shown body = shows line w c (made body closed) trains (set_mission t None (placed_line body)) (record {
-          mark = left_marks line w alone c t m has all is_released all_released all_inside;
-          wish = left_wishes line w alone c t m has all is_released all_released all_inside;
-          phase = λ u d. put_keeps (λ (j : centre.Centre). j.phase u) w.at c (made body closed) refl d;
-          heard = λ u d. put_at_pair (λ (j : centre.Centre). j.heard) w.at c (made body closed) t (Some t_train) (λ _. refl) u d;
-          said = λ u d. put_keeps (λ (j : centre.Centre). j.said u) w.at c (made body closed) refl d;
-          wait = λ u d. refl;
-          mission = λ u. mission_put line w c t None u here ∙ sym (put_over t None (option_map (λ (n : line_centre.Mission). record n { place = place }) ((alone_off line w).mission t)) (alone_off line w).mission u);
-        })
-
-        clears_all : (position : Position) → place_on line m.place.track position ≡ Some place → Does (report_here line c t position m) heard closed (release_words line c is_released (alone_off line w))
-        unfolding ◌>>◌
-        clears_all position on = record {
-          state_is = rw (on) (rw is_all (rw (no_handing, here) refl));
-          sayings_are = rw (on) (rw is_all (rw (no_handing, here) refl));
-          words_are = rw (on) (rw is_all (rw (no_handing, here) (words_alone (freed_words all) ∙ words_closed)));
-        }
-
-        none_there : closed.mission t ≡ None
-        none_there = put_there k.mission t None
-
+      module _ (is_all : ((cleared line place m).count == m.hand.count) ≡ true) where
         not_yielded_then : Does (yield_if_due line c t) closed closed []
-        not_yielded_then = not_yielded closed None none_there (λ x is. cc)
+        not_yielded_then = not_yielded line c t closed None (clearing.none_there line ordered w alone c t_train t (stamp line w alone c t_train t trains at) trains m has place is_all) (λ x is. cc)
 
-        answer_closed : (body : TrainBody) → Comes body closed (release_words line c is_released (alone_off line w))
-            → Own line (v body) c (message line w alone c t_train t trains at body) body (record { sayings = []; words = release_words line c is_released (alone_off line w) }) (set_mission t None (placed_line body)) → Answer body
+        answer_closed : (body : TrainBody) → Comes body closed (words)
+            → Own line (v body) c (message line w alone c t_train t trains at body) body (record { sayings = []; words = words }) (set_mission t None placed_line) → Answer body
         answer_closed body comes own = record {
           state = closed;
-          said = record { sayings = []; words = release_words line c is_released (alone_off line w) };
-          own = record { sayings = []; words = release_words line c is_released (alone_off line w) };
-          mid = set_mission t None (placed_line body);
+          said = record { sayings = []; words = words };
+          own = record { sayings = []; words = words };
+          mid = set_mission t None placed_line;
           quiets = [];
           later = nothing;
           state_is = comes.state_is;
           sayings_are = comes.sayings_are;
           words_are = comes.words_are;
           own_step = own;
-          quiet_steps = (refl, closed_shown body);
-          says_it = words_only (release_words line c is_released (alone_off line w));
+          quiet_steps = (refl, clearing.closed_shown line ordered w alone c t_train t (stamp line w alone c t_train t trains at) trains m has place is_all (made body closed).sent);
+          says_it = words_only (words);
         }
 
         report_closes : (position : Position) → place_on line m.place.track position ≡ Some place → Answer (Report position)
@@ -209,149 +112,96 @@ module _ (line : Line) (ordered : IsOrdered line) (w : World) (alone : IsAlone l
             let body : TrainBody = Report position in
             answer_closed body
             (report_comes position closed _ (does_as _ heard closed _ _
-            (both_do (report_here line c t position m) (yield_if_due line c t) heard closed closed _ [] (clears_all position on) not_yielded_then) (append_nil (release_words line c is_released (alone_off line w)))))
-            (rw (supervised body) (rw (track_is body position ∙ on) (record { said_is = refl; new_is = sym (closed_is body) })))
+            (both_do (report_here line c t position m) (yield_if_due line c t) heard closed closed _ [] (clearing.clears_all line ordered w alone c t_train t (stamp line w alone c t_train t trains at) trains m has place is_all position on) not_yielded_then) (append_nil (words))))
+            (rw (supervised body) (rw (track_is body position ∙ on) (record { said_is = refl; new_is = sym (clearing.closed_is line ordered w alone c t_train t (stamp line w alone c t_train t trains at) trains m has place is_all) })))
 
         end_closes : (position : Position) → place_on line m.place.track position ≡ Some place → Answer (EndOfMission position)
         end_closes position on =
             let body : TrainBody = EndOfMission position in
-            let none_ended : ended t (set_mission t None (placed_line body)) ≡ set_mission t None (placed_line body) = λ i. record (set_mission t None (placed_line body)) {
-              mission = λ u. (ap (λ (o : Option line_centre.Mission). put (set_mission t None (placed_line body)).mission t (option_map (λ (n : line_centre.Mission). record n { is_ended = true; proposal = None }) o) u) (put_there (placed_line body).mission t None)
-                  ∙ put_over t None None (placed_line body).mission u) i;
+            let none_ended : ended t (set_mission t None placed_line) ≡ set_mission t None placed_line = λ i. record (set_mission t None placed_line) {
+              mission = λ u. (ap (λ (o : Option line_centre.Mission). put (set_mission t None placed_line).mission t (option_map (λ (n : line_centre.Mission). record n { is_ended = true; proposal = None }) o) u) (put_there placed_line.mission t None)
+                  ∙ put_over t None None placed_line.mission u) i;
             }
             in
             answer_closed body
             (end_comes position closed _ (does_as _ heard closed _ _
             (both_do _ (yield_if_due line c t) heard closed closed _ []
             (both_do (with_some (λ j. j.mission t) (report_here line c t position)) (with_some (λ j. j.mission t) (λ n. return_pool line c t n >> change_here t (λ x. record x { is_ended = true; proposal = None }))) heard closed closed _ []
-            (with_it (λ (j : centre.Centre). j.mission t) (report_here line c t position) heard closed m _ has (clears_all position on)) (without_it (λ (j : centre.Centre). j.mission t) _ closed none_there))
-            not_yielded_then) (words_alone (release_words line c is_released (alone_off line w)))))
-            (rw (track_is body position ∙ on) (record { said_is = refl; new_is = sym (ap (ended t) (closed_is body) ∙ none_ended) }))
+            (with_it (λ (j : centre.Centre). j.mission t) (report_here line c t position) heard closed m _ has (clearing.clears_all line ordered w alone c t_train t (stamp line w alone c t_train t trains at) trains m has place is_all position on)) (without_it (λ (j : centre.Centre). j.mission t) _ closed (clearing.none_there line ordered w alone c t_train t (stamp line w alone c t_train t trains at) trains m has place is_all)))
+            not_yielded_then) (words_alone (words))))
+            (rw (track_is body position ∙ on) (record { said_is = refl; new_is = sym (ap (ended t) (clearing.closed_is line ordered w alone c t_train t (stamp line w alone c t_train t trains at) trains m has place is_all) ∙ none_ended) }))
 
       -- ## A part of the hand is left
 
-      module _ (is_part : (part.count == m.hand.count) ≡ false) where
+      module _ (is_part : ((cleared line place m).count == m.hand.count) ≡ false) where
         abbrev shorter : centre.Mission
-        shorter = record m { place = place; hand = part_from (behind part) m.hand }
+        shorter = clearing.shorter line ordered w alone c t_train t (stamp line w alone c t_train t trains at) trains m has place is_part
 
-        abbrev shortened : Option centre.Mission → (ℕ → Option centre.Mission) → centre.Centre
-        shortened mission missions = record k {
-          heard = put k.heard t (Some t_train);
-          book = freed_book part;
-          wish = freed_wish part;
-          mission = put missions t mission;
-        }
-
-        left_is : (body : TrainBody) → reported line t c place (v body) ≡ placed_line body
-        left_is body =
-            let out = some_left line w ordered alone c t m has place is_part in
-            close_is line t (placed_line body) true (some_given line w alone c t m has part is_released part_is part_inside (behind part) out.0 out.1)
-
-        words_left : freed_words part ≡ release_words line c is_released (alone_off line w)
-        words_left = left_words line w alone c t m has part is_released part_is part_inside
-
-        -- the mission that is left, whatever was put there before
-        shortened_shown : (body : TrainBody) (mission : centre.Mission) (missions : ℕ → Option centre.Mission) (shown : line_centre.Mission) (shown_missions : ℕ → Option line_centre.Mission)
-            → ((u : ℕ) → put missions t (Some mission) u ≡ put (w.at c).mission t (Some mission) u) → seen c mission ≡ shown
-            → ((u : ℕ) → put (alone_off line w).mission t (Some shown) u ≡ shown_missions u)
-            → alone_off line (with_centre w c (made body (shortened (Some mission) missions)) trains) ≡ record (placed_line body) { mission = shown_missions }
-        shortened_shown body mission missions shown shown_missions puts is shows_it = shows line w c (made body (shortened (Some mission) missions)) trains (record (placed_line body) { mission = shown_missions }) (record {
-          mark = left_marks line w alone c t m has part is_released part_is part_inside;
-          wish = left_wishes line w alone c t m has part is_released part_is part_inside;
-          phase = λ u d. put_keeps (λ (j : centre.Centre). j.phase u) w.at c (made body (shortened (Some mission) missions)) refl d;
-          heard = λ u d. put_at_pair (λ (j : centre.Centre). j.heard) w.at c (made body (shortened (Some mission) missions)) t (Some t_train) (λ _. refl) u d;
-          said = λ u d. put_keeps (λ (j : centre.Centre). j.said u) w.at c (made body (shortened (Some mission) missions)) refl d;
-          wait = λ u d. refl;
-          mission = λ u. ap (λ (o : Option centre.Mission). if is_registrar_of line c u then option_map (seen c) o else (alone_off line w).mission u) (puts u)
-              ∙ mission_becomes line w c t m (Some mission) (Some shown) u alone has (ap (λ x. Some x) is) ∙ shows_it u;
-        })
-
-        placed_mission : (u : ℕ) → put (alone_off line w).mission t (Some (seen c shorter)) u ≡ put (alone_off line w).mission t (option_map (λ (n : line_centre.Mission). record n { place = place }) ((alone_off line w).mission t)) u
-        placed_mission u = ap (λ (o : Option line_centre.Mission). put (alone_off line w).mission t o u) (sym (ap (option_map (λ (n : line_centre.Mission). record n { place = place })) (mission_here line w c t m alone has)))
-
-        clears_part : (position : Position) → place_on line m.place.track position ≡ Some place → Does (report_here line c t position m) heard (shortened (Some shorter) k.mission) (release_words line c is_released (alone_off line w))
-        unfolding ◌>>◌
-        clears_part position on = record {
-          state_is = rw (on) (rw is_part refl);
-          sayings_are = rw (on) (rw is_part refl);
-          words_are = rw (on) (rw is_part (words_alone (freed_words part) ∙ words_left));
-        }
-
-        kept_there : (shortened (Some shorter) k.mission).mission t ≡ Some shorter
-        kept_there = put_there k.mission t (Some shorter)
+        abbrev kept_so : centre.Centre
+        kept_so = clearing.shortened line ordered w alone c t_train t (stamp line w alone c t_train t trains at) trains m has place is_part (Some shorter) k.mission
 
         report_leaves : (position : Position) → place_on line m.place.track position ≡ Some place → Answer (Report position)
         report_leaves position on =
             let body : TrainBody = Report position in
-            let comes : Comes body (shortened (Some shorter) k.mission) (release_words line c is_released (alone_off line w)) =
-            report_comes position (shortened (Some shorter) k.mission) _ (does_as _ heard (shortened (Some shorter) k.mission) _ _
-            (both_do (report_here line c t position m) (yield_if_due line c t) heard (shortened (Some shorter) k.mission) (shortened (Some shorter) k.mission) _ [] (clears_part position on)
-            (not_yielded (shortened (Some shorter) k.mission) (Some shorter) kept_there (λ x is. let same : shorter ≡ x = cc in sym (ap (λ (n : centre.Mission). n.handing) same) ∙ no_handing)))
-            (append_nil (release_words line c is_released (alone_off line w))))
+            let comes : Comes body kept_so (words) =
+            report_comes position kept_so _ (does_as _ heard kept_so _ _
+            (both_do (report_here line c t position m) (yield_if_due line c t) heard kept_so kept_so _ [] (clearing.clears_part line ordered w alone c t_train t (stamp line w alone c t_train t trains at) trains m has place is_part position on)
+            (not_yielded line c t kept_so (Some shorter) (clearing.kept_there line ordered w alone c t_train t (stamp line w alone c t_train t trains at) trains m has place is_part) (λ x is. let same : shorter ≡ x = cc in sym (ap (λ (n : centre.Mission). n.handing) same) ∙ no_handing)))
+            (append_nil (words)))
             in
             record {
-              state = shortened (Some shorter) k.mission;
-              said = record { sayings = []; words = release_words line c is_released (alone_off line w) };
-              own = record { sayings = []; words = release_words line c is_released (alone_off line w) };
-              mid = placed_line body;
+              state = kept_so;
+              said = record { sayings = []; words = words };
+              own = record { sayings = []; words = words };
+              mid = placed_line;
               quiets = [];
               later = nothing;
               state_is = comes.state_is;
               sayings_are = comes.sayings_are;
               words_are = comes.words_are;
-              own_step = rw (supervised body) (rw (track_is body position ∙ on) (record { said_is = refl; new_is = sym (left_is body) }));
-              quiet_steps = (refl, shortened_shown body shorter k.mission (seen c shorter) (placed_line body).mission (λ u. refl) refl placed_mission);
-              says_it = words_only (release_words line c is_released (alone_off line w));
+              own_step = rw (supervised body) (rw (track_is body position ∙ on) (record { said_is = refl; new_is = sym (clearing.left_is line ordered w alone c t_train t (stamp line w alone c t_train t trains at) trains m has place is_part) }));
+              quiet_steps = (refl, clearing.shortened_shown line ordered w alone c t_train t (stamp line w alone c t_train t trains at) trains m has place is_part (made body kept_so).sent shorter k.mission (seen c shorter) placed_line.mission (λ u. refl) refl (clearing.placed_mission line ordered w alone c t_train t (stamp line w alone c t_train t trains at) trains m has place is_part));
+              says_it = words_only (words);
             }
 
-        abbrev without_pool : centre.Mission
-        without_pool = record shorter { pool = no_run }
-
         abbrev at_end : centre.Mission
-        at_end = record without_pool { is_ended = true; proposal = None }
+        at_end = clearing.at_end line ordered w alone c t_train t (stamp line w alone c t_train t trains at) trains m has place is_part
 
-        ended_mission : (body : TrainBody) (u : ℕ) → put (alone_off line w).mission t (Some (seen c at_end)) u ≡ (ended t (placed_line body)).mission u
-        ended_mission body u = sym (
-            put_over t (option_map (λ (n : line_centre.Mission). record n { is_ended = true; proposal = None }) ((placed_line body).mission t)) (option_map (λ (n : line_centre.Mission). record n { place = place }) ((alone_off line w).mission t)) (alone_off line w).mission u
-            ∙ ap (λ (o : Option line_centre.Mission). put (alone_off line w).mission t (option_map (λ (n : line_centre.Mission). record n { is_ended = true; proposal = None }) o) u)
-            (put_there (alone_off line w).mission t (option_map (λ (n : line_centre.Mission). record n { place = place }) ((alone_off line w).mission t)) ∙ ap (option_map (λ (n : line_centre.Mission). record n { place = place })) (mission_here line w c t m alone has)))
+        abbrev without_pool : centre.Mission
+        without_pool = clearing.without_pool line ordered w alone c t_train t (stamp line w alone c t_train t trains at) trains m has place is_part
 
         abbrev last_left : centre.Centre
-        last_left = shortened (Some at_end) (put (put k.mission t (Some shorter)) t (Some without_pool))
-
-        ends_part : Does (return_pool line c t shorter >> change_here t (λ n. record n { is_ended = true; proposal = None })) (shortened (Some shorter) k.mission) last_left []
-        unfolding ◌>>◌
-        ends_part = record { state_is = rw (itself t) refl; sayings_are = refl; words_are = refl }
+        last_left = clearing.last_left line ordered w alone c t_train t (stamp line w alone c t_train t trains at) trains m has place is_part
 
         end_leaves : (position : Position) → place_on line m.place.track position ≡ Some place → Answer (EndOfMission position)
         end_leaves position on =
             let body : TrainBody = EndOfMission position in
-            let comes : Comes body last_left (release_words line c is_released (alone_off line w)) =
+            let comes : Comes body last_left (words) =
             end_comes position last_left _ (does_as _ heard last_left _ _
             (both_do _ (yield_if_due line c t) heard last_left last_left _ []
-            (both_do (with_some (λ j. j.mission t) (report_here line c t position)) (with_some (λ j. j.mission t) (λ n. return_pool line c t n >> change_here t (λ x. record x { is_ended = true; proposal = None }))) heard (shortened (Some shorter) k.mission) last_left _ []
-            (with_it (λ (j : centre.Centre). j.mission t) (report_here line c t position) heard (shortened (Some shorter) k.mission) m _ has (clears_part position on))
-            (with_it (λ (j : centre.Centre). j.mission t) _ (shortened (Some shorter) k.mission) last_left shorter [] kept_there ends_part))
-            (not_yielded last_left (Some at_end) (put_there (put (put k.mission t (Some shorter)) t (Some without_pool)) t (Some at_end)) (λ x is. let same : at_end ≡ x = cc in sym (ap (λ (n : centre.Mission). n.handing) same) ∙ no_handing)))
-            (words_alone (release_words line c is_released (alone_off line w))))
+            (both_do (with_some (λ j. j.mission t) (report_here line c t position)) (with_some (λ j. j.mission t) (λ n. return_pool line c t n >> change_here t (λ x. record x { is_ended = true; proposal = None }))) heard kept_so last_left _ []
+            (with_it (λ (j : centre.Centre). j.mission t) (report_here line c t position) heard kept_so m _ has (clearing.clears_part line ordered w alone c t_train t (stamp line w alone c t_train t trains at) trains m has place is_part position on))
+            (with_it (λ (j : centre.Centre). j.mission t) _ kept_so last_left shorter [] (clearing.kept_there line ordered w alone c t_train t (stamp line w alone c t_train t trains at) trains m has place is_part) (clearing.ends_part line ordered w alone c t_train t (stamp line w alone c t_train t trains at) trains m has place is_part)))
+            (not_yielded line c t last_left (Some at_end) (put_there (put (put k.mission t (Some shorter)) t (Some without_pool)) t (Some at_end)) (λ x is. let same : at_end ≡ x = cc in sym (ap (λ (n : centre.Mission). n.handing) same) ∙ no_handing)))
+            (words_alone (words)))
             in
             record {
               state = last_left;
-              said = record { sayings = []; words = release_words line c is_released (alone_off line w) };
-              own = record { sayings = []; words = release_words line c is_released (alone_off line w) };
-              mid = ended t (placed_line body);
+              said = record { sayings = []; words = words };
+              own = record { sayings = []; words = words };
+              mid = ended t placed_line;
               quiets = [];
               later = nothing;
               state_is = comes.state_is;
               sayings_are = comes.sayings_are;
               words_are = comes.words_are;
-              own_step = rw (track_is body position ∙ on) (record { said_is = refl; new_is = sym (ap (ended t) (left_is body)) });
+              own_step = rw (track_is body position ∙ on) (record { said_is = refl; new_is = sym (ap (ended t) (clearing.left_is line ordered w alone c t_train t (stamp line w alone c t_train t trains at) trains m has place is_part)) });
               quiet_steps = (
                 refl,
-                shortened_shown body at_end (put (put k.mission t (Some shorter)) t (Some without_pool)) (seen c at_end) (ended t (placed_line body)).mission
-                    (λ u. put_over t (Some at_end) (Some without_pool) (put k.mission t (Some shorter)) u ∙ put_over t (Some at_end) (Some shorter) k.mission u) refl (ended_mission body),
+                clearing.shortened_shown line ordered w alone c t_train t (stamp line w alone c t_train t trains at) trains m has place is_part (made body last_left).sent at_end (put (put k.mission t (Some shorter)) t (Some without_pool)) (seen c at_end) (ended t placed_line).mission
+                    (λ u. put_over t (Some at_end) (Some without_pool) (put k.mission t (Some shorter)) u ∙ put_over t (Some at_end) (Some shorter) k.mission u) refl (clearing.ended_mission line ordered w alone c t_train t (stamp line w alone c t_train t trains at) trains m has place is_part),
               );
-              says_it = words_only (release_words line c is_released (alone_off line w));
+              says_it = words_only (words);
             }
 
     -- ## An end without a place
@@ -381,7 +231,7 @@ module _ (line : Line) (ordered : IsOrdered line) (w : World) (alone : IsAlone l
         (both_do (with_some (λ j. j.mission t) (report_here line c t position)) (with_some (λ j. j.mission t) (λ n. return_pool line c t n >> change_here t (λ x. record x { is_ended = true; proposal = None }))) heard heard ended_here [] []
         (with_it (λ (j : centre.Centre). j.mission t) (report_here line c t position) heard heard m [] has (has_no_report position on))
         (with_it (λ (j : centre.Centre). j.mission t) _ heard ended_here m [] has ends_here))
-        (not_yielded ended_here (Some done) (put_there (put k.mission t (Some without)) t (Some done)) (λ x is. let same : done ≡ x = cc in sym (ap (λ (n : centre.Mission). n.handing) same) ∙ no_handing)))
+        (not_yielded line c t ended_here (Some done) (put_there (put k.mission t (Some without)) t (Some done)) (λ x is. let same : done ≡ x = cc in sym (ap (λ (n : centre.Mission). n.handing) same) ∙ no_handing)))
         in
         record {
           state = ended_here;

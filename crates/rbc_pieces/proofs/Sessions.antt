@@ -1,10 +1,11 @@
 -- Sessions, train data and rejected requests to shorten.
-use Rattle.std.proofs.Common.{◌≡◌, ℕ, ◌+◌, Bool, true, Option, Some, None, option_map, refl, sym, ap, ◌∙◌, List, [], ◌∷◌, map, length, if◌then◌else◌}
+use Rattle.std.proofs.Common.{◌≡◌, ℕ, ◌+◌, true, Some, None, option_map, refl, sym, ap, List, [], ◌∷◌, map, length}
 use Rattle.std.specs.List.{range_with_len}
 use Rattle.rbc_spec.specs.Maps.{put}
 use Rattle.rbc_spec.specs.Line.{Line, is_centre}
 use Rattle.rbc_spec.specs.Place.{Position}
 use Rattle.rbc_spec.specs.Message.{TrainBody, TrainData, ShorteningRejected, InitiationOfSession, TerminationOfSession, SessionEstablished, SystemVersion, TerminationAcknowledged, DataAcknowledged, unknown_group}
+use Rattle.rbc_spec.specs.Frame.{Frame}
 use Rattle.rbc_spec.specs.Outcome.{Word, Told, NotSupervised}
 use Rattle.rbc_spec.specs.Centre as centre
 use Rattle.rbc_spec.specs.Acts.{◌>>◌}
@@ -12,7 +13,6 @@ use Rattle.rbc_spec.specs.Step as step
 use Rattle.rbc_spec.specs.LineCentre.{LineState, change_mission, is_waiting_at, told, saying_of, says, Said, nothing}
 use Rattle.rbc_spec.specs.OwnSteps.{with_phase, session_ends, without_ask}
 use Rattle.rbc_spec.specs.World.{World}
-use Rattle.rbc_spec.specs.ReadOff.{seen}
 use Rattle.rbc_alone.specs.Alone.{IsAlone, alone_off}
 use Rattle.rbc_pieces.specs.Pieces.{with_centre}
 use Rattle.rbc_pieces.proofs.Maps.{put_keeps, put_at_pair, put_over, put_pair_same}
@@ -86,22 +86,17 @@ module _ (line : Line) (w : World) (alone : IsAlone line w) (c t_train t : ℕ) 
   closed_line phase body = says t c (with_phase t c phase (session_ends line t c (v body)))
 
   -- whatever the centre has sent
-  closed_shown : (body : TrainBody) (phase : centre.Phase) (phases : ℕ → centre.Phase) (new : centre.Centre) → ((u : ℕ) → phases u ≡ put (w.at c).phase t phase u)
-      → new.book ≡ (closed phases).book → new.wish ≡ (closed phases).wish → new.phase ≡ phases → new.heard ≡ (closed phases).heard → new.said ≡ (closed phases).said → new.mission ≡ (closed phases).mission
-      → alone_off line (with_centre w c new trains) ≡ closed_line phase body
-  closed_shown body phase phases new is book wish phase_is heard said mission = shows line w c new trains (closed_line phase body) (record {
-    mark = λ s. mark_stays line w c s (new.book s) (λ _. ap (λ (f : ℕ → centre.Entry). f s) book);
-    wish = λ s. wish_stays line w c s (new.wish s) (λ _. ap (λ (f : ℕ → Bool). f s) wish);
-    phase = λ u d. put_at_pair (λ (j : centre.Centre). j.phase) w.at c new t phase (λ n. ap (λ (f : ℕ → centre.Phase). f n) phase_is ∙ is n) u d;
-    heard = λ u d. put_at_pair (λ (j : centre.Centre). j.heard) w.at c new t (Some t_train) (λ n. ap (λ (f : ℕ → Option ℕ). f n) heard) u d;
-    said = λ u d. put_at_pair (λ (j : centre.Centre). j.said) w.at c new t ((w.at c).said t + 1) (λ n. ap (λ (f : ℕ → ℕ). f n) said) u d;
+  closed_shown : (body : TrainBody) (phase : centre.Phase) (phases : ℕ → centre.Phase) (sent : ℕ → List Frame) → ((u : ℕ) → phases u ≡ put (w.at c).phase t phase u)
+      → alone_off line (with_centre w c (record (closed phases) { sent = sent }) trains) ≡ closed_line phase body
+  closed_shown body phase phases sent is = shows line w c (record (closed phases) { sent = sent }) trains (closed_line phase body) (record {
+    mark = λ s. mark_stays line w c s _ (λ _. refl);
+    wish = λ s. wish_stays line w c s _ (λ _. refl);
+    phase = λ u d. put_at_pair (λ (j : centre.Centre). j.phase) w.at c (record (closed phases) { sent = sent }) t phase is u d;
+    heard = λ u d. put_at_pair (λ (j : centre.Centre). j.heard) w.at c (record (closed phases) { sent = sent }) t (Some t_train) (λ _. refl) u d;
+    said = λ u d. put_at_pair (λ (j : centre.Centre). j.said) w.at c (record (closed phases) { sent = sent }) t ((w.at c).said t + 1) (λ _. refl) u d;
     wait = λ u d. sym (put_pair_same (λ _ _. None) t c None refl u d);
-    mission = λ u. mission_stays_as u (ap (λ (f : ℕ → Option centre.Mission). f u) mission) ∙ proposal_drops line w c t u alone;
+    mission = λ u. proposal_drops line w c t u alone;
   })
-    where
-      mission_stays_as : (u : ℕ) {o x : Option centre.Mission} → o ≡ x
-          → (if centre.is_registrar_of line c u then option_map (seen c) o else (alone_off line w).mission u) ≡ (if centre.is_registrar_of line c u then option_map (seen c) x else (alone_off line w).mission u)
-      mission_stays_as u e = ap (λ (o : Option centre.Mission). if centre.is_registrar_of line c u then option_map (seen c) o else (alone_off line w).mission u) e
 
   opened : Answer InitiationOfSession
   unfolding ◌>>◌
@@ -121,7 +116,7 @@ module _ (line : Line) (w : World) (alone : IsAlone line w) (c t_train t : ℕ) 
           said_is = ap (λ (words : List Word). record { sayings = saying_of t c unknown_group SystemVersion (v InitiationOfSession) ∷ []; words = words }) (sym (none_told InitiationOfSession));
           new_is = refl;
         };
-        quiet_steps = (refl, closed_shown InitiationOfSession centre.Opened (put (put k.phase t centre.Silent) t centre.Opened) _ (put_over t centre.Opened centre.Silent (w.at c).phase) refl refl refl refl refl refl);
+        quiet_steps = (refl, closed_shown InitiationOfSession centre.Opened (put (put k.phase t centre.Silent) t centre.Opened) _ (put_over t centre.Opened centre.Silent (w.at c).phase));
         says_it = refl;
       }
 
@@ -146,7 +141,7 @@ module _ (line : Line) (w : World) (alone : IsAlone line w) (c t_train t : ℕ) 
           said_is = ap (λ (words : List Word). record { sayings = saying_of t c unknown_group TerminationAcknowledged (v TerminationOfSession) ∷ []; words = words }) (sym (none_told TerminationOfSession));
           new_is = refl;
         };
-        quiet_steps = (refl, closed_shown TerminationOfSession centre.Silent (put k.phase t centre.Silent) _ (λ u. refl) refl refl refl refl refl refl);
+        quiet_steps = (refl, closed_shown TerminationOfSession centre.Silent (put k.phase t centre.Silent) _ (λ u. refl));
         says_it = refl;
       }
 
