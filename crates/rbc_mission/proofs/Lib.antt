@@ -1,0 +1,5 @@
+pub mod Runs
+pub mod Courses
+pub mod Deeds
+pub mod Silences
+pub mod Replies

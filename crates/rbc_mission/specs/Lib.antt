@@ -1,0 +1,4 @@
+pub mod Deeds
+pub mod Sections
+pub mod Courses
+pub mod Changes

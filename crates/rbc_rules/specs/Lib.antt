@@ -1,0 +1,4 @@
+pub mod Reasons
+pub mod Acts
+pub mod Decisions
+pub mod Desks

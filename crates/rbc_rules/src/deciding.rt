@@ -1,0 +1,146 @@
+//! What a message comes to, or why it is left without an answer: by the phase of the session and the mission's facts.
+
+ghost use Rattle.std.specs.Prelude.{◌≡◌, option_map, Ok};
+ghost use Rattle.rbc_spec.specs.Rules as rules;
+ghost use Rattle.rbc_spec.specs.Rules.{fit_place, all_of};
+ghost use Rattle.rbc_spec.specs.Runs.{within};
+ghost use Rattle.rbc_spec.specs.Outcome.{MissionEnded};
+ghost use Rattle.rbc_msgs.specs.StepMessage as message;
+ghost use Rattle.rbc_msgs.specs.StepMessage.{position_of};
+ghost use Rattle.rbc_session.specs.Standing.{phase_of};
+ghost use Rattle.rbc_hand.specs.SectionRuns.{run_of};
+ghost use Rattle.rbc_place.specs.Places.{place_of};
+ghost use Rattle.rbc_mission.specs.Courses.{mission_of};
+ghost use Rattle.rbc_mission.specs.Deeds as deeds;
+ghost use Rattle.rbc_rules.specs.Decisions.{act_seen};
+ghost use Rattle.rbc_rules.specs.Acts.{deed_of};
+
+use crate::act::Act;
+use crate::silence::Silence;
+use rbc_hand::SectionRun;
+use rbc_line::Line;
+use rbc_mission::Mission;
+use rbc_packets::Position;
+use rbc_place::{Place, cleared, extent, is_fit, place_on};
+use rbc_session::Phase;
+use rbc_shorten::{Cut, granted, rejected};
+use rbc_vars::{QStatus, TTrain};
+
+/// A decision about a message.
+pub type Decision = Result<Act, Silence>;
+
+/// A session that stands is closed.
+pub fn closing(phase: Phase) -> Decision
+    ensures { act_seen result ≡ deeds.closing (phase_of phase) }
+{
+    match phase {
+        Phase::Silent => Err(Silence::NoSession),
+        Phase::Opened | Phase::Up => Ok(Act::CloseSession),
+    }
+}
+
+/// A session that was opened and not confirmed is confirmed.
+pub fn establishing(phase: Phase) -> Decision
+    ensures { act_seen result ≡ deeds.establishing (phase_of phase) }
+{
+    match phase {
+        Phase::Silent => Err(Silence::NoSession),
+        Phase::Opened => Ok(Act::EstablishSession),
+        Phase::Up => Err(Silence::WrongPhase),
+    }
+}
+
+/// This, where the session is up.
+pub fn if_up(phase: Phase, then: Decision) -> Decision
+    ensures { act_seen result ≡ deeds.if_up (phase_of phase) (act_seen then) }
+{
+    match phase {
+        Phase::Silent => Err(Silence::NoSession),
+        Phase::Opened => Err(Silence::WrongPhase),
+        Phase::Up => then,
+    }
+}
+
+/// The place of a start of mission that is fit (5.4).
+pub fn place_of_start(line: &Line, q_status: QStatus, position: &Position) -> Option<Place>
+    ensures { option_map place_of result ≡ fit_place line.now (message.is_valid q_status) (position_of position.now) }
+{
+    let place = extent(line, position)?;
+    if matches!(q_status, QStatus::Valid) && is_fit(line, &place) {
+        Some(place)
+    } else {
+        None
+    }
+}
+
+/// Whether all sections of the run are in the hand.
+pub fn has_all(hand: SectionRun, run: SectionRun) -> bool
+    ensures { result ≡ all_of (within (run_of hand)) (run_of run) }
+{
+    run.is_empty() || (hand.first <= run.first && run.behind() <= hand.behind())
+}
+
+/// Train data of a mission that goes on are taken.
+pub fn data(mission: &Mission) -> Decision
+    ensures { act_seen result ≡ deeds.unless mission.now.is_ended MissionEnded (Ok deeds.TakeData) }
+{
+    if mission.is_ended {
+        Err(Silence::MissionEnded)
+    } else {
+        Ok(Act::TakeData)
+    }
+}
+
+/// A report clears sections of the hand (3.6.5).
+pub fn report(line: &Line, mission: &Mission, hand: SectionRun, position: &Position) -> Decision
+    ensures { act_seen result ≡ deeds.report_rule line.now (position_of position.now) (mission_of (run_of hand) mission.now) }
+{
+    match place_on(line, mission.place.track, position) {
+        Some(place) => Ok(Act::Clear(place, cleared(line, hand, &place))),
+        None => Err(Silence::NoPlace),
+    }
+}
+
+/// The mission is ended, behind a report (5.5).
+pub fn end(line: &Line, mission: &Mission, hand: SectionRun, position: &Position) -> Decision
+    ensures { act_seen result ≡ deeds.end_rule line.now (position_of position.now) (mission_of (run_of hand) mission.now) }
+{
+    if mission.is_ended {
+        return Err(Silence::MissionEnded);
+    }
+    match place_on(line, mission.place.track, position) {
+        Some(place) => Ok(Act::ClearAndEnd(place, cleared(line, hand, &place))),
+        None => Ok(Act::End),
+    }
+}
+
+/// The train has granted a shortening (3.8.6).
+pub fn grant(
+    line: &Line,
+    mission: &Mission,
+    hand: SectionRun,
+    request: TTrain,
+    position: &Position,
+) -> Decision
+    ensures { act_seen result ≡ deeds.granted_rule line.now request (position_of position.now) (mission_of (run_of hand) mission.now) }
+{
+    let front = match place_on(line, mission.place.track, position) {
+        Some(place) => Some(place.front),
+        None => None,
+    };
+    match granted(line, mission.proposal, request.value() as u32, hand, front) {
+        Ok(Cut::Keep(keep)) => Ok(Act::Cut(keep)),
+        Ok(Cut::Nothing) => Ok(Act::DropProposal),
+        Err(_) => Err(Silence::Unasked),
+    }
+}
+
+/// The train has rejected it.
+pub fn rejection(mission: &Mission, hand: SectionRun, request: TTrain) -> Decision
+    ensures { act_seen result ≡ deeds.if_asked request (mission_of (run_of hand) mission.now) (λ p. deeds.DropProposal) }
+{
+    match rejected(mission.proposal, request.value() as u32) {
+        Ok(()) => Ok(Act::DropProposal),
+        Err(_) => Err(Silence::Unasked),
+    }
+}
