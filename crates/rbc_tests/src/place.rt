@@ -3,6 +3,7 @@
 
 use crate::line::eight_sections;
 use rbc_hand::SectionRun;
+use rbc_line::Line;
 use rbc_packets::{Level, Location, Position, TrainLength};
 use rbc_place::{
     Place, cleared, covered, covers, extent, group_start, is_fit, is_on, place_on, section_end,
@@ -26,8 +27,14 @@ const FIRST: Place = Place {
     rear: Some(13_900),
 };
 
-/// The report of a train so many metres past a group, which may be 10 m behind and 20 m ahead of that.
-fn reported(group: u32, metres: u16, train_length: TrainLength) -> Result<Position, Fail> {
+/// Where the report puts a train so many metres past a group, which may be 10 m behind and 20 m ahead of that: on any track,
+/// on track 0, and on track 1.
+fn places(
+    line: &Line,
+    group: u32,
+    metres: u16,
+    train_length: TrainLength,
+) -> Result<[Option<Place>; 3], Fail> {
     let unfit = "its bits have room for it";
     let location = Location {
         q_scale: QScale::Metre,
@@ -38,14 +45,19 @@ fn reported(group: u32, metres: u16, train_length: TrainLength) -> Result<Positi
         l_doubtover: LDoubtover::new(10),
         l_doubtunder: LDoubtunder::new(20),
     };
-    Ok(Position {
+    let report = Position {
         location,
         train_length,
         v_train: VTrain::new(0),
         q_dirtrain: Direction::Nominal,
         m_mode: MMode::new(0),
         level: Level::Level2,
-    })
+    };
+    Ok([
+        extent(line, &report),
+        place_on(line, 0, &report),
+        place_on(line, 1, &report),
+    ])
 }
 
 /// Integrity confirmed by a device, the train 200 m long.
@@ -56,10 +68,10 @@ fn confirmed() -> TrainLength {
 #[test]
 fn a_report_has_a_place(rt: HostRuntime) -> Result<(), Fail> {
     let line = eight_sections(rt.alloc())?;
-    let report = reported(GROUP_101, 600, confirmed())?;
-    assert_eq!(rt; extent(&line, &report), Some(FIRST));
-    assert_eq!(rt; place_on(&line, 0, &report), Some(FIRST));
-    assert_eq!(rt; place_on(&line, 1, &report), None);
+    let [place, on_main, on_another] = places(&line, GROUP_101, 600, confirmed())?;
+    assert_eq!(rt; place, Some(FIRST));
+    assert_eq!(rt; on_main, Some(FIRST));
+    assert_eq!(rt; on_another, None);
     assert!(rt; FIRST.is_on_track(0));
     assert_eq!(rt; group_start(&line, &FIRST), 1_000);
     assert!(rt; covers(&line, &FIRST, 1) && !covers(&line, &FIRST, 0) && !covers(&line, &FIRST, 2));
@@ -73,8 +85,8 @@ fn what_ends_at_the_rear_is_cleared(rt: HostRuntime) -> Result<(), Fail> {
     let line = eight_sections(rt.alloc())?;
     let hand = SectionRun { first: 1, count: 3 };
     assert_eq!(rt; cleared(&line, hand, &FIRST), 0);
-    let report = reported(GROUP_102, 210, confirmed())?;
-    let place = extent(&line, &report).ok_or("the report has a place")?;
+    let [place, _, _] = places(&line, GROUP_102, 210, confirmed())?;
+    let place = place.ok_or("the report has a place")?;
     assert_eq!(rt; place.front, 22_300);
     assert_eq!(rt; place.rear, Some(20_000));
     assert_eq!(rt; cleared(&line, hand, &place), 1);
@@ -86,8 +98,8 @@ fn what_ends_at_the_rear_is_cleared(rt: HostRuntime) -> Result<(), Fail> {
 fn nothing_is_cleared_without_confirmed_integrity(rt: HostRuntime) -> Result<(), Fail> {
     let line = eight_sections(rt.alloc())?;
     let hand = SectionRun { first: 1, count: 3 };
-    let lost = reported(GROUP_102, 900, TrainLength::Lost)?;
-    let place = extent(&line, &lost).ok_or("the report has a place")?;
+    let [place, _, _] = places(&line, GROUP_102, 900, TrainLength::Lost)?;
+    let place = place.ok_or("the report has a place")?;
     assert_eq!(rt; place.front, 29_200);
     assert_eq!(rt; place.rear, None);
     assert_eq!(rt; cleared(&line, hand, &place), 0);
