@@ -1,0 +1,6 @@
+pub mod Homes
+pub mod Messages
+pub mod Starts
+pub mod Tellings
+pub mod Events
+pub mod Whole
