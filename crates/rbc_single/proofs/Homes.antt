@@ -1,14 +1,14 @@
 -- The one centre of a line is the home of each section and the registrar of each train: where a centre has some section to
 -- itself, it is the registrar of every train of the line.
-use Rattle.std.proofs.Common.{◌≡◌, ℕ, zero, suc, ◌==◌, ◌<◌, ◌&&◌, Bool, true, false, cond, Option, Some, None, option_map, is_none, nat_lt, refl, sym, ap, ◌∙◌, List, [], ◌∷◌, length, slice_get, subst, inl, inr, arith, ltb-true, if◌then◌else◌}
+use Rattle.std.proofs.Common.{◌≡◌, ℕ, zero, suc, ◌==◌, ◌<◌, ◌&&◌, Bool, true, false, cond, Option, Some, None, option_map, is_none, nat_lt, refl, sym, ap, ◌∙◌, List, [], ◌∷◌, length, drop, not, slice_get, subst, inl, inr, arith, ltb-true, if◌then◌else◌}
 use Rattle.std.specs.Option.{option_map_or}
-use Rattle.std.specs.List.{All, find, position_or_len}
+use Rattle.std.specs.List.{All, find, zip, position_or_len}
 use Rattle.std.proofs.lemmas.Bool.{and_parts}
 use Rattle.std.proofs.lemmas.Bool.Decides.{eqb_tells}
 use Rattle.std.proofs.lemmas.Option.{same_Some}
-use Rattle.std.proofs.lemmas.List.Elements.{All-head, All-tail}
+use Rattle.std.proofs.lemmas.List.Elements.{All-head, All-tail, All-drop}
 use Rattle.std.proofs.lemmas.List.Folds.{find_at}
-use Rattle.rbc_spec.specs.Line.{Line, Section, Train, section, is_home, train_number}
+use Rattle.rbc_spec.specs.Line.{Line, Section, Train, section, is_home, is_joint, next_centre, train_number}
 use Rattle.rbc_spec.specs.Place.{Place, Position, extent, is_fit, covered}
 use Rattle.rbc_spec.specs.Centre as centre
 use Rattle.rbc_spec.specs.Centre.{is_open, is_free, is_registrar_of}
@@ -56,9 +56,6 @@ module _ (line : Line) (d : ℕ) (one : IsOneCentreLine line d) where
   registrar_is : (t : ℕ) → is_none (train_number line t) ≡ false → is_registrar_of line d t ≡ true
   registrar_is t known = by_number (nat_lt (position_or_len (λ p. p.nid_engine == t) line.trains) (length line.trains)) refl known
     where
-      test : Train → Bool
-      test p = p.nid_engine == t
-
       by_number : (b : Bool) → nat_lt (position_or_len (λ p. p.nid_engine == t) line.trains) (length line.trains) ≡ b
           → is_none (cond b (Some (position_or_len (λ (p : Train). p.nid_engine == t) line.trains)) None) ≡ false → is_registrar_of line d t ≡ true
       by_number false low h = cc
@@ -78,3 +75,22 @@ module _ (line : Line) (d : ℕ) (one : IsOneCentreLine line d) where
       let free = each_within (is_free line c k) (covered line place) all some.0 (covers_within line ordered place fit some.0 some.1) in
       let here : c ≡ d = home_is c some.0 (and_parts (is_home line c some.0) (is_open (k.book some.0)) free).0 in
       ap (λ e. is_registrar_of line e t) here ∙ registrar_is t known
+
+  -- no centre follows another on a track
+  no_border : (c track : ℕ) (xs ys : List Section) → All (λ p. p.home ≡ d) xs → All (λ p. p.home ≡ d) ys
+      → find (λ (seam : Section × Section). ((is_joint seam && (seam.0.track == track)) && (seam.0.home == c)) && not (seam.1.home == c)) (zip xs ys) ≡ None
+  no_border c track [] ys left right = refl
+  no_border c track (x ∷ xs) [] left right = refl
+  no_border c track (x ∷ xs) (y ∷ ys) left right =
+      ap (λ b. cond b (Some (x, y)) (find (λ (seam : Section × Section). ((is_joint seam && (seam.0.track == track)) && (seam.0.home == c)) && not (seam.1.home == c)) (zip xs ys)))
+      (none_passes (is_joint (x, y) && (x.track == track)) (x.home == c) (y.home == c) (ap (λ h. h == c) (All-head (λ p. p.home ≡ d) x xs left ∙ sym (All-head (λ p. p.home ≡ d) y ys right))))
+      ∙ no_border c track xs ys (All-tail (λ p. p.home ≡ d) x xs left) (All-tail (λ p. p.home ≡ d) y ys right)
+    where
+      none_passes : (a b e : Bool) → b ≡ e → ((a && b) && not e) ≡ false
+      none_passes false b e same = refl
+      none_passes true true true same = refl
+      none_passes true true false same = cc
+      none_passes true false e same = refl
+
+  pub none_next : (c track : ℕ) → next_centre line c track ≡ None
+  none_next c track = ap (option_map (λ (seam : Section × Section). seam.1.home)) (no_border c track line.sections (drop 1 line.sections) one.homes (All-drop (λ p. p.home ≡ d) 1 line.sections one.homes))

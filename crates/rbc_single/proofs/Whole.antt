@@ -1,6 +1,6 @@
 -- Whole lists of events at the centres of a line that one centre has alone are met without free choice.
-use Rattle.std.proofs.Common.{◌≡◌, ℕ, refl, List, [], ◌∷◌, Result, Ok, subst}
-use Rattle.rbc_spec.specs.Reach.{Alone}
+use Rattle.std.proofs.Common.{◌≡◌, ℕ, refl, sym, ◌∙◌, List, [], ◌∷◌, Result, Ok, subst}
+use Rattle.rbc_spec.specs.Reach.{Alone, Whole}
 use Rattle.rbc_spec.specs.Line.{Line, IsLine}
 use Rattle.rbc_spec.specs.Step.{Refusal}
 use Rattle.rbc_spec.specs.LineCentre.{LineState, line_beginning}
@@ -12,6 +12,7 @@ use Rattle.rbc_alone.proofs.Ordered.{is_ordered}
 use Rattle.rbc_alone.proofs.Worlds.{new_alone, world_step_alone, run_alone, bind_ok}
 use Rattle.rbc_pieces.proofs.ReadOff.{read_off_alone}
 use Rattle.rbc_pieces.proofs.Whole.{beginning_is, read_stands}
+use Rattle.rbc_single.proofs.Borders.{same_run}
 use Rattle.rbc_single.proofs.Events.{event_goes}
 
 module _ (line : Line) (ok : IsLine line) (d : ℕ) (one : IsOneCentreLine line d) where
@@ -55,3 +56,7 @@ module _ (line : Line) (ok : IsLine line) (d : ℕ) (one : IsOneCentreLine line 
     is_run = run_read events answers w is;
     stands = read_stands line ok w (run_alone line (is_ordered line ok) events (new_world line) (new_alone line) answers w is);
   }
+
+  -- by all rules
+  pub whole_run : (events : List Event) (answers : List Answer) (w : World) → world_run Whole line (new_world line) events ≡ Ok (answers, w) → IsOneCentreRun line events answers w
+  whole_run events answers w is = run_is events answers w (sym (same_run line (is_ordered line ok) d one events (new_world line)) ∙ is)
