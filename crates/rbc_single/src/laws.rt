@@ -18,8 +18,8 @@ pub fn each_event_leaves_no_choice()
         → world_step Alone line w event ≡ Ok (answer, new) → GoesAlone line (alone_off line w) event answer (alone_off line new) }
 {}
 
-/// No mission of such a line goes on at another centre: in whatever states its centres are, all rules come to those of missions
-/// that stay where they began.
+/// In whatever states the centres of such a line are, an event comes to the same by all rules as by those of missions that
+/// stay at one centre.
 pub fn no_mission_goes_on_elsewhere()
     ensures step { (line : Line) (c : ℕ) (w : World) (event : Event) → IsLine line → IsOneCentreLine line c → world_step Whole line w event ≡ world_step Alone line w event }
     ensures run { (line : Line) (c : ℕ) (w : World) (events : List Event) → IsLine line → IsOneCentreLine line c → world_run Whole line w events ≡ world_run Alone line w events }
