@@ -25,9 +25,9 @@ use Rattle.rbc_pieces.proofs.Ranges.{within_from, not_false}
 use Rattle.rbc_pieces.proofs.Off.{shows, mark_stays, wish_stays, mission_put, registrar_of_mission}
 use Rattle.rbc_pieces.proofs.Missions.{some_of, mission_becomes, mission_here}
 use Rattle.rbc_pieces.proofs.Leaves.{close_is, left_marks, left_wishes, left_words, none_given, some_given}
-use Rattle.rbc_pieces.proofs.Acts.{not_yielded, append_nil, words_alone, words_only, Does, both_do, with_it, does_as}
+use Rattle.rbc_pieces.proofs.Acts.{not_yielded, append_nil, words_alone, Does, both_do, with_it, does_as}
 use Rattle.rbc_pieces.proofs.Tails.{released as cut_is, gone_inside as cut_inside, all_gone as whole_cut, first_kept}
-use Rattle.rbc_pieces.proofs.Messages.{Answers, Goes, ticked, message, before, reply, left, not_for, message_goes}
+use Rattle.rbc_pieces.proofs.Messages.{AtOnce, Goes, ticked, message, before, reply, left, not_for, goes_at_once}
 
 module _ (line : Line) (w : World) (alone : IsAlone line w) (c t_train t : ℕ) (trains : List ℕ) (at : is_centre line c ≡ true) (asked : ℕ) (position : Position)
     (m : centre.Mission) (has : (w.at c).mission t ≡ Some m) (p : centre.Proposal) (proposed : m.proposal ≡ Some p) where
@@ -41,7 +41,7 @@ module _ (line : Line) (w : World) (alone : IsAlone line w) (c t_train t : ℕ) 
   v = before line w alone c t_train t trains at body
 
   abbrev Answer : Type 0
-  Answer = Answers line w alone c t_train t trains at body
+  Answer = AtOnce line w alone c t_train t trains at body
 
   abbrev made : centre.Centre → centre.Centre
   made state = left line w alone c t_train t trains at state (reply line w alone c t_train t trains at body)
@@ -106,27 +106,20 @@ module _ (line : Line) (w : World) (alone : IsAlone line w) (c t_train t : ℕ) 
       record {
         state = answered;
         said = nothing;
-        own = nothing;
         mid = without_ask t v;
-        quiets = [];
-        later = nothing;
         state_is = comes.state_is;
         sayings_are = comes.sayings_are;
         words_are = comes.words_are;
         own_step = own;
-        quiet_steps = (
-          refl,
-          shows line w c (made answered) trains (without_ask t v) (record {
-            mark = λ s. mark_stays line w c s _ (λ _. refl);
-            wish = λ s. wish_stays line w c s _ (λ _. refl);
-            phase = λ u d. put_keeps (λ (j : centre.Centre). j.phase u) w.at c (made answered) refl d;
-            heard = λ u d. put_at_pair (λ (j : centre.Centre). j.heard) w.at c (made answered) t (Some t_train) (λ _. refl) u d;
-            said = λ u d. put_keeps (λ (j : centre.Centre). j.said u) w.at c (made answered) refl d;
-            wait = λ u d. refl;
-            mission = λ u. mission_becomes line w c t m (Some unasked) (Some (seen c unasked)) u alone has refl ∙ without_mission u;
-          }),
-        );
-        says_it = refl;
+        shown = shows line w c (made answered) trains (without_ask t v) (record {
+          mark = λ s. mark_stays line w c s _ (λ _. refl);
+          wish = λ s. wish_stays line w c s _ (λ _. refl);
+          phase = λ u d. put_keeps (λ (j : centre.Centre). j.phase u) w.at c (made answered) refl d;
+          heard = λ u d. put_at_pair (λ (j : centre.Centre). j.heard) w.at c (made answered) t (Some t_train) (λ _. refl) u d;
+          said = λ u d. put_keeps (λ (j : centre.Centre). j.said u) w.at c (made answered) refl d;
+          wait = λ u d. refl;
+          mission = λ u. mission_becomes line w c t m (Some unasked) (Some (seen c unasked)) u alone has refl ∙ without_mission u;
+        });
       }
 
   nowhere : place_on line m.place.track position ≡ None → Answer
@@ -197,16 +190,12 @@ module _ (line : Line) (w : World) (alone : IsAlone line w) (c t_train t : ℕ) 
       answer_cut s shown comes is shows_it = record {
         state = s;
         said = record { sayings = []; words = words };
-        own = record { sayings = []; words = words };
         mid = shown;
-        quiets = [];
-        later = nothing;
         state_is = comes.state_is;
         sayings_are = comes.sayings_are;
         words_are = comes.words_are;
         own_step = rw (track_is ∙ on) (rw last_is (record { said_is = sym (ap (λ b. record { sayings = []; words = if b then words else [] }) in_time); new_is = sym is }));
-        quiet_steps = (refl, shows_it);
-        says_it = words_only words;
+        shown = shows_it;
       }
 
       shortened_is : shortened line t c (Some place) p.last_kept (without_ask t v) ≡ close_if_empty line t cut_line
@@ -288,12 +277,16 @@ module _ (line : Line) (w : World) (alone : IsAlone line w) (c t_train t : ℕ) 
   asked_of m None is h = cc
   asked_of m (Some p) is h = (p, is)
 
-  pub granted_goes : Goes line w alone c t_train t trains at (ShorteningGranted asked position)
-  granted_goes = message_goes line w alone c t_train t trains at (ShorteningGranted asked position) (λ h.
+  pub granted_heard : step.silence line c (ticked line w alone c t_train t trains at) (message line w alone c t_train t trains at (ShorteningGranted asked position)) ≡ None
+      → AtOnce line w alone c t_train t trains at (ShorteningGranted asked position)
+  granted_heard h =
       let here = some_of ((w.at c).mission t) (not_for line w alone c t_train t trains at (ShorteningGranted asked position) 4 NotSupervised h refl) in
       let fails : not (option_map_or (λ p. p.stamp == asked) here.0.proposal false) ≡ false =
       sym (ap (λ (o : Option centre.Mission). not (step.mission_has (λ m. option_map_or (λ p. p.stamp == asked) m.proposal false) o)) here.1)
       ∙ not_for line w alone c t_train t trains at (ShorteningGranted asked position) 5 Unasked h refl
       in
       let asks = asked_of here.0 here.0.proposal refl (not_false (option_map_or (λ p. p.stamp == asked) here.0.proposal false) fails) in
-      granted_answered line w alone c t_train t trains at asked position here.0 here.1 asks.0 asks.1)
+      granted_answered line w alone c t_train t trains at asked position here.0 here.1 asks.0 asks.1
+
+  pub granted_goes : Goes line w alone c t_train t trains at (ShorteningGranted asked position)
+  granted_goes = goes_at_once line w alone c t_train t trains at (ShorteningGranted asked position) granted_heard

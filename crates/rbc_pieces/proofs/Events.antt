@@ -1,18 +1,19 @@
 -- Each event at the centres is a piece of the one line centre's run.
-use Rattle.std.proofs.Common.{◌≡◌, ℕ, ◌-◌, ◌==◌, Bool, true, false, cond, Option, Some, None, refl, sym, ap, ◌∙◌, List, slice_get, Result, Ok, Err, if◌then◌else◌, subst}
+use Rattle.std.proofs.Common.{◌≡◌, ℕ, Bool, true, false, Option, Some, None, refl, sym, ap, ◌∙◌, List, Result, Ok, Err, if◌then◌else◌, subst}
 use Rattle.std.specs.Option.{option_map_or}
 use Rattle.rbc_spec.specs.Reach.{Alone}
 use Rattle.rbc_spec.specs.Line.{Line, is_centre}
-use Rattle.rbc_spec.specs.Message.{TrainBody, TrainData, Request, Report, ShorteningGranted, ShorteningRejected, EndOfMission, InitiationOfSession, TerminationOfSession, StartOfMission, SessionEstablished}
+use Rattle.rbc_spec.specs.Message.{TrainMessage, TrainBody, TrainData, Request, Report, ShorteningGranted, ShorteningRejected, EndOfMission, InitiationOfSession, TerminationOfSession, StartOfMission, SessionEstablished}
 use Rattle.rbc_spec.specs.Frame.{Frame}
 use Rattle.rbc_spec.specs.Outcome.{Outcome}
 use Rattle.rbc_spec.specs.Centre as centre
 use Rattle.rbc_spec.specs.Step as step
 use Rattle.rbc_spec.specs.Step.{Refusal}
 use Rattle.rbc_spec.specs.LineCentre.{LineState}
-use Rattle.rbc_spec.specs.World.{World, Event, Bytes, Set, Unset, Delivery, Answer, Answered, NoCentre, NotSent, Fault, world_step, takes, stepped, mention, frame_sent}
-use Rattle.rbc_spec.specs.Run.{Piece, Goes}
+use Rattle.rbc_spec.specs.World.{World, Event, Bytes, Set, Unset, Delivery, Answer, Answered, NoCentre, NotSent, Fault, world_step, takes, stepped, mention}
+use Rattle.rbc_spec.specs.Run.{Goes}
 use Rattle.rbc_alone.specs.Alone.{IsOrdered, IsAlone, alone_off}
+use Rattle.rbc_alone.proofs.Worlds.{none_delivered}
 use Rattle.rbc_pieces.specs.Pieces.{with_centre}
 use Rattle.rbc_pieces.proofs.Sessions.{established_goes, opened_goes, ended_goes, data_goes, rejected_goes}
 use Rattle.rbc_pieces.proofs.Starts.{start_goes}
@@ -30,17 +31,76 @@ ok_step line c event k p e = by_refusal (step.refusal line c k event) e
     by_refusal (Some f) h = cc
     by_refusal None h = cc
 
-module _ (line : Line) (ordered : IsOrdered line) (w : World) (alone : IsAlone line w) where
-  abbrev v : LineState
+module _ (line : Line) (w : World) (alone : IsAlone line w) where
+  abbrev pub v : LineState
   v = alone_off line w
 
-  -- the piece of a step that centre c takes
-  abbrev Taken : ℕ → List ℕ → Event → step.Event → Type 0
-  Taken c trains e event = Piece line v e (step.taken Alone line c event (w.at c)).0 (alone_off line (with_centre w c (step.taken Alone line c event (w.at c)).1 trains))
+  -- ## What holds of every answer
 
+  module _ (G : Event → Answer → LineState → Type 0) where
+    -- it holds of the step that centre c takes
+    abbrev pub Taken : ℕ → List ℕ → Event → step.Event → Type 0
+    Taken c trains e event = G e (Answered (step.taken Alone line c event (w.at c)).0) (alone_off line (with_centre w c (step.taken Alone line c event (w.at c)).1 trains))
+
+    -- it holds of each event, where it is at a centre of the line, and where it is not
+    pub record HoldsOfEach : Type 0 where
+      pub message : (c : ℕ) (m : TrainMessage) → is_centre line c ≡ true → Taken c (mention line m.nid_engine w.trains) (Bytes c (Ok m)) (step.Train m)
+      pub set : (c s : ℕ) → is_centre line c ≡ true → Taken c w.trains (Set c s) (step.Set s)
+      pub unset : (c s : ℕ) → is_centre line c ≡ true → Taken c w.trains (Unset c s) (step.Unset s)
+      pub fault : (c n : ℕ) → is_centre line c ≡ true → G (Bytes c (Err n)) (Fault n) v
+      pub bytes_nowhere : (c : ℕ) (read : Result TrainMessage ℕ) → is_centre line c ≡ false → G (Bytes c read) NoCentre v
+      pub set_nowhere : (c s : ℕ) → is_centre line c ≡ false → G (Set c s) NoCentre v
+      pub unset_nowhere : (c s : ℕ) → is_centre line c ≡ false → G (Unset c s) NoCentre v
+      pub not_sent : (a b number : ℕ) → G (Delivery a b number) NotSent v
+
+    -- what a centre of the line has met
+    met : (c : ℕ) (trains : List ℕ) (e : Event) (event : step.Event) (answer : Answer) (new : World) (b : Bool) → is_centre line c ≡ b
+        → (is_centre line c ≡ true → Taken c trains e event) → (is_centre line c ≡ false → G e NoCentre v)
+        → (if b then takes Alone line w c trains event else Ok (NoCentre, w)) ≡ Ok (answer, new) → G e answer (alone_off line new)
+    met c trains e event answer new true at piece none h = by_step (step.step Alone line c event (w.at c)) (ok_step line c event (w.at c)) h
+      where
+        by_step : (done : Result (Outcome × centre.Centre) Refusal) → ((p : Outcome × centre.Centre) → done ≡ Ok p → p ≡ step.taken Alone line c event (w.at c))
+            → stepped w c trains done ≡ Ok (answer, new) → G e answer (alone_off line new)
+        by_step (Ok p) is_taken g =
+            let went : G e (Answered p.0) (alone_off line (with_centre w c p.1 trains)) =
+            subst (λ (q : Outcome × centre.Centre). G e (Answered q.0) (alone_off line (with_centre w c q.1 trains))) (sym (is_taken p refl)) (piece at)
+            in
+            let same : (Answered p.0, with_centre w c p.1 trains) ≡ (answer, new) = cc in
+            subst (λ (q : Answer × World). G e q.0 (alone_off line q.1)) same went
+        by_step (Err why) is_taken g = cc
+    met c trains e event answer new false at piece none h =
+        let same : (NoCentre, w) ≡ (answer, new) = cc in
+        subst (λ (q : Answer × World). G e q.0 (alone_off line q.1)) same (none at)
+
+    fault_met : (c n : ℕ) (answer : Answer) (new : World) → HoldsOfEach → (b : Bool) → is_centre line c ≡ b
+        → if◌then◌else◌ {A = Result (Answer × World) Refusal} b (Ok (Fault n, w)) (Ok (NoCentre, w)) ≡ Ok (answer, new) → G (Bytes c (Err n)) answer (alone_off line new)
+    fault_met c n answer new holds true at e =
+        let same : (Fault n, w) ≡ (answer, new) = cc in
+        subst (λ (q : Answer × World). G (Bytes c (Err n)) q.0 (alone_off line q.1)) same (holds.fault c n at)
+    fault_met c n answer new holds false at e =
+        let same : (NoCentre, w) ≡ (answer, new) = cc in
+        subst (λ (q : Answer × World). G (Bytes c (Err n)) q.0 (alone_off line q.1)) same (holds.bytes_nowhere c (Err n) at)
+
+    -- whatever happens, it holds
+    pub holds_of : HoldsOfEach → (event : Event) (answer : Answer) (new : World) → world_step Alone line w event ≡ Ok (answer, new) → G event answer (alone_off line new)
+    unfolding world_step
+    holds_of holds (Bytes c (Ok m)) answer new e = met c (mention line m.nid_engine w.trains) (Bytes c (Ok m)) (step.Train m) answer new (is_centre line c) refl (holds.message c m) (holds.bytes_nowhere c (Ok m)) e
+    holds_of holds (Bytes c (Err n)) answer new e = fault_met c n answer new holds (is_centre line c) refl e
+    holds_of holds (Set c s) answer new e = met c w.trains (Set c s) (step.Set s) answer new (is_centre line c) refl (holds.set c s) (holds.set_nowhere c s) e
+    holds_of holds (Unset c s) answer new e = met c w.trains (Unset c s) (step.Unset s) answer new (is_centre line c) refl (holds.unset c s) (holds.unset_nowhere c s) e
+    holds_of holds (Delivery a b number) answer new e =
+        let sent : ◌≡◌ {A = Result (Answer × World) Refusal} (Ok (NotSent, w)) (Ok (answer, new)) =
+        sym (ap (λ (o : Option Frame). option_map_or (λ f. takes Alone line w b w.trains (step.Deliver a f)) o (Ok (NotSent, w))) (none_delivered line w alone a b number)) ∙ e
+        in
+        let same : (NotSent, w) ≡ (answer, new) = cc in
+        subst (λ (q : Answer × World). G (Delivery a b number) q.0 (alone_off line q.1)) same (holds.not_sent a b number)
+
+-- ## The one line centre goes on
+
+module _ (line : Line) (ordered : IsOrdered line) (w : World) (alone : IsAlone line w) where
   -- a message at a centre of the line
   pub message_piece : (c t_train t : ℕ) (body : TrainBody) (trains : List ℕ) → is_centre line c ≡ true
-      → Taken c trains (Bytes c (Ok (record { t_train = t_train; nid_engine = t; body = body }))) (step.Train (record { t_train = t_train; nid_engine = t; body = body }))
+      → Taken line w alone (Goes line (v line w alone)) c trains (Bytes c (Ok (record { t_train = t_train; nid_engine = t; body = body }))) (step.Train (record { t_train = t_train; nid_engine = t; body = body }))
   message_piece c t_train t InitiationOfSession trains at = opened_goes line w alone c t_train t trains at
   message_piece c t_train t TerminationOfSession trains at = ended_goes line w alone c t_train t trains at
   message_piece c t_train t SessionEstablished trains at = established_goes line w alone c t_train t trains at
@@ -52,61 +112,21 @@ module _ (line : Line) (ordered : IsOrdered line) (w : World) (alone : IsAlone l
   message_piece c t_train t (ShorteningRejected asked position) trains at = rejected_goes line w alone c t_train t trains at asked position
   message_piece c t_train t (EndOfMission position) trains at = end_goes line ordered w alone c t_train t trains at position
 
-  pub set_piece : (c s : ℕ) → is_centre line c ≡ true → Taken c w.trains (Set c s) (step.Set s)
+  pub set_piece : (c s : ℕ) → is_centre line c ≡ true → Taken line w alone (Goes line (v line w alone)) c w.trains (Set c s) (step.Set s)
   set_piece c s at = set_goes line w alone c s w.trains at
 
-  pub unset_piece : (c s : ℕ) → is_centre line c ≡ true → Taken c w.trains (Unset c s) (step.Unset s)
+  pub unset_piece : (c s : ℕ) → is_centre line c ≡ true → Taken line w alone (Goes line (v line w alone)) c w.trains (Unset c s) (step.Unset s)
   unset_piece c s at = unset_goes line w alone c s w.trains at
 
-  -- what a centre of the line has met
-  met : (c : ℕ) (trains : List ℕ) (e : Event) (event : step.Event) (answer : Answer) (new : World) (b : Bool) → is_centre line c ≡ b
-      → (is_centre line c ≡ true → Taken c trains e event) → (is_centre line c ≡ false → Goes line v e NoCentre v)
-      → (if b then takes Alone line w c trains event else Ok (NoCentre, w)) ≡ Ok (answer, new) → Goes line v e answer (alone_off line new)
-  met c trains e event answer new true at piece none h = by_step (step.step Alone line c event (w.at c)) (ok_step line c event (w.at c)) h
-    where
-      by_step : (done : Result (Outcome × centre.Centre) Refusal) → ((p : Outcome × centre.Centre) → done ≡ Ok p → p ≡ step.taken Alone line c event (w.at c))
-          → stepped w c trains done ≡ Ok (answer, new) → Goes line v e answer (alone_off line new)
-      by_step (Ok p) is_taken g =
-          let went : Piece line v e p.0 (alone_off line (with_centre w c p.1 trains)) =
-          subst (λ (q : Outcome × centre.Centre). Piece line v e q.0 (alone_off line (with_centre w c q.1 trains))) (sym (is_taken p refl)) (piece at)
-          in
-          let same : (Answered p.0, with_centre w c p.1 trains) ≡ (answer, new) = cc in
-          subst (λ (q : Answer × World). Goes line v e q.0 (alone_off line q.1)) same went
-      by_step (Err why) is_taken g = cc
-  met c trains e event answer new false at piece none h =
-      let same : (NoCentre, w) ≡ (answer, new) = cc in
-      subst (λ (q : Answer × World). Goes line v e q.0 (alone_off line q.1)) same (none at)
-
-  fault_met : (c n : ℕ) (answer : Answer) (new : World) (b : Bool) → is_centre line c ≡ b
-      → if◌then◌else◌ {A = Result (Answer × World) Refusal} b (Ok (Fault n, w)) (Ok (NoCentre, w)) ≡ Ok (answer, new) → Goes line v (Bytes c (Err n)) answer (alone_off line new)
-  fault_met c n answer new true at e =
-      let same : (Fault n, w) ≡ (answer, new) = cc in
-      subst (λ (q : Answer × World). Goes line v (Bytes c (Err n)) q.0 (alone_off line q.1)) same (at, refl, refl)
-  fault_met c n answer new false at e =
-      let same : (NoCentre, w) ≡ (answer, new) = cc in
-      subst (λ (q : Answer × World). Goes line v (Bytes c (Err n)) q.0 (alone_off line q.1)) same (at, refl)
-
-  -- no frame was ever sent
-  no_frame : (a b number : ℕ) → frame_sent w a b number ≡ None
-  no_frame a b number = by_number (number == 0)
-    where
-      by_number : (zero_number : Bool) → cond zero_number None (slice_get ((w.at a).sent b) (number - 1)) ≡ None
-      by_number true = refl
-      by_number false = ap (λ (fs : List Frame). slice_get fs (number - 1)) ((alone.each a).none_sent b)
-
-  none_delivered : (a b number : ℕ) → world_step Alone line w (Delivery a b number) ≡ Ok (NotSent, w)
-  unfolding world_step
-  none_delivered a b number = rw (no_frame a b number) refl
-
   -- whatever happens, the one line centre goes on so
-  pub event_goes : (event : Event) (answer : Answer) (new : World) → world_step Alone line w event ≡ Ok (answer, new) → Goes line v event answer (alone_off line new)
-  unfolding world_step
-  event_goes (Bytes c (Ok m)) answer new e =
-      met c (mention line m.nid_engine w.trains) (Bytes c (Ok m)) (step.Train m) answer new (is_centre line c) refl (message_piece c m.t_train m.nid_engine m.body (mention line m.nid_engine w.trains)) (λ at. (at, refl)) e
-  event_goes (Bytes c (Err n)) answer new e = fault_met c n answer new (is_centre line c) refl e
-  event_goes (Set c s) answer new e = met c w.trains (Set c s) (step.Set s) answer new (is_centre line c) refl (set_piece c s) (λ at. (at, refl)) e
-  event_goes (Unset c s) answer new e = met c w.trains (Unset c s) (step.Unset s) answer new (is_centre line c) refl (unset_piece c s) (λ at. (at, refl)) e
-  event_goes (Delivery a b number) answer new e =
-      let sent : ◌≡◌ {A = Result (Answer × World) Refusal} (Ok (NotSent, w)) (Ok (answer, new)) = sym (none_delivered a b number) ∙ e in
-      let same : (NotSent, w) ≡ (answer, new) = cc in
-      subst (λ (q : Answer × World). Goes line v (Delivery a b number) q.0 (alone_off line q.1)) same refl
+  pub event_goes : (event : Event) (answer : Answer) (new : World) → world_step Alone line w event ≡ Ok (answer, new) → Goes line (v line w alone) event answer (alone_off line new)
+  event_goes = holds_of line w alone (Goes line (v line w alone)) (record {
+    message = λ c m. message_piece c m.t_train m.nid_engine m.body (mention line m.nid_engine w.trains);
+    set = set_piece;
+    unset = unset_piece;
+    fault = λ c n at. (at, refl, refl);
+    bytes_nowhere = λ c read at. (at, refl);
+    set_nowhere = λ c s at. (at, refl);
+    unset_nowhere = λ c s at. (at, refl);
+    not_sent = λ a b number. refl;
+  })

@@ -25,7 +25,7 @@ use Rattle.rbc_pieces.proofs.Ranges.{within_true, within_from, all_within, IsLon
 use Rattle.rbc_pieces.proofs.Off.{shows, wish_stays, given_is_hand}
 use Rattle.rbc_pieces.proofs.Missions.{some_of, mission_becomes, mission_here}
 use Rattle.rbc_pieces.proofs.Books.{booked_marks, free_is_open}
-use Rattle.rbc_pieces.proofs.Messages.{Answers, Goes, ticked, message, before, not_for, message_goes}
+use Rattle.rbc_pieces.proofs.Messages.{AtOnce, Goes, ticked, message, before, not_for, goes_at_once}
 
 module _ (line : Line) (w : World) (alone : IsAlone line w) (c t_train t : ℕ) (trains : List ℕ) (at : is_centre line c ≡ true) (position : Position) where
   abbrev body : TrainBody
@@ -38,7 +38,7 @@ module _ (line : Line) (w : World) (alone : IsAlone line w) (c t_train t : ℕ) 
   v = before line w alone c t_train t trains at body
 
   abbrev Answer : Type 0
-  Answer = Answers line w alone c t_train t trains at body
+  Answer = AtOnce line w alone c t_train t trains at body
 
   module _ (m : centre.Mission) (has : (w.at c).mission t ≡ Some m) (place : Place) (on : place_on line m.place.track position ≡ Some place)
       (near : nat_le (end line (behind m.hand - 1)) (group_start line place + 32767) ≡ true) where
@@ -135,10 +135,7 @@ module _ (line : Line) (w : World) (alone : IsAlone line w) (c t_train t : ℕ) 
         record {
           state = state;
           said = said;
-          own = said;
           mid = shown;
-          quiets = [];
-          later = nothing;
           state_is = rw (has) (rw on refl);
           sayings_are = rw (has) (rw on (ap (λ (a : ℕ). saying_of t c place.group (Authority a) v ∷ []) authority_is));
           words_are = rw (has) (rw on refl);
@@ -157,26 +154,22 @@ module _ (line : Line) (w : World) (alone : IsAlone line w) (c t_train t : ℕ) 
               says_it = record { said_is = refl; new_is = refl };
             },
           );
-          quiet_steps = (
-            refl,
-            shows line w c _ trains shown (record {
-              mark = λ s. booked_marks line w c t more (λ e inside. (each_follows e inside).free) s;
-              wish = λ s. wish_stays line w c s _ (λ _. refl);
-              phase = λ u d. put_keeps (λ (j : centre.Centre). j.phase u) w.at c _ refl d;
-              heard = λ u d. put_at_pair (λ (j : centre.Centre). j.heard) w.at c _ t (Some t_train) (λ _. refl) u d;
-              said = λ u d. put_at_pair (λ (j : centre.Centre). j.said) w.at c _ t ((w.at c).said t + 1) (λ _. refl) u d;
-              wait = λ u d. refl;
-              mission = λ u. mission_becomes line w c t m (Some (extended_by more placed)) (option_map (λ (n : line_centre.Mission). record n { place = place }) (v.mission t)) u alone has
-                  (sym (ap (option_map (λ (n : line_centre.Mission). record n { place = place })) (mission_here line w c t m alone has)));
-            }),
-          );
-          says_it = refl;
+          shown = shows line w c _ trains shown (record {
+            mark = λ s. booked_marks line w c t more (λ e inside. (each_follows e inside).free) s;
+            wish = λ s. wish_stays line w c s _ (λ _. refl);
+            phase = λ u d. put_keeps (λ (j : centre.Centre). j.phase u) w.at c _ refl d;
+            heard = λ u d. put_at_pair (λ (j : centre.Centre). j.heard) w.at c _ t (Some t_train) (λ _. refl) u d;
+            said = λ u d. put_at_pair (λ (j : centre.Centre). j.said) w.at c _ t ((w.at c).said t + 1) (λ _. refl) u d;
+            wait = λ u d. refl;
+            mission = λ u. mission_becomes line w c t m (Some (extended_by more placed)) (option_map (λ (n : line_centre.Mission). record n { place = place }) (v.mission t)) u alone has
+                (sym (ap (option_map (λ (n : line_centre.Mission). record n { place = place })) (mission_here line w c t m alone has)));
+          });
         }
 
   abbrev in_reach_of : centre.Mission → Place → Bool
   in_reach_of m place = nat_le place.front (10 * end line (behind m.hand - 1)) && nat_le (end line (behind m.hand - 1)) (group_start line place + 32767)
 
-  requested : step.silence line c k (message line w alone c t_train t trains at body) ≡ None → Answer
+  pub requested : step.silence line c k (message line w alone c t_train t trains at body) ≡ None → Answer
   requested h =
       let here = some_of ((w.at c).mission t) (not_for line w alone c t_train t trains at body 4 NotSupervised h refl) in
       let fails : not (may_request line here.0 position) ≡ false = sym (ap (step.mission_has (λ m. not (may_request line m position))) here.1) ∙ not_for line w alone c t_train t trains at body 8 NoPlace h refl in
@@ -188,4 +181,4 @@ module _ (line : Line) (w : World) (alone : IsAlone line w) (c t_train t : ℕ) 
           granted m has place on (and_parts (nat_le place.front (10 * end line (behind m.hand - 1))) (nat_le (end line (behind m.hand - 1)) (group_start line place + 32767)) passes).1
 
   pub request_goes : Goes line w alone c t_train t trains at (Request position)
-  request_goes = message_goes line w alone c t_train t trains at (Request position) requested
+  request_goes = goes_at_once line w alone c t_train t trains at (Request position) requested

@@ -8,6 +8,7 @@ pub mod Missions
 pub mod Messages
 pub mod Sessions
 pub mod Tellings
+pub mod Asks
 pub mod Told
 pub mod Books
 pub mod Dismissals

@@ -16,6 +16,7 @@ use Rattle.rbc_spec.specs.Run.{Piece, silent, heard}
 use Rattle.rbc_alone.specs.Alone.{IsAlone, alone_off}
 use Rattle.rbc_pieces.specs.Pieces.{with_centre}
 use Rattle.rbc_pieces.proofs.Maps.{put_keeps}
+use Rattle.rbc_pieces.proofs.Acts.{append_nil}
 use Rattle.rbc_pieces.proofs.Off.{shows, mark_stays, wish_stays, mission_stays}
 use Rattle.rbc_pieces.proofs.Silence.{same_silence}
 use Rattle.rbc_pieces.proofs.Missions.{none_passes}
@@ -39,6 +40,9 @@ unseen line w c new trains same = shows line w c new trains (alone_off line w) (
   wait = λ t d. refl;
   mission = λ t. mission_stays line w c t (new.mission t) (ap (λ (f : ℕ → Option centre.Mission). f t) same.mission);
 })
+
+pub nothing_more : (said : Said) → said ≡ both said nothing
+nothing_more said = λ i. record { sayings = sym (append_nil said.sayings) i; words = sym (append_nil said.words) i }
 
 module _ (line : Line) (w : World) (alone : IsAlone line w) (c t_train t : ℕ) (trains : List ℕ) (at : is_centre line c ≡ true) where
   abbrev pub now : LineState
@@ -117,6 +121,33 @@ module _ (line : Line) (w : World) (alone : IsAlone line w) (c t_train t : ℕ) 
         says = ap (λ (said : Said). record { said = said; silence = None }) a.says_it;
       })
 
+  -- the message is answered so by the line's own step, and no quiet step follows
+  pub record AtOnce (body : TrainBody) : Type 0 where
+    pub state : centre.Centre
+    pub said : Said
+    pub mid : LineState
+    pub state_is : (reply body).state ≡ state
+    pub sayings_are : (reply body).sayings ≡ said.sayings
+    pub words_are : (reply body).words ≡ said.words
+    pub own_step : Own line (before body) c (message body) body said mid
+    pub shown : alone_off line (with_centre w c (left state (reply body)) trains) ≡ mid
+
+  pub answers_at_once : (body : TrainBody) → AtOnce body → Answers body
+  answers_at_once body a = record {
+    state = a.state;
+    said = a.said;
+    own = a.said;
+    mid = a.mid;
+    quiets = [];
+    later = nothing;
+    state_is = a.state_is;
+    sayings_are = a.sayings_are;
+    words_are = a.words_are;
+    own_step = a.own_step;
+    quiet_steps = (refl, a.shown);
+    says_it = nothing_more a.said;
+  }
+
   -- a reason for which it was not left without an answer
   pub not_for : (body : TrainBody) (n : ℕ) (why : Reason) → step.silence line c ticked (message body) ≡ None → slice_get (step.reasons_of body) n ≡ Some why → step.holds line c ticked (message body) why ≡ false
   not_for body n why h is = none_passes (step.holds line c ticked (message body)) (step.reasons_of body) n why h is
@@ -127,3 +158,6 @@ module _ (line : Line) (w : World) (alone : IsAlone line w) (c t_train t : ℕ) 
       by_silence : (o : Option Reason) → step.silence line c ticked (message body) ≡ o → Goes body
       by_silence (Some why) is = silent_goes body why is
       by_silence None is = answered_goes body is (answers is)
+
+  pub goes_at_once : (body : TrainBody) → (step.silence line c ticked (message body) ≡ None → AtOnce body) → Goes body
+  goes_at_once body answers = message_goes body (λ h. answers_at_once body (answers h))

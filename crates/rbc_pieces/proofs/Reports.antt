@@ -23,9 +23,9 @@ use Rattle.rbc_pieces.proofs.Off.{shows, mark_stays, wish_stays}
 use Rattle.rbc_pieces.proofs.Missions.{some_of, mission_becomes, mission_here}
 use Rattle.rbc_pieces.proofs.Books.{supervises_is}
 use Rattle.rbc_pieces.proofs.Silence.{report_elsewhere}
-use Rattle.rbc_pieces.proofs.Acts.{not_yielded, append_nil, words_alone, words_only, Does, both_do, with_it, without_it, does_as}
+use Rattle.rbc_pieces.proofs.Acts.{not_yielded, append_nil, words_alone, Does, both_do, with_it, without_it, does_as}
 use Rattle.rbc_pieces.proofs.Clearing as clearing
-use Rattle.rbc_pieces.proofs.Messages.{Answers, Goes, stamp, ticked, message, before, reply, left, not_for, message_goes}
+use Rattle.rbc_pieces.proofs.Messages.{AtOnce, Goes, stamp, ticked, message, before, reply, left, not_for, goes_at_once}
 
 module _ (line : Line) (ordered : IsOrdered line) (w : World) (alone : IsAlone line w) (c t_train t : ℕ) (trains : List ℕ) (at : is_centre line c ≡ true) where
   abbrev k : centre.Centre
@@ -35,7 +35,7 @@ module _ (line : Line) (ordered : IsOrdered line) (w : World) (alone : IsAlone l
   v body = before line w alone c t_train t trains at body
 
   abbrev Answer : TrainBody → Type 0
-  Answer body = Answers line w alone c t_train t trains at body
+  Answer body = AtOnce line w alone c t_train t trains at body
 
   abbrev is_silent : TrainBody → Type 0
   is_silent body = step.silence line c k (message line w alone c t_train t trains at body) ≡ None
@@ -95,16 +95,12 @@ module _ (line : Line) (ordered : IsOrdered line) (w : World) (alone : IsAlone l
         answer_closed body comes own = record {
           state = closed;
           said = record { sayings = []; words = words };
-          own = record { sayings = []; words = words };
           mid = set_mission t None placed_line;
-          quiets = [];
-          later = nothing;
           state_is = comes.state_is;
           sayings_are = comes.sayings_are;
           words_are = comes.words_are;
           own_step = own;
-          quiet_steps = (refl, clearing.closed_shown line ordered w alone c t_train t (stamp line w alone c t_train t trains at) trains m has place is_all (made body closed).sent);
-          says_it = words_only (words);
+          shown = clearing.closed_shown line ordered w alone c t_train t (stamp line w alone c t_train t trains at) trains m has place is_all (made body closed).sent;
         }
 
         report_closes : (position : Position) → place_on line m.place.track position ≡ Some place → Answer (Report position)
@@ -152,16 +148,12 @@ module _ (line : Line) (ordered : IsOrdered line) (w : World) (alone : IsAlone l
             record {
               state = kept_so;
               said = record { sayings = []; words = words };
-              own = record { sayings = []; words = words };
               mid = placed_line;
-              quiets = [];
-              later = nothing;
               state_is = comes.state_is;
               sayings_are = comes.sayings_are;
               words_are = comes.words_are;
               own_step = rw (supervised body) (rw (track_is body position ∙ on) (record { said_is = refl; new_is = sym (clearing.left_is line ordered w alone c t_train t (stamp line w alone c t_train t trains at) trains m has place is_part) }));
-              quiet_steps = (refl, clearing.shortened_shown line ordered w alone c t_train t (stamp line w alone c t_train t trains at) trains m has place is_part (made body kept_so).sent shorter k.mission (seen c shorter) placed_line.mission (λ u. refl) refl (clearing.placed_mission line ordered w alone c t_train t (stamp line w alone c t_train t trains at) trains m has place is_part));
-              says_it = words_only (words);
+              shown = clearing.shortened_shown line ordered w alone c t_train t (stamp line w alone c t_train t trains at) trains m has place is_part (made body kept_so).sent shorter k.mission (seen c shorter) placed_line.mission (λ u. refl) refl (clearing.placed_mission line ordered w alone c t_train t (stamp line w alone c t_train t trains at) trains m has place is_part);
             }
 
         abbrev at_end : centre.Mission
@@ -188,20 +180,13 @@ module _ (line : Line) (ordered : IsOrdered line) (w : World) (alone : IsAlone l
             record {
               state = last_left;
               said = record { sayings = []; words = words };
-              own = record { sayings = []; words = words };
               mid = ended t placed_line;
-              quiets = [];
-              later = nothing;
               state_is = comes.state_is;
               sayings_are = comes.sayings_are;
               words_are = comes.words_are;
               own_step = rw (track_is body position ∙ on) (record { said_is = refl; new_is = sym (ap (ended t) (clearing.left_is line ordered w alone c t_train t (stamp line w alone c t_train t trains at) trains m has place is_part)) });
-              quiet_steps = (
-                refl,
-                clearing.shortened_shown line ordered w alone c t_train t (stamp line w alone c t_train t trains at) trains m has place is_part (made body last_left).sent at_end (put (put k.mission t (Some shorter)) t (Some without_pool)) (seen c at_end) (ended t placed_line).mission
-                    (λ u. put_over t (Some at_end) (Some without_pool) (put k.mission t (Some shorter)) u ∙ put_over t (Some at_end) (Some shorter) k.mission u) refl (clearing.ended_mission line ordered w alone c t_train t (stamp line w alone c t_train t trains at) trains m has place is_part),
-              );
-              says_it = words_only (words);
+              shown = clearing.shortened_shown line ordered w alone c t_train t (stamp line w alone c t_train t trains at) trains m has place is_part (made body last_left).sent at_end (put (put k.mission t (Some shorter)) t (Some without_pool)) (seen c at_end) (ended t placed_line).mission
+                  (λ u. put_over t (Some at_end) (Some without_pool) (put k.mission t (Some shorter)) u ∙ put_over t (Some at_end) (Some shorter) k.mission u) refl (clearing.ended_mission line ordered w alone c t_train t (stamp line w alone c t_train t trains at) trains m has place is_part);
             }
 
     -- ## An end without a place
@@ -236,29 +221,22 @@ module _ (line : Line) (ordered : IsOrdered line) (w : World) (alone : IsAlone l
         record {
           state = ended_here;
           said = nothing;
-          own = nothing;
           mid = ended t (v body);
-          quiets = [];
-          later = nothing;
           state_is = comes.state_is;
           sayings_are = comes.sayings_are;
           words_are = comes.words_are;
           own_step = rw (track_is body position ∙ on) (record { said_is = refl; new_is = refl });
-          quiet_steps = (
-            refl,
-            shows line w c (made body ended_here) trains (ended t (v body)) (record {
-              mark = λ s. mark_stays line w c s _ (λ _. refl);
-              wish = λ s. wish_stays line w c s _ (λ _. refl);
-              phase = λ u d. put_keeps (λ (j : centre.Centre). j.phase u) w.at c (made body ended_here) refl d;
-              heard = λ u d. put_at_pair (λ (j : centre.Centre). j.heard) w.at c (made body ended_here) t (Some t_train) (λ _. refl) u d;
-              said = λ u d. put_keeps (λ (j : centre.Centre). j.said u) w.at c (made body ended_here) refl d;
-              wait = λ u d. refl;
-              mission = λ u. ap (λ (o : Option centre.Mission). if is_registrar_of line c u then option_map (seen c) o else (alone_off line w).mission u) (put_over t (Some done) (Some without) (w.at c).mission u)
-                  ∙ mission_becomes line w c t m (Some done) (option_map (λ (n : line_centre.Mission). record n { is_ended = true; proposal = None }) ((alone_off line w).mission t)) u alone has
-                  (sym (ap (option_map (λ (n : line_centre.Mission). record n { is_ended = true; proposal = None })) (mission_here line w c t m alone has)));
-            }),
-          );
-          says_it = refl;
+          shown = shows line w c (made body ended_here) trains (ended t (v body)) (record {
+            mark = λ s. mark_stays line w c s _ (λ _. refl);
+            wish = λ s. wish_stays line w c s _ (λ _. refl);
+            phase = λ u d. put_keeps (λ (j : centre.Centre). j.phase u) w.at c (made body ended_here) refl d;
+            heard = λ u d. put_at_pair (λ (j : centre.Centre). j.heard) w.at c (made body ended_here) t (Some t_train) (λ _. refl) u d;
+            said = λ u d. put_keeps (λ (j : centre.Centre). j.said u) w.at c (made body ended_here) refl d;
+            wait = λ u d. refl;
+            mission = λ u. ap (λ (o : Option centre.Mission). if is_registrar_of line c u then option_map (seen c) o else (alone_off line w).mission u) (put_over t (Some done) (Some without) (w.at c).mission u)
+                ∙ mission_becomes line w c t m (Some done) (option_map (λ (n : line_centre.Mission). record n { is_ended = true; proposal = None }) ((alone_off line w).mission t)) u alone has
+                (sym (ap (option_map (λ (n : line_centre.Mission). record n { is_ended = true; proposal = None })) (mission_here line w c t m alone has)));
+          });
         }
 
     report_answered : (position : Position) → is_none (place_on line m.place.track position) ≡ false → Answer (Report position)
@@ -283,13 +261,19 @@ module _ (line : Line) (ordered : IsOrdered line) (w : World) (alone : IsAlone l
         by_place None on = end_anywhere position on
         by_place (Some place) on = by_part place on ((cleared line place m).count == m.hand.count) refl
 
-  pub report_goes : (position : Position) → Goes line w alone c t_train t trains at (Report position)
-  report_goes position = message_goes line w alone c t_train t trains at (Report position) (λ h.
+  pub report_heard : (position : Position) → is_silent (Report position) → Answer (Report position)
+  report_heard position h =
       let unsupervised = not_for line w alone c t_train t trains at (Report position) 4 NotSupervised h refl in
       let here = some_of ((w.at c).mission t) (sym (report_elsewhere line w alone c t t_train (stamp line w alone c t_train t trains at) position) ∙ unsupervised) in
-      report_answered here.0 here.1 position (sym (ap (step.mission_has (λ m. is_none (place_on line m.place.track position))) here.1) ∙ not_for line w alone c t_train t trains at (Report position) 5 NoPlace h refl))
+      report_answered here.0 here.1 position (sym (ap (step.mission_has (λ m. is_none (place_on line m.place.track position))) here.1) ∙ not_for line w alone c t_train t trains at (Report position) 5 NoPlace h refl)
+
+  pub report_goes : (position : Position) → Goes line w alone c t_train t trains at (Report position)
+  report_goes position = goes_at_once line w alone c t_train t trains at (Report position) (report_heard position)
+
+  pub end_heard : (position : Position) → is_silent (EndOfMission position) → Answer (EndOfMission position)
+  end_heard position h =
+      let here = some_of ((w.at c).mission t) (not_for line w alone c t_train t trains at (EndOfMission position) 4 NotSupervised h refl) in
+      end_answered here.0 here.1 position
 
   pub end_goes : (position : Position) → Goes line w alone c t_train t trains at (EndOfMission position)
-  end_goes position = message_goes line w alone c t_train t trains at (EndOfMission position) (λ h.
-      let here = some_of ((w.at c).mission t) (not_for line w alone c t_train t trains at (EndOfMission position) 4 NotSupervised h refl) in
-      end_answered here.0 here.1 position)
+  end_goes position = goes_at_once line w alone c t_train t trains at (EndOfMission position) (end_heard position)

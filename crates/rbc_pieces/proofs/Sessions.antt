@@ -19,7 +19,7 @@ use Rattle.rbc_pieces.proofs.Maps.{put_keeps, put_at_pair, put_over, put_pair_sa
 use Rattle.rbc_pieces.proofs.Ranges.{filter-none}
 use Rattle.rbc_pieces.proofs.Off.{shows, mark_stays, wish_stays, mission_stays}
 use Rattle.rbc_pieces.proofs.Missions.{some_of, mission_changes, proposal_drops}
-use Rattle.rbc_pieces.proofs.Messages.{Answers, Goes, ticked, message, before, reply, not_for, message_goes}
+use Rattle.rbc_pieces.proofs.Messages.{AtOnce, Goes, ticked, message, before, reply, not_for, goes_at_once}
 
 module _ (line : Line) (w : World) (alone : IsAlone line w) (c t_train t : ℕ) (trains : List ℕ) (at : is_centre line c ≡ true) where
   abbrev k : centre.Centre
@@ -35,38 +35,31 @@ module _ (line : Line) (w : World) (alone : IsAlone line w) (c t_train t : ℕ) 
   Piece_of body = Goes line w alone c t_train t trains at body
 
   abbrev Answer : TrainBody → Type 0
-  Answer body = Answers line w alone c t_train t trains at body
+  Answer body = AtOnce line w alone c t_train t trains at body
 
-  established : Answer SessionEstablished
+  pub established : Answer SessionEstablished
   unfolding ◌>>◌
   established = record {
     state = (reply line w alone c t_train t trains at SessionEstablished).state;
     said = nothing;
-    own = nothing;
     mid = with_phase t c centre.Up (v SessionEstablished);
-    quiets = [];
-    later = nothing;
     state_is = refl;
     sayings_are = refl;
     words_are = refl;
     own_step = record { said_is = refl; new_is = refl };
-    quiet_steps = (
-      refl,
-      shows line w c _ trains (with_phase t c centre.Up (v SessionEstablished)) (record {
-        mark = λ s. mark_stays line w c s _ (λ _. refl);
-        wish = λ s. wish_stays line w c s _ (λ _. refl);
-        phase = λ u d. put_at_pair (λ (j : centre.Centre). j.phase) w.at c _ t centre.Up (λ _. refl) u d;
-        heard = λ u d. put_at_pair (λ (j : centre.Centre). j.heard) w.at c _ t (Some t_train) (λ _. refl) u d;
-        said = λ u d. put_keeps (λ (j : centre.Centre). j.said u) w.at c _ refl d;
-        wait = λ u d. refl;
-        mission = λ u. mission_stays line w c u _ refl;
-      }),
-    );
-    says_it = refl;
+    shown = shows line w c _ trains (with_phase t c centre.Up (v SessionEstablished)) (record {
+      mark = λ s. mark_stays line w c s _ (λ _. refl);
+      wish = λ s. wish_stays line w c s _ (λ _. refl);
+      phase = λ u d. put_at_pair (λ (j : centre.Centre). j.phase) w.at c _ t centre.Up (λ _. refl) u d;
+      heard = λ u d. put_at_pair (λ (j : centre.Centre). j.heard) w.at c _ t (Some t_train) (λ _. refl) u d;
+      said = λ u d. put_keeps (λ (j : centre.Centre). j.said u) w.at c _ refl d;
+      wait = λ u d. refl;
+      mission = λ u. mission_stays line w c u _ refl;
+    });
   }
 
   pub established_goes : Piece_of SessionEstablished
-  established_goes = message_goes line w alone c t_train t trains at SessionEstablished (λ _. established)
+  established_goes = goes_at_once line w alone c t_train t trains at SessionEstablished (λ _. established)
 
   -- ## A session opens or closes
 
@@ -98,17 +91,14 @@ module _ (line : Line) (w : World) (alone : IsAlone line w) (c t_train t : ℕ) 
     mission = λ u. proposal_drops line w c t u alone;
   })
 
-  opened : Answer InitiationOfSession
+  pub opened : Answer InitiationOfSession
   unfolding ◌>>◌
   opened =
       let said : Said = record { sayings = saying_of t c unknown_group SystemVersion (v InitiationOfSession) ∷ []; words = [] } in
       record {
         state = closed (put (put k.phase t centre.Silent) t centre.Opened);
         said = said;
-        own = said;
         mid = closed_line centre.Opened InitiationOfSession;
-        quiets = [];
-        later = nothing;
         state_is = rw ((alone.each c).no_wait t) refl;
         sayings_are = rw ((alone.each c).no_wait t) refl;
         words_are = rw ((alone.each c).no_wait t) refl;
@@ -116,24 +106,20 @@ module _ (line : Line) (w : World) (alone : IsAlone line w) (c t_train t : ℕ) 
           said_is = ap (λ (words : List Word). record { sayings = saying_of t c unknown_group SystemVersion (v InitiationOfSession) ∷ []; words = words }) (sym (none_told InitiationOfSession));
           new_is = refl;
         };
-        quiet_steps = (refl, closed_shown InitiationOfSession centre.Opened (put (put k.phase t centre.Silent) t centre.Opened) _ (put_over t centre.Opened centre.Silent (w.at c).phase));
-        says_it = refl;
+        shown = closed_shown InitiationOfSession centre.Opened (put (put k.phase t centre.Silent) t centre.Opened) _ (put_over t centre.Opened centre.Silent (w.at c).phase);
       }
 
   pub opened_goes : Piece_of InitiationOfSession
-  opened_goes = message_goes line w alone c t_train t trains at InitiationOfSession (λ _. opened)
+  opened_goes = goes_at_once line w alone c t_train t trains at InitiationOfSession (λ _. opened)
 
-  ended : Answer TerminationOfSession
+  pub ended : Answer TerminationOfSession
   unfolding ◌>>◌
   ended =
       let said : Said = record { sayings = saying_of t c unknown_group TerminationAcknowledged (v TerminationOfSession) ∷ []; words = [] } in
       record {
         state = closed (put k.phase t centre.Silent);
         said = said;
-        own = said;
         mid = closed_line centre.Silent TerminationOfSession;
-        quiets = [];
-        later = nothing;
         state_is = rw ((alone.each c).no_wait t) refl;
         sayings_are = rw ((alone.each c).no_wait t) refl;
         words_are = rw ((alone.each c).no_wait t) refl;
@@ -141,16 +127,15 @@ module _ (line : Line) (w : World) (alone : IsAlone line w) (c t_train t : ℕ) 
           said_is = ap (λ (words : List Word). record { sayings = saying_of t c unknown_group TerminationAcknowledged (v TerminationOfSession) ∷ []; words = words }) (sym (none_told TerminationOfSession));
           new_is = refl;
         };
-        quiet_steps = (refl, closed_shown TerminationOfSession centre.Silent (put k.phase t centre.Silent) _ (λ u. refl));
-        says_it = refl;
+        shown = closed_shown TerminationOfSession centre.Silent (put k.phase t centre.Silent) _ (λ u. refl);
       }
 
   pub ended_goes : Piece_of TerminationOfSession
-  ended_goes = message_goes line w alone c t_train t trains at TerminationOfSession (λ _. ended)
+  ended_goes = goes_at_once line w alone c t_train t trains at TerminationOfSession (λ _. ended)
 
   -- ## Train data, and a rejected request to shorten
 
-  data_heard : (position : Position) → is_silent (TrainData position) → Answer (TrainData position)
+  pub data_heard : (position : Position) → is_silent (TrainData position) → Answer (TrainData position)
   unfolding ◌>>◌
   data_heard position h =
       let body : TrainBody = TrainData position in
@@ -160,33 +145,26 @@ module _ (line : Line) (w : World) (alone : IsAlone line w) (c t_train t : ℕ) 
       record {
         state = (reply line w alone c t_train t trains at body).state;
         said = said;
-        own = said;
         mid = shown;
-        quiets = [];
-        later = nothing;
         state_is = refl;
         sayings_are = refl;
         words_are = refl;
         own_step = record { said_is = refl; new_is = refl };
-        quiet_steps = (
-          refl,
-          shows line w c _ trains shown (record {
-            mark = λ s. mark_stays line w c s _ (λ _. refl);
-            wish = λ s. wish_stays line w c s _ (λ _. refl);
-            phase = λ u d. put_keeps (λ (j : centre.Centre). j.phase u) w.at c _ refl d;
-            heard = λ u d. put_at_pair (λ (j : centre.Centre). j.heard) w.at c _ t (Some t_train) (λ _. refl) u d;
-            said = λ u d. put_at_pair (λ (j : centre.Centre). j.said) w.at c _ t ((w.at c).said t + 1) (λ _. refl) u d;
-            wait = λ u d. refl;
-            mission = λ u. mission_changes line w c t here.0 (λ n. record n { has_data = true }) (λ n. record n { has_data = true }) u alone here.1 refl;
-          }),
-        );
-        says_it = refl;
+        shown = shows line w c _ trains shown (record {
+          mark = λ s. mark_stays line w c s _ (λ _. refl);
+          wish = λ s. wish_stays line w c s _ (λ _. refl);
+          phase = λ u d. put_keeps (λ (j : centre.Centre). j.phase u) w.at c _ refl d;
+          heard = λ u d. put_at_pair (λ (j : centre.Centre). j.heard) w.at c _ t (Some t_train) (λ _. refl) u d;
+          said = λ u d. put_at_pair (λ (j : centre.Centre). j.said) w.at c _ t ((w.at c).said t + 1) (λ _. refl) u d;
+          wait = λ u d. refl;
+          mission = λ u. mission_changes line w c t here.0 (λ n. record n { has_data = true }) (λ n. record n { has_data = true }) u alone here.1 refl;
+        });
       }
 
   pub data_goes : (position : Position) → Piece_of (TrainData position)
-  data_goes position = message_goes line w alone c t_train t trains at (TrainData position) (data_heard position)
+  data_goes position = goes_at_once line w alone c t_train t trains at (TrainData position) (data_heard position)
 
-  rejected : (asked : ℕ) (position : Position) → is_silent (ShorteningRejected asked position) → Answer (ShorteningRejected asked position)
+  pub rejected : (asked : ℕ) (position : Position) → is_silent (ShorteningRejected asked position) → Answer (ShorteningRejected asked position)
   unfolding ◌>>◌
   rejected asked position h =
       let body : TrainBody = ShorteningRejected asked position in
@@ -195,28 +173,21 @@ module _ (line : Line) (w : World) (alone : IsAlone line w) (c t_train t : ℕ) 
       record {
         state = (reply line w alone c t_train t trains at body).state;
         said = nothing;
-        own = nothing;
         mid = shown;
-        quiets = [];
-        later = nothing;
         state_is = refl;
         sayings_are = refl;
         words_are = refl;
         own_step = record { said_is = refl; new_is = refl };
-        quiet_steps = (
-          refl,
-          shows line w c _ trains shown (record {
-            mark = λ s. mark_stays line w c s _ (λ _. refl);
-            wish = λ s. wish_stays line w c s _ (λ _. refl);
-            phase = λ u d. put_keeps (λ (j : centre.Centre). j.phase u) w.at c _ refl d;
-            heard = λ u d. put_at_pair (λ (j : centre.Centre). j.heard) w.at c _ t (Some t_train) (λ _. refl) u d;
-            said = λ u d. put_keeps (λ (j : centre.Centre). j.said u) w.at c _ refl d;
-            wait = λ u d. refl;
-            mission = λ u. mission_changes line w c t here.0 (λ n. record n { proposal = None }) (λ n. record n { proposal = None }) u alone here.1 refl;
-          }),
-        );
-        says_it = refl;
+        shown = shows line w c _ trains shown (record {
+          mark = λ s. mark_stays line w c s _ (λ _. refl);
+          wish = λ s. wish_stays line w c s _ (λ _. refl);
+          phase = λ u d. put_keeps (λ (j : centre.Centre). j.phase u) w.at c _ refl d;
+          heard = λ u d. put_at_pair (λ (j : centre.Centre). j.heard) w.at c _ t (Some t_train) (λ _. refl) u d;
+          said = λ u d. put_keeps (λ (j : centre.Centre). j.said u) w.at c _ refl d;
+          wait = λ u d. refl;
+          mission = λ u. mission_changes line w c t here.0 (λ n. record n { proposal = None }) (λ n. record n { proposal = None }) u alone here.1 refl;
+        });
       }
 
   pub rejected_goes : (asked : ℕ) (position : Position) → Piece_of (ShorteningRejected asked position)
-  rejected_goes asked position = message_goes line w alone c t_train t trains at (ShorteningRejected asked position) (rejected asked position)
+  rejected_goes asked position = goes_at_once line w alone c t_train t trains at (ShorteningRejected asked position) (rejected asked position)

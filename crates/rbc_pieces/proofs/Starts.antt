@@ -2,6 +2,7 @@
 -- train's registrar, it waits and is dismissed.
 use Rattle.std.proofs.Common.{◌≡◌, ℕ, ◌+◌, ◌&&◌, Bool, true, false, Option, Some, None, option_map, is_none, is_some, refl, sym, ap, ◌∙◌, List, [], ◌∷◌, if◌then◌else◌, inl, subst}
 use Rattle.std.proofs.lemmas.Bool.{and_parts}
+use Rattle.std.proofs.lemmas.Option.{same_Some}
 use Rattle.rbc_spec.specs.Maps.{put}
 use Rattle.rbc_spec.specs.Runs.{within}
 use Rattle.rbc_spec.specs.Line.{Line, is_centre, is_home}
@@ -12,19 +13,20 @@ use Rattle.rbc_spec.specs.Centre.{is_open, is_free, is_unused, is_registrar_of}
 use Rattle.rbc_spec.specs.Acts.{◌>>◌, begun}
 use Rattle.rbc_spec.specs.Rules.{all_of, fit_place}
 use Rattle.rbc_spec.specs.LineCentre.{LineState, is_given_to, supervises, says, saying_of, Said, nothing}
-use Rattle.rbc_spec.specs.OwnSteps.{Starts, Rejects, may_start, waits, begins, restarted}
+use Rattle.rbc_spec.specs.OwnSteps.{Starts, Rejects, Accepts, may_start, waits, begins, restarted}
 use Rattle.rbc_spec.specs.Quiet.{Dismiss, TakesAll}
 use Rattle.rbc_spec.specs.World.{World}
+use Rattle.rbc_spec.specs.Theorems.{IsStartAccepted}
 use Rattle.rbc_spec.specs.ReadOff.{seen}
 use Rattle.rbc_alone.specs.Alone.{IsAlone, alone_off}
 use Rattle.rbc_pieces.specs.Pieces.{with_centre}
 use Rattle.rbc_pieces.proofs.Maps.{put_keeps, put_at_pair}
 use Rattle.rbc_pieces.proofs.Ranges.{each_within}
 use Rattle.rbc_pieces.proofs.Off.{shows, mark_stays, wish_stays, mission_stays, mission_put, wish_at_home, given_is_hand, mission_at_registrar}
-use Rattle.rbc_pieces.proofs.Missions.{mission_changes}
+use Rattle.rbc_pieces.proofs.Missions.{mission_here, mission_changes}
 use Rattle.rbc_pieces.proofs.Books.{booked_marks, free_is_open, supervises_is}
 use Rattle.rbc_pieces.proofs.Dismissals.{dismissal}
-use Rattle.rbc_pieces.proofs.Messages.{Answers, Goes, ticked, before, reply, left, message_goes}
+use Rattle.rbc_pieces.proofs.Messages.{Answers, AtOnce, Goes, ticked, message, before, reply, left, answers_at_once, message_goes}
 
 -- ## A start
 
@@ -38,8 +40,20 @@ module _ (line : Line) (w : World) (alone : IsAlone line w) (c t_train t : ℕ) 
   abbrev v : LineState
   v = before line w alone c t_train t trains at body
 
-  abbrev Answer : Type 0
-  Answer = Answers line w alone c t_train t trains at body
+  -- the start is answered at once, and accepted wherever it may be
+  pub record Decides : Type 0 where
+    pub at_once : AtOnce line w alone c t_train t trains at body
+    pub accepts : IsStartAccepted line v c (message line w alone c t_train t trains at body) body at_once.said at_once.mid
+
+  -- or it waits, all sections being free here, at another centre than the train's registrar, and is dismissed
+  pub data Comes : Type 0 where
+    decided : Decides → Comes
+    dismissed : (place : Place) → fit_place line is_valid position ≡ Some place → all_of (is_free line c (w.at c)) (covered line place) ≡ true → is_registrar_of line c t ≡ false
+        → Answers line w alone c t_train t trains at body → Comes
+
+  -- what is said of a start that is accepted wherever it may be
+  abbrev Accepted : Said → LineState → Type 0
+  Accepted said new = IsStartAccepted line v c (message line w alone c t_train t trains at body) body said new
 
   abbrev rejection_said : Said
   rejection_said = record { sayings = saying_of t c unknown_group TrainRejected v ∷ []; words = [] }
@@ -71,28 +85,27 @@ module _ (line : Line) (w : World) (alone : IsAlone line w) (c t_train t : ℕ) 
     sayings : (reply line w alone c t_train t trains at body).sayings ≡ rejection_said.sayings
     words : (reply line w alone c t_train t trains at body).words ≡ []
 
-  rejected_at_once : IsRejection → Starts line t c (fit_place line is_valid position) v rejection_said (says t c v) → Answer
-  rejected_at_once is step_is = record {
-    state = told_one;
-    said = rejection_said;
-    own = rejection_said;
-    mid = says t c v;
-    quiets = [];
-    later = nothing;
-    state_is = is.state;
-    sayings_are = is.sayings;
-    words_are = is.words;
-    own_step = step_is;
-    quiet_steps = (refl, rejected_shown);
-    says_it = refl;
-  }
+  rejected_at_once : IsRejection → Starts line t c (fit_place line is_valid position) v rejection_said (says t c v) → Accepted rejection_said (says t c v) → Comes
+  rejected_at_once is step_is accepts = decided (record {
+    at_once = record {
+      state = told_one;
+      said = rejection_said;
+      mid = says t c v;
+      state_is = is.state;
+      sayings_are = is.sayings;
+      words_are = is.words;
+      own_step = step_is;
+      shown = rejected_shown;
+    };
+    accepts = accepts;
+  })
 
   rejects : Rejects t c v rejection_said (says t c v)
   rejects = record { said_is = refl; new_is = refl }
 
-  without_place : fit_place line is_valid position ≡ None → Answer
+  without_place : fit_place line is_valid position ≡ None → Comes
   unfolding ◌>>◌
-  without_place none = rejected_at_once (record { state = rw none refl; sayings = rw none refl; words = rw none refl }) (rw none rejects)
+  without_place none = rejected_at_once (record { state = rw none refl; sayings = rw none refl; words = rw none refl }) (rw none rejects) (λ p is. let wrong : None ≡ Some p = sym none ∙ is in cc)
 
   module _ (place : Place) (fit : fit_place line is_valid position ≡ Some place) where
     -- ## Within the train's hand
@@ -104,31 +117,30 @@ module _ (line : Line) (w : World) (alone : IsAlone line w) (c t_train t : ℕ) 
       in_hand_is : all_of (λ s. is_given_to t (v.mark s)) (covered line place) ≡ all_of (within m.hand) (covered line place)
       in_hand_is = ap (λ (test : ℕ → Bool). all_of test (covered line place)) (λ i s. given_is_hand line w c t m alone has s i)
 
-      restart_rejected : all_of (within m.hand) (covered line place) ≡ false → Answer
+      not_without : {said : Said} {new : LineState} → Accepted said new
+      not_without p is may here none = let wrong : None ≡ Some (seen c m) = sym none ∙ mission_here line w c t m alone has in cc
+
+      restart_rejected : all_of (within m.hand) (covered line place) ≡ false → Comes
       unfolding ◌>>◌
       restart_rejected out = rejected_at_once (record { state = rw (fit) (rw (has) (rw out refl)); sayings = rw (fit) (rw (has) (rw out refl)); words = rw (fit) (rw (has) (rw out refl)) })
-          (rw (fit) (rw (supervised) (rw (in_hand_is ∙ out) rejects)))
+          (rw (fit) (rw (supervised) (rw (in_hand_is ∙ out) rejects))) not_without
 
-      restart_accepted : all_of (within m.hand) (covered line place) ≡ true → Answer
+      restart_accepted : all_of (within m.hand) (covered line place) ≡ true → Comes
       unfolding ◌>>◌
       restart_accepted inside =
           let change : centre.Mission → centre.Mission = λ n. record n { place = place; has_data = false; is_ended = false; proposal = None } in
           let state : centre.Centre = record k { heard = put k.heard t (Some t_train); said = put k.said t (k.said t + 1); mission = put k.mission t (option_map (λ (n : centre.Mission). record n { place = place; has_data = false; is_ended = false; proposal = None }) (k.mission t)) } in
           let shown : LineState = says t c (restarted t place v) in
-          record {
-            state = state;
-            said = acceptance_said;
-            own = acceptance_said;
-            mid = shown;
-            quiets = [];
-            later = nothing;
-            state_is = rw (fit) (rw (has) (rw inside (rw (has) refl)));
-            sayings_are = rw (fit) (rw (has) (rw inside refl));
-            words_are = rw (fit) (rw (has) (rw inside refl));
-            own_step = rw (fit) (rw (supervised) (rw (in_hand_is ∙ inside) (record { said_is = refl; new_is = refl })));
-            quiet_steps = (
-              refl,
-              shows line w c (made state) trains shown (record {
+          decided (record {
+            at_once = record {
+              state = state;
+              said = acceptance_said;
+              mid = shown;
+              state_is = rw (fit) (rw (has) (rw inside (rw (has) refl)));
+              sayings_are = rw (fit) (rw (has) (rw inside refl));
+              words_are = rw (fit) (rw (has) (rw inside refl));
+              own_step = rw (fit) (rw (supervised) (rw (in_hand_is ∙ inside) (record { said_is = refl; new_is = refl })));
+              shown = shows line w c (made state) trains shown (record {
                 mark = λ s. mark_stays line w c s _ (λ _. refl);
                 wish = λ s. wish_stays line w c s _ (λ _. refl);
                 phase = λ u d. put_keeps (λ (j : centre.Centre). j.phase u) w.at c (made state) refl d;
@@ -136,15 +148,15 @@ module _ (line : Line) (w : World) (alone : IsAlone line w) (c t_train t : ℕ) 
                 said = λ u d. put_at_pair (λ (j : centre.Centre). j.said) w.at c (made state) t ((w.at c).said t + 1) (λ _. refl) u d;
                 wait = λ u d. refl;
                 mission = λ u. mission_changes line w c t m change (λ n. record n { place = place; has_data = false; is_ended = false; proposal = None }) u alone has refl;
-              }),
-            );
-            says_it = refl;
-          }
+              });
+            };
+            accepts = not_without;
+          })
 
-      restarts : Answer
+      restarts : Comes
       restarts = by_hand (all_of (within m.hand) (covered line place)) refl
         where
-          by_hand : (b : Bool) → all_of (within m.hand) (covered line place) ≡ b → Answer
+          by_hand : (b : Bool) → all_of (within m.hand) (covered line place) ≡ b → Comes
           by_hand true is = restart_accepted is
           by_hand false is = restart_rejected is
 
@@ -154,13 +166,17 @@ module _ (line : Line) (w : World) (alone : IsAlone line w) (c t_train t : ℕ) 
       unsupervised : supervises v c t ≡ false
       unsupervised = supervises_is line w c t alone ∙ ap is_some has_none
 
+      same_place : (p : Place) → fit_place line is_valid position ≡ Some p → place ≡ p
+      same_place p is = same_Some place p (sym fit ∙ is)
+
       may_is : may_start line v c place ≡ all_of (is_free line c (w.at c)) (covered line place)
       may_is = ap (λ (test : ℕ → Bool). all_of test (covered line place)) (λ i s. free_is_open line w c s i)
 
-      not_free : all_of (is_free line c (w.at c)) (covered line place) ≡ false → Answer
+      not_free : all_of (is_free line c (w.at c)) (covered line place) ≡ false → Comes
       unfolding ◌>>◌
       not_free out = rejected_at_once (record { state = rw (fit) (rw (has_none) (rw out refl)); sayings = rw (fit) (rw (has_none) (rw out refl)); words = rw (fit) (rw (has_none) (rw out refl)) })
           (rw (fit) (rw (unsupervised) (rw (may_is ∙ out) rejects)))
+          (λ p is may. let wrong : true ≡ false = sym may ∙ ap (may_start line v c) (sym (same_place p is)) ∙ may_is ∙ out in cc)
 
       module _ (is_all_free : all_of (is_free line c (w.at c)) (covered line place) ≡ true) where
         each_free : (s : ℕ) → within (covered line place) s ≡ true → is_free line c (w.at c) s ≡ true
@@ -177,7 +193,7 @@ module _ (line : Line) (w : World) (alone : IsAlone line w) (c t_train t : ℕ) 
             open_unused (centre.Taken u) h = cc
             open_unused (centre.Out u d) h = cc
 
-        begun_here : is_registrar_of line c t ≡ true → Answer
+        begun_here : is_registrar_of line c t ≡ true → Comes
         unfolding ◌>>◌
         begun_here here =
             let right : (w.at c).has_right t ≡ true = (alone.each c).right t ∙ both_are here (ap is_none has_none) in
@@ -191,20 +207,16 @@ module _ (line : Line) (w : World) (alone : IsAlone line w) (c t_train t : ℕ) 
             in
             let shown : LineState = says t c (begins line t c place v) in
             let no_mission : v.mission t ≡ None = mission_at_registrar line w c t here ∙ ap (option_map (seen c)) has_none in
-            record {
-              state = state;
-              said = acceptance_said;
-              own = acceptance_said;
-              mid = shown;
-              quiets = [];
-              later = nothing;
-              state_is = rw (fit) (rw (has_none) (rw is_all_free (rw (here) (rw right refl))));
-              sayings_are = rw (fit) (rw (has_none) (rw is_all_free (rw (here) (rw right refl))));
-              words_are = rw (fit) (rw (has_none) (rw is_all_free (rw (here) (rw right refl))));
-              own_step = rw (fit) (rw (unsupervised) (rw (may_is ∙ is_all_free) (rw here (inl (no_mission, record { said_is = refl; new_is = refl })))));
-              quiet_steps = (
-                refl,
-                shows line w c (made state) trains shown (record {
+            decided (record {
+              at_once = record {
+                state = state;
+                said = acceptance_said;
+                mid = shown;
+                state_is = rw (fit) (rw (has_none) (rw is_all_free (rw (here) (rw right refl))));
+                sayings_are = rw (fit) (rw (has_none) (rw is_all_free (rw (here) (rw right refl))));
+                words_are = rw (fit) (rw (has_none) (rw is_all_free (rw (here) (rw right refl))));
+                own_step = rw (fit) (rw (unsupervised) (rw (may_is ∙ is_all_free) (rw here (inl (no_mission, record { said_is = refl; new_is = refl })))));
+                shown = shows line w c (made state) trains shown (record {
                   mark = λ s. booked_marks line w c t (covered line place) each_free s;
                   wish = λ s. wish_stays line w c s _ (λ _. refl);
                   phase = λ u d. put_keeps (λ (j : centre.Centre). j.phase u) w.at c (made state) refl d;
@@ -212,17 +224,17 @@ module _ (line : Line) (w : World) (alone : IsAlone line w) (c t_train t : ℕ) 
                   said = λ u d. put_at_pair (λ (j : centre.Centre). j.said) w.at c (made state) t ((w.at c).said t + 1) (λ _. refl) u d;
                   wait = λ u d. refl;
                   mission = λ u. mission_put line w c t (Some (begun line place)) u here;
-                }),
-              );
-              says_it = refl;
-            }
+                });
+              };
+              accepts = λ p is may registrar none. subst (λ (q : Place). Accepts t c v (begins line t c q v) acceptance_said shown) (same_place p is) (record { said_is = refl; new_is = refl });
+            })
           where
             both_are : {a b : Bool} → a ≡ true → b ≡ true → (a && b) ≡ true
             both_are {a} {b} f g = rw f g
 
-        dismissed_elsewhere : is_registrar_of line c t ≡ false → Answer
+        dismissed_elsewhere : is_registrar_of line c t ≡ false → Comes
         unfolding ◌>>◌
-        dismissed_elsewhere away = record {
+        dismissed_elsewhere away = dismissed place fit is_all_free away (record {
           state = told_one;
           said = rejection_said;
           own = nothing;
@@ -235,35 +247,39 @@ module _ (line : Line) (w : World) (alone : IsAlone line w) (c t_train t : ℕ) 
           own_step = rw (fit) (rw (unsupervised) (rw (may_is ∙ is_all_free) (rw away (record { said_is = refl; new_is = refl }))));
           quiet_steps = subst (TakesAll line (waits line t c place v) (Dismiss t c ∷ []) rejection_said) (sym rejected_shown) (dismissal line v t c place refl (may_is ∙ is_all_free) unwished_there);
           says_it = refl;
-        }
+        })
 
-        starts_free : Answer
+        starts_free : Comes
         starts_free = by_registrar (is_registrar_of line c t) refl
           where
-            by_registrar : (b : Bool) → is_registrar_of line c t ≡ b → Answer
+            by_registrar : (b : Bool) → is_registrar_of line c t ≡ b → Comes
             by_registrar true is = begun_here is
             by_registrar false is = dismissed_elsewhere is
 
-      starts_new : Answer
+      starts_new : Comes
       starts_new = by_free (all_of (is_free line c (w.at c)) (covered line place)) refl
         where
-          by_free : (b : Bool) → all_of (is_free line c (w.at c)) (covered line place) ≡ b → Answer
+          by_free : (b : Bool) → all_of (is_free line c (w.at c)) (covered line place) ≡ b → Comes
           by_free true is = starts_free is
           by_free false is = not_free is
 
-    starts_at : Answer
+    starts_at : Comes
     starts_at = by_mission ((w.at c).mission t) refl
       where
-        by_mission : (o : Option centre.Mission) → (w.at c).mission t ≡ o → Answer
+        by_mission : (o : Option centre.Mission) → (w.at c).mission t ≡ o → Comes
         by_mission None is = starts_new is
         by_mission (Some m) is = restarts m is
 
-  starts : Answer
+  pub starts : Comes
   starts = by_place (fit_place line is_valid position) refl
     where
-      by_place : (o : Option Place) → fit_place line is_valid position ≡ o → Answer
+      by_place : (o : Option Place) → fit_place line is_valid position ≡ o → Comes
       by_place None is = without_place is
       by_place (Some place) is = starts_at place is
 
+  answers_of : Comes → Answers line w alone c t_train t trains at body
+  answers_of (decided d) = answers_at_once line w alone c t_train t trains at body d.at_once
+  answers_of (dismissed place fit is_all_free away a) = a
+
   pub start_goes : Goes line w alone c t_train t trains at (StartOfMission is_valid position)
-  start_goes = message_goes line w alone c t_train t trains at (StartOfMission is_valid position) (λ _. starts)
+  start_goes = message_goes line w alone c t_train t trains at (StartOfMission is_valid position) (λ _. answers_of starts)

@@ -9,7 +9,7 @@ use Rattle.rbc_spec.specs.Centre.{is_up}
 use Rattle.rbc_spec.specs.Acts.{Reply}
 use Rattle.rbc_spec.specs.Step as step
 use Rattle.rbc_spec.specs.Step.{Effect}
-use Rattle.rbc_spec.specs.LineCentre.{LineState, Said}
+use Rattle.rbc_spec.specs.LineCentre.{LineState, Said, nothing}
 use Rattle.rbc_spec.specs.OwnSteps.{set_mark, wished_back, is_unused_mark}
 use Rattle.rbc_spec.specs.Quiet.{Quiet, TakesAll, both}
 use Rattle.rbc_spec.specs.World.{World, Event}
@@ -17,6 +17,7 @@ use Rattle.rbc_spec.specs.Run.{Piece, OwnStep}
 use Rattle.rbc_alone.specs.Alone.{IsAlone, mark_alone, alone_off}
 use Rattle.rbc_pieces.specs.Pieces.{with_centre}
 use Rattle.rbc_pieces.proofs.Maps.{put_keeps}
+use Rattle.rbc_pieces.proofs.Messages.{nothing_more}
 use Rattle.rbc_pieces.proofs.Off.{shows, mark_stays, wish_stays, mission_stays, mark_at_home, unused_is}
 
 module _ (line : Line) (w : World) (alone : IsAlone line w) (c s : ℕ) (trains : List ℕ) (at : is_centre line c ≡ true) where
@@ -67,6 +68,33 @@ module _ (line : Line) (w : World) (alone : IsAlone line w) (c s : ℕ) (trains 
         quiet_steps = a.quiet_steps;
         says = ap (λ (said : Said). record { said = said; silence = None }) a.says_it;
       })
+
+  -- and at once, with no quiet step behind
+  pub record AtOnce (event : Event) (r : Reply) : Type 0 where
+    pub state : centre.Centre
+    pub said : Said
+    pub mid : LineState
+    pub state_is : r.state ≡ state
+    pub sayings_are : r.sayings ≡ said.sayings
+    pub words_are : r.words ≡ said.words
+    pub own_step : OwnStep line v event said mid None
+    pub shown : alone_off line (with_centre w c (left state r) trains) ≡ mid
+
+  abbrev pub answers_at_once : (event : Event) (r : Reply) → AtOnce event r → Answers event r
+  answers_at_once event r a = record {
+    state = a.state;
+    said = a.said;
+    own = a.said;
+    mid = a.mid;
+    quiets = [];
+    later = nothing;
+    state_is = a.state_is;
+    sayings_are = a.sayings_are;
+    words_are = a.words_are;
+    own_step = a.own_step;
+    quiet_steps = (refl, a.shown);
+    says_it = nothing_more a.said;
+  }
 
   abbrev pub word_said : Word → Said
   word_said word = record { sayings = []; words = word ∷ [] }

@@ -19,6 +19,7 @@ use Rattle.rbc_spec.specs.OwnSteps.{set_mark, wished_back, is_unused_mark}
 use Rattle.rbc_spec.specs.Quiet.{Propose, Proposes}
 use Rattle.rbc_spec.specs.World.{World, Event, Set, Unset}
 use Rattle.rbc_spec.specs.ReadOff.{seen}
+use Rattle.rbc_spec.specs.Theorems.{MayPropose, Asks, asked, not_asked}
 use Rattle.rbc_alone.specs.Alone.{IsAlone, alone_off}
 use Rattle.rbc_pieces.proofs.Maps.{put_keeps, put_at_pair, put_over}
 use Rattle.rbc_pieces.proofs.Ranges.{within_true}
@@ -26,7 +27,8 @@ use Rattle.rbc_pieces.proofs.Off.{shows, mark_stays, given_is_hand}
 use Rattle.rbc_pieces.proofs.Stands.{hand_of, taken_there}
 use Rattle.rbc_pieces.proofs.Missions.{mission_here, mission_changes}
 use Rattle.rbc_pieces.proofs.Messages.{unseen}
-use Rattle.rbc_pieces.proofs.Tellings.{Answers, Piece_of, goes, word_said, wish_put, unused_seen, entered_seen, wish_seen}
+use Rattle.rbc_pieces.proofs.Asks.{none_asked_elsewhere, none_asked_shut, none_asked_in_hand}
+use Rattle.rbc_pieces.proofs.Tellings.{Answers, AtOnce, Piece_of, goes, answers_at_once, word_said, wish_put, unused_seen, entered_seen, wish_seen}
 
 up_is : (phase : centre.Phase) → is_up phase ≡ true → phase ≡ centre.Up
 up_is centre.Silent h = cc
@@ -49,7 +51,14 @@ module _ (line : Line) (w : World) (alone : IsAlone line w) (c s : ℕ) (trains 
   k = step.ticked ((w.at c).clock + 1) (w.at c)
 
   abbrev Answer : Event → Reply → Type 0
-  Answer event r = Answers line w alone c s trains at event r
+  Answer event r = AtOnce line w alone c s trains at event r
+
+  -- an unset is answered so, and asks for a shortening where one may be asked for
+  abbrev Unset_answer : Type 0
+  Unset_answer = (a : Answers line w alone c s trains at (Unset c s) (step.unset line c s k)) × Asks line a.mid c s a.quiets
+
+  none_asked : (a : Answer (Unset c s) (step.unset line c s k)) → ((t : ℕ) → MayPropose line a.mid t c s → ⊥) → Unset_answer
+  none_asked a none = (answers_at_once line w alone c s trains at (Unset c s) (step.unset line c s k) a, not_asked none)
 
   abbrev Piece_made : Event → Reply → Type 0
   Piece_made event r = Piece_of line w alone c s trains at event r
@@ -60,16 +69,12 @@ module _ (line : Line) (w : World) (alone : IsAlone line w) (c s : ℕ) (trains 
   set_elsewhere away = record {
     state = k;
     said = word_said line w alone c s trains at (NotHome s);
-    own = word_said line w alone c s trains at (NotHome s);
     mid = v;
-    quiets = [];
-    later = nothing;
     state_is = rw away refl;
     sayings_are = rw away refl;
     words_are = rw away refl;
     own_step = (at, rw away (record { said_is = refl; new_is = refl }), refl);
-    quiet_steps = (refl, unseen line w c _ trains (record { book = refl; wish = refl; phase = refl; heard = refl; said = refl; mission = refl }));
-    says_it = refl;
+    shown = unseen line w c _ trains (record { book = refl; wish = refl; phase = refl; heard = refl; said = refl; mission = refl });
   }
 
   set_unused : is_home line c s ≡ true → centre.is_unused ((w.at c).book s) ≡ true → Answer (Set c s) (step.set line c s k)
@@ -77,16 +82,12 @@ module _ (line : Line) (w : World) (alone : IsAlone line w) (c s : ℕ) (trains 
   set_unused home unused = record {
     state = record k { book = put k.book s centre.Open; wish = put (put k.wish s false) s false };
     said = word_said line w alone c s trains at (Done s);
-    own = word_said line w alone c s trains at (Done s);
     mid = set_mark s line_centre.Open v;
-    quiets = [];
-    later = nothing;
     state_is = rw (home, unused) refl;
     sayings_are = rw (home, unused) refl;
     words_are = rw (home, unused) refl;
     own_step = (at, rw (home, unused_seen line w alone c s trains at true home unused) (record { said_is = refl; new_is = refl }), refl);
-    quiet_steps = (refl, entered_seen line w alone c s trains at centre.Open _ home (record { book = λ j. refl; wish = λ j. put_over s false false (w.at c).wish j; phase = refl; heard = refl; said = refl; mission = refl }));
-    says_it = refl;
+    shown = entered_seen line w alone c s trains at centre.Open _ home (record { book = λ j. refl; wish = λ j. put_over s false false (w.at c).wish j; phase = refl; heard = refl; said = refl; mission = refl });
   }
 
   set_used : is_home line c s ≡ true → centre.is_unused ((w.at c).book s) ≡ false → Answer (Set c s) (step.set line c s k)
@@ -94,82 +95,69 @@ module _ (line : Line) (w : World) (alone : IsAlone line w) (c s : ℕ) (trains 
   set_used home used = record {
     state = record k { wish = put k.wish s false };
     said = word_said line w alone c s trains at (Done s);
-    own = word_said line w alone c s trains at (Done s);
     mid = wished_back s false v;
-    quiets = [];
-    later = nothing;
     state_is = rw (home, used) refl;
     sayings_are = rw (home, used) refl;
     words_are = rw (home, used) refl;
     own_step = (at, rw (home, unused_seen line w alone c s trains at false home used) (record { said_is = refl; new_is = refl }), refl);
-    quiet_steps = (refl, wish_seen line w alone c s trains at false _ home refl refl refl refl refl refl);
-    says_it = refl;
+    shown = wish_seen line w alone c s trains at false _ home refl refl refl refl refl refl;
   }
 
-  pub set_goes : Piece_made (Set c s) (step.set line c s k)
-  set_goes = goes line w alone c s trains at (Set c s) (step.set line c s k) (by_home (is_home line c s) (centre.is_unused ((w.at c).book s)) refl refl)
+  pub set_answered : Answer (Set c s) (step.set line c s k)
+  set_answered = by_home (is_home line c s) (centre.is_unused ((w.at c).book s)) refl refl
     where
       by_home : (home unused : Bool) → is_home line c s ≡ home → centre.is_unused ((w.at c).book s) ≡ unused → Answer (Set c s) (step.set line c s k)
       by_home false b h u = set_elsewhere h
       by_home true true h u = set_unused h u
       by_home true false h u = set_used h u
 
+  pub set_goes : Piece_made (Set c s) (step.set line c s k)
+  set_goes = goes line w alone c s trains at (Set c s) (step.set line c s k) (answers_at_once line w alone c s trains at (Set c s) (step.set line c s k) set_answered)
+
   -- ## An unset
 
-  unset_elsewhere : is_home line c s ≡ false → Answer (Unset c s) (step.unset line c s k)
-  unset_elsewhere away = record {
+  unset_elsewhere : is_home line c s ≡ false → Unset_answer
+  unset_elsewhere away = none_asked (record {
     state = k;
     said = word_said line w alone c s trains at (NotHome s);
-    own = word_said line w alone c s trains at (NotHome s);
     mid = v;
-    quiets = [];
-    later = nothing;
     state_is = rw away refl;
     sayings_are = rw away refl;
     words_are = rw away refl;
     own_step = (at, rw away (record { said_is = refl; new_is = refl }), refl);
-    quiet_steps = (refl, unseen line w c _ trains (record { book = refl; wish = refl; phase = refl; heard = refl; said = refl; mission = refl }));
-    says_it = refl;
-  }
+    shown = unseen line w c _ trains (record { book = refl; wish = refl; phase = refl; heard = refl; said = refl; mission = refl });
+  }) (none_asked_elsewhere line w alone c s away)
 
-  unset_unused : is_home line c s ≡ true → centre.is_unused ((w.at c).book s) ≡ true → Answer (Unset c s) (step.unset line c s k)
+  unset_unused : is_home line c s ≡ true → centre.is_unused ((w.at c).book s) ≡ true → Unset_answer
   unfolding ◌>>◌
-  unset_unused home unused = record {
+  unset_unused home unused = none_asked (record {
     state = record k { book = put k.book s centre.Shut; wish = put k.wish s false };
     said = word_said line w alone c s trains at (Done s);
-    own = word_said line w alone c s trains at (Done s);
     mid = set_mark s line_centre.Shut v;
-    quiets = [];
-    later = nothing;
     state_is = rw (home, unused) refl;
     sayings_are = rw (home, unused) refl;
     words_are = rw (home, unused) refl;
     own_step = (at, rw (home, unused_seen line w alone c s trains at true home unused) (record { said_is = refl; new_is = refl }), refl);
-    quiet_steps = (refl, entered_seen line w alone c s trains at centre.Shut _ home (record { book = λ j. refl; wish = λ j. refl; phase = refl; heard = refl; said = refl; mission = refl }));
-    says_it = refl;
-  }
+    shown = entered_seen line w alone c s trains at centre.Shut _ home (record { book = λ j. refl; wish = λ j. refl; phase = refl; heard = refl; said = refl; mission = refl });
+  }) (none_asked_shut line w alone c s)
 
   -- a section in the hand of a train
   module _ (t : ℕ) (m : centre.Mission) (home : is_home line c s ≡ true) (taken : (w.at c).book s ≡ centre.Taken t) (has : (w.at c).mission t ≡ Some m) (in_hand : within m.hand s ≡ true) where
     used : is_unused_mark (v.mark s) ≡ false
     used = unused_seen line w alone c s trains at false home (ap centre.is_unused taken)
 
-    unset_asked : may_propose line t s m k ≡ false → Answer (Unset c s) (step.unset line c s k)
+    unset_asked : may_propose line t s m k ≡ false → Unset_answer
     unfolding ◌>>◌
-    unset_asked may = record {
+    unset_asked may = none_asked (record {
       state = record k { wish = put k.wish s true };
       said = word_said line w alone c s trains at (Asked s);
-      own = word_said line w alone c s trains at (Asked s);
       mid = wished_back s true v;
-      quiets = [];
-      later = nothing;
       state_is = rw (home, taken) (rw (has) (rw may refl));
       sayings_are = rw (home, taken) (rw (has) (rw may refl));
       words_are = rw (home, taken) (rw (has) (rw may refl));
       own_step = (at, rw (home, used) (record { said_is = refl; new_is = refl }), refl);
-      quiet_steps = (refl, wish_seen line w alone c s trains at true _ home refl refl refl refl refl refl);
-      says_it = refl;
-    }
+      shown = wish_seen line w alone c s trains at true _ home refl refl refl refl refl refl;
+    }) (none_asked_in_hand line w alone c s t m home taken has may)
 
     abbrev asks : centre.Proposal
     asks = record { stamp = (w.at c).said t + 1; last_kept = s - 1 }
@@ -210,49 +198,52 @@ module _ (line : Line) (w : World) (alone : IsAlone line w) (c s : ℕ) (trains 
           says = record { said_is = refl; new_is = refl };
         }
 
-    unset_proposed : may_propose line t s m k ≡ true → Answer (Unset c s) (step.unset line c s k)
+    unset_proposed : may_propose line t s m k ≡ true → Unset_answer
     unfolding ◌>>◌
-    unset_proposed may = record {
-      state = record k { wish = put k.wish s true; said = put k.said t (k.said t + 1); mission = put k.mission t (option_map (λ (n : centre.Mission). record n { proposal = Some asks }) (k.mission t)) };
-      said = record { sayings = proposal_said.sayings; words = Asked s ∷ [] };
-      own = word_said line w alone c s trains at (Asked s);
-      mid = mid_of;
-      quiets = Propose t c s ∷ [];
-      later = proposal_said;
-      state_is = rw (home, taken) (rw (has) (rw may refl));
-      sayings_are = rw (home, taken) (rw (has) (rw may refl));
-      words_are = rw (home, taken) (rw (has) (rw may refl));
-      own_step = (at, rw (home, used) (record { said_is = refl; new_is = refl }), refl);
-      quiet_steps = (
-        proposal_said,
-        nothing,
-        proposed,
-        proposes may,
-        (
+    unset_proposed may = (
+      record {
+        state = record k { wish = put k.wish s true; said = put k.said t (k.said t + 1); mission = put k.mission t (option_map (λ (n : centre.Mission). record n { proposal = Some asks }) (k.mission t)) };
+        said = record { sayings = proposal_said.sayings; words = Asked s ∷ [] };
+        own = word_said line w alone c s trains at (Asked s);
+        mid = mid_of;
+        quiets = Propose t c s ∷ [];
+        later = proposal_said;
+        state_is = rw (home, taken) (rw (has) (rw may refl));
+        sayings_are = rw (home, taken) (rw (has) (rw may refl));
+        words_are = rw (home, taken) (rw (has) (rw may refl));
+        own_step = (at, rw (home, used) (record { said_is = refl; new_is = refl }), refl);
+        quiet_steps = (
+          proposal_said,
+          nothing,
+          proposed,
+          proposes may,
+          (
+            refl,
+            shows line w c _ trains proposed (record {
+              mark = λ j. mark_stays line w c j _ (λ _. refl);
+              wish = λ j. wish_put line w alone c s trains at true home j;
+              phase = λ u d. put_keeps (λ (x : centre.Centre). x.phase u) w.at c _ refl d;
+              heard = λ u d. put_keeps (λ (x : centre.Centre). x.heard u) w.at c _ refl d;
+              said = λ u d. put_at_pair (λ (x : centre.Centre). x.said) w.at c _ t ((w.at c).said t + 1) (λ _. refl) u d;
+              wait = λ u d. refl;
+              mission = λ u. mission_changes line w c t m (λ n. record n { proposal = Some asks }) (λ n. record n { proposal = Some asks }) u alone has refl;
+            }),
+          ),
           refl,
-          shows line w c _ trains proposed (record {
-            mark = λ j. mark_stays line w c j _ (λ _. refl);
-            wish = λ j. wish_put line w alone c s trains at true home j;
-            phase = λ u d. put_keeps (λ (x : centre.Centre). x.phase u) w.at c _ refl d;
-            heard = λ u d. put_keeps (λ (x : centre.Centre). x.heard u) w.at c _ refl d;
-            said = λ u d. put_at_pair (λ (x : centre.Centre). x.said) w.at c _ t ((w.at c).said t + 1) (λ _. refl) u d;
-            wait = λ u d. refl;
-            mission = λ u. mission_changes line w c t m (λ n. record n { proposal = Some asks }) (λ n. record n { proposal = Some asks }) u alone has refl;
-          }),
-        ),
-        refl,
-      );
-      says_it = refl;
-    }
+        );
+        says_it = refl;
+      },
+      asked t (proposal_said, proposed, proposes may),
+    )
 
-    unset_in_hand : Answer (Unset c s) (step.unset line c s k)
+    unset_in_hand : Unset_answer
     unset_in_hand = by_may (may_propose line t s m k) refl
       where
-        by_may : (b : Bool) → may_propose line t s m k ≡ b → Answer (Unset c s) (step.unset line c s k)
+        by_may : (b : Bool) → may_propose line t s m k ≡ b → Unset_answer
         by_may true is = unset_proposed is
         by_may false is = unset_asked is
 
-  unset_at_home : (entry : centre.Entry) → (w.at c).book s ≡ entry → is_home line c s ≡ true → Answer (Unset c s) (step.unset line c s k)
+  unset_at_home : (entry : centre.Entry) → (w.at c).book s ≡ entry → is_home line c s ≡ true → Unset_answer
   unset_at_home centre.Shut is home = unset_unused home (ap centre.is_unused is)
   unset_at_home centre.Open is home = unset_unused home (ap centre.is_unused is)
   unset_at_home (centre.Taken t) is home =
@@ -270,9 +261,12 @@ module _ (line : Line) (w : World) (alone : IsAlone line w) (c s : ℕ) (trains 
       both_true true false f g = cc
       both_true false b f g = cc
 
-  pub unset_goes : Piece_made (Unset c s) (step.unset line c s k)
-  unset_goes = goes line w alone c s trains at (Unset c s) (step.unset line c s k) (by_home (is_home line c s) refl)
+  pub unset_answered : Unset_answer
+  unset_answered = by_home (is_home line c s) refl
     where
-      by_home : (home : Bool) → is_home line c s ≡ home → Answer (Unset c s) (step.unset line c s k)
+      by_home : (home : Bool) → is_home line c s ≡ home → Unset_answer
       by_home false h = unset_elsewhere h
       by_home true h = unset_at_home ((w.at c).book s) refl h
+
+  pub unset_goes : Piece_made (Unset c s) (step.unset line c s k)
+  unset_goes = goes line w alone c s trains at (Unset c s) (step.unset line c s k) unset_answered.0
