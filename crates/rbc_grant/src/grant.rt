@@ -1,6 +1,6 @@
 ghost use Rattle.std.specs.Prelude.{◌≡◌, ℕ, ◌+◌, ◌-◌, ◌<◌, ◌≤◌, true};
 ghost use Rattle.rbc_spec.specs.Runs.{behind, longest};
-ghost use Rattle.rbc_spec.specs.Line.{end};
+ghost use Rattle.rbc_spec.specs.Line.{end, IsLine};
 ghost use Rattle.rbc_spec.specs.Place as spec;
 ghost use Rattle.rbc_hand.specs.SectionRuns.{run_of};
 ghost use Rattle.rbc_place.specs.Places.{place_of};
@@ -48,6 +48,7 @@ pub fn answer_request(line: &Line, book: &Book, hand: SectionRun, place: &Place)
     // Each of them may follow.
     ensures each { (k : ℕ) → k < result.sections → grants.may_follow line.now book.now (place_of place.now) (behind (run_of hand) + k) ≡ true }
     ensures end { result.end ≡ end line.now (behind (run_of hand) + result.sections - 1) - spec.group_start line.now (place_of place.now) }
+    ensures line { IsLine line.now }
     // L_ENDSECTION has room for it, where the request may be answered.
     ensures fits { grants.may_request line.now (run_of hand) (place_of place.now) ≡ true → result.end ≤ 32767 }
 {

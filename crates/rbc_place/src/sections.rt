@@ -1,7 +1,7 @@
 //! Sections of the line by their numbers.
 
 ghost use Rattle.std.specs.Prelude.{◌≡◌, ◌≤◌};
-ghost use Rattle.rbc_spec.specs.Line.{start, end};
+ghost use Rattle.rbc_spec.specs.Line.{start, end, IsLine};
 ghost use Rattle.rbc_spec.specs.Sections as spec;
 
 use rbc_line::Line;
@@ -23,6 +23,7 @@ pub fn section_start(line: &Line, s: u16) -> u32
 pub fn section_end(line: &Line, s: u32) -> u32
     ensures value { result ≡ end line.now s }
     ensures bound { result ≤ 1024000 }
+    ensures line { IsLine line.now }
 {
     if s >= u32::from(line.section_count()) {
         return 0;

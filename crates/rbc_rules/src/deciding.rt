@@ -1,7 +1,11 @@
 //! What a message comes to, or why it is left without an answer: by the phase of the session and the mission's facts.
 
-ghost use Rattle.std.specs.Prelude.{◌≡◌, option_map, Ok};
-ghost use Rattle.rbc_spec.specs.Rules as rules;
+ghost use Rattle.std.specs.Prelude.{◌≡◌, ℕ, Option, option_map, true, Some, Ok, IfOk, IfSome};
+ghost use Rattle.rbc_spec.specs.Centre as spec;
+ghost use Rattle.rbc_spec.specs.Place as place;
+ghost use Rattle.rbc_book.specs.Book.{Pages};
+ghost use Rattle.rbc_right.specs.Rights.{Rights};
+ghost use Rattle.rbc_spec.specs.Line as track;
 ghost use Rattle.rbc_spec.specs.Rules.{fit_place, all_of};
 ghost use Rattle.rbc_spec.specs.Runs.{within};
 ghost use Rattle.rbc_spec.specs.Outcome.{MissionEnded};
@@ -12,7 +16,7 @@ ghost use Rattle.rbc_hand.specs.SectionRuns.{run_of};
 ghost use Rattle.rbc_place.specs.Places.{place_of};
 ghost use Rattle.rbc_mission.specs.Courses.{mission_of};
 ghost use Rattle.rbc_mission.specs.Deeds as deeds;
-ghost use Rattle.rbc_rules.specs.Decisions.{act_seen};
+ghost use Rattle.rbc_rules.specs.Decisions.{act_seen, Fits, EndsThere, IsGroup};
 ghost use Rattle.rbc_rules.specs.Acts.{deed_of};
 
 use crate::act::Act;
@@ -31,7 +35,8 @@ pub type Decision = Result<Act, Silence>;
 
 /// A session that stands is closed.
 pub fn closing(phase: Phase) -> Decision
-    ensures { act_seen result ≡ deeds.closing (phase_of phase) }
+    ensures act { act_seen result ≡ deeds.closing (phase_of phase) }
+    ensures fits { (book : Pages) (rights : Rights) (i : ℕ) (mission : Option spec.Mission) → IfOk result (Fits book rights i mission) }
 {
     match phase {
         Phase::Silent => Err(Silence::NoSession),
@@ -41,7 +46,8 @@ pub fn closing(phase: Phase) -> Decision
 
 /// A session that was opened and not confirmed is confirmed.
 pub fn establishing(phase: Phase) -> Decision
-    ensures { act_seen result ≡ deeds.establishing (phase_of phase) }
+    ensures act { act_seen result ≡ deeds.establishing (phase_of phase) }
+    ensures fits { (book : Pages) (rights : Rights) (i : ℕ) (mission : Option spec.Mission) → IfOk result (Fits book rights i mission) }
 {
     match phase {
         Phase::Silent => Err(Silence::NoSession),
@@ -52,7 +58,9 @@ pub fn establishing(phase: Phase) -> Decision
 
 /// This, where the session is up.
 pub fn if_up(phase: Phase, then: Decision) -> Decision
-    ensures { act_seen result ≡ deeds.if_up (phase_of phase) (act_seen then) }
+    ensures act { act_seen result ≡ deeds.if_up (phase_of phase) (act_seen then) }
+    ensures fits { (book : Pages) (rights : Rights) (i : ℕ) (mission : Option spec.Mission) → IfOk then (Fits book rights i mission) → IfOk result (Fits book rights i mission) }
+    ensures end { (line : track.Line) (mission : Option spec.Mission) → IfOk then (EndsThere line mission) → IfOk result (EndsThere line mission) }
 {
     match phase {
         Phase::Silent => Err(Silence::NoSession),
@@ -63,7 +71,9 @@ pub fn if_up(phase: Phase, then: Decision) -> Decision
 
 /// The place of a start of mission that is fit (5.4).
 pub fn place_of_start(line: &Line, q_status: QStatus, position: &Position) -> Option<Place>
-    ensures { option_map place_of result ≡ fit_place line.now (message.is_valid q_status) (position_of position.now) }
+    ensures value { option_map place_of result ≡ fit_place line.now (message.is_valid q_status) (position_of position.now) }
+    ensures group { IfSome result (λ p. IsGroup p.group) }
+    ensures fit { IfSome result (λ p. place.is_fit line.now (place_of p) ≡ true) }
 {
     let place = extent(line, position)?;
     if matches!(q_status, QStatus::Valid) && is_fit(line, &place) {
@@ -82,7 +92,8 @@ pub fn has_all(hand: SectionRun, run: SectionRun) -> bool
 
 /// Train data of a mission that goes on are taken.
 pub fn data(mission: &Mission) -> Decision
-    ensures { act_seen result ≡ deeds.unless mission.now.is_ended MissionEnded (Ok deeds.TakeData) }
+    ensures act { act_seen result ≡ deeds.unless mission.now.is_ended MissionEnded (Ok deeds.TakeData) }
+    ensures fits { (book : Pages) (rights : Rights) (i : ℕ) (m : Option spec.Mission) → IfOk result (Fits book rights i m) }
 {
     if mission.is_ended {
         Err(Silence::MissionEnded)
@@ -93,7 +104,8 @@ pub fn data(mission: &Mission) -> Decision
 
 /// A report clears sections of the hand (3.6.5).
 pub fn report(line: &Line, mission: &Mission, hand: SectionRun, position: &Position) -> Decision
-    ensures { act_seen result ≡ deeds.report_rule line.now (position_of position.now) (mission_of (run_of hand) mission.now) }
+    ensures act { act_seen result ≡ deeds.report_rule line.now (position_of position.now) (mission_of (run_of hand) mission.now) }
+    ensures fits { (book : Pages) (rights : Rights) (i : ℕ) → IfOk result (Fits book rights i (Some (mission_of (run_of hand) mission.now))) }
 {
     match place_on(line, mission.place.track, position) {
         Some(place) => Ok(Act::Clear(place, cleared(line, hand, &place))),
@@ -103,7 +115,8 @@ pub fn report(line: &Line, mission: &Mission, hand: SectionRun, position: &Posit
 
 /// The mission is ended, behind a report (5.5).
 pub fn end(line: &Line, mission: &Mission, hand: SectionRun, position: &Position) -> Decision
-    ensures { act_seen result ≡ deeds.end_rule line.now (position_of position.now) (mission_of (run_of hand) mission.now) }
+    ensures act { act_seen result ≡ deeds.end_rule line.now (position_of position.now) (mission_of (run_of hand) mission.now) }
+    ensures fits { (book : Pages) (rights : Rights) (i : ℕ) → IfOk result (Fits book rights i (Some (mission_of (run_of hand) mission.now))) }
 {
     if mission.is_ended {
         return Err(Silence::MissionEnded);
@@ -122,7 +135,8 @@ pub fn grant(
     request: TTrain,
     position: &Position,
 ) -> Decision
-    ensures { act_seen result ≡ deeds.granted_rule line.now request (position_of position.now) (mission_of (run_of hand) mission.now) }
+    ensures act { act_seen result ≡ deeds.granted_rule line.now request (position_of position.now) (mission_of (run_of hand) mission.now) }
+    ensures fits { (book : Pages) (rights : Rights) (i : ℕ) → IfOk result (Fits book rights i (Some (mission_of (run_of hand) mission.now))) }
 {
     let front = match place_on(line, mission.place.track, position) {
         Some(place) => Some(place.front),
@@ -137,7 +151,8 @@ pub fn grant(
 
 /// The train has rejected it.
 pub fn rejection(mission: &Mission, hand: SectionRun, request: TTrain) -> Decision
-    ensures { act_seen result ≡ deeds.if_asked request (mission_of (run_of hand) mission.now) (λ p. deeds.DropProposal) }
+    ensures act { act_seen result ≡ deeds.if_asked request (mission_of (run_of hand) mission.now) (λ p. deeds.DropProposal) }
+    ensures fits { (book : Pages) (rights : Rights) (i : ℕ) → IfOk result (Fits book rights i (Some (mission_of (run_of hand) mission.now))) }
 {
     match rejected(mission.proposal, request.value() as u32) {
         Ok(()) => Ok(Act::DropProposal),

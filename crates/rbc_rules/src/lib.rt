@@ -3,11 +3,13 @@
 #![tactic(auto)]
 
 mod act;
+mod carrying;
 mod deciding;
 mod rules;
 mod silence;
 
 pub use act::Act;
+pub use carrying::carry_out;
 pub use deciding::Decision;
 pub use rules::{Train, decide};
 pub use silence::Silence;

@@ -1,4 +1,4 @@
-ghost use Rattle.std.specs.Prelude.{◌≡◌, ◌&&◌};
+ghost use Rattle.std.specs.Prelude.{◌≡◌, ◌&&◌, ◌<◌, ℕ, Some, IfOk};
 ghost use Rattle.std.specs.Option.{option_map_or};
 ghost use Rattle.rbc_spec.specs.Rules.{fit_place, all_of};
 ghost use Rattle.rbc_spec.specs.Centre as spec;
@@ -7,10 +7,10 @@ ghost use Rattle.rbc_msgs.specs.StepMessage as message;
 ghost use Rattle.rbc_msgs.specs.StepMessage.{position_of, step_body};
 ghost use Rattle.rbc_session.specs.Standing.{phase_of};
 ghost use Rattle.rbc_hand.specs.SectionRuns.{run_of};
-ghost use Rattle.rbc_right.specs.Rights.{is_here};
-ghost use Rattle.rbc_mission.specs.Courses.{mission_of};
+ghost use Rattle.rbc_right.specs.Rights.{Rights, is_here};
+ghost use Rattle.rbc_mission.specs.Courses.{mission_of, IsAlone};
 ghost use Rattle.rbc_mission.specs.Deeds as deeds;
-ghost use Rattle.rbc_rules.specs.Decisions.{act_seen};
+ghost use Rattle.rbc_rules.specs.Decisions.{act_seen, Fits, EndsThere};
 ghost use Rattle.rbc_rules.specs.Acts.{deed_of};
 ghost use Rattle.rbc_rules.specs.Desks.{IsBookOf, HasBook, IsDesk, mission_by};
 
@@ -55,9 +55,13 @@ pub fn decide(
     train: &Train,
     body: &TrainBody,
 ) -> Decision
-    requires { IsBookOf line.now centre book.now }
-    ensures { (k : spec.Centre) → IsDesk k train.now.nid_engine train.now.number book.now registrar.now
+    requires book { IsBookOf line.now centre book.now }
+    requires alone { (m : spec.Mission) → mission_by train.now.mission train.now.hand ≡ Some m → IsAlone m }
+    ensures act { (k : spec.Centre) → IsDesk k train.now.nid_engine train.now.number book.now registrar.now
         → act_seen result ≡ deeds.rule_of line.now centre k train.now.nid_engine (phase_of train.now.phase) (mission_by train.now.mission train.now.hand) (step_body body.now) }
+    // The act can be carried out.
+    ensures fits { IfOk result (Fits book.now registrar.now train.now.number (mission_by train.now.mission train.now.hand)) }
+    ensures end { IfOk result (EndsThere line.now (mission_by train.now.mission train.now.hand)) }
 {
     let phase = train.phase;
     match body {
@@ -84,9 +88,12 @@ pub fn decide(
 
 // What a message comes to that is for the train's supervisor.
 fn under_way(line: &Line, centre: u8, book: &Book, train: &Train, body: &TrainBody) -> Decision
-    requires { IsBookOf line.now centre book.now }
-    ensures { (k : spec.Centre) → HasBook k book.now
+    requires book { IsBookOf line.now centre book.now }
+    requires alone { (m : spec.Mission) → mission_by train.now.mission train.now.hand ≡ Some m → IsAlone m }
+    ensures act { (k : spec.Centre) → HasBook k book.now
         → act_seen result ≡ deeds.supervised (mission_by train.now.mission train.now.hand) (deeds.rule_under_way line.now centre k (step_body body.now)) }
+    ensures fits { (rights : Rights) (i : ℕ) → IfOk result (Fits book.now rights i (mission_by train.now.mission train.now.hand)) }
+    ensures end { IfOk result (EndsThere line.now (mission_by train.now.mission train.now.hand)) }
 {
     let Some(mission) = train.mission else {
         return Err(Silence::NotSupervised);
@@ -122,9 +129,11 @@ fn start(
     position: &Position,
 ) -> Act
     requires { IsBookOf line.now centre book.now }
-    ensures { (k : spec.Centre) → IsDesk k train.now.nid_engine train.now.number book.now registrar.now
+    ensures deed { (k : spec.Centre) → IsDesk k train.now.nid_engine train.now.number book.now registrar.now
         → deed_of result ≡ option_map_or (deeds.start_at line.now centre k train.now.nid_engine (mission_by train.now.mission train.now.hand))
         (fit_place line.now (message.is_valid q_status) (position_of position.now)) deeds.RejectStart }
+    ensures fits { Fits book.now registrar.now train.now.number (mission_by train.now.mission train.now.hand) result }
+    ensures end { EndsThere line.now (mission_by train.now.mission train.now.hand) result }
 {
     let Some(place) = place_of_start(line, q_status, position) else {
         return Act::RejectStart;
@@ -157,9 +166,12 @@ fn request(
     hand: SectionRun,
     position: &Position,
 ) -> Decision
-    requires { IsBookOf line.now centre book.now }
-    ensures { (k : spec.Centre) → HasBook k book.now
+    requires book { IsBookOf line.now centre book.now }
+    requires alone { IsAlone (mission_of (run_of hand) mission.now) }
+    ensures act { (k : spec.Centre) → HasBook k book.now
         → act_seen result ≡ deeds.request_rule line.now centre k (position_of position.now) (mission_of (run_of hand) mission.now) }
+    ensures fits { (rights : Rights) (i : ℕ) → IfOk result (Fits book.now rights i (Some (mission_of (run_of hand) mission.now))) }
+    ensures end { IfOk result (EndsThere line.now (Some (mission_of (run_of hand) mission.now))) }
 {
     if mission.is_ended {
         return Err(Silence::MissionEnded);

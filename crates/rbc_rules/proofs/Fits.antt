@@ -1,0 +1,94 @@
+-- What decisions find out of the mission, the book and the line.
+use Rattle.std.proofs.Common.{◌≡◌, ℕ, zero, suc, ◌+◌, ◌-◌, ◌<◌, ◌≤◌, ◌&&◌, Bool, true, false, nat_lt, length, Option, Some, None, refl, sym, ap, ◌∙◌, arith}
+use Rattle.std.proofs.lemmas.Bool.Decides.{nat_tests}
+use Rattle.std.proofs.lemmas.Option.{slice_get_past}
+use Rattle.rbc_spec.specs.Runs.{Run, within, behind}
+use Rattle.rbc_spec.specs.Line.{Line, IsLine}
+use Rattle.rbc_spec.specs.Sections.{is_on}
+use Rattle.rbc_spec.specs.Place as place
+use Rattle.rbc_spec.specs.Centre as spec
+use Rattle.rbc_spec.specs.Centre.{is_open, is_free}
+use Rattle.rbc_spec.specs.Rules.{all_of}
+use Rattle.rbc_book.specs.Book.{Pages, entry_at}
+use Rattle.rbc_right.specs.Rights.{Rights, is_here}
+use Rattle.rbc_grant.specs.Grants as grants
+use Rattle.rbc_alone.proofs.Ordered.{is_ordered}
+use Rattle.rbc_alone.proofs.Fits.{all_each, begun_alone, fit_parts}
+use Rattle.rbc_place.specs.Places.{place_of}
+use Rattle.rbc_place.specs.declared.place.Place.{Place}
+use Rattle.rbc_hand.specs.SectionRuns.{run_of}
+use Rattle.rbc_hand.specs.declared.section_run.SectionRun.{SectionRun}
+use Rattle.rbc_mission.specs.Courses.{mission_of, IsAlone}
+use Rattle.rbc_mission.specs.Changes.{MayGrow, IsAllOpen}
+use Rattle.rbc_mission.specs.declared.mission.Mission.{Mission as Facts}
+use Rattle.rbc_rules.specs.Desks.{HasBook}
+use Rattle.rbc_rules.specs.Decisions.{Fits, IsGroup}
+use Rattle.rbc_rules.specs.declared.act.Act.TheVariants as act
+
+-- a section of a track is one of the line
+on_line : (line : Line) (track s : ℕ) → is_on line track s ≡ true → s < length line.sections
+on_line line track s on = by_within (nat_lt s (length line.sections)) refl
+  where
+    by_within : (b : Bool) → nat_lt s (length line.sections) ≡ b → s < length line.sections
+    by_within true e = grind (arith, nat_tests)
+    by_within false e = let past : length line.sections ≤ s = grind (arith, nat_tests) in
+        let no : false ≡ true = sym (rw (slice_get_past line.sections s past) refl) ∙ on in cc
+
+pub and_left : (a b : Bool) → (a && b) ≡ true → a ≡ true
+and_left true b h = refl
+and_left false b h = h
+
+pub and_right : (a b : Bool) → (a && b) ≡ true → b ≡ true
+and_right true b h = h
+and_right false b h = cc
+
+opened_behind : (line : Line) (book : Pages) (p : place.Place) (m : spec.Mission) (count : ℕ) → ((k : ℕ) → k < count → grants.may_follow line book p (behind m.hand + k) ≡ true)
+    → (s : ℕ) → within (record { first = behind m.hand; count = count }) s ≡ true → is_open (entry_at book s) ≡ true
+unfolding within
+opened_behind line book p m count each s h =
+    let low : behind m.hand ≤ s = grind (arith, nat_tests) in
+    let high : s < behind m.hand + count = grind (arith, nat_tests) in
+    let same : behind m.hand + (s - behind m.hand) ≡ s = omega (arith, low) in
+    ap (λ x. is_open (entry_at book x)) (sym same) ∙ and_right _ _ (and_left _ _ (each (s - behind m.hand) (omega (arith, low, high))))
+
+-- so many sections that may follow the hand can be taken into it
+pub grows : (line : Line) (book : Pages) (p : place.Place) (m : spec.Mission) (count : ℕ) → IsLine line → IsAlone m → count ≤ 32 - m.hand.count
+    → ((k : ℕ) → k < count → grants.may_follow line book p (behind m.hand + k) ≡ true) → MayGrow m count book
+grows line book p m count of_line alone room each = record {
+  most = let a = alone.most in omega (arith, room, a);
+  numbers = by_count count refl;
+  free = opened_behind line book p m count each;
+}
+  where
+    by_count : (n : ℕ) → count ≡ n → behind m.hand + count ≤ 65535
+    by_count zero e = let a = alone.numbers in omega (arith, a, e)
+    by_count (suc n) e =
+        let h = each n (omega (arith, e)) in
+        let on = and_left _ _ (and_left _ _ h) in
+        let few = on_line line p.track (behind m.hand + n) on in
+        let most = of_line.limits.sections in
+        omega (arith, few, most, e)
+
+-- the hand of a mission by its facts
+pub hand_is : (facts : Facts) (hand : SectionRun) (m : spec.Mission) → ◌≡◌ {A = Option spec.Mission} (Some (mission_of (run_of hand) facts)) (Some m) → mission_of (run_of hand) facts ≡ m
+hand_is facts hand m e = cc
+
+-- each section of a run of free ones is open
+pub all_open : (line : Line) (c : ℕ) (k : spec.Centre) (book : Pages) (run : Run) → HasBook k book → all_of (is_free line c k) run ≡ true → IsAllOpen run book
+all_open line c k book run pages h s w = ap is_open (sym (pages s)) ∙ and_right _ _ (all_each (is_free line c k) run h s w)
+
+-- a start that is fit, of sections that are released, with the right here
+pub start_fits : (line : Line) (book : Pages) (rights : Rights) (i : ℕ) (mission : Option spec.Mission) (p : Place) (run : SectionRun) → IsLine line → mission ≡ None → place.is_fit line (place_of p) ≡ true
+    → run_of run ≡ place.covered line (place_of p) → behind (run_of run) ≤ length line.sections → IsAllOpen (run_of run) book → is_here rights i ≡ true → IsGroup p.group
+    → Fits book rights i mission (act.Start p run)
+start_fits line book rights i mission p run of_line none fit covers bound opened here group =
+    let begun = begun_alone line (is_ordered line of_line) (place_of p) (fit_parts line (place_of p) fit) in
+    let count : run.count ≡ (place.covered line (place_of p)).count = ap (λ (r : Run). r.count) covers in
+    let some = begun.some in
+    let few = begun.few in
+    let most = of_line.limits.sections in
+    (none, omega (arith, some, count), omega (arith, few, count), omega (arith, bound, most), opened, here, group)
+
+-- some centre with this book
+abbrev pub a_centre_of : Line → ℕ → Pages → spec.Centre
+a_centre_of line c book = record (spec.beginning line c) { book = entry_at book }
