@@ -11,6 +11,8 @@ use Rattle.rbc_mission.specs.Changes.{IsAllOpen, MayGrow}
 use Rattle.rbc_mission.specs.Deeds.{Rule}
 use Rattle.rbc_rules.specs.Acts.{deed_of}
 use Rattle.rbc_rules.specs.Reasons.{reason_of}
+use Rattle.rbc_place.specs.declared.place.Place.{Place}
+use Rattle.rbc_grant.specs.declared.grant.Grant.{Grant}
 use Rattle.rbc_rules.specs.declared.act.Act.{Act}
 use Rattle.rbc_rules.specs.declared.act.Act.TheVariants as act
 use Rattle.rbc_rules.specs.declared.silence.Silence.{Silence}
@@ -39,7 +41,10 @@ Fits book rights i mission (act.Cut keep) = (m : Mission) → mission ≡ Some m
 Fits book rights i mission a = Unit {0}
 
 -- the end of an authority that is granted is that of the extended hand, from the group of the place
+abbrev pub EndsAt : Line → Option Mission → Place → Grant → Type 0
+EndsAt line (Some m) place grant = grant.end ≡ end line (m.hand.first + (m.hand.count + grant.sections) - 1) - group_start line (place_of place)
+EndsAt line None place grant = ⊥
+
 abbrev pub EndsThere : Line → Option Mission → Act → Type 0
-EndsThere line mission (act.Extend place grant) =
-    (m : Mission) → mission ≡ Some m → grant.end ≡ end line (m.hand.first + (m.hand.count + grant.sections) - 1) - group_start line (place_of place)
+EndsThere line mission (act.Extend place grant) = EndsAt line mission place grant
 EndsThere line mission a = Unit {0}

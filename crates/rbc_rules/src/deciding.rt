@@ -34,7 +34,7 @@ use rbc_vars::{QStatus, TTrain};
 pub type Decision = Result<Act, Silence>;
 
 /// A session that stands is closed.
-pub fn closing(phase: Phase) -> Decision
+pub(crate) fn closing(phase: Phase) -> Decision
     ensures act { act_seen result ≡ deeds.closing (phase_of phase) }
     ensures fits { (book : Pages) (rights : Rights) (i : ℕ) (mission : Option spec.Mission) → IfOk result (Fits book rights i mission) }
 {
@@ -45,7 +45,7 @@ pub fn closing(phase: Phase) -> Decision
 }
 
 /// A session that was opened and not confirmed is confirmed.
-pub fn establishing(phase: Phase) -> Decision
+pub(crate) fn establishing(phase: Phase) -> Decision
     ensures act { act_seen result ≡ deeds.establishing (phase_of phase) }
     ensures fits { (book : Pages) (rights : Rights) (i : ℕ) (mission : Option spec.Mission) → IfOk result (Fits book rights i mission) }
 {
@@ -57,7 +57,7 @@ pub fn establishing(phase: Phase) -> Decision
 }
 
 /// This, where the session is up.
-pub fn if_up(phase: Phase, then: Decision) -> Decision
+pub(crate) fn if_up(phase: Phase, then: Decision) -> Decision
     ensures act { act_seen result ≡ deeds.if_up (phase_of phase) (act_seen then) }
     ensures fits { (book : Pages) (rights : Rights) (i : ℕ) (mission : Option spec.Mission) → IfOk then (Fits book rights i mission) → IfOk result (Fits book rights i mission) }
     ensures end { (line : track.Line) (mission : Option spec.Mission) → IfOk then (EndsThere line mission) → IfOk result (EndsThere line mission) }
@@ -70,7 +70,7 @@ pub fn if_up(phase: Phase, then: Decision) -> Decision
 }
 
 /// The place of a start of mission that is fit (5.4).
-pub fn place_of_start(line: &Line, q_status: QStatus, position: &Position) -> Option<Place>
+pub(crate) fn place_of_start(line: &Line, q_status: QStatus, position: &Position) -> Option<Place>
     ensures value { option_map place_of result ≡ fit_place line.now (message.is_valid q_status) (position_of position.now) }
     ensures group { IfSome result (λ p. IsGroup p.group) }
     ensures fit { IfSome result (λ p. place.is_fit line.now (place_of p) ≡ true) }
@@ -84,14 +84,14 @@ pub fn place_of_start(line: &Line, q_status: QStatus, position: &Position) -> Op
 }
 
 /// Whether all sections of the run are in the hand.
-pub fn has_all(hand: SectionRun, run: SectionRun) -> bool
+pub(crate) fn has_all(hand: SectionRun, run: SectionRun) -> bool
     ensures { result ≡ all_of (within (run_of hand)) (run_of run) }
 {
     run.is_empty() || (hand.first <= run.first && run.behind() <= hand.behind())
 }
 
 /// Train data of a mission that goes on are taken.
-pub fn data(mission: &Mission) -> Decision
+pub(crate) fn data(mission: &Mission) -> Decision
     ensures act { act_seen result ≡ deeds.unless mission.now.is_ended MissionEnded (Ok deeds.TakeData) }
     ensures fits { (book : Pages) (rights : Rights) (i : ℕ) (m : Option spec.Mission) → IfOk result (Fits book rights i m) }
 {
@@ -103,7 +103,12 @@ pub fn data(mission: &Mission) -> Decision
 }
 
 /// A report clears sections of the hand (3.6.5).
-pub fn report(line: &Line, mission: &Mission, hand: SectionRun, position: &Position) -> Decision
+pub(crate) fn report(
+    line: &Line,
+    mission: &Mission,
+    hand: SectionRun,
+    position: &Position,
+) -> Decision
     ensures act { act_seen result ≡ deeds.report_rule line.now (position_of position.now) (mission_of (run_of hand) mission.now) }
     ensures fits { (book : Pages) (rights : Rights) (i : ℕ) → IfOk result (Fits book rights i (Some (mission_of (run_of hand) mission.now))) }
 {
@@ -114,7 +119,7 @@ pub fn report(line: &Line, mission: &Mission, hand: SectionRun, position: &Posit
 }
 
 /// The mission is ended, behind a report (5.5).
-pub fn end(line: &Line, mission: &Mission, hand: SectionRun, position: &Position) -> Decision
+pub(crate) fn end(line: &Line, mission: &Mission, hand: SectionRun, position: &Position) -> Decision
     ensures act { act_seen result ≡ deeds.end_rule line.now (position_of position.now) (mission_of (run_of hand) mission.now) }
     ensures fits { (book : Pages) (rights : Rights) (i : ℕ) → IfOk result (Fits book rights i (Some (mission_of (run_of hand) mission.now))) }
 {
@@ -128,7 +133,7 @@ pub fn end(line: &Line, mission: &Mission, hand: SectionRun, position: &Position
 }
 
 /// The train has granted a shortening (3.8.6).
-pub fn grant(
+pub(crate) fn grant(
     line: &Line,
     mission: &Mission,
     hand: SectionRun,
@@ -150,7 +155,7 @@ pub fn grant(
 }
 
 /// The train has rejected it.
-pub fn rejection(mission: &Mission, hand: SectionRun, request: TTrain) -> Decision
+pub(crate) fn rejection(mission: &Mission, hand: SectionRun, request: TTrain) -> Decision
     ensures act { act_seen result ≡ deeds.if_asked request (mission_of (run_of hand) mission.now) (λ p. deeds.DropProposal) }
     ensures fits { (book : Pages) (rights : Rights) (i : ℕ) → IfOk result (Fits book rights i (Some (mission_of (run_of hand) mission.now))) }
 {
