@@ -1,131 +1,35 @@
-//! How many messages a second the codec reads and writes: `rbc_bench TURNS` prints a line for each of seven messages and
-//! each direction. Without a word it reads and writes each once, and prints nothing.
+//! How fast the codec and the centres are. `rbc_bench TURNS` prints messages a second of the codec. `rbc_bench answers LINE
+//! SCRIPT` prints what the centres of a line answer to a script of events; `rbc_bench time LINE SCRIPT TURNS` plays the script so
+//! often, and prints events a second and the bytes of one turn's messages to trains. Without a word the codec reads and writes each
+//! message once, and nothing is printed.
 #![tactic(auto)]
 
-ghost use Rattle.std.specs.Prelude.{◌≡◌, ◌%◌, set};
+mod codec;
+mod missions;
+mod print;
+mod script;
 
-use rbc_msgs::{decode_track, decode_train, encode_track, encode_train};
-use std::time::Instant;
-use std::{env, io};
+use crate::codec::measure_codec;
+use crate::missions::{measure_steps, print_answers};
+use anyhow::bail;
+use std::env;
 
-const TRAIN: [(&str, &[u8]); 4] = [
-    (
-        "129",
-        &[
-            0x81, 0x07, 0, 0, 0, 1, 0, 0, 0, 0x40, 1, 2, 0x80, 0xA0, 0x32, 0x82, 0x58, 0x50, 1,
-            0x40, 5, 0x10, 0x19, 0, 0x10, 0x61, 0x60, 0x15,
-        ],
-    ),
-    (
-        "132",
-        &[
-            0x84, 0x06, 0x80, 0, 0, 1, 0x40, 0, 0, 0x42, 0, 8, 0x14, 5, 1, 0x94, 0x12, 0xC2, 0x80,
-            0x0A, 0, 0x28, 0x80, 0xC8, 0, 0x83,
-        ],
-    ),
-    (
-        "136",
-        &[
-            0x88, 0x06, 0x80, 0, 0, 1, 0x80, 0, 0, 0x40, 1, 2, 0x80, 0xA0, 0x33, 0, 0xD2, 0x50, 1,
-            0x40, 5, 0x10, 0x19, 0, 0x10, 0x60,
-        ],
-    ),
-    (
-        "157",
-        &[
-            0x9D, 0x06, 0x80, 0, 0, 0, 0xC0, 0, 0, 0x50, 0, 0x40, 0xA0, 0x28, 0x0C, 0xA0, 0x96,
-            0x14, 0, 0x50, 1, 0x44, 6, 0x40, 4, 0x18,
-        ],
-    ),
-];
-
-const TRACK: [(&str, &[u8]); 3] = [
-    (
-        "3",
-        &[
-            3, 4, 0x80, 0, 0, 1, 0, 0x28, 0x0C, 0xA1, 0xE8, 0x10, 0x90, 0x1F, 0xF8, 5, 0xDC, 0,
-        ],
-    ),
-    (
-        "24",
-        &[
-            0x18, 6, 0x80, 0, 0, 1, 0x80, 0x28, 0x0C, 0xB0, 0x68, 0x20, 0x51, 0x77, 0, 0x28, 0,
-            0x5F, 0xFF, 0xFF, 0xFF, 0xFF, 0xFF, 0xFF, 0xFF, 0xE0,
-        ],
-    ),
-    ("41", &[0x29, 2, 0x80, 0, 0, 0, 0x9F, 0xFF, 0xFF, 0xE0]),
-];
-
-fn main(rt: HostRuntime) -> io::Result<()> {
-    let mut words = env::args(&rt)?;
-    let _program = words.next();
-    let turns = match words.next() {
-        Some(word) => word.as_str().parse().unwrap_or(1),
-        None => 1,
-    };
-    for (name, bytes) in &TRAIN {
-        train(&rt, name, bytes, turns)?;
-    }
-    for (name, bytes) in &TRACK {
-        track(&rt, name, bytes, turns)?;
+fn main(rt: HostRuntime) -> anyhow::Result<()> {
+    let words: Vec<String> = env::args(&rt)?.skip(1).collect(rt.alloc())?;
+    match words.as_slice() {
+        [] => measure_codec(&rt, 1)?,
+        [turns] => measure_codec(&rt, turns_in(turns))?,
+        [what, line, script] if what.as_str() == "answers" => {
+            print_answers(&rt, line.as_str(), script.as_str())?
+        }
+        [what, line, script, turns] if what.as_str() == "time" => {
+            measure_steps(&rt, line.as_str(), script.as_str(), turns_in(turns))?
+        }
+        _ => bail!("TURNS, or answers LINE SCRIPT, or time LINE SCRIPT TURNS"),
     }
     Ok(())
 }
 
-fn train(rt: &HostRuntime, name: &str, bytes: &[u8], turns: u32) -> io::Result<()> {
-    let mut bytes = Vec::from_slice(rt.alloc(), bytes)?;
-    let start = Instant::now(rt)?;
-    for turn in 0..turns {
-        set_time(&mut bytes, turn);
-        let _message = decode_train(rt.alloc(), &bytes);
-    }
-    print(rt, "decode", name, turns, &start)?;
-    let Ok(message) = decode_train(rt.alloc(), &bytes) else {
-        return Ok(());
-    };
-    let start = Instant::now(rt)?;
-    for _ in 0..turns {
-        let _bytes = encode_train(rt.alloc(), &message);
-    }
-    print(rt, "encode", name, turns, &start)
-}
-
-fn track(rt: &HostRuntime, name: &str, bytes: &[u8], turns: u32) -> io::Result<()> {
-    let mut bytes = Vec::from_slice(rt.alloc(), bytes)?;
-    let start = Instant::now(rt)?;
-    let mut are_read = true;
-    for turn in 0..turns {
-        set_time(&mut bytes, turn);
-        are_read &= decode_track(&bytes).is_ok();
-    }
-    if are_read {
-        print(rt, "decode", name, turns, &start)?;
-    }
-    let Ok(message) = decode_track(&bytes) else {
-        return Ok(());
-    };
-    let start = Instant::now(rt)?;
-    for _ in 0..turns {
-        let _bytes = encode_track(rt.alloc(), &message);
-    }
-    print(rt, "encode", name, turns, &start)
-}
-
-// Each turn reads another T_TRAIN: the byte that lies whole in it is the turn's lowest byte. A message without it stays.
-#[tactic(auto, using(std::proofs::lemmas::List::set_past))]
-fn set_time(bytes: &mut [u8], turn: u32)
-    ensures { bytes.new ≡ set bytes.old 4 (turn % 256) }
-{
-    if bytes.len() > 4 {
-        bytes[4] = (turn % 256) as u8;
-    }
-}
-
-fn print(rt: &HostRuntime, what: &str, name: &str, turns: u32, start: &Instant) -> io::Result<()> {
-    let nanos = start.elapsed(rt)?.as_nanos();
-    if turns > 1 {
-        let rate = u128::from(turns) * 1_000_000_000 / (nanos / 2 + 1) / 2;
-        println!(rt; "{what} {name} {rate}")?;
-    }
-    Ok(())
+fn turns_in(word: &String) -> u32 {
+    word.as_str().parse().unwrap_or(1)
 }

@@ -1,0 +1,89 @@
+//! How many events a second the centres of a line take, from bytes to bytes.
+
+use crate::print::print_answer;
+use crate::script::events_of;
+use anyhow::bail;
+use rbc_centre::Outcome;
+use rbc_line::Line;
+use rbc_msgs::encode_track;
+use rbc_world::{Answer, World, WorldEvent};
+use std::alloc::Global;
+use std::io::{BufWriter, Write};
+use std::time::Instant;
+use std::{fs, io};
+
+/// Prints what the centres of a line answer to each event of a script.
+pub fn print_answers(rt: &HostRuntime, line: &str, script: &str) -> anyhow::Result<()> {
+    let alloc = rt.alloc();
+    let line = line_in(rt, line)?;
+    let events = events_of(alloc, &line, fs::read_to_string(rt, script)?.as_str())?;
+    let mut world = World::new(alloc, &line)?;
+    let mut out = BufWriter::new(alloc, io::writer(rt))?;
+    for event in &events {
+        let answer = step(&mut world, event)?;
+        print_answer(alloc, &mut out, &answer)?;
+    }
+    out.flush()?;
+    Ok(())
+}
+
+/// Plays a script on a line so often, each time in a new world, and prints how many events a second the fastest turn took and the
+/// bytes of its messages to trains. Only the steps and the writing of messages are timed.
+pub fn measure_steps(
+    rt: &HostRuntime,
+    line: &str,
+    script: &str,
+    turns: u32,
+) -> anyhow::Result<()> {
+    let alloc = rt.alloc();
+    let line = line_in(rt, line)?;
+    let events = events_of(alloc, &line, fs::read_to_string(rt, script)?.as_str())?;
+    let mut nanos = u128::MAX;
+    let mut bytes = 0;
+    for _ in 0..turns {
+        let mut world = World::new(alloc, &line)?;
+        let start = Instant::now(rt)?;
+        bytes = play(alloc, &mut world, &events)?;
+        nanos = nanos.min(start.elapsed(rt)?.as_nanos());
+    }
+    println!(rt; "{} {bytes}", events.len() as u128 * 1_000_000_000 / nanos.max(1))?;
+    Ok(())
+}
+
+fn line_in(rt: &HostRuntime, file: &str) -> anyhow::Result<Line> {
+    let text = fs::read_to_string(rt, file)?;
+    match Line::from_toml(rt.alloc(), text.as_str()) {
+        Ok(line) => Ok(line),
+        Err(fault) => bail!("line fault {}", fault.number()),
+    }
+}
+
+// Takes the events one after another: how many bytes of messages were written to trains.
+fn play(alloc: Global, world: &mut World, events: &[WorldEvent]) -> anyhow::Result<usize> {
+    let mut bytes = 0usize;
+    for event in events {
+        if let Answer::Outcome(outcome) = step(world, event)? {
+            bytes = bytes.saturating_add(written(alloc, &outcome)?);
+        }
+    }
+    Ok(bytes)
+}
+
+fn step(world: &mut World, event: &WorldEvent) -> anyhow::Result<Answer> {
+    match world.step(event) {
+        Ok(answer) => Ok(answer),
+        Err(fault) => bail!("step refused {}", fault.number()),
+    }
+}
+
+// Writes the messages of an outcome: how many bytes they are.
+fn written(alloc: Global, outcome: &Outcome) -> anyhow::Result<usize> {
+    let mut bytes = 0usize;
+    for saying in outcome.sayings.as_slice() {
+        let Ok(message) = encode_track(alloc, &saying.message) else {
+            bail!("memory ran out")
+        };
+        bytes = bytes.saturating_add(message.len());
+    }
+    Ok(bytes)
+}
