@@ -17,22 +17,25 @@ impl<'a> Reader<'a> {
     }
 
     /// The next field of n bits, at most 32.
+    #[inline]
     pub fn take(&mut self, n: usize) -> Option<u32> {
         if self.left() < n || n == 0 {
             return None;
         }
-        let first = self.used / 8;
-        let word = match self.bytes.get(first..first + 8) {
-            Some(eight) => u64::from_be_bytes(eight.try_into().unwrap()),
-            None => {
-                let mut eight = [0; 8];
-                eight[..self.bytes.len() - first].copy_from_slice(&self.bytes[first..]);
-                u64::from_be_bytes(eight)
-            }
-        };
-        let field = word << (self.used % 8) >> (64 - n);
+        let word = self.word(self.used / 8) << (self.used % 8);
+        let field = word >> (64 - n);
         self.used += n;
         Some(field as u32)
+    }
+
+    /// Eight bytes from this one on; zeros stand behind the last byte.
+    fn word(&self, first: usize) -> u64 {
+        let last = self.bytes.len();
+        match (self.bytes.get(first..first + 8), self.bytes.last_chunk::<8>()) {
+            (Some(eight), _) => u64::from_be_bytes(eight.try_into().unwrap()),
+            (None, Some(eight)) => u64::from_be_bytes(*eight) << (8 * (first + 8 - last)),
+            (None, None) => self.bytes[first..].iter().fold(0, |word, byte| word << 8 | u64::from(*byte)) << (8 * (first + 8 - last)),
+        }
     }
 
     /// A reader of the next n bits, which are taken.
