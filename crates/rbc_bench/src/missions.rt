@@ -29,12 +29,7 @@ pub fn print_answers(rt: &HostRuntime, line: &str, script: &str) -> anyhow::Resu
 
 /// Plays a script on a line so often, each time in a new world, and prints how many events a second the fastest turn took and the
 /// bytes of its messages to trains. Only the steps and the writing of messages are timed.
-pub fn measure_steps(
-    rt: &HostRuntime,
-    line: &str,
-    script: &str,
-    turns: u32,
-) -> anyhow::Result<()> {
+pub fn measure_steps(rt: &HostRuntime, line: &str, script: &str, turns: u32) -> anyhow::Result<()> {
     let alloc = rt.alloc();
     let line = line_in(rt, line)?;
     let events = events_of(alloc, &line, fs::read_to_string(rt, script)?.as_str())?;
@@ -46,7 +41,10 @@ pub fn measure_steps(
         bytes = play(alloc, &mut world, &events)?;
         nanos = nanos.min(start.elapsed(rt)?.as_nanos());
     }
-    println!(rt; "{} {bytes}", events.len() as u128 * 1_000_000_000 / nanos.max(1))?;
+    println!(rt;
+        "{} {bytes}",
+        events.len() as u128 * 1_000_000_000 / nanos.max(1)
+    )?;
     Ok(())
 }
 
