@@ -42,6 +42,7 @@ fn print_word<W: Write>(out: &mut W, word: &Word) -> anyhow::Result<()> {
         Word::Done(section) => writeln!(out, "{section} Done")?,
         Word::Asked(section) => writeln!(out, "{section} Asked")?,
         Word::NotHome(section) => writeln!(out, "{section} NotHome")?,
+        Word::Told(section) => writeln!(out, "{section} Told")?,
     }
     Ok(())
 }
