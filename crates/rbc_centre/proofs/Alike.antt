@@ -6,7 +6,7 @@ use Rattle.std.proofs.lemmas.Slice.Eq.{slice_eq-Decides}
 use Rattle.rbc_centre.specs.Views.{saying_of, word_of}
 use Rattle.rbc_centre.specs.declared.outcome.Saying.{Saying}
 use Rattle.rbc_centre.specs.declared.outcome.Word.{Word}
-use Rattle.rbc_centre.specs.declared.outcome.Word.TheVariants.{Done, Asked, NotHome}
+use Rattle.rbc_centre.specs.declared.outcome.Word.TheVariants.{Done, Asked, NotHome, Told}
 
 map_apart : {A B : Type 0} (f : A → B) → ((a b : A) → f a ≡ f b → a ≡ b) → (xs ys : List A) → map f xs ≡ map f ys → xs ≡ ys
 map_apart f apart [] [] e = refl
@@ -28,12 +28,19 @@ pub words_apart : (a b : Word) → word_of a ≡ word_of b → a ≡ b
 words_apart (Done s) (Done t) e = cc
 words_apart (Done s) (Asked t) e = cc
 words_apart (Done s) (NotHome t) e = cc
+words_apart (Done s) (Told t) e = cc
 words_apart (Asked s) (Done t) e = cc
 words_apart (Asked s) (Asked t) e = cc
 words_apart (Asked s) (NotHome t) e = cc
+words_apart (Asked s) (Told t) e = cc
 words_apart (NotHome s) (Done t) e = cc
 words_apart (NotHome s) (Asked t) e = cc
 words_apart (NotHome s) (NotHome t) e = cc
+words_apart (NotHome s) (Told t) e = cc
+words_apart (Told s) (Done t) e = cc
+words_apart (Told s) (Asked t) e = cc
+words_apart (Told s) (NotHome t) e = cc
+words_apart (Told s) (Told t) e = cc
 
 pub sayings_apart : (a b : Saying) → saying_of a ≡ saying_of b → a ≡ b
 sayings_apart a b e = λ i. record { nid_engine = (ap (λ s. s.nid_engine) e) i; message = (ap (λ s. s.message) e) i }

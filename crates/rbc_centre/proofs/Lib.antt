@@ -1,5 +1,11 @@
+pub mod Puts
 pub mod Rules
 pub mod Standings
 pub mod States
+pub mod Begins
+pub mod Turns
+pub mod Silences
+pub mod Groups
 pub mod Steps
+pub mod Wishes
 pub mod Alike

@@ -1,225 +1,167 @@
--- What the rules of a train's message come to at a centre where no train is under way.
-use Rattle.std.proofs.Common.{◌≡◌, ℕ, ◌+◌, ◌==◌, Bool, true, false, cond, List, [], ◌∷◌, Option, Some, None, option_map, is_some, is_none, Result, Ok, Err, refl, sym, ap, ◌∙◌, subst, inl, inr, length}
-use Rattle.std.specs.List.{list_any, range_with_len}
-use Rattle.std.proofs.lemmas.Bool.Decides.{eqb_tells}
-use Rattle.rbc_spec.specs.Maps.{put}
-use Rattle.rbc_spec.specs.Reach.{Sessions}
-use Rattle.rbc_spec.specs.Line.{Line, train_number}
-use Rattle.rbc_spec.specs.Place.{Position}
-use Rattle.rbc_spec.specs.Message.{TrainMessage, TrainBody, TrainData, Request, Report, ShorteningGranted, ShorteningRejected, EndOfMission, InitiationOfSession, TerminationOfSession, StartOfMission, SessionEstablished, TrackBody, SystemVersion, TerminationAcknowledged, TrainRejected, unknown_group}
-use Rattle.rbc_spec.specs.Outcome.{Reason, StaleStamp, ForeignEngine, Saying}
-use Rattle.rbc_spec.specs.Centre.{Centre, Mission, Phase, Silent, Opened, Up, is_expected}
-use Rattle.rbc_spec.specs.Acts.{Reply, ◌>>◌}
-use Rattle.rbc_spec.specs.Step.{silence, is_stale, hear_and_answer}
-use Rattle.rbc_centre.specs.Sessions.{Rule, session_rule, phase_after, answer_of}
-use Rattle.rbc_centre.specs.declared.session_act.SessionAct.{SessionAct}
+-- What a deed does to the session with its train.
+use Rattle.std.proofs.Common.{◌≡◌, ℕ, ◌==◌, Bool, true, false, cond, not, is_some, Option, Some, None, Ok, Err, refl, if◌then◌else◌}
+use Rattle.std.specs.Option.{option_map_or}
+use Rattle.rbc_spec.specs.Line.{Line}
+use Rattle.rbc_spec.specs.Place.{Place}
+use Rattle.rbc_spec.specs.Message.{TrainBody, TrainData, Request, Report, ShorteningGranted, ShorteningRejected, EndOfMission, InitiationOfSession, TerminationOfSession, StartOfMission, SessionEstablished}
+use Rattle.rbc_spec.specs.Outcome.{Reason, NoPlace, NoTrainData, ProposalPending, Unasked}
+use Rattle.rbc_spec.specs.Centre.{Centre, Phase, Silent, Opened, Up, Mission, Proposal}
+use Rattle.rbc_spec.specs.Rules.{fit_place, place_on}
+use Rattle.rbc_mission.specs.Deeds as deeds
+use Rattle.rbc_mission.specs.Deeds.{Deed, OpenSession, EstablishSession, CloseSession, RejectStart, Restart, Start, TakeData, Grant, Clear, End, ClearAndEnd, DropProposal, Cut, Rule, rule_of, rule_under_way, unless, if_asked, start_at, grant_at, cut_at, supervised}
+use Rattle.rbc_centre.specs.Sessions.{session_of, phase_after}
 use Rattle.rbc_centre.specs.declared.session_act.SessionAct.TheVariants as act
 
--- ## Functions of numbers
+-- the phase by the act on the session is that by the deed
+pub phase_same : (deed : Deed) (phase : Phase) → phase_after (session_of deed) phase ≡ deeds.phase_after deed phase
+phase_same OpenSession phase = refl
+phase_same EstablishSession phase = refl
+phase_same CloseSession phase = refl
+phase_same RejectStart phase = refl
+phase_same (Restart place) phase = refl
+phase_same (Start place run) phase = refl
+phase_same TakeData phase = refl
+phase_same (Grant place count) phase = refl
+phase_same (Clear place count) phase = refl
+phase_same End phase = refl
+phase_same (ClearAndEnd place count) phase = refl
+phase_same DropProposal phase = refl
+phase_same (Cut keep) phase = refl
 
-pub put_over : {X : Type 0} (t : ℕ) (x y : X) (f : ℕ → X) (u : ℕ) → put (put f t y) t x u ≡ put f t x u
-put_over t x y f u = elim (u == t) as (λ b. cond b x (cond b y (f u)) ≡ cond b x (f u)) [ true ↦ refl | false ↦ refl ]
+-- a session is opened by that deed alone, and confirmed by that one
+pub opens : (deed : Deed) → session_of deed ≡ act.Open → deed ≡ OpenSession
+opens OpenSession e = refl
+opens EstablishSession e = cc
+opens CloseSession e = cc
+opens RejectStart e = cc
+opens (Restart place) e = cc
+opens (Start place run) e = cc
+opens TakeData e = cc
+opens (Grant place count) e = cc
+opens (Clear place count) e = cc
+opens End e = cc
+opens (ClearAndEnd place count) e = cc
+opens DropProposal e = cc
+opens (Cut keep) e = cc
 
--- putting what is there changes nothing
-pub put_same : {X : Type 0} (t : ℕ) (x : X) (f : ℕ → X) → f t ≡ x → (u : ℕ) → put f t x u ≡ f u
-put_same t x f there u = elim (eqb_tells u t) as (λ _. put f t x u ≡ f u) [
-  | inl e ↦ rw (e.0) (sym there ∙ ap f (sym e.1))
-  | inr e ↦ rw (e.0) refl
-]
+pub confirms : (deed : Deed) → session_of deed ≡ act.Establish → deed ≡ EstablishSession
+confirms OpenSession e = cc
+confirms EstablishSession e = refl
+confirms CloseSession e = cc
+confirms RejectStart e = cc
+confirms (Restart place) e = cc
+confirms (Start place run) e = cc
+confirms TakeData e = cc
+confirms (Grant place count) e = cc
+confirms (Clear place count) e = cc
+confirms End e = cc
+confirms (ClearAndEnd place count) e = cc
+confirms DropProposal e = cc
+confirms (Cut keep) e = cc
 
-pub none_of : {X : Type 0} (xs : List X) → list_any (λ x. false) xs ≡ false
-none_of [] = refl
-none_of (x ∷ xs) = none_of xs
+-- ## What is confirmed was opened
 
--- ## A message of a train that is not under way
+-- the rule confirms no session
+abbrev Confirms : Rule → Type 0
+Confirms rule = rule ≡ Ok EstablishSession
 
--- the centre has no mission and no start of the train, and expects it from nobody
-pub record IsIdleFor (k : Centre) (t : ℕ) : Type 0 where
-  pub mission : k.mission t ≡ None
-  pub wait : k.wait t ≡ None
-  pub expects : (d : ℕ) → k.expects d t ≡ None
+abbrev IsOther : Deed → Type 0
+IsOther deed = deed ≡ EstablishSession → ⊥
 
-abbrev pub reason_in : Rule → Option Reason
-reason_in (Ok a) = None
-reason_in (Err why) = Some why
+other_if : (b : Bool) (x y : Deed) → IsOther x → IsOther y → IsOther (cond b x y)
+other_if true x y a b = a
+other_if false x y a b = b
 
--- the message is heard, and the session is in this phase
-abbrev pub after : Centre → ℕ → ℕ → Phase → Centre
-after k t_train t phase = record k { heard = put k.heard t (Some t_train); phase = put k.phase t phase }
+other_or : {X : Type 0} (o : Option X) (f : X → Deed) (y : Deed) → ((x : X) → IsOther (f x)) → IsOther y → IsOther (option_map_or f o y)
+other_or (Some x) f y a b = a x
+other_or None f y a b = b
 
-abbrev pub saying : ℕ → ℕ → TrackBody → Saying
-saying t count body = record { nid_engine = t; message = record { t_train = count; nid_lrbg = unknown_group; body = body } }
+of_deed : (deed : Deed) → IsOther deed → Confirms (Ok deed) → ⊥
+of_deed deed other e = other (let is : deed ≡ EstablishSession = cc in is)
 
--- one message is said, or none
-abbrev pub replied : ℕ → Option TrackBody → Centre → Reply
-replied t (Some body) j = record { state = record j { said = put j.said t (j.said t + 1) }; frames = λ d. []; sayings = saying t (j.said t + 1) body ∷ []; words = [] }
-replied t None j = record { state = j; frames = λ d. []; sayings = []; words = [] }
+of_err : (why : Reason) → Confirms (Err why) → ⊥
+of_err why e = cc
 
-module _ (line : Line) (c : ℕ) (k : Centre) (t_train t : ℕ) (idle : IsIdleFor k t) where
-  unexpected : is_expected line k t ≡ false
-  unexpected = ap (λ (f : ℕ → Bool). list_any f (range_with_len 0 (length line.centres))) (λ i d. is_some (idle.expects d i)) ∙ none_of (range_with_len 0 (length line.centres))
+unless_other : (b : Bool) (why : Reason) (rule : Rule) → (Confirms rule → ⊥) → Confirms (unless b why rule) → ⊥
+unless_other true why rule other e = cc
+unless_other false why rule other e = other e
 
-  abbrev m : TrainBody → TrainMessage
-  m body = record { t_train = t_train; nid_engine = t; body = body }
+or_other : {X : Type 0} (o : Option X) (f : X → Rule) (rule : Rule) → ((x : X) → Confirms (f x) → ⊥) → (Confirms rule → ⊥) → Confirms (option_map_or f o rule) → ⊥
+or_other (Some x) f rule a b e = a x e
+or_other None f rule a b e = b e
 
-  pub foreign_silence : (body : TrainBody) → is_none (train_number line t) ≡ true → silence line c k (m body) ≡ Some ForeignEngine
-  foreign_silence InitiationOfSession f = rw f refl
-  foreign_silence TerminationOfSession f = rw f refl
-  foreign_silence SessionEstablished f = rw f refl
-  foreign_silence (StartOfMission is_valid position) f = rw f refl
-  foreign_silence (TrainData position) f = rw f refl
-  foreign_silence (Request position) f = rw f refl
-  foreign_silence (Report position) f = rw f refl
-  foreign_silence (ShorteningGranted stamp position) f = rw f refl
-  foreign_silence (ShorteningRejected stamp position) f = rw f refl
-  foreign_silence (EndOfMission position) f = rw f refl
+asked_other : (stamp : ℕ) (m : Mission) (deed : Proposal → Deed) → ((p : Proposal) → IsOther (deed p)) → Confirms (if_asked stamp m deed) → ⊥
+asked_other stamp m deed other = or_other m.proposal (λ p. if p.stamp == stamp then Ok (deed p) else Err Unasked) (Err Unasked) (λ p. by_stamp (p.stamp == stamp) p) (λ e. cc)
+  where
+    by_stamp : (b : Bool) (p : Proposal) → Confirms (cond b (Ok (deed p)) (Err Unasked)) → ⊥
+    by_stamp true p e = of_deed (deed p) (other p) e
+    by_stamp false p e = cc
 
-  pub stale_silence : (body : TrainBody) → is_none (train_number line t) ≡ false → is_stale t_train (k.heard t) ≡ true → silence line c k (m body) ≡ Some StaleStamp
-  stale_silence InitiationOfSession f s = rw (f, s) refl
-  stale_silence TerminationOfSession f s = rw (f, s) refl
-  stale_silence SessionEstablished f s = rw (f, s) refl
-  stale_silence (StartOfMission is_valid position) f s = rw (f, s) refl
-  stale_silence (TrainData position) f s = rw (f, s) refl
-  stale_silence (Request position) f s = rw (f, s) refl
-  stale_silence (Report position) f s = rw (f, s) refl
-  stale_silence (ShorteningGranted stamp position) f s = rw (f, s) refl
-  stale_silence (ShorteningRejected stamp position) f s = rw (f, s) refl
-  stale_silence (EndOfMission position) f s = rw (f, s) refl
+grant_other : (place : Place) (count : ℕ) → IsOther (Grant place count)
+grant_other place count e = cc
 
-  -- a message in time of a train of the line is silent where the rule of its session has a reason
-  pub timely_silence : (phase : Phase) (body : TrainBody) → is_none (train_number line t) ≡ false → is_stale t_train (k.heard t) ≡ false → k.phase t ≡ phase
-      → silence line c k (m body) ≡ reason_in (session_rule phase body)
-  timely_silence phase InitiationOfSession f s p = rw (f, s) refl
-  timely_silence Silent TerminationOfSession f s p = rw (f, s, p) refl
-  timely_silence Opened TerminationOfSession f s p = rw (f, s, p) refl
-  timely_silence Up TerminationOfSession f s p = rw (f, s, p) refl
-  timely_silence Silent SessionEstablished f s p = rw (f, s, p) refl
-  timely_silence Opened SessionEstablished f s p = rw (f, s, p) refl
-  timely_silence Up SessionEstablished f s p = rw (f, s, p) refl
-  timely_silence Silent (StartOfMission is_valid position) f s p = rw (f, s, p) refl
-  timely_silence Opened (StartOfMission is_valid position) f s p = rw (f, s, p) refl
-  timely_silence Up (StartOfMission is_valid position) f s p = rw (f, s, p, idle.wait) refl
-  timely_silence Silent (TrainData position) f s p = rw (f, s, p) refl
-  timely_silence Opened (TrainData position) f s p = rw (f, s, p) refl
-  timely_silence Up (TrainData position) f s p = rw (f, s, p, idle.mission) refl
-  timely_silence Silent (Request position) f s p = rw (f, s, p) refl
-  timely_silence Opened (Request position) f s p = rw (f, s, p) refl
-  timely_silence Up (Request position) f s p = rw (f, s, p, idle.mission) refl
-  timely_silence Silent (Report position) f s p = rw (f, s, p) refl
-  timely_silence Opened (Report position) f s p = rw (f, s, p) refl
-  timely_silence Up (Report position) f s p = rw (f, s, p, idle.mission, unexpected) refl
-  timely_silence Silent (ShorteningGranted stamp position) f s p = rw (f, s, p) refl
-  timely_silence Opened (ShorteningGranted stamp position) f s p = rw (f, s, p) refl
-  timely_silence Up (ShorteningGranted stamp position) f s p = rw (f, s, p, idle.mission) refl
-  timely_silence Silent (ShorteningRejected stamp position) f s p = rw (f, s, p) refl
-  timely_silence Opened (ShorteningRejected stamp position) f s p = rw (f, s, p) refl
-  timely_silence Up (ShorteningRejected stamp position) f s p = rw (f, s, p, idle.mission) refl
-  timely_silence Silent (EndOfMission position) f s p = rw (f, s, p) refl
-  timely_silence Opened (EndOfMission position) f s p = rw (f, s, p) refl
-  timely_silence Up (EndOfMission position) f s p = rw (f, s, p, idle.mission) refl
+cut_other : (keep : ℕ) → IsOther (Cut keep)
+cut_other keep e = cc
 
-  mission_same : (f : Mission → Mission) (u : ℕ) → put k.mission t (option_map f (k.mission t)) u ≡ k.mission u
-  mission_same f u = ap (λ (x : Option Mission). put k.mission t (option_map f x) u) idle.mission ∙ put_same t None k.mission idle.mission u
+drop_other : IsOther DropProposal
+drop_other e = cc
 
-  -- what a centre comes to that hears the message, and closes the session on the way to this phase
-  abbrev closed : (ℕ → Phase) → TrackBody → Reply
-  closed phases body = record {
-    state = record k {
-      heard = put k.heard t (Some t_train);
-      phase = phases;
-      mission = put k.mission t (option_map (λ (n : Mission). record n { proposal = None }) (k.mission t));
-      said = put k.said t (k.said t + 1);
-    };
-    frames = λ d. [];
-    sayings = saying t (k.said t + 1) body ∷ [];
-    words = [];
-  }
+clear_other : (place : Place) (count : ℕ) → IsOther (Clear place count)
+clear_other place count e = cc
 
-  closes : (phases : ℕ → Phase) (phase : Phase) (body : TrackBody) → ((u : ℕ) → phases u ≡ put k.phase t phase u) → closed phases body ≡ replied t (Some body) (after k t_train t phase)
-  closes phases phase body same = λ i. record {
-    state = record k {
-      heard = put k.heard t (Some t_train);
-      phase = λ u. same u i;
-      mission = λ u. mission_same (λ (n : Mission). record n { proposal = None }) u i;
-      said = put k.said t (k.said t + 1);
-    };
-    frames = λ d. [];
-    sayings = saying t (k.said t + 1) body ∷ [];
-    words = [];
-  }
+end_other : (place : Place) (count : ℕ) → IsOther (ClearAndEnd place count)
+end_other place count e = cc
 
-  open_raw : hear_and_answer Sessions line c (m InitiationOfSession) k ≡ closed (put (put k.phase t Silent) t Opened) SystemVersion
-  unfolding ◌>>◌
-  open_raw = rw (idle.wait) refl
+module _ (line : Line) (c : ℕ) (k : Centre) (t : ℕ) where
+  under_way_other : (body : TrainBody) (m : Mission) → Confirms (rule_under_way line c k body m) → ⊥
+  under_way_other (TrainData position) m = unless_other m.is_ended _ (Ok TakeData) (of_deed TakeData (λ e. cc))
+  under_way_other (Request position) m =
+      unless_other m.is_ended _ _ (unless_other (not m.has_data) NoTrainData _ (unless_other (is_some m.proposal) ProposalPending _ (or_other (place_on line m.place.track position) (grant_at line c k m) (Err NoPlace)
+      (λ place. unless_other _ _ _ (of_deed (Grant place _) (grant_other place _))) (of_err NoPlace))))
+  under_way_other (Report position) m = or_other (place_on line m.place.track position) _ (Err NoPlace) (λ place. of_deed (Clear place _) (clear_other place _)) (of_err NoPlace)
+  under_way_other (ShorteningGranted stamp position) m =
+      asked_other stamp m (λ p. option_map_or (cut_at line m p) (place_on line m.place.track position) DropProposal)
+      (λ p. other_or (place_on line m.place.track position) (cut_at line m p) DropProposal (λ place. other_if _ (Cut _) DropProposal (cut_other _) drop_other) drop_other)
+  under_way_other (ShorteningRejected stamp position) m = asked_other stamp m (λ p. DropProposal) (λ p e. cc)
+  under_way_other (EndOfMission position) m = unless_other m.is_ended _ _ (of_deed _ (other_or (place_on line m.place.track position) _ End (λ place. end_other place _) (λ e. cc)))
+  under_way_other InitiationOfSession m = λ e. cc
+  under_way_other TerminationOfSession m = λ e. cc
+  under_way_other SessionEstablished m = λ e. cc
+  under_way_other (StartOfMission is_valid position) m = λ e. cc
 
-  close_raw : hear_and_answer Sessions line c (m TerminationOfSession) k ≡ closed (put k.phase t Silent) TerminationAcknowledged
-  unfolding ◌>>◌
-  close_raw = rw (idle.wait) refl
+  supervised_other : (mission : Option Mission) (body : TrainBody) → Confirms (supervised mission (rule_under_way line c k body)) → ⊥
+  supervised_other (Some m) body e = under_way_other body m e
+  supervised_other None body e = cc
 
-  establish_raw : hear_and_answer Sessions line c (m SessionEstablished) k ≡ replied t None (after k t_train t Up)
-  unfolding ◌>>◌
-  establish_raw = refl
+  start_other : (mission : Option Mission) (o : Option Place) → IsOther (option_map_or (start_at line c k t mission) o RejectStart)
+  start_other (Some m) o = other_or o (start_at line c k t (Some m)) RejectStart (λ place. other_if _ (Restart place) RejectStart (λ e. cc) (λ e. cc)) (λ e. cc)
+  start_other None o = other_or o (start_at line c k t None) RejectStart (λ place. other_if _ (Start place _) RejectStart (λ e. cc) (λ e. cc)) (λ e. cc)
 
-  abbrev rejected : (ℕ → Phase) → Reply
-  rejected phases = record {
-    state = record k { heard = put k.heard t (Some t_train); phase = phases; said = put k.said t (k.said t + 1) };
-    frames = λ d. [];
-    sayings = saying t (k.said t + 1) TrainRejected ∷ [];
-    words = [];
-  }
+  up_confirms_none : (mission : Option Mission) (body : TrainBody) → Confirms (rule_of line c k t Up mission body) → ⊥
+  up_confirms_none mission InitiationOfSession e = cc
+  up_confirms_none mission TerminationOfSession e = cc
+  up_confirms_none mission SessionEstablished e = cc
+  up_confirms_none mission (StartOfMission is_valid position) e = of_deed _ (start_other mission (fit_place line is_valid position)) e
+  up_confirms_none mission (TrainData position) e = supervised_other mission (TrainData position) e
+  up_confirms_none mission (Request position) e = supervised_other mission (Request position) e
+  up_confirms_none mission (Report position) e = supervised_other mission (Report position) e
+  up_confirms_none mission (ShorteningGranted stamp position) e = supervised_other mission (ShorteningGranted stamp position) e
+  up_confirms_none mission (ShorteningRejected stamp position) e = supervised_other mission (ShorteningRejected stamp position) e
+  up_confirms_none mission (EndOfMission position) e = supervised_other mission (EndOfMission position) e
 
-  reject_raw : (is_valid : Bool) (position : Position) → hear_and_answer Sessions line c (m (StartOfMission is_valid position)) k ≡ rejected k.phase
-  unfolding ◌>>◌
-  reject_raw is_valid position = refl
+  silent_confirms_none : (mission : Option Mission) (body : TrainBody) → Confirms (rule_of line c k t Silent mission body) → ⊥
+  silent_confirms_none mission InitiationOfSession e = cc
+  silent_confirms_none mission TerminationOfSession e = cc
+  silent_confirms_none mission SessionEstablished e = cc
+  silent_confirms_none mission (StartOfMission is_valid position) e = cc
+  silent_confirms_none mission (TrainData position) e = cc
+  silent_confirms_none mission (Request position) e = cc
+  silent_confirms_none mission (Report position) e = cc
+  silent_confirms_none mission (ShorteningGranted stamp position) e = cc
+  silent_confirms_none mission (ShorteningRejected stamp position) e = cc
+  silent_confirms_none mission (EndOfMission position) e = cc
 
-  -- what the answer comes to by the act that the rule names
-  abbrev IsReply : TrainBody → Phase → SessionAct → Type 0
-  IsReply body phase a = hear_and_answer Sessions line c (m body) k ≡ replied t (answer_of a) (after k t_train t (phase_after a phase))
-
-  replies_with : (body : TrainBody) (phase : Phase) (a b : SessionAct) → IsReply body phase a → ◌≡◌ {A = Rule} (Ok a) (Ok b) → IsReply body phase b
-  replies_with body phase a b is same = let e : a ≡ b = cc in subst (IsReply body phase) e is
-
-  pub reply_is : (phase : Phase) (body : TrainBody) (a : SessionAct) → k.phase t ≡ phase → session_rule phase body ≡ Ok a → IsReply body phase a
-  reply_is phase InitiationOfSession a p h =
-      replies_with InitiationOfSession phase act.Open a (open_raw ∙ closes (put (put k.phase t Silent) t Opened) Opened SystemVersion (put_over t Opened Silent k.phase)) h
-  reply_is Silent TerminationOfSession a p h = cc
-  reply_is Opened TerminationOfSession a p h = replies_with TerminationOfSession Opened act.Close a (close_raw ∙ closes (put k.phase t Silent) Silent TerminationAcknowledged (λ u. refl)) h
-  reply_is Up TerminationOfSession a p h = replies_with TerminationOfSession Up act.Close a (close_raw ∙ closes (put k.phase t Silent) Silent TerminationAcknowledged (λ u. refl)) h
-  reply_is Silent SessionEstablished a p h = cc
-  reply_is Opened SessionEstablished a p h = replies_with SessionEstablished Opened act.Establish a establish_raw h
-  reply_is Up SessionEstablished a p h = cc
-  reply_is Silent (StartOfMission is_valid position) a p h = cc
-  reply_is Opened (StartOfMission is_valid position) a p h = cc
-  reply_is Up (StartOfMission is_valid position) a p h =
-      replies_with (StartOfMission is_valid position) Up act.RejectStart a (reject_raw is_valid position ∙ ap rejected (λ i u. sym (put_same t Up k.phase p u) i)) h
-  reply_is Silent (TrainData position) a p h = cc
-  reply_is Opened (TrainData position) a p h = cc
-  reply_is Up (TrainData position) a p h = cc
-  reply_is Silent (Request position) a p h = cc
-  reply_is Opened (Request position) a p h = cc
-  reply_is Up (Request position) a p h = cc
-  reply_is Silent (Report position) a p h = cc
-  reply_is Opened (Report position) a p h = cc
-  reply_is Up (Report position) a p h = cc
-  reply_is Silent (ShorteningGranted stamp position) a p h = cc
-  reply_is Opened (ShorteningGranted stamp position) a p h = cc
-  reply_is Up (ShorteningGranted stamp position) a p h = cc
-  reply_is Silent (ShorteningRejected stamp position) a p h = cc
-  reply_is Opened (ShorteningRejected stamp position) a p h = cc
-  reply_is Up (ShorteningRejected stamp position) a p h = cc
-  reply_is Silent (EndOfMission position) a p h = cc
-  reply_is Opened (EndOfMission position) a p h = cc
-  reply_is Up (EndOfMission position) a p h = cc
-
--- only a session that was opened is confirmed
-pub confirmed_was_opened : (phase : Phase) (body : TrainBody) → session_rule phase body ≡ Ok act.Establish → phase ≡ Opened
-confirmed_was_opened phase InitiationOfSession h = cc
-confirmed_was_opened Silent TerminationOfSession h = cc
-confirmed_was_opened Opened TerminationOfSession h = cc
-confirmed_was_opened Up TerminationOfSession h = cc
-confirmed_was_opened Silent SessionEstablished h = cc
-confirmed_was_opened Opened SessionEstablished h = refl
-confirmed_was_opened Up SessionEstablished h = cc
-confirmed_was_opened Silent body h = cc
-confirmed_was_opened Opened body h = refl
-confirmed_was_opened Up body h = cc
+  pub confirmed_was_opened : (phase : Phase) (mission : Option Mission) (body : TrainBody) → rule_of line c k t phase mission body ≡ Ok EstablishSession → phase ≡ Opened
+  confirmed_was_opened Silent mission body e = absurd (silent_confirms_none mission body e)
+  confirmed_was_opened Opened mission body e = refl
+  confirmed_was_opened Up mission body e = absurd (up_confirms_none mission body e)

@@ -1,5 +1,5 @@
 -- How the session of one train changes among those of a centre.
-use Rattle.std.proofs.Common.{◌≡◌, ◌≢◌, ℕ, ◌==◌, true, false, cond, Some, None, refl, ap, sym, ◌∙◌, inl, inr, subst}
+use Rattle.std.proofs.Common.{◌≡◌, ℕ, ◌==◌, false, cond, Some, None, refl, ap, sym, ◌∙◌, inl, inr, subst}
 use Rattle.std.specs.Option.{option_map_or}
 use Rattle.std.proofs.lemmas.Bool.Decides.{eqb_tells}
 use Rattle.rbc_spec.specs.Maps.{put}
@@ -14,7 +14,7 @@ use Rattle.rbc_session.specs.declared.session.Standing.{Standing}
 use Rattle.rbc_session.specs.declared.session.Standing.TheVariants as standing
 use Rattle.rbc_session.proofs.Standings.{stands_still, phase_at-standing, opened_stands, stands_beside_opened, confirmed_stands, confirmed_phase, stands_beside_confirmed, ended_phases, stands_beside_ended}
 use Rattle.rbc_centre.specs.Standings.{Enters, Stands}
-use Rattle.rbc_centre.proofs.Rules.{put_over, put_same}
+use Rattle.rbc_centre.proofs.Puts.{put_over, put_same}
 
 at_itself : {X : Type 0} (t : ℕ) (x y : X) → cond (t == t) x y ≡ x
 at_itself t x y = elim (eqb_tells t t) as (λ _. cond (t == t) x y ≡ x) [ inl e ↦ rw (e.0) refl | inr e ↦ absurd (e.1 refl) ]

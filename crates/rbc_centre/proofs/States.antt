@@ -1,11 +1,16 @@
 -- Laws of what is kept of sections and trains.
-use Rattle.std.proofs.Common.{◌≡◌, ℕ, zero, suc, ◌==◌, ◌<◌, ◌≢◌, List, [], ◌∷◌, length, Option, Some, None, slice_get, set, replicate, refl, ap, ◌∙◌, inl, inr, arith, option_and_then}
+use Rattle.std.proofs.Common.{◌≡◌, ℕ, zero, suc, ◌==◌, ◌<◌, ◌≤◌, ◌≢◌, Bool, false, List, [], ◌∷◌, length, Option, Some, None, slice_get, set, refl, sym, ap, ◌∙◌, subst, inl, inr, arith, option_and_then}
 use Rattle.std.proofs.lemmas.Bool.Decides.{eqb_tells, nat_tests}
 use Rattle.std.proofs.lemmas.List.Quantifiers.{position-Some}
 use Rattle.std.specs.Option.{option_map_or}
 use Rattle.rbc_spec.specs.Maps.{put}
 use Rattle.rbc_spec.specs.Line.{Line, Train, train_number}
-use Rattle.rbc_centre.specs.State.{of_trains}
+use Rattle.rbc_right.specs.Rights.{Rights, is_here}
+use Rattle.rbc_session.specs.Sessions.{Records}
+use Rattle.rbc_spec.specs.Centre.{Phase}
+use Rattle.rbc_centre.specs.Standings.{Enters, Stands}
+use Rattle.rbc_centre.specs.State.{of_trains, right_at}
+use Rattle.rbc_centre.proofs.Standings.{stands_for_train, stands_with_train}
 use Rattle.rbc_centre.specs.declared.train.TrainState.{TrainState}
 
 -- ## Lists
@@ -21,21 +26,6 @@ slice_get-set_other (y ∷ ys) zero zero x h = absurd (h refl)
 slice_get-set_other (y ∷ ys) zero (suc j) x h = refl
 slice_get-set_other (y ∷ ys) (suc i) zero x h = refl
 slice_get-set_other (y ∷ ys) (suc i) (suc j) x h = slice_get-set_other ys i j x (λ e. h (ap suc e))
-
--- a part that is the same for each item is the same everywhere
-part-replicate : {X Y : Type 0} (part : X → Y) (n : ℕ) (x : X) (i : ℕ) → option_map_or part (slice_get (replicate n x) i) (part x) ≡ part x
-part-replicate part zero x i = refl
-part-replicate part (suc n) x zero = refl
-part-replicate part (suc n) x (suc i) = part-replicate part n x i
-
--- ## Trains at the beginning
-
-pub of_trains-replicate : {X : Type 0} (part : TrainState → X) (line : Line) (n : ℕ) (state : TrainState) (t : ℕ) → of_trains part (part state) line (replicate n state) t ≡ part state
-of_trains-replicate part line n state t = by_number (train_number line t)
-  where
-    by_number : (i : Option ℕ) → option_map_or part (option_and_then (λ j. slice_get (replicate n state) j) i) (part state) ≡ part state
-    by_number (Some i) = part-replicate part n state i
-    by_number None = refl
 
 -- ## One train changes
 
@@ -69,3 +59,79 @@ module _ {X : Type 0} (part : TrainState → X) (none : X) where
         | inl e ↦ rw (e.0) (changed states i state (train_number line u) (ap (train_number line) (e.1) ∙ h) within)
         | inr e ↦ rw (e.0) (unchanged states i state (train_number line u) (λ g. e.1 (same_train line t u i h g)))
       ]
+
+-- the right of one train of the line changes
+pub right_turned : (line : Line) (old new : Rights) (t i : ℕ) (b : Bool) → train_number line t ≡ Some i → ((j : ℕ) → is_here new j ≡ put (is_here old) i b j)
+    → (u : ℕ) → right_at line new u ≡ put (right_at line old) t b u
+right_turned line old new t i b h turned u = elim (eqb_tells u t) as (λ _. right_at line new u ≡ put (right_at line old) t b u) [
+  | inl e ↦ rw (e.0) (ap (λ o. option_map_or (is_here new) o false) (ap (train_number line) (e.1) ∙ h) ∙ turned i ∙ here)
+  | inr e ↦ rw (e.0) (elsewhere (train_number line u) (λ g. e.1 (same_train line t u i h g)))
+]
+  where
+    here : put (is_here old) i b i ≡ b
+    here = elim (eqb_tells i i) as (λ _. put (is_here old) i b i ≡ b) [ inl e ↦ rw (e.0) refl | inr e ↦ absurd (e.1 refl) ]
+
+    elsewhere : (number : Option ℕ) → number ≢ Some i → option_map_or (is_here new) number false ≡ option_map_or (is_here old) number false
+    elsewhere None apart = refl
+    elsewhere (Some j) apart = turned j ∙ elim (eqb_tells j i) as (λ _. put (is_here old) i b j ≡ is_here old j) [
+      | inl e ↦ absurd (apart (ap (λ k. Some k) (e.1)))
+      | inr e ↦ rw (e.0) refl
+    ]
+
+-- ## What is kept of a train
+
+-- the number of a train of the line is one of those kept
+pub number_within : (line : Line) (states : List TrainState) (t i : ℕ) → train_number line t ≡ Some i → length states ≡ length line.trains → i < length states
+number_within line states t i h each = let w = position-Some (λ (q : Train). q.nid_engine == t) line.trains i no_train h in omega (arith, w.0)
+
+pub part_of_train : {X : Type 0} (part : TrainState → X) (none : X) (line : Line) (states : List TrainState) (t i : ℕ) (state : TrainState) → train_number line t ≡ Some i → slice_get states i ≡ Some state → part state ≡ of_trains part none line states t
+part_of_train part none line states t i state number at =
+    sym (ap (λ n. option_map_or part (option_and_then (λ j. slice_get states j) n) none) number ∙ ap (λ o. option_map_or part o none) at)
+
+pub part_of_foreign : {X : Type 0} (part : TrainState → X) (none : X) (line : Line) (states : List TrainState) (t : ℕ) → train_number line t ≡ None → none ≡ of_trains part none line states t
+part_of_foreign part none line states t number = sym (ap (λ n. option_map_or part (option_and_then (λ j. slice_get states j) n) none) number)
+
+-- what holds of each state, behind a change of one
+pub each_after : (P : ℕ → TrainState → Type 0) (states : List TrainState) (i : ℕ) (new : TrainState) → i < length states → P i new
+    → ((j : ℕ) (p : TrainState) → j ≢ i → slice_get states j ≡ Some p → P j p) → (j : ℕ) (p : TrainState) → slice_get (set states i new) j ≡ Some p → P j p
+each_after P states i new within here others j p found = elim (eqb_tells j i) as (λ _. P j p) [
+  | inl e ↦
+      let at : Some new ≡ Some p = sym (slice_get-set_same states i new within) ∙ ap (slice_get (set states i new)) (sym (e.1)) ∙ found in
+      let is : new ≡ p = cc in
+      subst (λ (n : ℕ). P n p) (sym (e.1)) (subst (P i) is here)
+  | inr e ↦ others j p (e.1) (sym (slice_get-set_other states i j new (e.1)) ∙ found)
+]
+
+-- what was said to each train is counted by the clock, also behind a change of one
+pub counted_after : (states : List TrainState) (i before clock : ℕ) (new : TrainState) → i < length states → new.said ≤ clock → before ≤ clock
+    → ((j : ℕ) (p : TrainState) → slice_get states j ≡ Some p → p.said ≤ before) → (j : ℕ) (p : TrainState) → slice_get (set states i new) j ≡ Some p → p.said ≤ clock
+counted_after states i before clock new within few later each =
+    each_after (λ j p. p.said ≤ clock) states i new within few (λ j p apart at. let early = each j p at in omega (arith, early, later))
+
+pub counted_later : (states : List TrainState) (before clock : ℕ) → before ≤ clock
+    → ((j : ℕ) (p : TrainState) → slice_get states j ≡ Some p → p.said ≤ before) → (j : ℕ) (p : TrainState) → slice_get states j ≡ Some p → p.said ≤ clock
+counted_later states before clock later each j p at = let early = each j p at in omega (arith, early, later)
+
+-- the number of a train of the line is its own
+pub other_train : (line : Line) (t u i j : ℕ) → train_number line t ≡ Some i → train_number line u ≡ Some j → j ≢ i → u ≢ t
+other_train line t u i j at_t at_u apart same = apart (let e : Some j ≡ Some i = sym at_u ∙ ap (train_number line) same ∙ at_t in cc)
+
+-- what stands with each train, behind a change of one
+pub each_stands_after : (line : Line) (old new : Records) (states : List TrainState) (t i : ℕ) (state : TrainState) (phase : Phase) → i < length states → train_number line t ≡ Some i
+    → Enters old new state.standing t phase → ((u j : ℕ) (p : TrainState) → train_number line u ≡ Some j → slice_get states j ≡ Some p → Stands old p.standing u)
+    → (u j : ℕ) (p : TrainState) → train_number line u ≡ Some j → slice_get (set states i state) j ≡ Some p → Stands new p.standing u
+each_stands_after line old new states t i state phase within at_t enters each u j p at_u found =
+    each_after (λ n q. train_number line u ≡ Some n → Stands new q.standing u) states i state within
+    (λ at. subst (λ (x : ℕ). Stands new state.standing x) (same_train line u t i at at_t) (stands_with_train new state.standing t enters.stands))
+    (λ n q apart at number. stands_with_train new q.standing u (enters.others q.standing u (other_train line t u i n at_t number apart) (stands_for_train old q.standing u (each u n q number at))))
+    j p found at_u
+
+-- what holds of each train of the line, by its number, behind a change of one
+pub each_train_after : (P : ℕ → ℕ → TrainState → Type 0) (line : Line) (states : List TrainState) (t i : ℕ) (state : TrainState) → i < length states → train_number line t ≡ Some i → P t i state
+    → ((u j : ℕ) (p : TrainState) → train_number line u ≡ Some j → slice_get states j ≡ Some p → P u j p)
+    → (u j : ℕ) (p : TrainState) → train_number line u ≡ Some j → slice_get (set states i state) j ≡ Some p → P u j p
+each_train_after P line states t i state within at_t here each u j p at_u found =
+    each_after (λ n q. train_number line u ≡ Some n → P u n q) states i state within
+    (λ at. subst (λ (x : ℕ). P x i state) (same_train line u t i at at_t) here)
+    (λ n q apart at number. each u n q number at)
+    j p found at_u

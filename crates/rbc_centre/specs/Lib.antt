@@ -1,5 +1,5 @@
-pub mod Reasons
 pub mod Sessions
+pub mod Answers
 pub mod Standings
 pub mod Views
 pub mod State

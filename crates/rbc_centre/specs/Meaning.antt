@@ -12,7 +12,7 @@ abbrev pub number_of : Centre → ℕ
 number_of k = k.number
 
 abbrev pub meaning : Centre → centre.Centre
-meaning k = stands_for k.line k.number k.clock k.book k.trains.items
+meaning k = stands_for k.line k.number k.clock k.book k.registrar k.trains.items
 
 -- all but the room for sessions is the same
 pub record IsSame (old new : Centre) : Type 0 where
@@ -20,4 +20,5 @@ pub record IsSame (old new : Centre) : Type 0 where
   pub number : new.number ≡ old.number
   pub clock : new.clock ≡ old.clock
   pub book : new.book ≡ old.book
+  pub registrar : new.registrar ≡ old.registrar
   pub trains : new.trains ≡ old.trains

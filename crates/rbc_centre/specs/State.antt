@@ -1,9 +1,10 @@
 -- What is kept of sections and trains, as functions of numbers.
-use Rattle.std.specs.Prelude.{ℕ, List, false, Option, None, option_and_then, slice_get}
+use Rattle.std.specs.Prelude.{◌≡◌, ℕ, List, Bool, false, Option, Some, None, option_and_then, option_map, slice_get}
 use Rattle.std.specs.Option.{option_map_or}
 use Rattle.rbc_spec.specs.Line.{Line, train_number}
 use Rattle.rbc_spec.specs.Centre as centre
 use Rattle.rbc_book.specs.Book.{Pages, entry_at, wish_at}
+use Rattle.rbc_right.specs.Rights.{Rights, is_here}
 use Rattle.rbc_session.specs.Standing.{standing_phase}
 use Rattle.rbc_session.specs.declared.session.Standing.TheVariants as standing
 use Rattle.rbc_centre.specs.declared.train.TrainState.{TrainState}
@@ -16,18 +17,35 @@ state_at line trains t = option_and_then (λ i. slice_get trains i) (train_numbe
 abbrev pub of_trains : {X : Type 0} → (TrainState → X) → X → Line → List TrainState → ℕ → X
 of_trains part none line trains t = option_map_or part (state_at line trains t) none
 
--- What a centre's number, clock, pages and states of trains stand for. It has no mission, no waiting start and no right that is not
--- its own, expects no handover, and has sent and taken no frame
-unfoldable pub stands_for : Line → ℕ → ℕ → Pages → List TrainState → centre.Centre
-stands_for line number clock pages trains = record (centre.beginning line number) {
+-- the right of a train of the line is here
+abbrev pub right_at : Line → Rights → ℕ → Bool
+right_at line rights t = option_map_or (is_here rights) (train_number line t) false
+
+-- What a centre's number, clock, pages, rights and states of trains stand for. No start waits at it, it expects no handover, and it has
+-- sent and taken no frame
+unfoldable pub stands_for : Line → ℕ → ℕ → Pages → Rights → List TrainState → centre.Centre
+stands_for line number clock pages rights trains = record (centre.beginning line number) {
   clock = clock;
   book = entry_at pages;
   wish = wish_at pages;
   phase = of_trains (λ p. standing_phase p.standing) centre.Silent line trains;
   heard = of_trains (λ p. p.heard) None line trains;
   said = of_trains (λ p. p.said) 0 line trains;
+  mission = of_trains (λ p. p.course.mission) None line trains;
+  has_right = right_at line rights;
 }
 
--- what is kept of a train that was never heard
-abbrev pub unknown_state : TrainState
-unknown_state = record { standing = standing.Silent; heard = None; said = 0 }
+-- what is kept of a train that was never heard, by its place in the line file and its NID_ENGINE
+abbrev pub unknown_state : ℕ → ℕ → TrainState
+unknown_state i t = record { standing = standing.Silent; heard = None; said = 0; course = record { number = i; engine = t; mission = None } }
+
+-- the state is of the train at place i of the line file, which was never heard
+pub record IsUnknown (line : Line) (i : ℕ) (p : TrainState) : Type 0 where
+  pub state : p ≡ unknown_state i p.course.engine
+  pub engine : option_map (λ q. q.nid_engine) (slice_get line.trains i) ≡ Some p.course.engine
+
+-- centre k has this session and this mission of train t, and has said so many messages to it
+pub record HasTrain (k : centre.Centre) (t : ℕ) (p : TrainState) : Type 0 where
+  pub phase_is : k.phase t ≡ standing_phase p.standing
+  pub mission_is : k.mission t ≡ p.course.mission
+  pub said_is : k.said t ≡ p.said

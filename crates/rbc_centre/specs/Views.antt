@@ -4,12 +4,12 @@ use Rattle.rbc_spec.specs.Outcome.{Saying, Outcome, Reason}
 use Rattle.rbc_spec.specs.Outcome as spec
 use Rattle.rbc_spec.specs.Step as step
 use Rattle.rbc_msgs.specs.StepMessage.{step_message}
-use Rattle.rbc_centre.specs.Reasons.{reason_of}
+use Rattle.rbc_rules.specs.Reasons.{reason_of}
 use Rattle.rbc_centre.specs.declared.event.Event.{Event}
 use Rattle.rbc_centre.specs.declared.event.Event.TheVariants.{Train, Set, Unset}
 use Rattle.rbc_centre.specs.declared.fault.StepFault.{StepFault}
 use Rattle.rbc_centre.specs.declared.fault.StepFault.TheVariants as fault
-use Rattle.rbc_centre.specs.declared.outcome.Silence.{Silence}
+use Rattle.rbc_rules.specs.declared.silence.Silence.{Silence}
 use Rattle.rbc_centre.specs.declared.outcome.Saying.{Saying as SayingCode}
 use Rattle.rbc_centre.specs.declared.outcome.Word.{Word}
 use Rattle.rbc_centre.specs.declared.outcome.Word.TheVariants as word
@@ -33,6 +33,7 @@ abbrev pub word_of : Word → spec.Word
 word_of (word.Done s) = spec.Done s
 word_of (word.Asked s) = spec.Asked s
 word_of (word.NotHome s) = spec.NotHome s
+word_of (word.Told s) = spec.Told s
 
 -- no step has frames yet
 abbrev pub outcome_of : OutcomeCode → Outcome

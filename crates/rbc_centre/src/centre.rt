@@ -1,27 +1,26 @@
-ghost use Rattle.std.specs.Prelude.{◌≡◌, ◌+◌, ◌≤◌, ◌<◌, ℕ, slice_get, true, false, length, IfOk, OnOk, OnErr, Some, None, Ok, [], replicate};
+ghost use Rattle.std.specs.Prelude.{◌≡◌, ◌≤◌, ◌<◌, ℕ, slice_get, true, length, IfOk, OnErr, Some, None, option_map};
 ghost use Rattle.rbc_spec.specs.Line.{is_centre, is_home, train_number};
-ghost use Rattle.rbc_book.specs.Book.{is_own, entry_at, wish_at};
-ghost use Rattle.rbc_spec.specs.Centre.{is_unused};
-ghost use Rattle.rbc_book.specs.Entries.{entry_of};
-ghost use Rattle.rbc_spec.specs.Centre.{beginning};
+ghost use Rattle.rbc_spec.specs.Centre.{Mission, beginning};
 ghost use Rattle.rbc_spec.specs.Step as spec;
 ghost use Rattle.rbc_spec.specs.Reach as reach;
-ghost use Rattle.rbc_msgs.specs.StepMessage.{step_body, step_message};
-ghost use Rattle.rbc_centre.specs.Sessions.{session_rule};
-ghost use Rattle.rbc_session.specs.Sessions.{HasRoom};
+ghost use Rattle.rbc_alone.specs.Alone.{IsOrdered, IsAloneAt};
+ghost use Rattle.rbc_book.specs.Book.{is_own};
+ghost use Rattle.rbc_book.specs.Entries.{entry_of};
+ghost use Rattle.rbc_rules.specs.Desks.{mission_by};
+ghost use Rattle.rbc_session.specs.Standing.{phase_of};
+ghost use Rattle.rbc_centre.specs.Answer.{Steps};
 ghost use Rattle.rbc_centre.specs.Standings.{Stands};
-ghost use Rattle.rbc_centre.specs.declared.session_act.SessionAct.TheVariants.{Open};
+ghost use Rattle.rbc_centre.specs.State.{stands_for, IsUnknown};
+ghost use Rattle.rbc_centre.specs.Views.{event_of, outcome_of};
 ghost use Rattle.rbc_centre.specs.declared.train.TrainState.{TrainState};
-ghost use Rattle.rbc_centre.specs.State.{unknown_state};
 
 use crate::event::Event;
 use crate::fault::StepFault;
-use crate::outcome::{Outcome, Saying, Silence, Word};
-use crate::session_act::SessionAct;
+use crate::outcome::Outcome;
 use crate::train::{TrainPage, TrainState};
-use rbc_book::{Book, NotHome, Page, Unset};
+use rbc_book::{Book, Page};
 use rbc_line::Line;
-use rbc_msgs::TrainMsg;
+use rbc_right::Registrar;
 use rbc_session::Sessions;
 use std::alloc::{AllocError, Global};
 
@@ -30,49 +29,49 @@ pub const LAST_STAMP: u32 = 1_073_741_823;
 
 /// A radio block centre.
 pub struct Centre {
-    line: Line,
-    number: u8,
+    pub(crate) line: Line,
+    pub(crate) number: u8,
     /// The stamp of the last step, 0 before the first.
-    clock: u32,
+    pub(crate) clock: u32,
     /// What its home sections are used for.
-    book: Book,
+    pub(crate) book: Book,
+    /// The supervision rights that are here, and in no mission.
+    pub(crate) registrar: Registrar,
     /// The communication sessions with its trains.
-    sessions: Sessions,
+    pub(crate) sessions: Sessions,
     /// What is kept of each train, in the order of the line file.
-    trains: Vec<TrainState>,
+    pub(crate) trains: Vec<TrainState>,
+    ghost ordered: { IsOrdered line },
     ghost in_time: { clock ≤ 1073741823 },
     ghost own_sections: { (s : ℕ) → is_own book s ≡ is_home line number s },
-    ghost none_in_use: { (s : ℕ) → is_unused (entry_at book s) ≡ true },
-    ghost none_wished: { (s : ℕ) → wish_at book s ≡ false },
+    ghost alone: { IsAloneAt line number (stands_for line number clock book registrar trains.items) },
+    ghost each_right: { length registrar ≡ length line.trains },
     ghost each_train: { length trains.items ≡ length line.trains },
+    ghost each_number: { (t i : ℕ) → (p : TrainState) → train_number line t ≡ Some i → slice_get trains.items i ≡ Some p → p.course.number ≡ i },
+    ghost each_engine: { (t i : ℕ) → (p : TrainState) → train_number line t ≡ Some i → slice_get trains.items i ≡ Some p → p.course.engine ≡ t },
+    ghost each_group: { (i : ℕ) → (p : TrainState) → (m : Mission) → slice_get trains.items i ≡ Some p → p.course.mission ≡ Some m → m.place.group < 16777216 },
     ghost each_stands: { (t i : ℕ) → (p : TrainState) → train_number line t ≡ Some i → slice_get trains.items i ≡ Some p → Stands sessions p.standing t },
     ghost counted: { (i : ℕ) → (p : TrainState) → slice_get trains.items i ≡ Some p → p.said ≤ clock },
 }
 
 impl Drop for Centre {
-    // Each session ends with its centre.
+    // Each session ends with its centre, and so does each mission.
     fn drop(self) {
         let Centre {
             line: _,
             number: _,
             clock: _,
-            book: _,
+            mut book,
+            mut registrar,
             mut sessions,
-            mut trains,
+            trains,
         } = self;
-        while let Some(train) = trains.pop() {
-            sessions.end(train.into_standing());
-        }
-        trains.destroy_empty();
+        end_trains(trains, &mut sessions, &mut book, &mut registrar);
     }
 }
 
 impl Centre {
-    ghost use Rattle.rbc_centre.specs.Meaning.{line_of, number_of, meaning, IsSame};
-    ghost use Rattle.rbc_centre.specs.Views.{event_of, outcome_of, sayings_of};
-    ghost use Rattle.rbc_session.specs.Standing.{phase_of};
-    ghost use Rattle.rbc_centre.specs.Views.{why_of};
-    ghost use Rattle.rbc_centre.specs.Answer.{Steps};
+    ghost use Rattle.rbc_centre.specs.Meaning.{line_of, number_of, meaning};
 
     /// A centre of the line at its beginning. It keeps a copy of the line.
     pub fn new(alloc: Global, line: &Line, number: u8) -> Result<Centre, AllocError>
@@ -82,14 +81,17 @@ impl Centre {
         ensures beginning { IfOk result (λ k. meaning k ≡ beginning line.now number) }
     {
         let line = line.copied(alloc)?;
-        let book = Book::new(alloc, &line, number)?;
-        let trains = unknown_trains(alloc, line.train_count() as usize)?;
+        let mut book = Book::new(alloc, &line, number)?;
+        let mut registrar = Registrar::new(alloc, &line, number)?;
+        let mut sessions = Sessions::new(alloc);
+        let trains = unknown_trains(alloc, &line, &mut sessions, &mut book, &mut registrar)?;
         Ok(Centre {
             line,
             number,
             clock: 0,
             book,
-            sessions: Sessions::new(alloc),
+            registrar,
+            sessions,
             trains,
         })
     }
@@ -114,6 +116,7 @@ impl Centre {
         ensures phase { phase_of result.phase ≡ (meaning self.now).phase nid_engine }
         ensures heard { result.heard ≡ (meaning self.now).heard nid_engine }
         ensures said { result.said ≡ (meaning self.now).said nid_engine }
+        ensures mission { mission_by result.mission result.hand ≡ (meaning self.now).mission nid_engine }
     {
         match self.line.train_number(nid_engine) {
             Some(i) => self.trains[i as usize].page(),
@@ -127,7 +130,7 @@ impl Centre {
         ensures line { line_of self.new ≡ line_of self.old }
         ensures number { number_of self.new ≡ number_of self.old }
         ensures exact { Steps (λ o. (outcome_of o, meaning self.new)) result
-            (spec.step reach.Sessions (line_of self.old) (number_of self.old) (event_of event.now) (meaning self.old)) }
+            (spec.step reach.Alone (line_of self.old) (number_of self.old) (event_of event.now) (meaning self.old)) }
         ensures err { OnErr result (meaning self.new ≡ meaning self.old) }
     {
         if self.clock >= LAST_STAMP {
@@ -139,134 +142,56 @@ impl Centre {
             Event::Unset(s) => Ok(self.unset(*s)),
         }
     }
+}
 
-    // The interlocking releases a section.
-    fn set(&mut self, s: u16) -> Outcome
-        requires { self.old.clock < 1073741823 }
-        ensures line { line_of self.new ≡ line_of self.old }
-        ensures number { number_of self.new ≡ number_of self.old }
-        ensures exact { (outcome_of result, meaning self.new)
-            ≡ spec.taken reach.Sessions (line_of self.old) (number_of self.old) (spec.Set s) (meaning self.old) }
-    {
-        self.clock += 1;
-        match self.book.set(s) {
-            Ok(()) => Outcome::told(self.clock, Word::Done(s)),
-            Err(NotHome) => Outcome::told(self.clock, Word::NotHome(s)),
-        }
-    }
-
-    // The interlocking takes a section back.
-    fn unset(&mut self, s: u16) -> Outcome
-        requires { self.old.clock < 1073741823 }
-        ensures line { line_of self.new ≡ line_of self.old }
-        ensures number { number_of self.new ≡ number_of self.old }
-        ensures exact { (outcome_of result, meaning self.new)
-            ≡ spec.taken reach.Sessions (line_of self.old) (number_of self.old) (spec.Unset s) (meaning self.old) }
-    {
-        self.clock += 1;
-        match self.book.unset(s) {
-            Ok(Unset::Done) => Outcome::told(self.clock, Word::Done(s)),
-            Ok(Unset::Asked) => Outcome::told(self.clock, Word::Asked(s)),
-            Err(NotHome) => Outcome::told(self.clock, Word::NotHome(s)),
-        }
-    }
-
-    // The step of a train's message, at a centre that is not at its last stamp. Room for a session is made first.
-    fn take(&mut self, message: &TrainMsg) -> Result<Outcome, StepFault>
-        requires { self.old.clock < 1073741823 }
-        ensures line { line_of self.new ≡ line_of self.old }
-        ensures number { number_of self.new ≡ number_of self.old }
-        ensures exact { Steps (λ o. (outcome_of o, meaning self.new)) result
-            (Ok (spec.taken reach.Sessions (line_of self.old) (number_of self.old) (spec.Train (step_message message.now)) (meaning self.old))) }
-        ensures err { OnErr result (meaning self.new ≡ meaning self.old) }
-    {
-        match self.act_of(message) {
-            Ok((i, act)) => {
-                self.make_room(act)?;
-                Ok(self.answer(i, message, act))
-            }
-            Err(why) => {
-                self.clock += 1;
-                Ok(Outcome::silent(self.clock, why))
+// What is kept of the trains of the line, none of which was ever heard. Where memory runs out, those made end.
+fn unknown_trains(
+    alloc: Global,
+    line: &Line,
+    sessions: &mut Sessions,
+    book: &mut Book,
+    registrar: &mut Registrar,
+) -> Result<Vec<TrainState>, AllocError>
+    ensures count { IfOk result (λ trains. length trains.items ≡ length line.now.trains) }
+    ensures each { IfOk result (λ trains. (i : ℕ) → (p : TrainState) → slice_get trains.items i ≡ Some p → IsUnknown line.now i p) }
+    ensures sessions { IfOk result (λ trains. sessions.new ≡ sessions.old) }
+    ensures book { IfOk result (λ trains. book.new ≡ book.old) }
+    ensures registrar { IfOk result (λ trains. registrar.new ≡ registrar.old) }
+{
+    let count = line.train_count();
+    let mut trains = Vec::with_capacity(alloc, count as usize)?;
+    for i in 0..count {
+        match TrainState::unknown(alloc, i, engine_of(line, i)) {
+            Ok(train) => trains.push_reserved(train),
+            Err(error) => {
+                end_trains(trains, sessions, book, registrar);
+                return Err(error);
             }
         }
     }
+    Ok(trains)
+}
 
-    // Room for the session that the act opens. Nothing else changes.
-    fn make_room(&mut self, act: SessionAct) -> Result<(), AllocError>
-        ensures same { IsSame self.old self.new }
-        ensures room { OnOk result (act ≡ Open → HasRoom self.new.sessions) }
-    {
-        match act {
-            SessionAct::Open => self.sessions.reserve(),
-            SessionAct::Establish | SessionAct::Close | SessionAct::RejectStart => Ok(()),
-        }
-    }
-
-    // The number of the message's train in the line file, and what the message comes to; or why it is left without an answer.
-    fn act_of(&self, message: &TrainMsg) -> Result<(usize, SessionAct), Silence>
-        ensures number { IfOk result (λ p. train_number (line_of self.now) message.now.nid_engine ≡ Some p.0) }
-        ensures rule { IfOk result (λ p. session_rule ((meaning self.now).phase message.now.nid_engine) (step_body message.now.body) ≡ Ok p.1) }
-        ensures silence { (clock : ℕ) → spec.silence (line_of self.now) (number_of self.now) (spec.ticked clock (meaning self.now)) (step_message message.now) ≡ why_of result }
-    {
-        let Some(i) = self.line.train_number(message.nid_engine()) else {
-            return Err(Silence::ForeignEngine);
-        };
-        let train = &self.trains[i as usize];
-        if train.is_stale(message.t_train()) {
-            return Err(Silence::StaleStamp);
-        }
-        match SessionAct::of(train.standing.phase(), message.body()) {
-            Ok(act) => Ok((i as usize, act)),
-            Err(why) => Err(why),
-        }
-    }
-
-    // The step of a message that is not silent, from train number i of the line.
-    fn answer(&mut self, i: usize, message: &TrainMsg, act: SessionAct) -> Outcome
-        requires time { self.old.clock < 1073741823 }
-        requires number { train_number (line_of self.old) message.now.nid_engine ≡ Some i }
-        requires rule { session_rule ((meaning self.old).phase message.now.nid_engine) (step_body message.now.body) ≡ Ok act }
-        requires heard { (clock : ℕ) → spec.silence (line_of self.old) (number_of self.old) (spec.ticked clock (meaning self.old)) (step_message message.now) ≡ None }
-        requires room { act ≡ Open → HasRoom self.old.sessions }
-        ensures line { line_of self.new ≡ line_of self.old }
-        ensures number { number_of self.new ≡ number_of self.old }
-        ensures exact { (outcome_of result, meaning self.new)
-            ≡ spec.taken reach.Sessions (line_of self.old) (number_of self.old) (spec.Train (step_message message.now)) (meaning self.old) }
-    {
-        self.clock += 1;
-        Outcome::said(self.clock, self.reply(i, message, act))
-    }
-
-    // What is said to it.
-    fn reply(&mut self, i: usize, message: &TrainMsg, act: SessionAct) -> Option<Saying>
-        requires number { train_number (line_of self.old) message.now.nid_engine ≡ Some i }
-        requires time { (p : TrainState) → slice_get self.old.trains.items i ≡ Some p → p.said < self.old.clock }
-        requires rule { session_rule ((meaning self.old).phase message.now.nid_engine) (step_body message.now.body) ≡ Ok act }
-        requires room { act ≡ Open → HasRoom self.old.sessions }
-        ensures line { line_of self.new ≡ line_of self.old }
-        ensures number { number_of self.new ≡ number_of self.old }
-        ensures clock { self.new.clock ≡ self.old.clock }
-        ensures exact { record { state = meaning self.new; frames = λ d. []; sayings = sayings_of result; words = [] }
-            ≡ spec.hear_and_answer reach.Sessions (line_of self.old) (number_of self.old) (step_message message.now) (meaning self.old) }
-    {
-        let nid_engine = message.nid_engine();
-        let train = &mut self.trains[i];
-        train.change(&mut self.sessions, act, nid_engine, message.t_train());
-        match act.answer() {
-            Some(body) => Some(Saying::of_count(nid_engine, train.count_message(), body)),
-            None => None,
-        }
+// The NID_ENGINE of the train at a place of the line file.
+fn engine_of(line: &Line, i: u8) -> u32
+    requires { i < length line.now.trains }
+    ensures { option_map (λ p. p.nid_engine) (slice_get line.now.trains i) ≡ Some result }
+{
+    match line.train(i) {
+        Some(train) => train.nid_engine,
+        None => unreachable!(),
     }
 }
 
-// What is kept of so many trains that were never heard.
-fn unknown_trains(alloc: Global, count: usize) -> Result<Vec<TrainState>, AllocError>
-    ensures { IfOk result (λ trains. trains.items ≡ replicate count unknown_state) }
-{
-    let mut trains = Vec::with_capacity(alloc, count)?;
-    for _ in 0..count {
-        trains.push_reserved(TrainState::unknown());
+// Ends each train with its centre.
+fn end_trains(
+    mut trains: Vec<TrainState>,
+    sessions: &mut Sessions,
+    book: &mut Book,
+    registrar: &mut Registrar,
+) {
+    while let Some(train) = trains.pop() {
+        train.end(sessions, book, registrar);
     }
-    Ok(trains)
+    trains.destroy_empty();
 }

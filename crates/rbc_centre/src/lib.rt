@@ -2,9 +2,12 @@
 //! `rbc_spec.specs.Centre`; the contract of `Centre::step` is one equation with the step defined there.
 #![tactic(auto)]
 
+mod answer;
 mod centre;
 mod event;
 mod fault;
+mod hearing;
+mod interlocking;
 mod outcome;
 mod same;
 mod session_act;
@@ -14,7 +17,9 @@ mod train;
 pub use centre::{Centre, LAST_STAMP};
 pub use event::Event;
 pub use fault::StepFault;
-pub use outcome::{Outcome, Saying, Silence, Word};
+pub use outcome::{Outcome, Saying, Word};
+pub use rbc_hand::SectionRun;
+pub use rbc_mission::Mission;
+pub use rbc_rules::Silence;
 pub use rbc_session::Phase;
-pub use session_act::SessionAct;
 pub use train::TrainPage;

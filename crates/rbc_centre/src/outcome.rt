@@ -1,35 +1,11 @@
-ghost use Rattle.std.specs.Prelude.{◌≡◌, ◌<◌, [], ◌∷◌, Some, None};
-ghost use Rattle.rbc_spec.specs.Message.{unknown_group};
+ghost use Rattle.std.specs.Prelude.{◌≡◌, ◌<◌, ◌≤◌, [], ◌∷◌, Some, None, map, length};
+ghost use Rattle.rbc_spec.specs.Outcome.{Told};
 ghost use Rattle.rbc_msgs.specs.Bodies.{track_body};
+ghost use Rattle.rbc_centre.specs.Views.{saying_of, sayings_of, word_of};
 
 use arrayvec::ArrayVec;
 use rbc_msgs::{NID_LRBG_UNKNOWN, TrackBody, TrackMsg};
-
-/// Why a train's message is left without an answer.
-#[derive(Clone, Copy, Debug, PartialEq, Eq)]
-pub enum Silence {
-    /// Its T_TRAIN is not above the last that the centre has heard of the train (3.16.3).
-    StaleStamp = 1,
-    /// No session stands with the train (3.5.3).
-    NoSession = 2,
-    /// The train is not of the line.
-    ForeignEngine = 3,
-    /// The train is not supervised by this centre.
-    NotSupervised = 5,
-    /// The session is up already, or not up yet (3.5.3).
-    WrongPhase = 10,
-}
-
-impl Silence {
-    ghost use Rattle.rbc_centre.specs.Reasons.{number_of_silence};
-
-    /// The number that is printed.
-    pub fn number(self) -> u8
-        ensures { result ≡ number_of_silence self }
-    {
-        self as u8
-    }
-}
+use rbc_rules::Silence;
 
 /// A message to a train.
 #[derive(Clone, Copy, Debug, PartialEq, Eq)]
@@ -39,16 +15,15 @@ pub struct Saying {
 }
 
 impl Saying {
-    ghost use Rattle.rbc_centre.specs.Views.{saying_of};
-
-    /// A message that names no balise group, and counts so many to the train.
-    pub(crate) fn of_count(nid_engine: u32, count: u32, body: TrackBody) -> Saying
-        requires { count < 4294967295 }
-        ensures { saying_of result ≡ record { nid_engine = nid_engine; message = record { t_train = count; nid_lrbg = unknown_group; body = track_body body } } }
+    /// A message that counts so many to the train, from this balise group or `NID_LRBG_UNKNOWN`.
+    pub(crate) fn of_count(nid_engine: u32, count: u32, nid_lrbg: u32, body: TrackBody) -> Saying
+        requires count { count < 4294967295 }
+        requires group { nid_lrbg < 16777216 }
+        ensures { saying_of result ≡ record { nid_engine = nid_engine; message = record { t_train = count; nid_lrbg = nid_lrbg; body = track_body body } } }
     {
         Saying {
             nid_engine,
-            message: TrackMsg::new(count, NID_LRBG_UNKNOWN, body),
+            message: TrackMsg::new(count, nid_lrbg, body),
         }
     }
 }
@@ -72,6 +47,8 @@ pub enum Word {
     Asked(u16),
     /// The section is not of this centre's home.
     NotHome(u16),
+    /// The section was wished back, and is shut now.
+    Told(u16),
 }
 
 impl Default for Word {
@@ -89,14 +66,14 @@ pub struct Outcome {
     /// The messages to trains, in order.
     pub sayings: ArrayVec<Saying, 2>,
     /// The words to the interlocking, in order.
-    pub words: ArrayVec<Word, 1>,
+    pub words: ArrayVec<Word, 64>,
     /// Why a train's message was left without an answer.
     pub silence: Option<Silence>,
 }
 
 impl Outcome {
-    ghost use Rattle.rbc_centre.specs.Views.{outcome_of, sayings_of, word_of};
-    ghost use Rattle.rbc_centre.specs.Reasons.{reason_of};
+    ghost use Rattle.rbc_centre.specs.Views.{outcome_of};
+    ghost use Rattle.rbc_rules.specs.Reasons.{reason_of};
 
     /// A step that does not answer.
     pub(crate) fn silent(stamp: u32, why: Silence) -> Outcome
@@ -110,33 +87,51 @@ impl Outcome {
         }
     }
 
-    /// A step that answers with one message or none.
-    pub(crate) fn said(stamp: u32, saying: Option<Saying>) -> Outcome
-        ensures { outcome_of result ≡ record { stamp = stamp; sayings = sayings_of saying; frames = λ d. []; words = []; link = None; silence = None } }
+    /// A step that answers a train with one message or none, and tells the interlocking of these sections that they are shut.
+    pub(crate) fn said(stamp: u32, saying: Option<Saying>, told: &ArrayVec<u16, 32>) -> Outcome
+        ensures { outcome_of result ≡ record { stamp = stamp; sayings = sayings_of saying; frames = λ d. []; words = map (λ s. Told s) told.now.items; link = None; silence = None } }
     {
-        let mut sayings = ArrayVec::new();
-        if let Some(saying) = saying {
-            sayings.push(saying);
-        }
         Outcome {
             stamp,
-            sayings,
-            words: ArrayVec::new(),
+            sayings: one_or_none(saying),
+            words: told_words(told),
             silence: None,
         }
     }
 
-    /// A step that answers the interlocking with one word.
-    pub(crate) fn told(stamp: u32, word: Word) -> Outcome
-        ensures { outcome_of result ≡ record { stamp = stamp; sayings = []; frames = λ d. []; words = word_of word ∷ []; link = None; silence = None } }
+    /// A step that answers the interlocking with one word, and says one message or none to a train.
+    pub(crate) fn told(stamp: u32, word: Word, saying: Option<Saying>) -> Outcome
+        ensures { outcome_of result ≡ record { stamp = stamp; sayings = sayings_of saying; frames = λ d. []; words = word_of word ∷ []; link = None; silence = None } }
     {
         let mut words = ArrayVec::new();
         words.push(word);
         Outcome {
             stamp,
-            sayings: ArrayVec::new(),
+            sayings: one_or_none(saying),
             words,
             silence: None,
         }
     }
+}
+
+// A row of one message, or of none.
+fn one_or_none(saying: Option<Saying>) -> ArrayVec<Saying, 2>
+    ensures { map saying_of result.items ≡ sayings_of saying }
+{
+    let mut sayings = ArrayVec::new();
+    if let Some(saying) = saying {
+        sayings.push(saying);
+    }
+    sayings
+}
+
+// The words about sections that were wished back and are shut now.
+fn told_words(told: &ArrayVec<u16, 32>) -> ArrayVec<Word, 64>
+    ensures { map word_of result.items ≡ map (λ s. Told s) told.now.items }
+{
+    let mut words = ArrayVec::new();
+    for s in told.as_slice() {
+        words.push(Word::Told(*s));
+    }
+    words
 }

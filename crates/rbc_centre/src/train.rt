@@ -1,15 +1,30 @@
-ghost use Rattle.std.specs.Prelude.{◌≡◌, ◌+◌, ◌<◌, None, Some};
+ghost use Rattle.std.specs.Prelude.{◌≡◌, ◌+◌, ◌<◌, ◌≤◌, ℕ, IfOk, IfSome, None, Some, option_map};
 ghost use Rattle.rbc_spec.specs.Centre as spec;
 ghost use Rattle.rbc_spec.specs.Step.{is_stale};
+ghost use Rattle.rbc_spec.specs.Acts.{propose_if_so};
 ghost use Rattle.rbc_session.specs.Sessions.{phase_at, HasRoom};
 ghost use Rattle.rbc_session.specs.Standing.{phase_of, standing_phase, StandsFor};
-ghost use Rattle.rbc_session.specs.declared.session.Standing.TheVariants.{Silent};
+ghost use Rattle.rbc_mission.specs.Courses.{IsAlone};
+ghost use Rattle.rbc_mission.specs.Deeds as deeds;
+ghost use Rattle.rbc_rules.specs.Desks.{mission_by};
+ghost use Rattle.rbc_centre.specs.Answers.{answer_seen, asked};
 ghost use Rattle.rbc_centre.specs.Sessions.{phase_after};
 ghost use Rattle.rbc_centre.specs.Standings.{Enters};
+ghost use Rattle.rbc_centre.specs.State.{unknown_state, HasTrain};
+ghost use Rattle.rbc_centre.specs.Views.{sayings_of};
 ghost use Rattle.rbc_centre.specs.declared.session_act.SessionAct.TheVariants.{Open, Establish};
 
+use crate::answer::Answer;
+use crate::outcome::Saying;
 use crate::session_act::SessionAct;
+use rbc_book::Book;
+use rbc_hand::SectionRun;
+use rbc_line::Line;
+use rbc_mission::{Course, Mission};
+use rbc_right::Registrar;
+use rbc_rules::{Train, ask_back};
 use rbc_session::{Phase, Sessions, Standing};
+use std::alloc::{AllocError, Global};
 use std::mem;
 
 /// What is known of a train at a centre.
@@ -21,6 +36,10 @@ pub struct TrainPage {
     pub heard: Option<u32>,
     /// How many messages were said to the train.
     pub said: u32,
+    /// The mission that the centre supervises.
+    pub mission: Option<Mission>,
+    /// The sections of its movement authority, none where there is no mission.
+    pub hand: SectionRun,
 }
 
 impl TrainPage {
@@ -29,6 +48,8 @@ impl TrainPage {
         phase: Phase::Silent,
         heard: None,
         said: 0,
+        mission: None,
+        hand: SectionRun { first: 0, count: 0 },
     };
 }
 
@@ -41,18 +62,26 @@ pub(crate) struct TrainState {
     pub(crate) heard: Option<u32>,
     /// How many messages were said to it.
     pub(crate) said: u32,
+    /// Its mission, where one stands at this centre.
+    pub(crate) course: Course,
 }
 
 impl TrainState {
-    /// What is kept of a train that was never heard.
-    pub(crate) fn unknown() -> TrainState
-        ensures { result ≡ record { standing = Silent; heard = None; said = 0 } }
+    /// What is kept of a train that was never heard, with this place in the line file.
+    pub(crate) fn unknown(
+        alloc: Global,
+        number: u8,
+        nid_engine: u32,
+    ) -> Result<TrainState, AllocError>
+        ensures { IfOk result (λ p. p ≡ unknown_state number nid_engine) }
     {
-        TrainState {
+        let course = Course::new(alloc, number, nid_engine)?;
+        Ok(TrainState {
             standing: Standing::Silent,
             heard: None,
             said: 0,
-        }
+            course,
+        })
     }
 
     /// What is known of it.
@@ -60,26 +89,48 @@ impl TrainState {
         ensures phase { phase_of result.phase ≡ standing_phase self.now.standing }
         ensures heard { result.heard ≡ self.now.heard }
         ensures said { result.said ≡ self.now.said }
+        ensures mission { mission_by result.mission result.hand ≡ self.now.course.mission }
     {
         TrainPage {
             phase: self.standing.phase(),
             heard: self.heard,
             said: self.said,
+            mission: self.course.mission(),
+            hand: self.course.hand(),
         }
     }
 
-    /// The session that stands with it.
-    pub(crate) fn into_standing(self) -> Standing {
+    /// What a message of it is decided by.
+    pub(crate) fn known(&self) -> Train
+        ensures number { result.number ≡ self.now.course.number }
+        ensures engine { result.nid_engine ≡ self.now.course.engine }
+        ensures phase { phase_of result.phase ≡ standing_phase self.now.standing }
+        ensures mission { mission_by result.mission result.hand ≡ self.now.course.mission }
+        ensures alone { (m : spec.Mission) → mission_by result.mission result.hand ≡ Some m → IsAlone m }
+    {
+        Train {
+            number: self.course.number(),
+            nid_engine: self.course.nid_engine(),
+            phase: self.standing.phase(),
+            mission: self.course.mission(),
+            hand: self.course.hand(),
+        }
+    }
+
+    /// Ends it with its centre: its session ends, and what its mission holds goes back.
+    pub(crate) fn end(self, sessions: &mut Sessions, book: &mut Book, registrar: &mut Registrar) {
         let TrainState {
             standing,
             heard: _,
             said: _,
+            course,
         } = self;
-        standing
+        sessions.end(standing);
+        course.give_up(book, registrar);
     }
 
     /// A message of this T_TRAIN is heard, and its act carried out on the session.
-    pub(crate) fn change(
+    pub(crate) fn hear(
         &mut self,
         sessions: &mut Sessions,
         act: SessionAct,
@@ -92,6 +143,7 @@ impl TrainState {
         ensures enters { Enters sessions.old sessions.new self.new.standing nid_engine (phase_after act (phase_at sessions.old nid_engine)) }
         ensures heard { self.new.heard ≡ Some t_train }
         ensures said { self.new.said ≡ self.old.said }
+        ensures course { self.new.course ≡ self.old.course }
     {
         self.heard = Some(t_train);
         let stood = mem::replace(&mut self.standing, Standing::Silent);
@@ -110,13 +162,35 @@ impl TrainState {
         }
     }
 
-    /// Counts one more message to the train, and gives its T_TRAIN.
-    pub(crate) fn count_message(&mut self) -> u32
-        requires { self.old.said < 4294967294 }
-        ensures t_train { result ≡ self.old.said + 1 }
-        ensures counted { self.new ≡ record self.old { said = result } }
+    /// Says something to the train, if there is an answer, and counts it.
+    pub(crate) fn say(&mut self, nid_engine: u32, answer: Option<Answer>) -> Option<Saying>
+        requires count { self.old.said < 4294967294 }
+        requires group { IfSome answer (λ a. a.nid_lrbg < 16777216) }
+        ensures saying { sayings_of result ≡ deeds.sayings_after nid_engine self.old.said (option_map answer_seen answer) }
+        ensures counted { self.new ≡ record self.old { said = deeds.said_after (option_map answer_seen answer) self.old.said } }
     {
+        let answer = answer?;
         self.said += 1;
-        self.said
+        Some(Saying::of_count(nid_engine, self.said, answer.nid_lrbg, answer.body))
+    }
+
+    /// Asks the train to end its movement authority before a section (3.8.6), where that may be asked.
+    pub(crate) fn ask_back(&mut self, line: &Line, s: u16) -> Option<Saying>
+        requires count { self.old.said < 4294967294 }
+        requires group { (m : spec.Mission) → self.old.course.mission ≡ Some m → m.place.group < 16777216 }
+        ensures exact { (k : spec.Centre) → HasTrain k self.old.course.engine self.old
+            → propose_if_so line.now self.old.course.engine s k ≡ asked self.old.course.engine self.new (sayings_of result) k }
+        ensures standing { self.new.standing ≡ self.old.standing }
+        ensures heard { self.new.heard ≡ self.old.heard }
+        ensures number { self.new.course.number ≡ self.old.course.number }
+        ensures engine { self.new.course.engine ≡ self.old.course.engine }
+        ensures said { self.new.said ≤ self.old.said + 1 }
+        ensures group { (m : spec.Mission) → self.new.course.mission ≡ Some m → m.place.group < 16777216 }
+    {
+        let known = self.known();
+        let asking = ask_back(line, &known, s, self.said + 1)?;
+        self.course.propose(asking.proposal);
+        let answer = Answer::shortening(asking.nid_lrbg, asking.l_endsection);
+        self.say(known.nid_engine, Some(answer))
     }
 }

@@ -1,3 +1,5 @@
 pub mod Runs
 pub mod Decisions
 pub mod Fits
+pub mod Tellings
+pub mod Asks

@@ -1,7 +1,16 @@
-use Rattle.std.proofs.Common.{◌≡◌, ◌+◌, ◌≤◌, replicate}
+use Rattle.std.proofs.Common.{◌≡◌, ◌≤◌, ℕ, length, slice_get, Some}
 use Rattle.std.specs.Vec.{vec_len, vec_capacity}
-use Rattle.rbc_centre.specs.State.{unknown_state}
+use Rattle.rbc_centre.specs.State.{IsUnknown}
+use Rattle.rbc_centre.specs.declared.train.TrainState.{TrainState}
 use Rattle.rbc_centre.proofs.centre.unknown_trains.Given as goal
 
-abbrev pub invariant-loop : goal.invariant-loop
-invariant-loop l = (l.trains.items ≡ replicate l.counter unknown_state) × (l.count ≤ vec_capacity l.trains) × (vec_len l.trains ≡ l.counter)
+abbrev pub invariant-loop-i : goal.invariant-loop-i
+invariant-loop-i l = record {
+  each : (i : ℕ) (p : TrainState) → slice_get l.trains.items i ≡ Some p → IsUnknown l.line i p;
+  room : l.count ≤ vec_capacity l.trains;
+  made : vec_len l.trains ≡ l.i;
+  count : length l.trains.items ≡ l.i;
+  sessions : l.sessions ≡ l.fn.sessions;
+  book : l.book ≡ l.fn.book;
+  registrar : l.registrar ≡ l.fn.registrar;
+}

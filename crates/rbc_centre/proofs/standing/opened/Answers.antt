@@ -1,4 +1,4 @@
-use Rattle.rbc_centre.proofs.Standings.{silent_now, enters_opened}
+use Rattle.rbc_centre.proofs.Standings.{enters_opened}
 use Rattle.rbc_centre.proofs.standing.opened.Goals as goal
 
 pub returns : goal.returns

@@ -1,23 +1,38 @@
-use Rattle.std.proofs.Common.{◌∙◌, ap, sym, refl, true, length, arith, subst}
-use Rattle.rbc_spec.specs.Line.{Line, is_home}
-use Rattle.rbc_spec.specs.Centre.{beginning, is_unused}
-use Rattle.rbc_centre.specs.State.{stands_for, unknown_state}
-use Rattle.rbc_centre.proofs.Steps.{stands_at_beginning, filled_count, none_said, silent_everywhere}
+use Rattle.std.proofs.Common.{◌∙◌, ap, sym, arith, subst, length}
+use Rattle.rbc_spec.specs.Centre as centre
+use Rattle.rbc_spec.specs.Centre.{beginning}
+use Rattle.rbc_alone.specs.Alone.{IsAloneAt}
+use Rattle.rbc_alone.proofs.Ordered.{is_ordered, begins_alone}
+use Rattle.rbc_book.specs.Book.{Pages, is_own}
+use Rattle.rbc_session.specs.Sessions.{phase_at}
+use Rattle.rbc_centre.specs.State.{stands_for}
+use Rattle.rbc_centre.proofs.Begins.{stands_at_beginning, none_said, numbers, engines, no_groups, silent_everywhere}
 use Rattle.rbc_centre.proofs.centre.Centre.new.Goals as goal
 
 pub returns-clause-beginning : goal.returns-clause-beginning
 returns-clause-beginning c =
-    ap (stands_for c.in_ok-line.line c.args.number 0 c.in_ok-book.book) c.in_ok-trains.ensures
-    ∙ stands_at_beginning c.in_ok-line.line c.args.number _ _ unknown_state c.in_ok-book.ensures.entry c.in_ok-book.ensures.wish refl refl refl
+    (λ i. stands_for c.in_ok-line.line c.args.number 0 (c.in_ok-trains.ensures.book i) (c.in_ok-trains.ensures.registrar i) c.in_ok-trains.trains.items)
+    ∙ stands_at_beginning c.in_ok-line.line c.in_ok-trains.trains.items c.in_ok-trains.ensures.each c.args.number c.in_ok-book.book c.in_ok-registrar.registrar
+    c.in_ok-book.ensures.entry c.in_ok-book.ensures.wish c.in_ok-registrar.ensures.engines
     ∙ ap (λ l. beginning l c.args.number) c.in_ok-line.ensures.value
 
 pub invariant_of-result : goal.invariant_of-result
-invariant_of-result c = record {
-  in_time = omega arith;
-  own_sections = c.in_ok-book.ensures.homes;
-  none_in_use = λ s. ap is_unused (c.in_ok-book.ensures.entry s);
-  none_wished = λ s. c.in_ok-book.ensures.wish s;
-  each_train = filled_count _ _ _ _ c.in_ok-trains.ensures c.train_count.ensures.value;
-  each_stands = silent_everywhere c.in_ok-line.line _ _ _ c.in_ok-trains.ensures c.new-2.ensures.phases;
-  counted = none_said _ _ _ c.in_ok-trains.ensures refl;
-}
+invariant_of-result c =
+    let begins =
+    (λ i. stands_for c.in_ok-line.line c.args.number 0 (c.in_ok-trains.ensures.book i) (c.in_ok-trains.ensures.registrar i) c.in_ok-trains.trains.items)
+    ∙ stands_at_beginning c.in_ok-line.line c.in_ok-trains.trains.items c.in_ok-trains.ensures.each c.args.number c.in_ok-book.book c.in_ok-registrar.registrar
+    c.in_ok-book.ensures.entry c.in_ok-book.ensures.wish c.in_ok-registrar.ensures.engines
+    in
+    record {
+      ordered = is_ordered c.in_ok-line.line c.in_ok-line.ensures.line;
+      in_time = omega arith;
+      own_sections = λ s. ap (λ (b : Pages). is_own b s) c.in_ok-trains.ensures.book ∙ c.in_ok-book.ensures.homes s;
+      alone = subst (λ (x : centre.Centre). IsAloneAt c.in_ok-line.line c.args.number x) (sym begins) (begins_alone c.in_ok-line.line c.args.number);
+      each_right = ap length c.in_ok-trains.ensures.registrar ∙ c.in_ok-registrar.ensures.count;
+      each_train = c.in_ok-trains.ensures.count;
+      each_number = numbers c.in_ok-line.line c.in_ok-trains.trains.items c.in_ok-trains.ensures.each;
+      each_engine = engines c.in_ok-line.line c.in_ok-trains.trains.items c.in_ok-trains.ensures.each;
+      each_group = λ i p m at mission. let few = no_groups c.in_ok-line.line c.in_ok-trains.trains.items c.in_ok-trains.ensures.each i p m at mission in omega (arith, few);
+      each_stands = silent_everywhere c.in_ok-line.line c.in_ok-trains.trains.items c.in_ok-trains.ensures.each _ (λ u. ap (λ r. phase_at r u) c.in_ok-trains.ensures.sessions ∙ c.new-sessions.ensures.phases u);
+      counted = none_said c.in_ok-line.line c.in_ok-trains.trains.items c.in_ok-trains.ensures.each;
+    }

@@ -1,0 +1,126 @@
+-- A centre at its beginning.
+use Rattle.std.proofs.Common.{◌≡◌, ℕ, zero, suc, ◌==◌, ◌≤◌, true, false, List, [], ◌∷◌, get_or, ◌<◌, eqb-true, ◌++◌, length, length-append, inl, inr, Option, Some, None, option_and_then, option_map, slice_get, refl, sym, ap, ◌∙◌, subst, arith}
+use Rattle.std.specs.Option.{option_map_or}
+use Rattle.std.proofs.lemmas.Bool.{cases_lt}
+use Rattle.std.proofs.lemmas.Bool.Decides.{eqb_tells}
+use Rattle.std.proofs.lemmas.Option.{slice_get_past}
+use Rattle.std.proofs.lemmas.List.Quantifiers.{position-Some}
+use Rattle.rbc_spec.specs.Line.{Line, Train, train_number}
+use Rattle.rbc_spec.specs.Centre as centre
+use Rattle.rbc_spec.specs.Centre.{Mission, is_registrar_of}
+use Rattle.rbc_line.proofs.Lists.{find-position_none}
+use Rattle.rbc_book.specs.Book.{Pages, entry_at, wish_at}
+use Rattle.rbc_right.specs.Rights.{Rights, is_here}
+use Rattle.rbc_session.specs.Sessions.{Records, phase_at}
+use Rattle.rbc_session.specs.Standing.{standing_phase}
+use Rattle.rbc_centre.specs.Standings.{Stands}
+use Rattle.rbc_centre.specs.State.{stands_for, of_trains, right_at, unknown_state, IsUnknown}
+use Rattle.rbc_centre.specs.declared.train.TrainState.{TrainState}
+
+slice_get-last : {X : Type 0} (xs : List X) (x : X) → slice_get (xs ++ x ∷ []) (length xs) ≡ Some x
+slice_get-last [] x = refl
+slice_get-last (y ∷ ys) x = slice_get-last ys x
+
+slice_get-before : {X : Type 0} (xs ys : List X) (i : ℕ) → i < length xs → slice_get (xs ++ ys) i ≡ slice_get xs i
+slice_get-before [] ys i h = absurd (let no : ⊥ = omega arith in no)
+slice_get-before (x ∷ xs) ys zero h = refl
+slice_get-before (x ∷ xs) ys (suc i) h = slice_get-before xs ys i (omega arith)
+
+get_at : {X : Type 0} (xs : List X) (i : ℕ) (d x : X) → slice_get xs i ≡ Some x → get_or xs i d ≡ x
+get_at [] i d x h = cc
+get_at (y ∷ ys) zero d x h = cc
+get_at (y ∷ ys) (suc i) d x h = get_at ys i d x h
+
+module _ (line : Line) (states : List TrainState) (each : (i : ℕ) (p : TrainState) → slice_get states i ≡ Some p → IsUnknown line i p) where
+  -- a part that is the same of each train
+  part_at_all : {X : Type 0} (part : TrainState → X) (none : X) → ((i t : ℕ) → part (unknown_state i t) ≡ none) → (i : ℕ) (o : Option TrainState) → slice_get states i ≡ o → option_map_or part o none ≡ none
+  part_at_all part none same i (Some p) at = ap part ((each i p at).state) ∙ same i p.course.engine
+  part_at_all part none same i None at = refl
+
+  of_all : {X : Type 0} (part : TrainState → X) (none : X) → ((i t : ℕ) → part (unknown_state i t) ≡ none) → (t : ℕ) → of_trains part none line states t ≡ none
+  of_all part none same t = by_number (train_number line t)
+    where
+      by_number : (number : Option ℕ) → option_map_or part (option_and_then (λ j. slice_get states j) number) none ≡ none
+      by_number (Some i) = part_at_all part none same i (slice_get states i) refl
+      by_number None = refl
+
+  right_at_home : (c t : ℕ) (rights : Rights) → ((u j : ℕ) → train_number line u ≡ Some j → is_here rights j ≡ is_registrar_of line c u) → right_at line rights t ≡ is_registrar_of line c t
+  right_at_home c t rights here = by_number (train_number line t) refl
+    where
+      by_number : (number : Option ℕ) → train_number line t ≡ number → option_map_or (is_here rights) number false ≡ is_registrar_of line c t
+      by_number (Some i) at = here t i at
+      by_number None none = sym (ap (λ o. option_map_or (λ r. r == c) (option_map (λ (p : Train). p.registrar) o) false) (find-position_none (λ (p : Train). p.nid_engine == t) line.trains none))
+
+  pub stands_at_beginning : (c : ℕ) (pages : Pages) (rights : Rights) → ((s : ℕ) → entry_at pages s ≡ centre.Shut) → ((s : ℕ) → wish_at pages s ≡ false)
+      → ((u j : ℕ) → train_number line u ≡ Some j → is_here rights j ≡ is_registrar_of line c u)
+      → stands_for line c 0 pages rights states ≡ centre.beginning line c
+  unfolding stands_for centre.beginning
+  stands_at_beginning c pages rights shut unwished here = λ i. record (centre.beginning line c) {
+    clock = 0;
+    book = λ s. shut s i;
+    wish = λ s. unwished s i;
+    phase = λ t. of_all (λ p. standing_phase p.standing) centre.Silent (λ j u. refl) t i;
+    heard = λ t. of_all (λ p. p.heard) None (λ j u. refl) t i;
+    said = λ t. of_all (λ p. p.said) 0 (λ j u. refl) t i;
+    mission = λ t. of_all (λ p. p.course.mission) None (λ j u. refl) t i;
+    has_right = λ t. right_at_home c t rights here i;
+  }
+
+  -- ## What holds of each train
+
+  pub none_said : (i : ℕ) (p : TrainState) → slice_get states i ≡ Some p → p.said ≤ 0
+  none_said i p at = let said : p.said ≡ 0 = ap (λ (q : TrainState). q.said) ((each i p at).state) in omega (arith, said)
+
+  pub numbers : (t i : ℕ) (p : TrainState) → train_number line t ≡ Some i → slice_get states i ≡ Some p → p.course.number ≡ i
+  numbers t i p number at = ap (λ (q : TrainState). q.course.number) ((each i p at).state)
+
+  no_train : Train
+  no_train = record { nid_engine = 0; registrar = 0 }
+
+  engine_at : (t i e : ℕ) (o : Option Train) → train_number line t ≡ Some i → slice_get line.trains i ≡ o → option_map (λ q. q.nid_engine) o ≡ Some e → e ≡ t
+  engine_at t i e None number at is = cc
+  engine_at t i e (Some q) number at is =
+      let passes : (q.nid_engine == t) ≡ true = ap (λ (p : Train). p.nid_engine == t) (sym (get_at line.trains i no_train q at)) ∙ (position-Some (λ (p : Train). p.nid_engine == t) line.trains i no_train number).1 in
+      let same : q.nid_engine ≡ e = cc in
+      sym same ∙ eqb-true q.nid_engine t passes
+
+  pub engines : (t i : ℕ) (p : TrainState) → train_number line t ≡ Some i → slice_get states i ≡ Some p → p.course.engine ≡ t
+  engines t i p number at = engine_at t i p.course.engine (slice_get line.trains i) number refl ((each i p at).engine)
+
+  pub no_groups : (i : ℕ) (p : TrainState) (m : Mission) → slice_get states i ≡ Some p → p.course.mission ≡ Some m → m.place.group ≤ 16777215
+  no_groups i p m at mission = let e : None ≡ Some m = sym (ap (λ (q : TrainState). q.course.mission) ((each i p at).state)) ∙ mission in cc
+
+  -- no session stands with a train that was never heard
+  pub silent_everywhere : (sessions : Records) → ((u : ℕ) → phase_at sessions u ≡ centre.Silent)
+      → (t i : ℕ) (p : TrainState) → train_number line t ≡ Some i → slice_get states i ≡ Some p → Stands sessions p.standing t
+  silent_everywhere sessions silent t i p number at =
+      subst (λ (q : TrainState). Stands sessions q.standing t) (sym ((each i p at).state)) (silent t, λ key absent. cc)
+
+-- one more train
+pub each_more : (line : Line) (states more : List TrainState) (train : TrainState) (e : ℕ) → more ≡ states ++ train ∷ [] → train ≡ unknown_state (length states) e
+    → option_map (λ q. q.nid_engine) (slice_get line.trains (length states)) ≡ Some e
+    → ((i : ℕ) (p : TrainState) → slice_get states i ≡ Some p → IsUnknown line i p) → (i : ℕ) (p : TrainState) → slice_get more i ≡ Some p → IsUnknown line i p
+each_more line states more train e pushed is engine each i p at = by_place i (sym (ap (λ xs. slice_get xs i) pushed) ∙ at)
+  where
+    last : IsUnknown line (length states) train
+    last = record {
+      state = is ∙ ap (λ n. unknown_state (length states) n) (sym (ap (λ (q : TrainState). q.course.engine) is));
+      engine = engine ∙ ap (λ n. Some n) (sym (ap (λ (q : TrainState). q.course.engine) is));
+    }
+
+    of_last : (n : ℕ) (q : TrainState) → n ≡ length states → train ≡ q → IsUnknown line n q
+    of_last n q place same = subst (λ (m : ℕ). IsUnknown line m q) (sym place) (subst (IsUnknown line (length states)) same last)
+
+    past : (n : ℕ) → slice_get (states ++ train ∷ []) n ≡ Some p → (n ≡ length states → ⊥) → length states ≤ n → ⊥
+    past n found apart later =
+        let none : slice_get (states ++ train ∷ []) n ≡ None = slice_get_past (states ++ train ∷ []) n (rw (length-append states (train ∷ [])) (omega (arith, apart, later))) in
+        let no : None ≡ Some p = sym none ∙ found in cc
+
+    by_place : (n : ℕ) → slice_get (states ++ train ∷ []) n ≡ Some p → IsUnknown line n p
+    by_place n found = elim (cases_lt n (length states)) as (λ _. IsUnknown line n p) [
+      | inl earlier ↦ each n p (sym (slice_get-before states (train ∷ []) n earlier) ∙ found)
+      | inr later ↦ elim (eqb_tells n (length states)) as (λ _. IsUnknown line n p) [
+        | inl same ↦ of_last n p (same.1) (let e : Some train ≡ Some p = sym (slice_get-last states train) ∙ ap (slice_get (states ++ train ∷ [])) (sym (same.1)) ∙ found in cc)
+        | inr apart ↦ absurd (past n found (λ h. apart.1 h) later)
+      ]
+    ]

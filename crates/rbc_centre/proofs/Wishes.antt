@@ -1,0 +1,148 @@
+-- What the interlocking says of a section, as the change of the book and of a train's state.
+use Rattle.std.proofs.Common.{◌≡◌, ℕ, ◌==◌, ◌<◌, ◌&&◌, Bool, true, false, not, if◌then◌else◌, List, [], ◌∷◌, length, Option, Some, None, slice_get, set, refl, sym, ap, ◌∙◌, subst, eq-eqb}
+use Rattle.rbc_spec.specs.Maps.{put}
+use Rattle.rbc_spec.specs.Line.{Line, is_home, train_number}
+use Rattle.rbc_spec.specs.Outcome.{Saying, Word, Done, Asked, NotHome}
+use Rattle.rbc_spec.specs.Centre as centre
+use Rattle.rbc_spec.specs.Centre.{Entry, Shut, Open, Taken, Out, Mission, is_unused, is_taken_for, is_out_for}
+use Rattle.rbc_spec.specs.Acts.{Reply, propose_if_so}
+use Rattle.rbc_spec.specs.Step as step
+use Rattle.rbc_alone.specs.Alone.{IsAloneAt, hand_has}
+use Rattle.rbc_alone.proofs.Steps.{set_stays, unset_stays}
+use Rattle.rbc_book.specs.Book.{Pages, is_own, entry_at, wish_at}
+use Rattle.rbc_book.specs.Answers.{unset_answer}
+use Rattle.rbc_book.specs.declared.answer.Unset.TheVariants as Unset
+use Rattle.rbc_right.specs.Rights.{Rights}
+use Rattle.rbc_session.specs.Standing.{standing_phase}
+use Rattle.rbc_rules.specs.Tellings.{wishing}
+use Rattle.rbc_rules.proofs.Tellings.{shut_at_once, asked_of_taken, left_at_unset, opened_at_once, kept_in_use, left_at_set}
+use Rattle.rbc_centre.specs.Answers.{asked}
+use Rattle.rbc_centre.specs.State.{stands_for, of_trains, HasTrain}
+use Rattle.rbc_centre.specs.declared.train.TrainState.{TrainState}
+use Rattle.rbc_centre.proofs.Puts.{put_same}
+use Rattle.rbc_centre.proofs.States.{of_trains-set, part_of_train, part_of_foreign}
+
+abbrev replied : centre.Centre → List Saying → List Word → Reply
+replied k sayings words = record { state = k; frames = λ d. []; sayings = sayings; words = words }
+
+module _ (line : Line) (c clock : ℕ) (old new : Pages) (rights : Rights) (states : List TrainState) (s : ℕ) (home : is_own old s ≡ is_home line c s) where
+  abbrev k : centre.Centre
+  k = stands_for line c clock old rights states
+
+  abbrev left : centre.Centre
+  left = stands_for line c clock new rights states
+
+  module _ (entry : (n : ℕ) → entry_at new n ≡ (if (is_own old s && is_unused (entry_at old s)) && (n == s) then Open else entry_at old n))
+      (wish : (n : ℕ) → wish_at new n ≡ (if is_own old s && (n == s) then false else wish_at old n)) where
+    pub set_turns : (own unused : Bool) → is_own old s ≡ own → is_unused (entry_at old s) ≡ unused → replied left [] ((if own then Done s else NotHome s) ∷ []) ≡ step.set line c s k
+    unfolding stands_for
+    set_turns true true own unused =
+        let entries : (n : ℕ) → entry_at new n ≡ put (entry_at old) s Open n = λ n. rw (own, unused) at (entry n) in
+        let wishes : (n : ℕ) → wish_at new n ≡ put (wish_at old) s false n = λ n. rw own at (wish n) in
+        (λ i. replied (record k { book = λ n. entries n i; wish = λ n. wishes n i }) [] (Done s ∷ []))
+        ∙ sym (opened_at_once line c s k (sym home ∙ own) unused)
+    set_turns true false own unused =
+        let entries : (n : ℕ) → entry_at new n ≡ entry_at old n = λ n. rw (own, unused) at (entry n) in
+        let wishes : (n : ℕ) → wish_at new n ≡ put (wish_at old) s false n = λ n. rw own at (wish n) in
+        (λ i. replied (record k { book = λ n. entries n i; wish = λ n. wishes n i }) [] (Done s ∷ []))
+        ∙ sym (kept_in_use line c s k (sym home ∙ own) unused)
+    set_turns false unused own used =
+        let entries : (n : ℕ) → entry_at new n ≡ entry_at old n = λ n. rw own at (entry n) in
+        let wishes : (n : ℕ) → wish_at new n ≡ wish_at old n = λ n. rw own at (wish n) in
+        (λ i. replied (record k { book = λ n. entries n i; wish = λ n. wishes n i }) [] (NotHome s ∷ []))
+        ∙ sym (left_at_set line c s k (sym home ∙ own))
+
+    pub set_alone : IsAloneAt line c k → IsAloneAt line c left
+    set_alone alone =
+        subst (λ (r : Reply). IsAloneAt line c r.state) (sym (set_turns (is_own old s) (is_unused (entry_at old s)) refl refl)) ((set_stays line c s k alone).state)
+
+  module _ (entry : (n : ℕ) → entry_at new n ≡ (if (is_own old s && is_unused (entry_at old s)) && (n == s) then Shut else entry_at old n))
+      (wish : (n : ℕ) → wish_at new n ≡ (if is_own old s && (n == s) then not (is_unused (entry_at old s)) else wish_at old n)) where
+    pub unset_turns : (own : Bool) → is_own old s ≡ own → (own ≡ true → is_unused (entry_at old s) ≡ true) → replied left [] ((if own then Done s else NotHome s) ∷ []) ≡ step.unset line c s k
+    unfolding stands_for
+    unset_turns true own never =
+        let unused : is_unused (entry_at old s) ≡ true = never refl in
+        let entries : (n : ℕ) → entry_at new n ≡ put (entry_at old) s Shut n = λ n. rw (own, unused) at (entry n) in
+        let wishes : (n : ℕ) → wish_at new n ≡ put (wish_at old) s false n = λ n. rw (own, unused) at (wish n) in
+        (λ i. replied (record k { book = λ n. entries n i; wish = λ n. wishes n i }) [] (Done s ∷ []))
+        ∙ sym (shut_at_once line c s k (sym home ∙ own) unused)
+    unset_turns false own never =
+        let entries : (n : ℕ) → entry_at new n ≡ entry_at old n = λ n. rw own at (entry n) in
+        let wishes : (n : ℕ) → wish_at new n ≡ wish_at old n = λ n. rw own at (wish n) in
+        (λ i. replied (record k { book = λ n. entries n i; wish = λ n. wishes n i }) [] (NotHome s ∷ []))
+        ∙ sym (left_at_unset line c s k (sym home ∙ own))
+
+    pub unset_alone : (own : Bool) → is_own old s ≡ own → (own ≡ true → is_unused (entry_at old s) ≡ true) → IsAloneAt line c k → IsAloneAt line c left
+    unset_alone own is never alone = subst (λ (r : Reply). IsAloneAt line c r.state) (sym (unset_turns own is never)) ((unset_stays line c s k alone).state)
+
+    -- a section that is in use for a train
+    module _ (t i : ℕ) (before after : TrainState) (sayings : List Saying) (own : is_own old s ≡ true) (taken : entry_at old s ≡ Taken t)
+        (number : train_number line t ≡ Some i) (at : slice_get states i ≡ Some before) (within : i < length states)
+        (standing : after.standing ≡ before.standing) (heard : after.heard ≡ before.heard)
+        (asks : (j : centre.Centre) → HasTrain j t before → propose_if_so line t s j ≡ asked t after sayings j) where
+      wishing_is : HasTrain (wishing s k) t before
+      unfolding stands_for
+      wishing_is = record {
+        phase_is = sym (part_of_train (λ p. standing_phase p.standing) centre.Silent line states t i before number at);
+        mission_is = sym (part_of_train (λ p. p.course.mission) None line states t i before number at);
+        said_is = sym (part_of_train (λ p. p.said) 0 line states t i before number at);
+      }
+
+      -- a part that is as before is so for each train
+      same_part : {X : Type 0} (part : TrainState → X) (none : X) → part after ≡ part before → (u : ℕ) → of_trains part none line (set states i after) u ≡ of_trains part none line states u
+      same_part part none same u =
+          of_trains-set part none line states t i after number within u
+          ∙ put_same t (part after) (of_trains part none line states) (sym (part_of_train part none line states t i before number at) ∙ sym same) u
+
+      pub asked_turns : replied (stands_for line c clock new rights (set states i after)) sayings (Asked s ∷ []) ≡ step.unset line c s k
+      unfolding stands_for
+      asked_turns =
+          let used : is_unused (entry_at old s) ≡ false = ap is_unused taken in
+          let entries : (n : ℕ) → entry_at new n ≡ entry_at old n = λ n. rw (own, used) at (entry n) in
+          let wishes : (n : ℕ) → wish_at new n ≡ put (wish_at old) s true n = λ n. rw (own, used) at (wish n) in
+          (λ j. replied (record k {
+            book = λ n. entries n j;
+            wish = λ n. wishes n j;
+            phase = λ u. same_part (λ p. standing_phase p.standing) centre.Silent (ap standing_phase standing) u j;
+            heard = λ u. same_part (λ p. p.heard) None heard u j;
+            said = λ u. of_trains-set (λ p. p.said) 0 line states t i after number within u j;
+            mission = λ u. of_trains-set (λ p. p.course.mission) None line states t i after number within u j;
+          }) sayings (Asked s ∷ []))
+          ∙ sym (asked_of_taken line c s t k (asked t after sayings (wishing s k)) (sym home ∙ own) taken (asks (wishing s k) wishing_is))
+
+      pub asked_alone : IsAloneAt line c k → IsAloneAt line c (stands_for line c clock new rights (set states i after))
+      asked_alone alone = subst (λ (r : Reply). IsAloneAt line c r.state) (sym asked_turns) ((unset_stays line c s k alone).state)
+
+  -- at a centre that is alone, a section in use is so for a train of the line
+  pub user_stands : IsAloneAt line c k → (e : Entry) → entry_at old s ≡ e → is_unused e ≡ false → (t : ℕ) × (e ≡ Taken t)
+  unfolding stands_for
+  user_stands alone Shut is used = cc
+  user_stands alone Open is used = cc
+  user_stands alone (Taken t) is used = (t, refl)
+  user_stands alone (Out t d) is used =
+      let out : is_out_for t d (Out t d) ≡ false = ap (is_out_for t d) (sym is) ∙ alone.not_out s t d in
+      let no = rw (eq-eqb t t refl, eq-eqb d d refl) at out in cc
+
+  pub user_number : IsAloneAt line c k → (t : ℕ) → entry_at old s ≡ Taken t → (o : Option ℕ) → train_number line t ≡ o → o ≡ None → ⊥
+  unfolding stands_for
+  user_number alone t taken (Some i) number none = cc
+  user_number alone t taken None number none =
+      let here : is_taken_for t (Taken t) ≡ true = eq-eqb t t refl in
+      let no : true ≡ false =
+      sym here ∙ ap (is_taken_for t) (sym taken) ∙ alone.taken s t ∙ ap (λ o. hand_has o s) (sym (part_of_foreign (λ p. p.course.mission) None line states t number))
+      in cc
+
+-- what a book answers to an unset says whether the section is in use
+pub done_unused : (e : Entry) → Unset.Done ≡ unset_answer e → is_unused e ≡ true
+done_unused e h = by_test (is_unused e) h
+  where
+    by_test : (b : Bool) → Unset.Done ≡ (if b then Unset.Done else Unset.Asked) → b ≡ true
+    by_test true h = refl
+    by_test false h = cc
+
+pub asked_used : (e : Entry) → Unset.Asked ≡ unset_answer e → is_unused e ≡ false
+asked_used e h = by_test (is_unused e) h
+  where
+    by_test : (b : Bool) → Unset.Asked ≡ (if b then Unset.Done else Unset.Asked) → b ≡ false
+    by_test true h = cc
+    by_test false h = refl
