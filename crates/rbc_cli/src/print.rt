@@ -4,7 +4,7 @@ use crate::fault::Fault;
 use rbc_centre::{Outcome, Saying, StepFault, Word};
 use rbc_line::Line;
 use rbc_msgs::encode_track;
-use rbc_world::{Answer, Mark, SectionView, World, WorldEvent};
+use rbc_world::{Answer, LineView, Mark, SectionView, World, WorldEvent};
 use std::alloc::Global;
 use std::io::Write;
 
@@ -97,6 +97,7 @@ fn print_word<W: Write>(out: &mut W, centre: &str, word: &Word) -> Result<(), Fa
         Word::Done(section) => writeln!(out, "{centre} {section} Done")?,
         Word::Asked(section) => writeln!(out, "{centre} {section} Asked")?,
         Word::NotHome(section) => writeln!(out, "{centre} {section} NotHome")?,
+        Word::Told(section) => writeln!(out, "{centre} {section} Told")?,
     }
     Ok(())
 }
@@ -127,10 +128,19 @@ pub fn print_line<W: Write>(
         print_section(out, line, number, section)?;
     }
     for nid_engine in world.trains().iter() {
-        // No centre can supervise a train yet.
-        print_train(out, *nid_engine, None)?;
+        print_train(out, line, *nid_engine, supervisor_of(&view, *nid_engine))?;
     }
     Ok(())
+}
+
+// The centre that supervises a train, if one does.
+fn supervisor_of(view: &LineView, nid_engine: u32) -> Option<u8> {
+    for train in &view.trains {
+        if train.nid_engine == nid_engine {
+            return train.mission.map(|mission| mission.supervisor);
+        }
+    }
+    None
 }
 
 fn print_section<W: Write>(
@@ -153,10 +163,15 @@ fn print_section<W: Write>(
 
 fn print_train<W: Write>(
     out: &mut W,
+    line: &Line,
     nid_engine: u32,
-    supervisor: Option<&str>,
+    supervisor: Option<u8>,
 ) -> Result<(), Fault<'static>> {
-    writeln!(out, "train {nid_engine} {}", supervisor.unwrap_or("none"))?;
+    let name = match supervisor {
+        Some(centre) => name_of(line, centre),
+        None => "none",
+    };
+    writeln!(out, "train {nid_engine} {name}")?;
     Ok(())
 }
 

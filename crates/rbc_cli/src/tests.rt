@@ -1,6 +1,7 @@
 //! `command` on texts in memory.
 
 mod line_file;
+mod missions;
 mod sessions;
 
 use crate::command::command;

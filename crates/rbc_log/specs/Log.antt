@@ -1,6 +1,6 @@
 -- A centre with its log.
 use Rattle.std.specs.Prelude.{◌≡◌, ℕ, ◌≤◌, ◌<◌, List, [], ◌∷◌, ◌++◌, length, map, Ok, Err}
-use Rattle.rbc_spec.specs.Reach.{Sessions}
+use Rattle.rbc_spec.specs.Reach.{Alone}
 use Rattle.rbc_spec.specs.Outcome.{Outcome}
 use Rattle.rbc_spec.specs.Centre.{beginning}
 use Rattle.rbc_spec.specs.Step.{Event, step, ClockEnd as AtClockEnd}
@@ -31,7 +31,7 @@ pub record Appends (old new : LogValue) (event : EventInMemory) (outcome : Outco
   pub room : length old.entries < most_entries
   pub entries : map entry_of new.entries ≡ map entry_of old.entries ++ record { centre = number_of old.core; event = event_of event; outcome = outcome } ∷ []
   pub events : map (λ e. e.event) new.entries ≡ map (λ e. e.event) old.entries ++ event ∷ []
-  pub core : step Sessions (line_of old.core) (number_of old.core) (event_of event) (meaning old.core) ≡ Ok (outcome, meaning new.core)
+  pub core : step Alone (line_of old.core) (number_of old.core) (event_of event) (meaning old.core) ≡ Ok (outcome, meaning new.core)
   pub line : line_of new.core ≡ line_of old.core
   pub number : number_of new.core ≡ number_of old.core
 
@@ -46,5 +46,5 @@ pub record IsUnchanged (old new : LogValue) : Type 0 where
 abbrev pub IsRefusal : LogValue → Event → CommitFault → Type 0
 IsRefusal l event Memory = length l.entries < most_entries
 IsRefusal l event LinkFull = ⊥
-IsRefusal l event ClockEnd = (length l.entries < most_entries) × (step Sessions (line_of l.core) (number_of l.core) event (meaning l.core) ≡ Err AtClockEnd)
+IsRefusal l event ClockEnd = (length l.entries < most_entries) × (step Alone (line_of l.core) (number_of l.core) event (meaning l.core) ≡ Err AtClockEnd)
 IsRefusal l event LogFull = most_entries ≤ length l.entries

@@ -1,10 +1,4 @@
-pub mod Sight
-pub mod Idle
-pub mod Seen
-pub mod Starts
-pub mod Messages
-pub mod Told
-pub mod Pieces
-pub mod Whole
+pub mod Centres
 pub mod Steps
+pub mod Shown
 pub mod Loop

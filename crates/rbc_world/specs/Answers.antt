@@ -1,6 +1,6 @@
 -- What the calls of a world answer, beside their definitions.
 use Rattle.std.specs.Prelude.{◌≡◌, List, Result, Ok, Err}
-use Rattle.rbc_spec.specs.Reach.{Sessions}
+use Rattle.rbc_spec.specs.Reach.{Alone}
 use Rattle.rbc_spec.specs.Line.{Line}
 use Rattle.rbc_spec.specs.World.{Event, new_world, IsRefused}
 use Rattle.rbc_spec.specs.Step.{Refusal, ClockEnd as AtClockEnd}
@@ -22,4 +22,4 @@ Gives view (Err fault) step = IsRefusal fault step
 abbrev pub IsRefusedRun : Line → List Event → StepFault → Type 0
 IsRefusedRun line events Memory = Unit {0}
 IsRefusedRun line events LinkFull = ⊥
-IsRefusedRun line events ClockEnd = IsRefused Sessions line (new_world line) events AtClockEnd
+IsRefusedRun line events ClockEnd = IsRefused Alone line (new_world line) events AtClockEnd

@@ -1,15 +1,18 @@
-ghost use Rattle.std.specs.Prelude.{◌≡◌, ◌<◌, length, slice_get, IfOk, Some, option_map, false};
+ghost use Rattle.std.specs.Prelude.{◌≡◌, ◌<◌, length, slice_get, IfOk, IfSome, Some, option_map, false};
 ghost use Rattle.std.specs.Option.{option_map_or};
 ghost use Rattle.rbc_spec.specs.Centre.{Shut};
-ghost use Rattle.rbc_spec.specs.Line.{section};
-ghost use Rattle.rbc_spec.specs.ReadOff.{read_off, mark_of};
+ghost use Rattle.rbc_spec.specs.Line.{IsLine, section};
+ghost use Rattle.rbc_spec.specs.LineCentre.{IsHand};
+ghost use Rattle.rbc_spec.specs.ReadOff.{read_off};
+ghost use Rattle.rbc_alone.specs.Alone.{mark_alone, alone_off};
 ghost use Rattle.rbc_book.specs.Entries.{entry_of};
+ghost use Rattle.rbc_hand.specs.SectionRuns.{run_of};
 ghost use Rattle.rbc_world.specs.World.{line_of, meaning};
-ghost use Rattle.rbc_world.specs.View.{mark_shown, EachOf, ShowsSection, ShowsSession, ShowsTrain, Shows};
+ghost use Rattle.rbc_world.specs.View.{mark_shown, mission_shown, mission_kept, EachOf, ShowsSection, ShowsSession, ShowsTrain, Shows};
 
 use crate::world::World;
 use rbc_book::{Entry, Page};
-use rbc_centre::Phase;
+use rbc_centre::{Mission, Phase, SectionRun};
 use rbc_line::Line;
 use std::alloc::{AllocError, Global};
 
@@ -27,14 +30,14 @@ pub enum Mark {
 }
 
 impl Mark {
-    /// A section that is in use is kept: no centre has a movement authority yet.
+    /// A section that is in use is in its train's movement authority: no train is handed over to another centre yet.
     fn of(entry: Entry) -> Mark
-        ensures { mark_shown result ≡ mark_of None (entry_of entry) }
+        ensures { mark_shown result ≡ mark_alone (entry_of entry) }
     {
         match entry {
             Entry::Shut => Mark::Shut,
             Entry::Open => Mark::Open,
-            Entry::Taken { nid_engine } | Entry::Out { nid_engine, .. } => Mark::Kept {
+            Entry::Taken { nid_engine } | Entry::Out { nid_engine, .. } => Mark::Given {
                 nid_engine,
             },
         }
@@ -59,12 +62,25 @@ pub struct SessionView {
     pub said: u32,
 }
 
+/// The mission of a train.
+#[derive(Clone, Copy, Debug, PartialEq, Eq)]
+pub struct MissionView {
+    /// The number of the centre that supervises the train.
+    pub supervisor: u8,
+    /// Its last place, its train data, its end, and the request to shorten that stands.
+    pub facts: Mission,
+    /// The sections of its movement authority.
+    pub hand: SectionRun,
+}
+
 /// A train of the line.
 #[derive(Debug, Drop)]
 pub struct TrainView {
     pub nid_engine: u32,
     /// What each centre has of it, by the centre's number.
     pub sessions: Vec<SessionView>,
+    /// Its mission, while a centre supervises it.
+    pub mission: Option<MissionView>,
 }
 
 /// The state of the line, read off its centres.
@@ -88,7 +104,8 @@ impl World {
     }
 
     fn section_views(&self, alloc: Global) -> Result<Vec<SectionView>, AllocError>
-        ensures { IfOk result (λ views. EachOf (λ s p. ShowsSection (read_off (line_of self.now) (meaning self.now)) s p) (length (line_of self.now).sections) views.items) }
+        ensures line { IsLine (line_of self.now) }
+        ensures each { IfOk result (λ views. EachOf (λ s p. ShowsSection (alone_off (line_of self.now) (meaning self.now)) s p) (length (line_of self.now).sections) views.items) }
     {
         let count = self.line.section_count();
         let mut views = Vec::with_capacity(alloc, count as usize)?;
@@ -99,7 +116,7 @@ impl World {
     }
 
     fn section_view(&self, s: u16) -> SectionView
-        ensures { ShowsSection (read_off (line_of self.now) (meaning self.now)) s result }
+        ensures { ShowsSection (alone_off (line_of self.now) (meaning self.now)) s result }
     {
         let page = self.home_page(s);
         SectionView {
@@ -132,7 +149,7 @@ impl World {
     }
 
     fn train_views(&self, alloc: Global) -> Result<Vec<TrainView>, AllocError>
-        ensures { IfOk result (λ views. EachOf (λ i p. ShowsTrain (line_of self.now) (read_off (line_of self.now) (meaning self.now)) i p) (length (line_of self.now).trains) views.items) }
+        ensures { IfOk result (λ views. EachOf (λ i p. ShowsTrain (line_of self.now) (alone_off (line_of self.now) (meaning self.now)) i p) (length (line_of self.now).trains) views.items) }
     {
         let count = self.line.train_count();
         let mut views = Vec::with_capacity(alloc, count as usize)?;
@@ -142,13 +159,14 @@ impl World {
             views.push(TrainView {
                 nid_engine,
                 sessions,
+                mission: self.mission_view(nid_engine),
             })?;
         }
         Ok(views)
     }
 
     fn session_views(&self, alloc: Global, nid_engine: u32) -> Result<Vec<SessionView>, AllocError>
-        ensures { IfOk result (λ views. EachOf (λ c p. ShowsSession (read_off (line_of self.now) (meaning self.now)) nid_engine c p) (length (line_of self.now).centres) views.items) }
+        ensures { IfOk result (λ views. EachOf (λ c p. ShowsSession (alone_off (line_of self.now) (meaning self.now)) nid_engine c p) (length (line_of self.now).centres) views.items) }
     {
         let mut views = Vec::with_capacity(alloc, self.centres.len())?;
         for c in 0..self.centres.len() {
@@ -159,13 +177,43 @@ impl World {
 
     fn session_view(&self, c: usize, nid_engine: u32) -> SessionView
         requires { c < length self.now.centres.items }
-        ensures { ShowsSession (read_off (line_of self.now) (meaning self.now)) nid_engine c result }
+        ensures { ShowsSession (alone_off (line_of self.now) (meaning self.now)) nid_engine c result }
     {
         let state = self.centres[c].train(nid_engine);
         SessionView {
             phase: state.phase,
             heard: state.heard,
             said: state.said,
+        }
+    }
+
+    // The mission of a train, which no centre but its registrar can have.
+    fn mission_view(&self, nid_engine: u32) -> Option<MissionView>
+        ensures mission { option_map mission_shown result ≡ (alone_off (line_of self.now) (meaning self.now)).mission nid_engine }
+        ensures hand { IfSome result (λ m. IsHand (alone_off (line_of self.now) (meaning self.now)) nid_engine (run_of m.hand)) }
+    {
+        match self.line.registrar(nid_engine) {
+            Some(registrar) => self.mission_at(registrar, nid_engine),
+            None => None,
+        }
+    }
+
+    // The mission that centre c has of a train.
+    fn mission_at(&self, c: u8, nid_engine: u32) -> Option<MissionView>
+        ensures mission { option_map mission_kept result ≡ ((meaning self.now).at c).mission nid_engine }
+        ensures supervisor { IfSome result (λ m. m.supervisor ≡ c) }
+    {
+        if c as usize >= self.centres.len() {
+            return None;
+        }
+        let page = self.centres[c as usize].train(nid_engine);
+        match page.mission {
+            Some(facts) => Some(MissionView {
+                supervisor: c,
+                facts,
+                hand: page.hand,
+            }),
+            None => None,
         }
     }
 }

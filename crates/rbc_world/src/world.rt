@@ -1,7 +1,8 @@
 ghost use Rattle.std.specs.Prelude.{◌≡◌, ◌<◌, ◌≤◌, ℕ, true, length, slice_get, IfOk, IfErr, OnErr, Some};
+ghost use Rattle.rbc_spec.specs.Line.{IsLine};
 ghost use Rattle.rbc_spec.specs.World.{new_world, world_step, at_centre, takes, mention, Bytes};
 ghost use Rattle.rbc_spec.specs.Step.{Train};
-ghost use Rattle.rbc_spec.specs.Reach.{Sessions};
+ghost use Rattle.rbc_spec.specs.Reach.{Alone};
 ghost use Rattle.rbc_msgs.specs.StepMessage.{step_message};
 ghost use Rattle.rbc_msgs.specs.TrainReading.{read_train};
 ghost use Rattle.indexmap.specs.IndexSet.{spare};
@@ -65,19 +66,20 @@ impl World {
         ensures line { line_of self.new ≡ line_of self.old }
         // What is answered and left is what the definition of a world's step gives.
         ensures exact { Gives (λ a. (answer_of a, meaning self.new)) result
-            (world_step Sessions (line_of self.old) (meaning self.old) (event_of event.now)) }
+            (world_step Alone (line_of self.old) (meaning self.old) (event_of event.now)) }
         // It is one piece of the one line centre's run, or none.
         ensures piece { IfOk result (λ a. Goes (line_of self.old) (read_off (line_of self.old) (meaning self.old))
             (event_of event.now) (answer_of a) (read_off (line_of self.old) (meaning self.new))) }
         ensures err { OnErr result (meaning self.new ≡ meaning self.old) }
     {
+        known_line(&self.line);
         self.take(event)
     }
 
     fn take(&mut self, event: &WorldEvent) -> Result<Answer, StepFault>
         ensures line { line_of self.new ≡ line_of self.old }
         ensures exact { Gives (λ a. (answer_of a, meaning self.new)) result
-            (world_step Sessions (line_of self.old) (meaning self.old) (event_of event.now)) }
+            (world_step Alone (line_of self.old) (meaning self.old) (event_of event.now)) }
         ensures err { OnErr result (meaning self.new ≡ meaning self.old) }
     {
         match event {
@@ -92,7 +94,7 @@ impl World {
     fn tell(&mut self, c: u8, event: &Event) -> Result<Answer, StepFault>
         ensures line { line_of self.new ≡ line_of self.old }
         ensures exact { Gives (λ a. (answer_of a, meaning self.new)) result
-            (at_centre (line_of self.old) (meaning self.old) c (takes Sessions (line_of self.old) (meaning self.old) c (meaning self.old).trains (one_event event.now))) }
+            (at_centre (line_of self.old) (meaning self.old) c (takes Alone (line_of self.old) (meaning self.old) c (meaning self.old).trains (one_event event.now))) }
         ensures err { OnErr result (meaning self.new ≡ meaning self.old) }
     {
         if c as usize >= self.centres.len() {
@@ -106,7 +108,7 @@ impl World {
     fn receive(&mut self, c: u8, bytes: &[u8]) -> Result<Answer, StepFault>
         ensures line { line_of self.new ≡ line_of self.old }
         ensures exact { Gives (λ a. (answer_of a, meaning self.new)) result
-            (world_step Sessions (line_of self.old) (meaning self.old) (Bytes c (numbered (read_train bytes.now)))) }
+            (world_step Alone (line_of self.old) (meaning self.old) (Bytes c (numbered (read_train bytes.now)))) }
         ensures err { OnErr result (meaning self.new ≡ meaning self.old) }
     {
         if c as usize >= self.centres.len() {
@@ -123,7 +125,7 @@ impl World {
         requires { c < length self.old.centres.items }
         ensures line { line_of self.new ≡ line_of self.old }
         ensures exact { Gives (λ a. (answer_of a, meaning self.new)) result
-            (takes Sessions (line_of self.old) (meaning self.old) c (mention (line_of self.old) message.nid_engine (meaning self.old).trains) (Train (step_message message))) }
+            (takes Alone (line_of self.old) (meaning self.old) c (mention (line_of self.old) message.nid_engine (meaning self.old).trains) (Train (step_message message))) }
         ensures err { OnErr result (meaning self.new ≡ meaning self.old) }
     {
         self.trains.reserve(1)?;
@@ -132,6 +134,13 @@ impl World {
         add_mention(&self.line, &mut self.trains, nid_engine);
         Ok(Answer::Outcome(outcome))
     }
+}
+
+// Every rule of a line holds of each line.
+pub(crate) fn known_line(line: &Line)
+    ensures { IsLine line.now }
+{
+    line.centre_count();
 }
 
 // The centres of the line, in order.

@@ -1,7 +1,7 @@
 use Rattle.std.proofs.Common.{arith}
 use Rattle.std.proofs.lemmas.Grind.{common_steps}
 use Rattle.rbc_world.specs.Meaning.{AtBeginning}
-use Rattle.rbc_world.proofs.Steps.{each_pushed}
+use Rattle.rbc_world.proofs.Centres.{each_pushed}
 use Rattle.rbc_world.proofs.world.centres_of.Goals as goal
 
 pub loop-c-preserved : goal.loop-c-preserved

@@ -7,7 +7,8 @@ use Rattle.rbc_spec.specs.World.{mention}
 use Rattle.rbc_msgs.specs.StepMessage.{step_message}
 use Rattle.rbc_centre.specs.Meaning as one
 use Rattle.rbc_world.specs.Meaning.{stands_for}
-use Rattle.rbc_world.proofs.Steps.{step_ok, step_err, world_kept, each_kept}
+use Rattle.rbc_world.proofs.Centres.{each_kept}
+use Rattle.rbc_world.proofs.Steps.{step_ok, step_err, world_kept}
 use Rattle.rbc_world.proofs.world.World.hear.Goals as goal
 
 pub returns-in_err-outcome-clause-exact : goal.returns-in_err-outcome-clause-exact

@@ -2,7 +2,7 @@ use Rattle.std.proofs.Common.{◌∙◌, sym, false}
 use Rattle.rbc_spec.specs.Line.{section}
 use Rattle.rbc_spec.specs.Centre.{Shut}
 use Rattle.rbc_world.specs.World.{line_of, meaning}
-use Rattle.rbc_world.proofs.Steps.{at_home, at_no_home}
+use Rattle.rbc_world.proofs.Shown.{at_home, at_no_home}
 use Rattle.rbc_world.proofs.world.World.home_page.Goals as goal
 
 pub returns-in-Some-clause-entry : goal.returns-in-Some-clause-entry

@@ -1,6 +1,6 @@
 use Rattle.std.proofs.Common.{◌∙◌, ap, sym, length}
 use Rattle.rbc_spec.specs.Line.{Line}
-use Rattle.rbc_world.proofs.Steps.{new_world_stands}
+use Rattle.rbc_world.proofs.Centres.{new_world_stands}
 use Rattle.rbc_world.proofs.world.World.new.Goals as goal
 
 pub invariant_of-result : goal.invariant_of-result

@@ -1,19 +1,17 @@
 use Rattle.std.proofs.Common.{◌+◌, ◌∙◌, List, ap, sym, map, drop, subst}
 use Rattle.std.proofs.lemmas.Result.{err_from_is_err_and}
-use Rattle.rbc_spec.specs.Reach.{Sessions}
+use Rattle.rbc_spec.specs.Reach.{Alone}
 use Rattle.rbc_spec.specs.Line.{Line}
 use Rattle.rbc_spec.specs.World.{Event, Answer, world_step}
 use Rattle.rbc_world.specs.World.{meaning}
 use Rattle.rbc_world.specs.Views.{event_of, answer_of}
 use Rattle.rbc_world.specs.Answers.{IsRefusal}
-use Rattle.rbc_spec.specs.Run.{Goes}
-use Rattle.rbc_spec.specs.ReadOff.{read_off}
-use Rattle.rbc_world.proofs.Loop.{Reaches, RunsTo, starts, goes_on, run_goes_on, ends_run, stops, at_end, map_drop, map_drop_all, map_push}
-use Rattle.rbc_world.proofs.Steps.{world_idle}
+use Rattle.rbc_pieces.proofs.Loop.{Reaches, goes_on, at_end}
+use Rattle.rbc_world.proofs.Loop.{starts, stops, map_drop, map_drop_all, map_push}
 use Rattle.rbc_world.proofs.world.World.outputs.Goals as goal
 
-pub returns-in_err-step-clause-exact : goal.returns-in_err-step-clause-exact
-returns-in_err-step-clause-exact c =
+pub returns-in_err-step : goal.returns-in_err-step
+returns-in_err-step c =
     let p = err_from_is_err_and c.from_residual-in_err-step.result c.from_residual-in_err-step.ensures.1 in
     let line = c.args.line.now in
     let events = c.args.events.now in
@@ -22,13 +20,14 @@ returns-in_err-step-clause-exact c =
     let so_far = subst (λ (left : List Event). Reaches line (map event_of events) left (map answer_of c.loop-event.answers.items) (meaning c.loop-event.world))
     (map_drop event_of events c.loop-event.event-index item c.loop-event-test.true c.event-item.is) c.loop-event.invariant.reaches
     in
-    let refused = subst (λ (l : Line). IsRefusal c.in_err-step.field-0.0 (world_step Sessions l (meaning c.loop-event.world) (event_of item))) c.loop-event.invariant.line c.in_err-step.ensures.exact in
+    let refused = subst (λ (l : Line). IsRefusal c.in_err-step.field-0.0 (world_step Alone l (meaning c.loop-event.world) (event_of item))) c.loop-event.invariant.line c.in_err-step.ensures.exact in
     rw (p.1, p.2) (stops line (map event_of events) rest _ _ (event_of item) c.in_err-step.field-0.0 so_far refused)
 
 pub loop-event-init : goal.loop-event-init
-loop-event-init c =
-    let s = starts c.args.line.now (map event_of c.args.events.now) _ _ (ap (map answer_of) c.in_ok-answers.ensures.items) c.in_ok-world.ensures.beginning in
-    record { line = c.in_ok-world.ensures.line; reaches = s.reaches; runs = s.runs }
+loop-event-init c = record {
+  line = c.in_ok-world.ensures.line;
+  reaches = starts c.args.line.now (map event_of c.args.events.now) _ _ (ap (map answer_of) c.in_ok-answers.ensures.items) c.in_ok-world.ensures.beginning;
+}
 
 pub loop-event-preserved : goal.loop-event-preserved
 loop-event-preserved c =
@@ -39,28 +38,16 @@ loop-event-preserved c =
     let so_far = subst (λ (left : List Event). Reaches line (map event_of events) left (map answer_of c.loop-event.answers.items) (meaning c.loop-event.world))
     (map_drop event_of events c.loop-event.event-index item c.loop-event-test.true c.event-item.is) c.loop-event.invariant.reaches
     in
-    let done = ap (λ (l : Line). world_step Sessions l (meaning c.loop-event.world) (event_of item)) (sym c.loop-event.invariant.line) ∙ c.in_ok-step.ensures.exact in
+    let done = ap (λ (l : Line). world_step Alone l (meaning c.loop-event.world) (event_of item)) (sym c.loop-event.invariant.line) ∙ c.in_ok-step.ensures.exact in
     let more = goes_on line (map event_of events) rest (map answer_of c.loop-event.answers.items) (meaning c.loop-event.world) (event_of item) (answer_of c.in_ok-step.field-0) (meaning c.step.new.self) so_far done in
-    let runs = subst (λ (left : List Event). RunsTo line (map event_of events) left (map answer_of c.loop-event.answers.items) (meaning c.loop-event.world))
-    (map_drop event_of events c.loop-event.event-index item c.loop-event-test.true c.event-item.is) c.loop-event.invariant.runs
-    in
-    let piece = subst (λ (l : Line). Goes l (read_off l (meaning c.loop-event.world)) (event_of item) (answer_of c.in_ok-step.field-0) (read_off l (meaning c.step.new.self))) c.loop-event.invariant.line c.in_ok-step.ensures.piece in
-    let farther = run_goes_on line (map event_of events) rest (map answer_of c.loop-event.answers.items) (meaning c.loop-event.world) (meaning c.step.new.self) (event_of item) (answer_of c.in_ok-step.field-0) runs piece in
     let answers = sym (ap (map answer_of) c.in_ok-push.ensures.items ∙ map_push answer_of c.loop-event.answers.items c.in_ok-step.field-0) in
     record {
       line = c.in_ok-step.ensures.line ∙ c.loop-event.invariant.line;
-      runs = subst (λ (all : List Answer). RunsTo line (map event_of events) rest all (meaning c.step.new.self)) answers farther;
       reaches = subst (λ (all : List Answer). Reaches line (map event_of events) rest all (meaning c.step.new.self)) answers more;
     }
 
-pub returns-clause-run : goal.returns-clause-run
-returns-clause-run c =
-    ends_run c.args.line.now _ _ _ (world_idle c.loop-event.world.line c.loop-event.world.centres.items c.loop-event.world.trains.keys)
-    (subst (λ (left : List Event). RunsTo c.args.line.now (map event_of c.args.events.now) left (map answer_of c.loop-event.answers.items) (meaning c.loop-event.world))
-    (map_drop_all event_of c.args.events.now c.loop-event.event-index c.loop-event-test.false) c.loop-event.invariant.runs)
-
-pub returns-clause-exact : goal.returns-clause-exact
-returns-clause-exact c =
+pub returns : goal.returns
+returns c =
     at_end c.args.line.now _ _ _
     (subst (λ (left : List Event). Reaches c.args.line.now (map event_of c.args.events.now) left (map answer_of c.loop-event.answers.items) (meaning c.loop-event.world))
     (map_drop_all event_of c.args.events.now c.loop-event.event-index c.loop-event-test.false) c.loop-event.invariant.reaches)

@@ -1,6 +1,6 @@
 use Rattle.std.proofs.Common.{◌≡◌, ◌∙◌, ◌<◌, ◌≤◌, refl, rules, slice_get, Some, length}
 use Rattle.std.proofs.lemmas.Option.{slice_get_read}
-use Rattle.rbc_world.proofs.Steps.{seen_at, shut_past, unwished_past}
+use Rattle.rbc_world.proofs.Shown.{seen_at, shut_past, unwished_past}
 use Rattle.rbc_world.proofs.world.World.page_at.Goals as goal
 
 pub returns-then-c-len-clause-entry : goal.returns-then-c-len-clause-entry

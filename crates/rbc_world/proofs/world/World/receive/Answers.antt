@@ -1,4 +1,4 @@
-use Rattle.std.proofs.Common.{◌<◌, ◌≤◌, refl, sym, rules, length, Result, subst}
+use Rattle.std.proofs.Common.{◌<◌, ◌≤◌, sym, rules, length, Result, subst}
 use Rattle.rbc_spec.specs.World.{World, Answer}
 use Rattle.rbc_spec.specs.Step.{Refusal}
 use Rattle.rbc_world.specs.Views.{answer_of}

@@ -1,8 +1,6 @@
 use Rattle.std.proofs.Common.{◌≡◌, ◌∙◌, ◌<◌, refl, rules, length, slice_get, Some}
-use Rattle.std.proofs.Math.ListN.{length-set}
 use Rattle.std.proofs.lemmas.Option.{slice_get_read}
 use Rattle.std.proofs.lemmas.Result.{err_from_is_err_and}
-use Rattle.rbc_centre.specs.Meaning as one
 use Rattle.rbc_centre.specs.Views.{event_of as one_event}
 use Rattle.rbc_world.specs.Meaning.{stands_for}
 use Rattle.rbc_world.proofs.Steps.{told_within, step_ok, told_err, world_kept}
