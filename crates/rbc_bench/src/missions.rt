@@ -2,7 +2,7 @@
 
 use crate::print::print_answer;
 use crate::script::events_of;
-use anyhow::bail;
+use anyhow::{Context, bail};
 use rbc_centre::Outcome;
 use rbc_line::Line;
 use rbc_msgs::encode_track;
@@ -20,8 +20,10 @@ pub fn print_answers(rt: &HostRuntime, line: &str, script: &str) -> anyhow::Resu
     let mut world = World::new(alloc, &line)?;
     let mut out = BufWriter::new(alloc, io::writer(rt))?;
     for event in &events {
-        let answer = step(&mut world, event)?;
-        print_answer(alloc, &mut out, &answer)?;
+        match world.step(event) {
+            Ok(answer) => print_answer(alloc, &mut out, &answer)?,
+            Err(fault) => bail!("step refused {}", fault.number()),
+        }
     }
     out.flush()?;
     Ok(())
@@ -38,7 +40,7 @@ pub fn measure_steps(rt: &HostRuntime, line: &str, script: &str, turns: u32) -> 
     for _ in 0..turns {
         let mut world = World::new(alloc, &line)?;
         let start = Instant::now(rt)?;
-        bytes = play(alloc, &mut world, &events)?;
+        bytes = play(alloc, &mut world, &events).context("the events were not taken")?;
         nanos = nanos.min(start.elapsed(rt)?.as_nanos());
     }
     println!(rt;
@@ -56,32 +58,29 @@ fn line_in(rt: &HostRuntime, file: &str) -> anyhow::Result<Line> {
     }
 }
 
-// Takes the events one after another: how many bytes of messages were written to trains.
-fn play(alloc: Global, world: &mut World, events: &[WorldEvent]) -> anyhow::Result<usize> {
+// Takes the events one after another: how many bytes of messages were written to trains. None where a step was refused or memory
+// ran out.
+fn play(alloc: Global, world: &mut World, events: &[WorldEvent]) -> Option<usize> {
     let mut bytes = 0usize;
     for event in events {
-        if let Answer::Outcome(outcome) = step(world, event)? {
-            bytes = bytes.saturating_add(written(alloc, &outcome)?);
+        let Ok(answer) = world.step(event) else {
+            return None;
+        };
+        if let Answer::Outcome(outcome) = &answer {
+            bytes = bytes.saturating_add(written(alloc, outcome)?);
         }
     }
-    Ok(bytes)
-}
-
-fn step(world: &mut World, event: &WorldEvent) -> anyhow::Result<Answer> {
-    match world.step(event) {
-        Ok(answer) => Ok(answer),
-        Err(fault) => bail!("step refused {}", fault.number()),
-    }
+    Some(bytes)
 }
 
 // Writes the messages of an outcome: how many bytes they are.
-fn written(alloc: Global, outcome: &Outcome) -> anyhow::Result<usize> {
+fn written(alloc: Global, outcome: &Outcome) -> Option<usize> {
     let mut bytes = 0usize;
     for saying in outcome.sayings.as_slice() {
         let Ok(message) = encode_track(alloc, &saying.message) else {
-            bail!("memory ran out")
+            return None;
         };
         bytes = bytes.saturating_add(message.len());
     }
-    Ok(bytes)
+    Some(bytes)
 }
