@@ -2,6 +2,8 @@
 
 mod line_file;
 mod missions;
+mod one_centre;
+mod one_mission;
 mod sessions;
 
 use crate::command::command;

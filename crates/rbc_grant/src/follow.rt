@@ -5,12 +5,9 @@ ghost use Rattle.rbc_place.specs.Places.{place_of};
 ghost use Rattle.rbc_grant.specs.Grants as grants;
 
 use rbc_book::Book;
-use rbc_hand::SectionRun;
+use rbc_hand::{Hand, SectionRun};
 use rbc_line::Line;
 use rbc_place::{Place, group_start, is_on, section_end};
-
-// The most sections in one train's movement authority.
-const MOST_SECTIONS: u16 = 32;
 
 /// The greatest distance from a balise group at which a movement authority may end, in metres.
 pub(crate) const MOST_METRES: u32 = 32_767;
@@ -20,7 +17,7 @@ pub(crate) fn following(line: &Line, book: &Book, hand: SectionRun, place: &Plac
     ensures value { result ≡ longest (grants.may_follow line.now book.now (place_of place.now)) (behind (run_of hand)) (32 - hand.count) }
     ensures bound { result ≤ 32 - hand.count }
 {
-    let room = MOST_SECTIONS.saturating_sub(hand.count);
+    let room = Hand::ROOM.saturating_sub(hand.count);
     for k in 0..room {
         if !may_follow(line, book, place, hand.behind() + u32::from(k)) {
             return k;

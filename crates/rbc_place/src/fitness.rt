@@ -5,10 +5,8 @@ ghost use Rattle.rbc_place.specs.Places.{place_of};
 use crate::cover::covered;
 use crate::place::Place;
 use crate::sections::track_end;
+use rbc_hand::Hand;
 use rbc_line::Line;
-
-// The most sections in one train's movement authority.
-const MOST_SECTIONS: u16 = 32;
 
 /// Whether a start of mission may be taken at the place: both ends of the train are known and lie on the track, the rear end
 /// behind the front end, and the train covers at most 32 sections.
@@ -20,7 +18,7 @@ pub fn is_fit(line: &Line, place: &Place) -> bool
             0 <= rear
                 && i64::from(rear) < i64::from(place.front)
                 && place.front <= 10 * track_end(line, place.track)
-                && covered(line, place).count <= MOST_SECTIONS
+                && covered(line, place).count <= Hand::ROOM
         }
         None => false,
     }

@@ -9,9 +9,9 @@ ghost use Rattle.rbc_shorten.specs.Missions.{standing_of};
 ghost use Rattle.rbc_shorten.specs.Answers.{on_asked, cut_of, freeing, act_of, IsAnswer};
 
 use crate::mission::Proposal;
-use crate::sections::section_end;
 use rbc_hand::SectionRun;
 use rbc_line::Line;
+use rbc_place::section_end;
 
 /// What an answer cuts off the hand.
 #[derive(Clone, Copy, Debug, PartialEq, Eq)]
@@ -46,7 +46,7 @@ pub fn granted(
 {
     let proposal = asked(proposal, stamp)?;
     match front {
-        Some(front) if front <= 10 * section_end(line, proposal.last_kept) => {
+        Some(front) if front <= 10 * section_end(line, u32::from(proposal.last_kept)) => {
             Ok(Cut::Keep(kept(hand, proposal.last_kept)))
         }
         _ => Ok(Cut::Nothing),

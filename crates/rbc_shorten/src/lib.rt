@@ -6,7 +6,6 @@ mod answer;
 mod laws;
 mod mission;
 mod request;
-mod sections;
 
 pub use answer::{Cut, Unasked, granted, rejected};
 pub use laws::what_is_cut_follows_what_is_kept;

@@ -8,9 +8,9 @@ ghost use Rattle.rbc_shorten.specs.Missions.{IsMission};
 ghost use Rattle.rbc_shorten.specs.Requests.{may_shorten, may_shorten_at, shortening, shortening_at, is_free, is_cut_behind_first};
 
 use crate::mission::{Mission, Shortening};
-use crate::sections::section_start;
 use rbc_hand::SectionRun;
 use rbc_line::Line;
+use rbc_place::section_start;
 
 /// The farthest end that L_ENDSECTION can give, in metres.
 const FARTHEST: u64 = 32_767;

@@ -3,7 +3,7 @@ use Rattle.std.specs.Prelude.{ℕ, ◌+◌, ◌-◌, ◌*◌, ◌==◌, Bool, tr
 use Rattle.std.specs.Option.{option_map_or}
 use Rattle.std.specs.List.{list_all, range_with_len}
 use Rattle.rbc_spec.specs.Maps.{put}
-use Rattle.rbc_spec.specs.Reach.{Reach, starts_missions, crosses_borders}
+use Rattle.rbc_spec.specs.Reach.{Reach, crosses_borders}
 use Rattle.rbc_spec.specs.Runs.{Run, no_run, within, behind, is_empty, part_before, part_from, joined, longest, passing}
 use Rattle.rbc_spec.specs.Line.{Line, is_centre, is_home, end, next_centre, registrar}
 use Rattle.rbc_spec.specs.Sections.{is_on}
@@ -218,6 +218,5 @@ answered reach line c m (EndOfMission position) = end_mission line c m.nid_engin
 answered reach line c m InitiationOfSession =
     (close_session line c m.nid_engine >> set_phase m.nid_engine Opened) >> say m.nid_engine unknown_group SystemVersion
 answered reach line c m TerminationOfSession = close_session line c m.nid_engine >> say m.nid_engine unknown_group TerminationAcknowledged
-answered reach line c m (StartOfMission is_valid position) =
-    if starts_missions reach then start_mission reach line c m.nid_engine is_valid position else reject m.nid_engine
+answered reach line c m (StartOfMission is_valid position) = start_mission reach line c m.nid_engine is_valid position
 answered reach line c m SessionEstablished = set_phase m.nid_engine Up
