@@ -66,7 +66,7 @@ pub struct Outcome {
     /// The messages to trains, in order.
     pub sayings: ArrayVec<Saying, 2>,
     /// The words to the interlocking, in order.
-    pub words: ArrayVec<Word, 64>,
+    pub words: ArrayVec<Word, 32>,
     /// Why a train's message was left without an answer.
     pub silence: Option<Silence>,
 }
@@ -126,7 +126,7 @@ fn one_or_none(saying: Option<Saying>) -> ArrayVec<Saying, 2>
 }
 
 // The words about sections that were wished back and are shut now.
-fn told_words(told: &ArrayVec<u16, 32>) -> ArrayVec<Word, 64>
+fn told_words(told: &ArrayVec<u16, 32>) -> ArrayVec<Word, 32>
     ensures { map word_of result.items ≡ map (λ s. Told s) told.now.items }
 {
     let mut words = ArrayVec::new();
