@@ -6,7 +6,9 @@ use std::str::from_utf8;
 use std::test::Fail;
 
 const SET_1: &str = "> set A 1\nA 1 Done\n";
+
 const SET_2: &str = "> set A 2\nA 2 Done\n";
+
 const SET_3: &str = "> set A 3\nA 3 Done\n";
 
 const UP: &str = "> train A 9B028000000040000040
@@ -53,15 +55,17 @@ fn played(alloc: Global, texts: &[&str], marks: [&str; 8]) -> Result<(Ended, Str
         expected.push_str(&row)?;
     }
     expected.push_str("train 1 A\n")?;
-    let ended = end_of(alloc, &RUN, &[("line.toml", LINE), ("script", script.as_str())]);
+    let ended = end_of(
+        alloc,
+        &RUN,
+        &[("line.toml", LINE), ("script", script.as_str())],
+    );
     Ok((ended, expected))
 }
 
 // The marks of the sections, as told for sections 1 to 3.
 fn marks<'a>(first: &'a str, second: &'a str, third: &'a str) -> [&'a str; 8] {
-    [
-        "shut", first, second, third, "shut", "shut", "shut", "shut",
-    ]
+    ["shut", first, second, third, "shut", "shut", "shut", "shut"]
 }
 
 #[test]
