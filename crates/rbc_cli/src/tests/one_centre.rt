@@ -6,7 +6,7 @@ use std::str::from_utf8;
 use std::test::Fail;
 
 // A line file of so many sections, each so long, all at home at A.
-fn line_of(alloc: Global, count: usize, metres: u16) -> Result<String, Fail> {
+fn line_of(alloc: Global, count: u8, metres: u16) -> Result<String, Fail> {
     let mut text = String::from_str(
         alloc,
         "nid_c = 5
@@ -22,7 +22,7 @@ section = [
 ",
     )?;
     for s in 0..count {
-        let balise = 100 + s;
+        let balise = 100 + u16::from(s);
         let row = format!(in alloc; "{{ length = {metres}, home = \"A\", balise = {balise} }},\n")?;
         text.push_str(&row)?;
     }
@@ -33,12 +33,12 @@ section = [
 /// A case: the line, the first section that is set, the events behind the sets, and the sections given at the end.
 #[derive(Clone, Copy)]
 struct Case<'a> {
-    count: usize,
+    count: u8,
     metres: u16,
-    first_set: usize,
+    first_set: u8,
     events: &'a str,
-    given: (usize, usize),
-    shut: Option<usize>,
+    given: (u8, u8),
+    shut: Option<u8>,
 }
 
 // What the events print that the case shows, and what they have to print.
@@ -70,7 +70,7 @@ fn played(alloc: Global, case: &Case<'_>) -> Result<(Vec<u8>, String), Fail> {
     Ok((ended.out, expected))
 }
 
-fn mark_of(case: &Case<'_>, s: usize) -> &'static str {
+fn mark_of(case: &Case<'_>, s: u8) -> &'static str {
     let (first, last) = case.given;
     if first <= s && s <= last {
         "given 1"
