@@ -84,13 +84,16 @@ fn a_mission_is_viewed(rt: HostRuntime) -> Result<(), Fail> {
         .ok()
         .ok_or("no step is refused")?;
     let view = outputs.world.view(rt.alloc())?;
-    assert_eq!(rt; view.sections[0].mark, Mark::Given { nid_engine: 1 });
-    let mission = view.trains[0].mission.ok_or("train 1 is under way")?;
+    let section = view.sections.first().ok_or("the line has sections")?;
+    assert_eq!(rt; section.mark, Mark::Given { nid_engine: 1 });
+    let train = view.trains.first().ok_or("the line has trains")?;
+    let mission = train.mission.ok_or("train 1 is under way")?;
     assert_eq!(rt; mission.supervisor, 0);
     assert_eq!(rt; mission.hand, SectionRun { first: 0, count: 1 });
     assert_eq!(rt; mission.facts.place.front, 6200);
     assert_eq!(rt; mission.facts.place.rear, Some(3900));
     assert!(rt; !mission.facts.has_data);
-    assert!(rt; view.trains[1].mission.is_none());
+    let other = view.trains.get(1).ok_or("the line has two trains")?;
+    assert!(rt; other.mission.is_none());
     Ok(())
 }
