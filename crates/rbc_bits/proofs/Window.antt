@@ -1,13 +1,14 @@
 -- What a reader has: the bits behind those used, as many as are left to it.
-use Rattle.std.proofs.Common.{◌≡◌, ℕ, ◌+◌, ◌-◌, ◌*◌, ◌/◌, ◌^◌, ◌<◌, ◌≤◌, Bool, false, ltb, List, [], ◌∷◌, ◌++◌, length, take, drop, get_or, Ok, Err, refl, sym, ap, ◌∙◌, append_assoc, arith}
+use Rattle.std.proofs.Common.{◌≡◌, ℕ, zero, suc, ◌+◌, ◌-◌, ◌*◌, ◌/◌, ◌^◌, ◌<◌, ◌≤◌, Bool, false, ltb, List, [], ◌∷◌, ◌++◌, length, take, drop, get_or, Ok, Err, refl, sym, ap, ◌∙◌, append_assoc, arith}
 use Rattle.std.proofs.Math.Nat.{pow-le-pow_right}
 use Rattle.std.proofs.lemmas.Bool.{lt-ltb, le-ltb}
 use Rattle.std.proofs.lemmas.List.{take-append-drop, take_at, drop_at, take-take, drop-take, drop-drop, length-take-le, length-drop, take_more}
-use Rattle.std.proofs.lemmas.Nat.{pow-add}
+use Rattle.std.specs.Int.{w64, from_be_bytes, to_be_bytes}
+use Rattle.std.proofs.lemmas.Nat.{pow-add, be_bytes_8}
 use Rattle.rbc_bits.specs.Bits.{field, bits_of}
 use Rattle.rbc_bits.specs.Reading.{part_at}
 use Rattle.rbc_bits.proofs.Fields.{length-field, field-add, field-append}
-use Rattle.rbc_bits.proofs.Bytes.{bits_of-append, bits_of-single, drop-bits_of}
+use Rattle.rbc_bits.proofs.Bytes.{bits_of-append, bits_of-single, bits_of-bytes_high_first, drop-bits_of}
 
 -- the reader's bits
 abbrev pub window : ℕ → ℕ → List Bool → List Bool
@@ -79,3 +80,18 @@ number-fits i number b fits lt =
 -- below nine bytes there is room for another
 pub number-room : (i number : ℕ) → i < 9 → number < 2 ^ (8 * i) → number < 2 ^ 64
 number-room i number lt fits = omega (arith, pow-le-pow_right {n = 2} (omega arith) {i = 8 * i} {j = 64} (omega arith))
+
+-- ---- eight bytes at once
+
+take-fits : (n : ℕ) (bytes : List ℕ) → ((i : ℕ) → get_or bytes i 0 < 256) → (i : ℕ) → get_or (take n bytes) i 0 < 256
+take-fits zero bytes fit i = omega arith
+take-fits (suc n) [] fit i = omega arith
+take-fits (suc n) (b ∷ bytes) fit zero = fit zero
+take-fits (suc n) (b ∷ bytes) fit (suc i) = take-fits n bytes (λ j. fit (suc j)) i
+
+-- the number of eight bytes has their bits
+pub number-at_once : (bytes : List ℕ) (number : ℕ) → 8 ≤ length bytes → ((i : ℕ) → get_or bytes i 0 < 256)
+    → number ≡ from_be_bytes w64 (take 8 bytes) → bits_of (take 8 bytes) ≡ field 64 number
+number-at_once bytes number le fit e =
+    let spelled : to_be_bytes w64 number ≡ take 8 bytes = be_bytes_8 (take 8 bytes) number (length-take-le 8 bytes le) (take-fits 8 bytes fit) e in
+    ap bits_of (sym spelled) ∙ bits_of-bytes_high_first 8 number

@@ -93,10 +93,26 @@ fn field_from(bytes: &[u8], used: u32, n: u32) -> u64
 {
     let end = used + n;
     let first = (used / 8) as usize;
-    let last = ((end + 7) / 8) as usize;
-    let after = 8 * last as u32 - end;
-    let number = number_of(&bytes[first..last]) >> after;
-    (number & ((1 << n) - 1)) as u64
+    let least = ((end + 7) / 8) as usize - first;
+    let (number, count) = word_of(&bytes[first..], least);
+    let after = 8 * (first + count) as u32 - end;
+    (number >> after & ((1 << n) - 1)) as u64
+}
+
+// The number whose binary digits are the bits of the first bytes, and how many bytes those are: eight at once, where so many are
+// there and suffice.
+fn word_of(bytes: &[u8], least: usize) -> (u128, usize)
+    requires few { least ≤ 9 }
+    requires within { least ≤ length bytes.now }
+    ensures least { least ≤ result.1 }
+    ensures few { result.1 ≤ 9 }
+    ensures within { result.1 ≤ length bytes.now }
+    ensures number { bits_of (take result.1 bytes.now) ≡ field (8 * result.1) result.0 }
+{
+    match bytes.first_chunk::<8>() {
+        Some(word) if least <= 8 => (u128::from(u64::from_be_bytes(*word)), 8),
+        _ => (number_of(&bytes[..least]), least),
+    }
 }
 
 // The number whose binary digits are the bits of the bytes.

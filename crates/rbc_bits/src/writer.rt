@@ -25,15 +25,16 @@ impl Model for BitWriter {
 }
 
 impl BitWriter {
-    /// No bits.
-    pub fn new(alloc: Global) -> Self
-        ensures { result ≡ [] }
+    /// No bits, and memory for so many bytes.
+    pub fn with_capacity(alloc: Global, bytes: usize) -> Result<Self, BitFault>
+        ensures ok { IfOk result (λ w. w ≡ []) }
+        ensures memory { IsOkUnless result BitFault.Memory }
     {
-        BitWriter {
-            bytes: Vec::new(alloc),
+        Ok(BitWriter {
+            bytes: Vec::with_capacity(alloc, bytes)?,
             held: 0,
             count: 0,
-        }
+        })
     }
 
     /// Writes a field of n bits.

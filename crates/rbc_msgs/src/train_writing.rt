@@ -117,7 +117,7 @@ pub(crate) fn header(
     ensures fits { OnOk result ((message.now.t_train < unknown_time) × (message.now.nid_engine < 2 ^ 24)) }
     ensures memory { IsOkUnless result EncodeFault.Memory }
 {
-    let mut writer = BitWriter::new(alloc);
+    let mut writer = BitWriter::with_capacity(alloc, l_message as usize)?;
     writer.put(number_of(message.body()), 8)?;
     writer.put(l_message, 10)?;
     writer.put(message.t_train().into(), 32)?;

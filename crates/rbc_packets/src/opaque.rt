@@ -39,7 +39,7 @@ impl Opaque {
         ensures memory { IsOkUnless result PacketFault.Memory }
     {
         let count = bits.remaining();
-        let mut writer = BitWriter::new(alloc);
+        let mut writer = BitWriter::with_capacity(alloc, ((count + 7) / 8) as usize)?;
         copy(bits, &mut writer)?;
         Ok(Opaque {
             nid_packet,

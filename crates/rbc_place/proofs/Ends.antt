@@ -1,5 +1,5 @@
 -- The end of a track, section by section.
-use Rattle.std.proofs.Common.{◌≡◌, ℕ, zero, suc, ◌+◌, ◌<◌, ◌==◌, inl, inr, Bool, true, false, cond, List, [], ◌∷◌, ◌++◌, length, take, Option, Some, None, refl, ap, sym, ◌∙◌, arith}
+use Rattle.std.proofs.Common.{◌≡◌, ℕ, zero, suc, ◌+◌, ◌<◌, ◌≤◌, ◌==◌, inl, inr, Bool, true, false, cond, List, [], ◌∷◌, ◌++◌, length, take, Option, Some, None, refl, ap, sym, ◌∙◌, arith}
 use Rattle.std.specs.List.{slice_get, sum_by, filter}
 use Rattle.std.specs.Option.{option_map_or}
 use Rattle.std.proofs.lemmas.Bool.{false≢true}
@@ -59,3 +59,11 @@ past_at line track s (Some p) found within off =
 -- and no further by a section of another
 pub ends_before : (line : Line) (track s : ℕ) → s < length line.sections → is_on line track s ≡ false → metres_of track (take s line.sections) ≡ metres_of track (take (s + 1) line.sections)
 ends_before line track s within off = past_at line track s (section line s) refl within off
+
+-- sections that are not on the track add nothing to it
+pub ends_past : (line : Line) (track s k : ℕ) → s + k ≤ length line.sections → ((m : ℕ) → s ≤ m → m < s + k → is_on line track m ≡ false)
+    → metres_of track (take s line.sections) ≡ metres_of track (take (s + k) line.sections)
+ends_past line track s zero within off = let e : s + zero ≡ s = omega arith in rw e refl
+ends_past line track s (suc k) within off =
+    let e : s + suc k ≡ s + k + 1 = omega arith in
+    rw e (ends_past line track s k (omega arith) (λ m low high. off m low (omega arith)) ∙ ends_before line track (s + k) (omega arith) (off (s + k) (omega arith) (omega arith)))

@@ -1,5 +1,5 @@
 -- Sections that pass a test, as a run, one section after another.
-use Rattle.std.proofs.Common.{◌≡◌, ℕ, zero, suc, ◌+◌, ◌==◌, ◌≤◌, Bool, true, false, cond, List, [], ◌∷◌, ◌++◌, length, length-append, refl, ap, sym, ◌∙◌, arith}
+use Rattle.std.proofs.Common.{◌≡◌, ℕ, zero, suc, ◌+◌, ◌==◌, ◌<◌, ◌≤◌, Bool, true, false, cond, List, [], ◌∷◌, ◌++◌, length, length-append, refl, ap, sym, subst, ◌∙◌, arith}
 use Rattle.std.specs.List.{filter, range_with_len}
 use Rattle.std.proofs.lemmas.Bool.Decides.{nat_tests}
 use Rattle.std.proofs.lemmas.List.{append-nil}
@@ -57,3 +57,19 @@ found_same test n r next fails same so_far =
           ∙ sym (ap run_of (one_of test n ∙ ap (λ b. filter test (range_with_len 0 n) ++ cond b (n ∷ []) []) fails ∙ append-nil (filter test (range_with_len 0 n)))),
       omega (arith, so_far.1, first, count),
     )
+
+-- where none of the first so many passes, none is found
+pub none_up_to : (test : ℕ → Bool) (n : ℕ) → ((s : ℕ) → s < n → test s ≡ false) → IsFound test n (record { first = 0; count = 0 })
+none_up_to test zero fail = none_found test
+none_up_to test (suc n) fail =
+    let e : suc n ≡ n + 1 = omega arith in
+    subst (λ m. IsFound test m (record { first = 0; count = 0 })) (sym e)
+    (found_same test n (record { first = 0; count = 0 }) (record { first = 0; count = 0 }) (fail n (omega arith)) refl
+    (none_up_to test n (λ s lt. fail s (omega arith))))
+
+-- where none of those behind passes, what is found stays
+pub found_all : (test : ℕ → Bool) (n k : ℕ) (r : Run) → ((s : ℕ) → n ≤ s → test s ≡ false) → IsFound test n r → IsFound test (n + k) r
+found_all test n zero r fail so_far = let e : n + zero ≡ n = omega arith in rw e so_far
+found_all test n (suc k) r fail so_far =
+    let e : n + suc k ≡ n + k + 1 = omega arith in
+    rw e (found_same test (n + k) r r (fail (n + k) (omega arith)) refl (found_all test n k r fail so_far))

@@ -1,5 +1,7 @@
 -- Places of trains in memory.
-use Rattle.std.specs.Prelude.{ℕ, ◌+◌, ◌*◌, pos, ◌-ℤ◌, option_map, if◌then◌else◌}
+use Rattle.std.specs.Prelude.{ℕ, ◌+◌, ◌*◌, ◌==◌, Bool, true, false, ◌&&◌, ◌||◌, nat_lt, Option, ℤ, pos, ◌-ℤ◌, int_le, option_map, if◌then◌else◌}
+use Rattle.std.specs.Option.{option_map_or}
+use Rattle.rbc_spec.specs.Line.{Line, section, end}
 use Rattle.rbc_spec.specs.Runs.{Run, is_empty}
 use Rattle.rbc_spec.specs.Place as spec
 use Rattle.rbc_place.specs.declared.place.Place.{Place}
@@ -19,3 +21,10 @@ place_from track metres p = record {
 -- the run with one section more behind its last, which is its first where it was empty
 abbrev pub with_last : Run → ℕ → Run
 with_last r s = if is_empty r then record { first = s; count = 1 } else record { first = r.first; count = r.count + 1 }
+
+-- a section is behind: of an earlier track, or of this one and ending at or before the rear end, in decimetres; where that is not
+-- known the whole track is
+abbrev pub is_behind : Line → ℕ → Option ℤ → ℕ → Bool
+is_behind line track rear s =
+    option_map_or (λ p. nat_lt p.track track || ((p.track == track) && option_map_or (λ r. int_le (pos (10 * end line s)) r) rear true))
+    (section line s) false

@@ -5,6 +5,7 @@ ghost use Rattle.rbc_spec.specs.Place as spec;
 ghost use Rattle.rbc_hand.specs.SectionRuns.{run_of};
 ghost use Rattle.rbc_place.specs.Places.{place_of, with_last};
 
+use crate::ahead::first_ahead;
 use crate::place::Place;
 use crate::sections::{is_on, section_end, section_start};
 use rbc_hand::SectionRun;
@@ -33,10 +34,12 @@ pub fn covered(line: &Line, place: &Place) -> SectionRun
     ensures line { IsLine line.now }
 {
     let mut run = SectionRun { first: 0, count: 0 };
-    for s in 0..line.section_count() {
-        if covers(line, place, s) {
-            run = longer(run, s);
+    // What lies behind the rear end is not covered, nor is what follows the first section ahead that is not.
+    for s in first_ahead(line, place.track, place.rear)..line.section_count() {
+        if !covers(line, place, s) {
+            return run;
         }
+        run = longer(run, s);
     }
     run
 }

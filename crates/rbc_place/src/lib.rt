@@ -2,6 +2,7 @@
 //! train's integrity is confirmed, of its safe rear end, and what that says of sections. Nothing here takes memory.
 #![tactic(auto)]
 
+mod ahead;
 mod clearing;
 mod cover;
 mod fitness;

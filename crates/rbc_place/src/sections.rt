@@ -4,6 +4,7 @@ ghost use Rattle.std.specs.Prelude.{◌≡◌, ◌≤◌};
 ghost use Rattle.rbc_spec.specs.Line.{start, end, IsLine};
 ghost use Rattle.rbc_spec.specs.Sections as spec;
 
+use crate::ahead::first_ahead;
 use rbc_line::Line;
 
 /// Where the section starts, in metres from the start of its track; 0 where the line has no such section.
@@ -52,11 +53,10 @@ pub fn track_end(line: &Line, track: u8) -> u32
     ensures value { result ≡ spec.track_end line.now track }
     ensures bound { result ≤ 1024000 }
 {
-    let mut end = 0;
-    for s in 0..u32::from(line.section_count()) {
-        if is_on(line, track, s) {
-            end = section_end(line, s);
-        }
+    let behind = u32::from(first_ahead(line, track, None));
+    if behind > 0 && is_on(line, track, behind - 1) {
+        section_end(line, behind - 1)
+    } else {
+        0
     }
-    end
 }

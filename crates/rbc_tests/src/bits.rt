@@ -3,7 +3,7 @@ use std::test::*;
 
 #[test]
 fn fields_are_written_and_read(rt: HostRuntime) -> Result<(), Fail> {
-    let mut writer = BitWriter::new(rt.alloc());
+    let mut writer = BitWriter::with_capacity(rt.alloc(), 11)?;
     writer.put(155, 8)?;
     writer.put(10, 10)?;
     writer.put(u64::MAX, 64)?;

@@ -1,17 +1,21 @@
-use Rattle.std.proofs.Common.{sym, ap, ◌∙◌}
+use Rattle.std.proofs.Common.{sym, ◌∙◌, arith}
 use Rattle.rbc_spec.specs.Place as spec
 use Rattle.rbc_hand.specs.SectionRuns.{run_of}
 use Rattle.rbc_place.specs.Places.{place_of}
-use Rattle.rbc_place.proofs.Found.{found_more, found_same}
-use Rattle.rbc_place.proofs.cover.covered.Goals.{then-covers, else-covers}
+use Rattle.rbc_place.proofs.CoverRun.{covers_none, covers_no_more}
+use Rattle.rbc_place.proofs.Found.{found_more}
 use Rattle.rbc_place.proofs.cover.covered.Goals as goal
 
+pub loop-s-init : goal.loop-s-init
+loop-s-init c = covers_none c.args.line.now (place_of c.args.place.now) c.first_ahead-s.result c.first_ahead-s.ensures.behind
+
+pub returns-then-not-covers-clause-value : goal.returns-then-not-covers-clause-value
+returns-then-not-covers-clause-value c =
+    covers_no_more c.args.line.now c.first_ahead-s.ensures.line (place_of c.args.place.now) c.loop-s.s (run_of c.loop-s.run)
+    (omega (arith, c.loop-s-test.true, c.section_count-s-end.ensures.value))
+    (c.first_ahead-s.ensures.ahead c.loop-s.s c.loop-s.auto.s) (sym c.covers.ensures ∙ c.if-not-covers.true) c.loop-s.invariant
+
 pub loop-s-preserved : goal.loop-s-preserved
-loop-s-preserved c = elim c.if-covers.branch [
-  | then-covers w ↦
-      found_more (spec.covers c.args.line.now (place_of c.args.place.now)) c.loop-s.s (run_of c.loop-s.run) (run_of c.if-covers.run)
-      (sym c.covers.ensures ∙ w.if-covers.true) (ap run_of w.run-is ∙ w.longer-run.ensures) c.loop-s.invariant
-  | else-covers w ↦
-      found_same (spec.covers c.args.line.now (place_of c.args.place.now)) c.loop-s.s (run_of c.loop-s.run) (run_of c.if-covers.run)
-      (sym c.covers.ensures ∙ w.if-covers.false) (ap run_of w.run-is) c.loop-s.invariant
-]
+loop-s-preserved c =
+    found_more (spec.covers c.args.line.now (place_of c.args.place.now)) c.loop-s.s (run_of c.loop-s.run) (run_of c.longer-run.result)
+    (sym c.covers.ensures ∙ c.if-not-covers.false) c.longer-run.ensures c.loop-s.invariant

@@ -5,7 +5,7 @@ use Rattle.rbc_packets.proofs.opaque.Opaque.new.Goals as goal
 
 -- the bytes are those of the bits
 bytes-are : (c : goal.In_ok-finish) → bits_of c.in_ok-finish.field-0.items ≡ filled c.args.bits
-bytes-are c = c.in_ok-finish.ensures.ok ∙ ap filled (c.in_ok-copy.ensures.ok ∙ ap (λ t. t ++ c.args.bits) c.new-writer.ensures)
+bytes-are c = c.in_ok-finish.ensures.ok ∙ ap filled (c.in_ok-copy.ensures.ok ∙ ap (λ t. t ++ c.args.bits) c.in_ok-writer.ensures.ok)
 
 pub invariant_of-result : goal.invariant_of-result
 invariant_of-result c =

@@ -1,0 +1,151 @@
+-- Sections behind a rear end, and those ahead of it.
+use Rattle.std.proofs.Common.{Bool, ◌⊎◌, inl, inr, ◌≡◌, ℕ, ◌*◌, ◌<◌, ◌≤◌, ◌==◌, ◌&&◌, ◌||◌, true, false, nat_lt, length, slice_get, Option, Some, None, ℤ, pos, negsuc, int_lt, get_or, refl, sym, ap, ◌∙◌, arith, ⊎_elim, le_antisymm, ltb-true, lt-ltb, eqb-true, eq-eqb}
+use Rattle.std.specs.Prelude.{int_le}
+use Rattle.std.specs.Option.{option_map_or}
+use Rattle.std.proofs.lemmas.Option.{slice_get_within, slice_get_past, slice_get_cases}
+use Rattle.std.proofs.lemmas.Bool.{and_parts, and_from, or_left, or_right, both_ways, false_from_ne_true, false≢true, cases_lt, le-leb, leb-true, leb-false, ltb-false}
+use Rattle.rbc_spec.specs.Line.{Line, Section, IsLine, section, end}
+use Rattle.rbc_spec.specs.Sections.{is_on}
+use Rattle.rbc_spec.specs.Place.{Place, covers}
+use Rattle.rbc_place.specs.Places.{is_behind}
+use Rattle.rbc_spec.proofs.Places.{section_on, on_section, starts_rise, ends_rise, covers_parts, covers_from}
+
+-- ---- rear ends
+
+-- an end at or before a rear end
+abbrev ends_by : Option ℤ → ℕ → Bool
+ends_by rear n = option_map_or (λ r. int_le (pos n) r) rear true
+
+-- and one past it
+abbrev ends_past : Option ℤ → ℕ → Bool
+ends_past rear n = option_map_or (λ r. int_lt r (pos n)) rear false
+
+earlier_by : (rear : Option ℤ) (a b : ℕ) → a ≤ b → ends_by rear b ≡ true → ends_by rear a ≡ true
+earlier_by (Some (pos r)) a b le by = le-leb a r (omega (arith, leb-true b r by))
+earlier_by (Some (negsuc r)) a b le by = by
+earlier_by None a b le by = refl
+
+not_both : (rear : Option ℤ) (n : ℕ) → ends_by rear n ≡ true → ends_past rear n ≡ true → ⊥
+not_both (Some (pos r)) n by past = omega (arith, leb-true n r by, ltb-true r n past)
+not_both (Some (negsuc r)) n by past = false≢true by
+not_both None n by past = false≢true past
+
+past_from : (rear : Option ℤ) (n : ℕ) → ends_by rear n ≡ false → ends_past rear n ≡ true
+past_from (Some (pos r)) n off = lt-ltb r n (omega (arith, leb-false n r off))
+past_from (Some (negsuc r)) n off = refl
+past_from None n off = absurd (false≢true (sym off))
+
+-- ---- tests
+
+or_cases : (a b : Bool) → (a || b) ≡ true → (a ≡ true) ⊎ (b ≡ true)
+or_cases true b h = inl refl
+or_cases false b h = inr h
+
+or_fails : (a b : Bool) → (a || b) ≡ false → (a ≡ false) × (b ≡ false)
+or_fails true b h = absurd (false≢true (sym h))
+or_fails false b h = (refl, h)
+
+and_fails : (a b : Bool) → a ≡ true → (a && b) ≡ false → b ≡ false
+and_fails true b is h = h
+and_fails false b is h = absurd (false≢true is)
+
+-- ---- sections
+
+-- what makes a section one that is behind
+abbrev tells : Line → ℕ → Option ℤ → ℕ → Section → Bool
+tells line track rear s p = nat_lt p.track track || ((p.track == track) && ends_by rear (10 * end line s))
+
+some_of : (f : Section → Bool) (o : Option Section) → option_map_or f o false ≡ true → (p : Section) × (o ≡ Some p) × (f p ≡ true)
+some_of f (Some p) h = (p, refl, h)
+some_of f None h = absurd (false≢true h)
+
+-- a number before one of a section is one of a section
+there : (line : Line) (s e : ℕ) (q : Section) → s ≤ e → section line e ≡ Some q → (p : Section) × (section line s ≡ Some p)
+there line s e q le at =
+    let bound : e < length line.sections = slice_get_within line.sections e q at in
+    ⊎_elim
+    (λ (h : (x : Section) × (s < length line.sections) × (slice_get line.sections s ≡ Some x) × (get_or line.sections s x ≡ x)). (h.0, h.2))
+    (λ (h : (length line.sections ≤ s) × (slice_get line.sections s ≡ None)). absurd (omega arith))
+    (slice_get_cases line.sections s).1
+
+-- what comes before a section that is behind is behind
+pub behind_before : (line : Line) → IsLine line → (track : ℕ) (rear : Option ℤ) (s e : ℕ) → s ≤ e → is_behind line track rear e ≡ true → is_behind line track rear s ≡ true
+behind_before line ok track rear s e le h =
+    let q = some_of (tells line track rear e) (section line e) h in
+    let p = there line s e q.0 le q.1 in
+    let order : p.0.track ≤ q.0.track = ok.tracks.in_order s e p.0 q.0 le p.1 q.1 in
+    ap (λ o. option_map_or (tells line track rear s) o false) p.1 ∙ ⊎_elim
+    (λ (earlier : nat_lt q.0.track track ≡ true). or_left _ _ (lt-ltb p.0.track track (omega (arith, ltb-true q.0.track track earlier, order))))
+    (λ (same : ((q.0.track == track) && ends_by rear (10 * end line e)) ≡ true).
+    let both = and_parts (q.0.track == track) (ends_by rear (10 * end line e)) same in
+    let there_on : q.0.track ≡ track = eqb-true q.0.track track both.0 in
+    ⊎_elim
+    (λ (before : p.0.track < track). or_left _ _ (lt-ltb p.0.track track before))
+    (λ (after : track ≤ p.0.track).
+    let here : p.0.track ≡ track = le_antisymm (omega (arith, order, there_on)) after in
+    let rises = ends_rise line track s e (on_section line track s p.0 (record { at = p.1; on = here })) (on_section line track e q.0 (record { at = q.1; on = there_on })) le in
+    or_right _ _ (and_from _ _ (eq-eqb p.0.track track here) (earlier_by rear (10 * end line s) (10 * end line e) (omega (arith, rises)) both.1)))
+    (cases_lt p.0.track track))
+    (or_cases (nat_lt q.0.track track) _ q.2)
+
+-- and what comes behind one that is ahead is ahead
+pub ahead_after : (line : Line) → IsLine line → (track : ℕ) (rear : Option ℤ) (s e : ℕ) → s ≤ e → is_behind line track rear s ≡ false → is_behind line track rear e ≡ false
+ahead_after line ok track rear s e le ahead = false_from_ne_true (is_behind line track rear e)
+    (λ (is : is_behind line track rear e ≡ true). both_ways (is_behind line track rear s) ahead (behind_before line ok track rear s e le is))
+
+-- behind the last section all numbers are
+pub ahead_past : (line : Line) (track : ℕ) (rear : Option ℤ) (s : ℕ) → length line.sections ≤ s → is_behind line track rear s ≡ false
+ahead_past line track rear s past = ap (λ o. option_map_or (tells line track rear s) o false) (slice_get_past line.sections s past)
+
+-- a section that is behind is not covered
+pub behind_not_covered : (line : Line) (place : Place) (s : ℕ) → is_behind line place.track place.rear s ≡ true → covers line place s ≡ false
+behind_not_covered line place s h = false_from_ne_true (covers line place s) (λ (is : covers line place s ≡ true).
+    let c = covers_parts line place s is in
+    let p = section_on line place.track s c.on in
+    let told : tells line place.track place.rear s p.0 ≡ true = sym (ap (λ o. option_map_or (tells line place.track place.rear s) o false) p.1.at) ∙ h in
+    ⊎_elim
+    (λ (earlier : nat_lt p.0.track place.track ≡ true). absurd (omega (arith, ltb-true p.0.track place.track earlier, p.1.on)))
+    (λ (same : ((p.0.track == place.track) && ends_by place.rear (10 * end line s)) ≡ true).
+    not_both place.rear (10 * end line s) (and_parts (p.0.track == place.track) (ends_by place.rear (10 * end line s)) same).1 c.ends)
+    (or_cases (nat_lt p.0.track place.track) _ told))
+
+-- behind one that is ahead and not covered none is covered
+pub ahead_not_covered : (line : Line) → IsLine line → (place : Place) (s e : ℕ) → s ≤ e → is_behind line place.track place.rear s ≡ false → covers line place s ≡ false → covers line place e ≡ false
+ahead_not_covered line ok place s e le ahead off = false_from_ne_true (covers line place e) (λ (is : covers line place e ≡ true).
+    let track = place.track in
+    let c = covers_parts line place e is in
+    let q = section_on line track e c.on in
+    let p = there line s e q.0 le q.1.at in
+    let order : p.0.track ≤ q.0.track = ok.tracks.in_order s e p.0 q.0 le p.1 q.1.at in
+    let told : tells line track place.rear s p.0 ≡ false = sym (ap (λ o. option_map_or (tells line track place.rear s) o false) p.1) ∙ ahead in
+    let fails = or_fails (nat_lt p.0.track track) ((p.0.track == track) && ends_by place.rear (10 * end line s)) told in
+    let here : p.0.track ≡ track = le_antisymm (omega (arith, order, q.1.on)) (ltb-false p.0.track track fails.0) in
+    let on : is_on line track s ≡ true = on_section line track s p.0 (record { at = p.1; on = here }) in
+    let past = past_from place.rear (10 * end line s) (and_fails (p.0.track == track) (ends_by place.rear (10 * end line s)) (eq-eqb p.0.track track here) fails.1) in
+    both_ways (covers line place s) off (covers_from line place s (record {
+      on = on;
+      begins = omega (arith, starts_rise line track s e on c.on le, c.begins);
+      ends = past;
+    })))
+
+-- ---- the end of a track: without a rear end all of it is behind
+
+-- what is ahead is not on the track
+pub ahead_off : (line : Line) (track s : ℕ) → is_behind line track None s ≡ false → is_on line track s ≡ false
+ahead_off line track s ahead = false_from_ne_true (is_on line track s) (λ (on : is_on line track s ≡ true).
+    let p = section_on line track s on in
+    let told : tells line track None s p.0 ≡ false = sym (ap (λ o. option_map_or (tells line track None s) o false) p.1.at) ∙ ahead in
+    let fails = or_fails (nat_lt p.0.track track) ((p.0.track == track) && true) told in
+    false≢true (sym (and_fails (p.0.track == track) true (eq-eqb p.0.track track p.1.on) fails.1)))
+
+-- where the last that is behind is not on the track, none before it is
+pub earlier_off : (line : Line) → IsLine line → (track s e : ℕ) → s ≤ e → is_behind line track None e ≡ true → is_on line track e ≡ false → is_on line track s ≡ false
+earlier_off line ok track s e le behind off = false_from_ne_true (is_on line track s) (λ (on : is_on line track s ≡ true).
+    let q = some_of (tells line track None e) (section line e) behind in
+    let p = section_on line track s on in
+    let order : p.0.track ≤ q.0.track = ok.tracks.in_order s e p.0 q.0 le p.1.at q.1 in
+    ⊎_elim
+    (λ (earlier : nat_lt q.0.track track ≡ true). absurd (omega (arith, ltb-true q.0.track track earlier, order, p.1.on)))
+    (λ (same : ((q.0.track == track) && true) ≡ true).
+    both_ways (is_on line track e) off (on_section line track e q.0 (record { at = q.1; on = eqb-true q.0.track track (and_parts (q.0.track == track) true same).0 })))
+    (or_cases (nat_lt q.0.track track) _ q.2))
