@@ -1,4 +1,4 @@
-ghost use Rattle.std.specs.Prelude.{◌≡◌, ◌+◌, ◌*◌, ◌^◌, ◌<◌, ◌≤◌, ◌++◌, length, take, drop, IfOk, OnErr, MatchResult};
+ghost use Rattle.std.specs.Prelude.{ℕ, ◌≡◌, ◌+◌, ◌*◌, ◌^◌, ◌<◌, ◌≤◌, ◌++◌, length, take, drop, IfOk, OnErr, MatchResult};
 ghost use Rattle.rbc_bits.specs.Bits.{field, bits_of};
 ghost use Rattle.rbc_bits.specs.Reading.{field_at, part_at};
 
@@ -38,6 +38,7 @@ impl<'a> BitReader<'a> {
     }
 
     /// How many bits are left.
+    #[inline(always)]
     pub fn remaining(&self) -> u32
         ensures { result ≡ length self.now }
     {
@@ -45,6 +46,7 @@ impl<'a> BitReader<'a> {
     }
 
     /// Reads the field of the next n bits.
+    #[inline(always)]
     pub fn take(&mut self, n: u32) -> Result<u64, BitFault>
         requires { n ≤ 64 }
         ensures field { IfOk result (λ v. self.old ≡ field n v ++ self.new) }
@@ -60,6 +62,7 @@ impl<'a> BitReader<'a> {
     }
 
     /// Cuts off the next n bits, to be read by themselves.
+    #[inline(always)]
     pub fn cut(&mut self, n: u32) -> Result<BitReader<'a>, BitFault>
         ensures part { IfOk result (λ part. self.old ≡ part ++ self.new) }
         ensures length { IfOk result (λ part. length part ≡ n) }
@@ -83,8 +86,42 @@ impl<'a> BitReader<'a> {
     }
 }
 
-// The field of n bits behind the first `used` bits. It lies in nine bytes at most.
+// The field of n bits behind the first `used` bits: out of eight bytes, where it lies in them.
+#[inline(always)]
 fn field_from(bytes: &[u8], used: u32, n: u32) -> u64
+    requires small { length bytes.now ≤ 2 ^ 28 }
+    requires width { n ≤ 64 }
+    requires within { used + n ≤ 8 * length bytes.now }
+    ensures fits { result < 2 ^ n }
+    ensures field { drop used (bits_of bytes.now) ≡ field n result ++ drop (used + n) (bits_of bytes.now) }
+{
+    let first = first_of_eight(bytes.len(), used);
+    match bytes[first..].first_chunk::<8>() {
+        Some(word) if n > 0 && n <= 57 => {
+            let after = 8 * first as u32 + 64 - (used + n);
+            u64::from_be_bytes(*word) >> after & ((1 << n) - 1)
+        }
+        _ => long_field(bytes, used, n),
+    }
+}
+
+// Where the eight bytes begin that are looked at for a field behind the first `used` bits: at the field's first byte, or sooner
+// where fewer than eight are left.
+#[inline(always)]
+fn first_of_eight(count: usize, used: u32) -> usize
+    requires { used ≤ 8 * count }
+    ensures before { 8 * result ≤ used }
+    ensures within { result ≤ count }
+    ensures near { (n : ℕ) → n ≤ 57 → used + n ≤ 8 * count → result + 8 ≤ count → used + n ≤ 8 * result + 64 }
+{
+    let first = (used / 8) as usize;
+    let last = count.saturating_sub(8);
+    if first < last { first } else { last }
+}
+
+// A field that lies in nine bytes at most.
+#[inline(never)]
+fn long_field(bytes: &[u8], used: u32, n: u32) -> u64
     requires small { length bytes.now ≤ 2 ^ 28 }
     requires width { n ≤ 64 }
     requires within { used + n ≤ 8 * length bytes.now }
@@ -93,26 +130,10 @@ fn field_from(bytes: &[u8], used: u32, n: u32) -> u64
 {
     let end = used + n;
     let first = (used / 8) as usize;
-    let least = ((end + 7) / 8) as usize - first;
-    let (number, count) = word_of(&bytes[first..], least);
-    let after = 8 * (first + count) as u32 - end;
-    (number >> after & ((1 << n) - 1)) as u64
-}
-
-// The number whose binary digits are the bits of the first bytes, and how many bytes those are: eight at once, where so many are
-// there and suffice.
-fn word_of(bytes: &[u8], least: usize) -> (u128, usize)
-    requires few { least ≤ 9 }
-    requires within { least ≤ length bytes.now }
-    ensures least { least ≤ result.1 }
-    ensures few { result.1 ≤ 9 }
-    ensures within { result.1 ≤ length bytes.now }
-    ensures number { bits_of (take result.1 bytes.now) ≡ field (8 * result.1) result.0 }
-{
-    match bytes.first_chunk::<8>() {
-        Some(word) if least <= 8 => (u128::from(u64::from_be_bytes(*word)), 8),
-        _ => (number_of(&bytes[..least]), least),
-    }
+    let last = ((end + 7) / 8) as usize;
+    let after = 8 * last as u32 - end;
+    let number = number_of(&bytes[first..last]) >> after;
+    (number & ((1 << n) - 1)) as u64
 }
 
 // The number whose binary digits are the bits of the bytes.

@@ -1,15 +1,15 @@
-ghost use Rattle.std.specs.Prelude.{◌≡◌, ◌^◌, ◌<◌, ◌≤◌, ◌++◌, [], IfOk, OnOk, OnErr, IsOkUnless};
+ghost use Rattle.std.specs.Prelude.{◌≡◌, ◌+◌, ◌-◌, ◌^◌, ◌<◌, ◌≤◌, ◌++◌, [], IfOk, OnOk, OnErr, IsOkUnless};
 ghost use Rattle.rbc_bits.specs.Bits.{field, bits_of, filled};
 
 use crate::fault::BitFault;
 use std::alloc::Global;
 use std::marker::Model;
 
-/// The bits that were written so far: whole bytes, and fewer than eight bits behind them. A refusal writes nothing.
+/// The bits that were written so far: whole bytes, and fewer than 64 bits behind them. A refusal writes nothing.
 #[derive(Debug, Drop)]
 pub struct BitWriter {
     bytes: Vec<u8>,
-    held: u8,
+    held: u64,
     count: u32,
 }
 
@@ -21,7 +21,7 @@ impl Model for BitWriter {
 
     ghost view = { λ w. bits_of w.bytes.items ++ field w.count w.held };
 
-    ghost invariant = { λ w. (w.count < 8) × (w.held < 2 ^ w.count) };
+    ghost invariant = { λ w. (w.count < 64) × (w.held < 2 ^ w.count) };
 }
 
 impl BitWriter {
@@ -38,6 +38,7 @@ impl BitWriter {
     }
 
     /// Writes a field of n bits.
+    #[inline(always)]
     pub fn put(&mut self, value: u64, n: u32) -> Result<(), BitFault>
         requires width { n ≤ 64 }
         requires fits { value < 2 ^ n }
@@ -46,13 +47,13 @@ impl BitWriter {
         ensures memory { IsOkUnless result BitFault.Memory }
     {
         let count = self.count + n;
-        let after = count % 8;
-        let bits = u128::from(self.held) << n | u128::from(value);
-        let whole = ((bits >> after) as u64).to_be_bytes();
-        self.bytes
-            .extend_from_slice(&whole[8 - (count / 8) as usize..])?;
-        self.held = (bits & ((1 << after) - 1)) as u8;
-        self.count = after;
+        if count < 64 {
+            self.held = self.held << n | value;
+            self.count = count;
+        } else {
+            self.held = push_full(&mut self.bytes, self.held, self.count, value, n)?;
+            self.count = count - 64;
+        }
         Ok(())
     }
 
@@ -67,8 +68,35 @@ impl BitWriter {
             count,
         } = self;
         if count > 0 {
-            bytes.push(held << (8 - count))?;
+            let word = (held << (64 - count)).to_be_bytes();
+            bytes.extend_from_slice(&word[..((count + 7) / 8) as usize])?;
         }
         Ok(bytes)
     }
+}
+
+// A field with which 64 bits are full, behind bits that are held: eight bytes more. What comes out are the bits behind them.
+#[inline(never)]
+fn push_full(
+    bytes: &mut Vec<u8>,
+    held: u64,
+    count: u32,
+    value: u64,
+    n: u32,
+) -> Result<u64, BitFault>
+    requires held { held < 2 ^ count }
+    requires count { count < 64 }
+    requires full { 64 ≤ count + n }
+    requires width { n ≤ 64 }
+    requires fits { value < 2 ^ n }
+    ensures ok { IfOk result (λ left. bits_of bytes.new.items ++ field (count + n - 64) left ≡ (bits_of bytes.old.items ++ field count held) ++ field n value) }
+    ensures left { IfOk result (λ left. left < 2 ^ (count + n - 64)) }
+    ensures err { OnErr result (bytes.new.items ≡ bytes.old.items) }
+    ensures memory { IsOkUnless result BitFault.Memory }
+{
+    let after = count + n - 64;
+    let bits = u128::from(held) << n | u128::from(value);
+    let word = ((bits >> after) as u64).to_be_bytes();
+    bytes.extend_from_slice(&word)?;
+    Ok((bits & ((1 << after) - 1)) as u64)
 }

@@ -11,3 +11,4 @@ mod OneReading
 mod Cuts
 mod NotShort
 mod FirstFault
+mod Start

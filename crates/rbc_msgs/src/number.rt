@@ -22,6 +22,7 @@ pub(crate) enum TrainNumber {
 
 impl TrainNumber {
     #[tactic(auto, unfolding(crate::specs::Numbers::train_of_number))]
+    #[inline(always)]
     pub(crate) fn of(number: u64) -> Result<TrainNumber, MsgFault>
         ensures exact { result ≡ train_of_number number }
         ensures value { IfOk result (λ k. train_number_value k ≡ number) }
@@ -42,6 +43,7 @@ impl TrainNumber {
     }
 
     /// The least L_MESSAGE.
+    #[inline(always)]
     pub(crate) fn least_length(self) -> usize
         ensures { result ≡ least_train_length self }
     {
@@ -67,6 +69,7 @@ pub(crate) enum TrackNumber {
 
 impl TrackNumber {
     #[tactic(auto, unfolding(crate::specs::Numbers::track_of_number))]
+    #[inline(always)]
     pub(crate) fn of(number: u64) -> Result<TrackNumber, MsgFault>
         ensures exact { result ≡ track_of_number number }
         ensures value { IfOk result (λ k. track_number_value k ≡ number) }
@@ -85,6 +88,7 @@ impl TrackNumber {
     }
 
     /// The least L_MESSAGE.
+    #[inline(always)]
     pub(crate) fn least_length(self) -> usize
         ensures { result ≡ least_track_length self }
     {

@@ -16,6 +16,7 @@ const T_TRAIN_UNKNOWN: u32 = 4_294_967_295;
 
 /// NID_MESSAGE and L_MESSAGE.
 #[tactic(auto, unfolding(crate::specs::Reading::start_at))]
+#[inline(always)]
 pub(crate) fn start_of(bytes: &[u8]) -> Result<(u64, usize), MsgFault>
     ensures exact { result ≡ start_at bytes.now }
     ensures taken { IfOk result (λ x. Begins (bits_of (take 3 bytes.now)) (field 8 x.0 ++ field 10 x.1)) }
@@ -25,14 +26,14 @@ pub(crate) fn start_of(bytes: &[u8]) -> Result<(u64, usize), MsgFault>
     if bytes.len() < 3 {
         return Err(MsgFault::Short);
     }
-    let mut reader = BitReader::new(&bytes[..3]);
-    let number = take(&mut reader, 8)?;
-    let l_message = take(&mut reader, 10)? as usize;
-    Ok((number, l_message))
+    // L_MESSAGE lies in the second byte and the two highest bits of the third.
+    let l_message = usize::from(bytes[1]) * 4 + usize::from(bytes[2]) / 64;
+    Ok((u64::from(bytes[0]), l_message))
 }
 
 /// The bits behind L_MESSAGE, of a message of at least so many bytes.
 #[tactic(auto, unfolding(crate::specs::Reading::whole_at))]
+#[inline(always)]
 pub(crate) fn whole(least: usize, l_message: usize, bytes: &[u8]) -> Result<BitReader<'_>, MsgFault>
     requires { l_message < length_limit }
     ensures exact { result ≡ whole_at least l_message bytes.now }
@@ -55,6 +56,7 @@ pub(crate) fn whole(least: usize, l_message: usize, bytes: &[u8]) -> Result<BitR
 
 /// T_TRAIN of a header.
 #[tactic(auto, unfolding(crate::specs::Reading::time_at))]
+#[inline(always)]
 pub(crate) fn take_time(reader: &mut BitReader) -> Result<u32, MsgFault>
     ensures exact { Takes (λ x. x) result reader.new (time_at reader.old) }
     ensures taken { IfOk result (λ t. reader.old ≡ field 32 t ++ reader.new) }
@@ -69,6 +71,7 @@ pub(crate) fn take_time(reader: &mut BitReader) -> Result<u32, MsgFault>
 
 /// A field of n bits that is given one value.
 #[tactic(auto, unfolding(crate::specs::Reading::fixed_at))]
+#[inline(always)]
 pub(crate) fn take_fixed(reader: &mut BitReader, n: u32, value: u64) -> Result<(), MsgFault>
     requires { n ≤ 64 }
     ensures exact { Takes (λ x. x) result reader.new (fixed_at n value reader.old) }
@@ -83,6 +86,7 @@ pub(crate) fn take_fixed(reader: &mut BitReader, n: u32, value: u64) -> Result<(
 
 /// NID_PACKET of a packet that has to stand there.
 #[tactic(auto, unfolding(crate::specs::Reading::required_at))]
+#[inline(always)]
 pub(crate) fn required(reader: &mut BitReader, nid_packet: u64) -> Result<(), MsgFault>
     ensures exact { Takes (λ x. x) result reader.new (required_at nid_packet reader.old) }
     ensures taken { OnOk result (reader.old ≡ field 8 nid_packet ++ reader.new) }
@@ -94,6 +98,7 @@ pub(crate) fn required(reader: &mut BitReader, nid_packet: u64) -> Result<(), Ms
 }
 
 /// NID_PACKET of a packet that has to stand there, whichever it is.
+#[inline(always)]
 pub(crate) fn take_number(reader: &mut BitReader) -> Result<u64, MsgFault>
     ensures exact { Takes (λ x. x) result reader.new (field_at MsgFault.Missing 8 reader.old) }
     ensures taken { IfOk result (λ v. reader.old ≡ field 8 v ++ reader.new) }
@@ -107,6 +112,7 @@ pub(crate) fn take_number(reader: &mut BitReader) -> Result<u64, MsgFault>
 
 /// What stands behind the last field: the filling bits, and the fault `more` where they are 8 or more.
 #[tactic(auto, unfolding(crate::specs::Reading::end_at))]
+#[inline(always)]
 pub(crate) fn end(mut reader: BitReader, more: MsgFault) -> Result<(), MsgFault>
     ensures exact { result ≡ end_at more reader.entry }
     ensures filling { OnOk result (IsFilling reader.entry) }
@@ -122,6 +128,7 @@ pub(crate) fn end(mut reader: BitReader, more: MsgFault) -> Result<(), MsgFault>
 }
 
 /// A field of n bits.
+#[inline(always)]
 pub(crate) fn take(reader: &mut BitReader, n: u32) -> Result<u64, MsgFault>
     requires { n ≤ 64 }
     ensures exact { Takes (λ x. x) result reader.new (field_at MsgFault.Short n reader.old) }

@@ -18,6 +18,7 @@ use std::alloc::Global;
 const HEADER_BITS: u64 = 75;
 
 /// L_MESSAGE: how many bytes the message has.
+#[inline(always)]
 pub(crate) fn length_of(body: TrackBody) -> u64
     ensures value { result ≡ track_length (track_body body) }
     ensures limit { result < length_limit }
@@ -35,6 +36,7 @@ pub(crate) fn length_of(body: TrackBody) -> u64
 }
 
 /// NID_MESSAGE.
+#[inline(always)]
 pub(crate) fn number_of(body: TrackBody) -> u64
     ensures value { result ≡ track_number (track_body body) }
     ensures range { result < 2 ^ 8 }
@@ -54,6 +56,7 @@ pub(crate) fn number_of(body: TrackBody) -> u64
 
 /// The header of a message of this NID_MESSAGE and L_MESSAGE.
 #[tactic(auto, unfolding(rbc_packets::specs::Layout::joined))]
+#[inline(always)]
 pub(crate) fn header(
     alloc: Global,
     number: u64,

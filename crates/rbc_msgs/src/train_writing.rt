@@ -107,6 +107,7 @@ fn number_of(body: &TrainBody) -> u64
 
 /// The header.
 #[tactic(auto, unfolding(rbc_packets::specs::Layout::joined))]
+#[inline(always)]
 pub(crate) fn header(
     alloc: Global,
     l_message: u64,

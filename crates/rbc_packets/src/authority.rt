@@ -25,6 +25,7 @@ impl Authority {
     pub const L_PACKET: u64 = 66;
 
     /// Reads the packet behind its NID_PACKET.
+    #[inline(always)]
     pub fn read_packet(reader: &mut BitReader) -> Result<Self, PacketFault>
         // What is read is spelled so.
         ensures found { IfOk result (λ a. (reader.old ≡ joined (track_packet (authority_fields a)) ++ reader.new) × AuthorityFits a) }
@@ -37,6 +38,7 @@ impl Authority {
     }
 
     #[tactic(auto, unfolding(crate::specs::TrackReading::authority_at))]
+    #[inline(always)]
     fn read(reader: &mut BitReader) -> Result<Self, PacketFault>
         ensures exact { Takes (λ x. x) result reader.new (authority_at reader.old) }
         ensures taken { IfOk result (λ a. reader.old ≡ joined (track_packet (authority_fields a)) ++ reader.new) }
@@ -49,6 +51,7 @@ impl Authority {
     }
 
     #[tactic(auto, unfolding(crate::specs::TrackReading::authority_fields_at, crate::specs::Layout::joined))]
+    #[inline(always)]
     fn fields(part: &mut BitReader) -> Result<Self, PacketFault>
         ensures exact { Takes (λ x. x) result part.new (authority_fields_at part.old) }
         ensures taken { IfOk result (λ a. part.old ≡ joined (authority_fields a) ++ part.new) }
@@ -62,6 +65,7 @@ impl Authority {
 
     /// Writes the packet. A refusal leaves nothing of the writer.
     #[tactic(auto, unfolding(crate::specs::Layout::joined))]
+    #[inline(always)]
     pub fn write_packet(&self, mut writer: BitWriter) -> Result<BitWriter, PacketFault>
         ensures ok { IfOk result (λ w. w ≡ writer ++ joined ((8, 15) ∷ track_packet (authority_fields self.now))) }
         ensures fits { OnOk result (AuthorityFits self.now) }
@@ -77,6 +81,7 @@ impl Authority {
 
 // Q_SCALE (1 m), END_SPEED (0), END_TIME (1 023, no limit) and N_ITER (0): one section.
 #[tactic(auto, unfolding(crate::specs::TrackReading::sections_at, crate::specs::Layout::joined))]
+#[inline(always)]
 fn take_sections(part: &mut BitReader) -> Result<(), PacketFault>
     ensures exact { Takes (λ x. x) result part.new (sections_at part.old) }
     ensures taken { OnOk result (part.old ≡ joined ((2, 1) ∷ (7, 0) ∷ (10, 1023) ∷ (5, 0) ∷ []) ++ part.new) }
@@ -89,6 +94,7 @@ fn take_sections(part: &mut BitReader) -> Result<(), PacketFault>
 
 // Q_SECTIONTIMER, Q_ENDTIMER, Q_DANGERPOINT and Q_OVERLAP: none.
 #[tactic(auto, unfolding(crate::specs::TrackReading::no_more_at, crate::specs::Layout::joined))]
+#[inline(always)]
 fn take_no_more(part: &mut BitReader) -> Result<(), PacketFault>
     ensures exact { Takes (λ x. x) result part.new (no_more_at part.old) }
     ensures taken { OnOk result (part.old ≡ joined ((1, 0) ∷ (1, 0) ∷ (1, 0) ∷ (1, 0) ∷ []) ++ part.new) }
@@ -100,6 +106,7 @@ fn take_no_more(part: &mut BitReader) -> Result<(), PacketFault>
 }
 
 #[tactic(auto, unfolding(crate::specs::Layout::joined))]
+#[inline(always)]
 fn put_sections(writer: &mut BitWriter) -> Result<(), PacketFault>
     ensures ok { OnOk result (writer.new ≡ writer.old ++ joined ((2, 1) ∷ (7, 0) ∷ (10, 1023) ∷ (5, 0) ∷ [])) }
     ensures memory { IsOkUnless result PacketFault.Memory }
@@ -112,6 +119,7 @@ fn put_sections(writer: &mut BitWriter) -> Result<(), PacketFault>
 }
 
 #[tactic(auto, unfolding(crate::specs::Layout::joined))]
+#[inline(always)]
 fn put_no_more(writer: &mut BitWriter) -> Result<(), PacketFault>
     ensures ok { OnOk result (writer.new ≡ writer.old ++ joined ((1, 0) ∷ (1, 0) ∷ (1, 0) ∷ (1, 0) ∷ [])) }
     ensures memory { IsOkUnless result PacketFault.Memory }

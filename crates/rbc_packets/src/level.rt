@@ -32,6 +32,7 @@ pub enum Level {
 
 impl Level {
     #[tactic(auto, unfolding(crate::specs::PositionReading::level_at, crate::specs::Layout::joined))]
+    #[inline(always)]
     pub(crate) fn read(part: &mut BitReader) -> Result<Self, PacketFault>
         ensures exact { Takes (λ x. x) result part.new (level_at part.old) }
         ensures taken { IfOk result (λ l. part.old ≡ joined (level_fields l) ++ part.new) }
@@ -53,6 +54,7 @@ impl Level {
     }
 
     #[tactic(auto, unfolding(crate::specs::Layout::joined))]
+    #[inline(always)]
     pub(crate) fn write(&self, writer: &mut BitWriter) -> Result<(), PacketFault>
         ensures ok { OnOk result (writer.new ≡ writer.old ++ joined (level_fields self.now)) }
         ensures fits { OnOk result (LevelFits self.now) }
@@ -75,6 +77,7 @@ impl Level {
     }
 
     /// How many bits its fields have.
+    #[inline(always)]
     pub(crate) fn bits(&self) -> u64
         ensures { result ≡ widths (level_fields self.now) }
     {

@@ -30,6 +30,7 @@ pub struct Location {
 
 impl Location {
     #[tactic(auto, unfolding(crate::specs::PositionReading::location_at, crate::specs::Layout::joined))]
+    #[inline(always)]
     pub(crate) fn read(part: &mut BitReader) -> Result<Self, PacketFault>
         ensures exact { Takes (λ x. x) result part.new (location_at part.old) }
         ensures taken { IfOk result (λ l. part.old ≡ joined (location_fields l) ++ part.new) }
@@ -54,6 +55,7 @@ impl Location {
     }
 
     #[tactic(auto, unfolding(crate::specs::Layout::joined))]
+    #[inline(always)]
     pub(crate) fn write(&self, writer: &mut BitWriter) -> Result<(), PacketFault>
         ensures ok { OnOk result (writer.new ≡ writer.old ++ joined (location_fields self.now)) }
         ensures fits { OnOk result (LocationFits self.now) }

@@ -38,6 +38,7 @@ impl Position {
     pub const NID_PACKET: u64 = 0;
 
     /// Reads the packet behind its NID_PACKET.
+    #[inline(always)]
     pub fn read_packet(reader: &mut BitReader) -> Result<Self, PacketFault>
         // What is read is spelled so.
         ensures found { IfOk result (λ p. (reader.old ≡ joined (train_packet (position_fields p)) ++ reader.new) × PositionFits p) }
@@ -50,6 +51,7 @@ impl Position {
     }
 
     #[tactic(auto, unfolding(crate::specs::PositionReading::position_at))]
+    #[inline(always)]
     fn read(reader: &mut BitReader) -> Result<Self, PacketFault>
         ensures exact { Takes (λ x. x) result reader.new (position_at reader.old) }
         ensures taken { IfOk result (λ p. reader.old ≡ joined (train_packet (position_fields p)) ++ reader.new) }
@@ -62,6 +64,7 @@ impl Position {
     }
 
     #[tactic(auto, unfolding(crate::specs::PositionReading::position_fields_at, crate::specs::Layout::joined))]
+    #[inline(always)]
     fn fields(part: &mut BitReader) -> Result<Self, PacketFault>
         ensures exact { Takes (λ x. x) result part.new (position_fields_at part.old) }
         ensures taken { IfOk result (λ p. part.old ≡ joined (position_fields p) ++ part.new) }
@@ -84,6 +87,7 @@ impl Position {
     }
 
     /// Writes the packet. A refusal leaves nothing of the writer.
+    #[inline(always)]
     pub fn write_packet(&self, mut writer: BitWriter) -> Result<BitWriter, PacketFault>
         ensures ok { IfOk result (λ w. w ≡ writer ++ joined ((8, 0) ∷ train_packet (position_fields self.now))) }
         ensures fits { OnOk result (PositionFits self.now) }
@@ -98,6 +102,7 @@ impl Position {
     }
 
     /// L_PACKET: how many bits the packet has.
+    #[inline(always)]
     pub fn l_packet(&self) -> u64
         ensures value { result ≡ 21 + widths (position_fields self.now) }
         ensures range { result ≤ 137 }
@@ -106,6 +111,7 @@ impl Position {
     }
 
     #[tactic(auto, unfolding(crate::specs::Layout::joined))]
+    #[inline(always)]
     fn write_running(&self, writer: &mut BitWriter) -> Result<(), PacketFault>
         ensures ok { OnOk result (writer.new ≡ writer.old ++ joined (running_fields self.now)) }
         ensures fits { OnOk result (RunningFits self.now) }

@@ -25,6 +25,7 @@ pub(crate) const NO_RADIO: u64 = 18_446_744_073_709_551_615;
 
 /// The bits of a train's packet behind its header.
 #[tactic(auto, unfolding(crate::specs::Reading::train_part_at))]
+#[inline(always)]
 pub(crate) fn train_part<'a>(reader: &mut BitReader<'a>) -> Result<BitReader<'a>, PacketFault>
     ensures exact { Takes (λ x. x) result reader.new (train_part_at reader.old) }
     ensures taken { IfOk result (λ part. reader.old ≡ field 13 (21 + length part) ++ (part ++ reader.new)) }
@@ -39,6 +40,7 @@ pub(crate) fn train_part<'a>(reader: &mut BitReader<'a>) -> Result<BitReader<'a>
 
 /// The bits of a packet of a centre behind its header. Q_DIR is nominal.
 #[tactic(auto, unfolding(crate::specs::Reading::track_part_at))]
+#[inline(always)]
 pub(crate) fn track_part<'a>(reader: &mut BitReader<'a>) -> Result<BitReader<'a>, PacketFault>
     ensures exact { Takes (λ x. x) result reader.new (track_part_at reader.old) }
     ensures taken { IfOk result (λ part. reader.old ≡ field 2 1 ++ (field 13 (23 + length part) ++ (part ++ reader.new))) }
@@ -57,6 +59,7 @@ pub(crate) fn track_part<'a>(reader: &mut BitReader<'a>) -> Result<BitReader<'a>
 
 /// Behind the last field of a packet nothing may stand.
 #[tactic(auto, unfolding(crate::specs::Reading::none_left))]
+#[inline(always)]
 pub(crate) fn end(part: BitReader) -> Result<(), PacketFault>
     ensures exact { result ≡ none_left part.entry }
     ensures none { OnOk result (part.entry ≡ []) }
@@ -69,6 +72,7 @@ pub(crate) fn end(part: BitReader) -> Result<(), PacketFault>
 
 /// A field of n bits that is given one value.
 #[tactic(auto, unfolding(crate::specs::Reading::fixed_at))]
+#[inline(always)]
 pub(crate) fn take_fixed(part: &mut BitReader, n: u32, value: u64) -> Result<(), PacketFault>
     requires { n ≤ 64 }
     ensures exact { Takes (λ x. x) result part.new (fixed_at n value part.old) }
@@ -83,6 +87,7 @@ pub(crate) fn take_fixed(part: &mut BitReader, n: u32, value: u64) -> Result<(),
 
 /// Q_SCALE.
 #[tactic(auto, unfolding(crate::specs::Reading::q_scale_at))]
+#[inline(always)]
 pub(crate) fn q_scale(part: &mut BitReader) -> Result<QScale, PacketFault>
     ensures exact { Takes (λ x. x) result part.new (q_scale_at part.old) }
     ensures taken { IfOk result (λ v. part.old ≡ field 2 (q_scale_value v) ++ part.new) }
@@ -95,6 +100,7 @@ pub(crate) fn q_scale(part: &mut BitReader) -> Result<QScale, PacketFault>
 
 /// Q_DIRLRBG, Q_DLRBG or Q_DIRTRAIN.
 #[tactic(auto, unfolding(crate::specs::Reading::direction_at))]
+#[inline(always)]
 pub(crate) fn direction(part: &mut BitReader) -> Result<Direction, PacketFault>
     ensures exact { Takes (λ x. x) result part.new (direction_at part.old) }
     ensures taken { IfOk result (λ v. part.old ≡ field 2 (direction_value v) ++ part.new) }
@@ -107,6 +113,7 @@ pub(crate) fn direction(part: &mut BitReader) -> Result<Direction, PacketFault>
 
 /// Q_LENGTH.
 #[tactic(auto, unfolding(crate::specs::Reading::q_length_at))]
+#[inline(always)]
 pub(crate) fn q_length(part: &mut BitReader) -> Result<QLength, PacketFault>
     ensures exact { Takes (λ x. x) result part.new (q_length_at part.old) }
     ensures taken { IfOk result (λ v. part.old ≡ field 2 (q_length_value v) ++ part.new) }
@@ -119,6 +126,7 @@ pub(crate) fn q_length(part: &mut BitReader) -> Result<QLength, PacketFault>
 
 /// M_LEVEL.
 #[tactic(auto, unfolding(crate::specs::Reading::m_level_at))]
+#[inline(always)]
 pub(crate) fn m_level(part: &mut BitReader) -> Result<MLevel, PacketFault>
     ensures exact { Takes (λ x. x) result part.new (m_level_at part.old) }
     ensures taken { IfOk result (λ v. part.old ≡ field 3 (m_level_value v) ++ part.new) }
@@ -131,6 +139,7 @@ pub(crate) fn m_level(part: &mut BitReader) -> Result<MLevel, PacketFault>
 
 /// NID_RADIO, without a number, and Q_SLEEPSESSION, which is not asked for.
 #[tactic(auto, unfolding(crate::specs::TrackReading::radio_at, crate::specs::Layout::joined))]
+#[inline(always)]
 pub(crate) fn take_radio(part: &mut BitReader) -> Result<(), PacketFault>
     ensures exact { Takes (λ x. x) result part.new (radio_at part.old) }
     ensures taken { OnOk result (part.old ≡ joined ((64, no_radio) ∷ (1, 0) ∷ []) ++ part.new) }
@@ -140,6 +149,7 @@ pub(crate) fn take_radio(part: &mut BitReader) -> Result<(), PacketFault>
 }
 
 /// A field of n bits, which has to lie whole within L_PACKET.
+#[inline(always)]
 pub(crate) fn take(part: &mut BitReader, n: u32) -> Result<u64, PacketFault>
     requires { n ≤ 64 }
     ensures exact { Takes (λ x. x) result part.new (field_at PacketFault.Length n part.old) }
@@ -153,6 +163,7 @@ pub(crate) fn take(part: &mut BitReader, n: u32) -> Result<u64, PacketFault>
 }
 
 // A field of a header, which has to lie whole within the message.
+#[inline(always)]
 fn take_header(reader: &mut BitReader, n: u32) -> Result<u64, PacketFault>
     requires { n ≤ 64 }
     ensures exact { Takes (λ x. x) result reader.new (field_at PacketFault.Short n reader.old) }
@@ -166,6 +177,7 @@ fn take_header(reader: &mut BitReader, n: u32) -> Result<u64, PacketFault>
 }
 
 // The next n bits, which have to lie whole within the message.
+#[inline(always)]
 fn cut<'a>(reader: &mut BitReader<'a>, n: u32) -> Result<BitReader<'a>, PacketFault>
     ensures exact { Takes (λ x. x) result reader.new (part_at PacketFault.Short n reader.old) }
     ensures taken { IfOk result (λ part. reader.old ≡ part ++ reader.new) }

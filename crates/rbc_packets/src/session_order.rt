@@ -27,6 +27,7 @@ impl SessionOrder {
     pub const L_PACKET: u64 = 113;
 
     /// Reads the packet behind its NID_PACKET.
+    #[inline(always)]
     pub fn read_packet(reader: &mut BitReader) -> Result<Self, PacketFault>
         // What is read is spelled so.
         ensures found { IfOk result (λ s. (reader.old ≡ joined (track_packet (session_order_fields s)) ++ reader.new) × SessionOrderFits s) }
@@ -39,6 +40,7 @@ impl SessionOrder {
     }
 
     #[tactic(auto, unfolding(crate::specs::TrackReading::session_order_at))]
+    #[inline(always)]
     fn read(reader: &mut BitReader) -> Result<Self, PacketFault>
         ensures exact { Takes (λ x. x) result reader.new (session_order_at reader.old) }
         ensures taken { IfOk result (λ s. reader.old ≡ joined (track_packet (session_order_fields s)) ++ reader.new) }
@@ -51,6 +53,7 @@ impl SessionOrder {
     }
 
     #[tactic(auto, unfolding(crate::specs::TrackReading::session_order_fields_at, crate::specs::Layout::joined))]
+    #[inline(always)]
     fn fields(part: &mut BitReader) -> Result<Self, PacketFault>
         ensures exact { Takes (λ x. x) result part.new (session_order_fields_at part.old) }
         ensures taken { IfOk result (λ s. part.old ≡ joined (session_order_fields s) ++ part.new) }
@@ -65,6 +68,7 @@ impl SessionOrder {
 
     /// Writes the packet. A refusal leaves nothing of the writer.
     #[tactic(auto, unfolding(crate::specs::Layout::joined))]
+    #[inline(always)]
     pub fn write_packet(&self, mut writer: BitWriter) -> Result<BitWriter, PacketFault>
         ensures ok { IfOk result (λ w. w ≡ writer ++ joined ((8, 42) ∷ track_packet (session_order_fields self.now))) }
         ensures fits { OnOk result (SessionOrderFits self.now) }

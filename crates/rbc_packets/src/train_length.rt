@@ -24,6 +24,7 @@ pub enum TrainLength {
 
 impl TrainLength {
     #[tactic(auto, unfolding(crate::specs::PositionReading::train_length_at, crate::specs::Layout::joined))]
+    #[inline(always)]
     pub(crate) fn read(part: &mut BitReader) -> Result<Self, PacketFault>
         ensures exact { Takes (λ x. x) result part.new (train_length_at part.old) }
         ensures taken { IfOk result (λ l. part.old ≡ joined (train_length_fields l) ++ part.new) }
@@ -44,6 +45,7 @@ impl TrainLength {
     }
 
     #[tactic(auto, unfolding(crate::specs::Layout::joined))]
+    #[inline(always)]
     pub(crate) fn write(&self, writer: &mut BitWriter) -> Result<(), PacketFault>
         ensures ok { OnOk result (writer.new ≡ writer.old ++ joined (train_length_fields self.now)) }
         ensures fits { OnOk result (TrainLengthFits self.now) }
@@ -65,6 +67,7 @@ impl TrainLength {
     }
 
     /// How many bits its fields have.
+    #[inline(always)]
     pub(crate) fn bits(&self) -> u64
         ensures { result ≡ widths (train_length_fields self.now) }
     {

@@ -29,6 +29,7 @@ impl Transition {
     pub const L_PACKET: u64 = 129;
 
     /// Reads the packet behind its NID_PACKET.
+    #[inline(always)]
     pub fn read_packet(reader: &mut BitReader) -> Result<Self, PacketFault>
         // What is read is spelled so.
         ensures found { IfOk result (λ t. (reader.old ≡ joined (track_packet (transition_fields t)) ++ reader.new) × TransitionFits t) }
@@ -41,6 +42,7 @@ impl Transition {
     }
 
     #[tactic(auto, unfolding(crate::specs::TrackReading::transition_at))]
+    #[inline(always)]
     fn read(reader: &mut BitReader) -> Result<Self, PacketFault>
         ensures exact { Takes (λ x. x) result reader.new (transition_at reader.old) }
         ensures taken { IfOk result (λ t. reader.old ≡ joined (track_packet (transition_fields t)) ++ reader.new) }
@@ -53,6 +55,7 @@ impl Transition {
     }
 
     #[tactic(auto, unfolding(crate::specs::TrackReading::transition_fields_at, crate::specs::Layout::joined))]
+    #[inline(always)]
     fn fields(part: &mut BitReader) -> Result<Self, PacketFault>
         ensures exact { Takes (λ x. x) result part.new (transition_fields_at part.old) }
         ensures taken { IfOk result (λ t. part.old ≡ joined (transition_fields t) ++ part.new) }
@@ -72,6 +75,7 @@ impl Transition {
 
     /// Writes the packet. A refusal leaves nothing of the writer.
     #[tactic(auto, unfolding(crate::specs::Layout::joined))]
+    #[inline(always)]
     pub fn write_packet(&self, mut writer: BitWriter) -> Result<BitWriter, PacketFault>
         ensures ok { IfOk result (λ w. w ≡ writer ++ joined ((8, 131) ∷ track_packet (transition_fields self.now))) }
         ensures fits { OnOk result (TransitionFits self.now) }

@@ -10,6 +10,7 @@ use rbc_bits::BitWriter;
 
 /// NID_PACKET and L_PACKET of a train's packet.
 #[tactic(auto, unfolding(crate::specs::Layout::joined))]
+#[inline(always)]
 pub(crate) fn put_train_header(
     writer: &mut BitWriter,
     nid_packet: u64,
@@ -27,6 +28,7 @@ pub(crate) fn put_train_header(
 
 /// NID_PACKET, Q_DIR (nominal) and L_PACKET of a packet of a centre.
 #[tactic(auto, unfolding(crate::specs::Layout::joined))]
+#[inline(always)]
 pub(crate) fn put_track_header(
     writer: &mut BitWriter,
     nid_packet: u64,
@@ -45,6 +47,7 @@ pub(crate) fn put_track_header(
 
 /// NID_RADIO, without a number, and Q_SLEEPSESSION, which is not asked for.
 #[tactic(auto, unfolding(crate::specs::Layout::joined))]
+#[inline(always)]
 pub(crate) fn put_radio(writer: &mut BitWriter) -> Result<(), PacketFault>
     ensures ok { OnOk result (writer.new ≡ writer.old ++ joined ((64, no_radio) ∷ (1, 0) ∷ [])) }
     ensures memory { IsOkUnless result PacketFault.Memory }

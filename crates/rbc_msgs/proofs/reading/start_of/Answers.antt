@@ -1,10 +1,17 @@
-use Rattle.std.proofs.Common.{◌∙◌, ◌++◌, ap, sym, append_assoc}
-use Rattle.rbc_bits.specs.Bits.{field}
+use Rattle.std.proofs.Common.{◌≡◌, ◌+◌, ◌*◌, ◌/◌, ◌<◌, ◌++◌, length, take, get_or, sym, ◌∙◌, append_assoc, arith}
+use Rattle.rbc_bits.specs.Bits.{field, bits_of}
+use Rattle.rbc_msgs.proofs.Start.{start_fields, start_read}
 use Rattle.rbc_msgs.proofs.reading.start_of.Goals as goal
+use Rattle.rbc_msgs.proofs.reading.start_of.Goals.{After-from-3}
+
+fields : (c : After-from-3) → bits_of (take 3 c.args.bytes.now) ≡ field 8 c.from-3.result ++ (field 10 (c.from.result * 4 + c.from-2.result / 64) ++ field 6 c.from-2.result)
+fields c =
+    rw (c.from-3.ensures, c.from.ensures, c.from-2.ensures) (start_fields c.args.bytes.now (omega (arith, c.if-bytes-lt3.false)) (λ i. omega (arith, c.type_inv.bytes i)))
+
+pub returns-clause-exact : goal.returns-clause-exact
+returns-clause-exact c =
+    start_read c.args.bytes.now c.from-3.result (c.from.result * 4 + c.from-2.result / 64) (field 6 c.from-2.result) (omega (arith, c.if-bytes-lt3.false))
+    (omega (arith, c.from-3.ensures, c.type_inv.bytes 0)) (omega (arith, c.from.ensures, c.from-2.ensures, c.type_inv.bytes 1, c.type_inv.bytes 2)) (fields c)
 
 pub returns-clause-taken : goal.returns-clause-taken
-returns-clause-taken c =
-    let number = field 8 c.in_ok-number.number in
-    let l_message = field 10 c.in_ok-l_message.l_message in
-    let rest = c.take-2.new.reader in
-    (rest, sym c.new-reader.ensures ∙ c.in_ok-number.ensures.taken ∙ ap (λ t. number ++ t) c.in_ok-l_message.ensures.taken ∙ sym (append_assoc number l_message rest))
+returns-clause-taken c = (field 6 c.from-2.result, fields c ∙ sym (append_assoc (field 8 c.from-3.result) (field 10 (c.from.result * 4 + c.from-2.result / 64)) (field 6 c.from-2.result)))
