@@ -28,7 +28,7 @@ fn print_outcome<W: Write>(alloc: Global, out: &mut W, outcome: &Outcome) -> any
         let digits = hex::encode_upper(alloc, &bytes)?;
         writeln!(out, "-> {} {digits}", saying.nid_engine)?;
     }
-    for word in outcome.words.as_slice() {
+    for word in outcome.words().as_slice() {
         print_word(out, word)?;
     }
     if let Some(why) = outcome.silence {

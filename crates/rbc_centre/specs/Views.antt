@@ -1,5 +1,5 @@
 -- What the types of a step stand for.
-use Rattle.std.specs.Prelude.{ℕ, List, [], ◌∷◌, Option, Some, None, Result, Ok, Err, map, option_map}
+use Rattle.std.specs.Prelude.{ℕ, List, [], ◌∷◌, ◌++◌, Option, Some, None, Result, Ok, Err, map, option_map}
 use Rattle.rbc_spec.specs.Outcome.{Saying, Outcome, Reason}
 use Rattle.rbc_spec.specs.Outcome as spec
 use Rattle.rbc_spec.specs.Step as step
@@ -35,13 +35,18 @@ word_of (word.Asked s) = spec.Asked s
 word_of (word.NotHome s) = spec.NotHome s
 word_of (word.Told s) = spec.Told s
 
+-- one word or none
+abbrev pub words_of : Option Word → List spec.Word
+words_of (Some w) = word_of w ∷ []
+words_of None = []
+
 -- no step has frames yet
 abbrev pub outcome_of : OutcomeCode → Outcome
 outcome_of o = record {
   stamp = o.stamp;
   sayings = map saying_of o.sayings.items;
   frames = λ d. [];
-  words = map word_of o.words.items;
+  words = words_of o.word ++ map (λ s. spec.Told s) o.told;
   link = None;
   silence = option_map reason_of o.silence;
 }

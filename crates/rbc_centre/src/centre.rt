@@ -7,6 +7,7 @@ ghost use Rattle.rbc_alone.specs.Alone.{IsOrdered, IsAloneAt};
 ghost use Rattle.rbc_book.specs.Book.{is_own};
 ghost use Rattle.rbc_book.specs.Entries.{entry_of};
 ghost use Rattle.rbc_rules.specs.Desks.{mission_by};
+ghost use Rattle.rbc_msgs.specs.StepMessage.{step_message};
 ghost use Rattle.rbc_session.specs.Standing.{phase_of};
 ghost use Rattle.rbc_centre.specs.Answer.{Steps};
 ghost use Rattle.rbc_centre.specs.Standings.{Stands};
@@ -20,6 +21,7 @@ use crate::outcome::Outcome;
 use crate::train::{TrainPage, TrainState};
 use rbc_book::{Book, Page};
 use rbc_line::Line;
+use rbc_msgs::TrainMsg;
 use rbc_right::Registrar;
 use rbc_session::Sessions;
 use std::alloc::{AllocError, Global};
@@ -140,6 +142,21 @@ impl Centre {
             Event::Train(message) => self.take(message),
             Event::Set(s) => Ok(self.set(*s)),
             Event::Unset(s) => Ok(self.unset(*s)),
+        }
+    }
+
+    /// Takes a train's message: the step of that event.
+    pub fn hear(&mut self, message: &TrainMsg) -> Result<Outcome, StepFault>
+        ensures line { line_of self.new ≡ line_of self.old }
+        ensures number { number_of self.new ≡ number_of self.old }
+        ensures exact { Steps (λ o. (outcome_of o, meaning self.new)) result
+            (spec.step reach.Alone (line_of self.old) (number_of self.old) (spec.Train (step_message message.now)) (meaning self.old)) }
+        ensures err { OnErr result (meaning self.new ≡ meaning self.old) }
+    {
+        if self.clock < LAST_STAMP {
+            self.take(message)
+        } else {
+            Err(StepFault::ClockEnd)
         }
     }
 }

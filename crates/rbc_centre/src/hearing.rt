@@ -110,6 +110,6 @@ impl Centre {
         );
         let told = carry_out(act, &mut train.course, &mut self.book, &mut self.registrar);
         let saying = train.say(nid_engine, Answer::of(act, message.t_train()));
-        Outcome::said(self.clock, saying, &told)
+        Outcome::said(self.clock, saying, told)
     }
 }

@@ -19,7 +19,7 @@ pub use event::Event;
 pub use fault::StepFault;
 pub use outcome::{Outcome, Saying, Word};
 pub use rbc_hand::SectionRun;
-pub use rbc_mission::Mission;
+pub use rbc_mission::{Mission, Told};
 pub use rbc_rules::Silence;
 pub use rbc_session::Phase;
 pub use train::TrainPage;

@@ -1,9 +1,10 @@
 ghost use Rattle.std.specs.Prelude.{◌≡◌, ◌<◌, ◌≤◌, [], ◌∷◌, Some, None, map, length};
-ghost use Rattle.rbc_spec.specs.Outcome.{Told};
+ghost use Rattle.rbc_spec.specs.Outcome as spec;
 ghost use Rattle.rbc_msgs.specs.Bodies.{track_body};
 ghost use Rattle.rbc_centre.specs.Views.{saying_of, sayings_of, word_of};
 
 use arrayvec::ArrayVec;
+use rbc_mission::Told;
 use rbc_msgs::{NID_LRBG_UNKNOWN, TrackBody, TrackMsg};
 use rbc_rules::Silence;
 
@@ -65,8 +66,10 @@ pub struct Outcome {
     pub stamp: u32,
     /// The messages to trains, in order.
     pub sayings: ArrayVec<Saying, 2>,
-    /// The words to the interlocking, in order.
-    pub words: ArrayVec<Word, 32>,
+    /// What the interlocking is answered.
+    pub word: Option<Word>,
+    /// The sections that were wished back and are shut now, of which the interlocking is told behind that.
+    pub told: Told,
     /// Why a train's message was left without an answer.
     pub silence: Option<Silence>,
 }
@@ -82,19 +85,21 @@ impl Outcome {
         Outcome {
             stamp,
             sayings: ArrayVec::new(),
-            words: ArrayVec::new(),
+            word: None,
+            told: Told::nothing(),
             silence: Some(why),
         }
     }
 
     /// A step that answers a train with one message or none, and tells the interlocking of these sections that they are shut.
-    pub(crate) fn said(stamp: u32, saying: Option<Saying>, told: &ArrayVec<u16, 32>) -> Outcome
-        ensures { outcome_of result ≡ record { stamp = stamp; sayings = sayings_of saying; frames = λ d. []; words = map (λ s. Told s) told.now.items; link = None; silence = None } }
+    pub(crate) fn said(stamp: u32, saying: Option<Saying>, told: Told) -> Outcome
+        ensures { outcome_of result ≡ record { stamp = stamp; sayings = sayings_of saying; frames = λ d. []; words = map (λ s. spec.Told s) told; link = None; silence = None } }
     {
         Outcome {
             stamp,
             sayings: one_or_none(saying),
-            words: told_words(told),
+            word: None,
+            told,
             silence: None,
         }
     }
@@ -103,14 +108,28 @@ impl Outcome {
     pub(crate) fn told(stamp: u32, word: Word, saying: Option<Saying>) -> Outcome
         ensures { outcome_of result ≡ record { stamp = stamp; sayings = sayings_of saying; frames = λ d. []; words = word_of word ∷ []; link = None; silence = None } }
     {
-        let mut words = ArrayVec::new();
-        words.push(word);
         Outcome {
             stamp,
             sayings: one_or_none(saying),
-            words,
+            word: Some(word),
+            told: Told::nothing(),
             silence: None,
         }
+    }
+
+    /// The words to the interlocking, in order.
+    pub fn words(&self) -> ArrayVec<Word, 33>
+        ensures { map word_of result.items ≡ (outcome_of self.now).words }
+    {
+        let mut words = ArrayVec::new();
+        if let Some(word) = self.word {
+            words.push(word);
+        }
+        let told = self.told.sections();
+        for s in told.as_slice() {
+            words.push(Word::Told(*s));
+        }
+        words
     }
 }
 
@@ -123,15 +142,4 @@ fn one_or_none(saying: Option<Saying>) -> ArrayVec<Saying, 2>
         sayings.push(saying);
     }
     sayings
-}
-
-// The words about sections that were wished back and are shut now.
-fn told_words(told: &ArrayVec<u16, 32>) -> ArrayVec<Word, 32>
-    ensures { map word_of result.items ≡ map (λ s. Told s) told.now.items }
-{
-    let mut words = ArrayVec::new();
-    for s in told.as_slice() {
-        words.push(Word::Told(*s));
-    }
-    words
 }

@@ -60,7 +60,7 @@ impl Outcome {
     {
         self.stamp == other.stamp
             && same_sayings(self.sayings.as_slice(), other.sayings.as_slice())
-            && same_words(self.words.as_slice(), other.words.as_slice())
+            && same_words(self.words().as_slice(), other.words().as_slice())
             && self.silence == other.silence
     }
 
@@ -72,14 +72,11 @@ impl Outcome {
         let Ok(()) = sayings.try_extend_from_slice(self.sayings.as_slice()) else {
             unreachable!()
         };
-        let mut words = ArrayVec::new();
-        let Ok(()) = words.try_extend_from_slice(self.words.as_slice()) else {
-            unreachable!()
-        };
         Outcome {
             stamp: self.stamp,
             sayings,
-            words,
+            word: self.word,
+            told: self.told.copied(),
             silence: self.silence,
         }
     }

@@ -76,7 +76,7 @@ fn print_outcome<W: Write>(
     for saying in outcome.sayings.as_slice() {
         print_saying(alloc, out, centre, saying)?;
     }
-    for word in outcome.words.as_slice() {
+    for word in outcome.words().as_slice() {
         print_word(out, centre, word)?;
     }
     match outcome.silence {
@@ -89,7 +89,7 @@ fn print_outcome<W: Write>(
 
 // Whether a step has nothing to say to a train or to the interlocking.
 fn says_nothing(outcome: &Outcome) -> bool {
-    outcome.sayings.is_empty() && outcome.words.is_empty()
+    outcome.sayings.is_empty() && outcome.words().is_empty()
 }
 
 fn print_word<W: Write>(out: &mut W, centre: &str, word: &Word) -> Result<(), Fault<'static>> {

@@ -1,4 +1,5 @@
 pub mod Runs
+pub mod Marks
 pub mod Courses
 pub mod Deeds
 pub mod Silences

@@ -1,5 +1,5 @@
 -- Sections that are taken into use for a train, and given back.
-use Rattle.std.proofs.Common.{◌≡◌, ℕ, zero, suc, ◌+◌, ◌-◌, ◌<◌, ◌≤◌, ◌==◌, ◌&&◌, ◌||◌, inl, inr, Bool, true, false, cond, not, List, [], ◌∷◌, ◌++◌, length, nat_lt, refl, ap, sym, ◌∙◌, arith}
+use Rattle.std.proofs.Common.{◌≡◌, ℕ, zero, suc, ◌+◌, ◌-◌, ◌*◌, ◌<◌, ◌≤◌, ◌==◌, ◌&&◌, ◌||◌, inl, inr, Bool, true, false, cond, eqb, not, List, [], ◌∷◌, ◌++◌, length, nat_lt, refl, ap, sym, ◌∙◌, arith}
 use Rattle.std.specs.List.{filter, range_with_len}
 use Rattle.std.proofs.lemmas.List.Elements.{filter-append}
 use Rattle.std.proofs.lemmas.List.{append-nil}
@@ -13,7 +13,9 @@ use Rattle.rbc_book.specs.declared.claim.Claim.{Claim}
 use Rattle.rbc_hand.specs.declared.token.Token.{Token}
 use Rattle.rbc_hand.specs.declared.token.Token.TheVariants as code
 use Rattle.rbc_hand.specs.Hands.{Holding, run, one, takes, run_without_front, run_without_back, IsAllOwn}
+use Rattle.rbc_mission.specs.Marks.{marked}
 use Rattle.rbc_mission.specs.Sections.{TakesRun, FreesRun, wished}
+use Rattle.rbc_mission.proofs.Marks.{marked-more}
 
 -- ## Runs
 
@@ -304,10 +306,11 @@ wished_more t first n s book is =
     ap (filter (λ j. is_taken_for t (entry_at book j) && wish_at book j)) (more_in_range first n ∙ ap (λ x. range_with_len first n ++ x ∷ []) (sym is))
     ∙ filter-append (λ j. is_taken_for t (entry_at book j) && wish_at book j) (range_with_len first n) (s ∷ [])
 
--- it was to be told of
-pub told_more : (t first n s : ℕ) (book : Pages) (old new : List ℕ) → s ≡ first + n → (is_taken_for t (entry_at book s) && wish_at book s) ≡ true → old ≡ wished t (record { first = first; count = n }) book → new ≡ old ++ s ∷ [] → new ≡ wished t (record { first = first; count = n + 1 }) book
-told_more t first n s book old new is test so_far push = push ∙ ap (λ xs. xs ++ s ∷ []) so_far ∙ sym (wished_more t first n s book is ∙ ap (λ x. wished t (record { first = first; count = n }) book ++ cond x (s ∷ []) []) test)
-
--- or not
-pub told_same : (t first n s : ℕ) (book : Pages) (old new : List ℕ) → s ≡ first + n → (is_taken_for t (entry_at book s) && wish_at book s) ≡ false → old ≡ wished t (record { first = first; count = n }) book → new ≡ old → new ≡ wished t (record { first = first; count = n + 1 }) book
-told_same t first n s book old new is test so_far same = same ∙ so_far ∙ sym (wished_more t first n s book is ∙ ap (λ x. wished t (record { first = first; count = n }) book ++ cond x (s ∷ []) []) test ∙ append-nil (wished t (record { first = first; count = n }) book))
+-- one section more is marked, or not
+pub marks_more : (t first n marks mark : ℕ) (book : Pages) (b : Bool) → mark < 2 → eqb mark 1 ≡ b → (is_taken_for t (entry_at book (first + n)) && wish_at book (first + n)) ≡ b
+    → marked first n marks ≡ wished t (record { first = first; count = n }) book → marked first (n + 1) (marks * 2 + mark) ≡ wished t (record { first = first; count = n + 1 }) book
+marks_more t first n marks mark book b lt e test so_far =
+    let s = first + n in
+    let before = wished t (record { first = first; count = n }) book in
+    marked-more first n marks mark lt ∙ ap (λ x. marked first n marks ++ cond x (s ∷ []) []) e ∙ ap (λ xs. xs ++ cond b (s ∷ []) []) so_far
+    ∙ sym (wished_more t first n s book refl ∙ ap (λ x. before ++ cond x (s ∷ []) []) test)

@@ -1,4 +1,5 @@
 pub mod Deeds
+pub mod Marks
 pub mod Sections
 pub mod Courses
 pub mod Changes

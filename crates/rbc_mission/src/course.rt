@@ -10,7 +10,7 @@ ghost use Rattle.rbc_shorten.specs.Missions.{proposal_of};
 use crate::held::{self, HeldRight};
 use crate::mission::Mission;
 use crate::sections;
-use arrayvec::ArrayVec;
+use crate::told::Told;
 use rbc_book::Book;
 use rbc_hand::{Hand, SectionRun};
 use rbc_place::Place;
@@ -206,7 +206,7 @@ impl Course {
         count: u16,
         book: &mut Book,
         registrar: &mut Registrar,
-    ) -> ArrayVec<u16, 32>
+    ) -> Told
         requires some { (m : spec.Mission) → self.old.mission ≡ Some m → count ≤ m.hand.count }
         requires number { self.old.number < length registrar.old }
         ensures course { self.new ≡ after (Clear (place_of place) count) self.old }
@@ -214,12 +214,12 @@ impl Course {
         ensures book { (line : Line) (c : ℕ) → IsBookOf line c book.old
             → IsBooked line c (Clear (place_of place) count) self.old book.old book.new }
         ensures told { (line : Line) (c : ℕ) → IsBookOf line c book.old
-            → IsTold line c (Clear (place_of place) count) self.old book.old result.items }
+            → IsTold line c (Clear (place_of place) count) self.old book.old result }
         ensures right { IsReturned (Clear (place_of place) count) self.old registrar.old registrar.new }
         ensures rights { length registrar.new ≡ length registrar.old }
     {
         let Some(mission) = self.mission else {
-            return ArrayVec::new();
+            return Told::nothing();
         };
         let told = sections::clear(&mut self.hand, count, self.nid_engine, book);
         let is_left = !self.hand.is_empty();
@@ -231,23 +231,18 @@ impl Course {
     /// All but so many of the first sections are given back (3.8.6): those that were wished back, of which the interlocking is
     /// to be told, in rising order. No request to shorten stands. Where no section is left the mission closes, and the right
     /// goes home.
-    pub fn cut(
-        &mut self,
-        keep: u16,
-        book: &mut Book,
-        registrar: &mut Registrar,
-    ) -> ArrayVec<u16, 32>
+    pub fn cut(&mut self, keep: u16, book: &mut Book, registrar: &mut Registrar) -> Told
         requires some { (m : spec.Mission) → self.old.mission ≡ Some m → keep ≤ m.hand.count }
         requires number { self.old.number < length registrar.old }
         ensures course { self.new ≡ after (Cut keep) self.old }
         ensures homes { (s : ℕ) → is_own book.new s ≡ is_own book.old s }
         ensures book { (line : Line) (c : ℕ) → IsBookOf line c book.old → IsBooked line c (Cut keep) self.old book.old book.new }
-        ensures told { (line : Line) (c : ℕ) → IsBookOf line c book.old → IsTold line c (Cut keep) self.old book.old result.items }
+        ensures told { (line : Line) (c : ℕ) → IsBookOf line c book.old → IsTold line c (Cut keep) self.old book.old result }
         ensures right { IsReturned (Cut keep) self.old registrar.old registrar.new }
         ensures rights { length registrar.new ≡ length registrar.old }
     {
         let Some(mission) = self.mission else {
-            return ArrayVec::new();
+            return Told::nothing();
         };
         let told = sections::cut(&mut self.hand, keep, self.nid_engine, book);
         let is_left = !self.hand.is_empty();

@@ -7,6 +7,8 @@ mod course;
 mod held;
 mod mission;
 mod sections;
+mod told;
 
 pub use course::Course;
 pub use mission::Mission;
+pub use told::Told;

@@ -7,7 +7,7 @@ ghost use Rattle.rbc_hand.specs.Tokens.{Own, token_of};
 ghost use Rattle.rbc_hand.specs.Hands.{run, one, takes, run_without_front, run_without_back, IsAllOwn};
 ghost use Rattle.rbc_mission.specs.Sections.{TakesRun, FreesRun, wished};
 
-use arrayvec::ArrayVec;
+use crate::told::Told;
 use rbc_book::Book;
 use rbc_hand::{Hand, SectionRun, Token};
 
@@ -118,33 +118,30 @@ fn is_wished(s: u16, nid_engine: u32, book: &Book) -> bool
 }
 
 /// Those of these sections that are in use for the train and wished back, in rising order.
-pub(crate) fn wished(sections: SectionRun, nid_engine: u32, book: &Book) -> ArrayVec<u16, 32>
+pub(crate) fn wished(sections: SectionRun, nid_engine: u32, book: &Book) -> Told
     requires room { sections.count ≤ 32 }
     requires numbers { sections.first + sections.count ≤ 65535 }
-    ensures { result.items ≡ wished nid_engine (run_of sections) book.now }
+    ensures { result ≡ wished nid_engine (run_of sections) book.now }
 {
-    let mut told = ArrayVec::new();
+    let mut marks = 0;
     for k in 0..sections.count {
-        let s = sections.first + k;
-        if is_wished(s, nid_engine, book) {
-            told.push(s);
-        }
+        let mark = if is_wished(sections.first + k, nid_engine, book) {
+            1
+        } else {
+            0
+        };
+        marks = marks * 2 + mark;
     }
-    told
+    Told::of(sections.first, sections.count, marks)
 }
 
 /// Gives so many of the first sections of the hand back: those that were wished back, in rising order.
-pub(crate) fn clear(
-    hand: &mut Hand,
-    count: u16,
-    nid_engine: u32,
-    book: &mut Book,
-) -> ArrayVec<u16, 32>
+pub(crate) fn clear(hand: &mut Hand, count: u16, nid_engine: u32, book: &mut Book) -> Told
     requires own { IsAllOwn nid_engine hand.old }
     requires some { count ≤ length hand.old.holds }
     requires most { length hand.old.holds ≤ 32 }
     requires numbers { hand.old.first + length hand.old.holds ≤ 65535 }
-    ensures told { result.items ≡ wished nid_engine (record { first = hand.old.first; count = count }) book.old }
+    ensures told { result ≡ wished nid_engine (record { first = hand.old.first; count = count }) book.old }
     ensures run { run hand.new ≡ record { first = hand.old.first + count; count = length hand.old.holds - count } }
     ensures own { IsAllOwn nid_engine hand.new }
     ensures book { FreesRun nid_engine (record { first = hand.old.first; count = count }) book.old book.new }
@@ -156,12 +153,12 @@ pub(crate) fn clear(
 }
 
 /// Gives all but so many of the first sections of the hand back: those that were wished back, in rising order.
-pub(crate) fn cut(hand: &mut Hand, keep: u16, nid_engine: u32, book: &mut Book) -> ArrayVec<u16, 32>
+pub(crate) fn cut(hand: &mut Hand, keep: u16, nid_engine: u32, book: &mut Book) -> Told
     requires own { IsAllOwn nid_engine hand.old }
     requires some { keep ≤ length hand.old.holds }
     requires most { length hand.old.holds ≤ 32 }
     requires numbers { hand.old.first + length hand.old.holds ≤ 65535 }
-    ensures told { result.items ≡ wished nid_engine (record { first = hand.old.first + keep; count = length hand.old.holds - keep }) book.old }
+    ensures told { result ≡ wished nid_engine (record { first = hand.old.first + keep; count = length hand.old.holds - keep }) book.old }
     ensures run { run hand.new ≡ record { first = hand.old.first; count = keep } }
     ensures own { IsAllOwn nid_engine hand.new }
     ensures book { FreesRun nid_engine (record { first = hand.old.first + keep; count = length hand.old.holds - keep }) book.old book.new }

@@ -6,54 +6,48 @@ ghost use Rattle.rbc_rules.specs.Acts.{deed_of};
 ghost use Rattle.rbc_rules.specs.Decisions.{Fits};
 
 use crate::act::Act;
-use arrayvec::ArrayVec;
 use rbc_book::Book;
-use rbc_mission::Course;
+use rbc_mission::{Course, Told};
 use rbc_right::Registrar;
 
 /// Carries an act out on its train's mission, on the book and on the rights. What comes out are the sections that were wished
 /// back and are shut now, in rising order.
-pub fn carry_out(
-    act: Act,
-    course: &mut Course,
-    book: &mut Book,
-    registrar: &mut Registrar,
-) -> ArrayVec<u16, 32>
+pub fn carry_out(act: Act, course: &mut Course, book: &mut Book, registrar: &mut Registrar) -> Told
     requires number { course.old.number < length registrar.old }
     requires fits { Fits book.old registrar.old course.old.number course.old.mission act }
     ensures course { course.new ≡ after (deed_of act) course.old }
     ensures homes { (s : ℕ) → is_own book.new s ≡ is_own book.old s }
     ensures book { (line : Line) (c : ℕ) → IsBookOf line c book.old → IsBooked line c (deed_of act) course.old book.old book.new }
-    ensures told { (line : Line) (c : ℕ) → IsBookOf line c book.old → IsTold line c (deed_of act) course.old book.old result.items }
+    ensures told { (line : Line) (c : ℕ) → IsBookOf line c book.old → IsTold line c (deed_of act) course.old book.old result }
     ensures right { IsReturned (deed_of act) course.old registrar.old registrar.new }
     ensures rights { length registrar.new ≡ length registrar.old }
 {
     match act {
-        Act::EstablishSession | Act::RejectStart => ArrayVec::new(),
+        Act::EstablishSession | Act::RejectStart => Told::nothing(),
         Act::OpenSession | Act::CloseSession | Act::DropProposal => {
             course.drop_proposal();
-            ArrayVec::new()
+            Told::nothing()
         }
         Act::Restart(place) => {
             course.restart(place);
-            ArrayVec::new()
+            Told::nothing()
         }
         Act::Start(place, run) => {
             course.start(place, run, book, registrar);
-            ArrayVec::new()
+            Told::nothing()
         }
         Act::TakeData => {
             course.take_data();
-            ArrayVec::new()
+            Told::nothing()
         }
         Act::Extend(place, grant) => {
             course.extend(place, grant.sections, book);
-            ArrayVec::new()
+            Told::nothing()
         }
         Act::Clear(place, count) => course.clear(place, count, book, registrar),
         Act::End => {
             course.end();
-            ArrayVec::new()
+            Told::nothing()
         }
         Act::ClearAndEnd(place, count) => {
             let told = course.clear(place, count, book, registrar);

@@ -45,7 +45,7 @@ fn sections_are_released_and_taken_back(rt: HostRuntime) -> Result<(), Fail> {
     let line = two_centres(rt.alloc())?;
     let mut centre = Centre::new(rt.alloc(), &line, 0)?;
     let set = centre.step(&Event::Set(1)).ok().ok_or("the step is taken")?;
-    assert_eq!(rt; set.words.len(), 1);
+    assert_eq!(rt; set.words().len(), 1);
     assert_eq!(rt; centre.page(1).entry, Entry::Open);
     let unset = centre
         .step(&Event::Unset(1))

@@ -10,7 +10,7 @@ fn what_a_centre_takes_is_in_its_log(rt: HostRuntime) -> Result<(), Fail> {
     assert_eq!(rt; log.entries().len(), 0);
     let outcome = log.commit(Event::Set(2)).ok().ok_or("there is room")?;
     assert_eq!(rt; outcome.stamp, 1);
-    assert_eq!(rt; outcome.words.len(), 1);
+    assert_eq!(rt; outcome.words().len(), 1);
     assert_eq!(rt; log.entries().len(), 1);
     assert_eq!(rt; log.core().number(), 1);
     assert_eq!(rt; CommitFault::LogFull.number(), 4);

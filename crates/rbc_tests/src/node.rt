@@ -138,8 +138,8 @@ fn a_commit_of_one_centre_waits_for_no_other(rt: HostRuntime) -> Result<(), Fail
     let second = second.ok().ok_or("B takes its set")?;
     assert_eq!(rt; first.stamp, 1);
     assert_eq!(rt; second.stamp, 1);
-    assert_eq!(rt; first.words.as_slice(), [Word::Done(0)].as_slice());
-    assert_eq!(rt; second.words.as_slice(), [Word::Done(4)].as_slice());
+    assert_eq!(rt; first.words().as_slice(), [Word::Done(0)].as_slice());
+    assert_eq!(rt; second.words().as_slice(), [Word::Done(4)].as_slice());
     assert_eq!(rt; of_a.receipts().len(), 1);
     assert_eq!(rt; of_b.receipts().len(), 1);
     Ok(())

@@ -130,7 +130,7 @@ impl World {
     {
         self.trains.reserve(1)?;
         let nid_engine = message.nid_engine();
-        let outcome = self.centres[c].step(&Event::Train(message))?;
+        let outcome = self.centres[c].hear(&message)?;
         add_mention(&self.line, &mut self.trains, nid_engine);
         Ok(Answer::Outcome(outcome))
     }

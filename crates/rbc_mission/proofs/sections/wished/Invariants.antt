@@ -1,10 +1,10 @@
-use Rattle.std.proofs.Common.{◌≡◌, ◌≤◌}
-use Rattle.arrayvec.specs.ArrayVec.{array_vec_len}
+use Rattle.std.proofs.Common.{◌≡◌, ◌<◌, ◌^◌}
+use Rattle.rbc_mission.specs.Marks.{marked}
 use Rattle.rbc_mission.specs.Sections.{wished}
 use Rattle.rbc_mission.proofs.sections.wished.Given as goal
 
 abbrev pub invariant-loop-k : goal.invariant-loop-k
 invariant-loop-k l = record {
-  items : l.told.items ≡ wished l.nid_engine (record { first = l.sections.first; count = l.k }) l.book;
-  count : array_vec_len l.told ≤ l.k;
+  marks : marked l.sections.first l.k l.marks ≡ wished l.nid_engine (record { first = l.sections.first; count = l.k }) l.book;
+  fits : l.marks < 2 ^ l.k;
 }

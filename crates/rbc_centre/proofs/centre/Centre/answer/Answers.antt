@@ -142,12 +142,12 @@ returns-clause-exact c =
     (ap (λ (p : TrainState). p.course) c.say-saying.ensures.counted ∙ c.carry_out-told.ensures.course)
     (c.carry_out-told.ensures.book k.line k.number k.own_sections) c.carry_out-told.ensures.right
     in
-    answer_stands k.line k.number k.clock k.book c.carry_out-told.new.book k.registrar c.carry_out-told.new.registrar states (set states c.args.i new) (sayings_of c.say-saying.result) (map (λ s. Told s) c.carry_out-told.result.items) _ m c.said.ensures
+    answer_stands k.line k.number k.clock k.book c.carry_out-told.new.book k.registrar c.carry_out-told.new.registrar states (set states c.args.i new) (sayings_of c.say-saying.result) (map (λ s. Told s) c.carry_out-told.result) _ m c.said.ensures
     (answered k.line k.number (k.clock + 1) t c.args.i k.book c.carry_out-told.new.book k.registrar c.carry_out-told.new.registrar states old new c.requires.number at within
-    k.ordered (alone_later k.line k.number k.clock (k.clock + 1) k.book k.registrar states k.alone) m.t_train m.body deed (sayings_of c.say-saying.result) (map (λ s. Told s) c.carry_out-told.result.items) done
+    k.ordered (alone_later k.line k.number k.clock (k.clock + 1) k.book k.registrar states k.alone) m.t_train m.body deed (sayings_of c.say-saying.result) (map (λ s. Told s) c.carry_out-told.result) done
     (c.say-saying.ensures.saying ∙ (λ i. sayings_after (engine i) (c.hear.ensures.said i) (answer i)))
     (words_told k.line k.number (k.clock + 1) t c.args.i k.book c.carry_out-told.new.book k.registrar c.carry_out-told.new.registrar states old new c.requires.number at within
-    deed c.hear.new.self.course c.carry_out-told.result.items c.hear.ensures.course own_engine (c.carry_out-told.ensures.told k.line k.number k.own_sections))
+    deed c.hear.new.self.course c.carry_out-told.result c.hear.ensures.course own_engine (c.carry_out-told.ensures.told k.line k.number k.own_sections))
     (rule_later k.line k.number k.clock (k.clock + 1) k.book k.registrar states t m.body deed _ _ _ _ phase mission c.requires.rule))
     (ap (λ (x : centre.Centre). step.silence k.line k.number x m) (sym (ticked_is k.line k.number k.clock (k.clock + 1) k.book k.registrar states)) ∙ c.requires.heard (k.clock + 1))
 
@@ -186,13 +186,13 @@ invariant_of-self c =
     (ap (λ (p : TrainState). p.course) c.say-saying.ensures.counted ∙ c.carry_out-told.ensures.course)
     (c.carry_out-told.ensures.book k.line k.number k.own_sections) c.carry_out-told.ensures.right
     in
-    let exact = answer_stands k.line k.number k.clock k.book c.carry_out-told.new.book k.registrar c.carry_out-told.new.registrar states (set states c.args.i new) (sayings_of c.say-saying.result) (map (λ s. Told s) c.carry_out-told.result.items)
-    (spoken (k.clock + 1) (sayings_of c.say-saying.result) (map (λ s. Told s) c.carry_out-told.result.items) None) m refl
+    let exact = answer_stands k.line k.number k.clock k.book c.carry_out-told.new.book k.registrar c.carry_out-told.new.registrar states (set states c.args.i new) (sayings_of c.say-saying.result) (map (λ s. Told s) c.carry_out-told.result)
+    (spoken (k.clock + 1) (sayings_of c.say-saying.result) (map (λ s. Told s) c.carry_out-told.result) None) m refl
     (answered k.line k.number (k.clock + 1) t c.args.i k.book c.carry_out-told.new.book k.registrar c.carry_out-told.new.registrar states old new c.requires.number at within
-    k.ordered (alone_later k.line k.number k.clock (k.clock + 1) k.book k.registrar states k.alone) m.t_train m.body deed (sayings_of c.say-saying.result) (map (λ s. Told s) c.carry_out-told.result.items) done
+    k.ordered (alone_later k.line k.number k.clock (k.clock + 1) k.book k.registrar states k.alone) m.t_train m.body deed (sayings_of c.say-saying.result) (map (λ s. Told s) c.carry_out-told.result) done
     (c.say-saying.ensures.saying ∙ (λ i. sayings_after (engine i) (c.hear.ensures.said i) (answer i)))
     (words_told k.line k.number (k.clock + 1) t c.args.i k.book c.carry_out-told.new.book k.registrar c.carry_out-told.new.registrar states old new c.requires.number at within
-    deed c.hear.new.self.course c.carry_out-told.result.items c.hear.ensures.course own_engine (c.carry_out-told.ensures.told k.line k.number k.own_sections))
+    deed c.hear.new.self.course c.carry_out-told.result c.hear.ensures.course own_engine (c.carry_out-told.ensures.told k.line k.number k.own_sections))
     (rule_later k.line k.number k.clock (k.clock + 1) k.book k.registrar states t m.body deed _ _ _ _ phase mission c.requires.rule))
     (ap (λ (x : centre.Centre). step.silence k.line k.number x m) (sym (ticked_is k.line k.number k.clock (k.clock + 1) k.book k.registrar states)) ∙ c.requires.heard (k.clock + 1))
     in

@@ -10,4 +10,4 @@ returns-clause-book c line n of =
 pub returns-clause-told : goal.returns-clause-told
 returns-clause-told c line n of =
     clears_told c.args.self.now c.self.inside.number c.self.inside.nid_engine c.self.inside.mission c.in-Some.mission c.self.inside.hand c.self.view_is c.in-Some.is
-    line n c.args.book.now of (place_of c.args.place) c.args.count c.clear-told.result.items c.clear-told.ensures.told
+    line n c.args.book.now of (place_of c.args.place) c.args.count c.clear-told.result c.clear-told.ensures.told

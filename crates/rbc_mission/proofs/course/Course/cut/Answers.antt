@@ -9,4 +9,4 @@ returns-clause-book c line n of =
 pub returns-clause-told : goal.returns-clause-told
 returns-clause-told c line n of =
     cuts_told c.args.self.now c.self.inside.number c.self.inside.nid_engine c.self.inside.mission c.in-Some.mission c.self.inside.hand c.self.view_is c.in-Some.is
-    line n c.args.book.now of c.args.keep c.cut-told.result.items c.cut-told.ensures.told
+    line n c.args.book.now of c.args.keep c.cut-told.result c.cut-told.ensures.told

@@ -15,7 +15,7 @@ pub returns-in_err-outcome-clause-exact : goal.returns-in_err-outcome-clause-exa
 returns-in_err-outcome-clause-exact c =
     let p = err_from_is_err_and c.from_residual-in_err-outcome.result c.from_residual-in_err-outcome.ensures.1 in
     let at : slice_get c.args.self.now.centres.items c.args.c ≡ Some c.index_mut.result.now = slice_get_read _ _ _ _ refl c.requires c.index_mut.ensures.value in
-    rw (p.1, p.2) (step_err c.args.self.now.line c.args.self.now.centres.items c.args.self.now.trains.keys (Train (step_message c.args.message)) c.args.c c.index_mut.result.now c.step.new.self at c.requires
+    rw (p.1, p.2) (step_err c.args.self.now.line c.args.self.now.centres.items c.args.self.now.trains.keys (Train (step_message c.args.message)) c.args.c c.index_mut.result.now c.hear.new.self at c.requires
     (c.args.self.now.one_line _ _ at) (c.args.self.now.in_order _ _ at) _ c.in_err-outcome.field-0.0 c.in_err-outcome.ensures.exact)
 
 pub returns-in_err-outcome-clause-err : goal.returns-in_err-outcome-clause-err
@@ -23,7 +23,7 @@ returns-in_err-outcome-clause-err c =
     let p = err_from_is_err_and c.from_residual-in_err-outcome.result c.from_residual-in_err-outcome.ensures.1 in
     let at : slice_get c.args.self.now.centres.items c.args.c ≡ Some c.index_mut.result.now = slice_get_read _ _ _ _ refl c.requires c.index_mut.ensures.value in
     rw (p.1) (ap (stands_for _ _) c.in_ok-reserve.ensures.keys
-    ∙ world_kept c.args.self.now.line c.args.self.now.centres.items c.args.self.now.trains.keys c.args.c c.index_mut.result.now c.step.new.self at c.requires c.in_err-outcome.ensures.err)
+    ∙ world_kept c.args.self.now.line c.args.self.now.centres.items c.args.self.now.trains.keys c.args.c c.index_mut.result.now c.hear.new.self at c.requires c.in_err-outcome.ensures.err)
 
 pub invariant_of-self-2 : goal.invariant_of-self-2
 invariant_of-self-2 c =
@@ -31,8 +31,8 @@ invariant_of-self-2 c =
     let at : slice_get cs c.args.c ≡ Some c.index_mut.result.now = slice_get_read _ _ _ _ refl c.requires c.index_mut.ensures.value in
     record {
       each_centre = simp length-set c.args.self.now.each_centre;
-      one_line = each_kept (λ d k. one.line_of k ≡ c.args.self.now.line) cs c.args.c c.step.new.self c.requires (c.in_ok-outcome.ensures.line ∙ c.args.self.now.one_line _ _ at) c.args.self.now.one_line;
-      in_order = each_kept (λ d k. one.number_of k ≡ d) cs c.args.c c.step.new.self c.requires (c.in_ok-outcome.ensures.number ∙ c.args.self.now.in_order _ _ at) c.args.self.now.in_order;
+      one_line = each_kept (λ d k. one.line_of k ≡ c.args.self.now.line) cs c.args.c c.hear.new.self c.requires (c.in_ok-outcome.ensures.line ∙ c.args.self.now.one_line _ _ at) c.args.self.now.one_line;
+      in_order = each_kept (λ d k. one.number_of k ≡ d) cs c.args.c c.hear.new.self c.requires (c.in_ok-outcome.ensures.number ∙ c.args.self.now.in_order _ _ at) c.args.self.now.in_order;
     }
 
 pub invariant_of-self-in-Break-branch-2 : goal.invariant_of-self-in-Break-branch-2
@@ -41,14 +41,14 @@ invariant_of-self-in-Break-branch-2 c =
     let at : slice_get cs c.args.c ≡ Some c.index_mut.result.now = slice_get_read _ _ _ _ refl c.requires c.index_mut.ensures.value in
     record {
       each_centre = simp length-set c.args.self.now.each_centre;
-      one_line = each_kept (λ d k. one.line_of k ≡ c.args.self.now.line) cs c.args.c c.step.new.self c.requires (c.in_err-outcome.ensures.line ∙ c.args.self.now.one_line _ _ at) c.args.self.now.one_line;
-      in_order = each_kept (λ d k. one.number_of k ≡ d) cs c.args.c c.step.new.self c.requires (c.in_err-outcome.ensures.number ∙ c.args.self.now.in_order _ _ at) c.args.self.now.in_order;
+      one_line = each_kept (λ d k. one.line_of k ≡ c.args.self.now.line) cs c.args.c c.hear.new.self c.requires (c.in_err-outcome.ensures.line ∙ c.args.self.now.one_line _ _ at) c.args.self.now.one_line;
+      in_order = each_kept (λ d k. one.number_of k ≡ d) cs c.args.c c.hear.new.self c.requires (c.in_err-outcome.ensures.number ∙ c.args.self.now.in_order _ _ at) c.args.self.now.in_order;
     }
 
 pub returns-clause-exact : goal.returns-clause-exact
 unfolding stands_for
 returns-clause-exact c =
     let at : slice_get c.args.self.now.centres.items c.args.c ≡ Some c.index_mut.result.now = slice_get_read _ _ _ _ refl c.requires c.index_mut.ensures.value in
-    step_ok c.args.self.now.line c.args.self.now.centres.items c.args.self.now.trains.keys (Train (step_message c.args.message)) c.args.c c.index_mut.result.now c.step.new.self at c.requires
+    step_ok c.args.self.now.line c.args.self.now.centres.items c.args.self.now.trains.keys (Train (step_message c.args.message)) c.args.c c.index_mut.result.now c.hear.new.self at c.requires
     (c.args.self.now.one_line _ _ at) (c.args.self.now.in_order _ _ at) _ _ c.add_mention.new.trains.keys c.in_ok-outcome.ensures.exact
     (c.add_mention.ensures ∙ ap (λ t. mention c.args.self.now.line t c.reserve.new.self.keys) c.nid_engine-nid_engine.ensures.value ∙ ap (mention c.args.self.now.line c.args.message.nid_engine) c.in_ok-reserve.ensures.keys)

@@ -1,8 +1,0 @@
-use Rattle.std.proofs.Common.{◌≡◌, map, take}
-use Rattle.arrayvec.specs.ArrayVec.{array_vec_len}
-use Rattle.rbc_spec.specs.Outcome.{Told}
-use Rattle.rbc_centre.specs.Views.{word_of}
-use Rattle.rbc_centre.proofs.outcome.told_words.Given as goal
-
-abbrev pub invariant-loop-s : goal.invariant-loop-s
-invariant-loop-s l = (map word_of l.words.items ≡ map (λ s. Told s) (take l.s-index l.told.items)) × (array_vec_len l.words ≡ l.s-index)
