@@ -1,5 +1,5 @@
 -- The rows of a tested line file, and the faults of a text.
-use Rattle.std.proofs.Common.{◌≡◌, ℕ, ◌+◌, ◌<◌, ◌==◌, true, not, inl, inr, List, [], ◌∷◌, length, map, take, filter, sum_by, Some, option_map, MatchOption, refl, ap, sym, ◌∙◌, arith}
+use Rattle.std.proofs.Common.{◌≡◌, ℕ, ◌+◌, ◌==◌, true, not, inl, inr, List, [], ◌∷◌, length, map, take, filter, sum_by, Some, option_map, MatchOption, refl, ap, sym, ◌∙◌, arith}
 use Rattle.std.specs.List.{slice_get, list_any}
 use Rattle.std.specs.Str.{bytes_eq}
 use Rattle.std.proofs.lemmas.Bool.{cases_Bool}

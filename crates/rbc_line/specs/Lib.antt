@@ -5,4 +5,3 @@ pub mod DraftViews
 pub mod Faults
 pub mod Homes
 pub mod Tested
-pub mod Findings

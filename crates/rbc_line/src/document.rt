@@ -50,21 +50,6 @@ fn line_of_draft(alloc: Global, draft: &Draft) -> Result<Line, LineFault>
     }
 }
 
-/// The line that the tables of a text name, or the lowest fault that applies to them.
-pub(crate) fn line_of_tables(alloc: Global, table: &Table) -> Result<Line, LineFault>
-    ensures named { IfOk result (λ line. MatchOption (line_file (table_view table.now)) ⊥ (λ file. line ≡ line_of file)) }
-    ensures sound { IfOk result (λ _. (fault : LineFault) → ¬ AppliesToTables (table_view table.now) fault) }
-    ensures line { IfOk result IsLine }
-    ensures fault { IfErr result
-        (λ f. f ≢ LineFault.Memory → IsLowest (AppliesToTables (table_view table.now)) f) }
-{
-    let Some(draft) = read_draft(alloc, table)? else {
-        return Err(LineFault::Shape);
-    };
-    let line = line_of_draft(alloc, &draft)?;
-    Ok(line)
-}
-
 impl Line {
     /// Reads a line file. A text that no fault applies to gives the line that its tables name; for any other the
     /// lowest fault that applies is named. `Memory` comes where an allocation was refused, in place of any answer.
@@ -82,7 +67,23 @@ impl Line {
                 return Err(LineFault::Text);
             }
         };
-        let line = line_of_tables(alloc, &table)?;
+        let line = Line::from_table(alloc, &table)?;
+        Ok(line)
+    }
+
+    /// Reads the tables of a line file. Those that no fault applies to give the line that they name; for any others
+    /// the lowest fault that applies is named. `Memory` comes where an allocation was refused, in place of any answer.
+    pub fn from_table(alloc: Global, table: &Table) -> Result<Line, LineFault>
+        ensures named { IfOk result (λ line. MatchOption (line_file (table_view table.now)) ⊥ (λ file. line ≡ line_of file)) }
+        ensures sound { IfOk result (λ _. (fault : LineFault) → ¬ AppliesToTables (table_view table.now) fault) }
+        ensures line { IfOk result IsLine }
+        ensures fault { IfErr result
+            (λ f. f ≢ LineFault.Memory → IsLowest (AppliesToTables (table_view table.now)) f) }
+    {
+        let Some(draft) = read_draft(alloc, table)? else {
+            return Err(LineFault::Shape);
+        };
+        let line = line_of_draft(alloc, &draft)?;
         Ok(line)
     }
 }

@@ -4,36 +4,12 @@ ghost use Rattle.std.specs.List.{list_any};
 ghost use Rattle.std.specs.Ordering.{int_eq};
 ghost use Rattle.std.specs.Str.{bytes_eq};
 ghost use Rattle.rbc_line.specs.DraftViews.{centre_view, section_view, train_view, file_view};
-ghost use Rattle.rbc_line.specs.Faults.{is_outside, is_name, has_twice, is_centre_name, has_count_fault, HasSectionsFault, has_length_fault, has_number_fault, has_twice_fault, has_home_fault};
+ghost use Rattle.rbc_line.specs.Faults.{is_outside, is_name, has_twice, is_centre_name, HasSectionsFault, has_length_fault, has_number_fault, has_twice_fault, has_home_fault};
 
 use crate::draft::{Draft, DraftCentre, DraftSection, DraftTrain};
+use crate::limits::{is_name, is_outside};
 use std::alloc::{AllocError, Global};
 use std::collections::HashSet;
-
-/// The number is not from low to high.
-pub(crate) fn is_outside(low: u32, high: u32, n: i64) -> bool
-    ensures { result ≡ is_outside low high n }
-{
-    n < i64::from(low) || n > i64::from(high)
-}
-
-/// 1 to 16 ASCII letters and digits.
-pub(crate) fn is_name(name: &str) -> bool
-    ensures { result ≡ is_name name.now }
-{
-    let bytes = name.as_bytes();
-    if bytes.is_empty() || bytes.len() > 16 {
-        return false;
-    }
-    bytes.iter().all(|b| b.is_ascii_alphanumeric())
-}
-
-#[tactic(auto, unfolding(crate::specs::Faults::has_count_fault))]
-pub(crate) fn has_count_fault(low: usize, high: usize, n: usize) -> bool
-    ensures { result ≡ has_count_fault low high n }
-{
-    n < low || n > high
-}
 
 fn has_section(sections: &[DraftSection], track: usize) -> bool
     ensures { result ≡ list_any (λ s. s.track == track) (map section_view sections.now) }

@@ -6,9 +6,9 @@ ghost use Rattle.rbc_line.specs.Faults.{AppliesToFile, HasNoneBelow, IsLowest};
 use crate::draft::Draft;
 use crate::fault::LineFault;
 use crate::faults::{
-    has_count_fault, has_home_fault, has_length_fault, has_number_fault, has_sections_fault,
-    has_twice_fault,
+    has_home_fault, has_length_fault, has_number_fault, has_sections_fault, has_twice_fault,
 };
+use crate::limits::has_count_fault;
 use std::alloc::{AllocError, Global};
 
 fn has_centres_fault(draft: &Draft) -> bool

@@ -3,7 +3,7 @@ use Rattle.toml.specs.View.{table_view}
 use Rattle.rbc_line.specs.DraftViews.{file_view}
 use Rattle.rbc_line.specs.LineFile.{line_file}
 use Rattle.rbc_line.proofs.Numbered.{file_ascends}
-use Rattle.rbc_line.proofs.document.line_of_tables.Goals as goal
+use Rattle.rbc_line.proofs.layout.Line.from_table.Goals as goal
 
 pub line_of_draft-requires : goal.line_of_draft-requires
 line_of_draft-requires c =

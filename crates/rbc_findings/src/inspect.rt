@@ -1,11 +1,11 @@
 //! One walk through the tables of a line file that notes all that is wrong, table by table.
 ghost use Rattle.std.specs.Prelude.{◌≡◌, Some, IfOk};
 ghost use Rattle.std.specs.List.Sorted.{IsNonDecreasingBy};
-ghost use Rattle.rbc_line.specs.Findings.{fault_number, first_fault};
+ghost use Rattle.rbc_findings.specs.Findings.{fault_number, first_fault};
 
-use crate::fault::LineFault;
 use crate::finding::{Counted, Finding, Flaw, Place};
 use crate::inspection::{Inspection, first_place};
+use rbc_line::LineFault;
 use std::alloc::{AllocError, Global};
 use std::collections::HashSet;
 use toml::value::Array;

@@ -3,11 +3,11 @@ use Rattle.std.specs.Prelude.{ℕ, List, Option, option_map, slice_get, MatchOpt
 use Rattle.toml.specs.Data.{Members}
 use Rattle.rbc_line.specs.declared.fault.LineFault.{LineFault}
 use Rattle.rbc_line.specs.declared.fault.LineFault.TheVariants.{Shape, Centres, Tracks, Sections, Trains, Length, Number, Twice, Home, Order}
-use Rattle.rbc_line.specs.declared.finding.Counted.{Counted}
-use Rattle.rbc_line.specs.declared.finding.Counted.TheVariants as counted
-use Rattle.rbc_line.specs.declared.finding.Finding.{Finding}
-use Rattle.rbc_line.specs.declared.finding.Flaw.{Flaw}
-use Rattle.rbc_line.specs.declared.finding.Flaw.TheVariants as flaw
+use Rattle.rbc_findings.specs.declared.finding.Counted.{Counted}
+use Rattle.rbc_findings.specs.declared.finding.Counted.TheVariants as counted
+use Rattle.rbc_findings.specs.declared.finding.Finding.{Finding}
+use Rattle.rbc_findings.specs.declared.finding.Flaw.{Flaw}
+use Rattle.rbc_findings.specs.declared.finding.Flaw.TheVariants as flaw
 use Rattle.rbc_line.specs.Faults.{number_of, AppliesToTables, IsLowest}
 
 -- too few or too many of them

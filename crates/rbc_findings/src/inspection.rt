@@ -1,7 +1,7 @@
 //! What has been found in a line file so far, and the looks at one table of it.
 
-use crate::faults::{has_count_fault, is_name, is_outside};
 use crate::finding::{Counted, Finding, Flaw, Place};
+use rbc_line::limits::{has_count_fault, is_name, is_outside};
 use std::alloc::{AllocError, Global};
 use std::collections::HashMap;
 use std::hash::Hash;

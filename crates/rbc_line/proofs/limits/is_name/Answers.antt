@@ -4,7 +4,7 @@ use Rattle.std.proofs.lemmas.Bool.Decides.{nat_tests}
 use Rattle.std.proofs.lemmas.Iterator.{YieldsList-from_slice}
 use Rattle.std.proofs.lemmas.Iterator.Search.{all_from_yields_List}
 use Rattle.rbc_line.proofs.Twice.{is_name-fits}
-use Rattle.rbc_line.proofs.faults.is_name.Goals as goal
+use Rattle.rbc_line.proofs.limits.is_name.Goals as goal
 
 pub returns : goal.returns
 returns c =

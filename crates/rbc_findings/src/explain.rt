@@ -3,12 +3,11 @@ ghost use Rattle.std.specs.List.Sorted.{IsNonDecreasingBy};
 ghost use Rattle.toml.specs.Errors.{IsMemory};
 ghost use Rattle.toml.specs.Parse.{parse_document};
 ghost use Rattle.toml.specs.View.{table_view};
-ghost use Rattle.rbc_line.specs.Findings.{Explains, fault_number};
+ghost use Rattle.rbc_findings.specs.Findings.{Explains, fault_number};
 
-use crate::document::line_of_tables;
-use crate::fault::LineFault;
 use crate::finding::Finding;
 use crate::inspect::cases_from;
+use rbc_line::{Line, LineFault};
 use std::alloc::{AllocError, Global};
 use toml::Table;
 use toml::de::Error;
@@ -35,7 +34,7 @@ impl LineText {
         ensures lowest { IfOk result (λ v. Explains (table_view self.now.table) v.items) }
         ensures order { IfOk result (λ v. IsNonDecreasingBy fault_number v.items) }
     {
-        match line_of_tables(alloc, &self.table) {
+        match Line::from_table(alloc, &self.table) {
             Ok(_) => Ok(Vec::new(alloc)),
             Err(LineFault::Memory) => Err(AllocError),
             Err(fault) => cases_from(alloc, fault, &self.table),

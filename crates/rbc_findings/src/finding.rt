@@ -1,6 +1,6 @@
 //! What is wrong in a line file, and where: for the person who mends it.
 
-use crate::fault::LineFault;
+use rbc_line::LineFault;
 use std::fmt;
 use std::fmt::Formatter;
 
@@ -114,7 +114,7 @@ pub struct Finding<'a> {
 
 impl Counted {
     ghost use Rattle.std.specs.Prelude.{◌≡◌};
-    ghost use Rattle.rbc_line.specs.Findings.{count_fault};
+    ghost use Rattle.rbc_findings.specs.Findings.{count_fault};
 
     /// The fewest and the most of them that a line has.
     pub(crate) fn limits(self) -> (usize, usize) {
@@ -140,7 +140,7 @@ impl Counted {
 
 impl Finding<'_> {
     ghost use Rattle.std.specs.Prelude.{◌≡◌};
-    ghost use Rattle.rbc_line.specs.Findings.{flaw_fault};
+    ghost use Rattle.rbc_findings.specs.Findings.{flaw_fault};
 
     /// The fault of the line file that this is a case of.
     pub fn fault(&self) -> LineFault
