@@ -1,21 +1,8 @@
 //! `rbcline`, the program of the radio block centres: it runs a script of events on a line, and prints what comes out.
 #![tactic(auto)]
 
-mod command;
-mod disk;
-mod explain;
-mod fault;
-mod files;
-mod picture;
-mod print;
-mod run;
-mod script;
-#[cfg(test)]
-mod tests;
-mod words;
-
-use crate::command::{command, report};
-use crate::disk::{Disk, words_of};
+use rbc_report::command::{command, report};
+use rbc_report::disk::{Disk, words_of};
 use std::io;
 use std::process::ExitCode;
 

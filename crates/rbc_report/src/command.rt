@@ -1,0 +1,63 @@
+ghost use Rattle.rbc_report.specs.Statuses.{IsReported, IsStatus};
+
+use crate::explain::explain;
+use crate::fault::Fault;
+use crate::files::Files;
+use crate::run::{check, run};
+use crate::words::{Request, requested};
+use std::alloc::Global;
+use std::convert::AsStr;
+use std::fmt::Display;
+use std::io;
+use std::io::Write;
+
+/// Does what the words behind the program's name ask for, and gives the exit status: 0 done, 2 words refused (help
+/// too), 3 a file that can't be read or a script fault, 4 a line fault, 5 a refused step, 6 a refused write.
+pub fn command<S: AsStr, F: Files, O: Write, E: Write>(
+    alloc: Global,
+    words: &[S],
+    files: &F,
+    out: &mut O,
+    err: &mut E,
+) -> u8
+    ensures { IsStatus result }
+{
+    match obey(alloc, words, files, out) {
+        Ok(()) => 0,
+        Err(fault) => report(&fault, out, err),
+    }
+}
+
+fn obey<'a, S: AsStr, F: Files, O: Write>(
+    alloc: Global,
+    words: &'a [S],
+    files: &F,
+    out: &mut O,
+) -> Result<(), Fault<'a>> {
+    match requested(alloc, words)? {
+        Request::Check { file } => check(alloc, file, files, out),
+        Request::Explain { file } => explain(alloc, file, files, out),
+        Request::Run { file, script } => run(alloc, file, script, files, out),
+    }
+}
+
+/// Says what went wrong, and gives the exit status. Help that was asked for goes to `out`.
+pub fn report<O: Write, E: Write>(fault: &Fault, out: &mut O, err: &mut E) -> u8
+    ensures { IsReported fault.now result }
+{
+    let told = match fault {
+        Fault::Write => Ok(()),
+        Fault::Usage(usage) if usage.use_stderr() => tell(err, format_args!("{usage}")),
+        Fault::Usage(help) => tell(out, format_args!("{help}")),
+        _ => tell(err, format_args!("{fault}\n")),
+    };
+    match told {
+        Ok(()) => fault.status(),
+        Err(_) => 6,
+    }
+}
+
+fn tell<W: Write, T: Display + Drop>(to: &mut W, text: T) -> io::Result<()> {
+    write!(to, "{text}")?;
+    to.flush()
+}

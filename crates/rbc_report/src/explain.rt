@@ -1,0 +1,53 @@
+use crate::fault::Fault;
+use crate::files::Files;
+use crate::picture::print_picture;
+use rbc_findings::{Finding, LineText};
+use rbc_line::{Line, LineFault};
+use std::alloc::{AllocError, Global};
+use std::io::{BufWriter, Write};
+
+/// Reads a line file, and prints a picture of the line; of a file with faults all that is wrong, each case in a line.
+pub fn explain<'a, F: Files, O: Write>(
+    alloc: Global,
+    file: &'a str,
+    files: &F,
+    out: &mut O,
+) -> Result<(), Fault<'a>> {
+    let Some(text) = files.text(file) else {
+        return Err(Fault::CannotRead(file));
+    };
+    let Ok(mut out) = BufWriter::new(alloc, out) else {
+        return Err(AllocError.into());
+    };
+    let done = match Line::from_toml(alloc, text.as_str()) {
+        Ok(line) => print_picture(&mut out, &line),
+        Err(fault) => match print_findings(alloc, &mut out, text.as_str()) {
+            Ok(()) => Err(Fault::Line(fault)),
+            Err(fault) => Err(fault),
+        },
+    };
+    out.flush()?;
+    done
+}
+
+fn print_findings<W: Write>(alloc: Global, out: &mut W, text: &str) -> Result<(), Fault<'static>> {
+    let text = match LineText::new(alloc, text) {
+        Ok(text) => text,
+        Err(error) if error.is_memory() => return Err(Fault::Line(LineFault::Memory)),
+        Err(error) => {
+            write!(out, "fault {}: {error}", LineFault::Text.number())?;
+            return Ok(());
+        }
+    };
+    let Ok(findings) = text.findings(alloc) else {
+        return Err(Fault::Line(LineFault::Memory));
+    };
+    print_each(out, &findings)
+}
+
+fn print_each<W: Write>(out: &mut W, findings: &[Finding]) -> Result<(), Fault<'static>> {
+    for finding in findings {
+        writeln!(out, "fault {}: {finding}", finding.fault().number())?;
+    }
+    Ok(())
+}

@@ -1,0 +1,12 @@
+//! What `rbcline` does: it reads words, a line file and a script, runs the script on the line, and prints what comes out.
+#![tactic(auto)]
+
+pub mod command;
+pub mod disk;
+mod explain;
+pub mod fault;
+pub mod files;
+mod picture;
+mod print;
+mod run;
+mod words;

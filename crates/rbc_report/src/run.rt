@@ -1,0 +1,81 @@
+use crate::fault::Fault;
+use crate::files::Files;
+use crate::print::{print_answer, print_counts, print_event, print_line};
+use rbc_script::script::{Entry, script_of};
+use rbc_line::Line;
+use rbc_world::World;
+use std::alloc::{AllocError, Global};
+use std::io::{BufWriter, Write};
+
+/// Runs a script on a line: prints each event and what it leads to, and at the end the line.
+pub fn run<'a, F: Files, O: Write>(
+    alloc: Global,
+    file: &'a str,
+    script: &'a str,
+    files: &F,
+    out: &mut O,
+) -> Result<(), Fault<'a>> {
+    let line = line_in(alloc, file, files)?;
+    let entries = entries_in(alloc, &line, script, files)?;
+    let Ok(mut out) = BufWriter::new(alloc, out) else {
+        return Err(AllocError.into());
+    };
+    let done = play(alloc, &line, &entries, &mut out);
+    out.flush()?;
+    done
+}
+
+/// Reads a line file, and prints how many centres, tracks, sections and trains the line has.
+pub fn check<'a, F: Files, O: Write>(
+    alloc: Global,
+    file: &'a str,
+    files: &F,
+    out: &mut O,
+) -> Result<(), Fault<'a>> {
+    let line = line_in(alloc, file, files)?;
+    print_counts(out, &line)?;
+    out.flush()?;
+    Ok(())
+}
+
+fn line_in<'a, F: Files>(alloc: Global, file: &'a str, files: &F) -> Result<Line, Fault<'a>> {
+    let Some(text) = files.text(file) else {
+        return Err(Fault::CannotRead(file));
+    };
+    Ok(Line::from_toml(alloc, text.as_str())?)
+}
+
+fn entries_in<'a, F: Files>(
+    alloc: Global,
+    line: &Line,
+    script: &'a str,
+    files: &F,
+) -> Result<Vec<Entry>, Fault<'a>> {
+    let Some(text) = files.text(script) else {
+        return Err(Fault::CannotRead(script));
+    };
+    Ok(script_of(alloc, line, text.as_str())?)
+}
+
+fn play<W: Write>(
+    alloc: Global,
+    line: &Line,
+    entries: &[Entry],
+    out: &mut W,
+) -> Result<(), Fault<'static>> {
+    let mut world = World::new(alloc, line)?;
+    for entry in entries {
+        match entry {
+            Entry::Show => {
+                writeln!(out, "> show")?;
+                print_line(alloc, out, line, &world)?;
+            }
+            Entry::Event(event) => {
+                print_event(alloc, out, line, event)?;
+                let answer = world.step(event)?;
+                print_answer(alloc, out, line, event, &answer)?;
+            }
+        }
+    }
+    print_line(alloc, out, line, &world)
+}

@@ -1,0 +1,4 @@
+//! A script of `rbcline`: what its lines ask for, and the first line that has no form.
+#![tactic(auto)]
+
+pub mod script;
