@@ -10,7 +10,18 @@ use std::io::Write;
 /// A message of a train, as `155 t_train=1 nid_engine=1`.
 pub fn show_train(alloc: Global, message: &TrainMsg) -> io::Result<Vec<u8>> {
     let mut out = Vec::new(alloc);
-    let number = match message.body() {
+    write!(&mut out, "{}", train_number(message.body()))?;
+    show(&mut out, "t_train", message.t_train().into())?;
+    show(&mut out, "nid_engine", message.nid_engine().into())?;
+    show_body(&mut out, message.body())?;
+    for packet in message.further() {
+        show_opaque(&mut out, packet)?;
+    }
+    Ok(out)
+}
+
+fn train_number(body: &TrainBody) -> u8 {
+    match body {
         TrainBody::TrainData { .. } => 129,
         TrainBody::Request { .. } => 132,
         TrainBody::Report { .. } => 136,
@@ -21,21 +32,15 @@ pub fn show_train(alloc: Global, message: &TrainMsg) -> io::Result<Vec<u8>> {
         TrainBody::TerminationOfSession => 156,
         TrainBody::StartOfMission { .. } => 157,
         TrainBody::SessionEstablished => 159,
-    };
-    let t_train = message.t_train();
-    let nid_engine = message.nid_engine();
-    write!(
-        &mut out,
-        "{number} t_train={t_train} nid_engine={nid_engine}"
-    )?;
-    show_body(&mut out, message.body())?;
-    for packet in message.further() {
-        show_opaque(&mut out, packet)?;
     }
-    Ok(out)
 }
 
-fn show_body<W: Write>(out: &mut W, body: &TrainBody) -> io::Result<()> {
+// A variable, as ` m_mode=0`.
+fn show(out: &mut Vec<u8>, name: &str, value: u64) -> io::Result<()> {
+    write!(out, " {name}={value}")
+}
+
+fn show_body(out: &mut Vec<u8>, body: &TrainBody) -> io::Result<()> {
     match body {
         TrainBody::TrainData { position, packet } => {
             show_position(out, position)?;
@@ -45,21 +50,19 @@ fn show_body<W: Write>(out: &mut W, body: &TrainBody) -> io::Result<()> {
             q_marqstreason,
             position,
         } => {
-            write!(out, " q_marqstreason={}", q_marqstreason.value())?;
+            show(out, "q_marqstreason", q_marqstreason.value())?;
             show_position(out, position)
         }
-        TrainBody::Report { position } => show_position(out, position),
-        TrainBody::ShorteningGranted { request, position } => {
-            write!(out, " t_train_answered={}", request.value())?;
+        TrainBody::Report { position } | TrainBody::EndOfMission { position } => {
             show_position(out, position)
         }
-        TrainBody::ShorteningRejected { request, position } => {
-            write!(out, " t_train_answered={}", request.value())?;
+        TrainBody::ShorteningGranted { request, position }
+        | TrainBody::ShorteningRejected { request, position } => {
+            show(out, "t_train_answered", request.value())?;
             show_position(out, position)
         }
-        TrainBody::EndOfMission { position } => show_position(out, position),
         TrainBody::StartOfMission { q_status, position } => {
-            write!(out, " q_status={}", q_status.value())?;
+            show(out, "q_status", q_status.value())?;
             show_position(out, position)
         }
         TrainBody::InitiationOfSession
@@ -68,55 +71,68 @@ fn show_body<W: Write>(out: &mut W, body: &TrainBody) -> io::Result<()> {
     }
 }
 
-fn show_position<W: Write>(out: &mut W, position: &Position) -> io::Result<()> {
+fn show_position(out: &mut Vec<u8>, position: &Position) -> io::Result<()> {
     let l = &position.location;
-    write!(out, " [0 q_scale={}", l.q_scale.value())?;
-    write!(out, " nid_lrbg={}", l.nid_lrbg.value())?;
-    write!(out, " d_lrbg={}", l.d_lrbg.value())?;
-    write!(out, " q_dirlrbg={}", l.q_dirlrbg.value())?;
-    write!(out, " q_dlrbg={}", l.q_dlrbg.value())?;
-    write!(out, " l_doubtover={}", l.l_doubtover.value())?;
-    write!(out, " l_doubtunder={}", l.l_doubtunder.value())?;
+    out.extend_from_slice(b" [0")?;
+    show(out, "q_scale", l.q_scale.value())?;
+    show(out, "nid_lrbg", l.nid_lrbg.value())?;
+    show(out, "d_lrbg", l.d_lrbg.value())?;
+    show(out, "q_dirlrbg", l.q_dirlrbg.value())?;
+    show(out, "q_dlrbg", l.q_dlrbg.value())?;
+    show(out, "l_doubtover", l.l_doubtover.value())?;
+    show(out, "l_doubtunder", l.l_doubtunder.value())?;
     show_train_length(out, &position.train_length)?;
-    write!(out, " v_train={}", position.v_train.value())?;
-    write!(out, " q_dirtrain={}", position.q_dirtrain.value())?;
-    write!(out, " m_mode={}", position.m_mode.value())?;
+    show(out, "v_train", position.v_train.value())?;
+    show(out, "q_dirtrain", position.q_dirtrain.value())?;
+    show(out, "m_mode", position.m_mode.value())?;
     show_level(out, &position.level)?;
-    write!(out, "]")
+    Ok(out.extend_from_slice(b"]")?)
 }
 
-fn show_train_length<W: Write>(out: &mut W, train_length: &TrainLength) -> io::Result<()> {
-    match train_length {
-        TrainLength::NoInformation => write!(out, " q_length=0"),
-        TrainLength::ConfirmedByDevice(l) => write!(out, " q_length=1 l_trainint={}", l.value()),
-        TrainLength::ConfirmedByDriver(l) => write!(out, " q_length=2 l_trainint={}", l.value()),
-        TrainLength::Lost => write!(out, " q_length=3"),
+fn show_train_length(out: &mut Vec<u8>, train_length: &TrainLength) -> io::Result<()> {
+    let (q_length, l_trainint) = match train_length {
+        TrainLength::NoInformation => (0, None),
+        TrainLength::ConfirmedByDevice(l) => (1, Some(l.value())),
+        TrainLength::ConfirmedByDriver(l) => (2, Some(l.value())),
+        TrainLength::Lost => (3, None),
+    };
+    show(out, "q_length", q_length)?;
+    match l_trainint {
+        Some(l_trainint) => show(out, "l_trainint", l_trainint),
+        None => Ok(()),
     }
 }
 
-fn show_level<W: Write>(out: &mut W, level: &Level) -> io::Result<()> {
+fn show_level(out: &mut Vec<u8>, level: &Level) -> io::Result<()> {
+    let m_level = match level {
+        Level::Level0 => 0,
+        Level::Ntc(_) => 1,
+        Level::Level1 => 2,
+        Level::Level2 => 3,
+        Level::Level3 => 4,
+        Level::Spare5 => 5,
+        Level::Spare6 => 6,
+        Level::Spare7 => 7,
+    };
+    show(out, "m_level", m_level)?;
     match level {
-        Level::Level0 => write!(out, " m_level=0"),
-        Level::Ntc(nid_ntc) => write!(out, " m_level=1 nid_ntc={}", nid_ntc.value()),
-        Level::Level1 => write!(out, " m_level=2"),
-        Level::Level2 => write!(out, " m_level=3"),
-        Level::Level3 => write!(out, " m_level=4"),
-        Level::Spare5 => write!(out, " m_level=5"),
-        Level::Spare6 => write!(out, " m_level=6"),
-        Level::Spare7 => write!(out, " m_level=7"),
+        Level::Ntc(nid_ntc) => show(out, "nid_ntc", nid_ntc.value()),
+        _ => Ok(()),
     }
 }
 
-fn show_opaque<W: Write>(out: &mut W, packet: &Opaque) -> io::Result<()> {
+fn show_opaque(out: &mut Vec<u8>, packet: &Opaque) -> io::Result<()> {
     write!(out, " [{} bits=", packet.nid_packet())?;
     show_bits(out, packet.bits())?;
-    write!(out, "]")
+    Ok(out.extend_from_slice(b"]")?)
 }
 
-fn show_bits<W: Write>(out: &mut W, mut bits: BitReader) -> io::Result<()> {
+fn show_bits(out: &mut Vec<u8>, mut bits: BitReader) -> io::Result<()> {
     for _ in 0..bits.remaining() {
-        if let Ok(bit) = bits.take(1) {
-            write!(out, "{bit}")?;
+        match bits.take(1) {
+            Ok(0) => out.push(b'0')?,
+            Ok(_) => out.push(b'1')?,
+            Err(_) => {}
         }
     }
     Ok(())
@@ -125,7 +141,15 @@ fn show_bits<W: Write>(out: &mut W, mut bits: BitReader) -> io::Result<()> {
 /// A message of a centre, as `41 t_train=2 nid_lrbg=16777215`.
 pub fn show_track(alloc: Global, message: &TrackMsg) -> io::Result<Vec<u8>> {
     let mut out = Vec::new(alloc);
-    let number = match message.body() {
+    write!(&mut out, "{}", track_number(message.body()))?;
+    show(&mut out, "t_train", message.t_train().into())?;
+    show(&mut out, "nid_lrbg", message.nid_lrbg().into())?;
+    show_track_body(&mut out, message.body())?;
+    Ok(out)
+}
+
+fn track_number(body: TrackBody) -> u8 {
+    match body {
         TrackBody::Authority(_) => 3,
         TrackBody::DataAcknowledged(_) => 8,
         TrackBody::ShorteningRequest(_) => 9,
@@ -135,27 +159,30 @@ pub fn show_track(alloc: Global, message: &TrackMsg) -> io::Result<Vec<u8>> {
         TrackBody::TerminationAcknowledged => 39,
         TrackBody::TrainRejected => 40,
         TrackBody::TrainAccepted => 41,
-    };
-    let t_train = message.t_train();
-    let nid_lrbg = message.nid_lrbg();
-    write!(&mut out, "{number} t_train={t_train} nid_lrbg={nid_lrbg}")?;
-    match message.body() {
+    }
+}
+
+fn show_track_body(out: &mut Vec<u8>, body: TrackBody) -> io::Result<()> {
+    match body {
         TrackBody::Authority(a) | TrackBody::ShorteningRequest(a) => {
-            write!(&mut out, " [15 l_endsection={}]", a.l_endsection.value())?;
+            out.extend_from_slice(b" [15")?;
+            show(out, "l_endsection", a.l_endsection.value())?;
         }
-        TrackBody::DataAcknowledged(t) => write!(&mut out, " t_train_data={}", t.value())?,
         TrackBody::Transition(t) => {
-            write!(&mut out, " [131 d_rbctr={}", t.d_rbctr.value())?;
-            write!(&mut out, " nid_c={}", t.nid_c.value())?;
-            write!(&mut out, " nid_rbc={}]", t.nid_rbc.value())?;
+            out.extend_from_slice(b" [131")?;
+            show(out, "d_rbctr", t.d_rbctr.value())?;
+            show(out, "nid_c", t.nid_c.value())?;
+            show(out, "nid_rbc", t.nid_rbc.value())?;
         }
         TrackBody::EndSession(o) => {
-            write!(&mut out, " [42 q_rbc=0 nid_c={}", o.nid_c.value())?;
-            write!(&mut out, " nid_rbc={}]", o.nid_rbc.value())?;
+            out.extend_from_slice(b" [42 q_rbc=0")?;
+            show(out, "nid_c", o.nid_c.value())?;
+            show(out, "nid_rbc", o.nid_rbc.value())?;
         }
-        TrackBody::SystemVersion => write!(&mut out, " m_version=32")?,
+        TrackBody::DataAcknowledged(t) => return show(out, "t_train_data", t.value()),
+        TrackBody::SystemVersion => return show(out, "m_version", 32),
         TrackBody::TerminationAcknowledged | TrackBody::TrainRejected | TrackBody::TrainAccepted =>
-            {}
+            return Ok(()),
     }
-    Ok(out)
+    Ok(out.extend_from_slice(b"]")?)
 }

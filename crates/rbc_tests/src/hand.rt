@@ -14,16 +14,14 @@ fn name(section: u16) -> Token {
 
 /// Ends a token: its section.
 fn spent(book: &mut Book, token: Token) -> u16 {
-    let section = token.section();
     match token {
         Token::Own(claim) => {
+            let section = claim.section();
             book.give_back(claim);
+            section
         }
-        Token::Name(lent) => {
-            lent.send();
-        }
+        Token::Name(lent) => lent.send(),
     }
-    section
 }
 
 /// The section of a token that may have been cut off or handed back.

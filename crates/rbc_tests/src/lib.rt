@@ -23,8 +23,6 @@ mod hand;
 #[cfg(test)]
 mod line;
 #[cfg(test)]
-mod line_faults;
-#[cfg(test)]
 mod log;
 #[cfg(test)]
 mod node;

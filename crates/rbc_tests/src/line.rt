@@ -2,7 +2,7 @@ use rbc_line::Line;
 use std::alloc::Global;
 use std::test::*;
 
-pub const TWO_CENTRES: &str = "nid_c = 5
+const TWO_CENTRES: &str = "nid_c = 5
 [[centre]]
 name = \"A\"
 nid_rbc = 1
@@ -25,7 +25,7 @@ registrar = \"B\"
 ";
 
 /// Four sections of centre A, and then four of centre B.
-pub const EIGHT_SECTIONS: &str = "nid_c = 5
+const EIGHT_SECTIONS: &str = "nid_c = 5
 [[centre]]
 name = \"A\"
 nid_rbc = 1
