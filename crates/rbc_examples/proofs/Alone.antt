@@ -20,12 +20,12 @@ use Rattle.rbc_spec.specs.Step.{Refusal}
 use Rattle.rbc_spec.specs.Theorems.{IsOneCentreLine, IsStartAccepted, StepsAlone, MayPropose, Asks, FollowsAlone, OwnStepAlone, GoesAlone, RunsAlone}
 use Rattle.rbc_spec.specs.World.{World, Event, Bytes, Set, Unset, Delivery, Answer, new_world, world_step, world_run}
 use Rattle.rbc_examples.specs.Turns.{Choice, Plainly, Rejecting, Listening, Extending, Unanswered, Turn, allowed, accepting, rejecting, restart, start_here, start_new, set_turn, unset_turn, start_at, own_turn, Step, message_step, own_step, quiet_turns}
-use Rattle.rbc_examples.specs.Moves.{Move, Shown, Played, played, play_by, play}
+use Rattle.rbc_examples.specs.Moves.{Move, Shown, Played, played, is_piece, play_by, play}
 use Rattle.rbc_examples.specs.Alone.{played_on, is_barred, is_unasked, is_forced, is_plain, leaves_no_choice, leave_no_choice}
 use Rattle.rbc_examples.specs.Pieces.{sheet, event_of, IsMetAlone, events_of, shown_by, seen_after, centres_show, seen_of_line, line_shows}
-use Rattle.rbc_examples.proofs.Valid.{Valid, valid_some, valid_when, valid_then}
+use Rattle.rbc_examples.proofs.Valid.{Valid, valid_allowed, valid_some, valid_when, valid_then}
 use Rattle.rbc_examples.proofs.Bounds.{IsWithinLine}
-use Rattle.rbc_examples.proofs.Pieces.{at_speaking, shown_first, behind_first, is_shown, is_allowed, answers_with, answers_of, state_with, state_after, world_after, met, beginning_within}
+use Rattle.rbc_examples.proofs.Pieces.{at_speaking, piece_with, shown_first, behind_first, is_shown, is_allowed, answers_with, answers_of, state_with, state_after, world_after, met, beginning_within}
 use Rattle.rbc_examples.proofs.OwnTurns.{IsStep, own_step_is}
 use Rattle.rbc_examples.proofs.QuietTurns.{AreQuiet, quiets_are}
 
@@ -136,7 +136,7 @@ valid_at P o x so is = subst (Valid P) is so
 piece_alone : (line : Line) (v : LineState) (event : Event) (choice : Choice) (quiets : List Quiet) → IsWithinLine line v.mark → is_plain choice ≡ true
     → is_forced line (option_map_or (λ own. own.turn.state) (own_step line v event choice) v) event quiets ≡ true
     → Valid (IsPieceAlone line v event) (option_map_or
-    (λ own. option_map_or (λ later. Some (played own later)) (quiet_turns line own.turn.state quiets) None) (own_step line v event choice) None)
+    (λ own. option_map_or (λ later. allowed (is_piece line event own quiets later) (played own later)) (quiet_turns line own.turn.state quiets) None) (own_step line v event choice) None)
 unfolding OwnAlone
 piece_alone line v event choice quiets bound plain forced =
     valid_some (IsPieceAlone line v event) _ (own_step line v event choice) (λ own own_is.
@@ -144,23 +144,15 @@ piece_alone line v event choice quiets bound plain forced =
     let alone = valid_at (OwnAlone line v event) (own_step line v event choice) own (own_alone line v event choice plain) own_is in
     let here = sym (ap (λ o. is_forced line (option_map_or (λ (x : Step). x.turn.state) o v) event quiets) own_is) ∙ forced in
     valid_then (AreQuiet line own.turn.state quiets) (IsPieceAlone line v event) _ (quiet_turns line own.turn.state quiets)
-    (quiets_are line own.turn.state quiets first.1) (λ later others. record {
+    (quiets_are line own.turn.state quiets first.1) (λ later others.
+    valid_allowed (IsPieceAlone line v event) (is_piece line event own quiets later) (played own later) (λ so. record {
       meets = at_speaking (λ answer. GoesAlone line v event answer later.state) _ (λ outcome says. record {
-        piece = record {
-          own = own.turn.said;
-          mid = own.turn.state;
-          why = own.why;
-          quiets = quiets;
-          later = later.said;
-          own_step = first.0;
-          quiet_steps = others.0;
-          says = says;
-        };
+        piece = piece_with line v event own quiets later outcome first.0 others.0 says so;
         own_step = alone;
         quiet_steps = follows line own.turn.state event quiets later.said later.state others.0 here;
       });
       bound = others.1;
-    }))
+    })))
 
 play_alone : (line : Line) (v : LineState) (event : Event) (choice : Choice) (quiets : List Quiet) → IsWithinLine line v.mark
     → (is_plain choice && is_forced line (option_map_or (λ own. own.turn.state) (own_step line v event choice) v) event quiets) ≡ true

@@ -11,6 +11,7 @@ pub mod Valid
 pub mod Bounds
 pub mod OwnTurns
 pub mod QuietTurns
+pub mod InOrder
 pub mod Pieces
 pub mod StartsMet
 pub mod RequestsMet
@@ -24,3 +25,4 @@ pub mod ConditionsMet
 pub mod AloneMet
 pub mod StrayFrames
 pub mod PlacesMet
+pub mod NotAllowed

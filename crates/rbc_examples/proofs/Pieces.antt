@@ -1,23 +1,25 @@
 -- A move of the one line centre that is allowed is a piece, and moves that show what the centres show are a run.
-use Rattle.std.proofs.Common.{◌≡◌, ℕ, List, [], ◌∷◌, Bool, true, false, not, if◌then◌else◌, true≢false, Option, Some, None, Result, Ok, Err, refl, sym, ap}
+use Rattle.std.proofs.Common.{◌≡◌, ℕ, List, [], ◌∷◌, Bool, true, false, not, ◌||◌, is_none, if◌then◌else◌, true≢false, ◌⊎◌, ⊎_elim, inl, inr, subst, Option, Some, None, Result, Ok, Err, refl, sym, ap}
 use Rattle.std.specs.Option.{option_map_or}
-use Rattle.std.specs.List.{filter_map}
+use Rattle.std.specs.List.{filter_map, list_all}
+use Rattle.std.proofs.lemmas.Bool.{and_parts}
 use Rattle.std.proofs.lemmas.Option.{none-some, same_Some}
 use Rattle.rbc_spec.specs.Reach.{Whole}
 use Rattle.rbc_spec.specs.Line.{Line, is_centre}
 use Rattle.rbc_spec.specs.Outcome.{Outcome}
 use Rattle.rbc_spec.specs.LineCentre.{LineState, line_beginning}
-use Rattle.rbc_spec.specs.Quiet.{Quiet}
+use Rattle.rbc_spec.specs.Quiet.{Quiet, is_of_centre, TakesAll, both}
 use Rattle.rbc_spec.specs.Run as run
 use Rattle.rbc_spec.specs.Run.{Spoken, spoken_in}
 use Rattle.rbc_spec.specs.ReadOff.{read_off}
 use Rattle.rbc_spec.specs.Step.{Refusal}
-use Rattle.rbc_spec.specs.World.{World, Event, Bytes, Set, Unset, Delivery, Answer, Answered, NoCentre, NotSent, Fault, new_world, world_step, world_run}
+use Rattle.rbc_spec.specs.World.{World, Event, Bytes, Set, Unset, Delivery, Answer, Answered, NoCentre, NotSent, Fault, centre_of, new_world, world_step, world_run}
 use Rattle.rbc_examples.specs.Scene.{Scene}
-use Rattle.rbc_examples.specs.Turns.{Choice, Plainly, Rejecting, Listening, Extending, Unanswered, quiet_turns, own_step}
-use Rattle.rbc_examples.specs.Moves.{Move, Shown, Speaks, Nowhere, NeverSent, BadBytes, Played, played, without_piece, play_by, play}
+use Rattle.rbc_examples.specs.Turns.{Choice, Plainly, Rejecting, Listening, Extending, Unanswered, Turn, Step, allowed, quiet_turns, own_step}
+use Rattle.rbc_examples.specs.Moves.{Move, Shown, Speaks, Nowhere, NeverSent, BadBytes, Played, played, tells_in_order, are_none, is_piece, without_piece, play_by, play}
 use Rattle.rbc_examples.specs.Pieces.{Sheet, sheet, GoesWith, IsMetByRun, events_of, event_of, Seen, Shows, NotAllowed, shown_by, seen_after, centres_show, seen_of_line, line_shows}
-use Rattle.rbc_examples.proofs.Valid.{Valid, valid_allowed, valid_then, not_true}
+use Rattle.rbc_examples.proofs.Valid.{Valid, valid_allowed, valid_then, either, not_true, none_is}
+use Rattle.rbc_examples.proofs.InOrder.{in_order}
 use Rattle.rbc_examples.proofs.Bounds.{IsWithinLine}
 use Rattle.rbc_examples.proofs.OwnTurns.{IsStep, own_step_is}
 use Rattle.rbc_examples.proofs.QuietTurns.{AreQuiet, quiets_are}
@@ -92,26 +94,48 @@ unmet_is line v (Unset c s) = valid_allowed (Meets line v (Unset c s) v) (not (i
     (λ so. at_no_centre (λ answer. run.Goes line v (Unset c s) answer v) (not_true _ so, refl))
 unmet_is line v (Delivery from to number) = at_not_sent (λ answer. run.Goes line v (Delivery from to number) answer v) refl
 
+pub none_or : (own : Step) (quiets : List Quiet) → (is_none own.why || are_none quiets) ≡ true → (own.why ≡ None) ⊎ (quiets ≡ [])
+none_or own quiets so = ⊎_elim (λ (is : is_none own.why ≡ true). inl (none_is own.why is)) (λ (is : are_none quiets ≡ true). inr (nil_is quiets is))
+    (either (is_none own.why) (are_none quiets) so)
+  where
+    nil_is : (qs : List Quiet) → are_none qs ≡ true → qs ≡ []
+    nil_is [] is = refl
+    nil_is (q ∷ qs) is = absurd (true≢false (sym is))
+
+-- an own step and quiet steps that pass the tests of a piece
+abbrev pub piece_with : (line : Line) (v : LineState) (event : Event) (own : Step) (quiets : List Quiet) (later : Turn) (outcome : Outcome)
+    → run.OwnStep line v event own.turn.said own.turn.state own.why → TakesAll line own.turn.state quiets later.said later.state
+    → spoken_in outcome ≡ record { said = both own.turn.said later.said; silence = own.why } → is_piece line event own quiets later ≡ true
+    → run.Piece line v event outcome later.state
+piece_with line v event own quiets later outcome own_step quiet_steps says so =
+    let tests = and_parts (list_all (is_of_centre line (centre_of event)) quiets) _ so in
+    let others = and_parts (is_none own.why || are_none quiets) (tells_in_order (both own.turn.said later.said).words) tests.1 in
+    record {
+      own = own.turn.said;
+      mid = own.turn.state;
+      why = own.why;
+      quiets = quiets;
+      later = later.said;
+      own_step = own_step;
+      quiet_steps = quiet_steps;
+      own_centre = tests.0;
+      none_if_silent = none_or own quiets others.0;
+      in_order = subst run.TellsInOrder (sym (ap (λ (x : Spoken). x.said.words) says)) (in_order (both own.turn.said later.said).words others.1);
+      says = says;
+    }
+
 -- an own step and quiet steps are a piece
 piece_is : (line : Line) (v : LineState) (event : Event) (choice : Choice) (quiets : List Quiet) → IsWithinLine line v.mark
     → Valid (IsPiece line v event) (option_map_or
-    (λ own. option_map_or (λ later. Some (played own later)) (quiet_turns line own.turn.state quiets) None) (own_step line v event choice) None)
+    (λ own. option_map_or (λ later. allowed (is_piece line event own quiets later) (played own later)) (quiet_turns line own.turn.state quiets) None) (own_step line v event choice) None)
 piece_is line v event choice quiets bound =
     valid_then (IsStep line v event) (IsPiece line v event) _ (own_step line v event choice) (own_step_is line v event choice bound) (λ own first.
     valid_then (AreQuiet line own.turn.state quiets) (IsPiece line v event) _ (quiet_turns line own.turn.state quiets)
-    (quiets_are line own.turn.state quiets first.1) (λ later others. record {
-      meets = at_speaking (λ answer. run.Goes line v event answer later.state) _ (λ outcome says. record {
-        own = own.turn.said;
-        mid = own.turn.state;
-        why = own.why;
-        quiets = quiets;
-        later = later.said;
-        own_step = first.0;
-        quiet_steps = others.0;
-        says = says;
-      });
+    (quiets_are line own.turn.state quiets first.1) (λ later others.
+    valid_allowed (IsPiece line v event) (is_piece line event own quiets later) (played own later) (λ so. record {
+      meets = at_speaking (λ answer. run.Goes line v event answer later.state) _ (λ outcome says. piece_with line v event own quiets later outcome first.0 others.0 says so);
       bound = others.1;
-    }))
+    })))
 
 play_is : (line : Line) (v : LineState) (event : Event) (choice : Choice) (quiets : List Quiet) → IsWithinLine line v.mark
     → Valid (IsPiece line v event) (play_by line v event choice quiets)

@@ -123,9 +123,11 @@ quiet_is line v (Order t c) bound = valid_some (IsQuiet line v (Order t c)) _ (v
     valid_some (IsQuiet line v (Order t c)) _ (next_centre line c m.place.track) (λ next next_is.
     valid_some (IsQuiet line v (Order t c)) _ (find (is_over_border line v t next) (range_with_len 0 (section_count line))) (λ border _.
     valid_allowed (IsQuiet line v (Order t c)) _ _ (λ so.
-    let parts = and_parts _ _ so in
+    let halves = and_parts _ _ so in
+    let parts = and_parts _ _ halves.0 in
     let here = and_parts _ _ parts.0 in
-    let there = and_parts _ _ parts.1 in (
+    let there = and_parts _ _ parts.1 in
+    let room = and_parts _ _ halves.1 in (
       record {
         mission = m;
         next = next;
@@ -136,6 +138,8 @@ quiet_is line v (Order t c) bound = valid_some (IsQuiet line v (Order t c)) _ (v
         next_is = next_is;
         at_border = there.0;
         first_there = λ s less. not_true _ (each_of _ 0 border there.1 s (omega arith) (omega arith));
+        ahead = leb-true (group_start line m.place) (start line border) room.0;
+        within_reach = leb-true (start line border) (group_start line m.place + 32767) room.1;
         says = record { said_is = refl; new_is = refl };
       },
       bound,

@@ -1,8 +1,8 @@
 -- The state of the one line centre that stands for the world behind a start of mission.
-use Rattle.std.proofs.Common.{◌≡◌, ◌≢◌, inl, ℕ, zero, suc, ◌<◌, ◌==◌, nat_le, nat_lt, true, false, true≢false, List, [], ◌∷◌, length, drop, Some, None, pos, refl, sym, ap, ◌∙◌, subst, ne_eqb, eq-eqb, ⊎_elim, arith}
+use Rattle.std.proofs.Common.{◌≡◌, ◌≢◌, inl, ℕ, zero, suc, ◌<◌, ◌≤◌, ◌==◌, nat_le, nat_lt, true, false, true≢false, List, [], ◌∷◌, length, drop, Some, None, pos, refl, sym, ap, ◌∙◌, subst, ne_eqb, eq-eqb, ⊎_elim, arith}
 use Rattle.std.specs.List.{Contains}
 use Rattle.std.proofs.Math.Seq.{drop-nil}
-use Rattle.std.proofs.lemmas.Bool.{cases_eq, eqb-true, and_parts, leb-true, ltb-true}
+use Rattle.std.proofs.lemmas.Bool.{cases_eq, cases_Bool, eqb-true, and_parts, leb-true, ltb-true}
 use Rattle.std.proofs.lemmas.Option.{none-some, same_Some}
 use Rattle.rbc_spec.specs.Runs.{Run, no_run, within, longest}
 use Rattle.rbc_spec.specs.Line.{is_home, start as line_start, end}
@@ -12,8 +12,8 @@ use Rattle.rbc_spec.specs.Centre.{beginning}
 use Rattle.rbc_spec.specs.Acts.{◌>>◌}
 use Rattle.rbc_spec.specs.Step.{step}
 use Rattle.rbc_spec.specs.World.{World, new_world, world_step}
-use Rattle.rbc_spec.specs.LineCentre.{LineState, Shut, Given, Mission, is_given_to, line_beginning}
-use Rattle.rbc_spec.specs.ReadOff.{IsOnTheWay, IsHandOf, IsMissionOf, IsGiven, HasMark, StandsFor, seen, read_off}
+use Rattle.rbc_spec.specs.LineCentre.{LineState, Shut, Given, Mission, is_given_to, IsHand, line_beginning}
+use Rattle.rbc_spec.specs.ReadOff.{IsOnTheWay, IsHandOf, IsMissionOf, IsGiven, HasMark, StandsFor, seen, all_held, read_off}
 use Rattle.rbc_spec.specs.Frame.{Frame}
 use Rattle.rbc_examples.specs.Turns.{quiet_turns}
 use Rattle.rbc_examples.specs.Moves.{play}
@@ -202,6 +202,34 @@ each_mission t m (IsMissionOf.supervised c k has) =
     ap v.mission its.train_1 ∙ (ap (λ n. Some (seen 0 n)) (sym its.mission) ∙ ap (λ d. Some (seen d k)) (sym its.at_a))
 each_mission t m (IsMissionOf.parted a b f heard has_data is_ended place hand way carries) = absurd (none_on_way a b f way)
 
+-- ## One seat, and the hand that is given
+
+seats : (t : ℕ) → length (all_held line w t) ≤ 1
+unfolding its_mission within longest line_start end extent beginning ◌>>◌ step new_world world_step line_beginning quiet_turns play world_after state_after
+seats t = at_or (λ u. length (all_held line w u) ≤ 1) 1 t (omega arith) (λ apart. rw apart (omega arith))
+
+-- section 1, and no other
+one : Run
+one = record { first = 1; count = 1 }
+
+not_in_one : (s : ℕ) → (s == 1) ≡ false → within one s ≡ false
+unfolding one within
+not_in_one s apart = ⊎_elim
+    (λ (is : within one s ≡ true). let ends = and_parts (nat_le 1 s) (nat_lt s 2) is in
+    absurd (true≢false (sym (eq-eqb s 1 (omega (arith, leb-true 1 s ends.0, ltb-true s 2 ends.1))) ∙ apart)))
+    (λ (is : within one s ≡ false). is)
+    (cases_Bool (within one s))
+
+given_one : (s : ℕ) → is_given_to 1 (v.mark s) ≡ within one s
+unfolding one its_mission within longest line_start end extent beginning ◌>>◌ step new_world world_step line_beginning quiet_turns play world_after state_after
+given_one s = at_or (λ e. is_given_to 1 (v.mark e) ≡ within one e) 1 s refl (λ apart. rw (not_in_one s apart, apart) refl)
+
+hands_are : (t : ℕ) (hand : Run) → IsHandOf w t hand → IsHand v t hand
+unfolding one
+hands_are t hand has =
+    let its = only_hand t hand has in
+    record { each = λ s. ap (λ u. is_given_to u (v.mark s)) its.train_1 ∙ (given_one s ∙ ap (λ r. within r s) (sym its.hand_is)) }
+
 -- ## The whole
 
 pub start_stands : StandsFor line w v
@@ -215,6 +243,8 @@ start_stands = record {
   mission = mission_is;
   each_mission = each_mission;
   one_hand = λ t u s one two. (only_given t s one).train_1 ∙ sym (only_given u s two).train_1;
+  one_seat = seats;
+  hands = hands_are;
 }
 
 pub start_is_line_run : IsLineRunOf line start_at_the_registrar

@@ -9,7 +9,7 @@ use Rattle.rbc_spec.specs.Acts.{◌>>◌}
 use Rattle.rbc_spec.specs.Step.{step}
 use Rattle.rbc_spec.specs.World.{new_world, world_step, world_run}
 use Rattle.rbc_examples.specs.Scene.{line, times}
-use Rattle.rbc_examples.specs.StrayFrames.{asking, announcing, expecting, taking_over, centre_behind, effects, strays_to_a, strays_from_c, strays_to_the_announcing, strays_to_the_expecting, strays_to_the_taking, calm_asking, calm_announcing, calm_expecting, calm_taking, missions_taken, mission_at}
+use Rattle.rbc_examples.specs.StrayFrames.{asking, announcing, expecting, taking_over, centre_behind, effects, deliveries, strays_to_a, strays_from_c, strays_to_the_announcing, strays_to_the_expecting, strays_to_the_taking, fronts_before_the_track, taken_without_effect, calm_asking, calm_announcing, calm_expecting, calm_taking, missions_taken, mission_at}
 
 pub strays_to_a_come_to_nothing : effects line 0 1 asking strays_to_a ≡ times 24 calm_asking
 unfolding within longest line_start end extent beginning ◌>>◌ step new_world world_step world_run centre_behind
@@ -34,6 +34,10 @@ strays_to_the_expecting_come_to_nothing = refl
 pub strays_to_the_taking_come_to_nothing : effects line 1 0 taking_over strays_to_the_taking ≡ times 8 calm_taking
 unfolding within longest line_start end extent beginning ◌>>◌ step new_world world_step world_run centre_behind
 strays_to_the_taking_come_to_nothing = refl
+
+pub fronts_before_the_track_come_to_nothing : deliveries line 1 0 4 taking_over fronts_before_the_track ≡ times 2 (taken_without_effect 4 calm_taking)
+unfolding within longest line_start end extent beginning ◌>>◌ step new_world world_step world_run centre_behind
+fronts_before_the_track_come_to_nothing = refl
 
 pub yields_are_taken : missions_taken ≡ Some (mission_at 16200) ∷ Some (mission_at 10000) ∷ []
 unfolding within longest line_start end extent beginning ◌>>◌ step new_world world_step world_run centre_behind

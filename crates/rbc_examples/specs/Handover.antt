@@ -17,7 +17,7 @@ announced_shows = over_the_border_shows ++ (Link Next ∷ []) ∷ (Link Next ∷
 
 -- the supervision in one frame: the last place and the hand, sections 1 to 6
 abbrev pub the_yield : Body
-the_yield = Yield 1 1 6 true false (record { track = 0; group = group_1; front = 16200; rear = Some (pos 13900) }) (record { first = 1; count = 6 })
+the_yield = Yield 1 1 6 true false (record { track = 0; group = group_1; front = pos 16200; rear = Some (pos 13900) }) (record { first = 1; count = 6 })
 
 -- the train reports in section 4 to B, from this T_TRAIN on, which takes over; A yields, and what it takes twice is old
 abbrev pub handed_over : ℕ → List Scene

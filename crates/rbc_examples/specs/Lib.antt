@@ -17,3 +17,4 @@ pub mod LateMoves
 pub mod ConditionMoves
 pub mod StrayFrames
 pub mod PlaceMoves
+pub mod NotAllowed

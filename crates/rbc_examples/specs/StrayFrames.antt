@@ -1,5 +1,5 @@
 -- Frames that no world sends: a centre takes them without effect.
-use Rattle.std.specs.Prelude.{ℕ, Bool, true, false, List, [], ◌∷◌, ◌++◌, map, Option, Some, None, Result, Ok, Err, pos}
+use Rattle.std.specs.Prelude.{ℕ, Bool, true, false, List, [], ◌∷◌, ◌++◌, map, Option, Some, None, Result, Ok, Err, ℤ, pos, ◌-ℤ◌}
 use Rattle.std.specs.List.{filter, filter_map, range_with_len}
 use Rattle.rbc_spec.specs.Reach.{Whole}
 use Rattle.rbc_spec.specs.Runs.{Run, no_run}
@@ -7,12 +7,12 @@ use Rattle.rbc_spec.specs.Line.{Line}
 use Rattle.rbc_spec.specs.Sections.{section_count}
 use Rattle.rbc_spec.specs.Place.{Place}
 use Rattle.rbc_spec.specs.Frame.{Body, AskRight, GiveRight, RefuseRight, ReturnRight, RouteAsk, RouteInfo, RouteWithdraw, RouteReturn, Announce, Cancel, TakingOver, Yield}
-use Rattle.rbc_spec.specs.Outcome.{Saying, Word}
+use Rattle.rbc_spec.specs.Outcome.{Saying, Word, Outcome, Taken as LinkAnswer, Next}
 use Rattle.rbc_spec.specs.Message.{Report}
 use Rattle.rbc_spec.specs.Centre.{Centre, Entry, Shut, Taken, Out, Phase, Silent, Up, Mission, Handing, Expectation}
 use Rattle.rbc_spec.specs.Acts.{Reply}
 use Rattle.rbc_spec.specs.Links.{received}
-use Rattle.rbc_spec.specs.Step.{Refusal}
+use Rattle.rbc_spec.specs.Step.{Refusal, Deliver, step}
 use Rattle.rbc_spec.specs.World.{World, Answer, Delivery, new_world, world_run}
 use Rattle.rbc_examples.specs.Scene.{Scene, Happens, line, train, session, at, group_1, all_centres}
 use Rattle.rbc_examples.specs.Pieces.{event_of}
@@ -68,6 +68,25 @@ effect_of l reply = record {
 -- what bodies from centre d do at centre c, each for itself
 abbrev pub effects : Line → (c d : ℕ) → Centre → List Body → List Effect
 effects l c d k bodies = map (λ body. effect_of l (received l c d body k)) bodies
+
+-- the link's answer to a frame, how many frames of its sender were taken then, and what the centre has, says and sends
+pub record Delivered : Type 0 where
+  pub link : Option LinkAnswer
+  pub taken : ℕ
+  pub effect : Effect
+
+abbrev pub delivered_as : Line → ℕ → Result (Outcome × Centre) Refusal → Option Delivered
+delivered_as l d (Ok (o, k)) = Some (record {
+  link = o.link;
+  taken = k.taken d;
+  effect = effect_of l (record { state = k; frames = λ e. map (λ f. f.body) (o.frames e); sayings = o.sayings; words = o.words });
+})
+delivered_as l d (Err why) = None
+
+-- what the frames of this number from centre d come to at centre c, each for itself
+abbrev pub deliveries : Line → (c d number : ℕ) → Centre → List Body → List (Option Delivered)
+deliveries l c d number k bodies =
+    map (λ body. delivered_as l d (step Whole l c (Deliver d (record { number = number; stamp = 1; body = body })) k)) bodies
 
 -- ## Centres in the midst of scenes
 
@@ -194,7 +213,7 @@ abbrev pub strays_to_the_expecting : List Body
 strays_to_the_expecting = Announce 2 1 0 ∷ Cancel 2 1 ∷ Cancel 1 2 ∷ the_yield ∷ []
 
 -- a yield of this number and train, with this place's track, group and front, and hand
-abbrev pub yield_of : (number t track group front : ℕ) → Run → Body
+abbrev pub yield_of : (number t track group : ℕ) → ℤ → Run → Body
 yield_of number t track group front hand =
     Yield number t 6 true false (record { track = track; group = group; front = front; rear = Some (pos 13900) }) hand
 
@@ -205,13 +224,17 @@ one_to_six = record { first = 1; count = 6 }
 -- section that is not out, and sections that the line has not
 abbrev pub strays_to_the_taking : List Body
 strays_to_the_taking =
-    yield_of 2 1 0 group_1 16200 one_to_six ∷ yield_of 1 2 0 group_1 16200 one_to_six ∷ yield_of 1 3 0 group_1 16200 one_to_six
-    ∷ yield_of 1 1 1 group_1 16200 one_to_six ∷ yield_of 1 1 0 82100 16200 one_to_six ∷ yield_of 1 1 0 group_1 9999 one_to_six
-    ∷ yield_of 1 1 0 group_1 16200 (record { first = 1; count = 7 }) ∷ yield_of 1 1 0 group_1 16200 (record { first = 5; count = 5 }) ∷ []
+    yield_of 2 1 0 group_1 (pos 16200) one_to_six ∷ yield_of 1 2 0 group_1 (pos 16200) one_to_six ∷ yield_of 1 3 0 group_1 (pos 16200) one_to_six
+    ∷ yield_of 1 1 1 group_1 (pos 16200) one_to_six ∷ yield_of 1 1 0 82100 (pos 16200) one_to_six ∷ yield_of 1 1 0 group_1 (pos 9999) one_to_six
+    ∷ yield_of 1 1 0 group_1 (pos 16200) (record { first = 1; count = 7 }) ∷ yield_of 1 1 0 group_1 (pos 16200) (record { first = 5; count = 5 }) ∷ []
+
+-- a front before the track: one decimetre, and as far as its four bytes go
+abbrev pub fronts_before_the_track : List Body
+fronts_before_the_track = yield_of 1 1 0 group_1 (pos 0 -ℤ pos 1) one_to_six ∷ yield_of 1 1 0 group_1 (pos 0 -ℤ pos 2147483648) one_to_six ∷ []
 
 -- a front at the start of its group is taken
 abbrev pub least_front : Body
-least_front = yield_of 1 1 0 group_1 10000 one_to_six
+least_front = yield_of 1 1 0 group_1 (pos 10000) one_to_six
 
 abbrev pub missions_taken : List (Option Mission)
 missions_taken = map (λ body. (received line 1 0 body taking_over).state.mission 1) (the_yield ∷ least_front ∷ [])
@@ -235,3 +258,7 @@ calm_expecting = calm_at_b Silent None 0 (record { number = 1; is_taking = false
 
 abbrev pub calm_taking : Effect
 calm_taking = calm_at_b Up (Some 9) 1 (record { number = 1; is_taking = true })
+
+-- a frame without effect is the next of its link all the same
+abbrev pub taken_without_effect : ℕ → Effect → Option Delivered
+taken_without_effect number effect = Some (record { link = Some Next; taken = number; effect = effect })

@@ -1,9 +1,9 @@
 -- A train goes over three centres, the second of which has one short section.
 use Rattle.std.specs.Prelude.{ℕ, true, false, List, [], ◌∷◌, ◌++◌, Some, pos}
 use Rattle.rbc_spec.specs.Message.{StartOfMission, TrainData, Request, Report, EndOfMission, TrainAccepted, DataAcknowledged, Authority, Transition, EndSession, unknown_group}
-use Rattle.rbc_spec.specs.Frame.{AskRight, GiveRight, RouteAsk, RouteInfo, RouteReturn, RouteWithdraw, Announce, TakingOver, Yield}
+use Rattle.rbc_spec.specs.Frame.{AskRight, GiveRight, RouteAsk, RouteInfo, RouteReturn, RouteWithdraw, Announce, TakingOver, Yield, YieldedPlace}
 use Rattle.rbc_spec.specs.Outcome.{Asked, StaleStamp, MissionEnded, Next}
-use Rattle.rbc_spec.specs.Place.{Position, Place}
+use Rattle.rbc_spec.specs.Place.{Position}
 use Rattle.rbc_spec.specs.World.{Set, Unset, Delivery}
 use Rattle.rbc_examples.specs.Scene.{Scene, Happens, Look, Item, Says, Sends, Tells, Silence, Link, NeverSent, IsShut, IsOpen, Given, Kept, train, session, at, in_section_1, group_1, done, times, shows}
 use Rattle.rbc_examples.specs.Starts.{opened}
@@ -38,8 +38,8 @@ abbrev pub in_section_2 : Position
 in_section_2 = at 102 100 (Some 250)
 
 -- the last place that A heard of
-abbrev pub last_at_a : Place
-last_at_a = record { track = 0; group = group_1; front = 16200; rear = Some (pos 13900) }
+abbrev pub last_at_a : YieldedPlace
+last_at_a = record { track = 0; group = group_1; front = pos 16200; rear = Some (pos 13900) }
 
 -- B takes over, and the route over C's first section comes, and is given to the train
 abbrev pub from_the_second : List Scene
@@ -140,8 +140,8 @@ yields_once_cleared =
     ++ train 1 1 15 (Report (at 103 50 (Some 200))) ∷ Look ∷ Happens (Delivery 1 2 4) ∷ Look ∷ Happens (Delivery 1 0 3) ∷ Look ∷ []
 
 -- the last place that B heard of
-abbrev pub last_at_b : Place
-last_at_b = record { track = 0; group = 82023; front = 22700; rear = Some (pos 20400) }
+abbrev pub last_at_b : YieldedPlace
+last_at_b = record { track = 0; group = 82023; front = pos 22700; rear = Some (pos 20400) }
 
 abbrev pub yields_once_cleared_shows : List (List Item)
 yields_once_cleared_shows =
@@ -163,7 +163,7 @@ end_of_mission_yields_shows =
     held_back_shows
     ++ (Says 1 5 unknown_group (EndSession 5 2)
     ∷ Sends 0 3 (RouteReturn 1 (record { first = 1; count = 1 }))
-    ∷ Sends 2 4 (Yield 1 1 15 true true (record { track = 0; group = 82023; front = 24300; rear = Some (pos 22000) }) (record { first = 3; count = 1 })) ∷ [])
+    ∷ Sends 2 4 (Yield 1 1 15 true true (record { track = 0; group = 82023; front = pos 24300; rear = Some (pos 22000) }) (record { first = 3; count = 1 })) ∷ [])
     ∷ shows (IsShut ∷ Kept 1 ∷ IsOpen ∷ Given 1 ∷ IsShut ∷ []) [] ([] ∷ [] ∷ [])
     ∷ (Link Next ∷ []) ∷ (Silence StaleStamp ∷ []) ∷ (Silence MissionEnded ∷ [])
     ∷ shows (IsShut ∷ Kept 1 ∷ IsOpen ∷ Given 1 ∷ IsShut ∷ []) [] ((2 ∷ []) ∷ [] ∷ []) ∷ []

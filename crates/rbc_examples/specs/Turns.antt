@@ -227,8 +227,9 @@ is_over_border line v t next s = is_given_to t (v.mark s) && is_home line next s
 
 abbrev pub may_order : Line → LineState → (t c : ℕ) → Mission → (next border : ℕ) → Bool
 may_order line v t c m next border =
-    (is_at c m.supervisor && is_up (v.phase t c))
-    && (is_over_border line v t next border && list_all (λ s. not (is_over_border line v t next s)) (range_with_len 0 border))
+    ((is_at c m.supervisor && is_up (v.phase t c))
+    && (is_over_border line v t next border && list_all (λ s. not (is_over_border line v t next s)) (range_with_len 0 border)))
+    && (nat_le (group_start line m.place) (start line border) && nat_le (start line border) (group_start line m.place + 32767))
 
 abbrev pub ordered : Line → LineState → (t c : ℕ) → Mission → (next border : ℕ) → Turn
 ordered line v t c m next border =

@@ -5,6 +5,8 @@
 //! functions here do nothing.
 #![tactic(auto)]
 
+mod not_allowed;
+
 ghost use Rattle.std.specs.Prelude.{◌≡◌, [], ◌∷◌, None, Some, Ok, Err};
 ghost use Rattle.rbc_spec.specs.Reach.{Whole};
 ghost use Rattle.rbc_spec.specs.Centre.{beginning};
@@ -23,11 +25,13 @@ ghost use Rattle.rbc_examples.specs.SceneMoves.{another_answer_at_the_border_mov
 ghost use Rattle.rbc_examples.specs.LateMoves.{awaited_moves, cleared_elsewhere_moves, cleared_over_the_border_moves, cleared_with_a_pool_moves, end_of_mission_with_a_pool_moves, end_of_mission_yields_moves, first_and_third_not_linked_moves, from_the_first_moves, from_the_second_moves, route_after_the_yield_moves, route_for_an_ended_mission_moves, third_home_holds_the_yield_back_moves, whole_hand_is_cut_moves, wish_at_the_yield_moves, withdraw_goes_to_one_centre_moves, withdrawn_from_the_pool_moves, yields_once_cleared_moves};
 ghost use Rattle.rbc_examples.specs.Conditions.{unset_without_a_session, unset_without_a_session_shows, unset_after_the_end, unset_after_the_end_shows, unset_again, unset_again_shows, front_before_the_hand, front_before_the_hand_shows, front_in_the_section, front_in_the_section_shows, section_out_of_reach, section_out_of_reach_shows, yield_with_a_pool, yield_with_a_pool_shows, cut_with_a_pool, cut_with_a_pool_shows, cut_behind_the_border, cut_behind_the_border_shows, proposal_ends_with_the_session, proposal_ends_with_the_session_shows, start_outside_the_hand, start_outside_the_hand_shows, request_again_over_the_border, request_again_over_the_border_shows, request_while_asked, request_while_asked_shows, full_hand_at_the_border, full_hand_at_the_border_shows, pool_out_of_reach, pool_out_of_reach_shows, proposal_ends_with_the_mission, proposal_ends_with_the_mission_shows};
 ghost use Rattle.rbc_examples.specs.ConditionMoves.{unset_without_a_session_moves, unset_again_moves, front_before_the_hand_moves, front_in_the_section_moves, section_out_of_reach_moves, yield_with_a_pool_moves, cut_with_a_pool_moves, cut_behind_the_border_moves, proposal_ends_with_the_session_moves, request_again_over_the_border_moves, request_while_asked_moves, full_hand_at_the_border_moves, pool_out_of_reach_moves, proposal_ends_with_the_mission_moves};
-ghost use Rattle.rbc_examples.specs.StrayFrames.{asking, announcing, expecting, taking_over, effects, strays_to_a, strays_from_c, strays_to_the_announcing, strays_to_the_expecting, strays_to_the_taking, calm_asking, calm_announcing, calm_expecting, calm_taking, missions_taken, mission_at};
+ghost use Rattle.rbc_examples.specs.StrayFrames.{asking, announcing, expecting, taking_over, effects, deliveries, strays_to_a, strays_from_c, strays_to_the_announcing, strays_to_the_expecting, strays_to_the_taking, fronts_before_the_track, taken_without_effect, calm_asking, calm_announcing, calm_expecting, calm_taking, missions_taken, mission_at};
 ghost use Rattle.rbc_examples.specs.Places.{reports_without_place, reports_without_place_shows, requests_without_place, requests_without_place_show, hand_out_of_reach, hand_out_of_reach_shows, starts_that_are_not_fit, starts_that_are_not_fit_show, longest_train, longest_train_shows, other_scale, other_scale_shows, own_stamp_after_a_yield, own_stamp_after_a_yield_shows};
 ghost use Rattle.rbc_examples.specs.PlaceMoves.{requests_without_place_moves, hand_out_of_reach_moves, other_scale_moves, own_stamp_after_a_yield_moves};
 ghost use Rattle.rbc_spec.specs.World.{new_world, world_run};
 ghost use Rattle.rbc_examples.specs.Limits.{asks_behind, run_items, set_and_session, set_and_session_shows, stamps, having_sent, last_stamp_is_taken, last_stamp_is_taken_shows, stamp_past_the_last, stamp_past_the_last_shows, frame_without_a_link, frame_without_a_link_shows};
+
+pub use not_allowed::{moves_not_allowed, two_yields_on_the_way};
 
 /// What the interlocking is told, how sessions are opened and ended, and how missions start at the registrar and elsewhere.
 pub fn sessions_and_starts()
@@ -267,7 +271,7 @@ pub fn one_centre_met()
     ensures section_out_of_reach { IsMetAlone (line_of_one 20 2000) 0 section_out_of_reach }
 {}
 
-/// Frames that no world sends come to nothing, but for the clock.
+/// Frames that no world sends come to nothing, but for the clock and the count of frames taken.
 pub fn stray_frames()
     ensures to_a { effects line 0 1 asking strays_to_a ≡ times 24 calm_asking }
     ensures from_c { effects line 0 2 asking strays_from_c ≡ times 1 calm_asking }
@@ -275,6 +279,7 @@ pub fn stray_frames()
     ensures of_another_centre { effects line 0 2 announcing (TakingOver 1 1 ∷ []) ≡ times 1 calm_announcing }
     ensures to_the_expecting { effects line 1 0 expecting strays_to_the_expecting ≡ times 4 calm_expecting }
     ensures to_the_taking { effects line 1 0 taking_over strays_to_the_taking ≡ times 8 calm_taking }
+    ensures before_the_track { deliveries line 1 0 4 taking_over fronts_before_the_track ≡ times 2 (taken_without_effect 4 calm_taking) }
     ensures yields_taken { missions_taken ≡ Some (mission_at 16200) ∷ Some (mission_at 10000) ∷ [] }
 {}
 

@@ -1,10 +1,12 @@
 pub mod Maps
 pub mod Ranges
 pub mod Off
+pub mod Seats
 pub mod Stands
 pub mod ReadOff
 pub mod Silence
 pub mod Missions
+pub mod InOrder
 pub mod Messages
 pub mod Sessions
 pub mod Tellings

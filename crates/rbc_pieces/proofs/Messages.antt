@@ -1,5 +1,6 @@
 -- The step of a message, in parts: it is silent, or heard and answered.
-use Rattle.std.proofs.Common.{◌≡◌, ℕ, ◌+◌, Bool, true, false, Option, Some, None, refl, sym, ap, ◌∙◌, List, [], Ok, subst, slice_get}
+use Rattle.std.proofs.Common.{◌≡◌, ℕ, ◌+◌, Bool, true, false, Option, Some, None, refl, sym, ap, ◌∙◌, inl, inr, List, [], Ok, subst, slice_get}
+use Rattle.std.specs.List.{list_all}
 use Rattle.rbc_spec.specs.Reach.{Alone}
 use Rattle.rbc_spec.specs.Line.{Line, is_centre}
 use Rattle.rbc_spec.specs.Message.{TrainMessage, TrainBody}
@@ -10,9 +11,9 @@ use Rattle.rbc_spec.specs.Step as step
 use Rattle.rbc_spec.specs.Step.{Effect}
 use Rattle.rbc_spec.specs.LineCentre.{LineState, hears, Said, nothing}
 use Rattle.rbc_spec.specs.OwnSteps.{Own}
-use Rattle.rbc_spec.specs.Quiet.{Quiet, TakesAll, both}
+use Rattle.rbc_spec.specs.Quiet.{Quiet, is_of_centre, TakesAll, both}
 use Rattle.rbc_spec.specs.World.{World, Bytes}
-use Rattle.rbc_spec.specs.Run.{Piece, silent, heard}
+use Rattle.rbc_spec.specs.Run.{Piece, OwnStep, silent, heard}
 use Rattle.rbc_alone.specs.Alone.{IsAlone, alone_off}
 use Rattle.rbc_pieces.specs.Pieces.{with_centre}
 use Rattle.rbc_pieces.proofs.Maps.{put_keeps}
@@ -20,6 +21,7 @@ use Rattle.rbc_pieces.proofs.Acts.{append_nil}
 use Rattle.rbc_pieces.proofs.Off.{shows, mark_stays, wish_stays, mission_stays}
 use Rattle.rbc_pieces.proofs.Silence.{same_silence}
 use Rattle.rbc_pieces.proofs.Missions.{none_passes}
+use Rattle.rbc_pieces.proofs.InOrder.{none_in_order, piece_in_order}
 
 -- a step that leaves all that is seen of its centre is not seen
 pub record IsUnseen (old new : centre.Centre) : Type 0 where
@@ -82,6 +84,9 @@ module _ (line : Line) (w : World) (alone : IsAlone line w) (c t_train t : ℕ) 
         later = nothing;
         own_step = (at, silent why (same_silence line w alone c t t_train stamp body ∙ h) refl refl refl);
         quiet_steps = (refl, unseen line w c _ trains (record { book = refl; wish = refl; phase = refl; heard = refl; said = refl; mission = refl }));
+        own_centre = refl;
+        none_if_silent = inr refl;
+        in_order = none_in_order;
         says = refl;
       })
 
@@ -103,6 +108,8 @@ module _ (line : Line) (w : World) (alone : IsAlone line w) (c t_train t : ℕ) 
     pub own_step : Own line (before body) c (message body) body own mid
     pub quiet_steps : TakesAll line mid quiets later (alone_off line (with_centre w c (left state (reply body)) trains))
     pub says_it : said ≡ both own later
+    pub own_centre : list_all (is_of_centre line c) quiets ≡ true
+    pub none_told : later.words ≡ []
 
   answered_goes : (body : TrainBody) → step.silence line c ticked (message body) ≡ None → Answers body → Goes body
   answered_goes body h a =
@@ -110,14 +117,18 @@ module _ (line : Line) (w : World) (alone : IsAlone line w) (c t_train t : ℕ) 
       let effect : step.effect Alone line c ticked (step.Train (message body)) ≡ record { reply = made; link = None; silence = None } =
       rw h (λ i. record { reply = record { state = a.state_is i; frames = (reply body).frames; sayings = a.sayings_are i; words = a.words_are i }; link = None; silence = None })
       in
+      let own_step : OwnStep line now (Bytes c (Ok (message body))) a.own a.mid None = (at, heard (same_silence line w alone c t t_train stamp body ∙ h) refl (record { own = a.own_step })) in
       subst (PieceOf body) (sym effect) (record {
         own = a.own;
         mid = a.mid;
         why = None;
         quiets = a.quiets;
         later = a.later;
-        own_step = (at, heard (same_silence line w alone c t t_train stamp body ∙ h) refl (record { own = a.own_step }));
+        own_step = own_step;
         quiet_steps = a.quiet_steps;
+        own_centre = a.own_centre;
+        none_if_silent = inl refl;
+        in_order = piece_in_order line now (Bytes c (Ok (message body))) a.own a.mid None a.later a.said own_step a.none_told a.says_it;
         says = ap (λ (said : Said). record { said = said; silence = None }) a.says_it;
       })
 
@@ -146,6 +157,8 @@ module _ (line : Line) (w : World) (alone : IsAlone line w) (c t_train t : ℕ) 
     own_step = a.own_step;
     quiet_steps = (refl, a.shown);
     says_it = nothing_more a.said;
+    own_centre = refl;
+    none_told = refl;
   }
 
   -- a reason for which it was not left without an answer

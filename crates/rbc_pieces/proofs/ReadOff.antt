@@ -1,26 +1,22 @@
 -- The state that is read off centres that have their missions to themselves.
-use Rattle.std.proofs.Common.{◌≡◌, ◌≢◌, ℕ, zero, suc, ◌+◌, ◌<◌, ◌≤◌, ◌==◌, ◌&&◌, Bool, true, false, cond, Option, Some, None, option_map, is_some, refl, sym, ap, ◌∙◌, inl, inr, List, [], ◌∷◌, ◌++◌, length, map, slice_get, arith, subst}
+use Rattle.std.proofs.Common.{◌≡◌, ◌≢◌, ℕ, zero, suc, ◌+◌, ◌<◌, ◌≤◌, ◌==◌, ◌&&◌, Bool, true, false, cond, Option, Some, None, option_map, is_some, refl, sym, ap, ◌∙◌, inl, inr, List, [], ◌∷◌, length, map, slice_get, arith, subst}
 use Rattle.std.specs.Option.{option_map_or, option_and_then}
-use Rattle.std.specs.List.{find, filter_map, flat_map, range_with_len, AllByRecursion}
+use Rattle.std.specs.List.{find, filter_map, range_with_len, AllByRecursion}
 use Rattle.std.proofs.lemmas.Bool.{both_ways}
 use Rattle.std.proofs.lemmas.Bool.Decides.{eqb_tells}
 use Rattle.std.proofs.lemmas.List.Elements.{recursion_from_All}
 use Rattle.rbc_spec.specs.Runs.{within}
 use Rattle.rbc_spec.specs.Line.{Line, IsLine, Section, Train, section, is_home, registrar}
-use Rattle.rbc_spec.specs.Frame.{Frame}
 use Rattle.rbc_spec.specs.Centre as centre
 use Rattle.rbc_spec.specs.Centre.{is_registrar_of, is_taken_for}
 use Rattle.rbc_spec.specs.LineCentre as line_centre
-use Rattle.rbc_spec.specs.World.{World, way}
-use Rattle.rbc_spec.specs.ReadOff.{read_off, mark_of, held_at, handed_over, frames_on_way, held, holder, centres_of, Held, seen}
+use Rattle.rbc_spec.specs.World.{World}
+use Rattle.rbc_spec.specs.ReadOff.{read_off, mark_of, held_at, held, holder, centres_of, Held, seen}
 use Rattle.rbc_alone.specs.Alone.{IsAlone, hand_has, mark_alone, alone_off}
-use Rattle.rbc_pieces.proofs.Stands.{flat_map-none, find-none, no_way, one_home, taken_there}
+use Rattle.rbc_pieces.proofs.Seats.{filter_map-range_none, all_at_centres, not_held}
+use Rattle.rbc_pieces.proofs.Stands.{find-none, one_home, taken_there}
 
 -- ## Lists
-
-filter_map-range_none : {X : Type 0} (f : ℕ → Option X) (a n : ℕ) → ((s : ℕ) → a ≤ s → f s ≡ None) → filter_map f (range_with_len a n) ≡ []
-filter_map-range_none f a zero none = refl
-filter_map-range_none f a (suc n) none = rw (none a (omega arith)) (filter_map-range_none f (a + 1) n (λ s low. none s (omega arith)))
 
 -- the only number of a range that gives something gives what is found
 only_of_range : {X : Type 0} (f : ℕ → Option X) (a n r : ℕ) → a ≤ r → r < a + n → ((s : ℕ) → s ≢ r → f s ≡ None) → slice_get (filter_map f (range_with_len a n)) 0 ≡ f r
@@ -64,19 +60,8 @@ find_engine test (p ∷ ps) t is passes only = by_test (test p.nid_engine) refl 
 module _ (line : Line) (w : World) (is_line : IsLine line) (alone : IsAlone line w) where
   -- ## Missions
 
-  none_on_way : frames_on_way line w ≡ []
-  none_on_way = flat_map-none (λ a. flat_map (λ b. way w a b) (centres_of line)) (centres_of line) (λ a. flat_map-none (λ b. way w a b) (centres_of line) (λ b. no_way line w alone a b))
-
   at_centres : (t : ℕ) → held line w t ≡ slice_get (filter_map (held_at w t) (centres_of line)) 0
-  at_centres t = ap (λ (xs : List Frame). slice_get (filter_map (held_at w t) (centres_of line) ++ filter_map (λ (f : Frame). handed_over t f.body) xs) 0) none_on_way
-      ∙ ap (λ (xs : List Held). slice_get xs 0) (append_nil (filter_map (held_at w t) (centres_of line)))
-    where
-      append_nil : (xs : List Held) → xs ++ [] ≡ xs
-      append_nil [] = refl
-      append_nil (x ∷ xs) = ap (λ ys. x ∷ ys) (append_nil xs)
-
-  not_held : (t c : ℕ) → is_registrar_of line c t ≡ false → held_at w t c ≡ None
-  not_held t c away = rw ((alone.each c).at_registrar t away) refl
+  at_centres t = ap (λ (xs : List Held). slice_get xs 0) (all_at_centres line w alone t)
 
   -- a train's mission is held at its registrar
   held_is : (t : ℕ) → held line w t ≡ option_and_then (held_at w t) (registrar line t)
@@ -84,9 +69,9 @@ module _ (line : Line) (w : World) (is_line : IsLine line) (alone : IsAlone line
     where
       by_registrar : (o : Option ℕ) → registrar line t ≡ o → slice_get (filter_map (held_at w t) (centres_of line)) 0 ≡ option_and_then (held_at w t) o
       by_registrar None is =
-          ap (λ (xs : List Held). slice_get xs 0) (filter_map-range_none (held_at w t) 0 (length line.centres) (λ c low. not_held t c (ap (λ (o : Option ℕ). option_map_or (λ r. r == c) o false) is)))
+          ap (λ (xs : List Held). slice_get xs 0) (filter_map-range_none (held_at w t) 0 (length line.centres) (λ c low. not_held line w alone t c (ap (λ (o : Option ℕ). option_map_or (λ r. r == c) o false) is)))
       by_registrar (Some r) is = only_of_range (held_at w t) 0 (length line.centres) r (omega arith) (omega (arith, below (find (λ p. p.nid_engine == t) line.trains) refl is))
-          (λ s apart. not_held t s (ap (λ (o : Option ℕ). option_map_or (λ r. r == s) o false) is ∙ other s apart))
+          (λ s apart. not_held line w alone t s (ap (λ (o : Option ℕ). option_map_or (λ r. r == s) o false) is ∙ other s apart))
         where
           other : (s : ℕ) → s ≢ r → (r == s) ≡ false
           other s apart = elim (eqb_tells r s) [ inl e ↦ absurd (apart (sym (e.1))) | inr e ↦ e.0 ]

@@ -1,7 +1,7 @@
 -- What is read off centres that have their missions to themselves stands for them.
-use Rattle.std.proofs.Common.{◌≡◌, ℕ, zero, suc, ◌==◌, Bool, true, false, Option, Some, None, option_map, refl, sym, ap, ◌∙◌, inl, inr, List, [], ◌∷◌, drop, subst, arith}
+use Rattle.std.proofs.Common.{◌≡◌, ℕ, ◌==◌, Bool, true, false, Option, Some, None, option_map, refl, sym, ap, ◌∙◌, inl, inr, List, [], ◌∷◌, subst, arith}
 use Rattle.std.specs.Option.{option_map_or, option_and_then}
-use Rattle.std.specs.List.{find, filter_map, flat_map, Contains}
+use Rattle.std.specs.List.{find, Contains}
 use Rattle.std.proofs.lemmas.Bool.Decides.{eqb_tells}
 use Rattle.rbc_spec.specs.Runs.{Run, within}
 use Rattle.rbc_spec.specs.Line.{Line, Section, section, is_home, registrar}
@@ -9,31 +9,18 @@ use Rattle.rbc_spec.specs.Frame.{Frame}
 use Rattle.rbc_spec.specs.Centre as centre
 use Rattle.rbc_spec.specs.Centre.{is_registrar_of, is_taken_for, is_used_for}
 use Rattle.rbc_spec.specs.LineCentre as line_centre
-use Rattle.rbc_spec.specs.LineCentre.{LineState, Mark, is_given_to}
-use Rattle.rbc_spec.specs.World.{World, way}
+use Rattle.rbc_spec.specs.LineCentre.{LineState, Mark, is_given_to, IsHand}
+use Rattle.rbc_spec.specs.World.{World}
 use Rattle.rbc_spec.specs.ReadOff.{seen, StandsFor, IsOnTheWay, IsHandOf, IsMissionOf, at_centre as hand_at_centre, on_the_way, supervised, parted, IsGiven, HasMark}
 use Rattle.rbc_alone.specs.Alone.{IsAlone, hand_has, mark_alone, alone_off}
-use Rattle.rbc_pieces.proofs.Off.{mark_at_home, wish_at_home, given_is, registrar_of_mission, mission_at_registrar, hand_is_home}
+use Rattle.rbc_pieces.proofs.Off.{mark_at_home, wish_at_home, given_is, registrar_of_mission, mission_at_registrar, given_is_hand, hand_is_home}
+use Rattle.rbc_pieces.proofs.Seats.{no_way, one_seat}
 
--- ## Nothing is under way
-
-drop-nil : {X : Type 0} (n : ℕ) → ◌≡◌ {A = List X} (drop n []) []
-drop-nil zero = refl
-drop-nil (suc n) = refl
-
-pub filter_map-none : {X Y : Type 0} (xs : List X) → filter_map {Y = Y} (λ _. None) xs ≡ []
-filter_map-none [] = refl
-filter_map-none (x ∷ xs) = filter_map-none xs
-
-pub flat_map-none : {X Y : Type 0} (f : X → List Y) (xs : List X) → ((x : X) → f x ≡ []) → flat_map f xs ≡ []
-flat_map-none f [] none = refl
-flat_map-none f (x ∷ xs) none = rw (none x) (flat_map-none f xs none)
+-- ## Sections and trains
 
 pub find-none : {X : Type 0} (test : X → Bool) (xs : List X) → ((x : X) → test x ≡ false) → find test xs ≡ None
 find-none test [] none = refl
 find-none test (x ∷ xs) none = rw (none x) (find-none test xs none)
-
--- ## Sections and trains
 
 taken_is : (entry : centre.Entry) (t : ℕ) → is_taken_for t entry ≡ true → entry ≡ centre.Taken t
 taken_is centre.Shut t h = cc
@@ -75,12 +62,9 @@ two_takers t u h = cc
 module _ (line : Line) (w : World) (alone : IsAlone line w) where
   -- ## Hands
 
-  pub no_way : (a b : ℕ) → way w a b ≡ []
-  no_way a b = ap (drop ((w.at b).taken a)) ((alone.each a).none_sent b) ∙ drop-nil ((w.at b).taken a)
-
   none_under_way : (a b : ℕ) (f : Frame) → IsOnTheWay w a b f → ⊥
   none_under_way a b f on =
-      let found : Contains [] f = subst (λ (fs : List Frame). Contains fs f) (no_way a b) on.on_way in
+      let found : Contains [] f = subst (λ (fs : List Frame). Contains fs f) (no_way line w alone a b) on.on_way in
       let wrong : ⊥ = omega (arith, found.1) in
       wrong
 
@@ -139,6 +123,10 @@ module _ (line : Line) (w : World) (alone : IsAlone line w) where
       mission_at_registrar line w c t (registrar_of_mission line c t (w.at c) m (alone.each c) has.at_centre) ∙ ap (option_map (seen c)) has.at_centre
   each_mission_of t _ (parted a b f h d e p hand on carries) = absurd (none_under_way a b f on)
 
+  hands_are : (t : ℕ) (hand : Run) → IsHandOf w t hand → IsHand (alone_off line w) t hand
+  hands_are t hand (hand_at_centre c m has is) = record { each = λ s. given_is_hand line w c t m alone has.at_centre s ∙ ap (λ (r : Run). within r s) is }
+  hands_are t hand (on_the_way a b f h x e p on carries) = absurd (none_under_way a b f on)
+
   pub alone_stands : StandsFor line w (alone_off line w)
   alone_stands = record {
     phase = λ t c. refl;
@@ -150,4 +138,6 @@ module _ (line : Line) (w : World) (alone : IsAlone line w) where
     mission = mission_of;
     each_mission = each_mission_of;
     one_hand = λ t u s a b. let h = held_of_given t s a in two_takers t u (sym h.taken ∙ taken_at u s h.d h.home b);
+    one_seat = one_seat line w alone;
+    hands = hands_are;
   }

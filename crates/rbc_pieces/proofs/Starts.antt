@@ -1,6 +1,6 @@
 -- A start of mission is a piece of the one line centre's run. Where the rules would let it wait for its right at another centre than the
 -- train's registrar, it waits and is dismissed.
-use Rattle.std.proofs.Common.{◌≡◌, ℕ, ◌+◌, ◌&&◌, Bool, true, false, Option, Some, None, option_map, is_none, is_some, refl, sym, ap, ◌∙◌, List, [], ◌∷◌, if◌then◌else◌, inl, subst}
+use Rattle.std.proofs.Common.{◌≡◌, ℕ, ◌+◌, ◌&&◌, Bool, true, false, Option, Some, None, option_map, is_none, is_some, refl, sym, ap, ◌∙◌, List, [], ◌∷◌, if◌then◌else◌, inl, subst, eq-eqb}
 use Rattle.std.proofs.lemmas.Bool.{and_parts}
 use Rattle.std.proofs.lemmas.Option.{same_Some}
 use Rattle.rbc_spec.specs.Maps.{put}
@@ -247,6 +247,8 @@ module _ (line : Line) (w : World) (alone : IsAlone line w) (c t_train t : ℕ) 
           own_step = rw (fit) (rw (unsupervised) (rw (may_is ∙ is_all_free) (rw away (record { said_is = refl; new_is = refl }))));
           quiet_steps = subst (TakesAll line (waits line t c place v) (Dismiss t c ∷ []) rejection_said) (sym rejected_shown) (dismissal line v t c place refl (may_is ∙ is_all_free) unwished_there);
           says_it = refl;
+          own_centre = rw (eq-eqb c c refl) refl;
+          none_told = refl;
         })
 
         starts_free : Comes

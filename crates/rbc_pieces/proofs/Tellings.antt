@@ -1,5 +1,6 @@
 -- What the interlocking tells of a section, in parts: the answer to it, and what shows on the line.
 use Rattle.std.proofs.Common.{◌≡◌, ℕ, ◌+◌, Bool, true, false, Option, None, refl, sym, ap, ◌∙◌, List, [], ◌∷◌, inl, inr, subst, if◌then◌else◌}
+use Rattle.std.specs.List.{list_all}
 use Rattle.std.proofs.lemmas.Bool.Decides.{eqb_tells}
 use Rattle.rbc_spec.specs.Maps.{put}
 use Rattle.rbc_spec.specs.Line.{Line, is_centre, is_home}
@@ -11,13 +12,14 @@ use Rattle.rbc_spec.specs.Step as step
 use Rattle.rbc_spec.specs.Step.{Effect}
 use Rattle.rbc_spec.specs.LineCentre.{LineState, Said, nothing}
 use Rattle.rbc_spec.specs.OwnSteps.{set_mark, wished_back, is_unused_mark}
-use Rattle.rbc_spec.specs.Quiet.{Quiet, TakesAll, both}
-use Rattle.rbc_spec.specs.World.{World, Event}
+use Rattle.rbc_spec.specs.Quiet.{Quiet, is_of_centre, TakesAll, both}
+use Rattle.rbc_spec.specs.World.{World, Event, centre_of}
 use Rattle.rbc_spec.specs.Run.{Piece, OwnStep}
 use Rattle.rbc_alone.specs.Alone.{IsAlone, mark_alone, alone_off}
 use Rattle.rbc_pieces.specs.Pieces.{with_centre}
 use Rattle.rbc_pieces.proofs.Maps.{put_keeps}
 use Rattle.rbc_pieces.proofs.Messages.{nothing_more}
+use Rattle.rbc_pieces.proofs.InOrder.{piece_in_order}
 use Rattle.rbc_pieces.proofs.Off.{shows, mark_stays, wish_stays, mission_stays, mark_at_home, unused_is}
 
 module _ (line : Line) (w : World) (alone : IsAlone line w) (c s : ℕ) (trains : List ℕ) (at : is_centre line c ≡ true) where
@@ -53,6 +55,8 @@ module _ (line : Line) (w : World) (alone : IsAlone line w) (c s : ℕ) (trains 
     pub own_step : OwnStep line v event own mid None
     pub quiet_steps : TakesAll line mid quiets later (alone_off line (with_centre w c (left state r) trains))
     pub says_it : said ≡ both own later
+    pub own_centre : list_all (is_of_centre line (centre_of event)) quiets ≡ true
+    pub none_told : later.words ≡ []
 
   pub goes : (event : Event) (r : Reply) → Answers event r → Piece_of event r
   goes event r a =
@@ -66,6 +70,9 @@ module _ (line : Line) (w : World) (alone : IsAlone line w) (c s : ℕ) (trains 
         later = a.later;
         own_step = a.own_step;
         quiet_steps = a.quiet_steps;
+        own_centre = a.own_centre;
+        none_if_silent = inl refl;
+        in_order = piece_in_order line v event a.own a.mid None a.later a.said a.own_step a.none_told a.says_it;
         says = ap (λ (said : Said). record { said = said; silence = None }) a.says_it;
       })
 
@@ -94,6 +101,8 @@ module _ (line : Line) (w : World) (alone : IsAlone line w) (c s : ℕ) (trains 
     own_step = a.own_step;
     quiet_steps = (refl, a.shown);
     says_it = nothing_more a.said;
+    own_centre = refl;
+    none_told = refl;
   }
 
   abbrev pub word_said : Word → Said

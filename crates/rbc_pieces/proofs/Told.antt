@@ -1,5 +1,5 @@
 -- A set and an unset are pieces of the one line centre's run.
-use Rattle.std.proofs.Common.{◌≡◌, ◌≢◌, ℕ, ◌+◌, ◌-◌, ◌*◌, ◌==◌, ◌&&◌, not, nat_le, Bool, true, false, Option, Some, None, option_map, is_none, refl, sym, ap, ◌∙◌, List, [], ◌∷◌, inl, inr, arith, leb-true}
+use Rattle.std.proofs.Common.{◌≡◌, ◌≢◌, ℕ, ◌+◌, ◌-◌, ◌*◌, ◌==◌, ◌&&◌, not, nat_le, Bool, true, false, Option, Some, None, option_map, is_none, refl, sym, ap, ◌∙◌, List, [], ◌∷◌, inl, inr, arith, leb-true, eq-eqb}
 use Rattle.std.proofs.lemmas.Bool.{and_parts, both_ways}
 use Rattle.std.proofs.lemmas.Bool.Decides.{eqb_tells}
 use Rattle.rbc_spec.specs.Maps.{put}
@@ -232,6 +232,8 @@ module _ (line : Line) (w : World) (alone : IsAlone line w) (c s : ℕ) (trains 
           refl,
         );
         says_it = refl;
+        own_centre = rw (eq-eqb c c refl) refl;
+        none_told = refl;
       },
       asked t (proposal_said, proposed, proposes may),
     )

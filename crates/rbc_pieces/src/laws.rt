@@ -12,8 +12,9 @@ ghost use Rattle.rbc_spec.specs.ReadOff.{StandsFor, IsLineRun, read_off};
 ghost use Rattle.rbc_alone.specs.Alone.{IsAlone, alone_off};
 
 /// What is read off such centres: a section in use is given to its train, and each train's mission is as its registrar has
-/// it. That state stands for them.
+/// it. That state stands for them. Of a new line it is the beginning of the one line centre.
 pub fn what_is_read_off()
+    ensures beginning { (line : Line) → IsLine line → read_off line (new_world line) ≡ line_beginning }
     ensures read { (line : Line) (w : World) → IsLine line → IsAlone line w → read_off line w ≡ alone_off line w }
     ensures stands { (line : Line) (w : World) → IsLine line → IsAlone line w → StandsFor line w (read_off line w) }
     ensures stands_off { (line : Line) (w : World) → IsAlone line w → StandsFor line w (alone_off line w) }

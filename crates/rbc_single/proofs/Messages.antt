@@ -1,5 +1,5 @@
 -- The step of a message leaves no choice: it is silent for its reason, or answered at once.
-use Rattle.std.proofs.Common.{◌≡◌, ℕ, true, Option, Some, None, refl, sym, ap, ◌∙◌, List, [], Ok, subst}
+use Rattle.std.proofs.Common.{◌≡◌, ℕ, true, Option, Some, None, refl, sym, ap, ◌∙◌, inl, inr, List, [], Ok, subst}
 use Rattle.rbc_spec.specs.Reach.{Alone}
 use Rattle.rbc_spec.specs.Line.{Line, is_centre}
 use Rattle.rbc_spec.specs.Message.{TrainBody}
@@ -9,11 +9,12 @@ use Rattle.rbc_spec.specs.Step as step
 use Rattle.rbc_spec.specs.Step.{Effect}
 use Rattle.rbc_spec.specs.LineCentre.{Said, nothing}
 use Rattle.rbc_spec.specs.World.{World, Bytes}
-use Rattle.rbc_spec.specs.Run.{silent, heard}
+use Rattle.rbc_spec.specs.Run.{OwnStep, silent, heard}
 use Rattle.rbc_spec.specs.Theorems.{PieceAlone, IsStartAccepted}
 use Rattle.rbc_alone.specs.Alone.{IsAlone, alone_off}
 use Rattle.rbc_pieces.specs.Pieces.{with_centre}
 use Rattle.rbc_pieces.proofs.Silence.{same_silence}
+use Rattle.rbc_pieces.proofs.InOrder.{none_in_order, piece_in_order}
 use Rattle.rbc_pieces.proofs.Messages.{AtOnce, now, stamp, ticked, message, reply, before, nothing_more, unseen}
 
 module _ (line : Line) (w : World) (alone : IsAlone line w) (c t_train t : ℕ) (trains : List ℕ) (at : is_centre line c ≡ true) where
@@ -44,6 +45,9 @@ module _ (line : Line) (w : World) (alone : IsAlone line w) (c t_train t : ℕ) 
           later = nothing;
           own_step = (at, silent why same refl refl refl);
           quiet_steps = (refl, unseen line w c _ trains (record { book = refl; wish = refl; phase = refl; heard = refl; said = refl; mission = refl }));
+          own_centre = refl;
+          none_if_silent = inr refl;
+          in_order = none_in_order;
           says = refl;
         };
         own_step = record { silent = sym same; starts = λ none. cc };
@@ -63,6 +67,7 @@ module _ (line : Line) (w : World) (alone : IsAlone line w) (c t_train t : ℕ) 
       rw h (λ i. record { reply = record { state = a.state_is i; frames = (reply line w alone c t_train t trains at body).frames; sayings = a.sayings_are i; words = a.words_are i }; link = None; silence = None })
       in
       let same = same_silence line w alone c t t_train (stamp line w alone c t_train t trains at) body ∙ h in
+      let own_step : OwnStep line (now line w alone c t_train t trains at) (Bytes c (Ok (message line w alone c t_train t trains at body))) a.said a.mid None = (at, heard same refl (record { own = a.own_step })) in
       subst (PieceOf body) (sym effect) (record {
         piece = record {
           own = a.said;
@@ -70,8 +75,11 @@ module _ (line : Line) (w : World) (alone : IsAlone line w) (c t_train t : ℕ) 
           why = None;
           quiets = [];
           later = nothing;
-          own_step = (at, heard same refl (record { own = a.own_step }));
+          own_step = own_step;
           quiet_steps = (refl, a.shown);
+          own_centre = refl;
+          none_if_silent = inl refl;
+          in_order = piece_in_order line (now line w alone c t_train t trains at) (Bytes c (Ok (message line w alone c t_train t trains at body))) a.said a.mid None nothing a.said own_step refl (nothing_more a.said);
           says = ap (λ (said : Said). record { said = said; silence = None }) (nothing_more a.said);
         };
         own_step = record { silent = sym same; starts = λ none. answers.accepts };

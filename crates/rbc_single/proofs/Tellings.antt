@@ -1,5 +1,5 @@
 -- What the interlocking tells leaves no choice: behind an unset a shortening is asked for where it may be, and nothing else is done.
-use Rattle.std.proofs.Common.{◌≡◌, ℕ, true, None, refl, sym, ap, List, subst}
+use Rattle.std.proofs.Common.{◌≡◌, ℕ, true, None, refl, sym, ap, inl, List, subst}
 use Rattle.rbc_spec.specs.Line.{Line, is_centre}
 use Rattle.rbc_spec.specs.Acts.{Reply}
 use Rattle.rbc_spec.specs.Step as step
@@ -8,6 +8,7 @@ use Rattle.rbc_spec.specs.World.{World, Event, Set, Unset}
 use Rattle.rbc_spec.specs.Theorems.{PieceAlone, OwnStepAlone, FollowsAlone}
 use Rattle.rbc_alone.specs.Alone.{IsAlone, alone_off}
 use Rattle.rbc_pieces.specs.Pieces.{with_centre}
+use Rattle.rbc_pieces.proofs.InOrder.{piece_in_order}
 use Rattle.rbc_pieces.proofs.Tellings.{Answers, v, stamp, k, effect_of, answers_at_once}
 use Rattle.rbc_pieces.proofs.Told.{set_answered, unset_answered}
 
@@ -29,6 +30,9 @@ module _ (line : Line) (w : World) (alone : IsAlone line w) (c s : ℕ) (trains 
           later = a.later;
           own_step = a.own_step;
           quiet_steps = a.quiet_steps;
+          own_centre = a.own_centre;
+          none_if_silent = inl refl;
+          in_order = piece_in_order line (v line w alone c s trains at) event a.own a.mid None a.later a.said a.own_step a.none_told a.says_it;
           says = ap (λ (said : Said). record { said = said; silence = None }) a.says_it;
         };
         own_step = own;

@@ -1,3 +1,4 @@
 pub mod Convex
 pub mod Sums
 pub mod Places
+pub mod ReadOff

@@ -8,7 +8,7 @@ use Rattle.rbc_spec.specs.Line.{Line, is_home, start, registrar}
 use Rattle.rbc_spec.specs.Sections.{nid_rbc, home_run}
 use Rattle.rbc_spec.specs.Place.{Place, covered, group_start}
 use Rattle.rbc_spec.specs.Message.{TrainMessage, TrackBody, ShorteningRequest, Transition, EndSession, unknown_group}
-use Rattle.rbc_spec.specs.Frame.{Body, ReturnRight, RouteReturn, RouteAsk, Announce, Cancel, Yield}
+use Rattle.rbc_spec.specs.Frame.{Body, ReturnRight, RouteReturn, RouteAsk, Announce, Cancel, Yield, yielded_place}
 use Rattle.rbc_spec.specs.Outcome.{Saying, Word, Told}
 use Rattle.rbc_spec.specs.Centre.{Centre, Entry, Shut, Open, Out, Mission, Handing, is_up, is_taken_for, is_registrar_of}
 
@@ -188,7 +188,7 @@ end_order line c t = where_so (λ k. is_up (k.phase t)) (say t unknown_group (En
 abbrev pub yield : Line → ℕ → ℕ → Mission → Handing → Act
 yield line c t m h k =
     ((returned line c t m.place.track m.pool >> booked (is_taken_for t) (Out t h.to) m.hand)
-    >> (set_mission t None >> send h.to (Yield h.number t (option_map_or (λ n. n) (k.heard t) 0) m.has_data m.is_ended m.place m.hand)))
+    >> (set_mission t None >> send h.to (Yield h.number t (option_map_or (λ n. n) (k.heard t) 0) m.has_data m.is_ended (yielded_place m.place) m.hand)))
     >> (if is_empty (part_at line c m.place.track m.hand) then end_order line c t else rest)
     $ k
 

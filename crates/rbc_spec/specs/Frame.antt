@@ -1,9 +1,28 @@
 -- Frames between centres. The names Announcement, Cancellation, Taking Over Responsibility and Route Related
 -- Information come from the RBC/RBC interface (SUBSET-039); the frames and the rule of rights are the profile's.
-use Rattle.std.specs.Prelude.{ℕ, ◌+◌, ◌≤◌, Bool, true, ◌&&◌, IsTrue, ℤ, pos, ◌-ℤ◌, int_le}
+use Rattle.std.specs.Prelude.{ℕ, ◌+◌, ◌≤◌, Bool, true, ◌&&◌, IsTrue, Option, Some, None, ℤ, pos, negsuc, ◌-ℤ◌, int_le}
 use Rattle.std.specs.Option.{option_map_or}
 use Rattle.rbc_spec.specs.Runs.{Run}
 use Rattle.rbc_spec.specs.Place.{Place}
+
+-- the place that a Yield carries: the safe front end too may be any distance, also one before the start of the track
+pub record YieldedPlace : Type 0 where
+  pub track : ℕ
+  pub group : ℕ
+  pub front : ℤ
+  pub rear : Option ℤ
+
+-- a place, as a Yield carries it
+abbrev pub yielded_place : Place → YieldedPlace
+yielded_place place = record { track = place.track; group = place.group; front = pos place.front; rear = place.rear }
+
+-- the place that is carried with this front: none where it lies before the start of the track
+abbrev pub place_with_front : YieldedPlace → ℤ → Option Place
+place_with_front place (pos front) = Some (record { track = place.track; group = place.group; front = front; rear = place.rear })
+place_with_front place (negsuc n) = None
+
+abbrev pub carried_place : YieldedPlace → Option Place
+carried_place place = place_with_front place place.front
 
 pub data Body : Type 0 where
   AskRight : (t : ℕ) → Body  -- the registrar is asked for the supervision right of t
@@ -17,7 +36,7 @@ pub data Body : Type 0 where
   Announce : (number t track : ℕ) → Body  -- a handover is announced
   Cancel : (number t : ℕ) → Body  -- and cancelled
   TakingOver : (number t : ℕ) → Body  -- the train has reported in the accepting centre's area
-  Yield : (number t heard : ℕ) (has_data is_ended : Bool) (place : Place) (hand : Run) → Body  -- the supervision is handed over
+  Yield : (number t heard : ℕ) (has_data is_ended : Bool) (place : YieldedPlace) (hand : Run) → Body  -- the supervision is handed over
 
 pub record Frame : Type 0 where
   pub number : ℕ
@@ -44,10 +63,10 @@ pub record HasRunRange (least most : ℕ) (run : Run) : Type 0 where
 abbrev pub is_short_distance : ℤ → Bool
 is_short_distance distance = int_le (pos 0 -ℤ pos 2147483648) distance && int_le distance (pos 2147483647)
 
-pub record HasPlaceRange (place : Place) : Type 0 where
+pub record HasPlaceRange (place : YieldedPlace) : Type 0 where
   pub track : place.track ≤ 3
   pub group : place.group ≤ 16777214
-  pub front : place.front ≤ 2147483647
+  pub front : IsTrue (is_short_distance place.front)
   pub rear : IsTrue (option_map_or is_short_distance place.rear true)
 
 -- RouteAsk's most is cut so that no section past the 512th is asked for; a RouteReturn has at most a hand of 32 and a pool of 31

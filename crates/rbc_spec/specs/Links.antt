@@ -9,7 +9,7 @@ use Rattle.rbc_spec.specs.Runs.{Run, no_run, within, behind, is_empty, part_befo
 use Rattle.rbc_spec.specs.Line.{Line, is_home, is_linked, section, next_centre, train_number, section_of_group}
 use Rattle.rbc_spec.specs.Sections.{is_on, is_on_track}
 use Rattle.rbc_spec.specs.Place.{Place, group_start}
-use Rattle.rbc_spec.specs.Frame.{Body, AskRight, GiveRight, RefuseRight, ReturnRight, RouteAsk, RouteInfo, RouteWithdraw, RouteReturn, Announce, Cancel, TakingOver, Yield}
+use Rattle.rbc_spec.specs.Frame.{Body, AskRight, GiveRight, RefuseRight, ReturnRight, RouteAsk, RouteInfo, RouteWithdraw, RouteReturn, Announce, Cancel, TakingOver, Yield, carried_place}
 use Rattle.rbc_spec.specs.Centre.{Centre, Taken, Out, Mission, Expectation, is_out_for, is_free, is_open, uses_some, is_expected, is_registrar_of}
 use Rattle.rbc_spec.specs.Acts.{Act, become, rest, ◌>>◌, where_so, with_some, send, booked, freed, returned, set_mission, change_mission, return_right, propose_if_so, end_order, yield_if_due}
 use Rattle.rbc_spec.specs.Rules.{choose, drop_wait, begin, reject, all_of}
@@ -126,6 +126,11 @@ take_mission line c d t heard m =
     >> (become (λ k. record k { heard = put k.heard t (Some (option_map_or (max heard) (k.heard t) heard)) }) >> expect d t None))
     >> with_some (λ k. find (λ s. is_home line c s && k.wish s) (range_with_len m.hand.first m.hand.count)) (propose_if_so line t)
 
+-- a yield with this place is taken, where it may be
+abbrev pub yielded : Line → ℕ → ℕ → ℕ → ℕ → Run → ℕ → Bool → Bool → Place → Act
+yielded line c d number t hand heard has_data is_ended place = where_so (λ k. may_take line c k d number t place hand)
+    (take_mission line c d t heard (record { place = place; hand = hand; pool = no_run; has_data = has_data; is_ended = is_ended; proposal = None; handing = None }))
+
 -- ## A frame from centre d to centre c
 
 abbrev pub is_train : Line → ℕ → Bool
@@ -147,5 +152,4 @@ received line c d (Announce number t track) = of_train line t (if nat_lt track (
 received line c d (Cancel number t) = of_train line t (cancelled d number t)
 received line c d (TakingOver number t) = of_train line t (taking_over line c d number t)
 received line c d (Yield number t heard has_data is_ended place hand) =
-    of_train line t (where_so (λ k. may_take line c k d number t place hand)
-    (take_mission line c d t heard (record { place = place; hand = hand; pool = no_run; has_data = has_data; is_ended = is_ended; proposal = None; handing = None })))
+    of_train line t (option_map_or (yielded line c d number t hand heard has_data is_ended) (carried_place place) rest)

@@ -1,6 +1,6 @@
 -- The quiet steps of the one line centre, which it may take of its own behind an event. Only an admitted start gives a
 -- section, and none frees a given one.
-use Rattle.std.specs.Prelude.{◌≡◌, ◌+◌, ◌-◌, ◌*◌, ◌≤◌, ◌<◌, ℕ, List, [], ◌∷◌, ◌++◌, max, true, false, ◌==◌, ◌&&◌, Some, None}
+use Rattle.std.specs.Prelude.{◌≡◌, ◌+◌, ◌-◌, ◌*◌, ◌≤◌, ◌<◌, ℕ, List, [], ◌∷◌, ◌++◌, max, Bool, true, false, ◌==◌, ◌&&◌, Some, None}
 use Rattle.std.specs.Option.{option_map_or}
 use Rattle.rbc_spec.specs.Maps.{put}
 use Rattle.rbc_spec.specs.Maps.{put_pair}
@@ -23,6 +23,18 @@ pub data Quiet : Type 0 where
   Propose : (t c s : ℕ) → Quiet  -- c asks t to shorten its authority before s
   Order : (t c : ℕ) → Quiet  -- c orders t's transition to the next centre
   EndOrder : (t c : ℕ) → Quiet  -- c orders t to end its session
+
+-- the step is of centre c: of a section of home c, or of a train there
+abbrev pub is_of_centre : Line → ℕ → Quiet → Bool
+is_of_centre line c (Keep t s) = is_home line c s
+is_of_centre line c (Unkeep t s) = is_home line c s
+is_of_centre line c (Admit t d) = d == c
+is_of_centre line c (Dismiss t d) = d == c
+is_of_centre line c (LayDown t d) = d == c
+is_of_centre line c (TakeUp t d) = d == c
+is_of_centre line c (Propose t d s) = d == c
+is_of_centre line c (Order t d) = d == c
+is_of_centre line c (EndOrder t d) = d == c
 
 -- a start waits, and the train has no mission
 pub record Admits (line : Line) (v : LineState) (t c : ℕ) (said : Said) (new : LineState) : Type 0 where
@@ -73,7 +85,8 @@ pub record Proposes (line : Line) (v : LineState) (t c s : ℕ) (said : Said) (n
   pub says : Says t c mission.place.group (ShorteningRequest (start line s - group_start line mission.place)) [] v
       (change_mission t (λ m. record m { proposal = Some (record { stamp = v.said t c + 1; last_kept = s - 1 }) }) v) said new
 
--- message 24 with packet 131 (3.15.1): the next centre of the track, and where its first section in the hand begins
+-- message 24 with packet 131 (3.15.1): the next centre of the track, and where its first section in the hand begins, which is not behind
+-- the group and has room in D_RBCTR
 pub record Orders (line : Line) (v : LineState) (t c : ℕ) (said : Said) (new : LineState) : Type 0 where
   pub mission : Mission
   pub next : ℕ
@@ -84,6 +97,8 @@ pub record Orders (line : Line) (v : LineState) (t c : ℕ) (said : Said) (new :
   pub next_is : next_centre line c mission.place.track ≡ Some next
   pub at_border : is_given_to t (v.mark border) && is_home line next border ≡ true
   pub first_there : (s : ℕ) → s < border → (is_given_to t (v.mark s) && is_home line next s) ≡ false
+  pub ahead : group_start line mission.place ≤ start line border
+  pub within_reach : start line border ≤ group_start line mission.place + 32767
   pub says : Says t c mission.place.group (Transition (start line border - group_start line mission.place) line.nid_c (nid_rbc line next)) [] v v said new
 
 -- message 24 with packet 42: the train is not supervised here and has no section of home c

@@ -1,13 +1,13 @@
 -- When a state of the one line centre stands for a world of centres.
-use Rattle.std.specs.Prelude.{◌≡◌, ◌⊎◌, ℕ, List, ◌++◌, ◌==◌, length, map, slice_get, Bool, true, false, Option, Some, None, option_map, if◌then◌else◌}
+use Rattle.std.specs.Prelude.{◌≡◌, ◌⊎◌, ◌≤◌, ℕ, List, ◌++◌, ◌==◌, length, map, slice_get, Bool, true, false, Option, Some, None, option_map, if◌then◌else◌}
 use Rattle.std.specs.List.{Contains, filter_map, find, flat_map, range_with_len}
 use Rattle.std.specs.Option.{option_map_or}
 use Rattle.rbc_spec.specs.Runs.{Run, within}
 use Rattle.rbc_spec.specs.Line.{Line, is_home, section}
 use Rattle.rbc_spec.specs.Place.{Place}
-use Rattle.rbc_spec.specs.Frame.{Frame, Body, Yield}
+use Rattle.rbc_spec.specs.Frame.{Frame, Body, Yield, yielded_place, carried_place}
 use Rattle.rbc_spec.specs.Centre as centre
-use Rattle.rbc_spec.specs.LineCentre.{LineState, Mark, Shut, Open, Kept, Given, Mission, At, Parted, line_beginning}
+use Rattle.rbc_spec.specs.LineCentre.{LineState, Mark, Shut, Open, Kept, Given, Mission, At, Parted, IsHand, line_beginning}
 use Rattle.rbc_spec.specs.World.{World, Event, Answer, way}
 use Rattle.rbc_spec.specs.Run as run
 
@@ -23,7 +23,7 @@ pub record IsOnTheWay (w : World) (a b : ℕ) (f : Frame) : Type 0 where
 -- what a Yield of the train carries
 pub record Carries (f : Frame) (t heard : ℕ) (has_data is_ended : Bool) (place : Place) (hand : Run) : Type 0 where
   pub number : ℕ
-  pub is_yield : f.body ≡ Yield number t heard has_data is_ended place hand
+  pub is_yield : f.body ≡ Yield number t heard has_data is_ended (yielded_place place) hand
 
 -- a mission that a centre has, as the line sees it
 abbrev pub seen : ℕ → centre.Mission → Mission
@@ -39,6 +39,34 @@ pub data IsMissionOf (w : World) (t : ℕ) : Mission → Type 0 where
   supervised : (c : ℕ) (m : centre.Mission) → HasMission w t c m → IsMissionOf w t (seen c m)
   parted : (a b : ℕ) (f : Frame) (heard : ℕ) (has_data is_ended : Bool) (place : Place) (hand : Run) → IsOnTheWay w a b f → Carries f t heard has_data is_ended place hand
       → IsMissionOf w t (record { place = place; has_data = has_data; is_ended = is_ended; proposal = None; supervisor = Parted heard })
+
+-- a mission, and its hand
+pub record Held : Type 0 where
+  pub mission : Mission
+  pub hand : Run
+
+abbrev pub held_at : World → ℕ → ℕ → Option Held
+held_at w t c = option_map (λ m. record { mission = seen c m; hand = m.hand }) ((w.at c).mission t)
+
+-- the mission that a frame hands over, which nobody supervises
+abbrev pub handed_over : ℕ → Body → Option Held
+handed_over t (Yield number u heard has_data is_ended place hand) =
+    if u == t
+    then option_map (λ at. record { mission = record { place = at; has_data = has_data; is_ended = is_ended; proposal = None; supervisor = Parted heard }; hand = hand }) (carried_place place)
+    else None
+handed_over t body = None
+
+-- the centres of the line
+abbrev pub centres_of : Line → List ℕ
+centres_of line = range_with_len 0 (length line.centres)
+
+-- the frames on the way between any two of them
+abbrev pub frames_on_way : Line → World → List Frame
+frames_on_way line w = flat_map (λ a. flat_map (λ b. way w a b) (centres_of line)) (centres_of line)
+
+-- what the centres have, and the frames on the way: at most one mission of a train
+abbrev pub all_held : Line → World → ℕ → List Held
+all_held line w t = filter_map (held_at w t) (centres_of line) ++ filter_map (λ f. handed_over t f.body) (frames_on_way line w)
 
 -- ## Marks
 
@@ -59,7 +87,8 @@ pub record HasMark (w : World) (s c : ℕ) (mark : Mark) : Type 0 where
 
 -- ## The read-off
 
--- No V stands for a world that has a section in two hands or two missions of one train: then no mark and no mission fit
+-- No V stands for a world that has a section in two hands, or two missions of one train: a centre's and a Yield's, or two Yields. A hand is
+-- all that is given to its train
 pub record StandsFor (line : Line) (w : World) (v : LineState) : Type 0 where
   pub phase : (t c : ℕ) → v.phase t c ≡ (w.at c).phase t
   pub heard : (t c : ℕ) → v.heard t c ≡ (w.at c).heard t
@@ -70,37 +99,11 @@ pub record StandsFor (line : Line) (w : World) (v : LineState) : Type 0 where
   pub mission : (t : ℕ) (m : Mission) → v.mission t ≡ Some m → IsMissionOf w t m
   pub each_mission : (t : ℕ) (m : Mission) → IsMissionOf w t m → v.mission t ≡ Some m
   pub one_hand : (t u s : ℕ) → IsGiven w t s → IsGiven w u s → t ≡ u
+  pub one_seat : (t : ℕ) → length (all_held line w t) ≤ 1
+  pub hands : (t : ℕ) (hand : Run) → IsHandOf w t hand → IsHand v t hand
 
 -- ## The read-off as a function
 -- For a world that some state stands for, it is that state on the line's sections, trains and centres.
-
--- a mission, and its hand
-pub record Held : Type 0 where
-  pub mission : Mission
-  pub hand : Run
-
-abbrev pub held_at : World → ℕ → ℕ → Option Held
-held_at w t c = option_map (λ m. record { mission = seen c m; hand = m.hand }) ((w.at c).mission t)
-
--- the mission that a frame hands over, which nobody supervises
-abbrev pub handed_over : ℕ → Body → Option Held
-handed_over t (Yield number u heard has_data is_ended place hand) =
-    if u == t
-    then Some (record { mission = record { place = place; has_data = has_data; is_ended = is_ended; proposal = None; supervisor = Parted heard }; hand = hand })
-    else None
-handed_over t body = None
-
--- the centres of the line
-abbrev pub centres_of : Line → List ℕ
-centres_of line = range_with_len 0 (length line.centres)
-
--- the frames on the way between any two of them
-abbrev pub frames_on_way : Line → World → List Frame
-frames_on_way line w = flat_map (λ a. flat_map (λ b. way w a b) (centres_of line)) (centres_of line)
-
--- what the centres have, and the frames on the way: at most one mission of a train
-abbrev pub all_held : Line → World → ℕ → List Held
-all_held line w t = filter_map (held_at w t) (centres_of line) ++ filter_map (λ f. handed_over t f.body) (frames_on_way line w)
 
 abbrev pub held : Line → World → ℕ → Option Held
 held line w t = slice_get (all_held line w t) 0

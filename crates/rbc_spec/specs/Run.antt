@@ -1,19 +1,19 @@
 -- The runs of the one line centre.
-use Rattle.std.specs.Prelude.{◌≡◌, ℕ, List, [], ◌∷◌, Bool, true, false, Option, Some, None, is_none, is_some, Ok, Err, ◌&&◌, ◌||◌, not, ◌==◌, ◌+◌, ◌*◌, nat_le}
+use Rattle.std.specs.Prelude.{◌≡◌, ◌⊎◌, ◌<◌, ℕ, List, [], ◌∷◌, slice_get, Bool, true, false, Option, Some, None, is_none, is_some, Ok, Err, ◌&&◌, ◌||◌, not, ◌==◌, ◌+◌, ◌*◌, nat_le}
 use Rattle.std.specs.Option.{option_map_or}
-use Rattle.std.specs.List.{find, list_any, range_with_len}
+use Rattle.std.specs.List.{find, list_all, list_any, range_with_len}
 use Rattle.rbc_spec.specs.Line.{Line, is_centre, train_number, is_home, end}
 use Rattle.rbc_spec.specs.Sections.{section_count}
 use Rattle.rbc_spec.specs.Place.{Position, extent, has_front, group_start}
 use Rattle.rbc_spec.specs.Message.{TrainMessage, TrainBody, Request, Report, ShorteningGranted, ShorteningRejected, StartOfMission, SessionEstablished}
-use Rattle.rbc_spec.specs.Outcome.{Outcome, Reason, StaleStamp, NoSession, ForeignEngine, NoPlace, NotSupervised, NoTrainData, ProposalPending, Unasked, MissionEnded, WrongPhase}
+use Rattle.rbc_spec.specs.Outcome.{Outcome, Word, Told, Reason, StaleStamp, NoSession, ForeignEngine, NoPlace, NotSupervised, NoTrainData, ProposalPending, Unasked, MissionEnded, WrongPhase}
 use Rattle.rbc_spec.specs.Centre.{is_up}
 use Rattle.rbc_spec.specs.Rules.{place_on}
 use Rattle.rbc_spec.specs.Step.{is_stale, is_silent, reasons_of}
 use Rattle.rbc_spec.specs.LineCentre.{LineState, Mission, is_at, is_given_to, hears, Said, nothing}
 use Rattle.rbc_spec.specs.OwnSteps.{Own, Sets, Unsets}
-use Rattle.rbc_spec.specs.Quiet.{Quiet, TakesAll, both}
-use Rattle.rbc_spec.specs.World.{Event, Bytes, Set, Unset, Delivery, Answer, Answered, NoCentre, NotSent, Fault}
+use Rattle.rbc_spec.specs.Quiet.{Quiet, is_of_centre, TakesAll, both}
+use Rattle.rbc_spec.specs.World.{Event, Bytes, Set, Unset, Delivery, centre_of, Answer, Answered, NoCentre, NotSent, Fault}
 
 -- ## Reasons of silence, read from the line's state
 
@@ -97,7 +97,12 @@ OwnStep line v (Unset c s) said new why = (is_centre line c ≡ true) × Unsets 
 OwnStep line v (Delivery from to number) said new why = (said ≡ nothing) × (new ≡ v) × (why ≡ None)
 OwnStep line v event said new why = ⊥
 
--- the piece of an event: its own step, then quiet steps, and what they say in order. The piece of a delivery is quiet steps alone
+-- of two sections that are told, the lower is told first
+abbrev pub TellsInOrder : List Word → Type 0
+TellsInOrder words = (i j s e : ℕ) → i < j → slice_get words i ≡ Some (Told s) → slice_get words j ≡ Some (Told e) → s < e
+
+-- the piece of an event: its own step, then quiet steps of its centre, none behind a silent message, and what they say in order, sections
+-- that are told by their numbers. The piece of a delivery is quiet steps alone
 pub record Piece (line : Line) (v : LineState) (event : Event) (outcome : Outcome) (new : LineState) : Type 0 where
   pub own : Said
   pub mid : LineState
@@ -106,6 +111,9 @@ pub record Piece (line : Line) (v : LineState) (event : Event) (outcome : Outcom
   pub later : Said
   pub own_step : OwnStep line v event own mid why
   pub quiet_steps : TakesAll line mid quiets later new
+  pub own_centre : list_all (is_of_centre line (centre_of event)) quiets ≡ true
+  pub none_if_silent : (why ≡ None) ⊎ (quiets ≡ [])
+  pub in_order : TellsInOrder outcome.words
   pub says : spoken_in outcome ≡ record { said = both own later; silence = why }
 
 -- From v the one line centre may meet the event with this answer, and go on from new. Bytes that spell no message, a centre not

@@ -20,6 +20,13 @@ pub data Event : Type 0 where
   Unset : (c s : ℕ) → Event
   Delivery : (from to number : ℕ) → Event
 
+-- the centre at which an event happens
+abbrev pub centre_of : Event → ℕ
+centre_of (Bytes c read) = c
+centre_of (Set c s) = c
+centre_of (Unset c s) = c
+centre_of (Delivery from to number) = to
+
 -- the outcome of a centre's step; or the centre is not of the line, a frame of that number was never sent, or the
 -- bytes show the fault of this number: these change nothing
 pub data Answer : Type 0 where

@@ -7,6 +7,9 @@ ghost use Rattle.rbc_spec.specs.Runs.{within};
 ghost use Rattle.rbc_spec.specs.Place.{Place, covers, covered, is_cleared};
 ghost use Rattle.rbc_spec.specs.Outcome.{Next, Old, Early};
 ghost use Rattle.rbc_spec.specs.Step.{is_stale, offered};
+ghost use Rattle.rbc_spec.specs.World.{World};
+ghost use Rattle.rbc_spec.specs.LineCentre.{LineState};
+ghost use Rattle.rbc_spec.specs.ReadOff.{StandsFor};
 
 /// On one track a section ends at or before the start of each later one, so that starts and ends rise.
 pub fn sections_follow_one_another()
@@ -41,4 +44,13 @@ pub fn one_number_is_next()
     ensures next { (count : ℕ) → offered count (count + 1) ≡ Next }
     ensures old { (count number : ℕ) → number ≤ count → offered count number ≡ Old }
     ensures early { (count number : ℕ) → count + 1 < number → offered count number ≡ Early }
+{}
+
+/// At most one state of the one line centre stands for a world: two that do are the same on the line's sections, trains and centres.
+pub fn one_state_stands()
+    ensures sessions { (line : Line) (w : World) (u v : LineState) (t c : ℕ) → StandsFor line w u → StandsFor line w v
+        → (u.phase t c ≡ v.phase t c) × (u.heard t c ≡ v.heard t c) × (u.said t c ≡ v.said t c) × (u.wait t c ≡ v.wait t c) }
+    ensures missions { (line : Line) (w : World) (u v : LineState) (t : ℕ) → StandsFor line w u → StandsFor line w v → u.mission t ≡ v.mission t }
+    ensures sections { (line : Line) (w : World) (u v : LineState) (s c : ℕ) → is_home line c s ≡ true → StandsFor line w u → StandsFor line w v
+        → (u.mark s ≡ v.mark s) × (u.wish s ≡ v.wish s) }
 {}

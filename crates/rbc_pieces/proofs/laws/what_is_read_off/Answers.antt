@@ -2,7 +2,11 @@ use Rattle.std.proofs.Common.{sym, subst}
 use Rattle.rbc_spec.specs.ReadOff.{StandsFor}
 use Rattle.rbc_pieces.proofs.Stands.{alone_stands}
 use Rattle.rbc_pieces.proofs.ReadOff.{read_off_alone}
+use Rattle.rbc_pieces.proofs.Whole.{beginning_read}
 use Rattle.rbc_pieces.proofs.laws.what_is_read_off.Goals as goal
+
+pub returns-clause-beginning : goal.returns-clause-beginning
+returns-clause-beginning c = beginning_read
 
 pub returns-clause-read : goal.returns-clause-read
 returns-clause-read c = read_off_alone

@@ -1,0 +1,11 @@
+use Rattle.rbc_spec.proofs.ReadOff.{same_sessions, same_mission, same_section}
+use Rattle.rbc_spec.proofs.laws.one_state_stands.Goals as goal
+
+pub returns-clause-sessions : goal.returns-clause-sessions
+returns-clause-sessions c = same_sessions
+
+pub returns-clause-missions : goal.returns-clause-missions
+returns-clause-missions c = same_mission
+
+pub returns-clause-sections : goal.returns-clause-sections
+returns-clause-sections c = same_section
