@@ -3,14 +3,18 @@ use Rattle.std.proofs.Common.{◌≡◌, ℕ, zero, suc, ◌<◌, ◌≢◌, Lis
 use Rattle.std.specs.Option.{option_map_or}
 use Rattle.std.proofs.lemmas.Bool.Decides.{eqb_tells}
 use Rattle.rbc_spec.specs.Maps.{put}
-use Rattle.rbc_spec.specs.Line.{Line}
+use Rattle.rbc_spec.specs.Line.{Line, IsLine}
 use Rattle.rbc_spec.specs.Centre as centre
 use Rattle.rbc_spec.specs.World.{new_world}
+use Rattle.rbc_spec.specs.ReadOff.{StandsFor, read_off}
 use Rattle.rbc_alone.specs.Alone.{IsAloneAt, IsAlone}
 use Rattle.rbc_alone.proofs.Ordered.{begins_alone}
+use Rattle.rbc_pieces.proofs.Whole.{read_stands}
 use Rattle.rbc_centre.specs.Meaning as one
 use Rattle.rbc_centre.specs.declared.centre.Centre.{Centre}
 use Rattle.rbc_world.specs.Meaning.{centres_of, stands_for, AtBeginning}
+use Rattle.rbc_world.specs.World.{meaning}
+use Rattle.rbc_world.specs.declared.world.World.{World}
 
 -- ## Lists
 
@@ -88,3 +92,7 @@ world_alone line cs trains one_line in_order = record { each = λ c. by_centre c
     by_centre : (c : ℕ) (o : Option Centre) → slice_get cs c ≡ o → IsAloneAt line c (option_map_or one.meaning o (centre.beginning line c))
     by_centre c (Some k) at = centre_alone line c k (one_line c k at) (in_order c k at)
     by_centre c None at = begins_alone line c
+
+-- the state that is read off a world in memory stands for it
+pub world_stands : (w : World) → IsLine w.line → StandsFor w.line (meaning w) (read_off w.line (meaning w))
+world_stands w ok = read_stands w.line ok (meaning w) (world_alone w.line w.centres.items w.trains.keys w.one_line w.in_order)

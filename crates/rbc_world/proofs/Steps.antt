@@ -3,7 +3,7 @@ use Rattle.std.proofs.Common.{◌≡◌, ℕ, ◌<◌, ◌≤◌, ◌≢◌, tru
 use Rattle.std.specs.Result.{IfOk, IfErr}
 use Rattle.std.specs.Option.{option_map_or}
 use Rattle.std.proofs.lemmas.Bool.Decides.{nat_tests}
-use Rattle.rbc_spec.specs.Reach.{Alone}
+use Rattle.rbc_spec.specs.Reach.{Alone, Whole}
 use Rattle.rbc_spec.specs.Line.{Line, IsLine, is_centre}
 use Rattle.rbc_spec.specs.Message.{TrainMessage}
 use Rattle.rbc_spec.specs.Frame.{Frame}
@@ -12,9 +12,13 @@ use Rattle.rbc_spec.specs.Step as step
 use Rattle.rbc_spec.specs.World.{World, Bytes, Set, Unset, Delivery, Answered, NoCentre, NotSent, Fault, world_step, at_centre as told_at, reads, stepped, takes, mention}
 use Rattle.rbc_spec.specs.Run.{Goes}
 use Rattle.rbc_spec.specs.ReadOff.{read_off}
+use Rattle.rbc_spec.specs.Theorems.{IsOneCentreLine, GoesAlone}
 use Rattle.rbc_alone.specs.Alone.{IsAlone}
 use Rattle.rbc_alone.proofs.Worlds.{none_delivered}
+use Rattle.rbc_alone.proofs.Ordered.{is_ordered}
 use Rattle.rbc_pieces.proofs.Whole.{step_read}
+use Rattle.rbc_single.proofs.Whole as single
+use Rattle.rbc_single.proofs.Borders.{same_world_step}
 use Rattle.rbc_msgs.specs.TrainText.{TrainText}
 use Rattle.rbc_msgs.specs.StepMessage.{step_message}
 use Rattle.rbc_msgs.specs.Faults.{fault_number}
@@ -130,3 +134,14 @@ pub step_piece : (line : Line) (w new : World) (e : WorldEvent) (result : Result
     → Gives (λ a. (answer_of a, new)) result (world_step Alone line w (event_of e)) → IfOk result (λ a. Goes line (read_off line w) (event_of e) (answer_of a) (read_off line new))
 step_piece line w new e (Ok a) ok alone s = step_read line ok w new (event_of e) (answer_of a) alone s
 step_piece line w new e (Err fault) ok alone s = tt
+
+-- on a line that one centre has alone it leaves no choice
+pub step_forced : (line : Line) (w new : World) (e : WorldEvent) (result : Result Answer StepFault) → IsLine line → (d : ℕ) → IsOneCentreLine line d → IsAlone line w
+    → Gives (λ a. (answer_of a, new)) result (world_step Alone line w (event_of e)) → IfOk result (λ a. GoesAlone line (read_off line w) (event_of e) (answer_of a) (read_off line new))
+step_forced line w new e (Ok a) ok d one alone s = single.step_read line ok d one w new (event_of e) (answer_of a) alone s
+step_forced line w new e (Err fault) ok d one alone s = tt
+
+-- and all rules come to the same
+pub step_by_all_rules : (line : Line) (w new : World) (e : WorldEvent) (result : Result Answer StepFault) → IsLine line → (d : ℕ) → IsOneCentreLine line d
+    → Gives (λ a. (answer_of a, new)) result (world_step Alone line w (event_of e)) → Gives (λ a. (answer_of a, new)) result (world_step Whole line w (event_of e))
+step_by_all_rules line w new e result ok d one s = rw (same_world_step line (is_ordered line ok) d one w (event_of e)) s

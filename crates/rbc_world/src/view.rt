@@ -3,14 +3,14 @@ ghost use Rattle.std.specs.Option.{option_map_or};
 ghost use Rattle.rbc_spec.specs.Centre.{Shut};
 ghost use Rattle.rbc_spec.specs.Line.{IsLine, section};
 ghost use Rattle.rbc_spec.specs.LineCentre.{IsHand};
-ghost use Rattle.rbc_spec.specs.ReadOff.{read_off};
+ghost use Rattle.rbc_spec.specs.ReadOff.{StandsFor, read_off};
 ghost use Rattle.rbc_alone.specs.Alone.{mark_alone, alone_off};
 ghost use Rattle.rbc_book.specs.Entries.{entry_of};
 ghost use Rattle.rbc_hand.specs.SectionRuns.{run_of};
 ghost use Rattle.rbc_world.specs.World.{line_of, meaning};
 ghost use Rattle.rbc_world.specs.View.{mark_shown, mission_shown, mission_kept, EachOf, ShowsSection, ShowsSession, ShowsTrain, Shows};
 
-use crate::world::World;
+use crate::world::{World, known_line};
 use rbc_book::{Entry, Page};
 use rbc_centre::{Mission, Phase, SectionRun};
 use rbc_line::Line;
@@ -95,8 +95,11 @@ pub struct LineView {
 impl World {
     /// The state of the line, read off the centres.
     pub fn view(&self, alloc: Global) -> Result<LineView, AllocError>
-        ensures { IfOk result (Shows (line_of self.now) (read_off (line_of self.now) (meaning self.now))) }
+        ensures shows { IfOk result (Shows (line_of self.now) (read_off (line_of self.now) (meaning self.now))) }
+        // That state stands for the centres.
+        ensures stands { StandsFor (line_of self.now) (meaning self.now) (read_off (line_of self.now) (meaning self.now)) }
     {
+        known_line(&self.line);
         Ok(LineView {
             sections: self.section_views(alloc)?,
             trains: self.train_views(alloc)?,

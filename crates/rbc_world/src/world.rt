@@ -2,7 +2,7 @@ ghost use Rattle.std.specs.Prelude.{◌≡◌, ◌<◌, ◌≤◌, ℕ, true, le
 ghost use Rattle.rbc_spec.specs.Line.{IsLine};
 ghost use Rattle.rbc_spec.specs.World.{new_world, world_step, at_centre, takes, mention, Bytes};
 ghost use Rattle.rbc_spec.specs.Step.{Train};
-ghost use Rattle.rbc_spec.specs.Reach.{Alone};
+ghost use Rattle.rbc_spec.specs.Reach.{Alone, Whole};
 ghost use Rattle.rbc_msgs.specs.StepMessage.{step_message};
 ghost use Rattle.rbc_msgs.specs.TrainReading.{read_train};
 ghost use Rattle.indexmap.specs.IndexSet.{spare};
@@ -10,7 +10,8 @@ ghost use Rattle.rbc_world.specs.Meaning.{AtBeginning};
 ghost use Rattle.rbc_world.specs.Views.{IsFaultOf};
 ghost use Rattle.rbc_centre.specs.declared.fault.StepFault.TheVariants.{Memory};
 ghost use Rattle.rbc_spec.specs.Run.{Goes};
-ghost use Rattle.rbc_spec.specs.ReadOff.{read_off};
+ghost use Rattle.rbc_spec.specs.ReadOff.{StandsFor, read_off};
+ghost use Rattle.rbc_spec.specs.Theorems.{IsOneCentreLine, GoesAlone};
 ghost use Rattle.rbc_centre.specs.declared.centre.Centre.{Centre};
 ghost use Rattle.rbc_centre.specs.Meaning as one;
 ghost use Rattle.rbc_centre.specs.Views.{event_of as one_event};
@@ -70,6 +71,14 @@ impl World {
         // It is one piece of the one line centre's run, or none.
         ensures piece { IfOk result (λ a. Goes (line_of self.old) (read_off (line_of self.old) (meaning self.old))
             (event_of event.now) (answer_of a) (read_off (line_of self.old) (meaning self.new))) }
+        // The state that is read off the centres stands for them, whatever was refused before.
+        ensures stands { StandsFor (line_of self.new) (meaning self.new) (read_off (line_of self.new) (meaning self.new)) }
+        // On a line that one centre has alone the piece leaves no choice, and the answer is that of the rules of the whole system.
+        ensures one_centre { (c : ℕ) → IsOneCentreLine (line_of self.old) c
+            → IfOk result (λ a. GoesAlone (line_of self.old) (read_off (line_of self.old) (meaning self.old))
+                (event_of event.now) (answer_of a) (read_off (line_of self.old) (meaning self.new))) }
+        ensures one_centre_exact { (c : ℕ) → IsOneCentreLine (line_of self.old) c → Gives (λ a. (answer_of a, meaning self.new)) result
+            (world_step Whole (line_of self.old) (meaning self.old) (event_of event.now)) }
         ensures err { OnErr result (meaning self.new ≡ meaning self.old) }
     {
         known_line(&self.line);
