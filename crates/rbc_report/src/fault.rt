@@ -1,8 +1,8 @@
 ghost use Rattle.std.specs.Prelude.{◌≡◌};
 
-use rbc_script::script::ScriptFault;
 use rbc_centre::StepFault;
 use rbc_line::LineFault;
+use rbc_script::script::ScriptFault;
 use std::alloc::{AllocError, AllocFailed};
 use std::io;
 use thiserror::Error;

@@ -76,7 +76,7 @@ impl World {
         // On a line that one centre has alone the piece leaves no choice, and the answer is that of the rules of the whole system.
         ensures one_centre { (c : ℕ) → IsOneCentreLine (line_of self.old) c
             → IfOk result (λ a. GoesAlone (line_of self.old) (read_off (line_of self.old) (meaning self.old))
-                (event_of event.now) (answer_of a) (read_off (line_of self.old) (meaning self.new))) }
+            (event_of event.now) (answer_of a) (read_off (line_of self.old) (meaning self.new))) }
         ensures one_centre_exact { (c : ℕ) → IsOneCentreLine (line_of self.old) c → Gives (λ a. (answer_of a, meaning self.new)) result
             (world_step Whole (line_of self.old) (meaning self.old) (event_of event.now)) }
         ensures err { OnErr result (meaning self.new ≡ meaning self.old) }
