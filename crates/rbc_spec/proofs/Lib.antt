@@ -2,3 +2,4 @@ pub mod Convex
 pub mod Sums
 pub mod Places
 pub mod ReadOff
+pub mod Safe

@@ -18,4 +18,5 @@ pub mod OwnSteps
 pub mod Quiet
 pub mod Run
 pub mod ReadOff
+pub mod Promises
 pub mod Theorems

@@ -10,6 +10,7 @@ ghost use Rattle.rbc_spec.specs.Step.{is_stale, offered};
 ghost use Rattle.rbc_spec.specs.World.{World};
 ghost use Rattle.rbc_spec.specs.LineCentre.{LineState};
 ghost use Rattle.rbc_spec.specs.ReadOff.{StandsFor};
+ghost use Rattle.rbc_spec.specs.Promises.{IsSafe};
 
 /// On one track a section ends at or before the start of each later one, so that starts and ends rise.
 pub fn sections_follow_one_another()
@@ -53,4 +54,9 @@ pub fn one_state_stands()
     ensures missions { (line : Line) (w : World) (u v : LineState) (t : ℕ) → StandsFor line w u → StandsFor line w v → u.mission t ≡ v.mission t }
     ensures sections { (line : Line) (w : World) (u v : LineState) (s c : ℕ) → is_home line c s ≡ true → StandsFor line w u → StandsFor line w v
         → (u.mark s ≡ v.mark s) × (u.wish s ≡ v.wish s) }
+{}
+
+/// A world that some state of the one line centre stands for is safe, on every line.
+pub fn what_stands_is_safe()
+    ensures { (line : Line) (w : World) (v : LineState) → StandsFor line w v → IsSafe line w }
 {}

@@ -8,4 +8,5 @@ mod laws;
 pub use laws::{
     a_home_is_a_run, a_place_covers_a_run, a_stamp_is_heard_once, one_number_is_next,
     one_state_stands, sections_follow_one_another, what_is_cleared_is_not_covered,
+    what_stands_is_safe,
 };
