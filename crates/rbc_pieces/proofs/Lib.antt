@@ -23,6 +23,10 @@ pub mod Reports
 pub mod Tails
 pub mod Cuts
 pub mod Events
+pub mod Waits
+pub mod Frees
+pub mod Words
+pub mod Promised
 pub mod Whole
 pub mod Runs
 pub mod Loop

@@ -9,13 +9,18 @@ use Rattle.rbc_spec.specs.LineCentre as line_centre
 use Rattle.rbc_spec.specs.LineCentre.{LineState, line_beginning}
 use Rattle.rbc_spec.specs.World.{World, Event, Answer, new_world, world_step, world_run}
 use Rattle.rbc_spec.specs.Run.{Run, Goes}
+use Rattle.rbc_spec.specs.Run as run
 use Rattle.rbc_spec.specs.ReadOff.{StandsFor, IsLineRun, read_off, seen}
+use Rattle.rbc_spec.specs.Promises.{KeepsPromises}
 use Rattle.rbc_alone.specs.Alone.{IsAlone, alone_off}
 use Rattle.rbc_alone.proofs.Ordered.{is_ordered}
 use Rattle.rbc_alone.proofs.Worlds.{new_alone, world_step_alone, run_alone, bind_ok}
 use Rattle.rbc_pieces.proofs.Stands.{alone_stands}
 use Rattle.rbc_pieces.proofs.ReadOff.{read_off_alone}
+use Rattle.rbc_pieces.proofs.Silence.{same_silence}
 use Rattle.rbc_pieces.proofs.Events.{event_goes}
+use Rattle.rbc_pieces.proofs.Waits.{WaitsKeep}
+use Rattle.rbc_pieces.proofs.Promised.{keeps_promises}
 
 same_either_way : {X : Type 0} (o : Option Section) (x : X) → option_map_or (λ _. x) o x ≡ x
 same_either_way (Some p) x = refl
@@ -87,3 +92,14 @@ module _ (line : Line) (ok : IsLine line) where
     is_run = run_read events answers w is;
     stands = read_stands w (run_alone line (is_ordered line ok) events (new_world line) (new_alone line) answers w is);
   }
+
+  -- no start waits
+  waits_keep : (w : World) → IsAlone line w → WaitsKeep line (alone_off line w)
+  waits_keep w alone = record { each = λ t c place s waits in_place. let wrong : None ≡ Some place = waits in cc }
+
+  -- each event keeps its promises
+  pub promises_kept : (w new : World) (event : Event) (answer : Answer) → IsAlone line w → world_step Alone line w event ≡ Ok (answer, new) → KeepsPromises line w event answer new
+  promises_kept w new event answer alone is = keeps_promises line w new event answer
+      (subst (WaitsKeep line) (sym (read_off_alone line w ok alone)) (waits_keep w alone))
+      (λ c m fair. sym (same_silence line w alone c m.nid_engine m.t_train (w.at c).clock m.body) ∙ subst (λ (v : LineState). run.silence line v c m ≡ None) (read_off_alone line w ok alone) fair)
+      (read_stands w alone) (read_stands new (world_step_alone line w alone (is_ordered line ok) event answer new is)) (step_read w new event answer alone is)

@@ -9,6 +9,7 @@ ghost use Rattle.rbc_spec.specs.LineCentre.{line_beginning};
 ghost use Rattle.rbc_spec.specs.World.{World, Event, Answer, new_world, world_step, world_run};
 ghost use Rattle.rbc_spec.specs.Run as run;
 ghost use Rattle.rbc_spec.specs.ReadOff.{StandsFor, IsLineRun, read_off};
+ghost use Rattle.rbc_spec.specs.Promises.{KeepsPromises};
 ghost use Rattle.rbc_alone.specs.Alone.{IsAlone, alone_off};
 
 /// What is read off such centres: a section in use is given to its train, and each train's mission is as its registrar has
@@ -33,6 +34,12 @@ pub fn each_event_is_a_piece()
         → world_step Alone line w event ≡ Ok (answer, new) → run.Goes line (read_off line w) event answer (read_off line new) }
     ensures off { (line : Line) (w new : World) (event : Event) (answer : Answer) → IsLine line → IsAlone line w
         → world_step Alone line w event ≡ Ok (answer, new) → run.Goes line (alone_off line w) event answer (alone_off line new) }
+{}
+
+/// Each event keeps its promises: a section leaves a hand only by what its train said, and what the interlocking is told is so.
+pub fn each_event_keeps_its_promises()
+    ensures { (line : Line) (w new : World) (event : Event) (answer : Answer) → IsLine line → IsAlone line w
+        → world_step Alone line w event ≡ Ok (answer, new) → KeepsPromises line w event answer new }
 {}
 
 /// What the centres of a line answer and hold, from the line's beginning on, is a run of the one line centre: where each
