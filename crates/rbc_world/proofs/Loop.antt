@@ -8,7 +8,9 @@ use Rattle.rbc_spec.specs.LineCentre.{line_beginning}
 use Rattle.rbc_spec.specs.World.{World, Event, Answer, world_step, world_run, new_world, all_named}
 use Rattle.rbc_spec.specs.Run.{Run}
 use Rattle.rbc_spec.specs.ReadOff.{IsLineRun, read_off}
+use Rattle.rbc_spec.specs.Promises.{IsSafe}
 use Rattle.rbc_spec.specs.Theorems.{IsOneCentreLine, IsOneCentreRun, RunsAlone}
+use Rattle.rbc_spec.proofs.Safe.{safe}
 use Rattle.rbc_alone.proofs.Ordered.{is_ordered}
 use Rattle.rbc_pieces.proofs.Loop.{Reaches, at_start, stops_at}
 use Rattle.rbc_pieces.proofs.Runs.{run_names, run_refused}
@@ -54,6 +56,10 @@ module _ {X : Type 0} (line : Line) (events : List Event) (answers : X → List 
     pub is_line_run : (result : Result X StepFault) → Runs result → IfOk result (λ o. IsLineRun line events (answers o) (world o))
     is_line_run (Ok o) e = run_is line ok events (answers o) (world o) e
     is_line_run (Err fault) e = tt
+
+    pub is_safe : (result : Result X StepFault) → Runs result → IfOk result (λ o. IsSafe line (world o))
+    is_safe (Ok o) e = let whole = run_is line ok events (answers o) (world o) e in safe line (world o) whole.last whole.stands
+    is_safe (Err fault) e = tt
 
     pub ends_read : (result : Result X StepFault) → Runs result → IfOk result (λ o. Run line line_beginning events (answers o) (read_off line (world o)))
     ends_read (Ok o) e = run_read line ok events (answers o) (world o) e

@@ -12,11 +12,12 @@ use Rattle.rbc_spec.specs.Step as step
 use Rattle.rbc_spec.specs.World.{World, Bytes, Set, Unset, Delivery, Answered, NoCentre, NotSent, Fault, world_step, at_centre as told_at, reads, stepped, takes, mention}
 use Rattle.rbc_spec.specs.Run.{Goes}
 use Rattle.rbc_spec.specs.ReadOff.{read_off}
+use Rattle.rbc_spec.specs.Promises.{KeepsPromises}
 use Rattle.rbc_spec.specs.Theorems.{IsOneCentreLine, GoesAlone}
 use Rattle.rbc_alone.specs.Alone.{IsAlone}
 use Rattle.rbc_alone.proofs.Worlds.{none_delivered}
 use Rattle.rbc_alone.proofs.Ordered.{is_ordered}
-use Rattle.rbc_pieces.proofs.Whole.{step_read}
+use Rattle.rbc_pieces.proofs.Whole.{step_read, promises_kept}
 use Rattle.rbc_single.proofs.Whole as single
 use Rattle.rbc_single.proofs.Borders.{same_world_step}
 use Rattle.rbc_msgs.specs.TrainText.{TrainText}
@@ -134,6 +135,12 @@ pub step_piece : (line : Line) (w new : World) (e : WorldEvent) (result : Result
     → Gives (λ a. (answer_of a, new)) result (world_step Alone line w (event_of e)) → IfOk result (λ a. Goes line (read_off line w) (event_of e) (answer_of a) (read_off line new))
 step_piece line w new e (Ok a) ok alone s = step_read line ok w new (event_of e) (answer_of a) alone s
 step_piece line w new e (Err fault) ok alone s = tt
+
+-- the promises of the event are kept
+pub step_promises : (line : Line) (w new : World) (e : WorldEvent) (result : Result Answer StepFault) → IsLine line → IsAlone line w
+    → Gives (λ a. (answer_of a, new)) result (world_step Alone line w (event_of e)) → IfOk result (λ a. KeepsPromises line w (event_of e) (answer_of a) new)
+step_promises line w new e (Ok a) ok alone s = promises_kept line ok w new (event_of e) (answer_of a) alone s
+step_promises line w new e (Err fault) ok alone s = tt
 
 -- on a line that one centre has alone it leaves no choice
 pub step_forced : (line : Line) (w new : World) (e : WorldEvent) (result : Result Answer StepFault) → IsLine line → (d : ℕ) → IsOneCentreLine line d → IsAlone line w

@@ -11,6 +11,7 @@ ghost use Rattle.rbc_world.specs.Views.{IsFaultOf};
 ghost use Rattle.rbc_centre.specs.declared.fault.StepFault.TheVariants.{Memory};
 ghost use Rattle.rbc_spec.specs.Run.{Goes};
 ghost use Rattle.rbc_spec.specs.ReadOff.{StandsFor, read_off};
+ghost use Rattle.rbc_spec.specs.Promises.{IsSafe, KeepsPromises};
 ghost use Rattle.rbc_spec.specs.Theorems.{IsOneCentreLine, GoesAlone};
 ghost use Rattle.rbc_centre.specs.declared.centre.Centre.{Centre};
 ghost use Rattle.rbc_centre.specs.Meaning as one;
@@ -73,6 +74,10 @@ impl World {
             (event_of event.now) (answer_of a) (read_off (line_of self.old) (meaning self.new))) }
         // The state that is read off the centres stands for them, whatever was refused before.
         ensures stands { StandsFor (line_of self.new) (meaning self.new) (read_off (line_of self.new) (meaning self.new)) }
+        // So each train has one supervisor at most, and each section one train.
+        ensures safe { IsSafe (line_of self.new) (meaning self.new) }
+        // A section leaves an authority only by what its train said, and the interlocking is told what is so.
+        ensures promises { IfOk result (λ a. KeepsPromises (line_of self.old) (meaning self.old) (event_of event.now) (answer_of a) (meaning self.new)) }
         // On a line that one centre has alone the piece leaves no choice, and the answer is that of the rules of the whole system.
         ensures one_centre { (c : ℕ) → IsOneCentreLine (line_of self.old) c
             → IfOk result (λ a. GoesAlone (line_of self.old) (read_off (line_of self.old) (meaning self.old))
