@@ -1,23 +1,12 @@
-//! Tests across the crates, of what no clause says: vectors from outside, and each public call once on its happy path.
+//! Tests across the crates, of what no clause says: each public call once on its happy path. Those of bytes stand in `rbc_codec_tests`.
 #![tactic(auto)]
 
 #[cfg(test)]
 mod authority;
 #[cfg(test)]
-mod bits;
-#[cfg(test)]
 mod book;
 #[cfg(test)]
 mod centre;
-#[cfg(test)]
-mod codec;
-#[cfg(test)]
-mod codec_faults;
-#[cfg(test)]
-mod codec_shown;
-#[cfg(test)]
-mod codec_values;
-pub mod draws;
 #[cfg(test)]
 mod hand;
 #[cfg(test)]
@@ -32,7 +21,5 @@ mod place;
 mod right;
 #[cfg(test)]
 mod sessions;
-#[cfg(test)]
-mod stream;
 #[cfg(test)]
 mod world;

@@ -1,7 +1,7 @@
 //! Numbers that look drawn by lot, the same in each run.
 
 ghost use Rattle.std.specs.Prelude.{◌≡◌, ◌%◌, ◌<◌, max};
-ghost use Rattle.rbc_tests.specs.Draws.{next_state};
+ghost use Rattle.rbc_codec_tests.specs.Draws.{next_state};
 
 use std::marker::Model;
 
