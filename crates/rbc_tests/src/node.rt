@@ -83,43 +83,58 @@ fn a_share_commits_to_a_log_that_it_is_lent(rt: HostRuntime) -> Result<(), Fail>
     Ok(())
 }
 
-/// Holds back the commits of A until the commit of B is answered, or so many turns have passed. Counts the commits that are over.
+/// Holds the commit of A back under its lock until the commit of B is answered, and once more behind its lock until another commit
+/// of A is answered: each time at most so many turns. Counts the commits that are over.
 #[derive(Drop)]
 struct Held {
-    answered: AtomicBool,
+    is_begun: AtomicBool,
+    is_other_answered: AtomicBool,
+    is_next_answered: AtomicBool,
     gave_up: AtomicBool,
     over: AtomicU32,
 }
 
 const TURNS: u32 = 10_000_000;
 
-impl Gate for Held {
-    fn inside(&self, centre: u8) {
-        if centre != A {
-            return;
-        }
+impl Held {
+    /// Waits until the flag is set, or gives up.
+    fn wait_for(&self, flag: &AtomicBool) {
         for _ in 0..TURNS {
-            if self.answered.load(Ordering::SeqCst) {
+            if flag.load(Ordering::SeqCst) {
                 return;
             }
             thread::yield_now();
         }
         self.gave_up.store(true, Ordering::SeqCst);
     }
+}
 
-    fn after(&self, _centre: u8) {
+impl Gate for Held {
+    fn inside(&self, centre: u8) {
+        if centre == A {
+            self.is_begun.store(true, Ordering::SeqCst);
+            self.wait_for(&self.is_other_answered);
+        }
+    }
+
+    fn after(&self, centre: u8) {
         self.over.fetch_add(1, Ordering::SeqCst);
+        if centre == A {
+            self.wait_for(&self.is_next_answered);
+        }
     }
 }
 
 #[test]
-fn a_commit_of_one_centre_waits_for_no_other(rt: HostRuntime) -> Result<(), Fail> {
+fn a_commit_waits_for_the_lock_of_its_centre_alone(rt: HostRuntime) -> Result<(), Fail> {
     let line = eight_sections(rt.alloc())?;
     let (a, b) = both(rt.alloc(), &line)?;
     let mut of_a = a.share();
     let mut of_b = b.share();
     let gate = Held {
-        answered: AtomicBool::new(false),
+        is_begun: AtomicBool::new(false),
+        is_other_answered: AtomicBool::new(false),
+        is_next_answered: AtomicBool::new(false),
         gave_up: AtomicBool::new(false),
         over: AtomicU32::new(0),
     };
@@ -127,19 +142,24 @@ fn a_commit_of_one_centre_waits_for_no_other(rt: HostRuntime) -> Result<(), Fail
         &rt,
         || a.commit(&rt, &gate, &mut of_a, Event::Set(0)),
         || {
-            let answer = b.commit(&rt, &gate, &mut of_b, Event::Set(4));
-            gate.answered.store(true, Ordering::SeqCst);
-            answer
+            gate.wait_for(&gate.is_begun);
+            let other = b.commit(&rt, &gate, &mut of_b, Event::Set(4));
+            gate.is_other_answered.store(true, Ordering::SeqCst);
+            let next = a.commit(&rt, &Open, &mut a.share(), Event::Set(1));
+            gate.is_next_answered.store(true, Ordering::SeqCst);
+            (other, next)
         },
     );
     assert!(rt; !gate.gave_up.load(Ordering::SeqCst));
     assert_eq!(rt; gate.over.load(Ordering::SeqCst), 2);
     let first = first.ok().ok_or("A takes its set")?;
-    let second = second.ok().ok_or("B takes its set")?;
+    let other = second.0.ok().ok_or("B takes its set")?;
+    let next = second.1.ok().ok_or("A takes another set")?;
     assert_eq!(rt; first.stamp, 1);
-    assert_eq!(rt; second.stamp, 1);
+    assert_eq!(rt; other.stamp, 1);
+    assert_eq!(rt; next.stamp, 2);
     assert_eq!(rt; first.words().as_slice(), [Word::Done(0)].as_slice());
-    assert_eq!(rt; second.words().as_slice(), [Word::Done(4)].as_slice());
+    assert_eq!(rt; other.words().as_slice(), [Word::Done(4)].as_slice());
     assert_eq!(rt; of_a.receipts().len(), 1);
     assert_eq!(rt; of_b.receipts().len(), 1);
     Ok(())
