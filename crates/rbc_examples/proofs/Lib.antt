@@ -26,3 +26,4 @@ pub mod AloneMet
 pub mod StrayFrames
 pub mod PlacesMet
 pub mod NotAllowed
+pub mod OnePlaces

@@ -18,3 +18,4 @@ pub mod ConditionMoves
 pub mod StrayFrames
 pub mod PlaceMoves
 pub mod NotAllowed
+pub mod OnePlaces

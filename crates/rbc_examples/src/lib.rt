@@ -6,6 +6,7 @@
 #![tactic(auto)]
 
 mod not_allowed;
+mod one_places;
 
 ghost use Rattle.std.specs.Prelude.{◌≡◌, [], ◌∷◌, None, Some, Ok, Err};
 ghost use Rattle.rbc_spec.specs.Reach.{Whole};
@@ -32,6 +33,7 @@ ghost use Rattle.rbc_spec.specs.World.{new_world, world_run};
 ghost use Rattle.rbc_examples.specs.Limits.{asks_behind, run_items, set_and_session, set_and_session_shows, stamps, having_sent, last_stamp_is_taken, last_stamp_is_taken_shows, stamp_past_the_last, stamp_past_the_last_shows, frame_without_a_link, frame_without_a_link_shows};
 
 pub use not_allowed::{moves_not_allowed, two_yields_on_the_way};
+pub use one_places::each_thing_stays_in_one_place;
 
 /// What the interlocking is told, how sessions are opened and ended, and how missions start at the registrar and elsewhere.
 pub fn sessions_and_starts()

@@ -4,6 +4,7 @@ pub mod Off
 pub mod Seats
 pub mod Stands
 pub mod ReadOff
+pub mod OnePlace
 pub mod Silence
 pub mod Missions
 pub mod InOrder

@@ -57,6 +57,17 @@ find_engine test (p ∷ ps) t is passes only = by_test (test p.nid_engine) refl 
         skip true g = cc
         skip false g = refl
 
+-- a train's registrar is a centre of the line
+pub registrar_is_centre : (line : Line) → IsLine line → (t r : ℕ) → registrar line t ≡ Some r → r < length line.centres
+registrar_is_centre line is_line t r is = below (find (λ p. p.nid_engine == t) line.trains) refl is
+  where
+    below : (o : Option Train) → find (λ p. p.nid_engine == t) line.trains ≡ o → option_map (λ p. p.registrar) o ≡ Some r → r < length line.centres
+    below None found h = cc
+    below (Some p) found h =
+        let fits = (find_gives (λ p. (p.nid_engine ≤ 16777215) × (p.registrar < length line.centres)) (λ p. p.nid_engine == t) line.trains p (recursion_from_All _ line.trains is_line.ranges.trains) found).1 in
+        let same : p.registrar ≡ r = cc in
+        omega (arith, fits, same)
+
 module _ (line : Line) (w : World) (is_line : IsLine line) (alone : IsAlone line w) where
   -- ## Missions
 
@@ -70,18 +81,11 @@ module _ (line : Line) (w : World) (is_line : IsLine line) (alone : IsAlone line
       by_registrar : (o : Option ℕ) → registrar line t ≡ o → slice_get (filter_map (held_at w t) (centres_of line)) 0 ≡ option_and_then (held_at w t) o
       by_registrar None is =
           ap (λ (xs : List Held). slice_get xs 0) (filter_map-range_none (held_at w t) 0 (length line.centres) (λ c low. not_held line w alone t c (ap (λ (o : Option ℕ). option_map_or (λ r. r == c) o false) is)))
-      by_registrar (Some r) is = only_of_range (held_at w t) 0 (length line.centres) r (omega arith) (omega (arith, below (find (λ p. p.nid_engine == t) line.trains) refl is))
+      by_registrar (Some r) is = only_of_range (held_at w t) 0 (length line.centres) r (omega arith) (omega (arith, registrar_is_centre line is_line t r is))
           (λ s apart. not_held line w alone t s (ap (λ (o : Option ℕ). option_map_or (λ r. r == s) o false) is ∙ other s apart))
         where
           other : (s : ℕ) → s ≢ r → (r == s) ≡ false
           other s apart = elim (eqb_tells r s) [ inl e ↦ absurd (apart (sym (e.1))) | inr e ↦ e.0 ]
-
-          below : (o : Option Train) → find (λ p. p.nid_engine == t) line.trains ≡ o → option_map (λ p. p.registrar) o ≡ Some r → r < length line.centres
-          below None found h = cc
-          below (Some p) found h =
-              let fits = (find_gives (λ p. (p.nid_engine ≤ 16777215) × (p.registrar < length line.centres)) (λ p. p.nid_engine == t) line.trains p (recursion_from_All _ line.trains is_line.ranges.trains) found).1 in
-              let same : p.registrar ≡ r = cc in
-              omega (arith, fits, same)
 
   mission_read : (t : ℕ) → option_map (λ (h : Held). h.mission) (held line w t) ≡ (alone_off line w).mission t
   mission_read t = ap (option_map (λ (h : Held). h.mission)) (held_is t) ∙ by_registrar (registrar line t)

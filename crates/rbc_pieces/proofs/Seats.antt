@@ -17,7 +17,7 @@ drop-nil : {X : Type 0} (n : ℕ) → ◌≡◌ {A = List X} (drop n []) []
 drop-nil zero = refl
 drop-nil (suc n) = refl
 
-flat_map-none : {X Y : Type 0} (f : X → List Y) (xs : List X) → ((x : X) → f x ≡ []) → flat_map f xs ≡ []
+pub flat_map-none : {X Y : Type 0} (f : X → List Y) (xs : List X) → ((x : X) → f x ≡ []) → flat_map f xs ≡ []
 flat_map-none f [] none = refl
 flat_map-none f (x ∷ xs) none = rw (none x) (flat_map-none f xs none)
 
@@ -43,7 +43,7 @@ module _ (line : Line) (w : World) (alone : IsAlone line w) where
   pub no_way : (a b : ℕ) → way w a b ≡ []
   no_way a b = ap (drop ((w.at b).taken a)) ((alone.each a).none_sent b) ∙ drop-nil ((w.at b).taken a)
 
-  none_on_way : frames_on_way line w ≡ []
+  pub none_on_way : frames_on_way line w ≡ []
   none_on_way = flat_map-none (λ a. flat_map (λ b. way w a b) (centres_of line)) (centres_of line) (λ a. flat_map-none (λ b. way w a b) (centres_of line) (λ b. no_way a b))
 
   -- a train's missions are those that centres have

@@ -11,12 +11,15 @@ use Rattle.rbc_spec.specs.World.{World, Event, Answer, new_world, world_step, wo
 use Rattle.rbc_spec.specs.Run.{Run, Goes}
 use Rattle.rbc_spec.specs.Run as run
 use Rattle.rbc_spec.specs.ReadOff.{StandsFor, IsLineRun, read_off, seen}
-use Rattle.rbc_spec.specs.Promises.{KeepsPromises}
+use Rattle.rbc_spec.specs.Promises.{KeepsPromises, IsSound}
+use Rattle.rbc_spec.specs.Theorems.{EachEventTheorem}
+use Rattle.rbc_spec.proofs.Safe.{safe}
 use Rattle.rbc_alone.specs.Alone.{IsAlone, alone_off}
 use Rattle.rbc_alone.proofs.Ordered.{is_ordered}
 use Rattle.rbc_alone.proofs.Worlds.{new_alone, world_step_alone, run_alone, bind_ok}
 use Rattle.rbc_pieces.proofs.Stands.{alone_stands}
 use Rattle.rbc_pieces.proofs.ReadOff.{read_off_alone}
+use Rattle.rbc_pieces.proofs.OnePlace.{has_one_place}
 use Rattle.rbc_pieces.proofs.Silence.{same_silence}
 use Rattle.rbc_pieces.proofs.Events.{event_goes}
 use Rattle.rbc_pieces.proofs.Waits.{WaitsKeep}
@@ -79,10 +82,14 @@ module _ (line : Line) (ok : IsLine line) where
       of_ok : (p q : List Answer × World) → ◌≡◌ {A = Result (List Answer × World) Refusal} (Ok p) (Ok q) → p ≡ q
       of_ok p q e = cc
 
+  -- each world that a list of events leads to is alone
+  pub reached_alone : (events : List Event) (answers : List Answer) (w : World) → world_run Alone line (new_world line) events ≡ Ok (answers, w) → IsAlone line w
+  reached_alone events = run_alone line (is_ordered line ok) events (new_world line) (new_alone line)
+
   -- from the beginning on
   pub run_read : (events : List Event) (answers : List Answer) (w : World) → world_run Alone line (new_world line) events ≡ Ok (answers, w) → Run line line_beginning events answers (read_off line w)
   run_read events answers w is =
-      let alone = run_alone line (is_ordered line ok) events (new_world line) (new_alone line) answers w is in
+      let alone = reached_alone events answers w is in
       rw (read_off_alone line w ok alone) (subst (λ (v : LineState). Run line v events answers (alone_off line w)) (beginning_is line) (run_goes events (new_world line) answers w (new_alone line) is))
 
   -- what the centres answer and hold is a run of the one line centre
@@ -90,7 +97,7 @@ module _ (line : Line) (ok : IsLine line) where
   run_is events answers w is = record {
     last = read_off line w;
     is_run = run_read events answers w is;
-    stands = read_stands w (run_alone line (is_ordered line ok) events (new_world line) (new_alone line) answers w is);
+    stands = read_stands w (reached_alone events answers w is);
   }
 
   -- no start waits
@@ -103,3 +110,20 @@ module _ (line : Line) (ok : IsLine line) where
       (subst (WaitsKeep line) (sym (read_off_alone line w ok alone)) (waits_keep w alone))
       (λ c m fair. sym (same_silence line w alone c m.nid_engine m.t_train (w.at c).clock m.body) ∙ subst (λ (v : LineState). run.silence line v c m ≡ None) (read_off_alone line w ok alone) fair)
       (read_stands w alone) (read_stands new (world_step_alone line w alone (is_ordered line ok) event answer new is)) (step_read w new event answer alone is)
+
+  -- each world of such centres is sound
+  pub world_is_sound : (w : World) → IsAlone line w → IsSound line w
+  world_is_sound w alone = record {
+    stands = read_stands w alone;
+    safe = safe line w (read_off line w) (read_stands w alone);
+    one_place = has_one_place line w ok alone;
+  }
+
+-- of each event behind any others
+pub event_theorem : EachEventTheorem Alone
+event_theorem line w new events answers event answer ok before is =
+    let alone = reached_alone line ok events answers w before in (
+      step_read line ok w new event answer alone is,
+      promises_kept line ok w new event answer alone is,
+      world_is_sound line ok new (world_step_alone line w alone (is_ordered line ok) event answer new is),
+    )

@@ -9,7 +9,8 @@ ghost use Rattle.rbc_spec.specs.LineCentre.{line_beginning};
 ghost use Rattle.rbc_spec.specs.World.{World, Event, Answer, new_world, world_step, world_run};
 ghost use Rattle.rbc_spec.specs.Run as run;
 ghost use Rattle.rbc_spec.specs.ReadOff.{StandsFor, IsLineRun, read_off};
-ghost use Rattle.rbc_spec.specs.Promises.{KeepsPromises};
+ghost use Rattle.rbc_spec.specs.Promises.{KeepsPromises, IsSound};
+ghost use Rattle.rbc_spec.specs.Theorems.{EachEventTheorem};
 ghost use Rattle.rbc_alone.specs.Alone.{IsAlone, alone_off};
 
 /// What is read off such centres: a section in use is given to its train, and each train's mission is as its registrar has
@@ -40,6 +41,20 @@ pub fn each_event_is_a_piece()
 pub fn each_event_keeps_its_promises()
     ensures { (line : Line) (w new : World) (event : Event) (answer : Answer) → IsLine line → IsAlone line w
         → world_step Alone line w event ≡ Ok (answer, new) → KeepsPromises line w event answer new }
+{}
+
+/// Each world of such centres is sound: a state stands for it, it is safe, and each section in use and each train's right is in one
+/// place. So is each world that a list of events leads to.
+pub fn each_world_is_sound()
+    ensures alone { (line : Line) (w : World) → IsLine line → IsAlone line w → IsSound line w }
+    ensures reached { (line : Line) (events : List Event) (answers : List Answer) (w : World) → IsLine line
+        → world_run Alone line (new_world line) events ≡ Ok (answers, w) → IsSound line w }
+{}
+
+/// Behind any list of events each further one is a piece of the one line centre's run, keeps its promises, and leaves a sound
+/// world: where each mission stays at one centre.
+pub fn each_event_theorem()
+    ensures { EachEventTheorem Alone }
 {}
 
 /// What the centres of a line answer and hold, from the line's beginning on, is a run of the one line centre: where each

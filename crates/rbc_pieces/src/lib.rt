@@ -6,6 +6,6 @@
 mod laws;
 
 pub use laws::{
-    each_event_is_a_piece, each_event_keeps_its_promises, each_run_is_the_line_centres,
-    same_reasons_of_silence, what_is_read_off,
+    each_event_is_a_piece, each_event_keeps_its_promises, each_event_theorem,
+    each_run_is_the_line_centres, each_world_is_sound, same_reasons_of_silence, what_is_read_off,
 };

@@ -1,17 +1,18 @@
 -- What the centres of a line promise, of a world and of one event: each is proved, and needs no state of the one line centre to be read.
-use Rattle.std.specs.Prelude.{◌≡◌, ◌⊎◌, ◌≤◌, ◌<◌, ◌*◌, ℕ, Bool, true, false, Some, None, Ok}
-use Rattle.std.specs.List.{Contains}
-use Rattle.rbc_spec.specs.Runs.{Run}
-use Rattle.rbc_spec.specs.Line.{Line, is_home, end}
-use Rattle.rbc_spec.specs.Place.{Place, Position, is_cleared}
+use Rattle.std.specs.Prelude.{◌≡◌, ◌⊎◌, ◌≤◌, ◌<◌, ◌*◌, ◌+◌, ◌==◌, ℕ, List, [], ◌∷◌, ◌++◌, length, map, Bool, true, false, Some, None, is_some, Ok, if◌then◌else◌}
+use Rattle.std.specs.List.{Contains, flat_map, count_by}
+use Rattle.std.specs.Option.{option_map_or}
+use Rattle.rbc_spec.specs.Runs.{Run, within}
+use Rattle.rbc_spec.specs.Line.{Line, is_home, end, registrar}
+use Rattle.rbc_spec.specs.Place.{Place, Position, covered, is_cleared}
 use Rattle.rbc_spec.specs.Message.{TrainMessage, Report, EndOfMission, ShorteningGranted}
 use Rattle.rbc_spec.specs.Outcome.{Outcome, Told, Done}
-use Rattle.rbc_spec.specs.Frame.{Frame}
+use Rattle.rbc_spec.specs.Frame.{Frame, Body, GiveRight, ReturnRight, RouteInfo, RouteReturn, Yield}
 use Rattle.rbc_spec.specs.Centre as centre
 use Rattle.rbc_spec.specs.Rules.{place_on}
 use Rattle.rbc_spec.specs.Step as step
 use Rattle.rbc_spec.specs.World.{World, Event, Bytes, Unset, Answer, Answered}
-use Rattle.rbc_spec.specs.ReadOff.{IsOnTheWay, Carries, IsGiven}
+use Rattle.rbc_spec.specs.ReadOff.{IsOnTheWay, Carries, IsGiven, StandsFor, read_off, centres_of, frames_on_way, all_held}
 
 -- ## A world
 
@@ -22,6 +23,58 @@ pub record IsSafe (line : Line) (w : World) : Type 0 where
       → IsOnTheWay w a b f → Carries f t heard has_data is_ended place hand → (w.at c).mission t ≡ Some m → ⊥  -- none does while a Yield of the train is on the way
   pub one_train : (t u s : ℕ) → IsGiven w t s → IsGiven w u s → t ≡ u  -- a section is in the hand of at most one train
   pub in_use : (t s c : ℕ) → is_home line c s ≡ true → IsGiven w t s → centre.is_used_for t ((w.at c).book s) ≡ true  -- and then taken or out for that train at its home
+
+-- ## One place
+
+-- the train, where it is so
+abbrev pub once : Bool → ℕ → List ℕ
+once is_so t = if is_so then t ∷ [] else []
+
+-- the train, once for each of its hand, its pool and its waiting start that has the section at the centre
+abbrev pub held_for : Line → ℕ → centre.Centre → ℕ → List ℕ
+held_for line s k t =
+    option_map_or (λ m. once (within m.hand s) t ++ once (within m.pool s) t) (k.mission t) []
+    ++ option_map_or (λ place. once (within (covered line place) s) t) (k.wait t) []
+
+-- the train for which a frame has the section: lent, on its way home, or in a hand that is handed over
+abbrev pub carried_for : ℕ → Body → List ℕ
+carried_for s (RouteInfo t run) = once (within run s) t
+carried_for s (RouteReturn t run) = once (within run s) t
+carried_for s (Yield number t heard has_data is_ended place hand) = once (within hand s) t
+carried_for s body = []
+
+-- the trains that have the section, at each centre and in each frame on the way
+abbrev pub holders : Line → World → ℕ → List ℕ
+holders line w s =
+    flat_map (λ c. flat_map (held_for line s (w.at c)) (map (λ p. p.nid_engine) line.trains)) (centres_of line)
+    ++ flat_map (λ f. carried_for s f.body) (frames_on_way line w)
+
+-- the train that a section is in use for, as its home has it
+abbrev pub user : centre.Entry → List ℕ
+user (centre.Taken t) = t ∷ []
+user (centre.Out t d) = t ∷ []
+user e = []
+
+-- the frame carries the train's right, alone or with its mission
+abbrev pub carries_right : ℕ → Body → Bool
+carries_right t (GiveRight u) = u == t
+carries_right t (ReturnRight u) = u == t
+carries_right t (Yield number u heard has_data is_ended place hand) = u == t
+carries_right t body = false
+
+-- each thing that may be in one place alone is in one
+pub record HasOnePlace (line : Line) (w : World) : Type 0 where
+  pub sections : (s c : ℕ) → is_home line c s ≡ true → holders line w s ≡ user ((w.at c).book s)  -- a section in use is in one place, for the train that its home names; another is in none
+  pub rights : (t r : ℕ) → registrar line t ≡ Some r
+      → count_by (λ c. (w.at c).has_right t) (centres_of line) + count_by (λ c. is_some ((w.at c).mission t)) (centres_of line)
+      + count_by (λ f. carries_right t f.body) (frames_on_way line w) ≡ 1  -- the right of a train of the line is at one centre, or in one mission, or in one frame
+  pub missions : (t : ℕ) → length (all_held line w t) ≤ 1  -- a train has one mission at most: a centre's, or one that a frame hands over
+
+-- what holds of every world that a list of events leads to
+pub record IsSound (line : Line) (w : World) : Type 0 where
+  pub stands : StandsFor line w (read_off line w)  -- some state of the one line centre stands for it, and that is the state that is read off
+  pub safe : IsSafe line w  -- so each train has one supervisor at most, and each section one train
+  pub one_place : HasOnePlace line w  -- no section in use and no right is lost or in two places
 
 -- ## One event
 

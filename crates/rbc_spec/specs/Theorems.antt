@@ -2,7 +2,7 @@
 use Rattle.std.specs.Prelude.{◌≡◌, ℕ, List, [], ◌∷◌, true, Option, Some, None, Ok}
 use Rattle.std.specs.List.{All}
 use Rattle.rbc_spec.specs.Line.{Line, IsLine}
-use Rattle.rbc_spec.specs.Reach.{Whole}
+use Rattle.rbc_spec.specs.Reach.{Reach, Whole}
 use Rattle.rbc_spec.specs.Place.{Place}
 use Rattle.rbc_spec.specs.Message.{TrainMessage, TrainBody, StartOfMission}
 use Rattle.rbc_spec.specs.Outcome.{Outcome, Reason}
@@ -11,9 +11,10 @@ use Rattle.rbc_spec.specs.Rules.{fit_place}
 use Rattle.rbc_spec.specs.LineCentre.{LineState, hears, line_beginning, Said}
 use Rattle.rbc_spec.specs.OwnSteps.{Accepts, may_start, begins}
 use Rattle.rbc_spec.specs.Quiet.{Quiet, Propose, Proposes}
-use Rattle.rbc_spec.specs.World.{World, Event, Bytes, Unset, Answer, Answered, new_world, world_run}
+use Rattle.rbc_spec.specs.World.{World, Event, Bytes, Unset, Answer, Answered, new_world, world_step, world_run}
 use Rattle.rbc_spec.specs.Run.{Piece, Goes, silence}
-use Rattle.rbc_spec.specs.ReadOff.{StandsFor, IsLineRun}
+use Rattle.rbc_spec.specs.ReadOff.{StandsFor, IsLineRun, read_off}
+use Rattle.rbc_spec.specs.Promises.{KeepsPromises, IsSound}
 
 -- ## The whole line
 
@@ -21,6 +22,14 @@ use Rattle.rbc_spec.specs.ReadOff.{StandsFor, IsLineRun}
 abbrev pub WholeLineTheorem : Type 0
 WholeLineTheorem = (line : Line) (events : List Event) (answers : List Answer) (w : World)
     → IsLine line → world_run Whole line (new_world line) events ≡ Ok (answers, w) → IsLineRun line events answers w
+
+-- Whatever has happened to the centres of a line, and whatever event they answer next: the one line centre may meet that event with the
+-- same answer, between the states that are read off them; the event keeps its promises, and the new world is sound. A refused event changes
+-- nothing, so this holds also of events behind refused ones
+abbrev pub EachEventTheorem : Reach → Type 0
+EachEventTheorem reach = (line : Line) (w new : World) (events : List Event) (answers : List Answer) (event : Event) (answer : Answer)
+    → IsLine line → world_run reach line (new_world line) events ≡ Ok (answers, w) → world_step reach line w event ≡ Ok (answer, new)
+    → Goes line (read_off line w) event answer (read_off line new) × KeepsPromises line w event answer new × IsSound line new
 
 -- ## A line that one centre has alone
 
