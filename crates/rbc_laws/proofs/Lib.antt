@@ -1,2 +1,5 @@
 pub mod Runs
 pub mod Longest
+pub mod Reasons
+pub mod Places
+pub mod Metres
