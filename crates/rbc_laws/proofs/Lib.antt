@@ -3,3 +3,5 @@ pub mod Longest
 pub mod Reasons
 pub mod Places
 pub mod Metres
+pub mod Silent
+pub mod SameReasons
