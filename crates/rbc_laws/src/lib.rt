@@ -1,10 +1,11 @@
-//! Laws of the rules, over every line and every state of a centre: of runs of sections, of distances, and of messages that are left
-//! without an answer. The functions do nothing: each contract is a law of the definitions.
+//! Laws of the rules, over every line and every state of a centre: of runs of sections, of distances, of messages that are left
+//! without an answer, and of what a step sends. The functions do nothing: each contract is a law of the definitions.
 #![tactic(auto)]
 
 mod distances;
 mod sections;
 mod silences;
+mod steps;
 
 pub use distances::{a_place_is_ahead_of_its_group, no_distance_is_cut};
 pub use sections::{
@@ -15,3 +16,4 @@ pub use silences::{
     a_silent_message_changes_nothing, silence_is_the_same_at_every_reach,
     the_line_centre_is_silent_for_the_same_reasons,
 };
+pub use steps::{a_step_sends_few, a_step_sends_in_order};
