@@ -3,7 +3,6 @@ pub mod Network
 pub mod Resource
 pub mod Places
 pub mod Runs
-pub mod Longest
 pub mod Sections
 pub mod Chain
 pub mod Sweep

@@ -1,53 +1,43 @@
 -- Laws of the sections of a run, as a list.
-use Rattle.std.proofs.Common.{◌≡◌, ◌≢◌, ℕ, zero, suc, ◌+◌, ◌<◌, ◌==◌, Bool, true, false, ◌&&◌, ◌||◌, List, [], ◌∷◌, ◌++◌, length, Some, slice_get, refl, sym, ap, ◌∙◌, arith, ⊎_elim, ne_eqb, filter, eq-eqb, eqb-true}
+use Rattle.std.proofs.Common.{◌≡◌, ◌≢◌, ℕ, zero, suc, ◌+◌, ◌==◌, Bool, true, false, ◌&&◌, ◌||◌, List, [], ◌∷◌, refl, sym, ap, ◌∙◌, arith, ⊎_elim, ne_eqb, filter, eq-eqb, eqb-true}
+use Rattle.std.specs.List.{range_with_len}
 use Rattle.std.proofs.lemmas.Bool.{cond_both, or_left, cases_eq, and_left, and_right}
-use Rattle.rbc_ledger.specs.Runs.{within, sections, is_among, AreApart}
-use Rattle.rbc_ledger.proofs.Runs.{within_before, within_none, within_first, within_rest}
+use Rattle.rbc_spec.specs.Runs.{Run, within}
+use Rattle.rbc_laws.proofs.Runs.{within_true, within_from, within_before, within_none, same_tests}
+use Rattle.rbc_ledger.specs.Sections.{sections, is_among, AreApart}
 
--- the sections of a run of n + m are those of the first n and those after them
-pub sections_append : (first n m : ℕ) → sections first (n + m) ≡ sections first n ++ sections (first + n) m
-unfolding sections
-sections_append first zero m =
-    let at : 0 + m ≡ m = omega arith in
-    let from : first ≡ first + 0 = omega arith in
-    ap (sections first) at ∙ ap (λ k. sections k m) from
-sections_append first (suc n) m =
-    let at : suc n + m ≡ suc (n + m) = omega arith in
-    let from : suc first + n ≡ first + suc n = omega arith in
-    ap (sections first) at ∙ ap (λ ss. first ∷ ss)
-    (sections_append (suc first) n m ∙ ap (λ k. sections (suc first) n ++ sections k m) from)
+-- the others of a run are those of the run behind its first
+within_rest : (first count s : ℕ) → s ≢ first
+    → within (record { first = first; count = suc count }) s ≡ within (record { first = first + 1; count = count }) s
+within_rest first count s apart = same_tests _ _
+    (λ in_run. let ends = within_true (record { first = first; count = suc count }) s in_run in
+    within_from (record { first = first + 1; count = count }) s (omega arith) (omega arith))
+    (λ in_rest. let ends = within_true (record { first = first + 1; count = count }) s in_rest in
+    within_from (record { first = first; count = suc count }) s (omega arith) (omega arith))
 
--- a run has as many sections as it counts
-pub length-sections : (first count : ℕ) → length (sections first count) ≡ count
-unfolding sections
-length-sections first zero = refl
-length-sections first (suc count) = ap suc (length-sections (suc first) count)
-
--- and they stand in order
-pub sections_at : (first count k : ℕ) → k < count → slice_get (sections first count) k ≡ Some (first + k)
-unfolding sections
-sections_at first zero k below = absurd (omega arith)
-sections_at first (suc count) zero below = let at : first ≡ first + 0 = omega arith in ap Some at
-sections_at first (suc count) (suc k) below = let at : suc first + k ≡ first + suc k =
-    omega arith in sections_at (suc first) count k (omega arith) ∙ ap Some at
-
--- what is among the sections of a run is what is within it
-pub among_sections : (first count s : ℕ) → is_among (sections first count) s ≡ within first count s
-unfolding sections
-among_sections first zero s = sym (within_none first s)
-among_sections first (suc count) s = ⊎_elim
-    (λ (here : s ≡ first). or_left (s == first) (is_among (sections (suc first) count) s) (eq-eqb s first here)
-    ∙ sym (ap (within first (suc count)) here ∙ within_first first count))
-    (λ (apart : s ≢ first). ap (λ b. b || is_among (sections (suc first) count) s) (ne_eqb s first apart)
-    ∙ among_sections (suc first) count s ∙ sym (within_rest first count s apart))
+among_range : (first count s : ℕ) → is_among (range_with_len first count) s ≡ within (record { first = first; count = count }) s
+among_range first zero s = sym (within_none (record { first = first; count = 0 }) s refl)
+among_range first (suc count) s = ⊎_elim
+    (λ (here : s ≡ first). or_left (s == first) (is_among (range_with_len (first + 1) count) s) (eq-eqb s first here)
+    ∙ sym (within_from (record { first = first; count = suc count }) s (omega arith) (omega arith)))
+    (λ (apart : s ≢ first). ap (λ b. b || is_among (range_with_len (first + 1) count) s) (ne_eqb s first apart)
+    ∙ among_range (first + 1) count s ∙ sym (within_rest first count s apart))
     (cases_eq s first)
 
+-- what is among the sections of a run is what is within it
+pub among_sections : (r : Run) (s : ℕ) → is_among (sections r) s ≡ within r s
+among_sections r s = among_range r.first r.count s
+
+apart_range : (first count : ℕ) → AreApart (range_with_len first count)
+apart_range first zero = tt
+apart_range first (suc count) = (
+  among_range (first + 1) count first ∙ within_before (record { first = first + 1; count = count }) first (omega arith),
+  apart_range (first + 1) count,
+)
+
 -- the sections of a run are apart
-pub apart_sections : (first count : ℕ) → AreApart (sections first count)
-unfolding sections
-apart_sections first zero = tt
-apart_sections first (suc count) =
-    (among_sections (suc first) count first ∙ within_before (suc first) count first (omega arith), apart_sections (suc first) count)
+pub apart_sections : (r : Run) → AreApart (sections r)
+apart_sections r = apart_range r.first r.count
 
 -- among those that pass a test is what is among all and passes
 pub among_filter : (test : ℕ → Bool) (ss : List ℕ) (s : ℕ) → is_among (filter test ss) s ≡ (is_among ss s && test s)

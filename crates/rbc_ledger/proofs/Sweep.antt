@@ -2,7 +2,8 @@
 use Rattle.std.proofs.Common.{◌≡◌, ◌≢◌, ℕ, ◌==◌, ◌&&◌, ◌||◌, Bool, true, false, if◌then◌else◌, List, [], ◌∷◌, ◌++◌, map, filter, append_assoc, refl, sym, ap, ◌∙◌, subst, ⊎_elim, eq-eqb, ne_eqb}
 use Rattle.std.proofs.lemmas.Bool.{cond-true, cond-false, cases_eq, both_ways, or_left, or_right, or_parts, and_parts}
 use Rattle.rbc_ledger.specs.Sums.{put}
-use Rattle.rbc_ledger.specs.Runs.{within, sections, is_among, AreApart}
+use Rattle.rbc_spec.specs.Runs.{Run, within}
+use Rattle.rbc_ledger.specs.Sections.{sections, is_among, AreApart}
 use Rattle.rbc_ledger.specs.Sweep.{Spoken, sweep, AllMay, at_section, changed, said, Part, IsPart, in_part}
 use Rattle.rbc_ledger.proofs.Sums.{put_same, put_other}
 use Rattle.rbc_ledger.proofs.Sections.{among_sections, apart_sections, among_filter, apart_filter}
@@ -121,55 +122,55 @@ sweep_may may change say (k ∷ ss) f apart each = (
 )
 
 -- a sweep over a run is the change of each entry within it at once
-pub sweep_over : {A W : Type 0} (change : ℕ → A → A) (say : ℕ → A → List W) (first count : ℕ) (f : ℕ → A)
-    → sweep (at_section change say) (sections first count) f
-    ≡ record { state = λ s. if within first count s then change s (f s) else f s; words = said (sections first count) say f }
-sweep_over change say first count f = λ i.
+pub sweep_over : {A W : Type 0} (change : ℕ → A → A) (say : ℕ → A → List W) (r : Run) (f : ℕ → A)
+    → sweep (at_section change say) (sections r) f
+    ≡ record { state = λ s. if within r s then change s (f s) else f s; words = said (sections r) say f }
+sweep_over change say r f = λ i.
     record {
-      state = λ s. (sweep_state change say (sections first count) f s (apart_sections first count)
-          ∙ ap (λ b. if b then change s (f s) else f s) (among_sections first count s)) i;
-      words = sweep_words change say (sections first count) f (apart_sections first count) i;
+      state = λ s. (sweep_state change say (sections r) f s (apart_sections r)
+          ∙ ap (λ b. if b then change s (f s) else f s) (among_sections r s)) i;
+      words = sweep_words change say (sections r) f (apart_sections r) i;
     }
 
 -- and over those sections of a run that pass a test
-pub sweep_where : {A W : Type 0} (change : ℕ → A → A) (say : ℕ → A → List W) (test : ℕ → Bool) (first count : ℕ)
-    (f : ℕ → A) → sweep (at_section change say) (filter test (sections first count)) f ≡ record {
-      state = λ s. if within first count s && test s then change s (f s) else f s;
+pub sweep_where : {A W : Type 0} (change : ℕ → A → A) (say : ℕ → A → List W) (test : ℕ → Bool) (r : Run)
+    (f : ℕ → A) → sweep (at_section change say) (filter test (sections r)) f ≡ record {
+      state = λ s. if within r s && test s then change s (f s) else f s;
       words =
-          said (filter test (sections first count)) say f;
+          said (filter test (sections r)) say f;
     }
-sweep_where change say test first count f = λ i.
+sweep_where change say test r f = λ i.
     record {
       state = λ s. (sweep_state change say passing f s apart
           ∙ ap (λ b. if b then change s (f s) else f s)
-          (among_filter test (sections first count) s ∙ ap (λ b. b && test s) (among_sections first count s))) i;
+          (among_filter test (sections r) s ∙ ap (λ b. b && test s) (among_sections r s))) i;
       words = sweep_words change say passing f apart i;
     }
   where
     passing : List ℕ
-    passing = filter test (sections first count)
+    passing = filter test (sections r)
 
     apart : AreApart passing
-    apart = apart_filter test (sections first count) (apart_sections first count)
+    apart = apart_filter test (sections r) (apart_sections r)
 
 -- what may be done at each entry within a run may be done all along
-pub may_over : {A W : Type 0} (may : ℕ → A → Type 0) (change : ℕ → A → A) (say : ℕ → A → List W) (first count : ℕ)
-    (f : ℕ → A) → ((s : ℕ) → within first count s ≡ true → may s (f s))
-    → AllMay (λ s g. may s (g s)) (at_section change say) (sections first count) f
-may_over may change say first count f each =
-    sweep_may may change say (sections first count) f (apart_sections first count)
-    (λ s among. each s (sym (among_sections first count s) ∙ among))
+pub may_over : {A W : Type 0} (may : ℕ → A → Type 0) (change : ℕ → A → A) (say : ℕ → A → List W) (r : Run)
+    (f : ℕ → A) → ((s : ℕ) → within r s ≡ true → may s (f s))
+    → AllMay (λ s g. may s (g s)) (at_section change say) (sections r) f
+may_over may change say r f each =
+    sweep_may may change say (sections r) f (apart_sections r)
+    (λ s among. each s (sym (among_sections r s) ∙ among))
 
 -- and at those that pass a test
 pub may_where : {A W : Type 0} (may : ℕ → A → Type 0) (change : ℕ → A → A) (say : ℕ → A → List W) (test : ℕ → Bool)
-    (first count : ℕ) (f : ℕ → A) → ((s : ℕ) → within first count s ≡ true → test s ≡ true → may s (f s))
-    → AllMay (λ s g. may s (g s)) (at_section change say) (filter test (sections first count)) f
-may_where may change say test first count f each =
-    sweep_may may change say (filter test (sections first count)) f
-    (apart_filter test (sections first count) (apart_sections first count))
-    (λ s among. let parts = and_parts (is_among (sections first count) s) (test s)
-    (sym (among_filter test (sections first count) s) ∙ among) in
-    each s (sym (among_sections first count s) ∙ parts.0) parts.1)
+    (r : Run) (f : ℕ → A) → ((s : ℕ) → within r s ≡ true → test s ≡ true → may s (f s))
+    → AllMay (λ s g. may s (g s)) (at_section change say) (filter test (sections r)) f
+may_where may change say test r f each =
+    sweep_may may change say (filter test (sections r)) f
+    (apart_filter test (sections r) (apart_sections r))
+    (λ s among. let parts = and_parts (is_among (sections r) s) (test s)
+    (sym (among_filter test (sections r) s) ∙ among) in
+    each s (sym (among_sections r s) ∙ parts.0) parts.1)
 
 -- where nothing is said of any section, nothing is said
 pub said_none : {A W : Type 0} (say : ℕ → A → List W) (ss : List ℕ) (f : ℕ → A)

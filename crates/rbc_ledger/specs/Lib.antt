@@ -1,7 +1,7 @@
 pub mod Sums
 pub mod Network
 pub mod Resource
-pub mod Runs
+pub mod Sections
 pub mod Chain
 pub mod Sweep
 pub mod Coin

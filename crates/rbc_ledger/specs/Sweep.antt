@@ -1,7 +1,7 @@
 -- Steps one after another with all that is said; changes of single sections put together to one change of a run.
 use Rattle.std.specs.Prelude.{◌≡◌, ℕ, List, [], ◌∷◌, ◌++◌, flat_map, if◌then◌else◌, ⊤}
 use Rattle.rbc_ledger.specs.Sums.{put}
-use Rattle.rbc_ledger.specs.Runs.{is_among}
+use Rattle.rbc_ledger.specs.Sections.{is_among}
 
 -- a state, and what was said on the way to it
 pub record Spoken (V W : Type 0) : Type 0 where

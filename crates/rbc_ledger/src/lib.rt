@@ -1,12 +1,13 @@
-//! Laws of counting, with no railway in them. What centres hold, and what is on the way in the queues between them, is
-//! counted: where each act is fair, nothing is made, and of what there is one it is in one place. Beside these stand the
-//! laws of runs of sections, and of a state that follows the frames of a queue. The definitions are in `specs/`, the laws
+//! Laws of counting, with no railway in them but runs of sections. What centres hold, and what is on the way in the queues
+//! between them, is counted: where each act is fair, nothing is made, and of what there is one it is in one place. Beside
+//! these stand the laws of changes of a run, and of a state that follows the frames of a queue. The definitions are in `specs/`, the laws
 //! in `proofs/`, for the crates above to cite. The functions here do nothing: each contract is an example of the laws.
 #![tactic(auto)]
 
 ghost use Rattle.std.specs.Prelude.{◌≡◌, ℕ, ◌+◌, ◌<◌, ◌&&◌, ◌||◌, Bool, false, List, [], ◌∷◌, Some, All, if◌then◌else◌, flat_map, filter};
 ghost use Rattle.rbc_ledger.specs.Network.{numbered};
-ghost use Rattle.rbc_ledger.specs.Runs.{Run, within, sections, shared, front, behind, longest, IsLongest};
+ghost use Rattle.rbc_spec.specs.Runs.{Run, within};
+ghost use Rattle.rbc_ledger.specs.Sections.{sections};
 ghost use Rattle.rbc_ledger.specs.Sweep.{Spoken, sweep, at_section};
 ghost use Rattle.rbc_ledger.specs.Coin.{Event, Letter, is_loss, run, start, IsInOnePlace, IsInOnePlaceAtMost, IsInTurn};
 ghost use Rattle.rbc_ledger.specs.Coin.Event.{Writes, Comes};
@@ -30,33 +31,17 @@ pub fn in_turn()
         → f.page ≡ ((run n events start).at b).opened a }
 {}
 
-/// What two runs of sections share is a run, and a run is cut in two at any place.
-pub fn shared_or_cut()
-    ensures shared { (r q : Run) (s : ℕ) → within (shared r q).first (shared r q).count s
-        ≡ (within r.first r.count s && within q.first q.count s) }
-    ensures cut { (r : Run) (k s : ℕ) → within r.first r.count s
-        ≡ (within (front r k).first (front r k).count s || within (behind r k).first (behind r k).count s) }
-{}
-
-/// The longest run under a test, of at most so many sections: each of it passes, and the one after it fails or there is
-/// room for no more. No other run is that.
-pub fn longest_run()
-    ensures is { (test : ℕ → Bool) (first room : ℕ) → IsLongest test first room (longest test first room) }
-    ensures only { (test : ℕ → Bool) (first room n : ℕ) → IsLongest test first room n
-        → n ≡ longest test first room }
-{}
-
 /// Changes of one section after another are one change of the whole run, and what is said is what is said of each
 /// section, in order. The same for those sections of the run that pass a test.
 pub fn run_at_once()
-    ensures state { (change : ℕ → ℕ → ℕ) (say : ℕ → ℕ → List ℕ) (first count : ℕ) (f : ℕ → ℕ) (s : ℕ)
-        → (sweep (at_section change say) (sections first count) f).state s
-        ≡ (if within first count s then change s (f s) else f s) }
-    ensures words { (change : ℕ → ℕ → ℕ) (say : ℕ → ℕ → List ℕ) (first count : ℕ) (f : ℕ → ℕ)
-        → (sweep (at_section change say) (sections first count) f).words
-        ≡ flat_map (λ s. say s (f s)) (sections first count) }
+    ensures state { (change : ℕ → ℕ → ℕ) (say : ℕ → ℕ → List ℕ) (r : Run) (f : ℕ → ℕ) (s : ℕ)
+        → (sweep (at_section change say) (sections r) f).state s
+        ≡ (if within r s then change s (f s) else f s) }
+    ensures words { (change : ℕ → ℕ → ℕ) (say : ℕ → ℕ → List ℕ) (r : Run) (f : ℕ → ℕ)
+        → (sweep (at_section change say) (sections r) f).words
+        ≡ flat_map (λ s. say s (f s)) (sections r) }
     ensures tested { (change : ℕ → ℕ → ℕ) (say : ℕ → ℕ → List ℕ) (test : ℕ → Bool)
-        (first count : ℕ) (f : ℕ → ℕ) (s : ℕ)
-        → (sweep (at_section change say) (filter test (sections first count)) f).state s
-        ≡ (if within first count s && test s then change s (f s) else f s) }
+        (r : Run) (f : ℕ → ℕ) (s : ℕ)
+        → (sweep (at_section change say) (filter test (sections r)) f).state s
+        ≡ (if within r s && test s then change s (f s) else f s) }
 {}

@@ -3,10 +3,10 @@ use Rattle.rbc_ledger.proofs.Sweep.{sweep_over, sweep_where}
 use Rattle.rbc_ledger.proofs.run_at_once.Goals as goal
 
 pub returns-clause-state : goal.returns-clause-state
-returns-clause-state c change say first count f s = ap (λ o. o.state s) (sweep_over change say first count f)
+returns-clause-state c change say r f s = ap (λ o. o.state s) (sweep_over change say r f)
 
 pub returns-clause-words : goal.returns-clause-words
-returns-clause-words c change say first count f = ap (λ o. o.words) (sweep_over change say first count f)
+returns-clause-words c change say r f = ap (λ o. o.words) (sweep_over change say r f)
 
 pub returns-clause-tested : goal.returns-clause-tested
-returns-clause-tested c change say test first count f s = ap (λ o. o.state s) (sweep_where change say test first count f)
+returns-clause-tested c change say test r f s = ap (λ o. o.state s) (sweep_where change say test r f)

@@ -1,0 +1,14 @@
+pub mod Runs
+pub mod Longest
+pub mod Reasons
+pub mod Places
+pub mod Metres
+pub mod Silent
+pub mod SameReasons
+pub mod Sends
+pub mod SentActs
+pub mod SentAnswers
+pub mod SentSteps
+pub mod SentFrames
+pub mod SentEvents
+pub mod SentTaken

@@ -1,0 +1,5 @@
+use Rattle.rbc_laws.proofs.Runs.{within_shared}
+use Rattle.rbc_laws.proofs.sections.what_runs_share.Goals as goal
+
+pub returns : goal.returns
+returns c = within_shared

@@ -1,0 +1,19 @@
+//! Laws of the rules, over every line and every state of a centre: of runs of sections, of distances, of messages that are left
+//! without an answer, and of what a step sends. The functions do nothing: each contract is a law of the definitions.
+#![tactic(auto)]
+
+mod distances;
+mod sections;
+mod silences;
+mod steps;
+
+pub use distances::{a_place_is_ahead_of_its_group, no_distance_is_cut};
+pub use sections::{
+    a_cut_run_is_joined_again, a_run_is_cut_in_two, runs_are_joined, runs_of_the_same_sections,
+    the_longest_run, what_passes_first, what_runs_share,
+};
+pub use silences::{
+    a_silent_message_changes_nothing, silence_is_the_same_at_every_reach,
+    the_line_centre_is_silent_for_the_same_reasons,
+};
+pub use steps::{a_step_sends_few, a_step_sends_in_order};

@@ -1,0 +1,27 @@
+//! Laws of what a step sends and says.
+
+ghost use Rattle.std.specs.Prelude.{ℕ, ◌≤◌, length, map};
+ghost use Rattle.rbc_spec.specs.Reach.{Reach};
+ghost use Rattle.rbc_spec.specs.Line.{Line};
+ghost use Rattle.rbc_spec.specs.Frame.{Frame};
+ghost use Rattle.rbc_spec.specs.Centre.{Centre};
+ghost use Rattle.rbc_spec.specs.Step.{Event, taken};
+ghost use Rattle.rbc_laws.specs.Sending.{HoldsFew, TakesFew, GoInOrder};
+
+/// A step sends at most three frames on a link, two messages to trains and 64 words to the interlocking, at every reach: where hand and
+/// pool have at most 64 sections, and so has a start that waits and a run that comes home.
+pub fn a_step_sends_few()
+    ensures frames { (reach : Reach) (line : Line) (c d : ℕ) (k : Centre) (event : Event) → HoldsFew line k → TakesFew event
+        → length ((taken reach line c event k).0.frames d) ≤ 3 }
+    ensures sayings { (reach : Reach) (line : Line) (c : ℕ) (k : Centre) (event : Event) → HoldsFew line k → TakesFew event
+        → length (taken reach line c event k).0.sayings ≤ 2 }
+    ensures words { (reach : Reach) (line : Line) (c : ℕ) (k : Centre) (event : Event) → HoldsFew line k → TakesFew event
+        → length (taken reach line c event k).0.words ≤ 64 }
+{}
+
+/// What a step sends on a link goes out in order, at every reach: runs that go home, the lower first, then a Yield, a Cancel, a right that
+/// goes back, an Announce, a RouteAsk, and any other.
+pub fn a_step_sends_in_order()
+    ensures { (reach : Reach) (line : Line) (c d : ℕ) (k : Centre) (event : Event) → HoldsFew line k → TakesFew event
+        → GoInOrder (map (λ (f : Frame). f.body) ((taken reach line c event k).0.frames d)) }
+{}

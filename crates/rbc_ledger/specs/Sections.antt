@@ -1,0 +1,18 @@
+-- The sections of a run, as a list.
+use Rattle.std.specs.Prelude.{◌≡◌, ℕ, Bool, false, ◌||◌, ◌==◌, ⊤, List, [], ◌∷◌}
+use Rattle.std.specs.List.{range_with_len}
+use Rattle.rbc_spec.specs.Runs.{Run}
+
+-- the sections of a run, in order
+abbrev pub sections : Run → List ℕ
+sections r = range_with_len r.first r.count
+
+-- s is one of these
+abbrev pub is_among : List ℕ → ℕ → Bool
+is_among [] s = false
+is_among (k ∷ ks) s = s == k || is_among ks s
+
+-- none of these stands there twice
+abbrev pub AreApart : List ℕ → Type 0
+AreApart [] = ⊤
+AreApart (k ∷ ks) = (is_among ks k ≡ false) × AreApart ks
