@@ -1,14 +1,14 @@
 -- What a deed does to the session with its train.
-use Rattle.std.proofs.Common.{◌≡◌, ℕ, ◌==◌, Bool, true, false, cond, not, is_some, Option, Some, None, Ok, Err, refl, if◌then◌else◌}
+use Rattle.std.proofs.Common.{◌≡◌, subst, ℕ, ◌==◌, Bool, true, false, cond, not, is_some, Option, Some, None, Ok, Err, refl, if◌then◌else◌}
 use Rattle.std.specs.Option.{option_map_or}
 use Rattle.rbc_spec.specs.Line.{Line}
-use Rattle.rbc_spec.specs.Place.{Place}
+use Rattle.rbc_spec.specs.Place.{Place, Position}
 use Rattle.rbc_spec.specs.Message.{TrainBody, TrainData, Request, Report, ShorteningGranted, ShorteningRejected, EndOfMission, InitiationOfSession, TerminationOfSession, StartOfMission, SessionEstablished}
 use Rattle.rbc_spec.specs.Outcome.{Reason, NoPlace, NoTrainData, ProposalPending, Unasked}
 use Rattle.rbc_spec.specs.Centre.{Centre, Phase, Silent, Opened, Up, Mission, Proposal}
 use Rattle.rbc_spec.specs.Rules.{fit_place, place_on}
 use Rattle.rbc_mission.specs.Deeds as deeds
-use Rattle.rbc_mission.specs.Deeds.{Deed, OpenSession, EstablishSession, CloseSession, RejectStart, Restart, Start, TakeData, Grant, Clear, End, ClearAndEnd, DropProposal, Cut, Rule, rule_of, rule_under_way, unless, if_asked, start_at, grant_at, cut_at, supervised}
+use Rattle.rbc_mission.specs.Deeds.{Deed, OpenSession, EstablishSession, CloseSession, RejectStart, Restart, Start, TakeData, Grant, Clear, End, ClearAndEnd, DropProposal, Cut, Rule, rule_of, rule_under_way, unless, if_asked, start_at, grant_at, cut_at, supervised, if_up, closing, establishing}
 use Rattle.rbc_centre.specs.Sessions.{session_of, phase_after}
 use Rattle.rbc_centre.specs.declared.session_act.SessionAct.TheVariants as act
 
@@ -59,14 +59,33 @@ confirms (ClearAndEnd place count) e = cc
 confirms DropProposal e = cc
 confirms (Cut keep) e = cc
 
--- ## What is confirmed was opened
+-- ## What opens and what confirms a session
 
--- the rule confirms no session
-abbrev Confirms : Rule → Type 0
-Confirms rule = rule ≡ Ok EstablishSession
+-- the deed opens a session or confirms one
+abbrev begins_session : Deed → Bool
+begins_session OpenSession = true
+begins_session EstablishSession = true
+begins_session CloseSession = false
+begins_session RejectStart = false
+begins_session (Restart place) = false
+begins_session (Start place run) = false
+begins_session TakeData = false
+begins_session (Grant place count) = false
+begins_session (Clear place count) = false
+begins_session End = false
+begins_session (ClearAndEnd place count) = false
+begins_session DropProposal = false
+begins_session (Cut keep) = false
 
 abbrev IsOther : Deed → Type 0
-IsOther deed = deed ≡ EstablishSession → ⊥
+IsOther deed = begins_session deed ≡ false
+
+not_both : true ≡ false → ⊥
+not_both e = cc
+
+-- the rule comes to no such deed
+abbrev LeavesSessions : Rule → Type 0
+LeavesSessions rule = (deed : Deed) → rule ≡ Ok deed → IsOther deed
 
 other_if : (b : Bool) (x y : Deed) → IsOther x → IsOther y → IsOther (cond b x y)
 other_if true x y a b = a
@@ -76,92 +95,107 @@ other_or : {X : Type 0} (o : Option X) (f : X → Deed) (y : Deed) → ((x : X) 
 other_or (Some x) f y a b = a x
 other_or None f y a b = b
 
-of_deed : (deed : Deed) → IsOther deed → Confirms (Ok deed) → ⊥
-of_deed deed other e = other (let is : deed ≡ EstablishSession = cc in is)
+of_deed : (deed : Deed) → IsOther deed → LeavesSessions (Ok deed)
+of_deed deed other d e = let is : deed ≡ d = cc in subst IsOther is other
 
-of_err : (why : Reason) → Confirms (Err why) → ⊥
-of_err why e = cc
+of_err : (why : Reason) → LeavesSessions (Err why)
+of_err why d e = cc
 
-unless_other : (b : Bool) (why : Reason) (rule : Rule) → (Confirms rule → ⊥) → Confirms (unless b why rule) → ⊥
-unless_other true why rule other e = cc
-unless_other false why rule other e = other e
+unless_other : (b : Bool) (why : Reason) (rule : Rule) → LeavesSessions rule → LeavesSessions (unless b why rule)
+unless_other true why rule other d e = cc
+unless_other false why rule other d e = other d e
 
-or_other : {X : Type 0} (o : Option X) (f : X → Rule) (rule : Rule) → ((x : X) → Confirms (f x) → ⊥) → (Confirms rule → ⊥) → Confirms (option_map_or f o rule) → ⊥
-or_other (Some x) f rule a b e = a x e
-or_other None f rule a b e = b e
+or_other : {X : Type 0} (o : Option X) (f : X → Rule) (rule : Rule) → ((x : X) → LeavesSessions (f x)) → LeavesSessions rule → LeavesSessions (option_map_or f o rule)
+or_other (Some x) f rule a b d e = a x d e
+or_other None f rule a b d e = b d e
 
-asked_other : (stamp : ℕ) (m : Mission) (deed : Proposal → Deed) → ((p : Proposal) → IsOther (deed p)) → Confirms (if_asked stamp m deed) → ⊥
-asked_other stamp m deed other = or_other m.proposal (λ p. if p.stamp == stamp then Ok (deed p) else Err Unasked) (Err Unasked) (λ p. by_stamp (p.stamp == stamp) p) (λ e. cc)
+asked_other : (stamp : ℕ) (m : Mission) (deed : Proposal → Deed) → ((p : Proposal) → IsOther (deed p)) → LeavesSessions (if_asked stamp m deed)
+asked_other stamp m deed other = or_other m.proposal (λ p. if p.stamp == stamp then Ok (deed p) else Err Unasked) (Err Unasked) (λ p. by_stamp (p.stamp == stamp) p) (of_err Unasked)
   where
-    by_stamp : (b : Bool) (p : Proposal) → Confirms (cond b (Ok (deed p)) (Err Unasked)) → ⊥
-    by_stamp true p e = of_deed (deed p) (other p) e
-    by_stamp false p e = cc
+    by_stamp : (b : Bool) (p : Proposal) → LeavesSessions (cond b (Ok (deed p)) (Err Unasked))
+    by_stamp true p = of_deed (deed p) (other p)
+    by_stamp false p = of_err Unasked
 
-grant_other : (place : Place) (count : ℕ) → IsOther (Grant place count)
-grant_other place count e = cc
-
-cut_other : (keep : ℕ) → IsOther (Cut keep)
-cut_other keep e = cc
-
-drop_other : IsOther DropProposal
-drop_other e = cc
-
-clear_other : (place : Place) (count : ℕ) → IsOther (Clear place count)
-clear_other place count e = cc
-
-end_other : (place : Place) (count : ℕ) → IsOther (ClearAndEnd place count)
-end_other place count e = cc
+up_other : (phase : Phase) (rule : Rule) → LeavesSessions rule → LeavesSessions (if_up phase rule)
+up_other Silent rule other = of_err _
+up_other Opened rule other = of_err _
+up_other Up rule other = other
 
 module _ (line : Line) (c : ℕ) (k : Centre) (t : ℕ) where
-  under_way_other : (body : TrainBody) (m : Mission) → Confirms (rule_under_way line c k body m) → ⊥
-  under_way_other (TrainData position) m = unless_other m.is_ended _ (Ok TakeData) (of_deed TakeData (λ e. cc))
+  under_way_other : (body : TrainBody) (m : Mission) → LeavesSessions (rule_under_way line c k body m)
+  under_way_other (TrainData position) m = unless_other m.is_ended _ (Ok TakeData) (of_deed TakeData refl)
   under_way_other (Request position) m =
       unless_other m.is_ended _ _ (unless_other (not m.has_data) NoTrainData _ (unless_other (is_some m.proposal) ProposalPending _ (or_other (place_on line m.place.track position) (grant_at line c k m) (Err NoPlace)
-      (λ place. unless_other _ _ _ (of_deed (Grant place _) (grant_other place _))) (of_err NoPlace))))
-  under_way_other (Report position) m = or_other (place_on line m.place.track position) _ (Err NoPlace) (λ place. of_deed (Clear place _) (clear_other place _)) (of_err NoPlace)
+      (λ place. unless_other _ _ _ (of_deed (Grant place _) refl)) (of_err NoPlace))))
+  under_way_other (Report position) m = or_other (place_on line m.place.track position) _ (Err NoPlace) (λ place. of_deed (Clear place _) refl) (of_err NoPlace)
   under_way_other (ShorteningGranted stamp position) m =
       asked_other stamp m (λ p. option_map_or (cut_at line m p) (place_on line m.place.track position) DropProposal)
-      (λ p. other_or (place_on line m.place.track position) (cut_at line m p) DropProposal (λ place. other_if _ (Cut _) DropProposal (cut_other _) drop_other) drop_other)
-  under_way_other (ShorteningRejected stamp position) m = asked_other stamp m (λ p. DropProposal) (λ p e. cc)
-  under_way_other (EndOfMission position) m = unless_other m.is_ended _ _ (of_deed _ (other_or (place_on line m.place.track position) _ End (λ place. end_other place _) (λ e. cc)))
-  under_way_other InitiationOfSession m = λ e. cc
-  under_way_other TerminationOfSession m = λ e. cc
-  under_way_other SessionEstablished m = λ e. cc
-  under_way_other (StartOfMission is_valid position) m = λ e. cc
+      (λ p. other_or (place_on line m.place.track position) (cut_at line m p) DropProposal (λ place. other_if _ (Cut _) DropProposal refl refl) refl)
+  under_way_other (ShorteningRejected stamp position) m = asked_other stamp m (λ p. DropProposal) (λ p. refl)
+  under_way_other (EndOfMission position) m = unless_other m.is_ended _ _ (of_deed _ (other_or (place_on line m.place.track position) _ End (λ place. refl) refl))
+  under_way_other InitiationOfSession m = of_err _
+  under_way_other TerminationOfSession m = of_err _
+  under_way_other SessionEstablished m = of_err _
+  under_way_other (StartOfMission is_valid position) m = of_err _
 
-  supervised_other : (mission : Option Mission) (body : TrainBody) → Confirms (supervised mission (rule_under_way line c k body)) → ⊥
-  supervised_other (Some m) body e = under_way_other body m e
-  supervised_other None body e = cc
+  supervised_other : (mission : Option Mission) (body : TrainBody) → LeavesSessions (supervised mission (rule_under_way line c k body))
+  supervised_other (Some m) body = under_way_other body m
+  supervised_other None body = of_err _
 
   start_other : (mission : Option Mission) (o : Option Place) → IsOther (option_map_or (start_at line c k t mission) o RejectStart)
-  start_other (Some m) o = other_or o (start_at line c k t (Some m)) RejectStart (λ place. other_if _ (Restart place) RejectStart (λ e. cc) (λ e. cc)) (λ e. cc)
-  start_other None o = other_or o (start_at line c k t None) RejectStart (λ place. other_if _ (Start place _) RejectStart (λ e. cc) (λ e. cc)) (λ e. cc)
+  start_other (Some m) o = other_or o (start_at line c k t (Some m)) RejectStart (λ place. other_if _ (Restart place) RejectStart refl refl) refl
+  start_other None o = other_or o (start_at line c k t None) RejectStart (λ place. other_if _ (Start place _) RejectStart refl refl) refl
 
-  up_confirms_none : (mission : Option Mission) (body : TrainBody) → Confirms (rule_of line c k t Up mission body) → ⊥
-  up_confirms_none mission InitiationOfSession e = cc
-  up_confirms_none mission TerminationOfSession e = cc
-  up_confirms_none mission SessionEstablished e = cc
-  up_confirms_none mission (StartOfMission is_valid position) e = of_deed _ (start_other mission (fit_place line is_valid position)) e
-  up_confirms_none mission (TrainData position) e = supervised_other mission (TrainData position) e
-  up_confirms_none mission (Request position) e = supervised_other mission (Request position) e
-  up_confirms_none mission (Report position) e = supervised_other mission (Report position) e
-  up_confirms_none mission (ShorteningGranted stamp position) e = supervised_other mission (ShorteningGranted stamp position) e
-  up_confirms_none mission (ShorteningRejected stamp position) e = supervised_other mission (ShorteningRejected stamp position) e
-  up_confirms_none mission (EndOfMission position) e = supervised_other mission (EndOfMission position) e
+  -- with its session up, of a message that is no message of sessions
+  way_other : (phase : Phase) (mission : Option Mission) (body : TrainBody) → LeavesSessions (if_up phase (supervised mission (rule_under_way line c k body)))
+  way_other phase mission body = up_other phase _ (supervised_other mission body)
 
-  silent_confirms_none : (mission : Option Mission) (body : TrainBody) → Confirms (rule_of line c k t Silent mission body) → ⊥
-  silent_confirms_none mission InitiationOfSession e = cc
-  silent_confirms_none mission TerminationOfSession e = cc
-  silent_confirms_none mission SessionEstablished e = cc
-  silent_confirms_none mission (StartOfMission is_valid position) e = cc
-  silent_confirms_none mission (TrainData position) e = cc
-  silent_confirms_none mission (Request position) e = cc
-  silent_confirms_none mission (Report position) e = cc
-  silent_confirms_none mission (ShorteningGranted stamp position) e = cc
-  silent_confirms_none mission (ShorteningRejected stamp position) e = cc
-  silent_confirms_none mission (EndOfMission position) e = cc
+  begin_other : (phase : Phase) (mission : Option Mission) (is_valid : Bool) (position : Position)
+      → LeavesSessions (if_up phase (Ok (option_map_or (start_at line c k t mission) (fit_place line is_valid position) RejectStart)))
+  begin_other phase mission is_valid position = up_other phase _ (of_deed _ (start_other mission (fit_place line is_valid position)))
 
+  closing_opens_none : (phase : Phase) → closing phase ≡ Ok OpenSession → ⊥
+  closing_opens_none Silent e = cc
+  closing_opens_none Opened e = cc
+  closing_opens_none Up e = cc
+
+  establishing_opens_none : (phase : Phase) → establishing phase ≡ Ok OpenSession → ⊥
+  establishing_opens_none Silent e = cc
+  establishing_opens_none Opened e = cc
+  establishing_opens_none Up e = cc
+
+  -- only its own message opens a session
+  pub opened_by_initiation : (phase : Phase) (mission : Option Mission) (body : TrainBody) → rule_of line c k t phase mission body ≡ Ok OpenSession → body ≡ InitiationOfSession
+  opened_by_initiation phase mission InitiationOfSession e = refl
+  opened_by_initiation phase mission TerminationOfSession e = absurd (closing_opens_none phase e)
+  opened_by_initiation phase mission SessionEstablished e = absurd (establishing_opens_none phase e)
+  opened_by_initiation phase mission (StartOfMission is_valid position) e = absurd (not_both (begin_other phase mission is_valid position OpenSession e))
+  opened_by_initiation phase mission (TrainData position) e = absurd (not_both (way_other phase mission (TrainData position) OpenSession e))
+  opened_by_initiation phase mission (Request position) e = absurd (not_both (way_other phase mission (Request position) OpenSession e))
+  opened_by_initiation phase mission (Report position) e = absurd (not_both (way_other phase mission (Report position) OpenSession e))
+  opened_by_initiation phase mission (ShorteningGranted stamp position) e = absurd (not_both (way_other phase mission (ShorteningGranted stamp position) OpenSession e))
+  opened_by_initiation phase mission (ShorteningRejected stamp position) e = absurd (not_both (way_other phase mission (ShorteningRejected stamp position) OpenSession e))
+  opened_by_initiation phase mission (EndOfMission position) e = absurd (not_both (way_other phase mission (EndOfMission position) OpenSession e))
+
+  closing_confirms_none : (phase : Phase) → closing phase ≡ Ok EstablishSession → ⊥
+  closing_confirms_none Silent e = cc
+  closing_confirms_none Opened e = cc
+  closing_confirms_none Up e = cc
+
+  establishing_was_opened : (phase : Phase) → establishing phase ≡ Ok EstablishSession → phase ≡ Opened
+  establishing_was_opened Silent e = cc
+  establishing_was_opened Opened e = refl
+  establishing_was_opened Up e = cc
+
+  -- what is confirmed was opened
   pub confirmed_was_opened : (phase : Phase) (mission : Option Mission) (body : TrainBody) → rule_of line c k t phase mission body ≡ Ok EstablishSession → phase ≡ Opened
-  confirmed_was_opened Silent mission body e = absurd (silent_confirms_none mission body e)
-  confirmed_was_opened Opened mission body e = refl
-  confirmed_was_opened Up mission body e = absurd (up_confirms_none mission body e)
+  confirmed_was_opened phase mission InitiationOfSession e = cc
+  confirmed_was_opened phase mission TerminationOfSession e = absurd (closing_confirms_none phase e)
+  confirmed_was_opened phase mission SessionEstablished e = establishing_was_opened phase e
+  confirmed_was_opened phase mission (StartOfMission is_valid position) e = absurd (not_both (begin_other phase mission is_valid position EstablishSession e))
+  confirmed_was_opened phase mission (TrainData position) e = absurd (not_both (way_other phase mission (TrainData position) EstablishSession e))
+  confirmed_was_opened phase mission (Request position) e = absurd (not_both (way_other phase mission (Request position) EstablishSession e))
+  confirmed_was_opened phase mission (Report position) e = absurd (not_both (way_other phase mission (Report position) EstablishSession e))
+  confirmed_was_opened phase mission (ShorteningGranted stamp position) e = absurd (not_both (way_other phase mission (ShorteningGranted stamp position) EstablishSession e))
+  confirmed_was_opened phase mission (ShorteningRejected stamp position) e = absurd (not_both (way_other phase mission (ShorteningRejected stamp position) EstablishSession e))
+  confirmed_was_opened phase mission (EndOfMission position) e = absurd (not_both (way_other phase mission (EndOfMission position) EstablishSession e))

@@ -1,5 +1,6 @@
 -- The step's definition, seen from the code.
 use Rattle.std.specs.Prelude.{◌≡◌, Result, Ok, Err, IsOk}
+use Rattle.rbc_spec.specs.Message.{InitiationOfSession}
 use Rattle.rbc_spec.specs.Step as step
 use Rattle.rbc_centre.specs.declared.fault.StepFault.{StepFault}
 use Rattle.rbc_centre.specs.declared.fault.StepFault.TheVariants.{Memory, LinkFull, ClockEnd}
@@ -14,3 +15,12 @@ IsRefusal ClockEnd r = r ≡ Err step.ClockEnd
 abbrev pub Steps : {X Y : Type 0} → (X → Y) → Result X StepFault → Result Y step.Refusal → Type 0
 Steps view (Ok x) r = r ≡ Ok (view x)
 Steps view (Err fault) r = IsRefusal fault r
+
+-- memory is wanted only where a train opens a session
+abbrev pub TakesMemory : step.Event → Type 0
+TakesMemory (step.Train m) = m.body ≡ InitiationOfSession
+TakesMemory event = ⊥
+
+abbrev pub IsWantedBy : {X : Type 0} → step.Event → Result X StepFault → Type 0
+IsWantedBy event (Err Memory) = TakesMemory event
+IsWantedBy event result = Unit {0}

@@ -1,4 +1,4 @@
-ghost use Rattle.std.specs.Prelude.{◌≡◌, ◌≤◌, ◌<◌, ℕ, slice_get, true, length, IfOk, OnErr, Some, None, option_map};
+ghost use Rattle.std.specs.Prelude.{◌≡◌, ◌≤◌, ◌<◌, ℕ, slice_get, true, length, IfOk, IfErr, OnOk, OnErr, IsOk, Some, None, Err, option_map};
 ghost use Rattle.rbc_spec.specs.Line.{is_centre, is_home, train_number};
 ghost use Rattle.rbc_spec.specs.Centre.{Mission, beginning};
 ghost use Rattle.rbc_spec.specs.Step as spec;
@@ -9,11 +9,13 @@ ghost use Rattle.rbc_book.specs.Entries.{entry_of};
 ghost use Rattle.rbc_rules.specs.Desks.{mission_by};
 ghost use Rattle.rbc_msgs.specs.StepMessage.{step_message};
 ghost use Rattle.rbc_session.specs.Standing.{phase_of};
-ghost use Rattle.rbc_centre.specs.Answer.{Steps};
+ghost use Rattle.rbc_centre.specs.Answer.{Steps, IsWantedBy};
 ghost use Rattle.rbc_centre.specs.Standings.{Stands};
 ghost use Rattle.rbc_centre.specs.State.{stands_for, IsUnknown};
 ghost use Rattle.rbc_centre.specs.Views.{event_of, outcome_of};
 ghost use Rattle.rbc_centre.specs.declared.train.TrainState.{TrainState};
+ghost use Rattle.rbc_centre.specs.declared.event.Event.{Event as EventInMemory};
+ghost use Rattle.rbc_centre.specs.declared.fault.StepFault.TheVariants.{ClockEnd};
 
 use crate::event::Event;
 use crate::fault::StepFault;
@@ -126,6 +128,18 @@ impl Centre {
         }
     }
 
+    /// Says whether a further step has a stamp: it is refused as `ClockEnd` where the last stamp is used.
+    pub fn may_step(&self) -> Result<(), StepFault>
+        ensures ok { OnOk result ((event : EventInMemory) → IsOk (spec.step reach.Alone (line_of self.now) (number_of self.now) (event_of event) (meaning self.now))) }
+        ensures err { IfErr result (λ fault. (fault ≡ ClockEnd) × ((event : EventInMemory)
+            → spec.step reach.Alone (line_of self.now) (number_of self.now) (event_of event) (meaning self.now) ≡ Err spec.ClockEnd)) }
+    {
+        if self.clock < LAST_STAMP {
+            return Ok(());
+        }
+        Err(StepFault::ClockEnd)
+    }
+
     /// Takes an event, and answers it. It is refused where the stamp would pass the last one, or for want of memory, which only
     /// the opening of a session takes; then nothing changes.
     pub fn step(&mut self, event: &Event) -> Result<Outcome, StepFault>
@@ -133,6 +147,7 @@ impl Centre {
         ensures number { number_of self.new ≡ number_of self.old }
         ensures exact { Steps (λ o. (outcome_of o, meaning self.new)) result
             (spec.step reach.Alone (line_of self.old) (number_of self.old) (event_of event.now) (meaning self.old)) }
+        ensures memory { IsWantedBy (event_of event.now) result }
         ensures err { OnErr result (meaning self.new ≡ meaning self.old) }
     {
         if self.clock >= LAST_STAMP {
@@ -151,6 +166,7 @@ impl Centre {
         ensures number { number_of self.new ≡ number_of self.old }
         ensures exact { Steps (λ o. (outcome_of o, meaning self.new)) result
             (spec.step reach.Alone (line_of self.old) (number_of self.old) (spec.Train (step_message message.now)) (meaning self.old)) }
+        ensures memory { IsWantedBy (spec.Train (step_message message.now)) result }
         ensures err { OnErr result (meaning self.new ≡ meaning self.old) }
     {
         if self.clock < LAST_STAMP {

@@ -9,7 +9,7 @@ ghost use Rattle.rbc_mission.specs.Deeds.{rule_of, OpenSession};
 ghost use Rattle.rbc_rules.specs.Acts.{deed_of};
 ghost use Rattle.rbc_rules.specs.Decisions.{Fits, EndsThere};
 ghost use Rattle.rbc_session.specs.Sessions.{HasRoom};
-ghost use Rattle.rbc_centre.specs.Answer.{Steps};
+ghost use Rattle.rbc_centre.specs.Answer.{Steps, IsWantedBy};
 ghost use Rattle.rbc_centre.specs.Meaning.{line_of, number_of, meaning, IsSame};
 ghost use Rattle.rbc_centre.specs.Views.{outcome_of, why_of};
 
@@ -30,6 +30,7 @@ impl Centre {
         ensures number { number_of self.new ≡ number_of self.old }
         ensures exact { Steps (λ o. (outcome_of o, meaning self.new)) result
             (Ok (spec.taken reach.Alone (line_of self.old) (number_of self.old) (spec.Train (step_message message.now)) (meaning self.old))) }
+        ensures memory { IsWantedBy (spec.Train (step_message message.now)) result }
         ensures err { OnErr result (meaning self.new ≡ meaning self.old) }
     {
         match self.act_of(message) {
@@ -48,6 +49,7 @@ impl Centre {
     fn make_room(&mut self, act: Act) -> Result<(), AllocError>
         ensures same { IsSame self.old self.new }
         ensures room { OnOk result (deed_of act ≡ OpenSession → HasRoom self.new.sessions) }
+        ensures err { OnErr result (deed_of act ≡ OpenSession) }
     {
         match act {
             Act::OpenSession => self.sessions.reserve(),

@@ -1,5 +1,5 @@
 -- A centre with its log.
-use Rattle.std.specs.Prelude.{◌≡◌, ℕ, ◌≤◌, ◌<◌, List, [], ◌∷◌, ◌++◌, length, map, Ok, Err}
+use Rattle.std.specs.Prelude.{◌≡◌, ℕ, ◌≤◌, ◌<◌, List, [], ◌∷◌, ◌++◌, length, map, Ok, Err, IsOk}
 use Rattle.rbc_spec.specs.Reach.{Alone}
 use Rattle.rbc_spec.specs.Outcome.{Outcome}
 use Rattle.rbc_spec.specs.Centre.{beginning}
@@ -42,9 +42,9 @@ pub record IsUnchanged (old new : LogValue) : Type 0 where
   pub line : line_of new.core ≡ line_of old.core
   pub number : number_of new.core ≡ number_of old.core
 
--- when a fault comes: LogFull exactly where no entry has room, else the refusal of the step; no link can be full yet
+-- when a fault comes: LogFull exactly where no entry has room, else the refusal of the step, and Memory only where it is not refused; no link can be full yet
 abbrev pub IsRefusal : LogValue → Event → CommitFault → Type 0
-IsRefusal l event Memory = length l.entries < most_entries
+IsRefusal l event Memory = (length l.entries < most_entries) × IsOk (step Alone (line_of l.core) (number_of l.core) event (meaning l.core))
 IsRefusal l event LinkFull = ⊥
 IsRefusal l event ClockEnd = (length l.entries < most_entries) × (step Alone (line_of l.core) (number_of l.core) event (meaning l.core) ≡ Err AtClockEnd)
 IsRefusal l event LogFull = most_entries ≤ length l.entries

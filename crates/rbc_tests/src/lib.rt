@@ -1,25 +1,13 @@
-//! Tests across the crates, of what no clause says: each public call once on its happy path. Those of bytes stand in `rbc_codec_tests`.
+//! Tests across the crates, of what no clause says: threads at a node, and that calls which take memory succeed where it is at hand. Those of
+//! bytes stand in `rbc_codec_tests`, and what the program prints is data of `rbc_rows`. A call that takes no memory and whose clauses give its
+//! result whole has no test.
 #![tactic(auto)]
 
-#[cfg(test)]
-mod authority;
-#[cfg(test)]
-mod book;
-#[cfg(test)]
-mod centre;
-#[cfg(test)]
-mod hand;
 #[cfg(test)]
 mod line;
 #[cfg(test)]
 mod log;
 #[cfg(test)]
 mod node;
-#[cfg(test)]
-mod place;
-#[cfg(test)]
-mod right;
-#[cfg(test)]
-mod sessions;
 #[cfg(test)]
 mod world;

@@ -9,7 +9,8 @@ use Rattle.rbc_spec.specs.World.{new_world}
 use Rattle.rbc_spec.specs.ReadOff.{StandsFor, read_off}
 use Rattle.rbc_alone.specs.Alone.{IsAloneAt, IsAlone}
 use Rattle.rbc_alone.proofs.Ordered.{begins_alone}
-use Rattle.rbc_pieces.proofs.Whole.{read_stands}
+use Rattle.rbc_spec.specs.Promises.{IsSound}
+use Rattle.rbc_pieces.proofs.Whole.{read_stands, world_is_sound}
 use Rattle.rbc_centre.specs.Meaning as one
 use Rattle.rbc_centre.specs.declared.centre.Centre.{Centre}
 use Rattle.rbc_world.specs.Meaning.{centres_of, stands_for, AtBeginning}
@@ -96,3 +97,7 @@ world_alone line cs trains one_line in_order = record { each = λ c. by_centre c
 -- the state that is read off a world in memory stands for it
 pub world_stands : (w : World) → IsLine w.line → StandsFor w.line (meaning w) (read_off w.line (meaning w))
 world_stands w ok = read_stands w.line ok (meaning w) (world_alone w.line w.centres.items w.trains.keys w.one_line w.in_order)
+
+-- and each world in memory is sound
+pub world_sound : (w : World) → IsLine w.line → IsSound w.line (meaning w)
+world_sound w ok = world_is_sound w.line ok (meaning w) (world_alone w.line w.centres.items w.trains.keys w.one_line w.in_order)

@@ -8,13 +8,12 @@ use Rattle.rbc_spec.specs.LineCentre.{line_beginning}
 use Rattle.rbc_spec.specs.World.{World, Event, Answer, world_step, world_run, new_world, all_named}
 use Rattle.rbc_spec.specs.Run.{Run}
 use Rattle.rbc_spec.specs.ReadOff.{IsLineRun, read_off}
-use Rattle.rbc_spec.specs.Promises.{IsSafe}
+use Rattle.rbc_spec.specs.Promises.{IsSound}
 use Rattle.rbc_spec.specs.Theorems.{IsOneCentreLine, IsOneCentreRun, RunsAlone}
-use Rattle.rbc_spec.proofs.Safe.{safe}
 use Rattle.rbc_alone.proofs.Ordered.{is_ordered}
 use Rattle.rbc_pieces.proofs.Loop.{Reaches, at_start, stops_at}
 use Rattle.rbc_pieces.proofs.Runs.{run_names, run_refused}
-use Rattle.rbc_pieces.proofs.Whole.{run_is, run_read}
+use Rattle.rbc_pieces.proofs.Whole.{run_is, run_read, world_is_sound, reached_alone}
 use Rattle.rbc_single.proofs.Whole as single
 use Rattle.rbc_single.proofs.Borders.{same_run}
 use Rattle.rbc_centre.specs.declared.fault.StepFault.{StepFault}
@@ -57,9 +56,9 @@ module _ {X : Type 0} (line : Line) (events : List Event) (answers : X → List 
     is_line_run (Ok o) e = run_is line ok events (answers o) (world o) e
     is_line_run (Err fault) e = tt
 
-    pub is_safe : (result : Result X StepFault) → Runs result → IfOk result (λ o. IsSafe line (world o))
-    is_safe (Ok o) e = let whole = run_is line ok events (answers o) (world o) e in safe line (world o) whole.last whole.stands
-    is_safe (Err fault) e = tt
+    pub is_sound : (result : Result X StepFault) → Runs result → IfOk result (λ o. IsSound line (world o))
+    is_sound (Ok o) e = world_is_sound line ok (world o) (reached_alone line ok events (answers o) (world o) e)
+    is_sound (Err fault) e = tt
 
     pub ends_read : (result : Result X StepFault) → Runs result → IfOk result (λ o. Run line line_beginning events (answers o) (read_off line (world o)))
     ends_read (Ok o) e = run_read line ok events (answers o) (world o) e

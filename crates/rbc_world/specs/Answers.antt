@@ -2,7 +2,7 @@
 use Rattle.std.specs.Prelude.{◌≡◌, List, Result, Ok, Err}
 use Rattle.rbc_spec.specs.Reach.{Alone}
 use Rattle.rbc_spec.specs.Line.{Line}
-use Rattle.rbc_spec.specs.World.{Event, new_world, IsRefused}
+use Rattle.rbc_spec.specs.World.{Event, Bytes, new_world, IsRefused}
 use Rattle.rbc_spec.specs.Step.{Refusal, ClockEnd as AtClockEnd}
 use Rattle.rbc_centre.specs.declared.fault.StepFault.{StepFault}
 use Rattle.rbc_centre.specs.declared.fault.StepFault.TheVariants.{Memory, LinkFull, ClockEnd}
@@ -17,6 +17,15 @@ IsRefusal ClockEnd step = step ≡ Err AtClockEnd
 abbrev pub Gives : {X Y : Type 0} → (X → Y) → Result X StepFault → Result Y Refusal → Type 0
 Gives view (Ok x) step = step ≡ Ok (view x)
 Gives view (Err fault) step = IsRefusal fault step
+
+-- memory is wanted only where bytes of a train are read: for the message, its session, or its first mention
+abbrev pub TakesMemory : Event → Type 0
+TakesMemory (Bytes c read) = Unit {0}
+TakesMemory event = ⊥
+
+abbrev pub IsWantedBy : {X : Type 0} → Event → Result X StepFault → Type 0
+IsWantedBy event (Err Memory) = TakesMemory event
+IsWantedBy event result = Unit {0}
 
 -- a whole run is refused for want of memory, or as one of its steps is
 abbrev pub IsRefusedRun : Line → List Event → StepFault → Type 0

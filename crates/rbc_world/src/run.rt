@@ -4,7 +4,7 @@ ghost use Rattle.rbc_spec.specs.World.{new_world, world_run, all_named, IsRefuse
 ghost use Rattle.rbc_spec.specs.LineCentre.{line_beginning};
 ghost use Rattle.rbc_spec.specs.Run as line_run;
 ghost use Rattle.rbc_spec.specs.ReadOff.{IsLineRun, read_off};
-ghost use Rattle.rbc_spec.specs.Promises.{IsSafe};
+ghost use Rattle.rbc_spec.specs.Promises.{IsSound};
 ghost use Rattle.rbc_spec.specs.Theorems.{IsOneCentreLine, IsOneCentreRun, RunsAlone};
 ghost use Rattle.rbc_world.specs.World.{meaning};
 ghost use Rattle.rbc_world.specs.Views.{event_of, answer_of};
@@ -42,8 +42,8 @@ impl World {
         ensures run { IfOk result (λ o. IsLineRun line.now (map event_of events.now) (map answer_of o.answers.items) (meaning o.world)) }
         // It ends in the state that is read off them.
         ensures last { IfOk result (λ o. line_run.Run line.now line_beginning (map event_of events.now) (map answer_of o.answers.items) (read_off line.now (meaning o.world))) }
-        // So each train has one supervisor at most, and each section one train.
-        ensures safe { IfOk result (λ o. IsSafe line.now (meaning o.world)) }
+        // So each train has one supervisor at most, each section one train, and no section in use and no right is lost or in two places.
+        ensures sound { IfOk result (λ o. IsSound line.now (meaning o.world)) }
         // On a line that one centre has alone the run leaves no choice, and all is answered as by the rules of the whole system.
         ensures one_centre { (c : ℕ) → IsOneCentreLine line.now c
             → IfOk result (λ o. IsOneCentreRun line.now (map event_of events.now) (map answer_of o.answers.items) (meaning o.world)) }

@@ -11,10 +11,11 @@ ghost use Rattle.rbc_world.specs.Views.{IsFaultOf};
 ghost use Rattle.rbc_centre.specs.declared.fault.StepFault.TheVariants.{Memory};
 ghost use Rattle.rbc_spec.specs.Run.{Goes};
 ghost use Rattle.rbc_spec.specs.ReadOff.{StandsFor, read_off};
-ghost use Rattle.rbc_spec.specs.Promises.{IsSafe, KeepsPromises};
+ghost use Rattle.rbc_spec.specs.Promises.{IsSound, KeepsPromises};
 ghost use Rattle.rbc_spec.specs.Theorems.{IsOneCentreLine, GoesAlone};
 ghost use Rattle.rbc_centre.specs.declared.centre.Centre.{Centre};
 ghost use Rattle.rbc_centre.specs.Meaning as one;
+ghost use Rattle.rbc_centre.specs.Answer as one_step;
 ghost use Rattle.rbc_centre.specs.Views.{event_of as one_event};
 
 use crate::event::{Answer, WorldEvent};
@@ -40,7 +41,7 @@ pub struct World {
 impl World {
     ghost use Rattle.rbc_world.specs.World.{line_of, meaning};
     ghost use Rattle.rbc_world.specs.Views.{event_of, answer_of, numbered};
-    ghost use Rattle.rbc_world.specs.Answers.{Gives};
+    ghost use Rattle.rbc_world.specs.Answers.{Gives, IsWantedBy};
 
     /// The centres of the line at their beginning. A copy of the line is kept.
     pub fn new(alloc: Global, line: &Line) -> Result<World, AllocError>
@@ -74,8 +75,8 @@ impl World {
             (event_of event.now) (answer_of a) (read_off (line_of self.old) (meaning self.new))) }
         // The state that is read off the centres stands for them, whatever was refused before.
         ensures stands { StandsFor (line_of self.new) (meaning self.new) (read_off (line_of self.new) (meaning self.new)) }
-        // So each train has one supervisor at most, and each section one train.
-        ensures safe { IsSafe (line_of self.new) (meaning self.new) }
+        // So each train has one supervisor at most, each section one train, and no section in use and no right is lost or in two places.
+        ensures sound { IsSound (line_of self.new) (meaning self.new) }
         // A section leaves an authority only by what its train said, and the interlocking is told what is so.
         ensures promises { IfOk result (λ a. KeepsPromises (line_of self.old) (meaning self.old) (event_of event.now) (answer_of a) (meaning self.new)) }
         // On a line that one centre has alone the piece leaves no choice, and the answer is that of the rules of the whole system.
@@ -84,6 +85,8 @@ impl World {
             (event_of event.now) (answer_of a) (read_off (line_of self.old) (meaning self.new))) }
         ensures one_centre_exact { (c : ℕ) → IsOneCentreLine (line_of self.old) c → Gives (λ a. (answer_of a, meaning self.new)) result
             (world_step Whole (line_of self.old) (meaning self.old) (event_of event.now)) }
+        // Only a train's bytes want memory.
+        ensures memory { IsWantedBy (event_of event.now) result }
         ensures err { OnErr result (meaning self.new ≡ meaning self.old) }
     {
         known_line(&self.line);
@@ -94,6 +97,7 @@ impl World {
         ensures line { line_of self.new ≡ line_of self.old }
         ensures exact { Gives (λ a. (answer_of a, meaning self.new)) result
             (world_step Alone (line_of self.old) (meaning self.old) (event_of event.now)) }
+        ensures memory { IsWantedBy (event_of event.now) result }
         ensures err { OnErr result (meaning self.new ≡ meaning self.old) }
     {
         match event {
@@ -109,6 +113,7 @@ impl World {
         ensures line { line_of self.new ≡ line_of self.old }
         ensures exact { Gives (λ a. (answer_of a, meaning self.new)) result
             (at_centre (line_of self.old) (meaning self.old) c (takes Alone (line_of self.old) (meaning self.old) c (meaning self.old).trains (one_event event.now))) }
+        ensures memory { one_step.IsWantedBy (one_event event.now) result }
         ensures err { OnErr result (meaning self.new ≡ meaning self.old) }
     {
         if c as usize >= self.centres.len() {

@@ -1,9 +1,7 @@
 use Rattle.std.proofs.Common.{sym, subst}
 use Rattle.rbc_spec.specs.Line.{IsLine}
-use Rattle.rbc_spec.specs.ReadOff.{read_off}
-use Rattle.rbc_spec.proofs.Safe.{safe}
 use Rattle.rbc_world.specs.World.{meaning}
-use Rattle.rbc_world.proofs.Centres.{world_alone, world_stands}
+use Rattle.rbc_world.proofs.Centres.{world_alone, world_stands, world_sound}
 use Rattle.rbc_world.proofs.Steps.{step_piece, step_promises, step_forced, step_by_all_rules}
 use Rattle.rbc_world.proofs.world.World.step.Goals as goal
 
@@ -16,10 +14,8 @@ returns-clause-piece c =
 pub returns-clause-stands : goal.returns-clause-stands
 returns-clause-stands c = world_stands c.take.new.self (subst IsLine (sym c.take.ensures.line) c.known_line.ensures)
 
-pub returns-clause-safe : goal.returns-clause-safe
-returns-clause-safe c =
-    let new = c.take.new.self in
-    safe new.line (meaning new) (read_off new.line (meaning new)) (world_stands new (subst IsLine (sym c.take.ensures.line) c.known_line.ensures))
+pub returns-clause-sound : goal.returns-clause-sound
+returns-clause-sound c = world_sound c.take.new.self (subst IsLine (sym c.take.ensures.line) c.known_line.ensures)
 
 pub returns-clause-promises : goal.returns-clause-promises
 returns-clause-promises c =
