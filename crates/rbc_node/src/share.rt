@@ -73,6 +73,9 @@ impl Share {
         if place >= MOST_ENTRIES {
             return Err(ShareFault::LogFull);
         }
+        let Ok(()) = log.core().may_step() else {
+            return Err(ShareFault::ClockEnd);
+        };
         self.receipts.reserve(1)?;
         let given = event.copied(*self.receipts.allocator())?;
         let outcome = log.commit(event)?;
