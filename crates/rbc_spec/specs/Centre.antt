@@ -92,6 +92,12 @@ beginning line c = record {
 
 -- ## What a state tells
 
+-- no session stands
+abbrev pub is_silent : Phase → Bool
+is_silent Silent = true
+is_silent Opened = false
+is_silent Up = false
+
 abbrev pub is_up : Phase → Bool
 is_up Silent = false
 is_up Opened = false

@@ -1,5 +1,5 @@
 -- Where a position report places a train on the line (3.6). The formulas of the fronts and the rear are the profile's.
-use Rattle.std.specs.Prelude.{ℕ, ◌+◌, ◌*◌, ◌==◌, Bool, false, ◌&&◌, if◌then◌else◌, Option, None, option_map, option_and_then, nat_lt, nat_le, ℤ, pos, ◌-ℤ◌, int_lt, int_le}
+use Rattle.std.specs.Prelude.{ℕ, ◌+◌, ◌*◌, ◌==◌, Bool, false, ◌&&◌, if◌then◌else◌, Option, Some, None, option_map, option_and_then, nat_lt, nat_le, ℤ, pos, ◌-ℤ◌, int_lt, int_le}
 use Rattle.std.specs.Option.{option_map_or}
 use Rattle.rbc_spec.specs.Runs.{Run}
 use Rattle.rbc_spec.specs.Line.{Line, Section, section, section_of_group, start, end}
@@ -88,3 +88,15 @@ abbrev pub is_fit : Line → Place → Bool
 is_fit line place =
     option_map_or (λ rear. int_le (pos 0) rear && int_lt rear (pos place.front)) place.rear false
     && (nat_le place.front (10 * track_end line place.track) && nat_le (covered line place).count 32)
+
+-- ## The place that a report is taken at
+
+-- the place of a report, where it is on the track
+abbrev pub place_on : Line → ℕ → Position → Option Place
+place_on line track position =
+    option_map_or (λ place. if place.track == track then Some place else None) (extent line position) None
+
+-- the place of a start of mission, where it is valid and fit
+abbrev pub fit_place : Line → Bool → Position → Option Place
+fit_place line is_valid position =
+    option_map_or (λ place. if is_valid && is_fit line place then Some place else None) (extent line position) None

@@ -1,13 +1,12 @@
 -- What a centre does with each event, act by act.
-use Rattle.std.specs.Prelude.{ℕ, ◌+◌, ◌-◌, ◌*◌, ◌==◌, Bool, true, false, ◌&&◌, ◌||◌, not, if◌then◌else◌, [], ◌∷◌, Option, Some, None, is_none, nat_lt, nat_le, option_map}
+use Rattle.std.specs.Prelude.{ℕ, ◌+◌, ◌-◌, ◌*◌, ◌==◌, Bool, true, false, ◌&&◌, ◌||◌, not, if◌then◌else◌, [], ◌∷◌, Some, None, is_none, nat_lt, nat_le, option_map}
 use Rattle.std.specs.Option.{option_map_or}
-use Rattle.std.specs.List.{list_all, range_with_len}
 use Rattle.rbc_spec.specs.Maps.{put}
 use Rattle.rbc_spec.specs.Reach.{Reach, crosses_borders}
-use Rattle.rbc_spec.specs.Runs.{Run, no_run, within, behind, is_empty, part_before, part_from, joined, longest, passing}
+use Rattle.rbc_spec.specs.Runs.{Run, no_run, within, behind, is_empty, part_before, part_from, joined, longest, passing, all_of}
 use Rattle.rbc_spec.specs.Line.{Line, is_centre, is_home, end, next_centre, registrar}
 use Rattle.rbc_spec.specs.Sections.{is_on}
-use Rattle.rbc_spec.specs.Place.{Place, Position, extent, is_fit, covered, is_cleared, group_start}
+use Rattle.rbc_spec.specs.Place.{Place, Position, covered, is_cleared, group_start, place_on, fit_place}
 use Rattle.rbc_spec.specs.Message.{TrainMessage, TrainBody, TrainData, Request, Report, ShorteningGranted, ShorteningRejected, EndOfMission, InitiationOfSession, TerminationOfSession, StartOfMission, SessionEstablished, Authority, DataAcknowledged, SystemVersion, TerminationAcknowledged, TrainRejected, TrainAccepted, unknown_group}
 use Rattle.rbc_spec.specs.Frame.{AskRight, TakingOver}
 use Rattle.rbc_spec.specs.Outcome.{Word}
@@ -21,11 +20,6 @@ tell word k = record { state = k; frames = λ d. []; sayings = []; words = word 
 -- one act or another
 abbrev pub choose : (Centre → Bool) → Act → Act → Act
 choose test yes_act no_act k = if test k then yes_act k else no_act k
-
--- the place of a report, where it is on the track
-abbrev pub place_on : Line → ℕ → Position → Option Place
-place_on line track position =
-    option_map_or (λ place. if place.track == track then Some place else None) (extent line position) None
 
 -- ## Sessions (3.5.3, 3.5.5)
 
@@ -49,15 +43,6 @@ accept t = say t unknown_group TrainAccepted
 
 abbrev pub reject : ℕ → Act
 reject t = say t unknown_group TrainRejected
-
--- the place of a start that is fit
-abbrev pub fit_place : Line → Bool → Position → Option Place
-fit_place line is_valid position =
-    option_map_or (λ place. if is_valid && is_fit line place then Some place else None) (extent line position) None
-
--- all sections of the run pass the test
-abbrev pub all_of : (ℕ → Bool) → Run → Bool
-all_of test r = list_all test (range_with_len r.first r.count)
 
 -- a start within the train's hand: the mission goes on from the new place, and its train data have to come again
 abbrev pub restart : Line → ℕ → Place → Mission → Act

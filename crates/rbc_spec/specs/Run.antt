@@ -4,12 +4,10 @@ use Rattle.std.specs.Option.{option_map_or}
 use Rattle.std.specs.List.{find, list_all, list_any, range_with_len}
 use Rattle.rbc_spec.specs.Line.{Line, is_centre, train_number, is_home, end}
 use Rattle.rbc_spec.specs.Sections.{section_count}
-use Rattle.rbc_spec.specs.Place.{Position, extent, has_front, group_start}
-use Rattle.rbc_spec.specs.Message.{TrainMessage, TrainBody, Request, Report, ShorteningGranted, ShorteningRejected, StartOfMission, SessionEstablished}
-use Rattle.rbc_spec.specs.Outcome.{Outcome, Word, Told, Reason, StaleStamp, NoSession, ForeignEngine, NoPlace, NotSupervised, NoTrainData, ProposalPending, Unasked, MissionEnded, WrongPhase}
-use Rattle.rbc_spec.specs.Centre.{is_up}
-use Rattle.rbc_spec.specs.Rules.{place_on}
-use Rattle.rbc_spec.specs.Step.{is_stale, is_silent, reasons_of}
+use Rattle.rbc_spec.specs.Place.{Position, extent, has_front, group_start, place_on}
+use Rattle.rbc_spec.specs.Message.{TrainMessage, TrainBody, Request, Report, ShorteningGranted, ShorteningRejected, StartOfMission, SessionEstablished, is_stale}
+use Rattle.rbc_spec.specs.Outcome.{Outcome, Word, Told, Reason, StaleStamp, NoSession, ForeignEngine, NoPlace, NotSupervised, NoTrainData, ProposalPending, Unasked, MissionEnded, WrongPhase, reasons_of}
+use Rattle.rbc_spec.specs.Centre.{is_up, is_silent}
 use Rattle.rbc_spec.specs.LineCentre.{LineState, Mission, is_at, is_given_to, hears, Said, nothing}
 use Rattle.rbc_spec.specs.OwnSteps.{Own, Sets, Unsets}
 use Rattle.rbc_spec.specs.Quiet.{Quiet, is_of_centre, TakesAll, both}

@@ -7,13 +7,13 @@ use Rattle.rbc_spec.specs.Reach.{Reach}
 use Rattle.rbc_spec.specs.Runs.{behind}
 use Rattle.rbc_spec.specs.Line.{Line, is_home, is_linked, end, train_number}
 use Rattle.rbc_spec.specs.Sections.{section_count}
-use Rattle.rbc_spec.specs.Place.{Position, extent, has_front, group_start}
-use Rattle.rbc_spec.specs.Message.{TrainMessage, TrainBody, TrainData, Request, Report, ShorteningGranted, ShorteningRejected, EndOfMission, InitiationOfSession, TerminationOfSession, StartOfMission, SessionEstablished}
+use Rattle.rbc_spec.specs.Place.{Position, extent, has_front, group_start, place_on}
+use Rattle.rbc_spec.specs.Message.{TrainMessage, TrainBody, Request, Report, ShorteningGranted, ShorteningRejected, StartOfMission, SessionEstablished, is_stale}
 use Rattle.rbc_spec.specs.Frame.{Frame, Body, RouteWithdraw}
-use Rattle.rbc_spec.specs.Outcome.{Reason, StaleStamp, NoSession, ForeignEngine, NoPlace, NotSupervised, NoTrainData, ProposalPending, Unasked, MissionEnded, WrongPhase, Outcome, Done, Asked, NotHome, Taken as LinkAnswer, Next, Old, Early, NoLink}
-use Rattle.rbc_spec.specs.Centre.{Centre, Entry, Shut, Open, Taken, Out, Phase, Silent, Opened, Up, Mission, is_up, is_unused, is_expected}
+use Rattle.rbc_spec.specs.Outcome.{Reason, reasons_of, StaleStamp, NoSession, ForeignEngine, NoPlace, NotSupervised, NoTrainData, ProposalPending, Unasked, MissionEnded, WrongPhase, Outcome, Done, Asked, NotHome, Taken as LinkAnswer, Next, Old, Early, NoLink}
+use Rattle.rbc_spec.specs.Centre.{Centre, Entry, Shut, Open, Taken, Out, Mission, is_silent, is_up, is_unused, is_expected}
 use Rattle.rbc_spec.specs.Acts.{Act, Reply, become, rest, ◌>>◌, send, hear, propose_if_so}
-use Rattle.rbc_spec.specs.Rules.{tell, answered, place_on}
+use Rattle.rbc_spec.specs.Rules.{tell, answered}
 use Rattle.rbc_spec.specs.Links.{received}
 
 -- what a step takes: a train's message, a set or an unset of the interlocking, or a frame of another centre
@@ -24,15 +24,6 @@ pub data Event : Type 0 where
   Deliver : (from : ℕ) (frame : Frame) → Event
 
 -- ## Silence
-
--- T_TRAIN is not above the last that was heard: the message came late or again (3.16.3)
-abbrev pub is_stale : ℕ → Option ℕ → Bool
-is_stale stamp heard = option_map_or (λ last. nat_le stamp last) heard false
-
-abbrev pub is_silent : Phase → Bool
-is_silent Silent = true
-is_silent Opened = false
-is_silent Up = false
 
 abbrev pub mission_has : (Mission → Bool) → Option Mission → Bool
 mission_has test mission = option_map_or test mission false
@@ -83,20 +74,6 @@ holds line c k m ProposalPending = mission_has (λ n. is_some n.proposal) (k.mis
 holds line c k m Unasked = is_unasked (k.mission m.nid_engine) m.body
 holds line c k m MissionEnded = mission_has (λ n. n.is_ended) (k.mission m.nid_engine)
 holds line c k m WrongPhase = is_out_of_phase k m.nid_engine m.body
-
--- the reasons for which a message may be left without an answer, in the order in which they are looked for
-abbrev pub reasons_of : TrainBody → List Reason
-reasons_of InitiationOfSession = ForeignEngine ∷ StaleStamp ∷ []
-reasons_of SessionEstablished = ForeignEngine ∷ StaleStamp ∷ NoSession ∷ WrongPhase ∷ []
-reasons_of TerminationOfSession = ForeignEngine ∷ StaleStamp ∷ NoSession ∷ []
-reasons_of (StartOfMission is_valid position) = ForeignEngine ∷ StaleStamp ∷ NoSession ∷ WrongPhase ∷ []
-reasons_of (TrainData position) = ForeignEngine ∷ StaleStamp ∷ NoSession ∷ WrongPhase ∷ NotSupervised ∷ MissionEnded ∷ []
-reasons_of (Request position) =
-    ForeignEngine ∷ StaleStamp ∷ NoSession ∷ WrongPhase ∷ NotSupervised ∷ MissionEnded ∷ NoTrainData ∷ ProposalPending ∷ NoPlace ∷ []
-reasons_of (Report position) = ForeignEngine ∷ StaleStamp ∷ NoSession ∷ WrongPhase ∷ NotSupervised ∷ NoPlace ∷ []
-reasons_of (ShorteningGranted stamp position) = ForeignEngine ∷ StaleStamp ∷ NoSession ∷ WrongPhase ∷ NotSupervised ∷ Unasked ∷ []
-reasons_of (ShorteningRejected stamp position) = ForeignEngine ∷ StaleStamp ∷ NoSession ∷ WrongPhase ∷ NotSupervised ∷ Unasked ∷ []
-reasons_of (EndOfMission position) = ForeignEngine ∷ StaleStamp ∷ NoSession ∷ WrongPhase ∷ NotSupervised ∷ MissionEnded ∷ []
 
 abbrev pub silence : Line → ℕ → Centre → TrainMessage → Option Reason
 silence line c k m = find (holds line c k m) (reasons_of m.body)
