@@ -3,10 +3,10 @@ use Rattle.std.specs.Prelude.{ℕ, ◌+◌, ◌-◌, ◌*◌, ◌==◌, Bool, tr
 use Rattle.std.specs.Option.{option_map_or}
 use Rattle.std.specs.List.{filter, list_all, range_with_len}
 use Rattle.rbc_spec.specs.Maps.{put}
-use Rattle.rbc_spec.specs.Runs.{Run, no_run, within, behind, is_empty, shared}
+use Rattle.rbc_spec.specs.Runs.{Run, no_run, most_in_hand, within, behind, is_empty, shared}
 use Rattle.rbc_spec.specs.Line.{Line, is_home, start, registrar}
 use Rattle.rbc_spec.specs.Sections.{nid_rbc, home_run}
-use Rattle.rbc_spec.specs.Place.{Place, covered, group_start}
+use Rattle.rbc_spec.specs.Place.{Place, covered, group_start, has_room}
 use Rattle.rbc_spec.specs.Message.{TrainMessage, TrackBody, ShorteningRequest, Transition, EndSession, unknown_group}
 use Rattle.rbc_spec.specs.Frame.{Body, ReturnRight, RouteReturn, RouteAsk, Announce, Cancel, Yield, yielded_place}
 use Rattle.rbc_spec.specs.Outcome.{Saying, Word, Told}
@@ -146,7 +146,7 @@ abbrev pub may_propose : Line → ℕ → ℕ → Mission → Centre → Bool
 may_propose line t s m k =
     ((is_up (k.phase t) && not m.is_ended) && is_none m.proposal)
     && (((within m.hand s && not (s == m.hand.first)) && nat_le m.place.front (10 * start line s))
-    && nat_le (start line s) (group_start line m.place + 32767))
+    && has_room line m.place (start line s))
 
 abbrev pub propose : Line → ℕ → ℕ → Mission → Act
 propose line t s m k =
@@ -174,11 +174,11 @@ announce line t group d m k =
     >> say t group (Transition (start line border - group_start line m.place) line.nid_c (nid_rbc line d))
     $ k
 
--- the sections behind the hand are asked for, up to 32 in the hand
+-- the sections behind the hand are asked for, as many as the hand has room for
 abbrev pub ask_route : ℕ → ℕ → Mission → Act
 ask_route t d m =
     let first = behind m.hand in
-    send d (RouteAsk t first (min (32 - m.hand.count) (512 - first))) >> become (λ k. record k { route_ask = put k.route_ask t (Some first) })
+    send d (RouteAsk t first (min (most_in_hand - m.hand.count) (512 - first))) >> become (λ k. record k { route_ask = put k.route_ask t (Some first) })
 
 -- the train is told to end its session with c, where it is up
 abbrev pub end_order : Line → ℕ → ℕ → Act

@@ -3,10 +3,10 @@ use Rattle.std.specs.Prelude.{ℕ, ◌+◌, ◌-◌, ◌*◌, ◌==◌, Bool, tr
 use Rattle.std.specs.Option.{option_map_or}
 use Rattle.rbc_spec.specs.Maps.{put}
 use Rattle.rbc_spec.specs.Reach.{Reach, crosses_borders}
-use Rattle.rbc_spec.specs.Runs.{Run, no_run, within, behind, is_empty, part_before, part_from, joined, longest, passing, all_of}
+use Rattle.rbc_spec.specs.Runs.{Run, no_run, most_in_hand, within, behind, is_empty, part_before, part_from, joined, longest, passing, all_of}
 use Rattle.rbc_spec.specs.Line.{Line, is_centre, is_home, end, next_centre, registrar}
 use Rattle.rbc_spec.specs.Sections.{is_on}
-use Rattle.rbc_spec.specs.Place.{Place, Position, covered, is_cleared, group_start, place_on, fit_place}
+use Rattle.rbc_spec.specs.Place.{Place, Position, covered, is_cleared, group_start, has_room, place_on, fit_place}
 use Rattle.rbc_spec.specs.Message.{TrainMessage, TrainBody, TrainData, Request, Report, ShorteningGranted, ShorteningRejected, EndOfMission, InitiationOfSession, TerminationOfSession, StartOfMission, SessionEstablished, Authority, DataAcknowledged, SystemVersion, TerminationAcknowledged, TrainRejected, TrainAccepted, unknown_group}
 use Rattle.rbc_spec.specs.Frame.{AskRight, TakingOver}
 use Rattle.rbc_spec.specs.Outcome.{Word}
@@ -94,11 +94,11 @@ authority line m = end line (behind m.hand - 1) - group_start line m.place
 -- the section may follow in the hand: on the track, released here or next in the pool, and its end has room in L_ENDSECTION
 abbrev pub may_follow : Line → ℕ → Centre → Mission → ℕ → Bool
 may_follow line c k m s =
-    (is_on line m.place.track s && (is_free line c k s || within m.pool s)) && nat_le (end line s) (group_start line m.place + 32767)
+    (is_on line m.place.track s && (is_free line c k s || within m.pool s)) && has_room line m.place (end line s)
 
--- the sections by which the hand is extended: as many as may follow, up to 32 in the hand
+-- the sections by which the hand is extended: as many as may follow, and as the hand has room for
 abbrev pub extension : Line → ℕ → Centre → Mission → Run
-extension line c k m = record { first = behind m.hand; count = longest (may_follow line c k m) (behind m.hand) (32 - m.hand.count) }
+extension line c k m = record { first = behind m.hand; count = longest (may_follow line c k m) (behind m.hand) (most_in_hand - m.hand.count) }
 
 -- the mission with a longer hand, and what is left of its pool
 abbrev pub extended_by : Run → Mission → Mission
@@ -109,7 +109,7 @@ abbrev pub at_border : Line → ℕ → ℕ → ℕ → Act
 at_border line c t d =
     with_some (λ k. k.mission t) (λ m. where_so (λ k. is_none m.handing && not (is_empty (part_at line d m.place.track m.hand))) (announce line t m.place.group d m))
     >> with_some (λ k. k.mission t) (λ m. where_so
-    (λ k. ((is_home line d (behind m.hand) && is_on line m.place.track (behind m.hand)) && nat_lt m.hand.count 32) && (is_empty m.pool && is_none (k.route_ask t)))
+    (λ k. ((is_home line d (behind m.hand) && is_on line m.place.track (behind m.hand)) && nat_lt m.hand.count most_in_hand) && (is_empty m.pool && is_none (k.route_ask t)))
     (ask_route t d m))
 
 abbrev pub grant : Reach → Line → ℕ → ℕ → Mission → Act

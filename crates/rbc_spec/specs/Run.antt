@@ -4,7 +4,7 @@ use Rattle.std.specs.Option.{option_map_or}
 use Rattle.std.specs.List.{find, list_all, list_any, range_with_len}
 use Rattle.rbc_spec.specs.Line.{Line, is_centre, train_number, is_home, end}
 use Rattle.rbc_spec.specs.Sections.{section_count}
-use Rattle.rbc_spec.specs.Place.{Position, extent, has_front, group_start, place_on}
+use Rattle.rbc_spec.specs.Place.{Position, extent, has_front, has_room, place_on}
 use Rattle.rbc_spec.specs.Message.{TrainMessage, TrainBody, Request, Report, ShorteningGranted, ShorteningRejected, StartOfMission, SessionEstablished, is_stale}
 use Rattle.rbc_spec.specs.Outcome.{Outcome, Word, Told, Reason, StaleStamp, NoSession, ForeignEngine, NoPlace, NotSupervised, NoTrainData, ProposalPending, Unasked, MissionEnded, WrongPhase, reasons_of}
 use Rattle.rbc_spec.specs.Centre.{is_up, is_silent}
@@ -31,7 +31,7 @@ last_of_hand line v t = find (λ s. is_given_to t (v.mark s) && not (is_given_to
 -- the report has a place on the mission's track, not past the hand's end, which has room in L_ENDSECTION
 abbrev pub may_request_at : Line → LineState → ℕ → Mission → Position → Bool
 may_request_at line v t m position = option_map_or
-    (λ place. option_map_or (λ s. nat_le place.front (10 * end line s) && nat_le (end line s) (group_start line place + 32767)) (last_of_hand line v t) false)
+    (λ place. option_map_or (λ s. nat_le place.front (10 * end line s) && has_room line place (end line s)) (last_of_hand line v t) false)
     (place_on line m.place.track position) false
 
 -- the answer names the request that stands

@@ -9,6 +9,10 @@ pub record Run : Type 0 where
 abbrev pub no_run : Run
 no_run = record { first = 0; count = 0 }
 
+-- a hand has at most so many sections (profile)
+abbrev pub most_in_hand : ℕ
+most_in_hand = 32
+
 -- consecutive numbers as a run
 abbrev pub run_of : List ℕ → Run
 run_of [] = no_run

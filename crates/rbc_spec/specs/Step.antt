@@ -7,7 +7,7 @@ use Rattle.rbc_spec.specs.Reach.{Reach}
 use Rattle.rbc_spec.specs.Runs.{behind}
 use Rattle.rbc_spec.specs.Line.{Line, is_home, is_linked, end, train_number}
 use Rattle.rbc_spec.specs.Sections.{section_count}
-use Rattle.rbc_spec.specs.Place.{Position, extent, has_front, group_start, place_on}
+use Rattle.rbc_spec.specs.Place.{Position, extent, has_front, has_room, place_on}
 use Rattle.rbc_spec.specs.Message.{TrainMessage, TrainBody, Request, Report, ShorteningGranted, ShorteningRejected, StartOfMission, SessionEstablished, is_stale}
 use Rattle.rbc_spec.specs.Frame.{Frame, Body, RouteWithdraw}
 use Rattle.rbc_spec.specs.Outcome.{Reason, reasons_of, StaleStamp, NoSession, ForeignEngine, NoPlace, NotSupervised, NoTrainData, ProposalPending, Unasked, MissionEnded, WrongPhase, Outcome, Done, Asked, NotHome, Taken as LinkAnswer, Next, Old, Early, NoLink}
@@ -36,7 +36,7 @@ is_awaited line c k t position = is_expected line k t
 -- a request has a place on the mission's track, not past the hand's end, which has room in L_ENDSECTION
 abbrev pub may_request : Line → Mission → Position → Bool
 may_request line m position = option_map_or
-    (λ place. nat_le place.front (10 * end line (behind m.hand - 1)) && nat_le (end line (behind m.hand - 1)) (group_start line place + 32767))
+    (λ place. nat_le place.front (10 * end line (behind m.hand - 1)) && has_room line place (end line (behind m.hand - 1)))
     (place_on line m.place.track position) false
 
 -- the train is not supervised here, and its message does not concern this centre otherwise
