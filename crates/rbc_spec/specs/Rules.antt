@@ -1,7 +1,7 @@
 -- What a centre does with each event, act by act.
 use Rattle.std.specs.Prelude.{ℕ, ◌+◌, ◌-◌, ◌*◌, ◌==◌, Bool, true, false, ◌&&◌, ◌||◌, not, if◌then◌else◌, [], ◌∷◌, Some, None, is_none, nat_lt, nat_le, option_map}
 use Rattle.std.specs.Option.{option_map_or}
-use Rattle.rbc_spec.specs.Maps.{put}
+use Rattle.rbc_spec.specs.Maps.{has, put}
 use Rattle.rbc_spec.specs.Reach.{Reach, crosses_borders}
 use Rattle.rbc_spec.specs.Runs.{Run, no_run, most_in_hand, within, behind, is_empty, part_before, part_from, joined, longest, passing, all_of}
 use Rattle.rbc_spec.specs.Line.{Line, is_centre, is_home, end, next_centre, registrar}
@@ -146,7 +146,7 @@ taking e = record e { is_taking = true }
 -- each centre that announced the train and has not heard of it is told that this centre takes over
 abbrev pub take_over : Line → ℕ → Act
 take_over line t k =
-    let is_new : ℕ → Bool = λ d. is_centre line d && option_map_or (λ e. not e.is_taking) (k.expects d t) false in
+    let is_new : ℕ → Bool = λ d. is_centre line d && has (λ e. not e.is_taking) (k.expects d t) in
     record {
       state = record k { expects = λ d. if is_new d then put (k.expects d) t (option_map taking (k.expects d t)) else k.expects d };
       frames = λ d. option_map_or (λ e. if is_new d then TakingOver e.number t ∷ [] else []) (k.expects d t) [];

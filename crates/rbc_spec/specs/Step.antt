@@ -2,7 +2,7 @@
 use Rattle.std.specs.Prelude.{ℕ, ◌+◌, ◌-◌, ◌*◌, ◌==◌, Bool, true, false, ◌&&◌, ◌||◌, not, if◌then◌else◌, List, [], ◌∷◌, ◌++◌, length, max, Option, Some, None, is_some, is_none, nat_lt, nat_le, Result, Ok, Err}
 use Rattle.std.specs.Option.{option_map_or}
 use Rattle.std.specs.List.{find, list_any, range_with_len}
-use Rattle.rbc_spec.specs.Maps.{put}
+use Rattle.rbc_spec.specs.Maps.{has, put}
 use Rattle.rbc_spec.specs.Reach.{Reach}
 use Rattle.rbc_spec.specs.Runs.{behind}
 use Rattle.rbc_spec.specs.Line.{Line, is_home, is_linked, end, train_number}
@@ -26,12 +26,12 @@ pub data Event : Type 0 where
 -- ## Silence
 
 abbrev pub mission_has : (Mission → Bool) → Option Mission → Bool
-mission_has test mission = option_map_or test mission false
+mission_has test mission = has test mission
 
 -- a report elsewhere concerns this centre: the train is expected, and its front is in a section of home c
 abbrev pub is_awaited : Line → ℕ → Centre → ℕ → Position → Bool
 is_awaited line c k t position = is_expected line k t
-    && option_map_or (λ place. list_any (λ s. is_home line c s && has_front line place s) (range_with_len 0 (section_count line))) (extent line position) false
+    && has (λ place. list_any (λ s. is_home line c s && has_front line place s) (range_with_len 0 (section_count line))) (extent line position)
 
 -- a request has a place on the mission's track, not past the hand's end, which has room in L_ENDSECTION
 abbrev pub may_request : Line → Mission → Position → Bool
@@ -58,8 +58,8 @@ is_out_of_phase k t body = not (is_up (k.phase t))
 
 -- the request that is answered does not stand
 abbrev pub is_unasked : Option Mission → TrainBody → Bool
-is_unasked mission (ShorteningGranted stamp position) = not (mission_has (λ m. option_map_or (λ p. p.stamp == stamp) m.proposal false) mission)
-is_unasked mission (ShorteningRejected stamp position) = not (mission_has (λ m. option_map_or (λ p. p.stamp == stamp) m.proposal false) mission)
+is_unasked mission (ShorteningGranted stamp position) = not (mission_has (λ m. has (λ p. p.stamp == stamp) m.proposal) mission)
+is_unasked mission (ShorteningRejected stamp position) = not (mission_has (λ m. has (λ p. p.stamp == stamp) m.proposal) mission)
 is_unasked mission body = false
 
 -- the reason holds of the message
