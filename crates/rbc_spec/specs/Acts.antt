@@ -49,6 +49,10 @@ where_so test act k = if test k then act k else rest k
 abbrev pub with_some : {X : Type 0} → (Centre → Option X) → (X → Act) → Act
 with_some value act k = option_map_or (λ x. act x k) (value k) (rest k)
 
+-- the act that goes by the train's mission, where it has one here
+abbrev pub with_mission : ℕ → (Mission → Act) → Act
+with_mission t = with_some (λ k. k.mission t)
+
 -- the body goes to centre d
 abbrev pub send : ℕ → Body → Act
 send d body k = record { state = k; frames = λ e. if e == d then body ∷ [] else []; sayings = []; words = [] }
@@ -155,7 +159,7 @@ propose line t s m k =
 
 -- message 9 for section s of the train's hand, where it may be made
 abbrev pub propose_if_so : Line → ℕ → ℕ → Act
-propose_if_so line t s = with_some (λ k. k.mission t) (λ m. where_so (may_propose line t s m) (propose line t s m))
+propose_if_so line t s = with_mission t (λ m. where_so (may_propose line t s m) (propose line t s m))
 
 -- ## Handing over (3.15.1)
 
@@ -198,5 +202,5 @@ is_of_two line c d hand = list_all (λ s. is_home line c s || is_home line d s) 
 
 -- a handover that is claimed is yielded as soon as no third centre's section is in the hand
 abbrev pub yield_if_due : Line → ℕ → ℕ → Act
-yield_if_due line c t = with_some (λ k. k.mission t) (λ m. with_some (λ k. m.handing) (λ h.
+yield_if_due line c t = with_mission t (λ m. with_some (λ k. m.handing) (λ h.
     where_so (λ k. h.is_claimed && is_of_two line c h.to m.hand) (yield line c t m h)))

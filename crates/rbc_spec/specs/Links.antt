@@ -11,7 +11,7 @@ use Rattle.rbc_spec.specs.Sections.{is_on, is_on_track}
 use Rattle.rbc_spec.specs.Place.{Place, group_start}
 use Rattle.rbc_spec.specs.Frame.{Body, AskRight, GiveRight, RefuseRight, ReturnRight, RouteAsk, RouteInfo, RouteWithdraw, RouteReturn, Announce, Cancel, TakingOver, Yield, carried_place}
 use Rattle.rbc_spec.specs.Centre.{Centre, Taken, Out, Mission, Expectation, is_out_for, is_free, is_open, uses_some, is_expected, is_registrar_of}
-use Rattle.rbc_spec.specs.Acts.{Act, become, rest, ◌>>◌, where_so, with_some, send, booked, freed, returned, set_mission, change_mission, return_right, propose_if_so, end_order, yield_if_due}
+use Rattle.rbc_spec.specs.Acts.{Act, become, rest, ◌>>◌, where_so, with_some, with_mission, send, booked, freed, returned, set_mission, change_mission, return_right, propose_if_so, end_order, yield_if_due}
 use Rattle.rbc_spec.specs.Rules.{choose, drop_wait, begin, reject}
 
 -- the sections of the run are of the line, all of one track
@@ -72,7 +72,7 @@ route_told line c d t r = where_so
 
 -- the interlocking of another centre wishes a lent section back: the pool from it on goes home, or the hand is proposed to be cut
 abbrev pub route_withdrawn : Line → ℕ → ℕ → ℕ → Act
-route_withdrawn line c t s = with_some (λ k. k.mission t) (λ m.
+route_withdrawn line c t s = with_mission t (λ m.
     if within m.pool s
     then (returned line c t m.place.track (part_from s m.pool) >> change_mission t (λ n. record n { pool = part_before s n.pool }))
     else propose_if_so line t s)

@@ -11,7 +11,7 @@ use Rattle.rbc_spec.specs.Message.{TrainMessage, TrainBody, TrainData, Request, 
 use Rattle.rbc_spec.specs.Frame.{AskRight, TakingOver}
 use Rattle.rbc_spec.specs.Outcome.{Word}
 use Rattle.rbc_spec.specs.Centre.{Centre, Taken, Phase, Silent, Opened, Up, Mission, Proposal, Expectation, is_open, is_taken_for, is_free, is_registrar_of}
-use Rattle.rbc_spec.specs.Acts.{Act, become, rest, ◌>>◌, where_so, with_some, send, say, booked, freed, leave, set_mission, change_mission, return_pool, cancel, close, begun, part_at, announce, ask_route, yield_if_due}
+use Rattle.rbc_spec.specs.Acts.{Act, become, rest, ◌>>◌, where_so, with_some, with_mission, send, say, booked, freed, leave, set_mission, change_mission, return_pool, cancel, close, begun, part_at, announce, ask_route, yield_if_due}
 
 -- a word to the interlocking
 abbrev pub tell : Word → Act
@@ -107,8 +107,8 @@ extended_by r m = record m { hand = joined m.hand r; pool = if is_empty m.pool t
 -- what follows an extension at the border: the announcement of a handover, and a question for more sections
 abbrev pub at_border : Line → ℕ → ℕ → ℕ → Act
 at_border line c t d =
-    with_some (λ k. k.mission t) (λ m. where_so (λ k. is_none m.handing && not (is_empty (part_at line d m.place.track m.hand))) (announce line t m.place.group d m))
-    >> with_some (λ k. k.mission t) (λ m. where_so
+    with_mission t (λ m. where_so (λ k. is_none m.handing && not (is_empty (part_at line d m.place.track m.hand))) (announce line t m.place.group d m))
+    >> with_mission t (λ m. where_so
     (λ k. ((is_home line d (behind m.hand) && is_on line m.place.track (behind m.hand)) && nat_lt m.hand.count most_in_hand) && (is_empty m.pool && is_none (k.route_ask t)))
     (ask_route t d m))
 
@@ -120,7 +120,7 @@ grant reach line c t m k =
     >> (if crosses_borders reach then option_map_or (at_border line c t) (next_centre line c m.place.track) rest else rest)) k
 
 abbrev pub request : Reach → Line → ℕ → ℕ → Position → Act
-request reach line c t position = with_some (λ k. k.mission t) (λ m.
+request reach line c t position = with_mission t (λ m.
     option_map_or (λ place. grant reach line c t (record m { place = place })) (place_on line m.place.track position) rest)
 
 -- ## Report (3.6.5)
@@ -162,8 +162,8 @@ report line c t position k =
 
 abbrev pub end_mission : Line → ℕ → ℕ → Position → Act
 end_mission line c t position =
-    (with_some (λ k. k.mission t) (report_here line c t position)
-    >> with_some (λ k. k.mission t) (λ m. return_pool line c t m >> change_mission t (λ n. record n { is_ended = true; proposal = None })))
+    (with_mission t (report_here line c t position)
+    >> with_mission t (λ m. return_pool line c t m >> change_mission t (λ n. record n { is_ended = true; proposal = None })))
     >> yield_if_due line c t
 
 -- ## Shortening (3.8.6)
@@ -188,7 +188,7 @@ granted line c t position m p =
     >> yield_if_due line c t
 
 abbrev pub answer_granted : Line → ℕ → ℕ → Position → Act
-answer_granted line c t position = with_some (λ k. k.mission t) (λ m. with_some (λ k. m.proposal) (granted line c t position m))
+answer_granted line c t position = with_mission t (λ m. with_some (λ k. m.proposal) (granted line c t position m))
 
 -- ## A train's message
 
