@@ -104,13 +104,20 @@ extension line c k m = record { first = behind m.hand; count = longest (may_foll
 abbrev pub extended_by : Run → Mission → Mission
 extended_by r m = record m { hand = joined m.hand r; pool = if is_empty m.pool then m.pool else part_from (behind r) m.pool }
 
--- what follows an extension at the border: the announcement of a handover, and a question for more sections
-abbrev pub at_border : Line → ℕ → ℕ → ℕ → Act
-at_border line c t d =
-    with_mission t (λ m. where_so (λ k. is_none m.handing && not (is_empty (part_at line d m.place.track m.hand))) (announce line t m.place.group d m))
-    >> with_mission t (λ m. where_so
+-- a handover to centre d is announced where none stands and the hand has a section of home d
+abbrev pub announce_if_due : Line → ℕ → ℕ → Act
+announce_if_due line t d = with_mission t (λ m.
+    where_so (λ k. is_none m.handing && not (is_empty (part_at line d m.place.track m.hand))) (announce line t m.place.group d m))
+
+-- more sections are asked for where the next behind the hand is on the track and of home d, the hand has room, the pool is empty, and no ask stands
+abbrev pub ask_route_if_due : Line → ℕ → ℕ → Act
+ask_route_if_due line t d = with_mission t (λ m. where_so
     (λ k. ((is_home line d (behind m.hand) && is_on line m.place.track (behind m.hand)) && nat_lt m.hand.count most_in_hand) && (is_empty m.pool && is_none (k.route_ask t)))
     (ask_route t d m))
+
+-- what follows an extension at the border to centre d
+abbrev pub at_border : Line → ℕ → ℕ → ℕ → Act
+at_border line c t d = announce_if_due line t d >> ask_route_if_due line t d
 
 abbrev pub grant : Reach → Line → ℕ → ℕ → Mission → Act
 grant reach line c t m k =
