@@ -4,11 +4,10 @@ use Rattle.std.specs.List.{sum_by, list_all, range_with_len}
 use Rattle.std.specs.Option.{option_map_or}
 use Rattle.std.proofs.lemmas.Option.{same_Some}
 use Rattle.std.proofs.lemmas.Bool.{and_parts, cases_Bool, cases_lt, cases_eq}
-use Rattle.rbc_spec.specs.Runs.{Run, within}
+use Rattle.rbc_spec.specs.Runs.{Run, within, all_of}
 use Rattle.rbc_spec.specs.Line.{Line, Section, end}
 use Rattle.rbc_spec.specs.Sections.{is_on, track_end}
 use Rattle.rbc_spec.specs.Place.{Place, covers, covered, is_fit}
-use Rattle.rbc_spec.specs.Rules.{all_of}
 use Rattle.rbc_spec.specs.Centre.{Mission}
 use Rattle.rbc_spec.specs.Acts.{begun}
 use Rattle.rbc_spec.proofs.Sums.{sum_up_to, sum_kept, sum_left}

@@ -5,14 +5,14 @@ use Rattle.std.proofs.lemmas.Option.{same_Some}
 use Rattle.std.proofs.lemmas.Bool.{and_parts, or_cases, cases_Bool}
 use Rattle.rbc_spec.specs.Maps.{put}
 use Rattle.rbc_spec.specs.Reach.{Alone}
-use Rattle.rbc_spec.specs.Runs.{Run, no_run, within, behind, is_empty, part_from, joined}
+use Rattle.rbc_spec.specs.Runs.{Run, no_run, within, behind, is_empty, part_from, joined, all_of}
 use Rattle.rbc_spec.specs.Line.{Line}
 use Rattle.rbc_spec.specs.Sections.{is_on}
-use Rattle.rbc_spec.specs.Place.{Place, Position, extent, is_fit, covered}
+use Rattle.rbc_spec.specs.Place.{Place, Position, extent, is_fit, covered, place_on, fit_place}
 use Rattle.rbc_spec.specs.Message.{TrackBody, Authority}
 use Rattle.rbc_spec.specs.Centre.{Centre, Taken, Mission, is_open, is_registrar_of, is_free}
 use Rattle.rbc_spec.specs.Acts.{Act, Reply, become, rest, ◌>>◌, say, booked, set_mission, begun, yield_if_due}
-use Rattle.rbc_spec.specs.Rules.{place_on, accept, reject, all_of, restart, start_here, start_elsewhere, start_new, start_mission, fit_place, begin, extension, extended_by, may_follow, authority, grant, request}
+use Rattle.rbc_spec.specs.Rules.{accept, reject, restart, start_here, start_elsewhere, start_new, start_mission, begin, extension, extended_by, may_follow, authority, grant, request}
 use Rattle.rbc_alone.specs.Alone.{IsOrdered, IsAloneAt, IsMissionAlone, hand_has}
 use Rattle.rbc_alone.proofs.Simple.{no_yield}
 use Rattle.rbc_alone.proofs.Hands.{within_true, within_joined, joined_is, longest_few, longest_each}

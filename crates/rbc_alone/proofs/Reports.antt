@@ -6,10 +6,10 @@ use Rattle.rbc_spec.specs.Maps.{put}
 use Rattle.rbc_spec.specs.Runs.{Run, no_run, within, behind, is_empty, part_before, part_from, joined}
 use Rattle.rbc_spec.specs.Line.{Line, end}
 use Rattle.rbc_spec.specs.Sections.{is_on}
-use Rattle.rbc_spec.specs.Place.{Place, Position, extent, is_cleared}
+use Rattle.rbc_spec.specs.Place.{Place, Position, extent, is_cleared, place_on}
 use Rattle.rbc_spec.specs.Centre.{Centre, Mission, Proposal, is_taken_for}
 use Rattle.rbc_spec.specs.Acts.{Act, rest, ◌>>◌, with_some, freed, leave, set_mission, change_mission, return_pool, cancel, close, part_at, yield_if_due}
-use Rattle.rbc_spec.specs.Rules.{place_on, cleared, clear, report_here, report, take_over, end_mission, cut, granted, answer_granted}
+use Rattle.rbc_spec.specs.Rules.{cleared, clear, report_here, report, take_over, end_mission, cut, granted, answer_granted}
 use Rattle.rbc_alone.specs.Alone.{IsOrdered, IsAloneAt, IsMissionAlone, hand_has}
 use Rattle.rbc_alone.proofs.Simple.{alike_then, then_alike, then_resting, resting_then, all_home, leave_home, no_pool_returned, close_here, no_take_over}
 use Rattle.rbc_alone.proofs.Hands.{within_true, within_from, within_rest, within_kept, same_tests, longest_few}

@@ -2,11 +2,10 @@
 use Rattle.std.proofs.Common.{◌≡◌, subst, ℕ, ◌==◌, Bool, true, false, cond, not, is_some, Option, Some, None, Ok, Err, refl, if◌then◌else◌}
 use Rattle.std.specs.Option.{option_map_or}
 use Rattle.rbc_spec.specs.Line.{Line}
-use Rattle.rbc_spec.specs.Place.{Place, Position}
+use Rattle.rbc_spec.specs.Place.{Place, Position, fit_place, place_on}
 use Rattle.rbc_spec.specs.Message.{TrainBody, TrainData, Request, Report, ShorteningGranted, ShorteningRejected, EndOfMission, InitiationOfSession, TerminationOfSession, StartOfMission, SessionEstablished}
 use Rattle.rbc_spec.specs.Outcome.{Reason, NoPlace, NoTrainData, ProposalPending, Unasked}
 use Rattle.rbc_spec.specs.Centre.{Centre, Phase, Silent, Opened, Up, Mission, Proposal}
-use Rattle.rbc_spec.specs.Rules.{fit_place, place_on}
 use Rattle.rbc_mission.specs.Deeds as deeds
 use Rattle.rbc_mission.specs.Deeds.{Deed, OpenSession, EstablishSession, CloseSession, RejectStart, Restart, Start, TakeData, Grant, Clear, End, ClearAndEnd, DropProposal, Cut, Rule, rule_of, rule_under_way, unless, if_asked, start_at, grant_at, cut_at, supervised, if_up, closing, establishing}
 use Rattle.rbc_centre.specs.Sessions.{session_of, phase_after}

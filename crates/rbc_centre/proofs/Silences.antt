@@ -2,7 +2,7 @@
 use Rattle.std.proofs.Common.{◌≡◌, ℕ, true, false, List, Some, None, is_none, slice_get, refl, sym, ap, ◌∙◌, subst}
 use Rattle.std.specs.Option.{option_map_or}
 use Rattle.rbc_spec.specs.Line.{Line, train_number}
-use Rattle.rbc_spec.specs.Message.{TrainMessage, TrainBody}
+use Rattle.rbc_spec.specs.Message.{TrainMessage, TrainBody, is_stale}
 use Rattle.rbc_spec.specs.Outcome.{StaleStamp, ForeignEngine}
 use Rattle.rbc_spec.specs.Centre as centre
 use Rattle.rbc_spec.specs.Centre.{Mission, Phase}
@@ -58,13 +58,13 @@ module _ (line : Line) (c clock : ℕ) (pages : Pages) (rights : Rights) (states
     unfolding stands_for centre.beginning
     not_expected d = refl
 
-    pub stale_is_silent : step.is_stale t_train state.heard ≡ true → step.silence line c k m ≡ Some StaleStamp
-    stale_is_silent s = stale_silence line c k t_train t body (ap is_none number) (ap (step.is_stale t_train) heard_of ∙ s)
+    pub stale_is_silent : is_stale t_train state.heard ≡ true → step.silence line c k m ≡ Some StaleStamp
+    stale_is_silent s = stale_silence line c k t_train t body (ap is_none number) (ap (is_stale t_train) heard_of ∙ s)
 
-    pub timely_is_silent : (rule : Rule) → step.is_stale t_train state.heard ≡ false → rule_of line c k t (standing_phase state.standing) state.course.mission body ≡ rule
+    pub timely_is_silent : (rule : Rule) → is_stale t_train state.heard ≡ false → rule_of line c k t (standing_phase state.standing) state.course.mission body ≡ rule
         → step.silence line c k m ≡ reason_in rule
     timely_is_silent rule s r =
-        timely_silence line c k t_train t (ap is_none number) (ap (step.is_stale t_train) heard_of ∙ s) no_wait not_expected (standing_phase state.standing) state.course.mission body phase_of_train mission_of_train
+        timely_silence line c k t_train t (ap is_none number) (ap (is_stale t_train) heard_of ∙ s) no_wait not_expected (standing_phase state.standing) state.course.mission body phase_of_train mission_of_train
         ∙ ap reason_in r
 
     desk : IsDesk k t i pages rights

@@ -1,6 +1,6 @@
 ghost use Rattle.std.specs.Prelude.{◌≡◌, ◌+◌, ◌<◌, ◌≤◌, ℕ, IfOk, IfSome, None, Some, option_map};
+ghost use Rattle.rbc_spec.specs.Message.{is_stale};
 ghost use Rattle.rbc_spec.specs.Centre as spec;
-ghost use Rattle.rbc_spec.specs.Step.{is_stale};
 ghost use Rattle.rbc_spec.specs.Acts.{propose_if_so};
 ghost use Rattle.rbc_session.specs.Sessions.{phase_at, HasRoom};
 ghost use Rattle.rbc_session.specs.Standing.{phase_of, standing_phase, StandsFor};

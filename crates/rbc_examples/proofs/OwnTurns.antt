@@ -1,14 +1,13 @@
 -- What comes of an event in Moves is an own step of the one line centre.
 use Rattle.std.proofs.Common.{◌≡◌, inl, inr, ℕ, ◌+◌, ◌-◌, ◌==◌, ◌≤◌, ◌<◌, true, false, ◌&&◌, ◌||◌, not, nat_le, nat_lt, List, Option, Some, None, Ok, Err, refl, sym, ap, ◌∙◌, arith, ⊎_elim}
 use Rattle.std.proofs.lemmas.Bool.{and_parts, leb-true, ltb-true, cases_Bool, cases_lt, eqb-true}
-use Rattle.rbc_spec.specs.Runs.{Run, within, behind}
+use Rattle.rbc_spec.specs.Runs.{Run, within, behind, all_of}
 use Rattle.rbc_spec.specs.Line.{Line, is_centre, is_home, end}
 use Rattle.rbc_spec.specs.Sections.{section_count, is_on}
-use Rattle.rbc_spec.specs.Place.{Place, Position, covered, group_start}
+use Rattle.rbc_spec.specs.Place.{Place, Position, covered, group_start, place_on, fit_place}
 use Rattle.rbc_spec.specs.Message.{TrainMessage, TrainBody, TrainData, Request, Report, ShorteningGranted, ShorteningRejected, EndOfMission, InitiationOfSession, TerminationOfSession, StartOfMission, SessionEstablished, TrackBody}
 use Rattle.rbc_spec.specs.Outcome.{Word, Reason}
 use Rattle.rbc_spec.specs.Centre.{is_registrar_of}
-use Rattle.rbc_spec.specs.Rules.{place_on, fit_place, all_of}
 use Rattle.rbc_spec.specs.LineCentre.{LineState, Open, Shut, is_given_to, is_mark_open, IsHand, supervises, is_waiting_at, hears, Said}
 use Rattle.rbc_spec.specs.OwnSteps.{Says, Own, Starts, StartsHere, StartsNew, Restarts, Extends, Ends, Reports, Ending, Sets, Unsets, may_start, begins, track_of, is_unused_mark, set_mark, wished_back, without_ask, last_kept_of, may_be_given}
 use Rattle.rbc_spec.specs.Run.{OwnStep, Steps, silence, may_listen}

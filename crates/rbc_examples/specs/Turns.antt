@@ -4,14 +4,13 @@ use Rattle.std.specs.Prelude.{ℕ, ◌+◌, ◌-◌, ◌*◌, ◌==◌, Bool, tr
 use Rattle.std.specs.List.{find, list_all, range_with_len}
 use Rattle.std.specs.Option.{option_map_or}
 use Rattle.rbc_spec.specs.Maps.{put, put_pair}
-use Rattle.rbc_spec.specs.Runs.{Run, within, behind}
+use Rattle.rbc_spec.specs.Runs.{Run, within, behind, all_of}
 use Rattle.rbc_spec.specs.Line.{Line, is_centre, is_home, start, end, next_centre}
 use Rattle.rbc_spec.specs.Sections.{is_on, run_where, section_count, nid_rbc}
-use Rattle.rbc_spec.specs.Place.{Place, covered, group_start}
+use Rattle.rbc_spec.specs.Place.{Place, covered, group_start, fit_place, place_on}
 use Rattle.rbc_spec.specs.Message.{TrainMessage, TrainBody, TrainData, Request, Report, ShorteningGranted, ShorteningRejected, EndOfMission, InitiationOfSession, TerminationOfSession, StartOfMission, SessionEstablished, TrackBody, Authority, DataAcknowledged, SystemVersion, TerminationAcknowledged, TrainRejected, TrainAccepted, ShorteningRequest, Transition, EndSession, unknown_group}
 use Rattle.rbc_spec.specs.Outcome.{Word, Done, Asked, NotHome, Reason}
 use Rattle.rbc_spec.specs.Centre.{Opened, Up, Silent, is_up, is_registrar_of}
-use Rattle.rbc_spec.specs.Rules.{fit_place, place_on, all_of}
 use Rattle.rbc_spec.specs.LineCentre.{LineState, Open, Shut, Kept, Given, Mission, Supervisor, At, Parted, is_given_to, is_kept_for, is_mark_open, is_at, supervises, is_waiting_at, is_waiting, free, told, mark_all, set_mission, change_mission, hears, says, Said}
 use Rattle.rbc_spec.specs.OwnSteps.{one_message, session_ends, with_phase, may_start, begins, restarted, waits, may_be_given, is_cleared_of, reported, release_words, ended, without_ask, shortened, shortening_words, track_of, last_kept_of, is_unused_mark, set_mark, wished_back}
 use Rattle.rbc_spec.specs.Quiet.{Quiet, Keep, Unkeep, Admit, Dismiss, LayDown, TakeUp, Propose, Order, EndOrder, both}

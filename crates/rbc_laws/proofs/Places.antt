@@ -2,8 +2,7 @@
 use Rattle.std.proofs.Common.{◌≡◌, ℕ, ◌+◌, ◌*◌, ◌≤◌, ◌==◌, Bool, true, false, Option, Some, None, option_map, option_and_then, if◌then◌else◌, refl, sym, ap, ◌∙◌, arith, subst, eqb-true}
 use Rattle.std.specs.Option.{option_map_or}
 use Rattle.rbc_spec.specs.Line.{Line, Section, section, section_of_group, start}
-use Rattle.rbc_spec.specs.Place.{Place, Position, extent, has_place, place_behind, group_start}
-use Rattle.rbc_spec.specs.Rules.{place_on}
+use Rattle.rbc_spec.specs.Place.{Place, Position, extent, has_place, place_behind, group_start, place_on}
 use Rattle.rbc_laws.specs.Distances.{IsAhead}
 
 no_less : (a b d x : ℕ) → x ≡ a → 10 * x ≤ 10 * a + b + d

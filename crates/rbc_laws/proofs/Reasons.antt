@@ -3,9 +3,9 @@ use Rattle.std.proofs.Common.{◌≡◌, ℕ, zero, suc, Bool, true, false, List
 use Rattle.std.specs.List.{find}
 use Rattle.rbc_spec.specs.Line.{Line}
 use Rattle.rbc_spec.specs.Message.{TrainMessage, TrainBody}
-use Rattle.rbc_spec.specs.Outcome.{Reason}
+use Rattle.rbc_spec.specs.Outcome.{Reason, reasons_of}
 use Rattle.rbc_spec.specs.Centre.{Centre}
-use Rattle.rbc_spec.specs.Step.{silence, holds, reasons_of}
+use Rattle.rbc_spec.specs.Step.{silence, holds}
 
 first_fails : {X : Type 0} (b : Bool) (x : X) (o : Option X) → (if b then Some x else o) ≡ None → (b ≡ false) × (o ≡ None)
 first_fails true x o none = cc

@@ -6,12 +6,11 @@ use Rattle.std.proofs.lemmas.Bool.{cases_Bool, and_left, and_parts, cond-true, c
 use Rattle.rbc_spec.specs.Runs.{within, behind}
 use Rattle.rbc_spec.specs.Line.{Line, end}
 use Rattle.rbc_spec.specs.Sections.{section_count}
-use Rattle.rbc_spec.specs.Place.{Position, group_start}
-use Rattle.rbc_spec.specs.Message.{TrainMessage, TrainBody, TrainData, Request, Report, ShorteningGranted, ShorteningRejected, EndOfMission, InitiationOfSession, TerminationOfSession, StartOfMission, SessionEstablished}
-use Rattle.rbc_spec.specs.Outcome.{Reason, StaleStamp, NoSession, ForeignEngine, NoPlace, NotSupervised, NoTrainData, ProposalPending, Unasked, MissionEnded, WrongPhase}
+use Rattle.rbc_spec.specs.Place.{Position, group_start, place_on}
+use Rattle.rbc_spec.specs.Message.{TrainMessage, TrainBody, TrainData, Request, Report, ShorteningGranted, ShorteningRejected, EndOfMission, InitiationOfSession, TerminationOfSession, StartOfMission, SessionEstablished, is_stale}
+use Rattle.rbc_spec.specs.Outcome.{Reason, StaleStamp, NoSession, ForeignEngine, NoPlace, NotSupervised, NoTrainData, ProposalPending, Unasked, MissionEnded, WrongPhase, reasons_of}
 use Rattle.rbc_spec.specs.Centre as centre
-use Rattle.rbc_spec.specs.Centre.{is_up, is_expected}
-use Rattle.rbc_spec.specs.Rules.{place_on}
+use Rattle.rbc_spec.specs.Centre.{is_up, is_expected, is_silent}
 use Rattle.rbc_spec.specs.LineCentre as line_centre
 use Rattle.rbc_spec.specs.LineCentre.{LineState, is_at, is_given_to}
 use Rattle.rbc_spec.specs.Step as step
@@ -155,8 +154,8 @@ module _ (line : Line) (w : World) (v : LineState) (stands : StandsFor line w v)
     without_waiting body why = step.holds line c k (m body) why
 
     same_reason : (body : TrainBody) → HasEndIfAsked line k (m body) → (why : Reason) → run.holds line v c (m body) body why ≡ without_waiting body why
-    same_reason body ok StaleStamp = ap (step.is_stale t_train) (stands.heard t c)
-    same_reason body ok NoSession = ap step.is_silent (stands.phase t c)
+    same_reason body ok StaleStamp = ap (is_stale t_train) (stands.heard t c)
+    same_reason body ok NoSession = ap is_silent (stands.phase t c)
     same_reason body ok ForeignEngine = refl
     same_reason body ok NoPlace = same_place body ok
     same_reason body ok NotSupervised = supervised_is
@@ -166,8 +165,8 @@ module _ (line : Line) (w : World) (v : LineState) (stands : StandsFor line w v)
     same_reason body ok MissionEnded = here_is (λ n. n.is_ended) (λ n. n.is_ended) (λ n has. refl)
     same_reason body ok WrongPhase = same_phase body
 
-    run_is : (body : TrainBody) → HasEndIfAsked line k (m body) → run.silence line v c (m body) ≡ find (without_waiting body) (step.reasons_of body)
-    run_is body ok = ap (λ (test : Reason → Bool). find test (step.reasons_of body)) (λ i why. same_reason body ok why i)
+    run_is : (body : TrainBody) → HasEndIfAsked line k (m body) → run.silence line v c (m body) ≡ find (without_waiting body) (reasons_of body)
+    run_is body ok = ap (λ (test : Reason → Bool). find test (reasons_of body)) (λ i why. same_reason body ok why i)
 
     -- ## A report
 
@@ -205,7 +204,7 @@ module _ (line : Line) (w : World) (v : LineState) (stands : StandsFor line w v)
 
     -- ## Every message
 
-    same_if : (body : TrainBody) → HasEndIfAsked line k (m body) → step.silence line c k (m body) ≡ find (without_waiting body) (step.reasons_of body)
+    same_if : (body : TrainBody) → HasEndIfAsked line k (m body) → step.silence line c k (m body) ≡ find (without_waiting body) (reasons_of body)
         → run.silence line v c (m body) ≡ step.silence line c k (m body)
     same_if body ok same = run_is body ok ∙ sym same
 

@@ -4,10 +4,10 @@ use Rattle.std.specs.Option.{option_map_or}
 use Rattle.rbc_spec.specs.Maps.{put}
 use Rattle.rbc_spec.specs.Runs.{Run, no_run, behind, part_from, joined}
 use Rattle.rbc_spec.specs.Line.{Line}
-use Rattle.rbc_spec.specs.Place.{Place, Position, is_cleared}
+use Rattle.rbc_spec.specs.Place.{Place, Position, is_cleared, place_on}
 use Rattle.rbc_spec.specs.Centre.{Centre, Mission}
 use Rattle.rbc_spec.specs.Acts.{Act, Reply, rest, ◌>>◌, leave, set_mission, change_mission, return_pool, close, returned, yield_if_due}
-use Rattle.rbc_spec.specs.Rules.{place_on, cleared, clear, report_here}
+use Rattle.rbc_spec.specs.Rules.{cleared, clear, report_here}
 use Rattle.rbc_laws.proofs.Runs.{joined_count}
 use Rattle.rbc_laws.proofs.Longest.{longest_is}
 use Rattle.rbc_laws.proofs.Sends.{Sends, sends_none, sends_quiet, sends_then, sends_less}

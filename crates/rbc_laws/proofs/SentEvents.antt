@@ -3,14 +3,14 @@ use Rattle.std.proofs.Common.{ℕ, ◌+◌, ◌≤◌, ◌&&◌, not, Bool, true
 use Rattle.std.specs.Option.{option_map_or}
 use Rattle.std.specs.List.{find, range_with_len}
 use Rattle.rbc_spec.specs.Maps.{put}
-use Rattle.rbc_spec.specs.Runs.{Run, no_run, within, is_empty, part_before, part_from}
+use Rattle.rbc_spec.specs.Runs.{Run, no_run, within, is_empty, part_before, part_from, all_of}
 use Rattle.rbc_spec.specs.Line.{Line, is_home, section}
 use Rattle.rbc_spec.specs.Place.{Place}
 use Rattle.rbc_spec.specs.Frame.{Body, Frame, AskRight, GiveRight, RefuseRight, ReturnRight, RouteAsk, RouteInfo, RouteWithdraw, RouteReturn, Announce, Cancel, TakingOver, Yield, carried_place}
 use Rattle.rbc_spec.specs.Outcome.{Next, Old, Early, NoLink, Taken as LinkAnswer}
 use Rattle.rbc_spec.specs.Centre.{Centre, Taken, Out, Mission, is_open, is_out_for, uses_some, is_expected}
 use Rattle.rbc_spec.specs.Acts.{Act, Reply, rest, become, ◌>>◌, where_so, with_some, send, booked, freed, returned, set_mission, change_mission, propose_if_so, end_order, yield_if_due}
-use Rattle.rbc_spec.specs.Rules.{drop_wait, begin, reject, all_of}
+use Rattle.rbc_spec.specs.Rules.{drop_wait, begin, reject}
 use Rattle.rbc_spec.specs.Links.{received, right_asked, right_given, right_refused, right_returned, answered_ask, route_asked, lendable, route_told, route_withdrawn, route_returned, taking_over, claimed, yielded, take_mission, is_train, expect, announced}
 use Rattle.rbc_spec.specs.Step.{taken_by}
 use Rattle.rbc_laws.specs.Sending.{HoldsFew, BringsFew, GoInOrder}

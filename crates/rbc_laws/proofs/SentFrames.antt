@@ -3,14 +3,14 @@ use Rattle.std.proofs.Common.{◌≡◌, ℕ, ◌+◌, ◌≤◌, ◌&&◌, not,
 use Rattle.std.specs.Option.{option_map_or}
 use Rattle.rbc_spec.specs.Maps.{put}
 use Rattle.rbc_spec.specs.Reach.{Reach, crosses_borders}
-use Rattle.rbc_spec.specs.Runs.{within, behind}
+use Rattle.rbc_spec.specs.Runs.{within, behind, all_of}
 use Rattle.rbc_spec.specs.Line.{Line, is_centre, registrar}
-use Rattle.rbc_spec.specs.Place.{Place, Position, covered}
+use Rattle.rbc_spec.specs.Place.{Place, Position, covered, fit_place}
 use Rattle.rbc_spec.specs.Frame.{Body, AskRight, TakingOver}
 use Rattle.rbc_spec.specs.Message.{TrainMessage, TrainBody, TrainData, Request, Report, ShorteningGranted, ShorteningRejected, EndOfMission, InitiationOfSession, TerminationOfSession, StartOfMission, SessionEstablished, SystemVersion, TerminationAcknowledged, unknown_group}
 use Rattle.rbc_spec.specs.Centre.{Centre, Mission, Taken, Silent, Opened, Expectation, is_open, is_taken_for, is_registrar_of, is_free}
 use Rattle.rbc_spec.specs.Acts.{Act, Reply, rest, become, ◌>>◌, where_so, with_some, send, say, return_pool, booked, freed, change_mission, yield_if_due}
-use Rattle.rbc_spec.specs.Rules.{answered, restart, start_new, start_here, start_waiting, start_elsewhere, start_mission, fit_place, all_of, accept, reject, drop_wait, close_session, set_phase, report, take_over, end_mission, answer_granted, report_here}
+use Rattle.rbc_spec.specs.Rules.{answered, restart, start_new, start_here, start_waiting, start_elsewhere, start_mission, accept, reject, drop_wait, close_session, set_phase, report, take_over, end_mission, answer_granted, report_here}
 use Rattle.rbc_laws.specs.Sending.{HoldsFew}
 use Rattle.rbc_laws.proofs.Sends.{Sends, sends_none, sends_yes, sends_quiet, sends_then, sends_less, sends_some}
 use Rattle.rbc_laws.proofs.SentActs.{sends_one, freed_sends, none_due}

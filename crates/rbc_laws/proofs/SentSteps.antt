@@ -6,12 +6,12 @@ use Rattle.rbc_spec.specs.Reach.{Reach, crosses_borders}
 use Rattle.rbc_spec.specs.Runs.{Run, no_run, behind, is_empty, part_before, part_from, joined}
 use Rattle.rbc_spec.specs.Line.{Line, is_home, start, end, next_centre}
 use Rattle.rbc_spec.specs.Sections.{is_on, nid_rbc}
-use Rattle.rbc_spec.specs.Place.{Place, Position, group_start}
+use Rattle.rbc_spec.specs.Place.{Place, Position, group_start, place_on}
 use Rattle.rbc_spec.specs.Frame.{Body, Cancel, RouteAsk, Announce}
 use Rattle.rbc_spec.specs.Centre.{Centre, Mission, Proposal, Handing, Taken, is_open}
 use Rattle.rbc_spec.specs.Message.{Authority, Transition}
 use Rattle.rbc_spec.specs.Acts.{Act, Reply, rest, become, ◌>>◌, where_so, with_some, say, send, booked, leave, set_mission, change_mission, cancel, close, yield_if_due, part_at, announce, ask_route}
-use Rattle.rbc_spec.specs.Rules.{place_on, cut, granted, at_border, grant, extended_by, extension, authority, request}
+use Rattle.rbc_spec.specs.Rules.{cut, granted, at_border, grant, extended_by, extension, authority, request}
 use Rattle.rbc_laws.proofs.Runs.{joined_count}
 use Rattle.rbc_laws.proofs.Sends.{Sends, sends_none, sends_quiet, sends_then, sends_less, sends_if, sends_some}
 use Rattle.rbc_laws.proofs.SentActs.{put_here, without_handing, sends_one, home_any, home_none, leave_any, cancel_sends, close_sends, close_leaves_none, due_sends, none_due}

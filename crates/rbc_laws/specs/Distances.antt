@@ -1,10 +1,10 @@
 -- What the distances that a centre tells a train are taken from.
 use Rattle.std.specs.Prelude.{◌≡◌, ℕ, ◌*◌, ◌≤◌, Some, None}
 use Rattle.rbc_spec.specs.Line.{Line}
-use Rattle.rbc_spec.specs.Place.{Place, Position, group_start}
+use Rattle.rbc_spec.specs.Place.{Place, Position, group_start, place_on}
 use Rattle.rbc_spec.specs.Message.{TrainMessage, Request}
 use Rattle.rbc_spec.specs.Centre.{Centre, Mission}
-use Rattle.rbc_spec.specs.Rules.{place_on, extension, extended_by}
+use Rattle.rbc_spec.specs.Rules.{extension, extended_by}
 use Rattle.rbc_spec.specs.Step.{silence}
 
 -- the place's front is not before the start of the section whose group it names

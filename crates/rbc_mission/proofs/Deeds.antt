@@ -4,14 +4,14 @@ use Rattle.std.specs.Option.{option_map_or}
 use Rattle.std.proofs.lemmas.Bool.Decides.{eqb_tells, nat_tests}
 use Rattle.rbc_spec.specs.Maps.{put}
 use Rattle.rbc_spec.specs.Reach.{Alone}
-use Rattle.rbc_spec.specs.Runs.{Run, no_run, within, behind, is_empty, part_from, joined}
+use Rattle.rbc_spec.specs.Runs.{Run, no_run, within, behind, is_empty, part_from, joined, all_of}
 use Rattle.rbc_spec.specs.Line.{Line, end}
-use Rattle.rbc_spec.specs.Place.{Place, Position, covered}
+use Rattle.rbc_spec.specs.Place.{Place, Position, covered, fit_place, place_on}
 use Rattle.rbc_spec.specs.Message.{TrainMessage, TrainBody, TrainData, Request, Report, ShorteningGranted, ShorteningRejected, EndOfMission, InitiationOfSession, TerminationOfSession, StartOfMission, SessionEstablished, TrainRejected, unknown_group}
 use Rattle.rbc_spec.specs.Outcome.{Saying, Word}
 use Rattle.rbc_spec.specs.Centre.{Centre, Entry, Phase, Silent, Opened, Up, Mission, Proposal, is_taken_for, is_free, is_registrar_of}
 use Rattle.rbc_spec.specs.Acts.{Act, Reply, ◌>>◌, rest, freed, returned, with_some, hear, set_mission, change_mission, return_pool, return_right, yield_if_due}
-use Rattle.rbc_spec.specs.Rules.{fit_place, all_of, place_on, extension, cleared, report_here, report, cut, granted, answer_granted}
+use Rattle.rbc_spec.specs.Rules.{extension, cleared, report_here, report, cut, granted, answer_granted}
 use Rattle.rbc_spec.specs.Step.{hear_and_answer}
 use Rattle.rbc_mission.specs.Deeds.{Deed, OpenSession, EstablishSession, CloseSession, RejectStart, Restart, Start, TakeData, Grant, Clear, End, ClearAndEnd, DropProposal, Cut, performed, mission_after, right_after, Takes, Frees, entry_after, wish_after, words_after}
 

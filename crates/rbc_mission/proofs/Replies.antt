@@ -2,13 +2,13 @@
 use Rattle.std.proofs.Common.{◌≡◌, ℕ, zero, suc, ◌+◌, ◌-◌, ◌*◌, ◌≤◌, ◌==◌, Bool, true, false, cond, min, max, Option, Some, None, is_some, nat_le, Ok, refl, subst, arith}
 use Rattle.std.proofs.lemmas.Bool.Decides.{nat_tests}
 use Rattle.rbc_spec.specs.Reach.{Alone}
-use Rattle.rbc_spec.specs.Runs.{Run, no_run, within, is_empty, part_from, joined, longest}
+use Rattle.rbc_spec.specs.Runs.{Run, no_run, within, is_empty, part_from, joined, longest, all_of}
 use Rattle.rbc_spec.specs.Line.{Line, end}
-use Rattle.rbc_spec.specs.Place.{Place, Position, covered, is_cleared}
+use Rattle.rbc_spec.specs.Place.{Place, Position, covered, is_cleared, fit_place, place_on}
 use Rattle.rbc_spec.specs.Message.{TrainMessage, TrainBody, TrainData, Request, Report, ShorteningGranted, ShorteningRejected, EndOfMission, InitiationOfSession, TerminationOfSession, StartOfMission, SessionEstablished}
 use Rattle.rbc_spec.specs.Centre.{Centre, Phase, Silent, Opened, Up, Mission, Proposal, is_free, is_registrar_of}
 use Rattle.rbc_spec.specs.Acts.{rest, returned}
-use Rattle.rbc_spec.specs.Rules.{fit_place, all_of, place_on, cleared}
+use Rattle.rbc_spec.specs.Rules.{cleared}
 use Rattle.rbc_spec.specs.Step.{hear_and_answer}
 use Rattle.rbc_mission.specs.Deeds.{Deed, OpenSession, EstablishSession, CloseSession, RejectStart, Restart, Start, TakeData, Grant, Clear, End, ClearAndEnd, DropProposal, Cut, Rule, rule_of, may_extend, performed}
 use Rattle.rbc_mission.proofs.Deeds.{alone, Alike, alike_same, alike_none, establishes, opens, closes, not_fit, starts_within, starts_outside, takes_data, rejects_shortening, requests, clears, clears_all, ends_clearing, ends_closing, ends_without_place, granted_without_place, granted_past, cuts_part, cuts_all, begins, not_free, not_registrar, no_right}

@@ -2,12 +2,11 @@
 use Rattle.std.proofs.Common.{◌≡◌, ℕ, ◌==◌, Bool, true, false, List, [], ◌∷◌, Option, Some, None, is_some, is_none, Ok, Err, refl, ap, ◌∙◌, length}
 use Rattle.std.specs.List.{list_any, range_with_len}
 use Rattle.rbc_spec.specs.Line.{Line, train_number}
-use Rattle.rbc_spec.specs.Place.{Place, Position}
-use Rattle.rbc_spec.specs.Message.{TrainMessage, TrainBody, TrainData, Request, Report, ShorteningGranted, ShorteningRejected, EndOfMission, InitiationOfSession, TerminationOfSession, StartOfMission, SessionEstablished}
+use Rattle.rbc_spec.specs.Place.{Place, Position, place_on}
+use Rattle.rbc_spec.specs.Message.{TrainMessage, TrainBody, TrainData, Request, Report, ShorteningGranted, ShorteningRejected, EndOfMission, InitiationOfSession, TerminationOfSession, StartOfMission, SessionEstablished, is_stale}
 use Rattle.rbc_spec.specs.Outcome.{Reason, StaleStamp, ForeignEngine}
 use Rattle.rbc_spec.specs.Centre.{Centre, Phase, Silent, Opened, Up, Mission, Proposal, is_expected}
-use Rattle.rbc_spec.specs.Rules.{place_on}
-use Rattle.rbc_spec.specs.Step.{silence, is_stale}
+use Rattle.rbc_spec.specs.Step.{silence}
 use Rattle.rbc_mission.specs.Deeds.{Rule, rule_of, may_extend}
 
 abbrev pub reason_in : Rule → Option Reason

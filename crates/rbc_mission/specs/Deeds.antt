@@ -3,14 +3,14 @@ use Rattle.std.specs.Prelude.{ℕ, ◌+◌, ◌-◌, ◌*◌, ◌==◌, Bool, tr
 use Rattle.std.specs.Option.{option_map_or}
 use Rattle.std.specs.List.{filter, range_with_len}
 use Rattle.rbc_spec.specs.Maps.{put}
-use Rattle.rbc_spec.specs.Runs.{Run, no_run, within, behind}
+use Rattle.rbc_spec.specs.Runs.{Run, no_run, within, behind, all_of}
 use Rattle.rbc_spec.specs.Line.{Line, is_home, end}
-use Rattle.rbc_spec.specs.Place.{Place, Position, covered, group_start}
+use Rattle.rbc_spec.specs.Place.{Place, Position, covered, group_start, fit_place, place_on}
 use Rattle.rbc_spec.specs.Message.{TrainMessage, TrainBody, TrainData, Request, Report, ShorteningGranted, ShorteningRejected, EndOfMission, InitiationOfSession, TerminationOfSession, StartOfMission, SessionEstablished, TrackBody, Authority, DataAcknowledged, SystemVersion, TerminationAcknowledged, TrainRejected, TrainAccepted, unknown_group}
 use Rattle.rbc_spec.specs.Outcome.{Reason, NoSession, NoPlace, NotSupervised, NoTrainData, ProposalPending, Unasked, MissionEnded, WrongPhase, Saying, Word, Told}
 use Rattle.rbc_spec.specs.Centre.{Centre, Entry, Shut, Open, Taken, Phase, Silent, Opened, Up, Mission, Proposal, is_open, is_taken_for, is_free, is_registrar_of}
 use Rattle.rbc_spec.specs.Acts.{Reply}
-use Rattle.rbc_spec.specs.Rules.{fit_place, all_of, place_on, extension, cleared}
+use Rattle.rbc_spec.specs.Rules.{extension, cleared}
 
 -- what is done about the message
 pub data Deed : Type 0 where

@@ -4,13 +4,13 @@ use Rattle.std.specs.List.{filter, range_with_len}
 use Rattle.rbc_spec.specs.Maps.{put, put_pair}
 use Rattle.rbc_spec.specs.Runs.{Run, no_run, within, behind, joined, part_from}
 use Rattle.rbc_spec.specs.Line.{Line, is_home}
-use Rattle.rbc_spec.specs.Place.{Place, Position}
+use Rattle.rbc_spec.specs.Place.{Place, Position, place_on}
 use Rattle.rbc_spec.specs.Frame.{Frame}
 use Rattle.rbc_spec.specs.Outcome.{Word, Told}
 use Rattle.rbc_spec.specs.Centre as centre
 use Rattle.rbc_spec.specs.Centre.{is_taken_for, is_registrar_of}
 use Rattle.rbc_spec.specs.Acts.{◌>>◌, change_mission as change_here, return_pool}
-use Rattle.rbc_spec.specs.Rules.{place_on, cleared, report_here}
+use Rattle.rbc_spec.specs.Rules.{cleared, report_here}
 use Rattle.rbc_spec.specs.Step as step
 use Rattle.rbc_spec.specs.LineCentre as line_centre
 use Rattle.rbc_spec.specs.LineCentre.{LineState, change_mission, set_mission, close_if_empty, release, is_given_to, supervises, Said, nothing}

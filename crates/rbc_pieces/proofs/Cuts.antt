@@ -5,13 +5,13 @@ use Rattle.std.specs.List.{filter, range_with_len}
 use Rattle.rbc_spec.specs.Maps.{put}
 use Rattle.rbc_spec.specs.Runs.{Run, no_run, within, joined, part_from, part_before}
 use Rattle.rbc_spec.specs.Line.{Line, is_centre, is_home, end}
-use Rattle.rbc_spec.specs.Place.{Place, Position}
+use Rattle.rbc_spec.specs.Place.{Place, Position, place_on}
 use Rattle.rbc_spec.specs.Message.{TrainBody, ShorteningGranted}
 use Rattle.rbc_spec.specs.Outcome.{NotSupervised, Unasked, Word, Told}
 use Rattle.rbc_spec.specs.Centre as centre
 use Rattle.rbc_spec.specs.Centre.{is_taken_for, is_registrar_of}
 use Rattle.rbc_spec.specs.Acts.{Act, ◌>>◌, rest, yield_if_due, change_mission as change_here}
-use Rattle.rbc_spec.specs.Rules.{place_on, cut, granted, answer_granted}
+use Rattle.rbc_spec.specs.Rules.{cut, granted, answer_granted}
 use Rattle.rbc_spec.specs.Step as step
 use Rattle.rbc_spec.specs.LineCentre as line_centre
 use Rattle.rbc_spec.specs.LineCentre.{LineState, change_mission, set_mission, close_if_empty, release, is_given_to, Said, nothing}

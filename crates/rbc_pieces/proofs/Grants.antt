@@ -6,13 +6,13 @@ use Rattle.rbc_spec.specs.Maps.{put}
 use Rattle.rbc_spec.specs.Runs.{Run, within, behind, longest, joined}
 use Rattle.rbc_spec.specs.Line.{Line, is_centre, end}
 use Rattle.rbc_spec.specs.Sections.{is_on}
-use Rattle.rbc_spec.specs.Place.{Place, Position, group_start}
+use Rattle.rbc_spec.specs.Place.{Place, Position, group_start, place_on}
 use Rattle.rbc_spec.specs.Message.{TrainBody, Request, Authority}
 use Rattle.rbc_spec.specs.Outcome.{NotSupervised, NoPlace}
 use Rattle.rbc_spec.specs.Centre as centre
 use Rattle.rbc_spec.specs.Centre.{is_open, is_free}
 use Rattle.rbc_spec.specs.Acts.{◌>>◌}
-use Rattle.rbc_spec.specs.Rules.{place_on, may_follow, extended_by, authority}
+use Rattle.rbc_spec.specs.Rules.{may_follow, extended_by, authority}
 use Rattle.rbc_spec.specs.Step as step
 use Rattle.rbc_spec.specs.Step.{may_request}
 use Rattle.rbc_spec.specs.LineCentre as line_centre

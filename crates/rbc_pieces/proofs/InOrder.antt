@@ -3,12 +3,12 @@ use Rattle.std.proofs.Common.{◌≡◌, ℕ, zero, suc, ◌+◌, ◌≤◌, ◌
 use Rattle.std.specs.Bool.{MatchBool}
 use Rattle.std.specs.List.{filter, range_with_len}
 use Rattle.rbc_spec.specs.Line.{Line, is_home, end}
+use Rattle.rbc_spec.specs.Runs.{all_of}
 use Rattle.rbc_spec.specs.Sections.{section_count}
-use Rattle.rbc_spec.specs.Place.{Place, covered}
+use Rattle.rbc_spec.specs.Place.{Place, covered, fit_place, place_on}
 use Rattle.rbc_spec.specs.Message.{TrainMessage, TrainBody, TrainData, Request, Report, ShorteningGranted, ShorteningRejected, EndOfMission, InitiationOfSession, TerminationOfSession, StartOfMission, SessionEstablished, TrackBody}
 use Rattle.rbc_spec.specs.Outcome.{Reason, Word, Told}
 use Rattle.rbc_spec.specs.Centre.{is_registrar_of}
-use Rattle.rbc_spec.specs.Rules.{all_of, fit_place, place_on}
 use Rattle.rbc_spec.specs.LineCentre.{LineState, is_given_to, supervises, is_waiting_at, told, Said}
 use Rattle.rbc_spec.specs.OwnSteps.{Says, SaysNothing, Tells, Rejects, Accepts, StartsHere, Starts, may_start, restarted, waits, is_unused_mark, Reports, Ending, shortening_words, release_words, is_cleared_of, is_cut_of, track_of, last_kept_of, Own}
 use Rattle.rbc_spec.specs.Quiet.{both}

@@ -4,7 +4,7 @@ use Rattle.std.specs.List.{list_all}
 use Rattle.rbc_spec.specs.Reach.{Alone}
 use Rattle.rbc_spec.specs.Line.{Line, is_centre}
 use Rattle.rbc_spec.specs.Message.{TrainMessage, TrainBody}
-use Rattle.rbc_spec.specs.Outcome.{Reason}
+use Rattle.rbc_spec.specs.Outcome.{Reason, reasons_of}
 use Rattle.rbc_spec.specs.Centre as centre
 use Rattle.rbc_spec.specs.Acts.{Reply}
 use Rattle.rbc_spec.specs.Step as step
@@ -162,8 +162,8 @@ module _ (line : Line) (w : World) (alone : IsAlone line w) (c t_train t : ℕ) 
   }
 
   -- a reason for which it was not left without an answer
-  pub not_for : (body : TrainBody) (n : ℕ) (why : Reason) → step.silence line c ticked (message body) ≡ None → slice_get (step.reasons_of body) n ≡ Some why → step.holds line c ticked (message body) why ≡ false
-  not_for body n why h is = none_passes (step.holds line c ticked (message body)) (step.reasons_of body) n why h is
+  pub not_for : (body : TrainBody) (n : ℕ) (why : Reason) → step.silence line c ticked (message body) ≡ None → slice_get (reasons_of body) n ≡ Some why → step.holds line c ticked (message body) why ≡ false
+  not_for body n why h is = none_passes (step.holds line c ticked (message body)) (reasons_of body) n why h is
 
   pub message_goes : (body : TrainBody) → (step.silence line c ticked (message body) ≡ None → Answers body) → Goes body
   message_goes body answers = by_silence (step.silence line c ticked (message body)) refl

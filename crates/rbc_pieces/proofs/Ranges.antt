@@ -4,8 +4,7 @@ use Rattle.std.specs.List.{filter, find, list_any, list_all, range_with_len}
 use Rattle.std.proofs.lemmas.Bool.{and_parts, and_from, and_left, and_right, both_ways, lt-leb, cases_lt, cases_eq, cases_Bool, cond-true, cond-false, or_left, or_right}
 use Rattle.std.proofs.lemmas.Bool.Decides.{eqb_tells}
 use Rattle.std.proofs.lemmas.List.Elements.{filter-append}
-use Rattle.rbc_spec.specs.Runs.{Run, no_run, within, longest, joined}
-use Rattle.rbc_spec.specs.Rules.{all_of}
+use Rattle.rbc_spec.specs.Runs.{Run, no_run, within, longest, joined, all_of}
 
 -- ## Runs
 

@@ -4,13 +4,13 @@ use Rattle.std.specs.Option.{option_map_or}
 use Rattle.rbc_spec.specs.Maps.{put}
 use Rattle.rbc_spec.specs.Runs.{no_run}
 use Rattle.rbc_spec.specs.Line.{Line, is_centre}
-use Rattle.rbc_spec.specs.Place.{Place, Position}
+use Rattle.rbc_spec.specs.Place.{Place, Position, place_on}
 use Rattle.rbc_spec.specs.Message.{TrainBody, Report, EndOfMission}
 use Rattle.rbc_spec.specs.Outcome.{NotSupervised, NoPlace, Word}
 use Rattle.rbc_spec.specs.Centre as centre
 use Rattle.rbc_spec.specs.Centre.{is_taken_for, is_registrar_of}
 use Rattle.rbc_spec.specs.Acts.{◌>>◌, with_some, yield_if_due, change_mission as change_here, return_pool}
-use Rattle.rbc_spec.specs.Rules.{place_on, cleared, report_here, take_over, end_mission}
+use Rattle.rbc_spec.specs.Rules.{cleared, report_here, take_over, end_mission}
 use Rattle.rbc_spec.specs.Step as step
 use Rattle.rbc_spec.specs.LineCentre as line_centre
 use Rattle.rbc_spec.specs.LineCentre.{LineState, change_mission, set_mission, close_if_empty, release, is_given_to, supervises, Said, nothing}

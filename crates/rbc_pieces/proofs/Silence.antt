@@ -6,12 +6,11 @@ use Rattle.std.proofs.lemmas.Bool.Decides.{eqb_tells}
 use Rattle.rbc_spec.specs.Runs.{within, behind}
 use Rattle.rbc_spec.specs.Line.{Line, Section, section, end, registrar}
 use Rattle.rbc_spec.specs.Sections.{is_on}
-use Rattle.rbc_spec.specs.Place.{Position, group_start}
+use Rattle.rbc_spec.specs.Place.{Position, group_start, place_on}
 use Rattle.rbc_spec.specs.Message.{TrainMessage, TrainBody, TrainData, Request, Report, ShorteningGranted, ShorteningRejected, EndOfMission, InitiationOfSession, TerminationOfSession, StartOfMission, SessionEstablished}
-use Rattle.rbc_spec.specs.Outcome.{Reason, StaleStamp, NoSession, ForeignEngine, NoPlace, NotSupervised, NoTrainData, ProposalPending, Unasked, MissionEnded, WrongPhase}
+use Rattle.rbc_spec.specs.Outcome.{Reason, StaleStamp, NoSession, ForeignEngine, NoPlace, NotSupervised, NoTrainData, ProposalPending, Unasked, MissionEnded, WrongPhase, reasons_of}
 use Rattle.rbc_spec.specs.Centre as centre
 use Rattle.rbc_spec.specs.Centre.{is_registrar_of, is_expected}
-use Rattle.rbc_spec.specs.Rules.{place_on}
 use Rattle.rbc_spec.specs.LineCentre as line_centre
 use Rattle.rbc_spec.specs.LineCentre.{LineState, is_at, is_given_to, supervises}
 use Rattle.rbc_spec.specs.Step as step
@@ -185,4 +184,4 @@ module _ (line : Line) (w : World) (alone : IsAlone line w) (c t : ℕ) where
     same_reason body WrongPhase = same_phase body
 
     pub same_silence : (body : TrainBody) → run.silence line v c (m body) ≡ step.silence line c k (m body)
-    same_silence body = ap (λ (test : Reason → Bool). find test (step.reasons_of body)) (λ i why. same_reason body why i)
+    same_silence body = ap (λ (test : Reason → Bool). find test (reasons_of body)) (λ i why. same_reason body why i)

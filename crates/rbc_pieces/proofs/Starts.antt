@@ -4,14 +4,13 @@ use Rattle.std.proofs.Common.{◌≡◌, ℕ, ◌+◌, ◌&&◌, Bool, true, fal
 use Rattle.std.proofs.lemmas.Bool.{and_parts}
 use Rattle.std.proofs.lemmas.Option.{same_Some}
 use Rattle.rbc_spec.specs.Maps.{put}
-use Rattle.rbc_spec.specs.Runs.{within}
+use Rattle.rbc_spec.specs.Runs.{within, all_of}
 use Rattle.rbc_spec.specs.Line.{Line, is_centre, is_home}
-use Rattle.rbc_spec.specs.Place.{Place, Position, covered}
+use Rattle.rbc_spec.specs.Place.{Place, Position, covered, fit_place}
 use Rattle.rbc_spec.specs.Message.{TrainBody, StartOfMission, TrainAccepted, TrainRejected, unknown_group}
 use Rattle.rbc_spec.specs.Centre as centre
 use Rattle.rbc_spec.specs.Centre.{is_open, is_free, is_unused, is_registrar_of}
 use Rattle.rbc_spec.specs.Acts.{◌>>◌, begun}
-use Rattle.rbc_spec.specs.Rules.{all_of, fit_place}
 use Rattle.rbc_spec.specs.LineCentre.{LineState, is_given_to, supervises, says, saying_of, Said, nothing}
 use Rattle.rbc_spec.specs.OwnSteps.{Starts, Rejects, Accepts, may_start, waits, begins, restarted}
 use Rattle.rbc_spec.specs.Quiet.{Dismiss, TakesAll}

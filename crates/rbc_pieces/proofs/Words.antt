@@ -4,12 +4,12 @@ use Rattle.std.specs.List.{All, filter, range_with_len}
 use Rattle.std.proofs.lemmas.List.Elements.{All-nil, All-cons, All-append, All-weaker}
 use Rattle.std.proofs.lemmas.Bool.{and_parts}
 use Rattle.rbc_spec.specs.Line.{Line, is_home, end}
+use Rattle.rbc_spec.specs.Runs.{all_of}
 use Rattle.rbc_spec.specs.Sections.{section_count}
-use Rattle.rbc_spec.specs.Place.{Place, covered}
+use Rattle.rbc_spec.specs.Place.{Place, covered, fit_place, place_on}
 use Rattle.rbc_spec.specs.Message.{TrainMessage, TrainBody, TrainData, Request, Report, ShorteningGranted, ShorteningRejected, EndOfMission, InitiationOfSession, TerminationOfSession, StartOfMission, SessionEstablished}
 use Rattle.rbc_spec.specs.Outcome.{Word, Told, Done, Asked, NotHome}
 use Rattle.rbc_spec.specs.Centre.{is_registrar_of}
-use Rattle.rbc_spec.specs.Rules.{all_of, fit_place, place_on}
 use Rattle.rbc_spec.specs.LineCentre.{LineState, Mark, Shut, Kept, mark_all, is_given_to, is_waiting_at, supervises, free, told, release, close_if_empty, Said}
 use Rattle.rbc_spec.specs.OwnSteps.{may_start, StartsHere, Rejects, Starts, is_cleared_of, is_cut_of, shortened, shortening_words, without_ask, track_of, last_kept_of, Reports, Ending, Own, release_words}
 use Rattle.rbc_spec.specs.Quiet.{Quiet, Keep, Unkeep, Admit, Dismiss, LayDown, TakeUp, Propose, Order, EndOrder, TakesQuiet, TakesAll}

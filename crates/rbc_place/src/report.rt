@@ -1,6 +1,5 @@
 ghost use Rattle.std.specs.Prelude.{◌≡◌, ◌+◌, ◌*◌, ◌^◌, ◌<◌, ◌≤◌, pos, ◌-ℤ◌, IfSome, option_map};
 ghost use Rattle.rbc_spec.specs.Place as spec;
-ghost use Rattle.rbc_spec.specs.Rules as rules;
 ghost use Rattle.rbc_msgs.specs.StepMessage as message;
 ghost use Rattle.rbc_msgs.specs.StepMessage.{position_of, decimetres, confirmed_length};
 ghost use Rattle.rbc_place.specs.Places.{place_of, place_from};
@@ -31,7 +30,7 @@ pub fn extent(line: &Line, position: &Position) -> Option<Place>
 
 /// The place of a report, where it is on this track.
 pub fn place_on(line: &Line, track: u8, position: &Position) -> Option<Place>
-    ensures value { option_map place_of result ≡ rules.place_on line.now track (position_of position.now) }
+    ensures value { option_map place_of result ≡ spec.place_on line.now track (position_of position.now) }
     // NID_LRBG has 24 bits.
     ensures group { IfSome result (λ p. p.group < 2 ^ 24) }
 {

@@ -1,9 +1,9 @@
 -- What decisions come to.
 use Rattle.std.proofs.Common.{◌∙◌, ◌≡◌, ℕ, true, false, Option, Some, None, option_map, is_some, Ok, refl, ap}
 use Rattle.rbc_spec.specs.Line.{Line}
-use Rattle.rbc_spec.specs.Place.{Place, Position}
+use Rattle.rbc_spec.specs.Place.{Place, Position, place_on}
 use Rattle.rbc_spec.specs.Centre.{Centre, Mission}
-use Rattle.rbc_spec.specs.Rules.{place_on, extension}
+use Rattle.rbc_spec.specs.Rules.{extension}
 use Rattle.rbc_book.specs.Book.{Pages, entry_at, wish_at}
 use Rattle.rbc_mission.specs.Courses.{Standing}
 use Rattle.rbc_mission.specs.Changes.{IsBooked}

@@ -3,11 +3,11 @@ use Rattle.std.proofs.Common.{◌≡◌, ℕ, zero, suc, ◌+◌, ◌-◌, ◌==
 use Rattle.std.specs.List.{list_all, range_with_len}
 use Rattle.std.specs.Option.{option_map_or, option_eq}
 use Rattle.std.proofs.lemmas.Bool.Decides.{nat_tests}
-use Rattle.rbc_spec.specs.Runs.{Run, no_run, within, behind, longest}
+use Rattle.rbc_spec.specs.Runs.{Run, no_run, within, behind, longest, all_of}
 use Rattle.std.proofs.lemmas.Option.{slice_get_past}
 use Rattle.rbc_spec.specs.Line.{Line, is_home, registrar}
 use Rattle.rbc_spec.specs.Centre.{Centre, Mission, Shut, is_open, is_free, is_registrar_of}
-use Rattle.rbc_spec.specs.Rules.{all_of, may_follow}
+use Rattle.rbc_spec.specs.Rules.{may_follow}
 use Rattle.rbc_book.specs.Book.{Pages, is_own, entry_at, page_of}
 use Rattle.rbc_book.specs.Entries.{entry_of}
 use Rattle.rbc_book.specs.declared.page.Page.{Page}

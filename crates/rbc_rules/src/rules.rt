@@ -1,6 +1,7 @@
 ghost use Rattle.std.specs.Prelude.{◌≡◌, ◌&&◌, ◌<◌, ℕ, Some, IfOk};
 ghost use Rattle.std.specs.Option.{option_map_or};
-ghost use Rattle.rbc_spec.specs.Rules.{fit_place, all_of};
+ghost use Rattle.rbc_spec.specs.Runs.{all_of};
+ghost use Rattle.rbc_spec.specs.Place.{fit_place};
 ghost use Rattle.rbc_spec.specs.Centre as spec;
 ghost use Rattle.rbc_spec.specs.Centre.{is_free, is_registrar_of};
 ghost use Rattle.rbc_msgs.specs.StepMessage as message;

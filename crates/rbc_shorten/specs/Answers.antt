@@ -3,10 +3,10 @@ use Rattle.std.specs.Prelude.{◌≡◌, ℕ, ◌+◌, ◌*◌, ◌==◌, Option
 use Rattle.std.specs.Option.{option_map_or}
 use Rattle.rbc_spec.specs.Runs.{Run, part_before}
 use Rattle.rbc_spec.specs.Line.{Line, end}
-use Rattle.rbc_spec.specs.Place.{Position}
+use Rattle.rbc_spec.specs.Place.{Position, place_on}
 use Rattle.rbc_spec.specs.Centre.{Mission, Proposal}
 use Rattle.rbc_spec.specs.Acts.{Act, rest}
-use Rattle.rbc_spec.specs.Rules.{place_on, cut}
+use Rattle.rbc_spec.specs.Rules.{cut}
 use Rattle.rbc_shorten.specs.Missions.{standing_of}
 use Rattle.rbc_shorten.specs.declared.mission.Proposal.{Proposal as ProposalCode}
 use Rattle.rbc_shorten.specs.declared.answer.Cut.{Cut}

@@ -2,15 +2,15 @@
 use Rattle.std.proofs.Common.{◌≡◌, ℕ, Bool, true, false, Option, Some, None, is_none, refl, sym, ap, ◌∙◌, List, [], ◌∷◌, slice_get, Result, Ok, Err, if◌then◌else◌}
 use Rattle.std.specs.Option.{option_map_or}
 use Rattle.rbc_spec.specs.Reach.{Alone, Whole}
-use Rattle.rbc_spec.specs.Runs.{Run}
+use Rattle.rbc_spec.specs.Runs.{Run, all_of}
 use Rattle.rbc_spec.specs.Line.{Line, train_number}
-use Rattle.rbc_spec.specs.Place.{Place, Position, covered}
+use Rattle.rbc_spec.specs.Place.{Place, Position, covered, fit_place, place_on}
 use Rattle.rbc_spec.specs.Message.{TrainMessage, TrainBody, TrainData, Request, Report, ShorteningGranted, ShorteningRejected, EndOfMission, InitiationOfSession, TerminationOfSession, StartOfMission, SessionEstablished, Authority}
 use Rattle.rbc_spec.specs.Frame.{Frame}
-use Rattle.rbc_spec.specs.Outcome.{Reason, Outcome, ForeignEngine}
+use Rattle.rbc_spec.specs.Outcome.{Reason, Outcome, ForeignEngine, reasons_of}
 use Rattle.rbc_spec.specs.Centre.{Centre, Mission, Taken, is_open, is_free, is_registrar_of}
 use Rattle.rbc_spec.specs.Acts.{Act, Reply, rest, ◌>>◌, with_some, say, hear, booked, set_mission}
-use Rattle.rbc_spec.specs.Rules.{all_of, fit_place, place_on, restart, reject, start_here, start_elsewhere, start_new, start_mission, extension, extended_by, authority, at_border, grant, request, answered}
+use Rattle.rbc_spec.specs.Rules.{restart, reject, start_here, start_elsewhere, start_new, start_mission, extension, extended_by, authority, at_border, grant, request, answered}
 use Rattle.rbc_spec.specs.Step as step
 use Rattle.rbc_spec.specs.Step.{Refusal, Effect}
 use Rattle.rbc_spec.specs.World.{World, Event, Bytes, Set, Unset, Delivery, NotSent, mention, takes, stepped, at_centre, frame_sent, world_step, world_run, ◌>>=◌}
@@ -72,9 +72,9 @@ module _ (line : Line) (ordered : IsOrdered line) (d : ℕ) (one : IsOneCentreLi
 
   -- a message of any other is silent
   known_of : (c : ℕ) (k : Centre) (m : TrainMessage) (body : TrainBody) → m.body ≡ body → step.silence line c k m ≡ None → is_none (train_number line m.nid_engine) ≡ false
-  known_of c k m body is h = none_passes (step.holds line c k m) (step.reasons_of m.body) 0 ForeignEngine h (ap (λ (b : TrainBody). slice_get (step.reasons_of b) 0) is ∙ first body)
+  known_of c k m body is h = none_passes (step.holds line c k m) (reasons_of m.body) 0 ForeignEngine h (ap (λ (b : TrainBody). slice_get (reasons_of b) 0) is ∙ first body)
     where
-      first : (b : TrainBody) → slice_get (step.reasons_of b) 0 ≡ Some ForeignEngine
+      first : (b : TrainBody) → slice_get (reasons_of b) 0 ≡ Some ForeignEngine
       first InitiationOfSession = refl
       first TerminationOfSession = refl
       first SessionEstablished = refl

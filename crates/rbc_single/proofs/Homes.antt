@@ -9,10 +9,10 @@ use Rattle.std.proofs.lemmas.Option.{same_Some}
 use Rattle.std.proofs.lemmas.List.Elements.{All-head, All-tail, All-drop}
 use Rattle.std.proofs.lemmas.List.Folds.{find_at}
 use Rattle.rbc_spec.specs.Line.{Line, Section, Train, section, is_home, is_joint, next_centre, train_number}
-use Rattle.rbc_spec.specs.Place.{Place, Position, extent, is_fit, covered}
+use Rattle.rbc_spec.specs.Runs.{all_of}
+use Rattle.rbc_spec.specs.Place.{Place, Position, extent, is_fit, covered, fit_place}
 use Rattle.rbc_spec.specs.Centre as centre
 use Rattle.rbc_spec.specs.Centre.{is_open, is_free, is_registrar_of}
-use Rattle.rbc_spec.specs.Rules.{all_of, fit_place}
 use Rattle.rbc_spec.specs.Theorems.{IsOneCentreLine}
 use Rattle.rbc_alone.specs.Alone.{IsOrdered}
 use Rattle.rbc_alone.proofs.Fits.{fit_parts, fit_covers, covers_within}

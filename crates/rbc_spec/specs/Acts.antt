@@ -3,10 +3,10 @@ use Rattle.std.specs.Prelude.{ℕ, ◌+◌, ◌-◌, ◌*◌, ◌==◌, Bool, tr
 use Rattle.std.specs.Option.{option_map_or}
 use Rattle.std.specs.List.{filter, list_all, range_with_len}
 use Rattle.rbc_spec.specs.Maps.{put}
-use Rattle.rbc_spec.specs.Runs.{Run, no_run, within, behind, is_empty, shared}
+use Rattle.rbc_spec.specs.Runs.{Run, no_run, most_in_hand, within, behind, is_empty, shared}
 use Rattle.rbc_spec.specs.Line.{Line, is_home, start, registrar}
 use Rattle.rbc_spec.specs.Sections.{nid_rbc, home_run}
-use Rattle.rbc_spec.specs.Place.{Place, covered, group_start}
+use Rattle.rbc_spec.specs.Place.{Place, covered, group_start, has_room}
 use Rattle.rbc_spec.specs.Message.{TrainMessage, TrackBody, ShorteningRequest, Transition, EndSession, unknown_group}
 use Rattle.rbc_spec.specs.Frame.{Body, ReturnRight, RouteReturn, RouteAsk, Announce, Cancel, Yield, yielded_place}
 use Rattle.rbc_spec.specs.Outcome.{Saying, Word, Told}
@@ -48,6 +48,10 @@ where_so test act k = if test k then act k else rest k
 -- the act that goes by a value of the state, where there is one
 abbrev pub with_some : {X : Type 0} → (Centre → Option X) → (X → Act) → Act
 with_some value act k = option_map_or (λ x. act x k) (value k) (rest k)
+
+-- the act that goes by the train's mission, where it has one here
+abbrev pub with_mission : ℕ → (Mission → Act) → Act
+with_mission t = with_some (λ k. k.mission t)
 
 -- the body goes to centre d
 abbrev pub send : ℕ → Body → Act
@@ -146,7 +150,7 @@ abbrev pub may_propose : Line → ℕ → ℕ → Mission → Centre → Bool
 may_propose line t s m k =
     ((is_up (k.phase t) && not m.is_ended) && is_none m.proposal)
     && (((within m.hand s && not (s == m.hand.first)) && nat_le m.place.front (10 * start line s))
-    && nat_le (start line s) (group_start line m.place + 32767))
+    && has_room line m.place (start line s))
 
 abbrev pub propose : Line → ℕ → ℕ → Mission → Act
 propose line t s m k =
@@ -155,7 +159,7 @@ propose line t s m k =
 
 -- message 9 for section s of the train's hand, where it may be made
 abbrev pub propose_if_so : Line → ℕ → ℕ → Act
-propose_if_so line t s = with_some (λ k. k.mission t) (λ m. where_so (may_propose line t s m) (propose line t s m))
+propose_if_so line t s = with_mission t (λ m. where_so (may_propose line t s m) (propose line t s m))
 
 -- ## Handing over (3.15.1)
 
@@ -174,11 +178,11 @@ announce line t group d m k =
     >> say t group (Transition (start line border - group_start line m.place) line.nid_c (nid_rbc line d))
     $ k
 
--- the sections behind the hand are asked for, up to 32 in the hand
+-- the sections behind the hand are asked for, as many as the hand has room for
 abbrev pub ask_route : ℕ → ℕ → Mission → Act
 ask_route t d m =
     let first = behind m.hand in
-    send d (RouteAsk t first (min (32 - m.hand.count) (512 - first))) >> become (λ k. record k { route_ask = put k.route_ask t (Some first) })
+    send d (RouteAsk t first (min (most_in_hand - m.hand.count) (512 - first))) >> become (λ k. record k { route_ask = put k.route_ask t (Some first) })
 
 -- the train is told to end its session with c, where it is up
 abbrev pub end_order : Line → ℕ → ℕ → Act
@@ -198,5 +202,5 @@ is_of_two line c d hand = list_all (λ s. is_home line c s || is_home line d s) 
 
 -- a handover that is claimed is yielded as soon as no third centre's section is in the hand
 abbrev pub yield_if_due : Line → ℕ → ℕ → Act
-yield_if_due line c t = with_some (λ k. k.mission t) (λ m. with_some (λ k. m.handing) (λ h.
+yield_if_due line c t = with_mission t (λ m. with_some (λ k. m.handing) (λ h.
     where_so (λ k. h.is_claimed && is_of_two line c h.to m.hand) (yield line c t m h)))

@@ -1,7 +1,7 @@
 -- What a radio block centre keeps. States are functions of section numbers, of NID_ENGINE, and of centre numbers.
 use Rattle.std.specs.Prelude.{ℕ, List, [], Bool, true, false, ◌==◌, ◌&&◌, Option, None, is_some, length}
-use Rattle.std.specs.Option.{option_map_or}
 use Rattle.std.specs.List.{list_any, range_with_len}
+use Rattle.rbc_spec.specs.Maps.{has}
 use Rattle.rbc_spec.specs.Runs.{Run}
 use Rattle.rbc_spec.specs.Line.{Line, is_home, registrar}
 use Rattle.rbc_spec.specs.Sections.{section_count}
@@ -68,7 +68,7 @@ pub record Centre : Type 0 where
 
 -- c is the registrar of train t
 abbrev pub is_registrar_of : Line → ℕ → ℕ → Bool
-is_registrar_of line c t = option_map_or (λ r. r == c) (registrar line t) false
+is_registrar_of line c t = has (λ r. r == c) (registrar line t)
 
 -- at the beginning every section is shut, no train is known, and each right is with its registrar
 unfoldable pub beginning : Line → ℕ → Centre
@@ -91,6 +91,12 @@ beginning line c = record {
 }
 
 -- ## What a state tells
+
+-- no session stands
+abbrev pub is_silent : Phase → Bool
+is_silent Silent = true
+is_silent Opened = false
+is_silent Up = false
 
 abbrev pub is_up : Phase → Bool
 is_up Silent = false

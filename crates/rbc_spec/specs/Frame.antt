@@ -2,7 +2,7 @@
 -- Information come from the RBC/RBC interface (SUBSET-039); the frames and the rule of rights are the profile's.
 use Rattle.std.specs.Prelude.{ℕ, ◌+◌, ◌≤◌, Bool, true, ◌&&◌, IsTrue, Option, Some, None, ℤ, pos, negsuc, ◌-ℤ◌, int_le}
 use Rattle.std.specs.Option.{option_map_or}
-use Rattle.rbc_spec.specs.Runs.{Run}
+use Rattle.rbc_spec.specs.Runs.{Run, most_in_hand}
 use Rattle.rbc_spec.specs.Place.{Place}
 
 -- the place that a Yield carries: the safe front end too may be any distance, also one before the start of the track
@@ -83,7 +83,7 @@ HasBodyRange (Announce number t track) = IsHandoverNumber number × IsEngine t �
 HasBodyRange (Cancel number t) = IsHandoverNumber number × IsEngine t
 HasBodyRange (TakingOver number t) = IsHandoverNumber number × IsEngine t
 HasBodyRange (Yield number t heard has_data is_ended place hand) =
-    IsHandoverNumber number × IsEngine t × (heard ≤ 4294967294) × HasPlaceRange place × HasRunRange 1 32 hand
+    IsHandoverNumber number × IsEngine t × (heard ≤ 4294967294) × HasPlaceRange place × HasRunRange 1 most_in_hand hand
 
 -- a link carries at most 65 536 frames, numbered from 1, each with its step's stamp
 pub record HasFrameRanges (f : Frame) : Type 0 where

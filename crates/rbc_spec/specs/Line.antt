@@ -1,10 +1,11 @@
 -- The line that the centres supervise: tracks of sections run in one direction, the centre that is home to each
 -- section, the balise group at its start, and the centre where each train's supervision right is registered.
 -- Centres, tracks and sections are numbered from 0, sections over all tracks. A train goes by its NID_ENGINE.
-use Rattle.std.specs.Prelude.{◌≡◌, ℕ, ◌+◌, ◌*◌, ◌<◌, ◌≤◌, ◌==◌, Bool, false, ◌&&◌, ◌||◌, not, List, length, take, drop, Option, Some, option_map, nat_lt, slice_get, IsTrue}
+use Rattle.std.specs.Prelude.{◌≡◌, ℕ, ◌+◌, ◌*◌, ◌<◌, ◌≤◌, ◌==◌, Bool, ◌&&◌, ◌||◌, not, List, length, take, drop, Option, Some, option_map, nat_lt, slice_get, IsTrue}
 use Rattle.std.specs.List.{list_any, zip, find, filter, sum_by, position, All}
 use Rattle.std.specs.Option.{option_map_or}
 use Rattle.std.specs.Char.{is_ascii_alphanumeric}
+use Rattle.rbc_spec.specs.Maps.{has}
 
 -- a radio block centre, by its name in the line file and its NID_RBC (profile)
 pub record Centre : Type 0 where
@@ -42,7 +43,7 @@ section line s = slice_get line.sections s
 
 -- the section is of the line, and its home is c
 abbrev pub is_home : Line → ℕ → ℕ → Bool
-is_home line c s = option_map_or (λ p. p.home == c) (section line s) false
+is_home line c s = has (λ p. p.home == c) (section line s)
 
 -- where a section starts: the lengths of the sections before it on its track, in metres
 unfoldable pub start : Line → ℕ → ℕ

@@ -1,9 +1,8 @@
 -- The one line centre: what a single centre for the whole line would keep. No border, frame or second book occurs in it.
 -- That the centres together do what it does is the main theorem (rbc_world).
 use Rattle.std.specs.Prelude.{◌≡◌, ◌+◌, ℕ, List, [], length, Bool, true, false, ◌==◌, ◌&&◌, not, if◌then◌else◌, Option, Some, None, map, option_map}
-use Rattle.std.specs.Option.{option_map_or}
 use Rattle.std.specs.List.{filter, list_any, range_with_len}
-use Rattle.rbc_spec.specs.Maps.{put, put_pair}
+use Rattle.rbc_spec.specs.Maps.{has, put, put_pair}
 use Rattle.rbc_spec.specs.Runs.{Run, within}
 use Rattle.rbc_spec.specs.Line.{Line, is_home}
 use Rattle.rbc_spec.specs.Sections.{section_count}
@@ -80,11 +79,11 @@ is_at c (At d) = d == c
 is_at c (Parted stamp) = false
 
 abbrev pub supervises : LineState → ℕ → ℕ → Bool
-supervises v c t = option_map_or (λ m. is_at c m.supervisor) (v.mission t) false
+supervises v c t = has (λ m. is_at c m.supervisor) (v.mission t)
 
 -- the sections of a start of mission that waits at the centre
 abbrev pub is_waiting_at : Line → LineState → ℕ → ℕ → ℕ → Bool
-is_waiting_at line v t c s = option_map_or (λ place. within (covered line place) s) (v.wait t c) false
+is_waiting_at line v t c s = has (λ place. within (covered line place) s) (v.wait t c)
 
 -- at some centre a start of mission of the train waits for the section
 abbrev pub is_waiting : Line → LineState → ℕ → ℕ → Bool

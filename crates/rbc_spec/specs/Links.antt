@@ -3,20 +3,20 @@
 use Rattle.std.specs.Prelude.{ℕ, ◌*◌, ◌==◌, Bool, true, false, ◌&&◌, not, if◌then◌else◌, length, max, Option, Some, None, is_some, is_none, nat_lt, nat_le, option_map}
 use Rattle.std.specs.Option.{option_map_or}
 use Rattle.std.specs.List.{find, range_with_len}
-use Rattle.rbc_spec.specs.Maps.{put}
+use Rattle.rbc_spec.specs.Maps.{has, put}
 use Rattle.rbc_spec.specs.Maps.{put_pair}
-use Rattle.rbc_spec.specs.Runs.{Run, no_run, within, behind, is_empty, part_before, part_from, longest}
+use Rattle.rbc_spec.specs.Runs.{Run, no_run, within, behind, is_empty, part_before, part_from, longest, all_of}
 use Rattle.rbc_spec.specs.Line.{Line, is_home, is_linked, section, next_centre, train_number, section_of_group}
 use Rattle.rbc_spec.specs.Sections.{is_on, is_on_track}
 use Rattle.rbc_spec.specs.Place.{Place, group_start}
 use Rattle.rbc_spec.specs.Frame.{Body, AskRight, GiveRight, RefuseRight, ReturnRight, RouteAsk, RouteInfo, RouteWithdraw, RouteReturn, Announce, Cancel, TakingOver, Yield, carried_place}
 use Rattle.rbc_spec.specs.Centre.{Centre, Taken, Out, Mission, Expectation, is_out_for, is_free, is_open, uses_some, is_expected, is_registrar_of}
-use Rattle.rbc_spec.specs.Acts.{Act, become, rest, ◌>>◌, where_so, with_some, send, booked, freed, returned, set_mission, change_mission, return_right, propose_if_so, end_order, yield_if_due}
-use Rattle.rbc_spec.specs.Rules.{choose, drop_wait, begin, reject, all_of}
+use Rattle.rbc_spec.specs.Acts.{Act, become, rest, ◌>>◌, where_so, with_some, with_mission, send, booked, freed, returned, set_mission, change_mission, return_right, propose_if_so, end_order, yield_if_due}
+use Rattle.rbc_spec.specs.Rules.{choose, drop_wait, begin, reject}
 
 -- the sections of the run are of the line, all of one track
 abbrev pub is_of_line : Line → Run → Bool
-is_of_line line r = option_map_or (λ p. is_on_track line p.track r) (section line r.first) false
+is_of_line line r = has (λ p. is_on_track line p.track r) (section line r.first)
 
 -- ## Rights (profile)
 
@@ -50,7 +50,7 @@ right_returned line c t = where_so (λ k. is_registrar_of line c t && (not (k.ha
 -- the longest run of released home sections from first on one track, at most so many, is lent
 abbrev pub lendable : Line → ℕ → Centre → ℕ → ℕ → Run
 lendable line c k first most =
-    record { first = first; count = longest (λ s. is_free line c k s && option_map_or (λ p. is_on line p.track s) (section line first) false) first most }
+    record { first = first; count = longest (λ s. is_free line c k s && has (λ p. is_on line p.track s) (section line first)) first most }
 
 abbrev pub route_asked : Line → ℕ → ℕ → ℕ → ℕ → ℕ → Act
 route_asked line c d t first most k =
@@ -64,15 +64,15 @@ is_wanted line r m = ((r.first == behind m.hand) && is_on line m.place.track r.f
 -- what was asked for goes into the pool, or home again
 abbrev pub route_told : Line → ℕ → ℕ → ℕ → Run → Act
 route_told line c d t r = where_so
-    (λ k. (option_map_or (λ first. first == r.first) (k.route_ask t) false && (is_of_line line r && is_home line d r.first)) && all_of (is_home line d) r)
+    (λ k. (has (λ first. first == r.first) (k.route_ask t) && (is_of_line line r && is_home line d r.first)) && all_of (is_home line d) r)
     (become (λ k. record k { route_ask = put k.route_ask t None })
-    >> choose (λ k. option_map_or (is_wanted line r) (k.mission t) false)
+    >> choose (λ k. has (is_wanted line r) (k.mission t))
     (change_mission t (λ m. record m { pool = r }))
     (if is_empty r then rest else send d (RouteReturn t r)))
 
 -- the interlocking of another centre wishes a lent section back: the pool from it on goes home, or the hand is proposed to be cut
 abbrev pub route_withdrawn : Line → ℕ → ℕ → ℕ → Act
-route_withdrawn line c t s = with_some (λ k. k.mission t) (λ m.
+route_withdrawn line c t s = with_mission t (λ m.
     if within m.pool s
     then (returned line c t m.place.track (part_from s m.pool) >> change_mission t (λ n. record n { pool = part_before s n.pool }))
     else propose_if_so line t s)
@@ -92,7 +92,7 @@ abbrev pub announced : ℕ → ℕ → ℕ → Act
 announced d number t = where_so (λ k. is_none (k.expects d t)) (expect d t (Some (record { number = number; is_taking = false })))
 
 abbrev pub is_under : ℕ → Option Expectation → Bool
-is_under number e = option_map_or (λ x. x.number == number) e false
+is_under number e = has (λ x. x.number == number) e
 
 abbrev pub cancelled : ℕ → ℕ → ℕ → Act
 cancelled d number t = where_so (λ k. is_under number (k.expects d t)) (expect d t None)
@@ -108,14 +108,14 @@ taking_over line c d number t = change_mission t (claimed d number) >> yield_if_
 abbrev pub may_arrive : Line → ℕ → Centre → ℕ → ℕ → ℕ → ℕ → Bool
 may_arrive line c k d t track s =
     if is_home line c s then is_out_for t d (k.book s)
-    else option_map_or (λ p. is_linked line c p.home && not (option_map_or (λ n. n == p.home) (next_centre line c track) false)) (section line s) false
+    else has (λ p. is_linked line c p.home && not (has (λ n. n == p.home) (next_centre line c track))) (section line s)
 
 -- a handover is taken under the number that was announced, after this centre said that it takes over, where neither mission
 -- nor right are here, the hand is a run of the place's track, and the place's group is of that track and not behind its front
 abbrev pub may_take : Line → ℕ → Centre → ℕ → ℕ → ℕ → Place → Run → Bool
 may_take line c k d number t place hand =
-    (option_map_or (λ e. (e.number == number) && e.is_taking) (k.expects d t) false && (is_none (k.mission t) && not (k.has_right t)))
-    && ((is_on_track line place.track hand && option_map_or (is_on line place.track) (section_of_group line place.group) false)
+    (has (λ e. (e.number == number) && e.is_taking) (k.expects d t) && (is_none (k.mission t) && not (k.has_right t)))
+    && ((is_on_track line place.track hand && has (is_on line place.track) (section_of_group line place.group))
     && (nat_le (10 * group_start line place) place.front && all_of (may_arrive line c k d t place.track) hand))
 
 -- own sections become claims, the mission goes on here, the later of both stamps is kept, and the expectation ends; then the

@@ -1,7 +1,8 @@
 -- What a centre's step reads of a train's message and what it says to a train (8.6, 8.7), without the layout of packets.
 -- T_TRAIN of a train's message is the train's clock as it was sent; that of a track message counts, from 1, the
 -- messages that the centre has said to the train (profile).
-use Rattle.std.specs.Prelude.{ℕ, Bool}
+use Rattle.std.specs.Prelude.{ℕ, Bool, Option, nat_le}
+use Rattle.rbc_spec.specs.Maps.{has}
 use Rattle.rbc_spec.specs.Place.{Position}
 
 pub data TrainBody : Type 0 where
@@ -20,6 +21,10 @@ pub record TrainMessage : Type 0 where
   pub t_train : ℕ
   pub nid_engine : ℕ
   pub body : TrainBody
+
+-- T_TRAIN is not above the last that was heard: the message came late or again (3.16.3)
+abbrev pub is_stale : ℕ → Option ℕ → Bool
+is_stale stamp heard = has (λ last. nat_le stamp last) heard
 
 pub data TrackBody : Type 0 where
   Authority : (l_endsection : ℕ) → TrackBody  -- 3 Movement Authority: its end, in metres from the group (3.8)

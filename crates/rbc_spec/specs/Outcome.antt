@@ -1,6 +1,6 @@
 -- What a step of a centre answers.
-use Rattle.std.specs.Prelude.{ℕ, List, Option}
-use Rattle.rbc_spec.specs.Message.{TrackMessage}
+use Rattle.std.specs.Prelude.{ℕ, List, [], ◌∷◌, Option}
+use Rattle.rbc_spec.specs.Message.{TrackMessage, TrainBody, TrainData, Request, Report, ShorteningGranted, ShorteningRejected, EndOfMission, InitiationOfSession, TerminationOfSession, StartOfMission, SessionEstablished}
 use Rattle.rbc_spec.specs.Frame.{Frame}
 
 -- why a train's message is not answered, by the number that is printed (profile)
@@ -15,6 +15,20 @@ pub data Reason : Type 0 where
   Unasked : Reason  -- 8 it answers no request that stands
   MissionEnded : Reason  -- 9 the mission is ended
   WrongPhase : Reason  -- 10 the session is not in the phase for it
+
+-- the reasons for which a message may be left without an answer, in the order in which they are looked for
+abbrev pub reasons_of : TrainBody → List Reason
+reasons_of InitiationOfSession = ForeignEngine ∷ StaleStamp ∷ []
+reasons_of SessionEstablished = ForeignEngine ∷ StaleStamp ∷ NoSession ∷ WrongPhase ∷ []
+reasons_of TerminationOfSession = ForeignEngine ∷ StaleStamp ∷ NoSession ∷ []
+reasons_of (StartOfMission is_valid position) = ForeignEngine ∷ StaleStamp ∷ NoSession ∷ WrongPhase ∷ []
+reasons_of (TrainData position) = ForeignEngine ∷ StaleStamp ∷ NoSession ∷ WrongPhase ∷ NotSupervised ∷ MissionEnded ∷ []
+reasons_of (Request position) =
+    ForeignEngine ∷ StaleStamp ∷ NoSession ∷ WrongPhase ∷ NotSupervised ∷ MissionEnded ∷ NoTrainData ∷ ProposalPending ∷ NoPlace ∷ []
+reasons_of (Report position) = ForeignEngine ∷ StaleStamp ∷ NoSession ∷ WrongPhase ∷ NotSupervised ∷ NoPlace ∷ []
+reasons_of (ShorteningGranted stamp position) = ForeignEngine ∷ StaleStamp ∷ NoSession ∷ WrongPhase ∷ NotSupervised ∷ Unasked ∷ []
+reasons_of (ShorteningRejected stamp position) = ForeignEngine ∷ StaleStamp ∷ NoSession ∷ WrongPhase ∷ NotSupervised ∷ Unasked ∷ []
+reasons_of (EndOfMission position) = ForeignEngine ∷ StaleStamp ∷ NoSession ∷ WrongPhase ∷ NotSupervised ∷ MissionEnded ∷ []
 
 -- a message to a train
 pub record Saying : Type 0 where

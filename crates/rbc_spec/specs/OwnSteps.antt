@@ -3,14 +3,13 @@
 use Rattle.std.specs.Prelude.{◌≡◌, ◌+◌, ◌-◌, ◌*◌, ◌≤◌, ◌⊎◌, ℕ, List, [], ◌∷◌, Bool, true, false, ◌&&◌, ◌||◌, not, if◌then◌else◌, Option, Some, None, option_map, nat_le, nat_lt, MatchBool}
 use Rattle.std.specs.Option.{option_map_or}
 use Rattle.rbc_spec.specs.Maps.{put, put_pair}
-use Rattle.rbc_spec.specs.Runs.{Run, within, behind}
+use Rattle.rbc_spec.specs.Runs.{Run, most_in_hand, within, behind, all_of}
 use Rattle.rbc_spec.specs.Line.{Line, is_home, end}
 use Rattle.rbc_spec.specs.Sections.{is_on}
-use Rattle.rbc_spec.specs.Place.{Place, covered, is_cleared, group_start}
+use Rattle.rbc_spec.specs.Place.{Place, covered, is_cleared, group_start, farthest, has_room, fit_place, place_on}
 use Rattle.rbc_spec.specs.Message.{TrainMessage, TrainBody, TrainData, Request, Report, ShorteningGranted, ShorteningRejected, EndOfMission, InitiationOfSession, TerminationOfSession, StartOfMission, SessionEstablished, TrackBody, Authority, DataAcknowledged, SystemVersion, TerminationAcknowledged, TrainRejected, TrainAccepted, unknown_group}
 use Rattle.rbc_spec.specs.Outcome.{Word, Done, Asked, NotHome}
 use Rattle.rbc_spec.specs.Centre.{Phase, Silent, Opened, Up, is_registrar_of}
-use Rattle.rbc_spec.specs.Rules.{fit_place, place_on, all_of}
 use Rattle.rbc_spec.specs.LineCentre.{LineState, Mark, Shut, Open, Kept, Given, Mission, At, is_given_to, is_kept_for, is_mark_open, IsHand, is_at, supervises, is_waiting_at, is_waiting, free, told, mark_all, release, set_mission, change_mission, close_if_empty, saying_of, says, Said, nothing}
 
 -- centre c says one message, and these words come out
@@ -99,8 +98,8 @@ Starts line t c (Some place) v said new = MatchBool (supervises v c t) (Restarts
 pub data Ends (line : Line) (v : LineState) (c : ℕ) (place : Place) (hand : Run) : Type 0 where
   off_track : is_on line place.track (behind hand) ≡ false → Ends line v c place hand
   not_free : (is_home line c (behind hand) && is_mark_open (v.mark (behind hand))) ≡ false → Ends line v c place hand
-  full : hand.count ≡ 32 → Ends line v c place hand
-  too_far : nat_le (end line (behind hand)) (group_start line place + 32767) ≡ false → Ends line v c place hand
+  full : hand.count ≡ most_in_hand → Ends line v c place hand
+  too_far : has_room line place (end line (behind hand)) ≡ false → Ends line v c place hand
 
 -- a section by which the hand is extended: released with home c, or kept for the train and no start waits for it
 abbrev pub may_be_given : Line → LineState → ℕ → ℕ → ℕ → Bool
@@ -113,8 +112,8 @@ pub record Extends (line : Line) (v : LineState) (t c : ℕ) (place : Place) (sa
   pub is_hand : IsHand v t hand
   pub each : all_of (λ s. may_be_given line v c t s && is_on line place.track s) (record { first = behind hand; count = count }) ≡ true
   pub ends : Ends line v c place (record { first = hand.first; count = hand.count + count })
-  pub room : hand.count + count ≤ 32
-  pub within_reach : end line (behind hand + count - 1) ≤ group_start line place + 32767
+  pub room : hand.count + count ≤ most_in_hand
+  pub within_reach : end line (behind hand + count - 1) ≤ group_start line place + farthest
   pub says_it : Says t c place.group (Authority (end line (behind hand + count - 1) - group_start line place)) [] v
       (change_mission t (λ m. record m { place = place }) (mark_all (within (record { first = behind hand; count = count })) (Given t) v)) said new
 

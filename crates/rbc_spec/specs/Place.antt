@@ -1,7 +1,8 @@
 -- Where a position report places a train on the line (3.6). The formulas of the fronts and the rear are the profile's.
-use Rattle.std.specs.Prelude.{ℕ, ◌+◌, ◌*◌, ◌==◌, Bool, false, ◌&&◌, if◌then◌else◌, Option, None, option_map, option_and_then, nat_lt, nat_le, ℤ, pos, ◌-ℤ◌, int_lt, int_le}
+use Rattle.std.specs.Prelude.{ℕ, ◌+◌, ◌*◌, ◌==◌, Bool, ◌&&◌, if◌then◌else◌, Option, Some, None, option_map, option_and_then, nat_lt, nat_le, ℤ, pos, ◌-ℤ◌, int_lt, int_le}
 use Rattle.std.specs.Option.{option_map_or}
-use Rattle.rbc_spec.specs.Runs.{Run}
+use Rattle.rbc_spec.specs.Maps.{has}
+use Rattle.rbc_spec.specs.Runs.{Run, most_in_hand}
 use Rattle.rbc_spec.specs.Line.{Line, Section, section, section_of_group, start, end}
 use Rattle.rbc_spec.specs.Sections.{is_on, run_where, track_end}
 
@@ -27,9 +28,13 @@ pub record Place : Type 0 where
   pub front : ℕ
   pub rear : Option ℤ
 
+-- D_LRBG and a doubt where they are not known (7.5)
+abbrev pub unknown_distance : ℕ
+unknown_distance = 32767
+
 -- a distance or doubt that is known
 abbrev pub is_known : ℕ → Bool
-is_known distance = nat_lt distance 32767
+is_known distance = nat_lt distance unknown_distance
 
 -- a report places its train where it runs in level 2 in the line's direction and each distance is known
 abbrev pub has_place : Position → Bool
@@ -65,7 +70,7 @@ is_placed_on track place = place.track == track
 abbrev pub covers : Line → Place → ℕ → Bool
 covers line place s =
     (is_on line place.track s && nat_lt (10 * start line s) place.front)
-    && option_map_or (λ rear. int_lt rear (pos (10 * end line s))) place.rear false
+    && has (λ rear. int_lt rear (pos (10 * end line s))) place.rear
 
 -- the sections that the place covers
 abbrev pub covered : Line → Place → Run
@@ -77,14 +82,34 @@ has_front line place s = (is_on line place.track s && nat_lt (10 * start line s)
 
 -- the section ends at or before the safe rear end: the train has cleared it
 abbrev pub is_cleared : Line → Place → ℕ → Bool
-is_cleared line place s = option_map_or (λ rear. int_le (pos (10 * end line s)) rear) place.rear false
+is_cleared line place s = has (λ rear. int_le (pos (10 * end line s)) rear) place.rear
 
 -- the start of the section whose group the place names, in metres
 abbrev pub group_start : Line → Place → ℕ
 group_start line place = option_map_or (λ s. start line s) (section_of_group line place.group) 0
 
--- a place of a start of mission: rear and front lie on the track, in this order, and at most 32 sections are covered
+-- the farthest that L_ENDSECTION and D_RBCTR can say, in metres from the group
+abbrev pub farthest : ℕ
+farthest = 32767
+
+-- so many metres from the start of the track are no farther than that from the group of the place
+abbrev pub has_room : Line → Place → ℕ → Bool
+has_room line place metres = nat_le metres (group_start line place + farthest)
+
+-- a place of a start of mission: rear and front lie on the track, in this order, and it covers no more sections than a hand has
 abbrev pub is_fit : Line → Place → Bool
 is_fit line place =
-    option_map_or (λ rear. int_le (pos 0) rear && int_lt rear (pos place.front)) place.rear false
-    && (nat_le place.front (10 * track_end line place.track) && nat_le (covered line place).count 32)
+    has (λ rear. int_le (pos 0) rear && int_lt rear (pos place.front)) place.rear
+    && (nat_le place.front (10 * track_end line place.track) && nat_le (covered line place).count most_in_hand)
+
+-- ## The place that a report is taken at
+
+-- the place of a report, where it is on the track
+abbrev pub place_on : Line → ℕ → Position → Option Place
+place_on line track position =
+    option_map_or (λ place. if place.track == track then Some place else None) (extent line position) None
+
+-- the place of a start of mission, where it is valid and fit
+abbrev pub fit_place : Line → Bool → Position → Option Place
+fit_place line is_valid position =
+    option_map_or (λ place. if is_valid && is_fit line place then Some place else None) (extent line position) None

@@ -4,12 +4,11 @@ use Rattle.std.specs.List.{Contains, flat_map, count_by}
 use Rattle.std.specs.Option.{option_map_or}
 use Rattle.rbc_spec.specs.Runs.{Run, within}
 use Rattle.rbc_spec.specs.Line.{Line, is_home, end, registrar}
-use Rattle.rbc_spec.specs.Place.{Place, Position, covered, is_cleared}
+use Rattle.rbc_spec.specs.Place.{Place, Position, covered, is_cleared, place_on}
 use Rattle.rbc_spec.specs.Message.{TrainMessage, Report, EndOfMission, ShorteningGranted}
 use Rattle.rbc_spec.specs.Outcome.{Outcome, Told, Done}
 use Rattle.rbc_spec.specs.Frame.{Frame, Body, GiveRight, ReturnRight, RouteInfo, RouteReturn, Yield}
 use Rattle.rbc_spec.specs.Centre as centre
-use Rattle.rbc_spec.specs.Rules.{place_on}
 use Rattle.rbc_spec.specs.Step as step
 use Rattle.rbc_spec.specs.World.{World, Event, Bytes, Unset, Answer, Answered}
 use Rattle.rbc_spec.specs.ReadOff.{IsOnTheWay, Carries, IsGiven, StandsFor, read_off, centres_of, frames_on_way, all_held}

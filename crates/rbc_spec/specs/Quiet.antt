@@ -7,7 +7,7 @@ use Rattle.rbc_spec.specs.Maps.{put_pair}
 use Rattle.rbc_spec.specs.Runs.{Run, within}
 use Rattle.rbc_spec.specs.Line.{Line, is_home, start, next_centre}
 use Rattle.rbc_spec.specs.Sections.{nid_rbc}
-use Rattle.rbc_spec.specs.Place.{Place, group_start}
+use Rattle.rbc_spec.specs.Place.{Place, group_start, farthest}
 use Rattle.rbc_spec.specs.Message.{ShorteningRequest, Transition, EndSession, TrainAccepted, TrainRejected, unknown_group}
 use Rattle.rbc_spec.specs.Centre.{Up}
 use Rattle.rbc_spec.specs.LineCentre.{LineState, Open, Kept, Mission, At, Parted, is_given_to, IsHand, is_waiting_at, is_waiting, free, told, set_mission, change_mission, Said, nothing}
@@ -81,7 +81,7 @@ pub record Proposes (line : Line) (v : LineState) (t c s : ℕ) (said : Said) (n
   pub in_hand : within hand s ≡ true
   pub not_first : hand.first < s
   pub not_past : mission.place.front ≤ 10 * start line s
-  pub within_reach : start line s ≤ group_start line mission.place + 32767
+  pub within_reach : start line s ≤ group_start line mission.place + farthest
   pub says : Says t c mission.place.group (ShorteningRequest (start line s - group_start line mission.place)) [] v
       (change_mission t (λ m. record m { proposal = Some (record { stamp = v.said t c + 1; last_kept = s - 1 }) }) v) said new
 
@@ -98,7 +98,7 @@ pub record Orders (line : Line) (v : LineState) (t c : ℕ) (said : Said) (new :
   pub at_border : is_given_to t (v.mark border) && is_home line next border ≡ true
   pub first_there : (s : ℕ) → s < border → (is_given_to t (v.mark s) && is_home line next s) ≡ false
   pub ahead : group_start line mission.place ≤ start line border
-  pub within_reach : start line border ≤ group_start line mission.place + 32767
+  pub within_reach : start line border ≤ group_start line mission.place + farthest
   pub says : Says t c mission.place.group (Transition (start line border - group_start line mission.place) line.nid_c (nid_rbc line next)) [] v v said new
 
 -- message 24 with packet 42: the train is not supervised here and has no section of home c

@@ -1,7 +1,8 @@
 -- When a state of the one line centre stands for a world of centres.
-use Rattle.std.specs.Prelude.{◌≡◌, ◌⊎◌, ◌≤◌, ℕ, List, ◌++◌, ◌==◌, length, map, slice_get, Bool, true, false, Option, Some, None, option_map, if◌then◌else◌}
+use Rattle.std.specs.Prelude.{◌≡◌, ◌⊎◌, ◌≤◌, ℕ, List, ◌++◌, ◌==◌, length, map, slice_get, Bool, true, Option, Some, None, option_map, if◌then◌else◌}
 use Rattle.std.specs.List.{Contains, filter_map, find, flat_map, range_with_len}
 use Rattle.std.specs.Option.{option_map_or}
+use Rattle.rbc_spec.specs.Maps.{has}
 use Rattle.rbc_spec.specs.Runs.{Run, within}
 use Rattle.rbc_spec.specs.Line.{Line, is_home, section}
 use Rattle.rbc_spec.specs.Place.{Place}
@@ -110,7 +111,7 @@ held line w t = slice_get (all_held line w t) 0
 
 -- the train whose hand has the section
 abbrev pub holder : Line → World → ℕ → Option ℕ
-holder line w s = find (λ t. option_map_or (λ h. within h.hand s) (held line w t) false) (map (λ p. p.nid_engine) line.trains)
+holder line w s = find (λ t. has (λ h. within h.hand s) (held line w t)) (map (λ p. p.nid_engine) line.trains)
 
 -- a section in a hand is given; another is kept for the train that it is taken or out for, or is as the book has it
 abbrev pub mark_of : Option ℕ → centre.Entry → Mark
@@ -124,7 +125,7 @@ mark_of None (centre.Out t d) = Kept t
 unfoldable pub read_off : Line → World → LineState
 read_off line w = record {
   mark = λ s. option_map_or (λ p. mark_of (holder line w s) ((w.at p.home).book s)) (section line s) Shut;
-  wish = λ s. option_map_or (λ p. (w.at p.home).wish s) (section line s) false;
+  wish = λ s. has (λ p. (w.at p.home).wish s) (section line s);
   phase = λ t c. (w.at c).phase t;
   heard = λ t c. (w.at c).heard t;
   said = λ t c. (w.at c).said t;

@@ -1,18 +1,17 @@
 -- What a centre does with each event, act by act.
-use Rattle.std.specs.Prelude.{ℕ, ◌+◌, ◌-◌, ◌*◌, ◌==◌, Bool, true, false, ◌&&◌, ◌||◌, not, if◌then◌else◌, [], ◌∷◌, Option, Some, None, is_none, nat_lt, nat_le, option_map}
+use Rattle.std.specs.Prelude.{ℕ, ◌+◌, ◌-◌, ◌*◌, ◌==◌, Bool, true, false, ◌&&◌, ◌||◌, not, if◌then◌else◌, [], ◌∷◌, Some, None, is_none, nat_lt, nat_le, option_map}
 use Rattle.std.specs.Option.{option_map_or}
-use Rattle.std.specs.List.{list_all, range_with_len}
-use Rattle.rbc_spec.specs.Maps.{put}
+use Rattle.rbc_spec.specs.Maps.{has, put}
 use Rattle.rbc_spec.specs.Reach.{Reach, crosses_borders}
-use Rattle.rbc_spec.specs.Runs.{Run, no_run, within, behind, is_empty, part_before, part_from, joined, longest, passing}
+use Rattle.rbc_spec.specs.Runs.{Run, no_run, most_in_hand, within, behind, is_empty, part_before, part_from, joined, longest, passing, all_of}
 use Rattle.rbc_spec.specs.Line.{Line, is_centre, is_home, end, next_centre, registrar}
 use Rattle.rbc_spec.specs.Sections.{is_on}
-use Rattle.rbc_spec.specs.Place.{Place, Position, extent, is_fit, covered, is_cleared, group_start}
+use Rattle.rbc_spec.specs.Place.{Place, Position, covered, is_cleared, group_start, has_room, place_on, fit_place}
 use Rattle.rbc_spec.specs.Message.{TrainMessage, TrainBody, TrainData, Request, Report, ShorteningGranted, ShorteningRejected, EndOfMission, InitiationOfSession, TerminationOfSession, StartOfMission, SessionEstablished, Authority, DataAcknowledged, SystemVersion, TerminationAcknowledged, TrainRejected, TrainAccepted, unknown_group}
 use Rattle.rbc_spec.specs.Frame.{AskRight, TakingOver}
 use Rattle.rbc_spec.specs.Outcome.{Word}
 use Rattle.rbc_spec.specs.Centre.{Centre, Taken, Phase, Silent, Opened, Up, Mission, Proposal, Expectation, is_open, is_taken_for, is_free, is_registrar_of}
-use Rattle.rbc_spec.specs.Acts.{Act, become, rest, ◌>>◌, where_so, with_some, send, say, booked, freed, leave, set_mission, change_mission, return_pool, cancel, close, begun, part_at, announce, ask_route, yield_if_due}
+use Rattle.rbc_spec.specs.Acts.{Act, become, rest, ◌>>◌, where_so, with_some, with_mission, send, say, booked, freed, leave, set_mission, change_mission, return_pool, cancel, close, begun, part_at, announce, ask_route, yield_if_due}
 
 -- a word to the interlocking
 abbrev pub tell : Word → Act
@@ -21,11 +20,6 @@ tell word k = record { state = k; frames = λ d. []; sayings = []; words = word 
 -- one act or another
 abbrev pub choose : (Centre → Bool) → Act → Act → Act
 choose test yes_act no_act k = if test k then yes_act k else no_act k
-
--- the place of a report, where it is on the track
-abbrev pub place_on : Line → ℕ → Position → Option Place
-place_on line track position =
-    option_map_or (λ place. if place.track == track then Some place else None) (extent line position) None
 
 -- ## Sessions (3.5.3, 3.5.5)
 
@@ -49,15 +43,6 @@ accept t = say t unknown_group TrainAccepted
 
 abbrev pub reject : ℕ → Act
 reject t = say t unknown_group TrainRejected
-
--- the place of a start that is fit
-abbrev pub fit_place : Line → Bool → Position → Option Place
-fit_place line is_valid position =
-    option_map_or (λ place. if is_valid && is_fit line place then Some place else None) (extent line position) None
-
--- all sections of the run pass the test
-abbrev pub all_of : (ℕ → Bool) → Run → Bool
-all_of test r = list_all test (range_with_len r.first r.count)
 
 -- a start within the train's hand: the mission goes on from the new place, and its train data have to come again
 abbrev pub restart : Line → ℕ → Place → Mission → Act
@@ -109,23 +94,30 @@ authority line m = end line (behind m.hand - 1) - group_start line m.place
 -- the section may follow in the hand: on the track, released here or next in the pool, and its end has room in L_ENDSECTION
 abbrev pub may_follow : Line → ℕ → Centre → Mission → ℕ → Bool
 may_follow line c k m s =
-    (is_on line m.place.track s && (is_free line c k s || within m.pool s)) && nat_le (end line s) (group_start line m.place + 32767)
+    (is_on line m.place.track s && (is_free line c k s || within m.pool s)) && has_room line m.place (end line s)
 
--- the sections by which the hand is extended: as many as may follow, up to 32 in the hand
+-- the sections by which the hand is extended: as many as may follow, and as the hand has room for
 abbrev pub extension : Line → ℕ → Centre → Mission → Run
-extension line c k m = record { first = behind m.hand; count = longest (may_follow line c k m) (behind m.hand) (32 - m.hand.count) }
+extension line c k m = record { first = behind m.hand; count = longest (may_follow line c k m) (behind m.hand) (most_in_hand - m.hand.count) }
 
 -- the mission with a longer hand, and what is left of its pool
 abbrev pub extended_by : Run → Mission → Mission
 extended_by r m = record m { hand = joined m.hand r; pool = if is_empty m.pool then m.pool else part_from (behind r) m.pool }
 
--- what follows an extension at the border: the announcement of a handover, and a question for more sections
-abbrev pub at_border : Line → ℕ → ℕ → ℕ → Act
-at_border line c t d =
-    with_some (λ k. k.mission t) (λ m. where_so (λ k. is_none m.handing && not (is_empty (part_at line d m.place.track m.hand))) (announce line t m.place.group d m))
-    >> with_some (λ k. k.mission t) (λ m. where_so
-    (λ k. ((is_home line d (behind m.hand) && is_on line m.place.track (behind m.hand)) && nat_lt m.hand.count 32) && (is_empty m.pool && is_none (k.route_ask t)))
+-- a handover to centre d is announced where none stands and the hand has a section of home d
+abbrev pub announce_if_due : Line → ℕ → ℕ → Act
+announce_if_due line t d = with_mission t (λ m.
+    where_so (λ k. is_none m.handing && not (is_empty (part_at line d m.place.track m.hand))) (announce line t m.place.group d m))
+
+-- more sections are asked for where the next behind the hand is on the track and of home d, the hand has room, the pool is empty, and no ask stands
+abbrev pub ask_route_if_due : Line → ℕ → ℕ → Act
+ask_route_if_due line t d = with_mission t (λ m. where_so
+    (λ k. ((is_home line d (behind m.hand) && is_on line m.place.track (behind m.hand)) && nat_lt m.hand.count most_in_hand) && (is_empty m.pool && is_none (k.route_ask t)))
     (ask_route t d m))
+
+-- what follows an extension at the border to centre d
+abbrev pub at_border : Line → ℕ → ℕ → ℕ → Act
+at_border line c t d = announce_if_due line t d >> ask_route_if_due line t d
 
 abbrev pub grant : Reach → Line → ℕ → ℕ → Mission → Act
 grant reach line c t m k =
@@ -135,7 +127,7 @@ grant reach line c t m k =
     >> (if crosses_borders reach then option_map_or (at_border line c t) (next_centre line c m.place.track) rest else rest)) k
 
 abbrev pub request : Reach → Line → ℕ → ℕ → Position → Act
-request reach line c t position = with_some (λ k. k.mission t) (λ m.
+request reach line c t position = with_mission t (λ m.
     option_map_or (λ place. grant reach line c t (record m { place = place })) (place_on line m.place.track position) rest)
 
 -- ## Report (3.6.5)
@@ -161,7 +153,7 @@ taking e = record e { is_taking = true }
 -- each centre that announced the train and has not heard of it is told that this centre takes over
 abbrev pub take_over : Line → ℕ → Act
 take_over line t k =
-    let is_new : ℕ → Bool = λ d. is_centre line d && option_map_or (λ e. not e.is_taking) (k.expects d t) false in
+    let is_new : ℕ → Bool = λ d. is_centre line d && has (λ e. not e.is_taking) (k.expects d t) in
     record {
       state = record k { expects = λ d. if is_new d then put (k.expects d) t (option_map taking (k.expects d t)) else k.expects d };
       frames = λ d. option_map_or (λ e. if is_new d then TakingOver e.number t ∷ [] else []) (k.expects d t) [];
@@ -177,8 +169,8 @@ report line c t position k =
 
 abbrev pub end_mission : Line → ℕ → ℕ → Position → Act
 end_mission line c t position =
-    (with_some (λ k. k.mission t) (report_here line c t position)
-    >> with_some (λ k. k.mission t) (λ m. return_pool line c t m >> change_mission t (λ n. record n { is_ended = true; proposal = None })))
+    (with_mission t (report_here line c t position)
+    >> with_mission t (λ m. return_pool line c t m >> change_mission t (λ n. record n { is_ended = true; proposal = None })))
     >> yield_if_due line c t
 
 -- ## Shortening (3.8.6)
@@ -203,7 +195,7 @@ granted line c t position m p =
     >> yield_if_due line c t
 
 abbrev pub answer_granted : Line → ℕ → ℕ → Position → Act
-answer_granted line c t position = with_some (λ k. k.mission t) (λ m. with_some (λ k. m.proposal) (granted line c t position m))
+answer_granted line c t position = with_mission t (λ m. with_some (λ k. m.proposal) (granted line c t position m))
 
 -- ## A train's message
 

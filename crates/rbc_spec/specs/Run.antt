@@ -2,14 +2,13 @@
 use Rattle.std.specs.Prelude.{◌≡◌, ◌⊎◌, ◌<◌, ℕ, List, [], ◌∷◌, slice_get, Bool, true, false, Option, Some, None, is_none, is_some, Ok, Err, ◌&&◌, ◌||◌, not, ◌==◌, ◌+◌, ◌*◌, nat_le}
 use Rattle.std.specs.Option.{option_map_or}
 use Rattle.std.specs.List.{find, list_all, list_any, range_with_len}
+use Rattle.rbc_spec.specs.Maps.{has}
 use Rattle.rbc_spec.specs.Line.{Line, is_centre, train_number, is_home, end}
 use Rattle.rbc_spec.specs.Sections.{section_count}
-use Rattle.rbc_spec.specs.Place.{Position, extent, has_front, group_start}
-use Rattle.rbc_spec.specs.Message.{TrainMessage, TrainBody, Request, Report, ShorteningGranted, ShorteningRejected, StartOfMission, SessionEstablished}
-use Rattle.rbc_spec.specs.Outcome.{Outcome, Word, Told, Reason, StaleStamp, NoSession, ForeignEngine, NoPlace, NotSupervised, NoTrainData, ProposalPending, Unasked, MissionEnded, WrongPhase}
-use Rattle.rbc_spec.specs.Centre.{is_up}
-use Rattle.rbc_spec.specs.Rules.{place_on}
-use Rattle.rbc_spec.specs.Step.{is_stale, is_silent, reasons_of}
+use Rattle.rbc_spec.specs.Place.{Position, extent, has_front, has_room, place_on}
+use Rattle.rbc_spec.specs.Message.{TrainMessage, TrainBody, Request, Report, ShorteningGranted, ShorteningRejected, StartOfMission, SessionEstablished, is_stale}
+use Rattle.rbc_spec.specs.Outcome.{Outcome, Word, Told, Reason, StaleStamp, NoSession, ForeignEngine, NoPlace, NotSupervised, NoTrainData, ProposalPending, Unasked, MissionEnded, WrongPhase, reasons_of}
+use Rattle.rbc_spec.specs.Centre.{is_up, is_silent}
 use Rattle.rbc_spec.specs.LineCentre.{LineState, Mission, is_at, is_given_to, hears, Said, nothing}
 use Rattle.rbc_spec.specs.OwnSteps.{Own, Sets, Unsets}
 use Rattle.rbc_spec.specs.Quiet.{Quiet, is_of_centre, TakesAll, both}
@@ -19,12 +18,12 @@ use Rattle.rbc_spec.specs.World.{Event, Bytes, Set, Unset, Delivery, centre_of, 
 
 -- centre c supervises the train, and its mission passes the test
 abbrev pub has_here : LineState → ℕ → ℕ → (Mission → Bool) → Bool
-has_here v c t test = option_map_or (λ m. is_at c m.supervisor && test m) (v.mission t) false
+has_here v c t test = has (λ m. is_at c m.supervisor && test m) (v.mission t)
 
 -- the front of the report's place is in a section of home c
 abbrev pub has_front_at : Line → ℕ → Position → Bool
 has_front_at line c position =
-    option_map_or (λ place. list_any (λ s. is_home line c s && has_front line place s) (range_with_len 0 (section_count line))) (extent line position) false
+    has (λ place. list_any (λ s. is_home line c s && has_front line place s) (range_with_len 0 (section_count line))) (extent line position)
 
 -- the last section of a train's hand, or none
 abbrev pub last_of_hand : Line → LineState → ℕ → Option ℕ
@@ -33,12 +32,12 @@ last_of_hand line v t = find (λ s. is_given_to t (v.mark s) && not (is_given_to
 -- the report has a place on the mission's track, not past the hand's end, which has room in L_ENDSECTION
 abbrev pub may_request_at : Line → LineState → ℕ → Mission → Position → Bool
 may_request_at line v t m position = option_map_or
-    (λ place. option_map_or (λ s. nat_le place.front (10 * end line s) && nat_le (end line s) (group_start line place + 32767)) (last_of_hand line v t) false)
+    (λ place. has (λ s. nat_le place.front (10 * end line s) && has_room line place (end line s)) (last_of_hand line v t))
     (place_on line m.place.track position) false
 
 -- the answer names the request that stands
 abbrev pub answers_it : ℕ → Mission → Bool
-answers_it stamp m = option_map_or (λ p. p.stamp == stamp) m.proposal false
+answers_it stamp m = has (λ p. p.stamp == stamp) m.proposal
 
 -- the reason holds of a message at centre c. A report elsewhere may have it that the train is not supervised here, and has it
 -- where its front is in no section of home c (Silenced)

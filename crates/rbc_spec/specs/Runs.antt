@@ -1,5 +1,6 @@
 -- Runs of sections: a hand, a pool, and each frame that names sections, is a first section and how many follow it.
 use Rattle.std.specs.Prelude.{ℕ, zero, suc, ◌+◌, ◌-◌, ◌==◌, Bool, ◌&&◌, List, [], ◌∷◌, length, if◌then◌else◌, min, max, nat_lt, nat_le}
+use Rattle.std.specs.List.{list_all, range_with_len}
 
 pub record Run : Type 0 where
   pub first : ℕ
@@ -7,6 +8,10 @@ pub record Run : Type 0 where
 
 abbrev pub no_run : Run
 no_run = record { first = 0; count = 0 }
+
+-- a hand has at most so many sections (profile)
+abbrev pub most_in_hand : ℕ
+most_in_hand = 32
 
 -- consecutive numbers as a run
 abbrev pub run_of : List ℕ → Run
@@ -16,6 +21,10 @@ run_of (s ∷ ss) = record { first = s; count = length ss + 1 }
 -- the section is one of the run
 unfoldable pub within : Run → ℕ → Bool
 within r s = nat_le r.first s && nat_lt s (r.first + r.count)
+
+-- all sections of the run pass the test
+abbrev pub all_of : (ℕ → Bool) → Run → Bool
+all_of test r = list_all test (range_with_len r.first r.count)
 
 -- the first number behind the run
 abbrev pub behind : Run → ℕ

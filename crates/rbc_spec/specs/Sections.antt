@@ -1,7 +1,8 @@
 -- Sections of the line by their numbers, and as runs.
-use Rattle.std.specs.Prelude.{ℕ, ◌==◌, Bool, false, ◌&&◌, length, slice_get}
+use Rattle.std.specs.Prelude.{ℕ, ◌==◌, Bool, ◌&&◌, length, slice_get}
 use Rattle.std.specs.List.{list_all, filter, sum_by, range_with_len}
 use Rattle.std.specs.Option.{option_map_or}
+use Rattle.rbc_spec.specs.Maps.{has}
 use Rattle.rbc_spec.specs.Line.{Line, section, is_home}
 use Rattle.rbc_spec.specs.Runs.{Run, run_of}
 
@@ -15,7 +16,7 @@ section_count line = length line.sections
 
 -- the section is of the line, and of this track
 abbrev pub is_on : Line → ℕ → ℕ → Bool
-is_on line track s = option_map_or (λ p. p.track == track) (section line s) false
+is_on line track s = has (λ p. p.track == track) (section line s)
 
 -- the sections of the line that pass a test, as a run: the first, and how many they are
 abbrev pub run_where : Line → (ℕ → Bool) → Run

@@ -2,18 +2,18 @@
 use Rattle.std.specs.Prelude.{ℕ, ◌+◌, ◌-◌, ◌*◌, ◌==◌, Bool, true, false, ◌&&◌, ◌||◌, not, if◌then◌else◌, List, [], ◌∷◌, ◌++◌, length, max, Option, Some, None, is_some, is_none, nat_lt, nat_le, Result, Ok, Err}
 use Rattle.std.specs.Option.{option_map_or}
 use Rattle.std.specs.List.{find, list_any, range_with_len}
-use Rattle.rbc_spec.specs.Maps.{put}
+use Rattle.rbc_spec.specs.Maps.{has, put}
 use Rattle.rbc_spec.specs.Reach.{Reach}
 use Rattle.rbc_spec.specs.Runs.{behind}
 use Rattle.rbc_spec.specs.Line.{Line, is_home, is_linked, end, train_number}
 use Rattle.rbc_spec.specs.Sections.{section_count}
-use Rattle.rbc_spec.specs.Place.{Position, extent, has_front, group_start}
-use Rattle.rbc_spec.specs.Message.{TrainMessage, TrainBody, TrainData, Request, Report, ShorteningGranted, ShorteningRejected, EndOfMission, InitiationOfSession, TerminationOfSession, StartOfMission, SessionEstablished}
+use Rattle.rbc_spec.specs.Place.{Position, extent, has_front, has_room, place_on}
+use Rattle.rbc_spec.specs.Message.{TrainMessage, TrainBody, Request, Report, ShorteningGranted, ShorteningRejected, StartOfMission, SessionEstablished, is_stale}
 use Rattle.rbc_spec.specs.Frame.{Frame, Body, RouteWithdraw}
-use Rattle.rbc_spec.specs.Outcome.{Reason, StaleStamp, NoSession, ForeignEngine, NoPlace, NotSupervised, NoTrainData, ProposalPending, Unasked, MissionEnded, WrongPhase, Outcome, Done, Asked, NotHome, Taken as LinkAnswer, Next, Old, Early, NoLink}
-use Rattle.rbc_spec.specs.Centre.{Centre, Entry, Shut, Open, Taken, Out, Phase, Silent, Opened, Up, Mission, is_up, is_unused, is_expected}
+use Rattle.rbc_spec.specs.Outcome.{Reason, reasons_of, StaleStamp, NoSession, ForeignEngine, NoPlace, NotSupervised, NoTrainData, ProposalPending, Unasked, MissionEnded, WrongPhase, Outcome, Done, Asked, NotHome, Taken as LinkAnswer, Next, Old, Early, NoLink}
+use Rattle.rbc_spec.specs.Centre.{Centre, Entry, Shut, Open, Taken, Out, Mission, is_silent, is_up, is_unused, is_expected}
 use Rattle.rbc_spec.specs.Acts.{Act, Reply, become, rest, ◌>>◌, send, hear, propose_if_so}
-use Rattle.rbc_spec.specs.Rules.{tell, answered, place_on}
+use Rattle.rbc_spec.specs.Rules.{tell, answered}
 use Rattle.rbc_spec.specs.Links.{received}
 
 -- what a step takes: a train's message, a set or an unset of the interlocking, or a frame of another centre
@@ -25,27 +25,18 @@ pub data Event : Type 0 where
 
 -- ## Silence
 
--- T_TRAIN is not above the last that was heard: the message came late or again (3.16.3)
-abbrev pub is_stale : ℕ → Option ℕ → Bool
-is_stale stamp heard = option_map_or (λ last. nat_le stamp last) heard false
-
-abbrev pub is_silent : Phase → Bool
-is_silent Silent = true
-is_silent Opened = false
-is_silent Up = false
-
 abbrev pub mission_has : (Mission → Bool) → Option Mission → Bool
-mission_has test mission = option_map_or test mission false
+mission_has test mission = has test mission
 
 -- a report elsewhere concerns this centre: the train is expected, and its front is in a section of home c
 abbrev pub is_awaited : Line → ℕ → Centre → ℕ → Position → Bool
 is_awaited line c k t position = is_expected line k t
-    && option_map_or (λ place. list_any (λ s. is_home line c s && has_front line place s) (range_with_len 0 (section_count line))) (extent line position) false
+    && has (λ place. list_any (λ s. is_home line c s && has_front line place s) (range_with_len 0 (section_count line))) (extent line position)
 
 -- a request has a place on the mission's track, not past the hand's end, which has room in L_ENDSECTION
 abbrev pub may_request : Line → Mission → Position → Bool
 may_request line m position = option_map_or
-    (λ place. nat_le place.front (10 * end line (behind m.hand - 1)) && nat_le (end line (behind m.hand - 1)) (group_start line place + 32767))
+    (λ place. nat_le place.front (10 * end line (behind m.hand - 1)) && has_room line place (end line (behind m.hand - 1)))
     (place_on line m.place.track position) false
 
 -- the train is not supervised here, and its message does not concern this centre otherwise
@@ -67,8 +58,8 @@ is_out_of_phase k t body = not (is_up (k.phase t))
 
 -- the request that is answered does not stand
 abbrev pub is_unasked : Option Mission → TrainBody → Bool
-is_unasked mission (ShorteningGranted stamp position) = not (mission_has (λ m. option_map_or (λ p. p.stamp == stamp) m.proposal false) mission)
-is_unasked mission (ShorteningRejected stamp position) = not (mission_has (λ m. option_map_or (λ p. p.stamp == stamp) m.proposal false) mission)
+is_unasked mission (ShorteningGranted stamp position) = not (mission_has (λ m. has (λ p. p.stamp == stamp) m.proposal) mission)
+is_unasked mission (ShorteningRejected stamp position) = not (mission_has (λ m. has (λ p. p.stamp == stamp) m.proposal) mission)
 is_unasked mission body = false
 
 -- the reason holds of the message
@@ -83,20 +74,6 @@ holds line c k m ProposalPending = mission_has (λ n. is_some n.proposal) (k.mis
 holds line c k m Unasked = is_unasked (k.mission m.nid_engine) m.body
 holds line c k m MissionEnded = mission_has (λ n. n.is_ended) (k.mission m.nid_engine)
 holds line c k m WrongPhase = is_out_of_phase k m.nid_engine m.body
-
--- the reasons for which a message may be left without an answer, in the order in which they are looked for
-abbrev pub reasons_of : TrainBody → List Reason
-reasons_of InitiationOfSession = ForeignEngine ∷ StaleStamp ∷ []
-reasons_of SessionEstablished = ForeignEngine ∷ StaleStamp ∷ NoSession ∷ WrongPhase ∷ []
-reasons_of TerminationOfSession = ForeignEngine ∷ StaleStamp ∷ NoSession ∷ []
-reasons_of (StartOfMission is_valid position) = ForeignEngine ∷ StaleStamp ∷ NoSession ∷ WrongPhase ∷ []
-reasons_of (TrainData position) = ForeignEngine ∷ StaleStamp ∷ NoSession ∷ WrongPhase ∷ NotSupervised ∷ MissionEnded ∷ []
-reasons_of (Request position) =
-    ForeignEngine ∷ StaleStamp ∷ NoSession ∷ WrongPhase ∷ NotSupervised ∷ MissionEnded ∷ NoTrainData ∷ ProposalPending ∷ NoPlace ∷ []
-reasons_of (Report position) = ForeignEngine ∷ StaleStamp ∷ NoSession ∷ WrongPhase ∷ NotSupervised ∷ NoPlace ∷ []
-reasons_of (ShorteningGranted stamp position) = ForeignEngine ∷ StaleStamp ∷ NoSession ∷ WrongPhase ∷ NotSupervised ∷ Unasked ∷ []
-reasons_of (ShorteningRejected stamp position) = ForeignEngine ∷ StaleStamp ∷ NoSession ∷ WrongPhase ∷ NotSupervised ∷ Unasked ∷ []
-reasons_of (EndOfMission position) = ForeignEngine ∷ StaleStamp ∷ NoSession ∷ WrongPhase ∷ NotSupervised ∷ MissionEnded ∷ []
 
 abbrev pub silence : Line → ℕ → Centre → TrainMessage → Option Reason
 silence line c k m = find (holds line c k m) (reasons_of m.body)

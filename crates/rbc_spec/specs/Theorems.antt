@@ -3,11 +3,10 @@ use Rattle.std.specs.Prelude.{◌≡◌, ℕ, List, [], ◌∷◌, true, Option,
 use Rattle.std.specs.List.{All}
 use Rattle.rbc_spec.specs.Line.{Line, IsLine}
 use Rattle.rbc_spec.specs.Reach.{Reach, Whole}
-use Rattle.rbc_spec.specs.Place.{Place}
+use Rattle.rbc_spec.specs.Place.{Place, fit_place}
 use Rattle.rbc_spec.specs.Message.{TrainMessage, TrainBody, StartOfMission}
 use Rattle.rbc_spec.specs.Outcome.{Outcome, Reason}
 use Rattle.rbc_spec.specs.Centre.{is_registrar_of}
-use Rattle.rbc_spec.specs.Rules.{fit_place}
 use Rattle.rbc_spec.specs.LineCentre.{LineState, hears, line_beginning, Said}
 use Rattle.rbc_spec.specs.OwnSteps.{Accepts, may_start, begins}
 use Rattle.rbc_spec.specs.Quiet.{Quiet, Propose, Proposes}

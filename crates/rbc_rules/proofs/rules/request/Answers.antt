@@ -1,6 +1,6 @@
 use Rattle.std.proofs.Common.{subst, ◌≡◌, ◌∙◌, ap, sym, refl, Some, option_map}
 use Rattle.rbc_spec.specs.Runs.{behind}
-use Rattle.rbc_spec.specs.Rules.{place_on}
+use Rattle.rbc_spec.specs.Place.{place_on}
 use Rattle.rbc_msgs.specs.StepMessage.{position_of}
 use Rattle.rbc_hand.specs.SectionRuns.{run_of}
 use Rattle.rbc_place.specs.Places.{place_of}

@@ -1,10 +1,10 @@
 use Rattle.std.proofs.Common.{◌≡◌, ◌∙◌, ap, sym, refl, slice_get, Some, true, false, Ok, Err, ℕ, subst}
 use Rattle.std.proofs.lemmas.Option.{slice_get_read}
 use Rattle.rbc_spec.specs.Line.{train_number}
+use Rattle.rbc_spec.specs.Message.{is_stale}
 use Rattle.rbc_spec.specs.Centre as centre
 use Rattle.rbc_spec.specs.Centre.{Mission}
 use Rattle.rbc_spec.specs.Step as step
-use Rattle.rbc_spec.specs.Step.{is_stale}
 use Rattle.rbc_msgs.specs.StepMessage.{step_body, step_message}
 use Rattle.rbc_session.specs.Standing.{phase_of, standing_phase}
 use Rattle.rbc_mission.specs.Deeds.{rule_of}
