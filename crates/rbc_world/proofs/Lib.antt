@@ -2,3 +2,4 @@ pub mod Centres
 pub mod Steps
 pub mod Shown
 pub mod Loop
+pub mod Reached

@@ -85,6 +85,13 @@ pub told_within : (line : Line) (w : World) (cs : List Centre) (c : ℕ) (event 
     → told_at line w c (takes Alone line w c w.trains event) ≡ takes Alone line w c w.trains event
 told_within line w cs c event each within = rw (is_centre_within line cs c each within) refl
 
+pub told_ok : (line : Line) (cs : List Centre) (trains : List ℕ) (event : step.Event) (c : ℕ) (k new : Centre) → slice_get cs c ≡ Some k → c < length cs → one.line_of k ≡ line → one.number_of k ≡ c
+    → length cs ≡ length line.centres → (outcome : Outcome) → step.step Alone (one.line_of k) (one.number_of k) event (one.meaning k) ≡ Ok (outcome, one.meaning new)
+    → told_at line (stands_for line cs trains) c (takes Alone line (stands_for line cs trains) c (stands_for line cs trains).trains event) ≡ Ok (Answered outcome, stands_for line (set cs c new) trains)
+unfolding stands_for
+told_ok line cs trains event c k new at within of_line of_number each outcome s =
+    told_within line (stands_for line cs trains) cs c event each within ∙ step_ok line cs trains event c k new at within of_line of_number outcome trains trains s refl
+
 pub told_err : (line : Line) (cs : List Centre) (trains : List ℕ) (event : step.Event) (c : ℕ) (k new : Centre) → slice_get cs c ≡ Some k → c < length cs → one.line_of k ≡ line → one.number_of k ≡ c
     → length cs ≡ length line.centres → (fault : StepFault) → one_step.IsRefusal fault (step.step Alone (one.line_of k) (one.number_of k) event (one.meaning k))
     → IsRefusal fault (told_at line (stands_for line cs trains) c (takes Alone line (stands_for line cs trains) c (stands_for line cs trains).trains event))

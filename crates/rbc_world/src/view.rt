@@ -1,12 +1,14 @@
 ghost use Rattle.std.specs.Prelude.{◌≡◌, ◌<◌, length, slice_get, IfOk, IfSome, Some, option_map, false};
 ghost use Rattle.std.specs.Option.{option_map_or};
 ghost use Rattle.rbc_spec.specs.Centre.{Shut};
+ghost use Rattle.rbc_spec.specs.Reach.{Alone};
 ghost use Rattle.rbc_spec.specs.Line.{IsLine, section};
 ghost use Rattle.rbc_spec.specs.LineCentre.{IsHand};
 ghost use Rattle.rbc_spec.specs.ReadOff.{StandsFor, read_off};
 ghost use Rattle.rbc_alone.specs.Alone.{mark_alone, alone_off};
 ghost use Rattle.rbc_book.specs.Entries.{entry_of};
 ghost use Rattle.rbc_hand.specs.SectionRuns.{run_of};
+ghost use Rattle.rbc_world.specs.Reached.{WasReached};
 ghost use Rattle.rbc_world.specs.World.{line_of, meaning};
 ghost use Rattle.rbc_world.specs.View.{mark_shown, mission_shown, mission_kept, EachOf, ShowsSection, ShowsSession, ShowsTrain, Shows};
 
@@ -98,6 +100,8 @@ impl World {
         ensures shows { IfOk result (Shows (line_of self.now) (read_off (line_of self.now) (meaning self.now))) }
         // That state stands for the centres.
         ensures stands { StandsFor (line_of self.now) (meaning self.now) (read_off (line_of self.now) (meaning self.now)) }
+        // Some list of events led from the line's beginning to the centres as they are.
+        ensures reached { ∥ WasReached Alone (line_of self.now) (meaning self.now) ∥₁ }
     {
         known_line(&self.line);
         Ok(LineView {

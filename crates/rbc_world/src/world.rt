@@ -6,7 +6,8 @@ ghost use Rattle.rbc_spec.specs.Reach.{Alone, Whole};
 ghost use Rattle.rbc_msgs.specs.StepMessage.{step_message};
 ghost use Rattle.rbc_msgs.specs.TrainReading.{read_train};
 ghost use Rattle.indexmap.specs.IndexSet.{spare};
-ghost use Rattle.rbc_world.specs.Meaning.{AtBeginning};
+ghost use Rattle.rbc_world.specs.Meaning.{AtBeginning, stands_for};
+ghost use Rattle.rbc_world.specs.Reached.{WasReached, IsOfInterlocking};
 ghost use Rattle.rbc_world.specs.Views.{IsFaultOf};
 ghost use Rattle.rbc_centre.specs.declared.fault.StepFault.TheVariants.{Memory};
 ghost use Rattle.rbc_spec.specs.Run.{Goes};
@@ -36,6 +37,7 @@ pub struct World {
     ghost each_centre: { length centres.items ≡ length line.centres },
     ghost one_line: { (c : ℕ) → (k : Centre) → slice_get centres.items c ≡ Some k → one.line_of k ≡ line },
     ghost in_order: { (c : ℕ) → (k : Centre) → slice_get centres.items c ≡ Some k → one.number_of k ≡ c },
+    ghost reached: { ∥ WasReached Alone line (stands_for line centres.items trains.keys) ∥₁ },
 }
 
 impl World {
@@ -47,6 +49,7 @@ impl World {
     pub fn new(alloc: Global, line: &Line) -> Result<World, AllocError>
         ensures line { IfOk result (λ w. line_of w ≡ line.now) }
         ensures beginning { IfOk result (λ w. meaning w ≡ new_world line.now) }
+        ensures reached { IfOk result (λ w. ∥ WasReached Alone (line_of w) (meaning w) ∥₁) }
     {
         Ok(World {
             alloc,
@@ -73,6 +76,8 @@ impl World {
         // It is one piece of the one line centre's run, or none.
         ensures piece { IfOk result (λ a. Goes (line_of self.old) (read_off (line_of self.old) (meaning self.old))
             (event_of event.now) (answer_of a) (read_off (line_of self.old) (meaning self.new))) }
+        // Some list of events led from the line's beginning to the world that is left.
+        ensures reached { ∥ WasReached Alone (line_of self.new) (meaning self.new) ∥₁ }
         // The state that is read off the centres stands for them, whatever was refused before.
         ensures stands { StandsFor (line_of self.new) (meaning self.new) (read_off (line_of self.new) (meaning self.new)) }
         // So each train has one supervisor at most, each section one train, and no section in use and no right is lost or in two places.
@@ -110,6 +115,7 @@ impl World {
 
     // The interlocking says something to a centre.
     fn tell(&mut self, c: u8, event: &Event) -> Result<Answer, StepFault>
+        requires { IsOfInterlocking event.now }
         ensures line { line_of self.new ≡ line_of self.old }
         ensures exact { Gives (λ a. (answer_of a, meaning self.new)) result
             (at_centre (line_of self.old) (meaning self.old) c (takes Alone (line_of self.old) (meaning self.old) c (meaning self.old).trains (one_event event.now))) }

@@ -9,6 +9,7 @@ use Rattle.rbc_centre.specs.Meaning as one
 use Rattle.rbc_world.specs.Meaning.{stands_for}
 use Rattle.rbc_world.proofs.Centres.{each_kept}
 use Rattle.rbc_world.proofs.Steps.{step_ok, step_err, world_kept}
+use Rattle.rbc_world.proofs.Reached.{reached_still, reached_by_message}
 use Rattle.rbc_world.proofs.world.World.hear.Goals as goal
 
 pub returns-in_err-outcome-clause-exact : goal.returns-in_err-outcome-clause-exact
@@ -33,6 +34,9 @@ invariant_of-self-2 c =
       each_centre = simp length-set c.args.self.now.each_centre;
       one_line = each_kept (λ d k. one.line_of k ≡ c.args.self.now.line) cs c.args.c c.hear.new.self c.requires (c.in_ok-outcome.ensures.line ∙ c.args.self.now.one_line _ _ at) c.args.self.now.one_line;
       in_order = each_kept (λ d k. one.number_of k ≡ d) cs c.args.c c.hear.new.self c.requires (c.in_ok-outcome.ensures.number ∙ c.args.self.now.in_order _ _ at) c.args.self.now.in_order;
+      reached = reached_by_message c.args.self.now.line cs c.args.self.now.trains.keys c.args.c c.index_mut.result.now c.hear.new.self at c.requires
+          (c.args.self.now.one_line _ _ at) (c.args.self.now.in_order _ _ at) c.args.self.now.each_centre c.args.self.now.reached (step_message c.args.message) _ c.add_mention.new.trains.keys c.in_ok-outcome.ensures.exact
+          (c.add_mention.ensures ∙ ap (λ t. mention c.args.self.now.line t c.reserve.new.self.keys) c.nid_engine-nid_engine.ensures.value ∙ ap (mention c.args.self.now.line c.args.message.nid_engine) c.in_ok-reserve.ensures.keys);
     }
 
 pub invariant_of-self-in-Break-branch-2 : goal.invariant_of-self-in-Break-branch-2
@@ -43,6 +47,8 @@ invariant_of-self-in-Break-branch-2 c =
       each_centre = simp length-set c.args.self.now.each_centre;
       one_line = each_kept (λ d k. one.line_of k ≡ c.args.self.now.line) cs c.args.c c.hear.new.self c.requires (c.in_err-outcome.ensures.line ∙ c.args.self.now.one_line _ _ at) c.args.self.now.one_line;
       in_order = each_kept (λ d k. one.number_of k ≡ d) cs c.args.c c.hear.new.self c.requires (c.in_err-outcome.ensures.number ∙ c.args.self.now.in_order _ _ at) c.args.self.now.in_order;
+      reached = reached_still c.args.self.now.line cs c.args.self.now.trains.keys c.args.c c.index_mut.result.now c.hear.new.self at c.requires
+          (c.args.self.now.one_line _ _ at) (c.args.self.now.in_order _ _ at) c.args.self.now.each_centre c.args.self.now.reached c.reserve.new.self.keys c.in_ok-reserve.ensures.keys c.in_err-outcome.ensures.err;
     }
 
 pub returns-clause-exact : goal.returns-clause-exact

@@ -1,9 +1,13 @@
 use Rattle.std.proofs.Common.{◌≡◌, ◌∙◌, ◌<◌, refl, rules, length, slice_get, Some}
+use Rattle.std.proofs.Math.ListN.{length-set}
 use Rattle.std.proofs.lemmas.Option.{slice_get_read}
 use Rattle.std.proofs.lemmas.Result.{err_from_is_err_and}
+use Rattle.rbc_centre.specs.Meaning as one
 use Rattle.rbc_centre.specs.Views.{event_of as one_event}
 use Rattle.rbc_world.specs.Meaning.{stands_for}
-use Rattle.rbc_world.proofs.Steps.{told_within, step_ok, told_err, world_kept}
+use Rattle.rbc_world.proofs.Centres.{each_kept}
+use Rattle.rbc_world.proofs.Steps.{told_ok, told_err, world_kept}
+use Rattle.rbc_world.proofs.Reached.{reached_by_word}
 use Rattle.rbc_world.proofs.world.World.tell.Goals as goal
 
 pub returns-in_err-outcome-clause-exact : goal.returns-in_err-outcome-clause-exact
@@ -21,11 +25,24 @@ returns-in_err-outcome-clause-err c =
     let at : slice_get c.args.self.now.centres.items c.args.c ≡ Some c.index_mut.result.now = slice_get_read _ _ _ _ refl within c.index_mut.ensures.value in
     rw (p.1) (world_kept c.args.self.now.line c.args.self.now.centres.items c.args.self.now.trains.keys c.args.c c.index_mut.result.now c.step.new.self at within c.in_err-outcome.ensures.err)
 
+pub invariant_of-self : goal.invariant_of-self
+invariant_of-self c =
+    let w = c.args.self.now in
+    let cs = w.centres.items in
+    let within : c.args.c < length cs = search rules in
+    let at : slice_get cs c.args.c ≡ Some c.index_mut.result.now = slice_get_read _ _ _ _ refl within c.index_mut.ensures.value in
+    record {
+      each_centre = simp length-set w.each_centre;
+      one_line = each_kept (λ d k. one.line_of k ≡ w.line) cs c.args.c c.step.new.self within (c.step.ensures.line ∙ w.one_line _ _ at) w.one_line;
+      in_order = each_kept (λ d k. one.number_of k ≡ d) cs c.args.c c.step.new.self within (c.step.ensures.number ∙ w.in_order _ _ at) w.in_order;
+      reached = reached_by_word w.line cs w.trains.keys c.args.c c.index_mut.result.now c.step.new.self at within (w.one_line _ _ at) (w.in_order _ _ at) w.each_centre w.reached
+          c.args.event.now c.step.result c.requires c.step.ensures.exact c.step.ensures.err;
+    }
+
 pub returns-clause-exact : goal.returns-clause-exact
 unfolding stands_for
 returns-clause-exact c =
+    let w = c.args.self.now in
     let within : c.args.c < length c.args.self.now.centres.items = search rules in
     let at : slice_get c.args.self.now.centres.items c.args.c ≡ Some c.index_mut.result.now = slice_get_read _ _ _ _ refl within c.index_mut.ensures.value in
-    told_within c.args.self.now.line (stands_for c.args.self.now.line c.args.self.now.centres.items c.args.self.now.trains.keys) c.args.self.now.centres.items c.args.c (one_event c.args.event.now) c.args.self.now.each_centre within
-    ∙ step_ok c.args.self.now.line c.args.self.now.centres.items c.args.self.now.trains.keys (one_event c.args.event.now) c.args.c c.index_mut.result.now c.step.new.self at within
-    (c.args.self.now.one_line _ _ at) (c.args.self.now.in_order _ _ at) _ c.args.self.now.trains.keys c.args.self.now.trains.keys c.in_ok-outcome.ensures.exact refl
+    told_ok w.line w.centres.items w.trains.keys (one_event c.args.event.now) c.args.c c.index_mut.result.now c.step.new.self at within (w.one_line _ _ at) (w.in_order _ _ at) w.each_centre _ c.in_ok-outcome.ensures.exact
