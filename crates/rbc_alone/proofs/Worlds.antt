@@ -21,7 +21,7 @@ unfolding new_world
 new_alone line = record { each = λ c. begins_alone line c }
 
 -- the world of an answer
-abbrev world_of : World → Result (Answer × World) Refusal → World
+abbrev pub world_of : World → Result (Answer × World) Refusal → World
 world_of w (Ok x) = x.1
 world_of w (Err why) = w
 

@@ -2,7 +2,7 @@
 use Rattle.std.proofs.Common.{◌≡◌, ℕ, ◌+◌, ◌≤◌, ◌&&◌, not, Bool, true, false, if◌then◌else◌, List, [], ◌∷◌, ◌++◌, length, Option, Some, None, refl, sym, ap, ◌∙◌, subst, arith}
 use Rattle.std.specs.Option.{option_map_or}
 use Rattle.rbc_spec.specs.Maps.{put}
-use Rattle.rbc_spec.specs.Reach.{Reach, crosses_borders}
+use Rattle.rbc_spec.specs.Reach.{Reach, asks_rights}
 use Rattle.rbc_spec.specs.Runs.{within, behind, all_of}
 use Rattle.rbc_spec.specs.Line.{Line, is_centre, registrar}
 use Rattle.rbc_spec.specs.Place.{Place, Position, covered, fit_place}
@@ -74,7 +74,7 @@ module _ (d : ℕ) (line : Line) (c t : ℕ) where
 
       by_registrar : (b : Bool) (place : Place) → Few ((if b then start_here line t place else start_elsewhere reach line t place) k)
       by_registrar true place = here_few place k
-      by_registrar false place = elsewhere (crosses_borders reach) place
+      by_registrar false place = elsewhere (asks_rights reach) place
 
       by_place : (o : Option Place) (m : Option Mission) → Few (option_map_or (λ place. option_map_or (λ m. restart line t place m k) m (start_new reach line c t place k)) o (reject t k))
       by_place (Some place) (Some m) = restart_few place m k

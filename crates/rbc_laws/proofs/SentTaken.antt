@@ -69,7 +69,7 @@ module _ (d : ℕ) (line : Line) (c : ℕ) where
       by_silence None = heard_few reach m k h
   effect_few reach (Set s) k h few = plain d line c 0 (set line c s k) (set_few s k)
   effect_few reach (Unset s) k h few = plain d line c 0 (unset line c s k) (unset_few s k)
-  effect_few reach (Deliver e f) k h few = taken_few d line c e f (link_answer line c k e f) k h few
+  effect_few reach (Deliver e f) k h few = taken_few d line c reach e f (link_answer line c k e f) k h few
 
   bodies_numbered : (stamp count : ℕ) (bodies : List Body) → map (λ (f : Frame). f.body) (numbered stamp count bodies) ≡ bodies
   bodies_numbered stamp count [] = refl

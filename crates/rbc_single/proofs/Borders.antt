@@ -26,7 +26,7 @@ module _ (line : Line) (ordered : IsOrdered line) (d : ℕ) (one : IsOneCentreLi
   same_grant c t m k =
       let r : Run = extension line c k m in
       let n : Mission = extended_by r m in
-      ap (λ (o : Option ℕ). (((booked is_open (Taken t) r >> set_mission t (Some n)) >> say t m.place.group (Authority (authority line n))) >> option_map_or (at_border line c t) o rest) k) (none_next line d one c m.place.track)
+      ap (λ (o : Option ℕ). (((booked is_open (Taken t) r >> set_mission t (Some n)) >> say t m.place.group (Authority (authority line n))) >> option_map_or (at_border Whole line c t) o rest) k) (none_next line d one c m.place.track)
 
   same_request : (c t : ℕ) (position : Position) → request Whole line c t position ≡ request Alone line c t position
   same_request c t position = λ i. with_some (λ k. k.mission t) (λ m.

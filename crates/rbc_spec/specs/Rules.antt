@@ -2,7 +2,7 @@
 use Rattle.std.specs.Prelude.{ℕ, ◌+◌, ◌-◌, ◌*◌, ◌==◌, Bool, true, false, ◌&&◌, ◌||◌, not, if◌then◌else◌, [], ◌∷◌, Some, None, is_none, nat_lt, nat_le, option_map}
 use Rattle.std.specs.Option.{option_map_or}
 use Rattle.rbc_spec.specs.Maps.{has, put}
-use Rattle.rbc_spec.specs.Reach.{Reach, crosses_borders}
+use Rattle.rbc_spec.specs.Reach.{Reach, asks_rights, lends_routes, hands_over}
 use Rattle.rbc_spec.specs.Runs.{Run, no_run, most_in_hand, within, behind, is_empty, part_before, part_from, joined, longest, passing, all_of}
 use Rattle.rbc_spec.specs.Line.{Line, is_centre, is_home, end, next_centre, registrar}
 use Rattle.rbc_spec.specs.Sections.{is_on}
@@ -70,7 +70,7 @@ start_waiting line t place =
     (option_map_or (λ r. send r (AskRight t)) (registrar line t) rest >> become (λ k. record k { has_asked = put k.has_asked t true }))
 
 abbrev pub start_elsewhere : Reach → Line → ℕ → Place → Act
-start_elsewhere reach line t place = if crosses_borders reach then start_waiting line t place else reject t
+start_elsewhere reach line t place = if asks_rights reach then start_waiting line t place else reject t
 
 abbrev pub start_new : Reach → Line → ℕ → ℕ → Place → Act
 start_new reach line c t place =
@@ -116,15 +116,15 @@ ask_route_if_due line t d = with_mission t (λ m. where_so
     (ask_route t d m))
 
 -- what follows an extension at the border to centre d
-abbrev pub at_border : Line → ℕ → ℕ → ℕ → Act
-at_border line c t d = announce_if_due line t d >> ask_route_if_due line t d
+abbrev pub at_border : Reach → Line → ℕ → ℕ → ℕ → Act
+at_border reach line c t d = (if hands_over reach then announce_if_due line t d else rest) >> ask_route_if_due line t d
 
 abbrev pub grant : Reach → Line → ℕ → ℕ → Mission → Act
 grant reach line c t m k =
     let r = extension line c k m in
     let n = extended_by r m in
     (((booked is_open (Taken t) r >> set_mission t (Some n)) >> say t m.place.group (Authority (authority line n)))
-    >> (if crosses_borders reach then option_map_or (at_border line c t) (next_centre line c m.place.track) rest else rest)) k
+    >> (if lends_routes reach then option_map_or (at_border reach line c t) (next_centre line c m.place.track) rest else rest)) k
 
 abbrev pub request : Reach → Line → ℕ → ℕ → Position → Act
 request reach line c t position = with_mission t (λ m.

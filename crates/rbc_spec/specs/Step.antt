@@ -3,7 +3,7 @@ use Rattle.std.specs.Prelude.{ℕ, ◌+◌, ◌-◌, ◌*◌, ◌==◌, Bool, tr
 use Rattle.std.specs.Option.{option_map_or}
 use Rattle.std.specs.List.{find, list_any, range_with_len}
 use Rattle.rbc_spec.specs.Maps.{has, put}
-use Rattle.rbc_spec.specs.Reach.{Reach}
+use Rattle.rbc_spec.specs.Reach.{Reach, follows_rule}
 use Rattle.rbc_spec.specs.Runs.{behind}
 use Rattle.rbc_spec.specs.Line.{Line, is_home, is_linked, end, train_number}
 use Rattle.rbc_spec.specs.Sections.{section_count}
@@ -109,10 +109,14 @@ offered count n = if n == count + 1 then Next else (if nat_le n count then Old e
 abbrev pub link_answer : Line → ℕ → Centre → ℕ → Frame → LinkAnswer
 link_answer line c k d f = if is_linked line c d then offered (k.taken d) f.number else NoLink
 
+-- what the body of a frame comes to, as far as the centres follow the rules
+abbrev pub body_taken : Reach → Line → ℕ → ℕ → Body → Act
+body_taken reach line c d body = if follows_rule reach body then received line c d body else rest
+
 -- only the next frame is taken
-abbrev pub taken_by : Line → ℕ → ℕ → Frame → LinkAnswer → Act
-taken_by line c d f Next = become (λ k. record k { taken = put k.taken d f.number }) >> received line c d f.body
-taken_by line c d f answer = rest
+abbrev pub taken_by : Reach → Line → ℕ → ℕ → Frame → LinkAnswer → Act
+taken_by reach line c d f Next = become (λ k. record k { taken = put k.taken d f.number }) >> body_taken reach line c d f.body
+taken_by reach line c d f answer = rest
 
 -- ## The step
 
@@ -134,7 +138,7 @@ effect reach line c k (Train m) = option_map_or
 effect reach line c k (Set s) = record { reply = set line c s k; link = None; silence = None }
 effect reach line c k (Unset s) = record { reply = unset line c s k; link = None; silence = None }
 effect reach line c k (Deliver d f) =
-    let answer = link_answer line c k d f in record { reply = taken_by line c d f answer k; link = Some answer; silence = None }
+    let answer = link_answer line c k d f in record { reply = taken_by reach line c d f answer k; link = Some answer; silence = None }
 
 -- the stamp of a step is one above the last, and above that of the frame that it is handed
 abbrev pub stamp_of : Centre → Event → ℕ

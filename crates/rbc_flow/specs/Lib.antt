@@ -1,0 +1,9 @@
+pub mod Flow
+pub mod Numbers
+pub mod Neighbours
+pub mod Counts
+pub mod Pairs
+pub mod Sound
+pub mod Shows
+pub mod Leads
+pub mod Keeping
