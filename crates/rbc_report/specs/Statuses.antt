@@ -1,7 +1,7 @@
 -- The exit statuses of the program.
 use Rattle.std.specs.Prelude.{◌≡◌, ℕ, ◌⊎◌}
 use Rattle.rbc_report.specs.declared.fault.Fault.{Fault}
-use Rattle.rbc_report.specs.declared.fault.Fault.TheVariants.{Words, Usage, CannotRead, Line, Script, Step, Write}
+use Rattle.rbc_report.specs.declared.fault.Fault.TheVariants.{Words, Usage, CannotRead, Line, Script, Step, Message, Write}
 
 -- the status that stands for a fault
 abbrev pub status_of : Fault → ℕ
@@ -12,6 +12,7 @@ status_of (Script row) = 3
 status_of (Line why) = 4
 status_of (Step why) = 5
 status_of Write = 6
+status_of (Message why) = 7
 
 -- a fault was said, or what was written of it was refused
 abbrev pub IsReported : Fault → ℕ → Type 0

@@ -3,6 +3,7 @@ ghost use Rattle.rbc_report.specs.Statuses.{IsReported, IsStatus};
 use crate::explain::explain;
 use crate::fault::Fault;
 use crate::files::Files;
+use crate::in_words::{show_message, tell_printed};
 use crate::run::{check, run};
 use crate::words::{Request, requested};
 use std::alloc::Global;
@@ -12,7 +13,7 @@ use std::io;
 use std::io::Write;
 
 /// Does what the words behind the program's name ask for, and gives the exit status: 0 done, 2 words refused (help
-/// too), 3 a file that can't be read or a script fault, 4 a line fault, 5 a refused step, 6 a refused write.
+/// too), 3 a file that can't be read or a script fault, 4 a line fault, 5 a refused step, 6 a refused write, 7 a fault of a message.
 pub fn command<S: AsStr, F: Files, O: Write, E: Write>(
     alloc: Global,
     words: &[S],
@@ -38,6 +39,8 @@ fn obey<'a, S: AsStr, F: Files, O: Write>(
         Request::Check { file } => check(alloc, file, files, out),
         Request::Explain { file } => explain(alloc, file, files, out),
         Request::Run { file, script } => run(alloc, file, script, files, out),
+        Request::Message { digits } => show_message(alloc, digits, out),
+        Request::Printed { file, printed } => tell_printed(alloc, file, printed, files, out),
     }
 }
 

@@ -2,6 +2,7 @@ ghost use Rattle.std.specs.Prelude.{◌≡◌};
 
 use rbc_centre::StepFault;
 use rbc_line::LineFault;
+use rbc_msgs::MsgFault;
 use rbc_script::script::ScriptFault;
 use std::alloc::{AllocError, AllocFailed};
 use std::io;
@@ -25,6 +26,9 @@ pub enum Fault<'a> {
     Script(usize),
     #[error("rbcline: step refused {number}", number = .0.number())]
     Step(StepFault),
+    /// The bytes that are to be shown are no message.
+    #[error("rbcline: message fault {number}", number = .0.number())]
+    Message(MsgFault),
     /// What the program wrote was refused. Nothing more is written.
     #[error("rbcline: cannot write")]
     Write,
@@ -43,6 +47,7 @@ impl Fault<'_> {
             Fault::Line(_) => 4,
             Fault::Step(_) => 5,
             Fault::Write => 6,
+            Fault::Message(_) => 7,
         }
     }
 }

@@ -1,4 +1,5 @@
-//! What `rbcline` does: it reads words, a line file and a script, runs the script on the line, and prints what comes out.
+//! What `rbcline` does: it reads words, a line file and a script, runs the script on the line, and prints what comes out; and it
+//! shows messages, and what a run printed, in words.
 #![tactic(auto)]
 
 pub mod command;
@@ -6,6 +7,7 @@ pub mod disk;
 mod explain;
 pub mod fault;
 pub mod files;
+mod in_words;
 mod picture;
 mod print;
 mod run;

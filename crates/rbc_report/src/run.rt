@@ -38,7 +38,8 @@ pub fn check<'a, F: Files, O: Write>(
     Ok(())
 }
 
-fn line_in<'a, F: Files>(alloc: Global, file: &'a str, files: &F) -> Result<Line, Fault<'a>> {
+/// The line of a line file.
+pub fn line_in<'a, F: Files>(alloc: Global, file: &'a str, files: &F) -> Result<Line, Fault<'a>> {
     let Some(text) = files.text(file) else {
         return Err(Fault::CannotRead(file));
     };

@@ -13,6 +13,10 @@ pub enum Request<'a> {
     Explain { file: &'a str },
     /// Run the script on the line.
     Run { file: &'a str, script: &'a str },
+    /// Show the message of these hexadecimal digits field by field.
+    Message { digits: &'a str },
+    /// Say what `run` printed in words.
+    Printed { file: &'a str, printed: &'a str },
 }
 
 /// Reads the words behind the program's name.
@@ -34,7 +38,19 @@ fn named<'a>(matches: &ArgMatches<'a>) -> Option<Request<'a>> {
         let file = explain.get_str("FILE")?;
         return Some(Request::Explain { file });
     }
+    if let Some(words) = matches.subcommand_matches("words") {
+        return named_words(words);
+    }
     named_run(matches)
+}
+
+fn named_words<'a>(words: &ArgMatches<'a>) -> Option<Request<'a>> {
+    if let Some(digits) = words.get_str("message") {
+        return Some(Request::Message { digits });
+    }
+    let file = words.get_str("FILE")?;
+    let printed = words.get_str("PRINTED")?;
+    Some(Request::Printed { file, printed })
 }
 
 fn named_run<'a>(matches: &ArgMatches<'a>) -> Option<Request<'a>> {
@@ -56,7 +72,8 @@ fn rbcline<'a>(alloc: Global) -> Result<Command<'a>, AllocError> {
         .arg_required_else_help(true);
     let command = command.subcommand(check(alloc)?)?;
     let command = command.subcommand(explain(alloc)?)?;
-    command.subcommand(run(alloc)?)
+    let command = command.subcommand(run(alloc)?)?;
+    command.subcommand(words(alloc)?)
 }
 
 fn check<'a>(alloc: Global) -> Result<Command<'a>, AllocError> {
@@ -79,6 +96,20 @@ fn run<'a>(alloc: Global) -> Result<Command<'a>, AllocError> {
     );
     let command = command.arg(file(alloc, "FILE", "The line file"))?;
     command.arg(file(alloc, "SCRIPT", "The script, one event a line"))
+}
+
+fn words<'a>(alloc: Global) -> Result<Command<'a>, AllocError> {
+    let command = Command::new(alloc, "words").about(
+        "Says in words what a run printed, line by line, or shows one message field by field",
+    );
+    let message = Arg::new(alloc, "message")
+        .long("message")
+        .value_name("HEX")
+        .help("The message in hexadecimal, of a train or of a centre")
+        .exclusive(true);
+    let command = command.arg(message)?;
+    let command = command.arg(file(alloc, "FILE", "The line file"))?;
+    command.arg(file(alloc, "PRINTED", "What `run` printed"))
 }
 
 fn file<'a>(alloc: Global, name: &'a str, help: &'a str) -> Arg<'a> {

@@ -1,0 +1,25 @@
+//! Radio messages, and what `run` prints, in words for a person who reads along: a message field by field, and a printed
+//! line with its message's name and its distances in metres of the track. Any text is taken.
+#![tactic(auto)]
+
+mod faults;
+mod field;
+mod fields;
+mod message;
+mod names;
+mod numbers;
+mod places;
+mod position;
+mod printed;
+mod row;
+mod said;
+mod sections;
+mod told;
+mod track;
+mod train;
+
+pub use faults::words_of_fault;
+pub use field::{Field, Meaning};
+pub use message::{fields_of, name_of};
+pub use printed::line_in_words;
+pub use told::Told;

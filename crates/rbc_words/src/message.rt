@@ -1,0 +1,68 @@
+//! The bytes of a message, field by field.
+
+use crate::field::{Field, Meaning};
+use crate::fields::Fields;
+use crate::names::{name_of_number, number_of_track, number_of_train};
+use crate::track::add_track;
+use crate::train::add_train;
+use rbc_msgs::{MsgFault, decode_track, decode_train};
+use std::alloc::{AllocError, Global};
+
+/// The fields of the message that the bytes are: a train's where NID_MESSAGE is 128 or more, else a centre's.
+pub fn fields_of(alloc: Global, bytes: &[u8]) -> Result<Vec<Field>, MsgFault> {
+    let mut fields = Fields::new(alloc);
+    if is_of_train(bytes) {
+        let message = decode_train(alloc, bytes)?;
+        let number = number_of_train(message.body());
+        add_start(&mut fields, number, "train", bytes)?;
+        add_train(&mut fields, &message)?;
+    } else {
+        let message = decode_track(bytes)?;
+        let number = number_of_track(message.body());
+        add_start(&mut fields, number, "centre", bytes)?;
+        add_track(&mut fields, &message)?;
+    }
+    Ok(fields.finish())
+}
+
+/// NID_MESSAGE of the bytes and its name, where there is a byte.
+pub fn name_of(bytes: &[u8]) -> Option<Field> {
+    let number = u64::from(*bytes.first()?);
+    let from = if is_of_train(bytes) {
+        "train"
+    } else {
+        "centre"
+    };
+    Some(field_of_number(number, from))
+}
+
+fn is_of_train(bytes: &[u8]) -> bool {
+    match bytes.first() {
+        Some(number) => *number >= 128,
+        None => false,
+    }
+}
+
+fn field_of_number(number: u64, from: &'static str) -> Field {
+    let name = name_of_number(number);
+    Field {
+        is_in_packet: false,
+        name: "NID_MESSAGE",
+        value: number,
+        meaning: Meaning::Message { name, from },
+    }
+}
+
+/// NID_MESSAGE and L_MESSAGE.
+fn add_start(
+    fields: &mut Fields,
+    number: u64,
+    from: &'static str,
+    bytes: &[u8],
+) -> Result<(), AllocError> {
+    let first = field_of_number(number, from);
+    fields.add(first.name, first.value, first.meaning)?;
+    let count = bytes.len() as u64;
+    let unit = "bytes";
+    fields.add("L_MESSAGE", count, Meaning::Count { count, unit })
+}

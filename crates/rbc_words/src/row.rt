@@ -1,0 +1,252 @@
+//! The forms of the lines that `run` prints.
+
+use crate::faults::{words_of_fault_number, words_of_silence, words_of_word};
+use crate::numbers::{number_of, section_number};
+use rbc_line::Line;
+
+/// A line that `run` prints, by its form. Centres are named as in the line.
+#[derive(Clone, Copy, Debug, PartialEq, Eq)]
+pub enum Row<'a> {
+    /// Bytes come from a train.
+    Train {
+        centre: &'a str,
+        digits: &'a str,
+    },
+    Set {
+        centre: &'a str,
+        section: u16,
+    },
+    Unset {
+        centre: &'a str,
+        section: u16,
+    },
+    /// A frame is delivered.
+    Deliver {
+        from: &'a str,
+        to: &'a str,
+        number: u32,
+    },
+    Show,
+    /// A message to a train.
+    Message {
+        centre: &'a str,
+        nid_engine: u32,
+        digits: &'a str,
+    },
+    /// A word to the interlocking.
+    Word {
+        centre: &'a str,
+        section: u16,
+        words: &'static str,
+    },
+    /// A message is left without an answer, for the reason of this number.
+    Silent {
+        centre: &'a str,
+        number: u32,
+        words: &'static str,
+    },
+    /// Bytes have the fault of this number.
+    Fault {
+        centre: &'a str,
+        number: u32,
+        words: &'static str,
+    },
+    Nothing {
+        centre: &'a str,
+    },
+    NotSent,
+    /// What a section is used for: by which train, if it is in use.
+    Section {
+        section: u16,
+        mark: &'static str,
+        train: Option<u32>,
+        is_wished: bool,
+    },
+    /// Who supervises a train, if a centre does.
+    Supervisor {
+        nid_engine: u32,
+        centre: Option<&'a str>,
+    },
+}
+
+/// The form of a line, by its words. None where `run` prints no such line.
+pub fn row_of<'a>(line: &Line, words: &[&'a str]) -> Option<Row<'a>> {
+    match words {
+        [first, rest @ ..] => row_from(line, first, rest),
+        [] => None,
+    }
+}
+
+fn row_from<'a>(line: &Line, first: &'a str, rest: &[&'a str]) -> Option<Row<'a>> {
+    let told = match first {
+        ">" => event_of(line, rest),
+        "section" => section_of(line, rest),
+        "train" => supervisor_of(line, rest),
+        "not" => not_sent_of(rest),
+        _ => None,
+    };
+    if told.is_some() {
+        return told;
+    }
+    answer_of(centre_of(line, first)?, rest)
+}
+
+fn not_sent_of<'a>(words: &[&'a str]) -> Option<Row<'a>> {
+    match *words {
+        ["sent"] => Some(Row::NotSent),
+        _ => None,
+    }
+}
+
+fn event_of<'a>(line: &Line, words: &[&'a str]) -> Option<Row<'a>> {
+    match *words {
+        ["show"] => Some(Row::Show),
+        ["train", centre, digits] => {
+            let centre = centre_of(line, centre)?;
+            Some(Row::Train { centre, digits })
+        }
+        ["set", centre, number] => {
+            let centre = centre_of(line, centre)?;
+            let section = section_number(number)?;
+            Some(Row::Set { centre, section })
+        }
+        ["unset", centre, number] => {
+            let centre = centre_of(line, centre)?;
+            let section = section_number(number)?;
+            Some(Row::Unset { centre, section })
+        }
+        ["deliver", from, to, number] => {
+            let from = centre_of(line, from)?;
+            let to = centre_of(line, to)?;
+            let number = number_of(number)?;
+            Some(Row::Deliver { from, to, number })
+        }
+        _ => None,
+    }
+}
+
+fn answer_of<'a>(centre: &'a str, words: &[&'a str]) -> Option<Row<'a>> {
+    match *words {
+        ["ok"] => Some(Row::Nothing { centre }),
+        ["->", train, digits] => {
+            let nid_engine = number_of(train)?;
+            Some(Row::Message {
+                centre,
+                nid_engine,
+                digits,
+            })
+        }
+        ["silent", number] => silent_of(centre, number_of(number)?),
+        ["fault", number] => fault_of(centre, number_of(number)?),
+        [number, word] => {
+            let section = section_number(number)?;
+            let words = words_of_word(word)?;
+            Some(Row::Word {
+                centre,
+                section,
+                words,
+            })
+        }
+        _ => None,
+    }
+}
+
+fn silent_of(centre: &str, number: u32) -> Option<Row<'_>> {
+    let words = words_of_silence(number)?;
+    Some(Row::Silent {
+        centre,
+        number,
+        words,
+    })
+}
+
+fn fault_of(centre: &str, number: u32) -> Option<Row<'_>> {
+    let words = words_of_fault_number(number)?;
+    Some(Row::Fault {
+        centre,
+        number,
+        words,
+    })
+}
+
+fn section_of<'a>(line: &Line, words: &[&'a str]) -> Option<Row<'a>> {
+    match *words {
+        [number, home, word] => {
+            let section = section_at(line, number, home)?;
+            free_of(section, word, false)
+        }
+        [number, home, word, "wished"] => {
+            let section = section_at(line, number, home)?;
+            free_of(section, word, true)
+        }
+        [number, home, word, train] => {
+            let section = section_at(line, number, home)?;
+            used_of(section, word, number_of(train)?, false)
+        }
+        [number, home, word, train, "wished"] => {
+            let section = section_at(line, number, home)?;
+            used_of(section, word, number_of(train)?, true)
+        }
+        _ => None,
+    }
+}
+
+/// The number of a section of the line, where the home is a centre of the line.
+fn section_at(line: &Line, number: &str, home: &str) -> Option<u16> {
+    centre_of(line, home)?;
+    let section = section_number(number)?;
+    line.section(section)?;
+    Some(section)
+}
+
+/// A section that no train uses.
+fn free_of<'a>(section: u16, word: &str, is_wished: bool) -> Option<Row<'a>> {
+    let mark = match word {
+        "shut" => "shut",
+        "open" => "open",
+        _ => return None,
+    };
+    Some(Row::Section {
+        section,
+        mark,
+        train: None,
+        is_wished,
+    })
+}
+
+/// A section that a train uses.
+fn used_of<'a>(section: u16, word: &str, nid_engine: u32, is_wished: bool) -> Option<Row<'a>> {
+    let mark = match word {
+        "kept" => "kept behind",
+        "given" => "in the authority of",
+        _ => return None,
+    };
+    Some(Row::Section {
+        section,
+        mark,
+        train: Some(nid_engine),
+        is_wished,
+    })
+}
+
+fn supervisor_of<'a>(line: &Line, words: &[&'a str]) -> Option<Row<'a>> {
+    match *words {
+        [train, "none"] => Some(Row::Supervisor {
+            nid_engine: number_of(train)?,
+            centre: None,
+        }),
+        [train, centre] => Some(Row::Supervisor {
+            nid_engine: number_of(train)?,
+            centre: Some(centre_of(line, centre)?),
+        }),
+        _ => None,
+    }
+}
+
+/// The name, where a centre of the line has it.
+fn centre_of<'a>(line: &Line, name: &'a str) -> Option<&'a str> {
+    match line.centre_named(name) {
+        Some(_) => Some(name),
+        None => None,
+    }
+}

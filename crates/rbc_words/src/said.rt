@@ -1,0 +1,74 @@
+//! A message in one phrase: its number, its name, and where on the line it speaks of.
+
+use crate::names::{name_of_number, number_of_track, number_of_train};
+use crate::places::{place_in_words, point_in_words};
+use rbc_line::Line;
+use rbc_msgs::{TrackBody, TrackMsg, TrainBody};
+use rbc_packets::{Position, Transition};
+use std::alloc::{AllocError, Global};
+
+/// What a train says.
+pub fn train_in_words(alloc: Global, line: &Line, body: &TrainBody) -> Result<String, AllocError> {
+    let number = number_of_train(body);
+    let name = name_of_number(number);
+    match position_of(body) {
+        Some(position) => {
+            let place = place_in_words(alloc, line, position)?;
+            format!(in alloc; "{number} {name}, {place}")
+        }
+        None => format!(in alloc; "{number} {name}"),
+    }
+}
+
+/// The position that a train reports.
+fn position_of(body: &TrainBody) -> Option<&Position> {
+    match body {
+        TrainBody::TrainData { position, .. }
+        | TrainBody::Request { position, .. }
+        | TrainBody::Report { position }
+        | TrainBody::ShorteningGranted { position, .. }
+        | TrainBody::ShorteningRejected { position, .. }
+        | TrainBody::EndOfMission { position }
+        | TrainBody::StartOfMission { position, .. } => Some(position),
+        TrainBody::InitiationOfSession
+        | TrainBody::TerminationOfSession
+        | TrainBody::SessionEstablished => None,
+    }
+}
+
+/// What a centre says.
+pub fn track_in_words(
+    alloc: Global,
+    line: &Line,
+    message: &TrackMsg,
+) -> Result<String, AllocError> {
+    let number = number_of_track(message.body());
+    let name = name_of_number(number);
+    match message.body() {
+        TrackBody::Authority(authority) | TrackBody::ShorteningRequest(authority) => {
+            let metres = authority.l_endsection.value();
+            let end = point_in_words(alloc, line, message.nid_lrbg(), metres)?;
+            format!(in alloc; "{number} {name}, to {end}")
+        }
+        TrackBody::Transition(transition) => {
+            let order = transition_in_words(alloc, line, message.nid_lrbg(), transition)?;
+            format!(in alloc; "{number} {name}, {order}")
+        }
+        TrackBody::EndSession(order) => {
+            let nid_rbc = order.nid_rbc.value();
+            format!(in alloc; "{number} {name}, the session with NID_RBC {nid_rbc} ends")
+        }
+        _ => format!(in alloc; "{number} {name}"),
+    }
+}
+
+fn transition_in_words(
+    alloc: Global,
+    line: &Line,
+    nid_lrbg: u32,
+    transition: Transition,
+) -> Result<String, AllocError> {
+    let nid_rbc = transition.nid_rbc.value();
+    let border = point_in_words(alloc, line, nid_lrbg, transition.d_rbctr.value())?;
+    format!(in alloc; "to NID_RBC {nid_rbc} at {border}")
+}

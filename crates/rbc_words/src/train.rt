@@ -1,0 +1,96 @@
+//! A message of a train, field by field.
+
+use crate::field::Meaning;
+use crate::fields::Fields;
+use crate::position::add_position;
+use rbc_msgs::{TrainBody, TrainMsg};
+use rbc_packets::Opaque;
+use rbc_vars::{QMarqstreason, QStatus, TTrain};
+use std::alloc::AllocError;
+
+// A packet has at most 8 170 bits behind its header.
+const MOST_LINES: u32 = 256;
+
+/// What stands behind NID_MESSAGE and L_MESSAGE.
+pub fn add_train(fields: &mut Fields, message: &TrainMsg) -> Result<(), AllocError> {
+    let meaning = Meaning::Count {
+        count: 10 * u64::from(message.t_train()),
+        unit: "ms on board",
+    };
+    fields.add("T_TRAIN", message.t_train().into(), meaning)?;
+    fields.number("NID_ENGINE", message.nid_engine().into())?;
+    add_body(fields, message.body())?;
+    for packet in message.further() {
+        add_packet(fields, packet)?;
+    }
+    Ok(())
+}
+
+fn add_body(fields: &mut Fields, body: &TrainBody) -> Result<(), AllocError> {
+    match body {
+        TrainBody::TrainData { position, packet } => {
+            add_position(fields, position)?;
+            add_packet(fields, packet)
+        }
+        TrainBody::Request {
+            q_marqstreason,
+            position,
+        } => {
+            add_reason(fields, *q_marqstreason)?;
+            add_position(fields, position)
+        }
+        TrainBody::Report { position } | TrainBody::EndOfMission { position } => {
+            add_position(fields, position)
+        }
+        TrainBody::ShorteningGranted { request, position }
+        | TrainBody::ShorteningRejected { request, position } => {
+            add_request(fields, *request)?;
+            add_position(fields, position)
+        }
+        TrainBody::StartOfMission { q_status, position } => {
+            add_status(fields, *q_status)?;
+            add_position(fields, position)
+        }
+        TrainBody::InitiationOfSession
+        | TrainBody::TerminationOfSession
+        | TrainBody::SessionEstablished => Ok(()),
+    }
+}
+
+// Why an authority is asked for, a bit a reason.
+fn add_reason(fields: &mut Fields, reason: QMarqstreason) -> Result<(), AllocError> {
+    fields.add("Q_MARQSTREASON", reason.value(), Meaning::Bits(5))
+}
+
+// T_TRAIN of the request that is answered.
+fn add_request(fields: &mut Fields, request: TTrain) -> Result<(), AllocError> {
+    fields.words("T_TRAIN", request.value(), "of the request")
+}
+
+fn add_status(fields: &mut Fields, status: QStatus) -> Result<(), AllocError> {
+    let words = match status {
+        QStatus::Invalid => "position invalid",
+        QStatus::Valid => "position valid",
+        QStatus::Unknown => "position unknown",
+    };
+    fields.words("Q_STATUS", status.value(), words)
+}
+
+/// A packet that is kept without being read: its bits, up to 32 a line.
+fn add_packet(fields: &mut Fields, packet: &Opaque) -> Result<(), AllocError> {
+    let words = match packet.nid_packet() {
+        11 => "validated train data, not read",
+        _ => "not read",
+    };
+    fields.packet(packet.nid_packet().into(), words)?;
+    let mut bits = packet.bits();
+    fields.bits_of_packet(21 + u64::from(bits.remaining()))?;
+    for _ in 0..MOST_LINES {
+        let count = bits.remaining().min(32);
+        match bits.take(count) {
+            Ok(value) if count > 0 => fields.add("bits", value, Meaning::Bits(count))?,
+            _ => return Ok(()),
+        }
+    }
+    Ok(())
+}
