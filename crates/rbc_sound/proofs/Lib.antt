@@ -1,0 +1,5 @@
+pub mod Held
+pub mod Sends
+pub mod Again
+pub mod Places
+pub mod Leaving

@@ -1,0 +1,7 @@
+//! Laws of a sound centre: it begins so, and whatever happens to it, it stays so. A centre is sound (`IsCentreSound` of `rbc_flow`)
+//! by what it has itself, wherever the other centres are. The functions do nothing: each contract is a law of the definitions.
+#![tactic(auto)]
+
+mod laws;
+
+pub use laws::a_centre_begins_sound;
