@@ -3,3 +3,7 @@ pub mod Sends
 pub mod Again
 pub mod Places
 pub mod Leaving
+pub mod Reports
+pub mod Requests
+pub mod Starts
+pub mod Interlocking
