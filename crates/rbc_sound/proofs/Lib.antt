@@ -7,3 +7,8 @@ pub mod Reports
 pub mod Requests
 pub mod Starts
 pub mod Interlocking
+pub mod Rights
+pub mod Routes
+pub mod Handovers
+pub mod Events
+pub mod Ranges

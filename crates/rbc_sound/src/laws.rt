@@ -1,11 +1,28 @@
 //! Laws of a sound centre.
 
 ghost use Rattle.std.specs.Prelude.{ℕ};
-ghost use Rattle.rbc_spec.specs.Line.{Line};
-ghost use Rattle.rbc_spec.specs.Centre.{beginning};
-ghost use Rattle.rbc_flow.specs.Sound.{IsCentreSound};
+ghost use Rattle.rbc_spec.specs.Reach.{Reach};
+ghost use Rattle.rbc_spec.specs.Line.{Line, IsLine};
+ghost use Rattle.rbc_spec.specs.Frame.{Body, HasBodyRange};
+ghost use Rattle.rbc_spec.specs.Centre.{Centre, beginning};
+ghost use Rattle.rbc_spec.specs.Step.{Event};
+ghost use Rattle.rbc_flow.specs.Sound.{IsCentreSound, IsBodySound};
+ghost use Rattle.rbc_sound.specs.Stays.{HasHandRange, IsInRange, StaysSound};
 
 /// At its beginning a centre is sound.
 pub fn a_centre_begins_sound()
     ensures { (line : Line) (c : ℕ) → IsCentreSound line c (beginning line c) }
+{}
+
+/// Whatever a train says, the interlocking wishes or another centre sends, at every reach: a sound centre stays sound, and what it sends
+/// is sound.
+pub fn a_centre_stays_sound()
+    ensures { (reach : Reach) (line : Line) (c : ℕ) (k : Centre) (event : Event) → IsLine line → IsInRange event → IsCentreSound line c k
+        → StaysSound reach line c k event }
+{}
+
+/// A frame whose fields lie in their ranges may be delivered, and so may one that a sound centre sent.
+pub fn a_frame_in_range_has_a_hand()
+    ensures ranges { (body : Body) → HasBodyRange body → HasHandRange body }
+    ensures sound { (line : Line) (a b : ℕ) (body : Body) → IsBodySound line a b body → HasHandRange body }
 {}
