@@ -7,7 +7,7 @@ use Rattle.std.proofs.lemmas.Bool.{and_parts, cond-true, ne_eqb, or_right}
 use Rattle.rbc_ledger.specs.Sums.{one_if}
 use Rattle.rbc_spec.specs.Maps.{has, put, put_pair}
 use Rattle.rbc_spec.specs.Runs.{Run, no_run, most_in_hand, within, all_of}
-use Rattle.rbc_spec.specs.Line.{Line, IsLine, is_home, section_of_group, train_number}
+use Rattle.rbc_spec.specs.Line.{Line, IsLine, is_home, section_of_group, train_number, next_centre}
 use Rattle.rbc_spec.specs.Sections.{is_on, is_on_track}
 use Rattle.rbc_spec.specs.Place.{Place, group_start}
 use Rattle.rbc_spec.specs.Centre.{Centre, Entry, Shut, Open, Taken, Out, Mission, Handing, Expectation, is_taken_for, is_out_for}
@@ -68,9 +68,6 @@ module _ (line : Line) (ok : IsLine line) (c : ℕ) where
       (changed_sound line c k old t (claimed d number) (λ m at. refl) (λ m at. as_claimed m (old.mission t m at)))
       (λ j is sound. yielded_if_due line ok c t j sound)
     where
-      claim : Handing → Handing
-      claim h = if (h.number == number) && (h.to == d) then record h { is_claimed = true } else h
-
       same_to : (h : Handing) (b : Bool) → let x : Handing = if b then record h { is_claimed = true } else h in (x.to ≡ h.to) × (x.number ≡ h.number)
       same_to h true = (refl, refl)
       same_to h false = (refl, refl)
@@ -83,12 +80,15 @@ module _ (line : Line) (ok : IsLine line) (c : ℕ) where
           (x, refl, ap (λ (y : Handing). y.to) (sym same) ∙ both.0, ap (λ (y : Handing). y.number) (sym same) ∙ both.1)
       was None h is = cc
 
+      same_next : (h x : Handing) (track : ℕ) → h.to ≡ x.to → next_centre line c track ≡ Some x.to → next_centre line c track ≡ Some h.to
+      same_next h x track same next = next ∙ ap (λ y. Some y) (sym same)
+
       as_claimed : (m : Mission) → IsMissionAt line c k m → IsMissionAt line c k (claimed d number m)
       as_claimed m is = record {
         hand = is.hand;
         pool_follows = is.pool_follows;
         pool_away = is.pool_away;
-        handing_to = λ h handed. let old_one = was m.handing h handed in is.handing_to old_one.0 old_one.1 ∙ ap (λ x. Some x) (sym old_one.2);
+        handing_to = λ h handed. let old_one = was m.handing h handed in same_next h old_one.0 m.place.track old_one.2 (is.handing_to old_one.0 old_one.1);
         handing_number = λ h handed. let old_one = was m.handing h handed in let counted = is.handing_number old_one.0 old_one.1 in (omega (arith, counted, old_one.3), omega (arith, counted, old_one.3));
       }
 

@@ -12,3 +12,4 @@ pub mod Routes
 pub mod Handovers
 pub mod Events
 pub mod Ranges
+pub mod Worlds

@@ -4,4 +4,7 @@
 
 mod laws;
 
-pub use laws::{a_centre_begins_sound, a_centre_stays_sound, a_frame_in_range_has_a_hand};
+pub use laws::{
+    a_centre_begins_sound, a_centre_stays_sound, a_frame_in_range_has_a_hand,
+    each_centre_of_a_world_is_sound,
+};
