@@ -7,9 +7,10 @@ use Rattle.rbc_spec.specs.Runs.{Run, within}
 use Rattle.rbc_spec.specs.Line.{Line, is_home}
 use Rattle.rbc_spec.specs.Centre.{Centre, Entry, Shut, Open, Taken, Mission, is_open, is_unused, is_taken_for, is_registrar_of, is_free}
 use Rattle.rbc_spec.specs.Acts.{change_mission}
+use Rattle.rbc_lemmas.proofs.Puts.{put_here, put_other}
 use Rattle.rbc_alone.specs.Alone.{IsAloneAt, IsMissionAlone, hand_has}
 use Rattle.rbc_alone.proofs.Entries.{given, taken_given, out_given, taken_for_one, hand_given, others_given, booked_for, taken_here, taken_elsewhere, out_booked, unused_booked}
-use Rattle.rbc_alone.proofs.Stays.{Stays, remade, put_here, put_other}
+use Rattle.rbc_alone.proofs.Stays.{Stays, remade}
 
 hand_changed : (change : Mission → Mission) (o : Option Mission) (s : ℕ) → ((m : Mission) → o ≡ Some m → (change m).hand ≡ m.hand)
     → hand_has (option_map change o) s ≡ hand_has o s
@@ -24,10 +25,6 @@ alone_changed : (line : Line) (change : Mission → Mission) (o : Option Mission
     → (n : Mission) → option_map change o ≡ Some n → IsMissionAlone line n
 alone_changed line change (Some m) alone n is = subst (IsMissionAlone line) (same_Some (change m) n is) (alone m refl)
 alone_changed line change None alone n is = cc
-
-none_is : (o : Option Mission) → is_none o ≡ true → o ≡ None
-none_is (Some m) is = cc
-none_is None is = refl
 
 and_same : (a b : Bool) → (a ≡ true → b ≡ true) → (a && b) ≡ a
 and_same true b h = h refl

@@ -1,19 +1,19 @@
 -- A place that is fit for a start covers some section, and at most as many as a hand may have.
-use Rattle.std.proofs.Common.{◌≡◌, ℕ, zero, suc, ◌+◌, ◌-◌, ◌*◌, ◌<◌, ◌≤◌, ◌==◌, ◌&&◌, Bool, true, false, List, [], ◌∷◌, take, filter, slice_get, Option, Some, None, ℤ, pos, negsuc, int_lt, int_le, nat_lt, nat_le, refl, sym, ap, ◌∙◌, subst, arith, ⊎_elim, ltb-true, leb-true, lt-ltb, eqb-true}
-use Rattle.std.specs.List.{sum_by, list_all, range_with_len}
+use Rattle.std.proofs.Common.{◌≡◌, ℕ, suc, ◌+◌, ◌-◌, ◌*◌, ◌<◌, ◌≤◌, ◌==◌, ◌&&◌, true, false, List, [], ◌∷◌, take, filter, slice_get, Option, Some, None, ℤ, pos, negsuc, int_lt, int_le, nat_lt, nat_le, refl, sym, ap, ◌∙◌, subst, arith, ⊎_elim, ltb-true, leb-true, lt-ltb, eqb-true}
+use Rattle.std.specs.List.{sum_by}
 use Rattle.std.specs.Option.{option_map_or}
-use Rattle.std.proofs.lemmas.Option.{same_Some}
-use Rattle.std.proofs.lemmas.Bool.{and_parts, cases_Bool, cases_lt, cases_eq}
-use Rattle.rbc_spec.specs.Runs.{Run, within, all_of}
+use Rattle.std.proofs.lemmas.Bool.{and_parts, cases_Bool, cases_lt}
+use Rattle.rbc_spec.specs.Runs.{within, all_of}
 use Rattle.rbc_spec.specs.Line.{Line, Section, end}
 use Rattle.rbc_spec.specs.Sections.{is_on, track_end}
 use Rattle.rbc_spec.specs.Place.{Place, covers, covered, is_fit}
 use Rattle.rbc_spec.specs.Centre.{Mission}
 use Rattle.rbc_spec.specs.Acts.{begun}
 use Rattle.rbc_spec.proofs.Sums.{sum_up_to, sum_kept, sum_left}
-use Rattle.rbc_spec.proofs.Places.{IsAt, start_is, section_on, on_section, covers_parts, covers_from, end_of}
+use Rattle.rbc_spec.proofs.Places.{IsAt, start_is, on_section, covers_parts, covers_from, end_of}
+use Rattle.rbc_lemmas.proofs.Lines.{one_track}
+use Rattle.rbc_lemmas.proofs.Runs.{within_true, each_within}
 use Rattle.rbc_alone.specs.Alone.{IsOrdered, IsMissionAlone}
-use Rattle.rbc_alone.proofs.Hands.{within_true}
 
 -- a rear that is not before the track, and before the front
 rear_parts : (o : Option ℤ) (front : ℕ) → option_map_or (λ rear. int_le (pos 0) rear && int_lt rear (pos front)) o false ≡ true
@@ -81,25 +81,6 @@ fit_covers line place fit =
       }),
     )
 
--- all sections of a run pass
-each_of : (test : ℕ → Bool) (count first s : ℕ) → list_all test (range_with_len first count) ≡ true → first ≤ s → s < first + count → test s ≡ true
-each_of test zero first s all low high = absurd (omega arith)
-each_of test (suc count) first s all low high =
-    let both = and_parts (test first) (list_all test (range_with_len (first + 1) count)) all in
-    ⊎_elim (λ (here : s ≡ first). ap test here ∙ both.0)
-    (λ (apart : s ≡ first → ⊥). each_of test count (first + 1) s both.1 (omega arith) (omega arith))
-    (cases_eq s first)
-
-pub all_each : (test : ℕ → Bool) (r : Run) → all_of test r ≡ true → (s : ℕ) → within r s ≡ true → test s ≡ true
-all_each test r all s in_run = let at = within_true r s in_run in each_of test r.count r.first s all at.0 at.1
-
--- two tracks of one section are one
-pub one_track : (line : Line) (s a b : ℕ) → is_on line a s ≡ true → is_on line b s ≡ true → a ≡ b
-one_track line s a b one two =
-    let p = section_on line a s one in
-    let q = section_on line b s two in
-    sym p.1.on ∙ ap (λ (x : Section). x.track) (same_Some p.0 q.0 (sym p.1.at ∙ q.1.at)) ∙ q.1.on
-
 module _ (line : Line) (ordered : IsOrdered line) (place : Place) (fit : IsFit line place) where
   pub covers_within : (s : ℕ) → covers line place s ≡ true → within (covered line place) s ≡ true
   covers_within s is = ordered.covers_run place s ∙ is
@@ -126,7 +107,7 @@ module _ (line : Line) (ordered : IsOrdered line) (place : Place) (fit : IsFit l
   restarted_alone m alone all =
       let one = fit_covers line place fit in
       let there = covers_within one.0 one.1 in
-      let same : m.place.track ≡ place.track = one_track line one.0 m.place.track place.track (alone.on_track one.0 (all_each (within m.hand) (covered line place) all one.0 there)) (covered_on one.0 there) in
+      let same : m.place.track ≡ place.track = one_track line one.0 m.place.track place.track (alone.on_track one.0 (each_within (within m.hand) (covered line place) all one.0 there)) (covered_on one.0 there) in
       record {
         no_pool = alone.no_pool;
         no_handing = alone.no_handing;

@@ -11,14 +11,15 @@ use Rattle.rbc_spec.specs.Sections.{is_on}
 use Rattle.rbc_spec.specs.Place.{Place, Position, extent, is_fit, covered, place_on, fit_place}
 use Rattle.rbc_spec.specs.Message.{TrackBody, Authority}
 use Rattle.rbc_spec.specs.Centre.{Centre, Taken, Mission, is_open, is_registrar_of, is_free}
-use Rattle.rbc_spec.specs.Acts.{Act, Reply, become, rest, ◌>>◌, say, booked, set_mission, begun, yield_if_due}
+use Rattle.rbc_spec.specs.Acts.{Act, become, rest, ◌>>◌, say, booked, set_mission, begun, yield_if_due}
 use Rattle.rbc_spec.specs.Rules.{accept, reject, restart, start_here, start_elsewhere, start_new, start_mission, begin, extension, extended_by, may_follow, authority, grant, request}
+use Rattle.rbc_lemmas.proofs.Longest.{longest_few, longest_each}
+use Rattle.rbc_lemmas.proofs.Runs.{within_true, within_joined, each_within, joined_count}
 use Rattle.rbc_alone.specs.Alone.{IsOrdered, IsAloneAt, IsMissionAlone, hand_has}
 use Rattle.rbc_alone.proofs.Simple.{no_yield}
-use Rattle.rbc_alone.proofs.Hands.{within_true, within_joined, joined_is, longest_few, longest_each}
-use Rattle.rbc_alone.proofs.Stays.{Stays, rest_stays, then_stays, alike_stays, other_parts}
+use Rattle.rbc_alone.proofs.Stays.{Stays, rest_stays, then_stays, alike_stays, other_parts, if_stays, or_stays}
 use Rattle.rbc_alone.proofs.Changes.{goes_on, starts_here, changed, booked_alone}
-use Rattle.rbc_alone.proofs.Fits.{IsFit, fit_parts, all_each, begun_alone, restarted_alone}
+use Rattle.rbc_alone.proofs.Fits.{IsFit, fit_parts, begun_alone, restarted_alone}
 
 pub none_within : (s : ℕ) → within no_run s ≡ true → ⊥
 none_within s is = let at = within_true no_run s is in omega (arith, at)
@@ -47,19 +48,10 @@ module _ (line : Line) (c : ℕ) where
   if_act true f g k one two = one refl
   if_act false f g k one two = two refl
 
-  pub if_reply : (b : Bool) (r q : Reply) → (b ≡ true → Stays line c r) → (b ≡ false → Stays line c q) → Stays line c (if b then r else q)
-  if_reply true r q one two = one refl
-  if_reply false r q one two = two refl
-
   pub or_act : {X : Type 0} (o : Option X) (f : X → Act) (g : Act) (k : Centre) → ((x : X) → o ≡ Some x → Stays line c (f x k)) → (o ≡ None → Stays line c (g k))
       → Stays line c (option_map_or f o g k)
   or_act (Some x) f g k one two = one x refl
   or_act None f g k one two = two refl
-
-  pub or_reply : {X : Type 0} (o : Option X) (f : X → Reply) (r : Reply) → ((x : X) → o ≡ Some x → Stays line c (f x)) → (o ≡ None → Stays line c r)
-      → Stays line c (option_map_or f o r)
-  or_reply (Some x) f r one two = one x refl
-  or_reply None f r one two = two refl
 
   pub said : (t group : ℕ) (body : TrackBody) (k : Centre) → IsAloneAt line c k → Stays line c (say t group body k)
   said t group body k h = record {
@@ -93,7 +85,7 @@ module _ (line : Line) (c : ℕ) where
         (then_both (set_mission t (Some (begun line place))) (accept t) j
         (record {
           state = booked_alone line c k t (covered line place) (Some (begun line place)) (put k.has_right t false) h
-              (all_each (is_free line c k) (covered line place) all)
+              (each_within (is_free line c k) (covered line place) all)
               (λ s. sym (ap (λ o. hand_has o s || within (covered line place) s) none))
               (starts_here line c k t (begun line place) here (begun_alone line ordered place fit));
           frames = λ d. refl;
@@ -101,17 +93,17 @@ module _ (line : Line) (c : ℕ) where
         (λ i alone. said t _ _ i alone))
 
     pub started : (t : ℕ) (place : Place) (k : Centre) → IsAloneAt line c k → k.mission t ≡ None → IsFit line place → Stays line c (start_new Alone line c t place k)
-    started t place k h none fit = if_reply (all_of (is_free line c k) (covered line place)) _ _
+    started t place k h none fit = if_stays line c (all_of (is_free line c k) (covered line place)) _ _
         (λ all. if_act (is_registrar_of line c t) (start_here line t place) (start_elsewhere Alone line t place) k
-        (λ here. if_reply (k.has_right t) _ _ (λ right. begun_here t place k h none fit all here) (λ away. said t _ _ k h))
+        (λ here. if_stays line c (k.has_right t) _ _ (λ right. begun_here t place k h none fit all here) (λ away. said t _ _ k h))
         (λ away. said t _ _ k h))
         (λ taken. said t _ _ k h)
 
     pub answered_start : (t : ℕ) (is_valid : Bool) (position : Position) (k : Centre) → IsAloneAt line c k → Stays line c (start_mission Alone line c t is_valid position k)
-    answered_start t is_valid position k h = or_reply (fit_place line is_valid position) _ (reject t k)
+    answered_start t is_valid position k h = or_stays line c (fit_place line is_valid position) _ (reject t k)
         (λ place fits.
         let fit = fit_parts line place (fit_of is_valid (extent line position) place fits) in
-        or_reply (k.mission t) (λ m. restart line t place m k) (start_new Alone line c t place k)
+        or_stays line c (k.mission t) (λ m. restart line t place m k) (start_new Alone line c t place k)
         (λ m at. restarted t place m k h at fit)
         (λ none. started t place k h none fit))
         (λ none. said t _ _ k h)
@@ -154,7 +146,7 @@ module _ (line : Line) (c : ℕ) where
         → IsMissionAlone line (extended_by (extension line c k (record m { place = place })) (record m { place = place }))
     granted_alone k m place alone same =
         let r : Run = extension line c k (record m { place = place }) in
-        let count : (joined m.hand r).count ≡ m.hand.count + r.count = ap (λ (q : Run). q.count) (joined_is m.hand r.count alone.some) in
+        let count : (joined m.hand r).count ≡ m.hand.count + r.count = joined_count m.hand r in
         record {
           no_pool = ap (λ p. if is_empty p then p else part_from (behind r) p) alone.no_pool;
           no_handing = alone.no_handing;
@@ -163,7 +155,7 @@ module _ (line : Line) (c : ℕ) where
           on_track = λ s is. ⊎_elim
               (λ (old : within m.hand s ≡ true). subst (λ t. is_on line t s ≡ true) (sym same) (alone.on_track s old))
               (λ (new : within r s ≡ true). follows_on k m place s new)
-              (or_cases (within m.hand s) (within r s) (sym (within_joined m.hand r.count s alone.some) ∙ is));
+              (or_cases (within m.hand s) (within r s) (sym (within_joined m.hand r s refl) ∙ is));
         }
 
     pub granted_more : (t : ℕ) (m : Mission) (place : Place) (k : Centre) → IsAloneAt line c k → k.mission t ≡ Some m → place.track ≡ m.place.track
@@ -177,7 +169,7 @@ module _ (line : Line) (c : ℕ) where
         (then_stays line c (booked is_open (Taken t) r) (set_mission t (Some (extended_by r n))) k (λ d. refl) (record {
           state = booked_alone line c k t r (Some (extended_by r n)) k.has_right h
               (follows_free k m place alone)
-              (λ s. within_joined m.hand r.count s alone.some ∙ sym (ap (λ o. hand_has o s || within r s) at))
+              (λ s. within_joined m.hand r s refl ∙ sym (ap (λ o. hand_has o s || within r s) at))
               (goes_on line c k t m (extended_by r n) h at (granted_alone k m place alone same));
           frames = λ d. refl;
         }))
@@ -185,7 +177,7 @@ module _ (line : Line) (c : ℕ) where
         (λ j stays. rest_stays line c j stays)
 
     pub answered_request : (t : ℕ) (position : Position) (k : Centre) → IsAloneAt line c k → Stays line c (request Alone line c t position k)
-    answered_request t position k h = or_reply (k.mission t) _ (rest k)
+    answered_request t position k h = or_stays line c (k.mission t) _ (rest k)
         (λ m at. or_act (place_on line m.place.track position) (λ place. grant Alone line c t (record m { place = place })) rest k
         (λ place is. granted_more t m place k h at (place_of m.place.track (extent line position) place is).0)
         (λ none. rest_stays line c k h))

@@ -1,7 +1,7 @@
 -- A centre that is alone stays so as its trains report, shorten, and end.
-use Rattle.std.proofs.Common.{◌≡◌, ℕ, ◌+◌, ◌*◌, ◌<◌, ◌≤◌, ◌==◌, ◌&&◌, not, if◌then◌else◌, Bool, true, false, Some, None, option_map, nat_le, refl, sym, ap, ◌∙◌, subst, arith, ⊎_elim, eqb-true}
+use Rattle.std.proofs.Common.{◌≡◌, ℕ, ◌+◌, ◌*◌, ◌≤◌, ◌==◌, ◌&&◌, not, if◌then◌else◌, Bool, true, false, Some, None, option_map, nat_le, refl, sym, ap, ◌∙◌, subst, arith, eqb-true}
 use Rattle.std.specs.Option.{option_map_or}
-use Rattle.std.proofs.lemmas.Bool.{and_parts, cases_Bool, eqb-false, cond-true, cond-false}
+use Rattle.std.proofs.lemmas.Bool.{and_parts, eqb-false}
 use Rattle.rbc_spec.specs.Maps.{put}
 use Rattle.rbc_spec.specs.Runs.{Run, no_run, within, behind, is_empty, part_before, part_from, joined}
 use Rattle.rbc_spec.specs.Line.{Line, end}
@@ -10,27 +10,16 @@ use Rattle.rbc_spec.specs.Place.{Place, Position, extent, is_cleared, place_on}
 use Rattle.rbc_spec.specs.Centre.{Centre, Mission, Proposal, is_taken_for}
 use Rattle.rbc_spec.specs.Acts.{Act, rest, ◌>>◌, with_some, freed, leave, set_mission, change_mission, return_pool, cancel, close, part_at, yield_if_due}
 use Rattle.rbc_spec.specs.Rules.{cleared, clear, report_here, report, take_over, end_mission, cut, granted, answer_granted}
+use Rattle.rbc_lemmas.proofs.Acts.{alike_then, then_alike, then_resting, resting_then}
+use Rattle.rbc_lemmas.proofs.Puts.{put_here}
+use Rattle.rbc_lemmas.proofs.Longest.{longest_few}
+use Rattle.rbc_lemmas.proofs.Runs.{within_true, within_from, same_tests, joined_empty}
 use Rattle.rbc_alone.specs.Alone.{IsOrdered, IsAloneAt, IsMissionAlone, hand_has}
-use Rattle.rbc_alone.proofs.Simple.{alike_then, then_alike, then_resting, resting_then, all_home, leave_home, no_pool_returned, close_here, no_take_over}
-use Rattle.rbc_alone.proofs.Hands.{within_true, within_from, within_rest, within_kept, same_tests, longest_few}
-use Rattle.rbc_alone.proofs.Stays.{Stays, rest_stays, then_stays, alike_stays, put_here}
+use Rattle.rbc_alone.proofs.Simple.{all_home, leave_home, no_pool_returned, close_here, no_take_over}
+use Rattle.rbc_alone.proofs.Hands.{within_rest, within_kept}
+use Rattle.rbc_alone.proofs.Stays.{Stays, rest_stays, then_stays, alike_stays, or_stays}
 use Rattle.rbc_alone.proofs.Changes.{registrar_of_mission, hand_home, goes_on, ends_here, changed, freed_alone}
-use Rattle.rbc_alone.proofs.Missions.{none_within, place_of, then_both, if_act, or_act, or_reply, none_yielded}
-
--- an empty run that follows adds nothing
-within_joined_none : (r p : Run) (s : ℕ) → p ≡ no_run → within (joined r p) s ≡ within r s
-within_joined_none r p s none = ap (λ q. within (joined r q) s) none ∙ ⊎_elim
-    (λ (empty : is_empty r ≡ true). ap (λ q. within q s) (cond-true (is_empty r) no_run (record { first = r.first; count = r.count + 0 }) empty)
-    ∙ same_tests (within no_run s) (within r s) (λ is. absurd (none_within s is)) (λ is. absurd (no_member empty (within_true r s is))))
-    (λ (some : is_empty r ≡ false). ap (λ q. within q s) (cond-false (is_empty r) no_run (record { first = r.first; count = r.count + 0 }) some)
-    ∙ ap (λ n. within (record { first = r.first; count = n }) s) more)
-    (cases_Bool (is_empty r))
-  where
-    no_member : is_empty r ≡ true → (r.first ≤ s) × (s < r.first + r.count) → ⊥
-    no_member empty at = omega (arith, at, eqb-true r.count 0 empty)
-
-    more : r.count + 0 ≡ r.count
-    more = omega arith
+use Rattle.rbc_alone.proofs.Missions.{place_of, then_both, if_act, or_act, none_yielded}
 
 none_left : (b : Bool) → false ≡ (b && not b)
 none_left true = refl
@@ -80,7 +69,7 @@ module _ (line : Line) (c : ℕ) (ordered : IsOrdered line) where
       let r : Run = cleared line place m in
       let few = longest_few (is_cleared line place) m.hand.first m.hand.count in
       if_act line c (r.count == m.hand.count) _ _ k
-      (λ all. whole_leaves t m m m.place.track (joined m.hand m.pool) k h at alone.no_handing (λ s. within_joined_none m.hand m.pool s alone.no_pool))
+      (λ all. whole_leaves t m m m.place.track (joined m.hand m.pool) k h at alone.no_handing (λ s. joined_empty m.hand m.pool s (ap is_empty alone.no_pool)))
       (λ rest_stays. part_leaves t m (record m { place = place; hand = part_from (behind r) m.hand }) m.place.track r k h at
       (rest_alone (cleared line place m).count m place alone same few (eqb-false r.count m.hand.count rest_stays))
       (λ s is. let in_r = within_true r s is in within_from m.hand s in_r.0 (omega (arith, in_r, few)))
@@ -102,7 +91,7 @@ module _ (line : Line) (c : ℕ) (ordered : IsOrdered line) where
       (λ none. rest_stays line c k h)
 
   pub answered_report : (t : ℕ) (position : Position) (k : Centre) → IsAloneAt line c k → Stays line c (report line c t position k)
-  answered_report t position k h = or_reply line c (k.mission t) _ (take_over line t k)
+  answered_report t position k h = or_stays line c (k.mission t) _ (take_over line t k)
       (λ m at. then_both line c (report_here line c t position m) (yield_if_due line c t) k (reported_here t position m k h at) (λ j stays. none_yielded line c t j stays))
       (λ none. alike_stays line c (take_over line t k) (rest k) (no_take_over line t k (λ d. h.not_expected d t)) (rest_stays line c k h))
 
@@ -115,8 +104,8 @@ module _ (line : Line) (c : ℕ) (ordered : IsOrdered line) where
   ended t position k h =
       then_both line c (with_some (λ j. j.mission t) (report_here line c t position) >> with_some (λ j. j.mission t) (end_of t)) (yield_if_due line c t) k
       (then_both line c (with_some (λ j. j.mission t) (report_here line c t position)) (with_some (λ j. j.mission t) (end_of t)) k
-      (or_reply line c (k.mission t) _ (rest k) (λ m at. reported_here t position m k h at) (λ none. rest_stays line c k h))
-      (λ j stays. or_reply line c (j.mission t) _ (rest j) (λ m at. end_stays t m j stays at) (λ none. rest_stays line c j stays)))
+      (or_stays line c (k.mission t) _ (rest k) (λ m at. reported_here t position m k h at) (λ none. rest_stays line c k h))
+      (λ j stays. or_stays line c (j.mission t) _ (rest j) (λ m at. end_stays t m j stays at) (λ none. rest_stays line c j stays)))
       (λ j stays. none_yielded line c t j stays)
     where
       end_stays : (t : ℕ) (m : Mission) (j : Centre) → IsAloneAt line c j → j.mission t ≡ Some m → Stays line c (end_of t m j)
@@ -161,7 +150,7 @@ module _ (line : Line) (c : ℕ) (ordered : IsOrdered line) where
       let tail : Run = part_from (last_kept + 1) m.hand in
       let kept : Mission = record m { hand = part_before (last_kept + 1) m.hand; pool = no_run; proposal = None } in
       let cancels : Act = option_map_or (λ i. if is_empty (part_at line i.to m.place.track kept.hand) then cancel t kept else rest) m.handing rest in
-      let r_is : (s : ℕ) → within (joined tail m.pool) s ≡ within tail s = λ s. within_joined_none tail m.pool s alone.no_pool in
+      let r_is : (s : ℕ) → within (joined tail m.pool) s ≡ within tail s = λ s. joined_empty tail m.pool s (ap is_empty alone.no_pool) in
       let same_hand : (s : ℕ) → within m.hand s ≡ within n.hand s = λ s. ap (λ r. within r s) (sym same) in
       then_if (leave line c t m.place.track (joined tail m.pool)) (close line c t m) (set_mission t (Some kept) >> cancels) (tail.count == m.hand.count) k
       (λ all. whole_leaves t m n m.place.track (joined tail m.pool) k h at alone.no_handing
@@ -194,6 +183,6 @@ module _ (line : Line) (c : ℕ) (ordered : IsOrdered line) where
       unproposed n alone = record { no_pool = alone.no_pool; no_handing = alone.no_handing; some = alone.some; few = alone.few; on_track = alone.on_track }
 
   pub answered_shortening : (t : ℕ) (position : Position) (k : Centre) → IsAloneAt line c k → Stays line c (answer_granted line c t position k)
-  answered_shortening t position k h = or_reply line c (k.mission t) _ (rest k)
-      (λ m at. or_reply line c m.proposal (λ p. granted line c t position m p k) (rest k) (λ p is. shortened t position m p k h at) (λ none. rest_stays line c k h))
+  answered_shortening t position k h = or_stays line c (k.mission t) _ (rest k)
+      (λ m at. or_stays line c m.proposal (λ p. granted line c t position m p k) (rest k) (λ p is. shortened t position m p k h at) (λ none. rest_stays line c k h))
       (λ none. rest_stays line c k h)

@@ -1,5 +1,5 @@
 -- Acts that do nothing where no other centre has a part: each equals the act that rests, or a shorter one.
-use Rattle.std.proofs.Common.{◌≡◌, ℕ, ◌+◌, ◌<◌, ◌≤◌, ◌==◌, ◌&&◌, ◌||◌, not, if◌then◌else◌, Bool, true, false, List, [], ◌∷◌, ◌++◌, Option, Some, None, option_map, refl, sym, ap, ◌∙◌, arith, ⊎_elim, eqb-true, eq-eqb, nat_lt, nat_le}
+use Rattle.std.proofs.Common.{◌≡◌, ℕ, ◌+◌, ◌<◌, ◌≤◌, ◌==◌, ◌&&◌, ◌||◌, not, if◌then◌else◌, Bool, true, false, [], ◌∷◌, Option, Some, None, option_map, refl, sym, ap, ◌∙◌, arith, ⊎_elim, eqb-true, eq-eqb, nat_lt, nat_le}
 use Rattle.std.specs.Option.{option_map_or}
 use Rattle.std.proofs.lemmas.Bool.{cases_Bool, cond-true, cond-false, and_right, and_parts, and_from, or_left, or_right, cases_lt, lt-ltb, le-leb, ne_eqb}
 use Rattle.rbc_spec.specs.Maps.{put}
@@ -8,46 +8,11 @@ use Rattle.rbc_spec.specs.Line.{Line, Section, is_home, section, is_centre}
 use Rattle.rbc_spec.specs.Sections.{is_on, home_run}
 use Rattle.rbc_spec.specs.Frame.{RouteReturn, Cancel, TakingOver}
 use Rattle.rbc_spec.specs.Centre.{Centre, Mission, is_taken_for, is_registrar_of}
-use Rattle.rbc_spec.specs.Acts.{Act, Reply, become, rest, ◌>>◌, send, freed, returned, leave, set_mission, change_mission, return_pool, cancel, return_right, close, yield_if_due, where_so, with_some, yield, is_of_two}
+use Rattle.rbc_spec.specs.Acts.{Act, become, rest, ◌>>◌, send, freed, returned, leave, set_mission, change_mission, return_pool, cancel, return_right, close, yield_if_due, where_so, with_some, yield, is_of_two}
 use Rattle.rbc_spec.specs.Place.{covered}
 use Rattle.rbc_spec.specs.Rules.{drop_wait, take_over, taking}
+use Rattle.rbc_lemmas.proofs.Acts.{alike_then, then_resting, resting_then}
 use Rattle.rbc_alone.specs.Alone.{IsOrdered}
-
--- ## One act after another
-
-append_none : {X : Type 0} (xs : List X) → xs ++ [] ≡ xs
-append_none [] = refl
-append_none (x ∷ xs) = ap (λ ys. x ∷ ys) (append_none xs)
-
--- to rest before or behind an act changes nothing
-pub rest_then : (act : Act) (k : Centre) → (rest >> act) k ≡ act k
-unfolding ◌>>◌
-rest_then act k = refl
-
-pub then_rest : (act : Act) (k : Centre) → (act >> rest) k ≡ act k
-unfolding ◌>>◌
-then_rest act k = λ i. record {
-  state = (act k).state;
-  frames = λ d. append_none ((act k).frames d) i;
-  sayings = append_none (act k).sayings i;
-  words = append_none (act k).words i;
-}
-
--- acts that are alike at a state, and then the same act, or an act and then such ones
-pub alike_then : (a b act : Act) (k : Centre) → a k ≡ b k → (a >> act) k ≡ (b >> act) k
-unfolding ◌>>◌
-alike_then a b act k e = ap (λ (r : Reply). record { state = (act r.state).state; frames = λ d. r.frames d ++ (act r.state).frames d; sayings = r.sayings ++ (act r.state).sayings; words = r.words ++ (act r.state).words }) e
-
-pub then_alike : (act a b : Act) (k : Centre) → a (act k).state ≡ b (act k).state → (act >> a) k ≡ (act >> b) k
-unfolding ◌>>◌
-then_alike act a b k e = ap (λ (r : Reply). record { state = r.state; frames = λ d. (act k).frames d ++ r.frames d; sayings = (act k).sayings ++ r.sayings; words = (act k).words ++ r.words }) e
-
--- an act that rests where it comes
-pub then_resting : (act a : Act) (k : Centre) → a (act k).state ≡ rest (act k).state → (act >> a) k ≡ act k
-then_resting act a k e = then_alike act a rest k e ∙ then_rest act k
-
-pub resting_then : (a act : Act) (k : Centre) → a k ≡ rest k → (a >> act) k ≡ act k
-resting_then a act k e = alike_then a rest act k e ∙ rest_then act k
 
 -- ## What does not stand
 

@@ -1,23 +1,17 @@
 -- What a centre that is alone has to owe for a reply: it is still alone, and sends no frame.
-use Rattle.std.proofs.Common.{◌≡◌, ℕ, ◌==◌, ◌&&◌, if◌then◌else◌, Bool, true, false, [], ◌++◌, Option, Some, None, is_none, refl, sym, ap, ◌∙◌, subst, ⊎_elim, eq-eqb}
+use Rattle.std.proofs.Common.{◌≡◌, ℕ, ◌&&◌, if◌then◌else◌, Bool, true, false, [], ◌++◌, Option, Some, None, is_none, refl, sym, ap, ◌∙◌, subst, ⊎_elim}
 use Rattle.std.specs.Option.{option_map_or}
-use Rattle.std.proofs.lemmas.Bool.{cases_Bool, cases_eq, cond-true, cond-false, ne_eqb}
+use Rattle.std.proofs.lemmas.Bool.{cases_Bool, cases_eq}
 use Rattle.rbc_spec.specs.Maps.{put}
 use Rattle.rbc_spec.specs.Line.{Line, is_home}
 use Rattle.rbc_spec.specs.Centre.{Centre, Entry, Shut, Phase, Mission, is_unused, is_taken_for, is_out_for, is_registrar_of}
 use Rattle.rbc_spec.specs.Acts.{Act, Reply, rest, ◌>>◌}
+use Rattle.rbc_lemmas.proofs.Puts.{put_here, put_other}
 use Rattle.rbc_alone.specs.Alone.{IsAloneAt, IsMissionAlone, hand_has}
 
 pub record Stays (line : Line) (c : ℕ) (r : Reply) : Type 0 where
   pub state : IsAloneAt line c r.state
   pub frames : (d : ℕ) → r.frames d ≡ []
-
--- where a function was put and elsewhere
-pub put_here : {X : Type 0} (f : ℕ → X) (t u : ℕ) (x : X) → u ≡ t → put f t x u ≡ x
-put_here f t u x e = cond-true (u == t) x (f u) (eq-eqb u t e)
-
-pub put_other : {X : Type 0} (f : ℕ → X) (t u : ℕ) (x : X) → (u ≡ t → ⊥) → put f t x u ≡ f u
-put_other f t u x apart = cond-false (u == t) x (f u) (ne_eqb u t apart)
 
 pub by_same : {P : Type 0} (m n : ℕ) → (m ≡ n → P) → ((m ≡ n → ⊥) → P) → P
 by_same m n f g = ⊎_elim f g (cases_eq m n)

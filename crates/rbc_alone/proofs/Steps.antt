@@ -12,13 +12,14 @@ use Rattle.rbc_spec.specs.Centre.{Centre, Entry, Shut, Open, Taken, Out, Phase, 
 use Rattle.rbc_spec.specs.Acts.{become, rest, ◌>>◌, say, hear, change_mission, may_propose, propose, propose_if_so}
 use Rattle.rbc_spec.specs.Rules.{tell, set_phase, drop_wait, close_session, answered}
 use Rattle.rbc_spec.specs.Step.{Event, Train, Set, Unset, Effect, make, set, unset, wished, effect, silence, stamp_of, ticked, numbered}
+use Rattle.rbc_lemmas.proofs.Puts.{put_here, put_other}
 use Rattle.rbc_alone.specs.Alone.{IsOrdered, IsAloneAt, hand_has}
 use Rattle.rbc_alone.specs.Stays.{StaysAlone}
 use Rattle.rbc_alone.proofs.Simple.{no_wait_dropped}
 use Rattle.rbc_alone.proofs.Entries.{unused_taken, unused_out}
-use Rattle.rbc_alone.proofs.Stays.{Stays, rest_stays, then_stays, alike_stays, other_parts, put_here, put_other, by_same}
+use Rattle.rbc_alone.proofs.Stays.{Stays, rest_stays, then_stays, alike_stays, other_parts, by_same, if_stays, or_stays}
 use Rattle.rbc_alone.proofs.Changes.{changed}
-use Rattle.rbc_alone.proofs.Missions.{then_both, if_act, if_reply, or_reply, said, answered_start, answered_request}
+use Rattle.rbc_alone.proofs.Missions.{then_both, if_act, said, answered_start, answered_request}
 use Rattle.rbc_alone.proofs.Reports.{answered_report, answered_shortening, ended}
 
 module _ (line : Line) (c : ℕ) where
@@ -95,8 +96,8 @@ module _ (line : Line) (c : ℕ) where
   }
 
   pub proposed : (t s : ℕ) (k : Centre) → IsAloneAt line c k → Stays line c (propose_if_so line t s k)
-  proposed t s k h = or_reply line c (k.mission t) _ (rest k)
-      (λ m at. if_reply line c (may_propose line t s m k) (propose line t s m k) (rest k)
+  proposed t s k h = or_stays line c (k.mission t) _ (rest k)
+      (λ m at. if_stays line c (may_propose line t s m k) (propose line t s m k) (rest k)
       (λ may. then_both line c (say t m.place.group (ShorteningRequest (start line s - group_start line m.place))) (change_mission t (λ n. record n { proposal = Some (record { stamp = k.said t + 1; last_kept = s - 1 }) })) k
       (said line c t _ _ k h)
       (λ j stays. changed line c t (λ n. record n { proposal = Some (record { stamp = k.said t + 1; last_kept = s - 1 }) }) j stays (λ n is. refl) (λ n is. let alone = stays.mission t n is in record {
@@ -117,7 +118,7 @@ module _ (line : Line) (c : ℕ) where
   wished_back s (Out t d) k h not_out = absurd (both_ways ((t == t) && (d == d)) (not_out t d) (and_from (t == t) (d == d) (eq-eqb t t refl) (eq-eqb d d refl)))
 
   pub set_stays : (s : ℕ) (k : Centre) → IsAloneAt line c k → Stays line c (set line c s k)
-  set_stays s k h = if_reply line c (not (is_home line c s)) _ _
+  set_stays s k h = if_stays line c (not (is_home line c s)) _ _
       (λ away. told (NotHome s) k h)
       (λ here.
       let unwished : IsAloneAt line c (record k { wish = put k.wish s false }) = wished_alone k (put k.wish s false) h
@@ -130,7 +131,7 @@ module _ (line : Line) (c : ℕ) where
       (λ j stays. told (Done s) j stays)))
 
   pub unset_stays : (s : ℕ) (k : Centre) → IsAloneAt line c k → Stays line c (unset line c s k)
-  unset_stays s k h = if_reply line c (not (is_home line c s)) _ _
+  unset_stays s k h = if_stays line c (not (is_home line c s)) _ _
       (λ away. told (NotHome s) k h)
       (λ here. if_act line c (is_unused (k.book s)) (make s Shut false >> tell (Done s)) ((become (λ j. record j { wish = put j.wish s true }) >> tell (Asked s)) >> wished line s (k.book s)) k
       (λ unused. then_both line c (make s Shut false) (tell (Done s)) k (made s Shut k h (not-false (is_home line c s) here) unused refl) (λ j stays. told (Done s) j stays))

@@ -10,10 +10,11 @@ use Rattle.rbc_spec.specs.Centre.{Centre}
 use Rattle.rbc_spec.specs.Step as centre
 use Rattle.rbc_spec.specs.Step.{Refusal, step, refusal, taken}
 use Rattle.rbc_spec.specs.World.{World, Event, Bytes, Set, Unset, Delivery, Answer, NoCentre, NotSent, new_world, frame_sent, mention, stepped, at_centre, takes, world_step, world_run, ◌>>=◌}
+use Rattle.rbc_lemmas.proofs.Puts.{put_here, put_other}
 use Rattle.rbc_alone.specs.Alone.{IsOrdered, IsAloneAt, IsAlone}
 use Rattle.rbc_alone.specs.Stays.{StaysAlone}
 use Rattle.rbc_alone.proofs.Ordered.{begins_alone}
-use Rattle.rbc_alone.proofs.Stays.{put_here, put_other, by_same}
+use Rattle.rbc_alone.proofs.Stays.{by_same}
 use Rattle.rbc_alone.proofs.Steps.{train_stays, set_step_stays, unset_step_stays}
 
 pub new_alone : (line : Line) → IsAlone line (new_world line)

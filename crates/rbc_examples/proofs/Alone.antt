@@ -1,11 +1,11 @@
 -- Moves that leave no choice are a run without choice.
-use Rattle.std.proofs.Common.{◌≡◌, ℕ, ◌+◌, ◌*◌, ◌==◌, List, [], ◌∷◌, Bool, true, false, ◌&&◌, not, true≢false, Option, Some, None, is_none, Result, Ok, Err, refl, sym, ap, ◌∙◌, eq-eqb, subst, subst₂}
+use Rattle.std.proofs.Common.{◌≡◌, ℕ, ◌+◌, ◌*◌, ◌==◌, List, [], ◌∷◌, true, false, ◌&&◌, not, true≢false, Option, Some, None, is_none, Result, Ok, Err, refl, sym, ap, ◌∙◌, eq-eqb, subst, subst₂}
 use Rattle.std.specs.Option.{option_map_or}
 use Rattle.std.specs.List.{filter_map}
 use Rattle.rbc_spec.specs.Reach.{Whole}
 use Rattle.rbc_spec.specs.ReadOff.{read_off}
 use Rattle.rbc_examples.specs.Scene.{Scene}
-use Rattle.std.proofs.lemmas.Bool.{and_parts, cond-true, cond-false, eqb-true, not_from_true, le-leb}
+use Rattle.std.proofs.lemmas.Bool.{and_parts, cond-true, cond-false, eqb-true, not_from_true, le-leb, and_from}
 use Rattle.std.proofs.lemmas.Option.{none-some, same_Some}
 use Rattle.rbc_spec.specs.Line.{Line, is_centre, start}
 use Rattle.rbc_spec.specs.Place.{Place, group_start}
@@ -87,15 +87,11 @@ own_alone line v (Delivery from to number) choice plain = tt
 
 -- ## Quiet steps
 
-both_true : (a b : Bool) → a ≡ true → b ≡ true → (a && b) ≡ true
-both_true true b one two = two
-both_true false b one two = one
-
 -- a train that is asked is not barred
 not_barred : (line : Line) (v : LineState) (t c s : ℕ) (said : Said) (new : LineState) (p : Proposes line v t c s said new) → is_barred line v t c s p.mission ≡ false
-not_barred line v t c s said new p = not_from_true _ (both_true _ _
-    (both_true _ _ (both_true _ _ (ap (is_at c) p.supervises ∙ eq-eqb c c refl) (ap is_up p.is_up)) (both_true _ _ (ap not p.goes_on) (ap is_none p.none_stands)))
-    (both_true _ _ (le-leb p.mission.place.front (10 * start line s) p.not_past) (le-leb (start line s) (group_start line p.mission.place + 32767) p.within_reach)))
+not_barred line v t c s said new p = not_from_true _ (and_from _ _
+    (and_from _ _ (and_from _ _ (ap (is_at c) p.supervises ∙ eq-eqb c c refl) (ap is_up p.is_up)) (and_from _ _ (ap not p.goes_on) (ap is_none p.none_stands)))
+    (and_from _ _ (le-leb p.mission.place.front (10 * start line s) p.not_past) (le-leb (start line s) (group_start line p.mission.place + 32767) p.within_reach)))
 
 unasked_is : (line : Line) (v : LineState) (t c s : ℕ) (mark : Mark) (said : Said) (new : LineState) → is_unasked line v c s mark ≡ true → is_given_to t mark ≡ true
     → Proposes line v t c s said new → ⊥

@@ -1,6 +1,6 @@
 -- What comes of an event in Moves is an own step of the one line centre.
 use Rattle.std.proofs.Common.{◌≡◌, inl, inr, ℕ, ◌+◌, ◌-◌, ◌==◌, ◌≤◌, ◌<◌, true, false, ◌&&◌, ◌||◌, not, nat_le, nat_lt, List, Option, Some, None, Ok, Err, refl, sym, ap, ◌∙◌, arith, ⊎_elim}
-use Rattle.std.proofs.lemmas.Bool.{and_parts, leb-true, ltb-true, cases_Bool, cases_lt, eqb-true}
+use Rattle.std.proofs.lemmas.Bool.{and_parts, leb-true, ltb-true, cases_Bool, cases_lt, eqb-true, or_cases, not-true}
 use Rattle.rbc_spec.specs.Runs.{Run, within, behind, all_of}
 use Rattle.rbc_spec.specs.Line.{Line, is_centre, is_home, end}
 use Rattle.rbc_spec.specs.Sections.{section_count, is_on}
@@ -12,8 +12,9 @@ use Rattle.rbc_spec.specs.LineCentre.{LineState, Open, Shut, is_given_to, is_mar
 use Rattle.rbc_spec.specs.OwnSteps.{Says, Own, Starts, StartsHere, StartsNew, Restarts, Extends, Ends, Reports, Ending, Sets, Unsets, may_start, begins, track_of, is_unused_mark, set_mark, wished_back, without_ask, last_kept_of, may_be_given}
 use Rattle.rbc_spec.specs.Run.{OwnStep, Steps, silence, may_listen}
 use Rattle.rbc_spec.specs.World.{Event, Bytes, Set, Unset, Delivery}
+use Rattle.rbc_lemmas.proofs.Lists.{none_is, each_of}
 use Rattle.rbc_examples.specs.Turns.{Choice, Rejecting, Listening, Extending, Turn, answering, hand_of, is_hand, is_end, extend, start_here, restart, start_new, start_at, request_at, report_at, end_at, own_turn, set_turn, unset_turn, Step, message_step, own_step}
-use Rattle.rbc_examples.proofs.Valid.{Valid, valid_allowed, valid_then, valid_map, valid_when, valid_if, either, not_true, same, none_is, each_of}
+use Rattle.rbc_examples.proofs.Valid.{Valid, valid_allowed, valid_then, valid_map, valid_when, valid_if, same}
 use Rattle.rbc_examples.proofs.Bounds.{IsWithinLine, on_within, covered_within, within_free, within_kept, within_given, within_put, within_one, within_shortened, within_reported}
 
 -- the relation holds of what a turn says and leaves, where only sections are given
@@ -53,14 +54,14 @@ hand_is line v t hand bound so = record {
 end_is : (line : Line) (v : LineState) (c : ℕ) (place : Place) (hand : Run) → is_end line v c place hand ≡ true → Ends line v c place hand
 end_is line v c place hand so = ⊎_elim
     (λ (near : (not (is_on line place.track (behind hand)) || not (is_home line c (behind hand) && is_mark_open (v.mark (behind hand)))) ≡ true). ⊎_elim
-    (λ (off : not (is_on line place.track (behind hand)) ≡ true). Ends.off_track (not_true _ off))
-    (λ (used : not (is_home line c (behind hand) && is_mark_open (v.mark (behind hand))) ≡ true). Ends.not_free (not_true _ used))
-    (either _ _ near))
+    (λ (off : not (is_on line place.track (behind hand)) ≡ true). Ends.off_track (not-true _ off))
+    (λ (used : not (is_home line c (behind hand) && is_mark_open (v.mark (behind hand))) ≡ true). Ends.not_free (not-true _ used))
+    (or_cases _ _ near))
     (λ (far : ((hand.count == 32) || not (nat_le (end line (behind hand)) (group_start line place + 32767))) ≡ true). ⊎_elim
     (λ (many : (hand.count == 32) ≡ true). Ends.full (eqb-true hand.count 32 many))
-    (λ (beyond_reach : not (nat_le (end line (behind hand)) (group_start line place + 32767)) ≡ true). Ends.too_far (not_true _ beyond_reach))
-    (either _ _ far))
-    (either _ _ so)
+    (λ (beyond_reach : not (nat_le (end line (behind hand)) (group_start line place + 32767)) ≡ true). Ends.too_far (not-true _ beyond_reach))
+    (or_cases _ _ far))
+    (or_cases _ _ so)
 
 -- the sections by which a hand is extended are of the line
 added_within : (line : Line) (v : LineState) (t c : ℕ) (place : Place) (r : Run)

@@ -2,7 +2,7 @@
 use Rattle.std.proofs.Common.{◌≡◌, ℕ, List, [], ◌∷◌, Bool, true, false, not, ◌||◌, is_none, if◌then◌else◌, true≢false, ◌⊎◌, ⊎_elim, inl, inr, subst, Option, Some, None, Result, Ok, Err, refl, sym, ap}
 use Rattle.std.specs.Option.{option_map_or}
 use Rattle.std.specs.List.{filter_map, list_all}
-use Rattle.std.proofs.lemmas.Bool.{and_parts}
+use Rattle.std.proofs.lemmas.Bool.{and_parts, or_cases, not-true}
 use Rattle.std.proofs.lemmas.Option.{none-some, same_Some}
 use Rattle.rbc_spec.specs.Reach.{Whole}
 use Rattle.rbc_spec.specs.Line.{Line, is_centre}
@@ -14,11 +14,12 @@ use Rattle.rbc_spec.specs.Run.{Spoken, spoken_in}
 use Rattle.rbc_spec.specs.ReadOff.{read_off}
 use Rattle.rbc_spec.specs.Step.{Refusal}
 use Rattle.rbc_spec.specs.World.{World, Event, Bytes, Set, Unset, Delivery, Answer, Answered, NoCentre, NotSent, Fault, centre_of, new_world, world_step, world_run}
+use Rattle.rbc_lemmas.proofs.Lists.{none_is}
 use Rattle.rbc_examples.specs.Scene.{Scene}
 use Rattle.rbc_examples.specs.Turns.{Choice, Plainly, Rejecting, Listening, Extending, Unanswered, Turn, Step, allowed, quiet_turns, own_step}
 use Rattle.rbc_examples.specs.Moves.{Move, Shown, Speaks, Nowhere, NeverSent, BadBytes, Played, played, tells_in_order, are_none, is_piece, without_piece, play_by, play}
 use Rattle.rbc_examples.specs.Pieces.{Sheet, sheet, GoesWith, IsMetByRun, events_of, event_of, Seen, Shows, NotAllowed, shown_by, seen_after, centres_show, seen_of_line, line_shows}
-use Rattle.rbc_examples.proofs.Valid.{Valid, valid_allowed, valid_then, either, not_true, none_is}
+use Rattle.rbc_examples.proofs.Valid.{Valid, valid_allowed, valid_then}
 use Rattle.rbc_examples.proofs.InOrder.{in_order}
 use Rattle.rbc_examples.proofs.Bounds.{IsWithinLine}
 use Rattle.rbc_examples.proofs.OwnTurns.{IsStep, own_step_is}
@@ -81,7 +82,7 @@ record IsPiece (line : Line) (v : LineState) (event : Event) (p : Played) : Type
 -- an event without a piece changes nothing
 unmet_is : (line : Line) (v : LineState) (event : Event) → Valid (Meets line v event v) (without_piece line event)
 unmet_is line v (Bytes c (Ok m)) = valid_allowed (Meets line v (Bytes c (Ok m)) v) (not (is_centre line c)) Nowhere
-    (λ so. at_no_centre (λ answer. run.Goes line v (Bytes c (Ok m)) answer v) (not_true _ so, refl))
+    (λ so. at_no_centre (λ answer. run.Goes line v (Bytes c (Ok m)) answer v) (not-true _ so, refl))
 unmet_is line v (Bytes c (Err number)) = unmet_bytes line v c number (is_centre line c) refl
   where
     unmet_bytes : (line : Line) (v : LineState) (c number : ℕ) (b : Bool) → is_centre line c ≡ b
@@ -89,14 +90,14 @@ unmet_is line v (Bytes c (Err number)) = unmet_bytes line v c number (is_centre 
     unmet_bytes line v c number true is = at_fault (λ answer. run.Goes line v (Bytes c (Err number)) answer v) number (λ n same. (is, same, refl))
     unmet_bytes line v c number false is = at_no_centre (λ answer. run.Goes line v (Bytes c (Err number)) answer v) (is, refl)
 unmet_is line v (Set c s) = valid_allowed (Meets line v (Set c s) v) (not (is_centre line c)) Nowhere
-    (λ so. at_no_centre (λ answer. run.Goes line v (Set c s) answer v) (not_true _ so, refl))
+    (λ so. at_no_centre (λ answer. run.Goes line v (Set c s) answer v) (not-true _ so, refl))
 unmet_is line v (Unset c s) = valid_allowed (Meets line v (Unset c s) v) (not (is_centre line c)) Nowhere
-    (λ so. at_no_centre (λ answer. run.Goes line v (Unset c s) answer v) (not_true _ so, refl))
+    (λ so. at_no_centre (λ answer. run.Goes line v (Unset c s) answer v) (not-true _ so, refl))
 unmet_is line v (Delivery from to number) = at_not_sent (λ answer. run.Goes line v (Delivery from to number) answer v) refl
 
 pub none_or : (own : Step) (quiets : List Quiet) → (is_none own.why || are_none quiets) ≡ true → (own.why ≡ None) ⊎ (quiets ≡ [])
 none_or own quiets so = ⊎_elim (λ (is : is_none own.why ≡ true). inl (none_is own.why is)) (λ (is : are_none quiets ≡ true). inr (nil_is quiets is))
-    (either (is_none own.why) (are_none quiets) so)
+    (or_cases (is_none own.why) (are_none quiets) so)
   where
     nil_is : (qs : List Quiet) → are_none qs ≡ true → qs ≡ []
     nil_is [] is = refl

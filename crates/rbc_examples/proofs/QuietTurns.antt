@@ -2,7 +2,7 @@
 use Rattle.std.proofs.Common.{◌≡◌, ℕ, ◌+◌, ◌*◌, ◌==◌, true, false, ◌&&◌, not, List, [], ◌∷◌, Some, refl, sym, ap, ◌∙◌, true≢false, eq-eqb, arith, ⊎_elim}
 use Rattle.std.specs.Option.{option_map_or}
 use Rattle.std.specs.List.{list_all, range_with_len, find}
-use Rattle.std.proofs.lemmas.Bool.{and_parts, leb-true, ltb-true, cases_Bool, eqb-true}
+use Rattle.std.proofs.lemmas.Bool.{and_parts, leb-true, ltb-true, cases_Bool, eqb-true, not-true}
 use Rattle.std.proofs.lemmas.Option.{none-some, same_Some}
 use Rattle.rbc_spec.specs.Line.{Line, is_home, start, next_centre}
 use Rattle.rbc_spec.specs.Sections.{section_count}
@@ -11,8 +11,9 @@ use Rattle.rbc_spec.specs.Place.{covered, group_start}
 use Rattle.rbc_spec.specs.Centre.{Phase, Silent, Opened, Up, is_up}
 use Rattle.rbc_spec.specs.LineCentre.{LineState, Mark, Shut, Open, Kept, Given, Mission, Supervisor, At, Parted, is_given_to, is_kept_for, is_mark_open, is_at, supervises, is_waiting_at}
 use Rattle.rbc_spec.specs.Quiet.{Quiet, Keep, Unkeep, Admit, Dismiss, LayDown, TakeUp, Propose, Order, EndOrder, TakesQuiet, TakesAll}
+use Rattle.rbc_lemmas.proofs.Lists.{none_is, each_of}
 use Rattle.rbc_examples.specs.Turns.{Turn, hand_of, parted_at, is_over_border, quiet_turn, quiet_turns}
-use Rattle.rbc_examples.proofs.Valid.{Valid, valid_allowed, valid_some, valid_then, not_true, none_is, each_of}
+use Rattle.rbc_examples.proofs.Valid.{Valid, valid_allowed, valid_some, valid_then}
 use Rattle.rbc_examples.proofs.Bounds.{IsWithinLine, home_within, covered_within, within_free, within_given, within_put}
 use Rattle.rbc_examples.proofs.OwnTurns.{Does, hand_is}
 
@@ -62,7 +63,7 @@ none_at : (line : Line) (v : LineState) (t c : ℕ)
     → (s : ℕ) → (is_home line c s && is_given_to t (v.mark s)) ≡ false
 none_at line v t c none s = ⊎_elim
     (λ (both_so : (is_home line c s && is_given_to t (v.mark s)) ≡ true).
-    not_true _ (each_of _ 0 (section_count line) none s (omega arith) (omega (arith, home_within line c s (and_parts _ _ both_so).0))))
+    not-true _ (each_of _ 0 (section_count line) none s (omega arith) (omega (arith, home_within line c s (and_parts _ _ both_so).0))))
     (λ (not_so : (is_home line c s && is_given_to t (v.mark s)) ≡ false). not_so)
     (cases_Bool (is_home line c s && is_given_to t (v.mark s)))
 
@@ -73,7 +74,7 @@ quiet_is line v (Unkeep t s) bound = valid_allowed (IsQuiet line v (Unkeep t s))
     let parts = and_parts _ _ so in (
       record {
         is_kept = kept_is t (v.mark s) parts.0;
-        not_waiting = not_true _ parts.1;
+        not_waiting = not-true _ parts.1;
         tells = record { said_is = refl; new_is = refl };
       },
       within_free line (λ e. e == s) v bound,
@@ -108,7 +109,7 @@ quiet_is line v (Propose t c s) bound = valid_some (IsQuiet line v (Propose t c 
         of_train = of_train;
         supervises = at_is c m.supervisor here.0;
         is_up = up_is (v.phase t c) here.1;
-        goes_on = not_true m.is_ended open_for.0;
+        goes_on = not-true m.is_ended open_for.0;
         none_stands = none_is m.proposal open_for.1;
         is_hand = hand_is line v t (hand_of line v t) bound hands.0;
         in_hand = hands.1;
@@ -137,7 +138,7 @@ quiet_is line v (Order t c) bound = valid_some (IsQuiet line v (Order t c)) _ (v
         is_up = up_is (v.phase t c) here.1;
         next_is = next_is;
         at_border = there.0;
-        first_there = λ s less. not_true _ (each_of _ 0 border there.1 s (omega arith) (omega arith));
+        first_there = λ s less. not-true _ (each_of _ 0 border there.1 s (omega arith) (omega arith));
         ahead = leb-true (group_start line m.place) (start line border) room.0;
         within_reach = leb-true (start line border) (group_start line m.place + 32767) room.1;
         says = record { said_is = refl; new_is = refl };
@@ -148,7 +149,7 @@ quiet_is line v (EndOrder t c) bound = valid_allowed (IsQuiet line v (EndOrder t
     let parts = and_parts _ _ so in
     let here = and_parts _ _ parts.0 in (
       record {
-        not_here = not_there v t c (not_true _ here.0);
+        not_here = not_there v t c (not-true _ here.0);
         is_up = up_is (v.phase t c) here.1;
         none_given = none_at line v t c parts.1;
         says = record { said_is = refl; new_is = refl };

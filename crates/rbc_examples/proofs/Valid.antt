@@ -1,9 +1,8 @@
 -- What is so of whatever a computation gives, and tests with what they tell.
-use Rattle.std.proofs.Common.{◌≡◌, ◌⊎◌, inl, inr, ℕ, zero, suc, ◌+◌, ◌≤◌, ◌<◌, Bool, true, false, ◌||◌, not, if◌then◌else◌, Option, Some, None, is_none, refl, sym, ap, ◌∙◌, true≢false, arith, ⊎_elim}
+use Rattle.std.proofs.Common.{◌≡◌, Bool, true, false, if◌then◌else◌, Option, Some, None, refl, sym}
 use Rattle.std.specs.Option.{option_map_or}
 use Rattle.std.specs.Bool.{MatchBool}
-use Rattle.std.specs.List.{list_all, range_with_len}
-use Rattle.std.proofs.lemmas.Bool.{and_parts, cases_eq}
+use Rattle.std.proofs.lemmas.Bool.{not-true}
 use Rattle.rbc_examples.specs.Turns.{allowed, is_same}
 
 -- P is so of the value, if there is one
@@ -42,27 +41,6 @@ valid_if P Q R false x y one two = two
 
 -- ## Tests
 
-pub either : (x y : Bool) → (x || y) ≡ true → (x ≡ true) ⊎ (y ≡ true)
-either true y so = inl refl
-either false y so = inr so
-
-pub not_true : (x : Bool) → not x ≡ true → x ≡ false
-not_true true so = absurd (true≢false (sym so))
-not_true false so = refl
-
 pub same : (a b : Bool) → is_same a b ≡ true → a ≡ b
 same true b so = sym so
-same false b so = sym (not_true b so)
-
-pub none_is : {X : Type 0} (o : Option X) → is_none o ≡ true → o ≡ None
-none_is None so = refl
-none_is (Some x) so = absurd (true≢false (sym so))
-
--- each number of a range passes
-pub each_of : (test : ℕ → Bool) (first count : ℕ) → list_all test (range_with_len first count) ≡ true → (s : ℕ) → first ≤ s → s < first + count → test s ≡ true
-each_of test first zero all s low high = absurd (omega arith)
-each_of test first (suc count) all s low high =
-    let parts = and_parts (test first) (list_all test (range_with_len (first + 1) count)) all in
-    ⊎_elim (λ (here : s ≡ first). ap test here ∙ parts.0)
-    (λ (apart : s ≡ first → ⊥). each_of test (first + 1) count parts.1 s (omega arith) (omega arith))
-    (cases_eq s first)
+same false b so = sym (not-true b so)

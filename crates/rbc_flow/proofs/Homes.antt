@@ -14,7 +14,7 @@ use Rattle.rbc_spec.specs.Frame.{Body, RouteReturn}
 use Rattle.rbc_spec.specs.Centre.{Centre}
 use Rattle.rbc_spec.specs.Acts.{returned}
 use Rattle.rbc_alone.specs.Alone.{IsOrdered}
-use Rattle.rbc_laws.proofs.Runs.{within_shared}
+use Rattle.rbc_lemmas.proofs.Runs.{within_shared}
 use Rattle.rbc_flow.specs.Flow.{centre_count}
 use Rattle.rbc_flow.specs.Counts.{tokens}
 

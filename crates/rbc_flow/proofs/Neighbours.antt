@@ -2,7 +2,7 @@
 use Rattle.std.proofs.Common.{◌≡◌, ◌≢◌, ℕ, zero, suc, ◌==◌, ◌<◌, ◌≤◌, ◌&&◌, ◌||◌, not, cond, Bool, true, false, Option, Some, None, option_map, List, [], ◌∷◌, length, drop, slice_get, refl, sym, ap, ◌∙◌, inl, inr, arith, ⊎_elim}
 use Rattle.std.specs.Option.{option_map_or}
 use Rattle.std.specs.List.{All, find, zip, list_any}
-use Rattle.std.proofs.lemmas.Bool.{and_parts, and_from, cases_lt, lt-ltb}
+use Rattle.std.proofs.lemmas.Bool.{and_parts, and_from, cases_lt, lt-ltb, eqb-true}
 use Rattle.std.proofs.lemmas.Bool.Decides.{eqb_tells}
 use Rattle.std.proofs.lemmas.Option.{same_Some}
 use Rattle.std.proofs.lemmas.List.Elements.{All-head, All-tail}
@@ -51,9 +51,6 @@ found_any test other (x ∷ xs) seam is so = by_test (test x) is (λ e. found_an
 behind_one : {X : Type 0} (xs : List X) (i : ℕ) → slice_get (drop 1 xs) i ≡ slice_get xs (suc i)
 behind_one [] i = refl
 behind_one (x ∷ xs) i = refl
-
-equal : (a b : ℕ) → (a == b) ≡ true → a ≡ b
-equal a b is = elim (eqb_tells a b) [ inl e ↦ e.1 | inr e ↦ absurd (let wrong : true ≡ false = sym is ∙ e.0 in cc) ]
 
 differ : (a b : ℕ) → not (a == b) ≡ true → a ≢ b
 differ a b is same = elim (eqb_tells a b) [ inl e ↦ let wrong : false ≡ true = sym (ap not e.0) ∙ is in cc | inr e ↦ e.1 same ]
@@ -119,9 +116,9 @@ module _ (line : Line) (ok : IsLine line) (a track b : ℕ) (next : next_centre 
             at = found.place;
             first = found.first;
             second = sym (behind_one line.sections found.place) ∙ found.second;
-            one_track = equal s.0.track s.1.track on.0;
-            track_is = equal s.0.track track on.1;
-            from = equal s.0.home c more.1;
+            one_track = eqb-true s.0.track s.1.track on.0;
+            track_is = eqb-true s.0.track track on.1;
+            from = eqb-true s.0.home c more.1;
             to = same_Some s.1.home d h;
             apart = differ s.1.home c parts.1;
           }

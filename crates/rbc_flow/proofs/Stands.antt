@@ -8,7 +8,7 @@ use Rattle.rbc_ledger.specs.Network.{way}
 use Rattle.rbc_ledger.specs.Resource.{carried, placed}
 use Rattle.rbc_ledger.proofs.Sums.{sum_some, links_some, sum_le, one_if_some, one_if_true}
 use Rattle.rbc_ledger.proofs.Places.{placed_parts, held_le_placed, held_carried_le_placed}
-use Rattle.rbc_laws.proofs.Runs.{same_tests}
+use Rattle.rbc_lemmas.proofs.Runs.{same_tests}
 use Rattle.std.proofs.lemmas.List.Elements.{All-contains}
 use Rattle.rbc_spec.specs.Runs.{Run, within}
 use Rattle.rbc_spec.specs.Maps.{has}

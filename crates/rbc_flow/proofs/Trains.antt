@@ -1,17 +1,17 @@
 -- Lists of trains: how often each stands in them.
-use Rattle.std.proofs.Common.{◌≡◌, ◌≢◌, ℕ, zero, suc, ◌+◌, ◌<◌, ◌==◌, ◌&&◌, cond, nat_lt, ◌≤◌, Bool, true, false, List, [], ◌∷◌, ◌++◌, length, map, slice_get, Option, Some, None, option_map, is_some, refl, sym, ap, ◌∙◌, subst, inl, inr, arith, ltb-true}
-use Rattle.std.specs.List.{find, flat_map, count_by, range_with_len, position_or_len, All}
+use Rattle.std.proofs.Common.{◌≡◌, ◌≢◌, ℕ, zero, suc, ◌+◌, ◌<◌, ◌==◌, ◌&&◌, cond, nat_lt, Bool, true, false, List, [], ◌∷◌, ◌++◌, length, map, slice_get, Some, None, is_some, refl, sym, ap, ◌∙◌, inl, inr, arith, ltb-true}
+use Rattle.std.specs.List.{flat_map, count_by, range_with_len, position_or_len}
 use Rattle.std.proofs.lemmas.Bool.Decides.{eqb_tells}
 use Rattle.std.proofs.lemmas.Option.{same_Some}
 use Rattle.std.proofs.lemmas.List.Sums.{sum_by-cons, sum_by-append}
-use Rattle.std.proofs.lemmas.List.Elements.{All-head, All-tail}
 use Rattle.rbc_ledger.specs.Sums.{one_if, sum_below}
-use Rattle.rbc_spec.specs.Line.{Line, IsLine, Train, AreDistinct, registrar}
+use Rattle.rbc_spec.specs.Line.{Train, AreDistinct}
 use Rattle.rbc_spec.specs.Centre as centre
 use Rattle.rbc_spec.specs.Centre.{Entry, is_used_for}
 use Rattle.rbc_spec.specs.Promises.{once, user}
 use Rattle.rbc_flow.proofs.Basics.{itself}
 use Rattle.rbc_flow.proofs.Lists.{IsAdded, total, total_is}
+pub use Rattle.rbc_lemmas.proofs.Lines.{registrar_below}
 
 -- ## Counts of a list
 
@@ -116,20 +116,3 @@ module _ (t h : ℕ) (list : ℕ → List ℕ) (others : (u : ℕ) → u ≢ t �
       by_place : ((i : ℕ) (q : Train) → slice_get ps i ≡ Some q → q.nid_engine ≢ t) → p.nid_engine ≢ t → (i : ℕ) (q : Train) → slice_get (p ∷ ps) i ≡ Some q → q.nid_engine ≢ t
       by_place apart first zero q at same = first (ap (λ (x : Train). x.nid_engine) (same_Some p q at) ∙ same)
       by_place apart first (suc i) q at same = apart i q at same
-
-found_in : (P : Train → Type 0) (test : Train → Bool) (ps : List Train) (p : Train) → All P ps → find test ps ≡ Some p → P p
-found_in P test [] p all is = cc
-found_in P test (q ∷ qs) p all is = by_test (test q) is (λ e. found_in P test qs p (All-tail P q qs all) e)
-  where
-    by_test : (b : Bool) → cond b (Some q) (find test qs) ≡ Some p → (find test qs ≡ Some p → P p) → P p
-    by_test true e later = subst P (same_Some q p e) (All-head P q qs all)
-    by_test false e later = later e
-
-pub registrar_below : (line : Line) → IsLine line → (t r : ℕ) → registrar line t ≡ Some r → r < length line.centres
-registrar_below line ok t r is = by_train (find (λ p. p.nid_engine == t) line.trains) refl is
-  where
-    by_train : (o : Option Train) → find (λ p. p.nid_engine == t) line.trains ≡ o → option_map (λ p. p.registrar) o ≡ Some r → r < length line.centres
-    by_train None found h = cc
-    by_train (Some p) found h =
-        let fits = found_in (λ q. (q.nid_engine ≤ 16777215) × (q.registrar < length line.centres)) (λ q. q.nid_engine == t) line.trains p ok.ranges.trains found in
-        omega (arith, fits.1, same_Some p.registrar r h)

@@ -1,7 +1,7 @@
 -- No distance is counted back from its group.
 use Rattle.std.proofs.Common.{◌≡◌, ◌≢◌, ℕ, ◌+◌, ◌-◌, ◌*◌, ◌<◌, ◌≤◌, ◌==◌, ◌&&◌, ◌||◌, not, nat_le, Bool, true, false, is_none, refl, sym, ap, ◌∙◌, arith, ⊎_elim, leb-true}
 use Rattle.std.specs.Option.{option_map_or}
-use Rattle.std.proofs.lemmas.Bool.{and_parts, and_from, or_cases, cases_eq, cond-true, cond-false, eqb-false, eq-eqb, ne_eqb, eqb-true}
+use Rattle.std.proofs.lemmas.Bool.{and_parts, and_from, or_cases, cases_eq, cond-true, cond-false, eqb-false, eq-eqb, ne_eqb, eqb-true, not-false}
 use Rattle.rbc_spec.specs.Runs.{Run, within, behind, is_empty, shared, joined}
 use Rattle.rbc_spec.specs.Line.{Line, IsLine, is_home, start, end}
 use Rattle.rbc_spec.specs.Sections.{is_on, home_run}
@@ -14,14 +14,10 @@ use Rattle.rbc_spec.specs.Rules.{may_follow, extension}
 use Rattle.rbc_spec.specs.Step.{may_request, mission_has, has_no_place}
 use Rattle.rbc_spec.proofs.Places.{ends_rise, ends_before, homes_run}
 use Rattle.rbc_laws.specs.Distances.{IsAhead, IsRequestHeard, extended}
-use Rattle.rbc_laws.proofs.Runs.{within_true, within_from, within_shared, within_joined}
-use Rattle.rbc_laws.proofs.Longest.{longest_is}
+use Rattle.rbc_lemmas.proofs.Runs.{within_true, within_from, within_shared, within_joined}
+use Rattle.rbc_lemmas.proofs.Longest.{longest_is}
 use Rattle.rbc_laws.proofs.Reasons.{not_for}
 use Rattle.rbc_laws.proofs.Places.{extent_ahead, placed_on}
-
-not_false : (b : Bool) → not b ≡ false → b ≡ true
-not_false true h = refl
-not_false false h = cc
 
 -- where a run that follows another ends
 behind_joined : (a b : Run) → b.first ≡ behind a → behind (joined a b) ≡ behind a + b.count
@@ -36,7 +32,7 @@ module _ (line : Line) (c : ℕ) (k : Centre) (m : TrainMessage) (n : Mission) (
   not_past =
       let none : mission_has (λ o. not (may_request line o h.position)) (k.mission m.nid_engine) ≡ false
       = sym (ap (has_no_place line (k.mission m.nid_engine)) h.asks) ∙ not_for line c k m (Request h.position) 8 NoPlace h.asks h.heard refl in
-      let may : may_request line n h.position ≡ true = not_false (may_request line n h.position) (sym (ap (mission_has (λ o. not (may_request line o h.position))) h.mission) ∙ none) in
+      let may : may_request line n h.position ≡ true = not-false (may_request line n h.position) (sym (ap (mission_has (λ o. not (may_request line o h.position))) h.mission) ∙ none) in
       let both = and_parts (nat_le place.front (10 * end line (behind n.hand - 1))) (nat_le (end line (behind n.hand - 1)) (group_start line place + 32767))
       (sym (ap (λ o. option_map_or (λ (q : Place). nat_le q.front (10 * end line (behind n.hand - 1)) && nat_le (end line (behind n.hand - 1)) (group_start line q + 32767)) o false) h.place_is) ∙ may) in
       leb-true place.front (10 * end line (behind n.hand - 1)) both.0

@@ -1,8 +1,8 @@
 -- The one line centre has a centre's reasons of silence, in each world that a state of it stands for.
-use Rattle.std.proofs.Common.{◌≡◌, ◌⊎◌, inl, inr, ℕ, zero, suc, ◌+◌, ◌-◌, ◌*◌, ◌<◌, ◌≤◌, ◌==◌, ◌&&◌, not, if◌then◌else◌, Bool, true, false, nat_le, Option, Some, None, is_none, is_some, refl, sym, ap, ◌∙◌, subst, arith, ⊎_elim, eqb-true, eq-eqb}
+use Rattle.std.proofs.Common.{◌≡◌, ◌⊎◌, inl, inr, ℕ, ◌+◌, ◌-◌, ◌*◌, ◌<◌, ◌==◌, ◌&&◌, not, if◌then◌else◌, Bool, true, false, nat_le, Option, Some, None, is_none, is_some, refl, sym, ap, ◌∙◌, subst, arith, ⊎_elim, eqb-true, eq-eqb}
 use Rattle.std.specs.Option.{option_map_or}
-use Rattle.std.specs.List.{find, range_with_len}
-use Rattle.std.proofs.lemmas.Bool.{cases_Bool, and_left, and_parts, cond-true, cond-false, cases_eq}
+use Rattle.std.specs.List.{find}
+use Rattle.std.proofs.lemmas.Bool.{cases_Bool, and_left, and_parts}
 use Rattle.rbc_spec.specs.Runs.{within, behind}
 use Rattle.rbc_spec.specs.Line.{Line, end}
 use Rattle.rbc_spec.specs.Sections.{section_count}
@@ -17,19 +17,9 @@ use Rattle.rbc_spec.specs.Step as step
 use Rattle.rbc_spec.specs.World.{World}
 use Rattle.rbc_spec.specs.Run as run
 use Rattle.rbc_spec.specs.ReadOff.{StandsFor, IsMissionOf, supervised, parted, at_centre, seen}
+use Rattle.rbc_lemmas.proofs.Lists.{find-range}
 use Rattle.rbc_laws.specs.Silences.{EndsOnLine, HasEndIfAsked}
-use Rattle.rbc_laws.proofs.Runs.{within_true, within_from, within_behind}
-
--- the first number of a range that passes
-find_first : (test : ℕ → Bool) (a n s : ℕ) → a ≤ s → s < a + n → test s ≡ true → ((e : ℕ) → a ≤ e → e < s → test e ≡ false)
-    → find test (range_with_len a n) ≡ Some s
-find_first test a zero s low high passes none = absurd (omega arith)
-find_first test a (suc n) s low high passes none = ⊎_elim
-    (λ (here : s ≡ a). let is : test a ≡ true = ap test (sym here) ∙ passes in
-    cond-true (test a) (Some a) (find test (range_with_len (a + 1) n)) is ∙ ap (λ e. Some e) (sym here))
-    (λ (apart : s ≡ a → ⊥). cond-false (test a) (Some a) (find test (range_with_len (a + 1) n)) (none a (omega arith) (omega arith))
-    ∙ find_first test (a + 1) n s (omega arith) (omega arith) passes (λ e from to. none e (omega arith) to))
-    (cases_eq s a)
+use Rattle.rbc_lemmas.proofs.Runs.{within_true, within_from, within_behind}
 
 true_and : (a b : Bool) → a ≡ true → (a && b) ≡ b
 true_and true b is = refl
@@ -66,7 +56,7 @@ module _ (line : Line) (w : World) (v : LineState) (stands : StandsFor line w v)
       by_mission None is = refl
 
   -- the centre's mission passes one test exactly where the line's passes the other
-  here_is : (test : line_centre.Mission → Bool) (other : centre.Mission → Bool) → ((n : centre.Mission) → mission ≡ Some n → test (seen c n) ≡ other n)
+  pub here_is : (test : line_centre.Mission → Bool) (other : centre.Mission → Bool) → ((n : centre.Mission) → mission ≡ Some n → test (seen c n) ≡ other n)
       → run.has_here v c t test ≡ step.mission_has other mission
   here_is test other same = by_mission mission refl
     where
@@ -78,7 +68,7 @@ module _ (line : Line) (w : World) (v : LineState) (stands : StandsFor line w v)
   last_is : (n : centre.Mission) → mission ≡ Some n → EndsOnLine line n.hand → run.last_of_hand line v t ≡ Some (behind n.hand - 1)
   last_is n has ok =
       let last : ℕ = behind n.hand - 1 in
-      find_first (λ s. is_given_to t (v.mark s) && not (is_given_to t (v.mark (s + 1)))) 0 (section_count line) last (omega arith) (omega (arith, ok.some, ok.last))
+      find-range (λ s. is_given_to t (v.mark s) && not (is_given_to t (v.mark (s + 1)))) 0 (section_count line) last (omega arith) (omega (arith, ok.some, ok.last))
       (ap (λ b. b && not (is_given_to t (v.mark (last + 1)))) (given last ∙ within_from n.hand last (omega (arith, ok.some)) (omega (arith, ok.some)))
       ∙ ap not (given (last + 1) ∙ within_behind n.hand (last + 1) (omega (arith, ok.some))))
       (λ e low high. before e high)
@@ -149,7 +139,7 @@ module _ (line : Line) (w : World) (v : LineState) (stands : StandsFor line w v)
     same_ask TerminationOfSession = refl
 
     -- a centre's reasons, but for a report elsewhere
-    abbrev without_waiting : TrainBody → Reason → Bool
+    abbrev pub without_waiting : TrainBody → Reason → Bool
     without_waiting body NotSupervised = is_none mission
     without_waiting body why = step.holds line c k (m body) why
 
@@ -165,7 +155,7 @@ module _ (line : Line) (w : World) (v : LineState) (stands : StandsFor line w v)
     same_reason body ok MissionEnded = here_is (λ n. n.is_ended) (λ n. n.is_ended) (λ n has. refl)
     same_reason body ok WrongPhase = same_phase body
 
-    run_is : (body : TrainBody) → HasEndIfAsked line k (m body) → run.silence line v c (m body) ≡ find (without_waiting body) (reasons_of body)
+    pub run_is : (body : TrainBody) → HasEndIfAsked line k (m body) → run.silence line v c (m body) ≡ find (without_waiting body) (reasons_of body)
     run_is body ok = ap (λ (test : Reason → Bool). find test (reasons_of body)) (λ i why. same_reason body ok why i)
 
     -- ## A report

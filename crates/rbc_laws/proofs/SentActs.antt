@@ -2,7 +2,7 @@
 use Rattle.std.proofs.Common.{◌≡◌, ◌≢◌, ◌⊎◌, inl, inr, ℕ, zero, suc, ◌+◌, ◌<◌, ◌≤◌, ◌==◌, ◌&&◌, ◌||◌, not, Bool, true, false, if◌then◌else◌, nat_lt, List, [], ◌∷◌, length, map, filter, Option, Some, None, option_map, refl, sym, ap, ◌∙◌, subst, arith, eq-eqb}
 use Rattle.std.specs.List.{range_with_len}
 use Rattle.std.specs.Option.{option_map_or}
-use Rattle.std.proofs.lemmas.Bool.{cond-true, lt-ltb, le-ltb, eqb-false, or_right, or_parts}
+use Rattle.std.proofs.lemmas.Bool.{cond-true, lt-ltb, le-ltb, eqb-false, or_right, or_parts, not-true}
 use Rattle.rbc_spec.specs.Maps.{put}
 use Rattle.rbc_spec.specs.Runs.{Run, within, behind, is_empty, shared}
 use Rattle.rbc_spec.specs.Line.{Line, is_home, registrar}
@@ -12,10 +12,8 @@ use Rattle.rbc_spec.specs.Frame.{Body, ReturnRight, RouteReturn, Cancel, Yield, 
 use Rattle.rbc_spec.specs.Outcome.{Told}
 use Rattle.rbc_spec.specs.Centre.{Centre, Entry, Out, Mission, Handing, is_taken_for, is_registrar_of, is_up}
 use Rattle.rbc_spec.specs.Acts.{Act, rest, become, ◌>>◌, where_so, send, say, booked, freed, returned, leave, set_mission, change_mission, cancel, return_right, close, propose_if_so, propose, may_propose, end_order, yield, yield_if_due, part_at, is_of_two}
+use Rattle.rbc_lemmas.proofs.Puts.{put_there}
 use Rattle.rbc_laws.proofs.Sends.{Sends, key, side, side_below, sends_none, sends_yes, sends_words, sends_saying, sends_then, sends_less, sends_if, sends_some}
-
-pub put_here : {X : Type 0} (f : ℕ → X) (t : ℕ) (x : X) → put f t x t ≡ x
-put_here f t x = cond-true (t == t) x (f t) (eq-eqb t t refl)
 
 one_more : (b : Bool) (a n : ℕ) (xs : List ℕ) → length (map (λ s. Told s) xs) ≤ n → length (map (λ s. Told s) (if b then a ∷ xs else xs)) ≤ suc n
 one_more true a n xs few = omega (arith, few)
@@ -28,10 +26,6 @@ few_passing test a (suc n) = one_more (test a) a n (filter test (range_with_len 
 none_passing : (b : Bool) (body : Body) → (if b then [] else body ∷ []) ≡ (if not b then body ∷ [] else [])
 none_passing true body = refl
 none_passing false body = refl
-
-not_true : (b : Bool) → not b ≡ true → b ≡ false
-not_true true h = cc
-not_true false h = refl
 
 abbrev pub without_handing : Mission → Mission
 without_handing n = record n { handing = None }
@@ -48,7 +42,7 @@ module _ (bound d : ℕ) (line : Line) (c t : ℕ) where
   home_sends low high track r k between =
       let part : Run = shared r (home_run line d track) in
       sends_yes bound d low high (not ((d == c) || is_empty part)) (RouteReturn t part) (returned line c t track r k) (none_passing ((d == c) || is_empty part) (RouteReturn t part)) refl refl
-      (λ is. between (eqb-false part.count 0 (or_parts (d == c) (is_empty part) (not_true ((d == c) || is_empty part) is)).1))
+      (λ is. between (eqb-false part.count 0 (or_parts (d == c) (is_empty part) (not-true ((d == c) || is_empty part) is)).1))
 
   pub home_any : (track : ℕ) (r : Run) (k : Centre) → Sends bound d 0 2 1 0 0 (returned line c t track r k)
   home_any track r k = home_sends 0 2 track r k (λ some. (omega arith, side_below (nat_lt (shared r (home_run line d track)).first bound)))
@@ -121,13 +115,13 @@ module _ (bound d : ℕ) (line : Line) (c t : ℕ) where
   cancel_leaves_none m k none = by_handing m.handing
     where
       by_handing : (o : Option Handing) → (option_map_or (λ h. send h.to (Cancel h.number t) >> change_mission t (λ n. record n { handing = None })) o rest k).state.mission t ≡ None
-      by_handing (Some h) = put_here k.mission t (option_map without_handing (k.mission t)) ∙ ap (option_map without_handing) none
+      by_handing (Some h) = put_there k.mission t (option_map without_handing (k.mission t)) ∙ ap (option_map without_handing) none
       by_handing None = none
 
   -- a mission that closed is none
   pub close_leaves_none : (m : Mission) (k : Centre) → (close line c t m k).state.mission t ≡ None
   unfolding ◌>>◌
-  close_leaves_none m k = right_keeps (cancel t m (set_mission t None k).state).state ∙ cancel_leaves_none m (set_mission t None k).state (put_here k.mission t None)
+  close_leaves_none m k = right_keeps (cancel t m (set_mission t None k).state).state ∙ cancel_leaves_none m (set_mission t None k).state (put_there k.mission t None)
 
   -- ## Requests to shorten, and orders to end the session
 

@@ -8,10 +8,11 @@ use Rattle.rbc_spec.specs.Place.{Place, Position, is_cleared, place_on}
 use Rattle.rbc_spec.specs.Centre.{Centre, Mission}
 use Rattle.rbc_spec.specs.Acts.{Act, Reply, rest, ◌>>◌, leave, set_mission, change_mission, return_pool, close, returned, yield_if_due}
 use Rattle.rbc_spec.specs.Rules.{cleared, clear, report_here}
-use Rattle.rbc_laws.proofs.Runs.{joined_count}
-use Rattle.rbc_laws.proofs.Longest.{longest_is}
+use Rattle.rbc_lemmas.proofs.Puts.{put_there}
+use Rattle.rbc_lemmas.proofs.Runs.{joined_count}
+use Rattle.rbc_lemmas.proofs.Longest.{longest_is}
 use Rattle.rbc_laws.proofs.Sends.{Sends, sends_none, sends_quiet, sends_then, sends_less}
-use Rattle.rbc_laws.proofs.SentActs.{put_here, home_high, home_none, leave_any, leave_low, close_sends, close_leaves_none, due_sends, none_due}
+use Rattle.rbc_laws.proofs.SentActs.{home_high, home_none, leave_any, leave_low, close_sends, close_leaves_none, due_sends, none_due}
 
 module _ (d : ℕ) (line : Line) (c t : ℕ) where
   -- all that a step may send and say
@@ -55,7 +56,7 @@ module _ (d : ℕ) (line : Line) (c t : ℕ) where
     kept_state : (place : Place) (k : Centre)
         → ((leave line c t m.place.track (cleared line place m) >> set_mission t (Some (behind_cleared place))) k).state.mission t ≡ Some (behind_cleared place)
     unfolding ◌>>◌
-    kept_state place k = put_here (leave line c t m.place.track (cleared line place m) k).state.mission t (Some (behind_cleared place))
+    kept_state place k = put_there (leave line c t m.place.track (cleared line place m) k).state.mission t (Some (behind_cleared place))
 
     -- the pool of the train's mission, if it has one, sends home what is behind the hand
     pool_sends : (n : Mission) (k : Centre) → n.pool ≡ m.pool → Sends bound d 1 2 1 0 0 (returned line c t n.place.track n.pool k)
@@ -120,8 +121,8 @@ module _ (d : ℕ) (line : Line) (c t : ℕ) where
     ended_state : (n : Mission) (j : Centre) → j.mission t ≡ Some n → (ends n j).state.mission t ≡ Some (as_ended (without_pool n))
     unfolding ◌>>◌
     ended_state n j is =
-        put_here (put j.mission t (option_map without_pool (j.mission t))) t (option_map as_ended (put j.mission t (option_map without_pool (j.mission t)) t))
-        ∙ ap (option_map as_ended) (put_here j.mission t (option_map without_pool (j.mission t)) ∙ ap (option_map without_pool) is)
+        put_there (put j.mission t (option_map without_pool (j.mission t))) t (option_map as_ended (put j.mission t (option_map without_pool (j.mission t)) t))
+        ∙ ap (option_map as_ended) (put_there j.mission t (option_map without_pool (j.mission t)) ∙ ap (option_map without_pool) is)
 
     ends_some_state : (n : Mission) (j : Centre) → j.mission t ≡ Some n → (ends_if_so j).state.mission t ≡ Some (as_ended (without_pool n))
     ends_some_state n j is = ap (λ o. (option_map_or {U = Reply} (λ n. ends n j) o (rest j)).state.mission t) is ∙ ended_state n j is

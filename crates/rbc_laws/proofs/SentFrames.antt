@@ -1,5 +1,5 @@
 -- What each event's effect sends on a link, how many messages it says and words it tells.
-use Rattle.std.proofs.Common.{◌≡◌, ℕ, ◌+◌, ◌≤◌, ◌&&◌, not, Bool, true, false, if◌then◌else◌, List, [], ◌∷◌, ◌++◌, length, Option, Some, None, refl, sym, ap, ◌∙◌, subst, arith}
+use Rattle.std.proofs.Common.{◌≡◌, ℕ, ◌+◌, ◌≤◌, ◌&&◌, not, Bool, true, false, if◌then◌else◌, List, [], ◌∷◌, length, Option, Some, None, refl, sym, ap, ◌∙◌, subst, arith}
 use Rattle.std.specs.Option.{option_map_or}
 use Rattle.rbc_spec.specs.Maps.{put}
 use Rattle.rbc_spec.specs.Reach.{Reach, asks_rights}
@@ -11,6 +11,7 @@ use Rattle.rbc_spec.specs.Message.{TrainMessage, TrainBody, TrainData, Request, 
 use Rattle.rbc_spec.specs.Centre.{Centre, Mission, Taken, Silent, Opened, Expectation, is_open, is_taken_for, is_registrar_of, is_free}
 use Rattle.rbc_spec.specs.Acts.{Act, Reply, rest, become, ◌>>◌, where_so, with_some, send, say, return_pool, booked, freed, change_mission, yield_if_due}
 use Rattle.rbc_spec.specs.Rules.{answered, restart, start_new, start_here, start_waiting, start_elsewhere, start_mission, accept, reject, drop_wait, close_session, set_phase, report, take_over, end_mission, answer_granted, report_here}
+use Rattle.rbc_lemmas.proofs.Acts.{alike_then}
 use Rattle.rbc_laws.specs.Sending.{HoldsFew}
 use Rattle.rbc_laws.proofs.Sends.{Sends, sends_none, sends_yes, sends_quiet, sends_then, sends_less, sends_some}
 use Rattle.rbc_laws.proofs.SentActs.{sends_one, freed_sends, none_due}
@@ -118,11 +119,6 @@ module _ (d : ℕ) (line : Line) (c t : ℕ) where
               (ap (λ o. option_map_or {U = List Body} (λ x. if is_new k then TakingOver x.number t ∷ [] else []) o []) is) refl refl (λ new. (omega arith, omega arith))
           takes_over None is = sends_quiet 0 d 0 8 1 0 0 (take_over line t k)
               (ap (λ o. option_map_or {U = List Body} (λ x. if is_new k then TakingOver x.number t ∷ [] else []) o []) is) (omega arith) (omega arith)
-
-  -- acts that are alike at a state, and then the same act
-  alike_then : (a b act : Act) (k : Centre) → a k ≡ b k → (a >> act) k ≡ (b >> act) k
-  unfolding ◌>>◌
-  alike_then a b act k e = ap (λ (r : Reply). record { state = (act r.state).state; frames = λ g. r.frames g ++ (act r.state).frames g; sayings = r.sayings ++ (act r.state).sayings; words = r.words ++ (act r.state).words }) e
 
   abbrev ends : Mission → Act
   ends m = return_pool line c t m >> change_mission t (λ n. record n { is_ended = true; proposal = None })

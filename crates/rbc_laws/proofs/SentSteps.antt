@@ -12,9 +12,10 @@ use Rattle.rbc_spec.specs.Centre.{Centre, Mission, Proposal, Handing, Taken, is_
 use Rattle.rbc_spec.specs.Message.{Authority, Transition}
 use Rattle.rbc_spec.specs.Acts.{Act, Reply, rest, become, ◌>>◌, where_so, with_some, say, send, booked, leave, set_mission, change_mission, cancel, close, yield_if_due, part_at, announce, ask_route}
 use Rattle.rbc_spec.specs.Rules.{cut, granted, at_border, grant, extended_by, extension, authority, request}
-use Rattle.rbc_laws.proofs.Runs.{joined_count}
+use Rattle.rbc_lemmas.proofs.Puts.{put_there}
+use Rattle.rbc_lemmas.proofs.Runs.{joined_count}
 use Rattle.rbc_laws.proofs.Sends.{Sends, sends_none, sends_quiet, sends_then, sends_less, sends_if, sends_some}
-use Rattle.rbc_laws.proofs.SentActs.{put_here, without_handing, sends_one, home_any, home_none, leave_any, cancel_sends, close_sends, close_leaves_none, due_sends, none_due}
+use Rattle.rbc_laws.proofs.SentActs.{without_handing, sends_one, home_any, home_none, leave_any, cancel_sends, close_sends, close_leaves_none, due_sends, none_due}
 
 module _ (d : ℕ) (line : Line) (c t : ℕ) where
   -- ## Shortening
@@ -38,7 +39,7 @@ module _ (d : ℕ) (line : Line) (c t : ℕ) where
       by_handing : (h : Option Handing) → n.handing ≡ h
           → (option_map_or (λ h. send h.to (Cancel h.number t) >> change_mission t (λ n. record n { handing = None })) h rest j).state.mission t ≡ Some o → o.handing ≡ None
       by_handing (Some h) at has =
-          let e : Some (without_handing n) ≡ Some o = sym (put_here j.mission t (option_map without_handing (j.mission t)) ∙ ap (option_map without_handing) is) ∙ has in
+          let e : Some (without_handing n) ≡ Some o = sym (put_there j.mission t (option_map without_handing (j.mission t)) ∙ ap (option_map without_handing) is) ∙ has in
           let same : without_handing n ≡ o = cc in
           ap (λ (x : Mission). x.handing) (sym same)
       by_handing None at has =
@@ -76,7 +77,7 @@ module _ (d : ℕ) (line : Line) (c t : ℕ) where
         (sends_then 0 d 0 2 3 1 1 0 1 64 0 (leaves >> (set_mission t (Some kept) >> rest)) (yield_if_due line c t) k (omega arith) (omega arith)
         (sends_then 0 d 0 2 2 1 0 0 0 64 0 leaves (set_mission t (Some kept) >> rest) k (omega arith) (omega arith) (leaves_sends k) (sends_none 0 d 2 2 _ refl refl refl))
         (due_sends 0 d line c t 2 0 (set_mission t (Some kept) (leaves k).state).state (omega arith) (λ o is.
-        let e : Some kept ≡ Some o = sym (put_here (leaves k).state.mission t (Some kept)) ∙ is in
+        let e : Some kept ≡ Some o = sym (put_there (leaves k).state.mission t (Some kept)) ∙ is in
         let same : kept ≡ o = cc in
         home_none 0 d line c t 2 2 o.place.track o.pool (set_mission t (Some kept) (leaves k).state).state (ap (λ (x : Mission). x.pool.count) (sym same)))))
 
@@ -88,7 +89,7 @@ module _ (d : ℕ) (line : Line) (c t : ℕ) where
         (sends_less 0 d 0 2 1 0 64 0 3 1 0 64 (leaves k) (omega arith) (omega arith) (omega arith) (omega arith) (omega arith) (leaves_sends k))
         (sends_then 0 d 3 3 4 0 1 0 0 0 0 (set_mission t (Some kept)) (cancel t kept) (leaves k).state (omega arith) (omega arith) (sends_none 0 d 3 3 _ refl refl refl) (cancel_sends 0 d line c t kept (set_mission t (Some kept) (leaves k).state).state)))
         (no_handing_due 4 4 (cancel t kept (set_mission t (Some kept) (leaves k).state).state).state
-        (cancelled_state kept (set_mission t (Some kept) (leaves k).state).state (put_here (leaves k).state.mission t (Some kept)))))
+        (cancelled_state kept (set_mission t (Some kept) (leaves k).state).state (put_there (leaves k).state.mission t (Some kept)))))
 
     cut_few : (k : Centre) → Sends 0 d 0 5 3 1 64 ((cut line c t last_kept m >> yield_if_due line c t) k)
     cut_few k = by_tail (tail.count == m.hand.count) m.handing

@@ -1,5 +1,5 @@
 -- A silent message does nothing, and its reason does not go by the reach.
-use Rattle.std.proofs.Common.{◌≡◌, ℕ, List, [], ◌∷◌, ◌++◌, Option, Some, None, refl, ap, ◌∙◌}
+use Rattle.std.proofs.Common.{◌≡◌, ℕ, [], Option, Some, None, refl, ap, ◌∙◌}
 use Rattle.std.specs.Option.{option_map_or}
 use Rattle.rbc_spec.specs.Reach.{Reach}
 use Rattle.rbc_spec.specs.Line.{Line}
@@ -8,10 +8,7 @@ use Rattle.rbc_spec.specs.Outcome.{Reason}
 use Rattle.rbc_spec.specs.Centre.{Centre}
 use Rattle.rbc_spec.specs.Acts.{rest}
 use Rattle.rbc_spec.specs.Step.{Train, Effect, effect, silence, stamp_of, ticked, taken, hear_and_answer, outcome_of, state_after}
-
-append_none : {X : Type 0} (xs : List X) → xs ++ [] ≡ xs
-append_none [] = refl
-append_none (x ∷ xs) = ap (λ ys. x ∷ ys) (append_none xs)
+use Rattle.std.proofs.lemmas.List.{append-nil}
 
 module _ (reach : Reach) (line : Line) (c : ℕ) (k : Centre) (m : TrainMessage) where
   abbrev j : Centre
@@ -34,7 +31,7 @@ module _ (reach : Reach) (line : Line) (c : ℕ) (k : Centre) (m : TrainMessage)
   effect_is why is = ap (λ o. option_map_or {U = Effect} quiet o answer) is
 
   pub state_is : (why : Reason) → silence line c k m ≡ Some why → (taken reach line c (Train m) k).1 ≡ j
-  state_is why is = ap (λ e. state_after (stamp_of k (Train m)) j e) (effect_is why is) ∙ (λ i. record j { sent = λ d. append_none (k.sent d) i })
+  state_is why is = ap (λ e. state_after (stamp_of k (Train m)) j e) (effect_is why is) ∙ (λ i. record j { sent = λ d. append-nil (k.sent d) i })
 
   pub sayings_are : (why : Reason) → silence line c k m ≡ Some why → (taken reach line c (Train m) k).0.sayings ≡ []
   sayings_are why is = ap (λ (e : Effect). e.reply.sayings) (effect_is why is)

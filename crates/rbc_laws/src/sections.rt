@@ -2,7 +2,7 @@
 
 ghost use Rattle.std.specs.Prelude.{◌≡◌, ℕ, ◌+◌, ◌<◌, ◌≤◌, ◌&&◌, ◌||◌, Bool, true, false, nat_lt, nat_le};
 ghost use Rattle.rbc_spec.specs.Runs.{Run, within, behind, is_empty, part_before, part_from, shared, joined, longest, passing};
-ghost use Rattle.rbc_laws.specs.Runs.{IsLongest};
+ghost use Rattle.rbc_lemmas.specs.Runs.{IsLongest};
 
 /// A number cuts a run in two: of its sections the part before the number has the lower ones, the part from it on the others.
 pub fn a_run_is_cut_in_two()

@@ -2,7 +2,7 @@
 use Rattle.std.proofs.Common.{◌≡◌, ℕ, ◌+◌, ◌<◌, ◌≤◌, ◌||◌, true, arith, ⊎_elim}
 use Rattle.std.proofs.lemmas.Bool.{or_left, or_right, or_cases, cases_lt}
 use Rattle.rbc_spec.specs.Runs.{Run, within, behind, part_before, part_from, joined}
-use Rattle.rbc_laws.proofs.Runs.{within_true, within_before, within_from, within_joined, same_tests}
+use Rattle.rbc_lemmas.proofs.Runs.{within_true, within_before, within_from, within_joined, same_tests}
 use Rattle.rbc_ledger.specs.Sums.{one_if}
 use Rattle.rbc_ledger.proofs.Sums.{one_if_parts}
 

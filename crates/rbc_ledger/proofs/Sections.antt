@@ -3,7 +3,7 @@ use Rattle.std.proofs.Common.{◌≡◌, ◌≢◌, ℕ, zero, suc, ◌+◌, ◌
 use Rattle.std.specs.List.{range_with_len}
 use Rattle.std.proofs.lemmas.Bool.{cond_both, or_left, cases_eq, and_left, and_right}
 use Rattle.rbc_spec.specs.Runs.{Run, within}
-use Rattle.rbc_laws.proofs.Runs.{within_true, within_from, within_before, within_none, same_tests}
+use Rattle.rbc_lemmas.proofs.Runs.{within_true, within_from, within_before, within_none, same_tests}
 use Rattle.rbc_ledger.specs.Sections.{sections, is_among, AreApart}
 
 -- the others of a run are those of the run behind its first

@@ -1,5 +1,5 @@
 -- What acts leave and say, one after another.
-use Rattle.std.proofs.Common.{◌≡◌, ℕ, refl, sym, ◌∷◌, Option, Some, None, List, [], ◌++◌, ap, ◌∙◌}
+use Rattle.std.proofs.Common.{◌≡◌, ℕ, refl, sym, Option, Some, None, List, [], ◌++◌, ap, ◌∙◌}
 use Rattle.std.specs.Option.{option_map_or}
 use Rattle.rbc_spec.specs.Outcome.{Word}
 use Rattle.rbc_spec.specs.Line.{Line}
@@ -7,6 +7,7 @@ use Rattle.rbc_spec.specs.Centre.{Centre, Mission}
 use Rattle.rbc_spec.specs.LineCentre.{nothing}
 use Rattle.rbc_spec.specs.Quiet.{both}
 use Rattle.rbc_spec.specs.Acts.{Act, ◌>>◌, with_some, rest, yield_if_due}
+use Rattle.std.proofs.lemmas.List.{append-nil}
 
 -- from j an act leaves s, and tells these words alone
 pub record Does (a : Act) (j s : Centre) (words : List Word) : Type 0 where
@@ -50,14 +51,10 @@ not_yielded line c t j (Some n) is none = with_it (λ (x : Centre). x.mission t)
 
 -- ## Words
 
-pub append_nil : {X : Type 0} (xs : List X) → xs ++ [] ≡ xs
-append_nil [] = refl
-append_nil (x ∷ xs) = ap (λ ys. x ∷ ys) (append_nil xs)
-
 -- acts that say nothing add nothing
 pub words_alone : {X : Type 0} (xs : List X) → (xs ++ []) ++ [] ≡ xs
-words_alone xs = append_nil (xs ++ []) ∙ append_nil xs
+words_alone xs = append-nil (xs ++ []) ∙ append-nil xs
 
 -- words alone, and nothing behind them
 pub words_only : (words : List Word) → record { sayings = []; words = words } ≡ both (record { sayings = []; words = words }) nothing
-words_only words = ap (λ (ws : List Word). record { sayings = []; words = ws }) (sym (append_nil words))
+words_only words = ap (λ (ws : List Word). record { sayings = []; words = ws }) (sym (append-nil words))

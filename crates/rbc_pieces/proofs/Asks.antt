@@ -17,9 +17,9 @@ use Rattle.rbc_spec.specs.Quiet.{Proposes}
 use Rattle.rbc_spec.specs.World.{World}
 use Rattle.rbc_spec.specs.ReadOff.{seen}
 use Rattle.rbc_spec.specs.Theorems.{MayPropose}
+use Rattle.rbc_lemmas.proofs.Puts.{put_there}
+use Rattle.rbc_lemmas.proofs.Runs.{within_true, within_from}
 use Rattle.rbc_alone.specs.Alone.{IsAlone, mark_alone, alone_off}
-use Rattle.rbc_pieces.proofs.Maps.{put_there}
-use Rattle.rbc_pieces.proofs.Ranges.{within_true, within_from}
 use Rattle.rbc_pieces.proofs.Off.{given_is_hand, hand_is_home, mark_at_home}
 
 module _ (line : Line) (w : World) (alone : IsAlone line w) (c : ℕ) where

@@ -17,12 +17,12 @@ use Rattle.rbc_spec.specs.LineCentre.{LineState, change_mission, set_mission, cl
 use Rattle.rbc_spec.specs.OwnSteps.{reported, release_words, is_cleared_of, ended}
 use Rattle.rbc_spec.specs.World.{World}
 use Rattle.rbc_spec.specs.ReadOff.{seen}
+use Rattle.rbc_lemmas.proofs.Puts.{put_keeps, put_at_pair, put_over, put_there, itself}
+use Rattle.rbc_lemmas.proofs.Runs.{some_count, whole_hand, same_tests}
 use Rattle.rbc_alone.specs.Alone.{IsOrdered, IsAlone, alone_off}
 use Rattle.rbc_pieces.specs.Pieces.{with_centre}
-use Rattle.rbc_pieces.proofs.Maps.{put_keeps, put_at_pair, put_over, put_there, itself}
 use Rattle.rbc_pieces.proofs.Off.{shows, mission_put, registrar_of_mission}
 use Rattle.rbc_pieces.proofs.Missions.{mission_becomes, mission_here}
-use Rattle.rbc_pieces.proofs.Ranges.{some_count, whole_hand}
 use Rattle.rbc_pieces.proofs.Leaves.{close_is, left_marks, left_wishes, left_words, none_given, some_given, cleared_inside, cleared_is, all_cleared, some_left}
 use Rattle.rbc_pieces.proofs.Acts.{words_alone, Does}
 
@@ -96,12 +96,7 @@ module _ (line : Line) (ordered : IsOrdered line) (w : World) (alone : IsAlone l
 
       -- the whole hand is what is cleared
       all_released : (s : ℕ) → is_released s ≡ within all s
-      all_released s = part_is s ∙ same (within part s) (within m.hand s) (part_inside s) (all_in s) ∙ sym (ap (λ (r : Run). within r s) all_is)
-        where
-          same : (a b : Bool) → (a ≡ true → b ≡ true) → (b ≡ true → a ≡ true) → a ≡ b
-          same true b to from = sym (to refl)
-          same false true to from = from refl
-          same false false to from = refl
+      all_released s = part_is s ∙ same_tests (within part s) (within m.hand s) (part_inside s) (all_in s) ∙ sym (ap (λ (r : Run). within r s) all_is)
 
       all_inside : (s : ℕ) → within all s ≡ true → within m.hand s ≡ true
       all_inside s so = sym (ap (λ (r : Run). within r s) all_is) ∙ so

@@ -18,14 +18,16 @@ use Rattle.rbc_spec.specs.LineCentre.{LineState, change_mission, set_mission, cl
 use Rattle.rbc_spec.specs.OwnSteps.{Own, release_words, is_cut_of, without_ask, shortened, track_of, last_kept_of}
 use Rattle.rbc_spec.specs.World.{World}
 use Rattle.rbc_spec.specs.ReadOff.{seen}
+use Rattle.std.proofs.lemmas.List.{append-nil}
+use Rattle.rbc_lemmas.proofs.Puts.{put_keeps, put_at_pair, put_over, put_there}
+use Rattle.rbc_lemmas.proofs.Runs.{within_from}
+use Rattle.std.proofs.lemmas.Bool.{not-false}
 use Rattle.rbc_alone.specs.Alone.{IsAlone, alone_off}
 use Rattle.rbc_pieces.specs.Pieces.{with_centre}
-use Rattle.rbc_pieces.proofs.Maps.{put_keeps, put_at_pair, put_over, put_there}
-use Rattle.rbc_pieces.proofs.Ranges.{within_from, not_false}
 use Rattle.rbc_pieces.proofs.Off.{shows, mark_stays, wish_stays, mission_put, registrar_of_mission}
 use Rattle.rbc_pieces.proofs.Missions.{some_of, mission_becomes, mission_here}
 use Rattle.rbc_pieces.proofs.Leaves.{close_is, left_marks, left_wishes, left_words, none_given, some_given}
-use Rattle.rbc_pieces.proofs.Acts.{not_yielded, append_nil, words_alone, Does, both_do, with_it, does_as}
+use Rattle.rbc_pieces.proofs.Acts.{not_yielded, words_alone, Does, both_do, with_it, does_as}
 use Rattle.rbc_pieces.proofs.Tails.{released as cut_is, gone_inside as cut_inside, all_gone as whole_cut, first_kept}
 use Rattle.rbc_pieces.proofs.Messages.{AtOnce, Goes, ticked, message, before, reply, left, not_for, goes_at_once}
 
@@ -93,7 +95,7 @@ module _ (line : Line) (w : World) (alone : IsAlone line w) (c t_train t : ℕ) 
       (with_it (λ (_ : centre.Centre). m.proposal) (granted line c t position m) heard s p words proposed
       (does_as _ heard s _ _ (both_do _ (yield_if_due line c t) heard s s words []
       (both_do (change_here t (λ x. record x { proposal = None })) (cut_where_so (place_on line m.place.track position)) heard answered s [] words answers d)
-      (not_yielded line c t s n is none)) (append_nil words))))
+      (not_yielded line c t s n is none)) (append-nil words))))
 
   without_mission : (u : ℕ) → put (alone_off line w).mission t (Some (seen c unasked)) u ≡ (without_ask t v).mission u
   without_mission u = ap (λ (o : Option line_centre.Mission). put (alone_off line w).mission t o u) (sym (ap (option_map (λ (n : line_centre.Mission). record n { proposal = None })) (mission_here line w c t m alone has)))
@@ -285,7 +287,7 @@ module _ (line : Line) (w : World) (alone : IsAlone line w) (c t_train t : ℕ) 
       sym (ap (λ (o : Option centre.Mission). not (step.mission_has (λ m. option_map_or (λ p. p.stamp == asked) m.proposal false) o)) here.1)
       ∙ not_for line w alone c t_train t trains at (ShorteningGranted asked position) 5 Unasked h refl
       in
-      let asks = asked_of here.0 here.0.proposal refl (not_false (option_map_or (λ p. p.stamp == asked) here.0.proposal false) fails) in
+      let asks = asked_of here.0 here.0.proposal refl (not-false (option_map_or (λ p. p.stamp == asked) here.0.proposal false) fails) in
       granted_answered line w alone c t_train t trains at asked position here.0 here.1 asks.0 asks.1
 
   pub granted_goes : Goes line w alone c t_train t trains at (ShorteningGranted asked position)

@@ -13,8 +13,9 @@ use Rattle.rbc_spec.specs.LineCentre as line_centre
 use Rattle.rbc_spec.specs.LineCentre.{LineState, Mark, is_given_to, is_mark_open, is_waiting_at, supervises, free, told, says, saying_of, Said, nothing}
 use Rattle.rbc_spec.specs.OwnSteps.{may_start, waits}
 use Rattle.rbc_spec.specs.Quiet.{Dismiss, TakesAll}
-use Rattle.rbc_pieces.proofs.Maps.{put_pair_there, put_pair_back}
-use Rattle.rbc_pieces.proofs.Ranges.{filter-none, each_within}
+use Rattle.rbc_lemmas.proofs.Puts.{put_pair_there, put_pair_back}
+use Rattle.rbc_lemmas.proofs.Runs.{each_within}
+use Rattle.rbc_lemmas.proofs.Lists.{filter-none}
 
 open_is : (m : Mark) → is_mark_open m ≡ true → m ≡ line_centre.Open
 open_is line_centre.Shut h = cc

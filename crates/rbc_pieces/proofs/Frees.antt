@@ -1,7 +1,7 @@
 -- What an own step of the one line centre frees: only what a report clears, or a granted shortening cuts off.
-use Rattle.std.proofs.Common.{◌≡◌, ◌⊎◌, ℕ, ◌*◌, ◌&&◌, ◌||◌, not, nat_le, nat_lt, Bool, true, false, Option, Some, None, refl, sym, ap, ◌∙◌, inl, inr, if◌then◌else◌, eqb-true, subst}
+use Rattle.std.proofs.Common.{◌≡◌, ◌⊎◌, ℕ, ◌*◌, ◌&&◌, not, nat_le, nat_lt, Bool, true, false, Option, Some, None, refl, sym, ap, ◌∙◌, inl, inr, if◌then◌else◌, eqb-true, subst}
 use Rattle.std.specs.Bool.{MatchBool}
-use Rattle.std.proofs.lemmas.Bool.{and_parts}
+use Rattle.std.proofs.lemmas.Bool.{and_parts, or_cases, not-true}
 use Rattle.std.proofs.lemmas.Option.{same_Some}
 use Rattle.rbc_spec.specs.Runs.{Run, within, behind, all_of}
 use Rattle.rbc_spec.specs.Line.{Line, is_centre, is_home, end}
@@ -11,7 +11,7 @@ use Rattle.rbc_spec.specs.Message.{TrainMessage, TrainBody, TrainData, Request, 
 use Rattle.rbc_spec.specs.Centre.{is_registrar_of}
 use Rattle.rbc_spec.specs.LineCentre.{LineState, Mark, Shut, Open, Kept, Given, is_given_to, is_mark_open, is_kept_for, is_waiting, supervises, release, close_if_empty, Said}
 use Rattle.rbc_spec.specs.OwnSteps.{begins, may_start, waits, Rejects, StartsHere, Restarts, StartsNew, Starts, may_be_given, Extends, is_cleared_of, is_cut_of, shortened, without_ask, track_of, last_kept_of, Reports, Ending, Own}
-use Rattle.rbc_pieces.proofs.Ranges.{each_within}
+use Rattle.rbc_lemmas.proofs.Runs.{each_within}
 use Rattle.rbc_pieces.proofs.Waits.{IsWaited, WaitsKeep, Leaves, IsLoose, opened, kept_for, if_not, PutAt, there, elsewhere, put_at, wait_on, waiting_at, loose_leaves, plain_leaves, end_leaves, not_waiting_kept}
 
 -- why a section stops being given to train u by a message of train t: its report or end clears it, or its granted shortening cuts it off
@@ -49,14 +49,6 @@ train_given t u Shut h is = cc
 train_given t u Open h is = cc
 train_given t u (Kept x) h is = cc
 train_given t u (Given x) h is = let same : x ≡ u = cc in sym (eqb-true x t h) ∙ same
-
-pub or_cases : (a b : Bool) → (a || b) ≡ true → (a ≡ true) ⊎ (b ≡ true)
-or_cases true b h = inl refl
-or_cases false b h = inr h
-
-not_true : (b : Bool) → not b ≡ true → b ≡ false
-not_true true h = cc
-not_true false h = refl
 
 kept_not_open : (t : ℕ) (m : Mark) → m ≡ Kept t → m ≡ Open → ⊥
 kept_not_open t m kept is = let wrong : Kept t ≡ Open = sym kept ∙ is in cc
@@ -141,7 +133,7 @@ module _ (line : Line) (v : LineState) (keep : WaitsKeep line v) (c : ℕ) (at :
       cases : (s : ℕ) → within more s ≡ true → (v.mark s ≡ Open) ⊎ ((v.mark s ≡ Kept t) × (is_waiting line v t s ≡ false))
       cases s so = elim (or_cases (is_home line c s && is_mark_open (v.mark s)) (is_kept_for t (v.mark s) && not (is_waiting line v t s)) (may_be s so)) [
         | inl o ↦ inl (mark_open (v.mark s) (and_parts (is_home line c s) (is_mark_open (v.mark s)) o).1)
-        | inr k ↦ let parts = and_parts (is_kept_for t (v.mark s)) (not (is_waiting line v t s)) k in inr (mark_kept t (v.mark s) parts.0, not_true (is_waiting line v t s) parts.1)
+        | inr k ↦ let parts = and_parts (is_kept_for t (v.mark s)) (not (is_waiting line v t s)) k in inr (mark_kept t (v.mark s) parts.0, not-true (is_waiting line v t s) parts.1)
       ]
 
       loose : (s : ℕ) → within more s ≡ true → IsLoose (v.mark s)

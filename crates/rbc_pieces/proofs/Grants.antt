@@ -1,7 +1,7 @@
 -- A request that is granted is a piece of the one line centre's run: the hand is extended as far as it may go.
 use Rattle.std.proofs.Common.{◌≡◌, ◌⊎◌, ℕ, zero, suc, ◌+◌, ◌-◌, ◌*◌, ◌<◌, ◌≤◌, ◌&&◌, ◌||◌, not, nat_le, Bool, true, false, Option, Some, None, option_map, refl, sym, ap, ◌∙◌, List, [], ◌∷◌, if◌then◌else◌, inl, inr, arith, leb-true}
 use Rattle.std.specs.Option.{option_map_or}
-use Rattle.std.proofs.lemmas.Bool.{and_parts, and_from, or_left, cases_lt}
+use Rattle.std.proofs.lemmas.Bool.{and_parts, and_from, or_left, cases_lt, not-false}
 use Rattle.rbc_spec.specs.Maps.{put}
 use Rattle.rbc_spec.specs.Runs.{Run, within, behind, longest, joined}
 use Rattle.rbc_spec.specs.Line.{Line, is_centre, end}
@@ -19,9 +19,11 @@ use Rattle.rbc_spec.specs.LineCentre as line_centre
 use Rattle.rbc_spec.specs.LineCentre.{LineState, change_mission, mark_all, is_mark_open, says, saying_of, Said, nothing}
 use Rattle.rbc_spec.specs.OwnSteps.{Ends, off_track, not_free, full, too_far, may_be_given}
 use Rattle.rbc_spec.specs.World.{World}
+use Rattle.rbc_lemmas.proofs.Puts.{put_keeps, put_at_pair}
+use Rattle.rbc_lemmas.proofs.Longest.{longest_is}
+use Rattle.rbc_lemmas.specs.Runs.{IsLongest}
+use Rattle.rbc_lemmas.proofs.Runs.{within_from, all_within, some_count, none_within}
 use Rattle.rbc_alone.specs.Alone.{IsAlone}
-use Rattle.rbc_pieces.proofs.Maps.{put_keeps, put_at_pair}
-use Rattle.rbc_pieces.proofs.Ranges.{within_true, within_from, all_within, IsLongest, longest_is, not_false, some_count, none_within}
 use Rattle.rbc_pieces.proofs.Off.{shows, wish_stays, given_is_hand}
 use Rattle.rbc_pieces.proofs.Missions.{some_of, mission_becomes, mission_here}
 use Rattle.rbc_pieces.proofs.Books.{booked_marks, free_is_open}
@@ -86,7 +88,7 @@ module _ (line : Line) (w : World) (alone : IsAlone line w) (c t_train t : ℕ) 
         or_none false b f g = sym f ∙ g
 
     each_follows : (s : ℕ) → within more s ≡ true → Follows s
-    each_follows s inside = let ends = within_true more s inside in follows s (most.each s ends.0 ends.1)
+    each_follows s inside = follows s (most.each s inside)
 
     ends_at : (s : ℕ) → behind grown ≡ s → test s ≡ false → Ends line v c place grown
     ends_at s is fails = by_parts (is_on line place.track s) (is_free line c (w.at c) s) (nat_le (end line s) (group_start line place + 32767)) refl refl refl
@@ -173,7 +175,7 @@ module _ (line : Line) (w : World) (alone : IsAlone line w) (c t_train t : ℕ) 
   requested h =
       let here = some_of ((w.at c).mission t) (not_for line w alone c t_train t trains at body 4 NotSupervised h refl) in
       let fails : not (may_request line here.0 position) ≡ false = sym (ap (step.mission_has (λ m. not (may_request line m position))) here.1) ∙ not_for line w alone c t_train t trains at body 8 NoPlace h refl in
-      by_place here.0 here.1 (place_on line here.0.place.track position) refl (not_false (may_request line here.0 position) fails)
+      by_place here.0 here.1 (place_on line here.0.place.track position) refl (not-false (may_request line here.0 position) fails)
     where
       by_place : (m : centre.Mission) → (w.at c).mission t ≡ Some m → (o : Option Place) → place_on line m.place.track position ≡ o → option_map_or (in_reach_of m) o false ≡ true → Answer
       by_place m has None on passes = cc

@@ -14,7 +14,7 @@ use Rattle.rbc_spec.specs.OwnSteps.{Says, SaysNothing, Tells, Rejects, Accepts, 
 use Rattle.rbc_spec.specs.Quiet.{both}
 use Rattle.rbc_spec.specs.World.{Event, Bytes, Set, Unset, Delivery}
 use Rattle.rbc_spec.specs.Run.{Steps, silent, heard, listened, OwnStep, TellsInOrder}
-use Rattle.rbc_pieces.proofs.Acts.{append_nil}
+use Rattle.std.proofs.lemmas.List.{append-nil}
 
 -- ## Lists of words
 
@@ -143,5 +143,5 @@ own_step_in_order line v (Delivery from to number) said new why h = subst (λ (x
 pub piece_in_order : (line : Line) (v : LineState) (event : Event) (own : Said) (mid : LineState) (why : Option Reason) (later said : Said) → OwnStep line v event own mid why
     → later.words ≡ [] → said ≡ both own later → TellsInOrder said.words
 piece_in_order line v event own mid why later said own_step none says =
-    let words : said.words ≡ own.words = ap (λ (x : Said). x.words) says ∙ ap (λ ws. own.words ++ ws) none ∙ append_nil own.words in
+    let words : said.words ≡ own.words = ap (λ (x : Said). x.words) says ∙ ap (λ ws. own.words ++ ws) none ∙ append-nil own.words in
     subst TellsInOrder (sym words) (own_step_in_order line v event own mid why own_step)

@@ -16,10 +16,13 @@ use Rattle.rbc_spec.specs.LineCentre.{LineState, Mark, is_given_to, release, tol
 use Rattle.rbc_spec.specs.OwnSteps.{release_words, is_cleared_of}
 use Rattle.rbc_spec.specs.Rules.{cleared}
 use Rattle.rbc_spec.specs.World.{World}
+use Rattle.rbc_lemmas.proofs.Lines.{on_line}
+use Rattle.rbc_lemmas.proofs.Longest.{longest_is}
+use Rattle.rbc_lemmas.specs.Runs.{IsLongest}
+use Rattle.rbc_lemmas.proofs.Lists.{any-range, any-range_none}
+use Rattle.rbc_lemmas.proofs.Runs.{within_true, within_from, within_behind, same_tests, filter_run}
 use Rattle.rbc_alone.specs.Alone.{IsOrdered, IsAlone, hand_has, mark_alone, alone_off}
-use Rattle.rbc_pieces.proofs.Ranges.{within_true, within_from, within_after, same_tests, filter_run, any-range, any-range_none, IsLongest, longest_is}
 use Rattle.rbc_pieces.proofs.Off.{mark_stays, wish_stays, wish_at_home, given_is_hand, hand_is_home}
-use Rattle.rbc_pieces.proofs.Silence.{on_line}
 
 -- where a section is cleared, one that ends no farther is
 pub cleared_before : (line : Line) (place : Place) (s e : ℕ) → end line s ≤ end line e → is_cleared line place e ≡ true → is_cleared line place s ≡ true
@@ -152,7 +155,7 @@ module _ (line : Line) (w : World) (ordered : IsOrdered line) (alone : IsAlone l
   cleared_is s = ap (λ b. b && is_cleared line place s) (given_is_hand line w c t m alone has s) ∙ same_tests (within m.hand s && is_cleared line place s) (within part s) is_part is_cleared_there
     where
       is_cleared_there : within part s ≡ true → (within m.hand s && is_cleared line place s) ≡ true
-      is_cleared_there so = let ends = within_true part s so in and_from (within m.hand s) (is_cleared line place s) (cleared_inside s so) (most.each s ends.0 ends.1)
+      is_cleared_there so = and_from (within m.hand s) (is_cleared line place s) (cleared_inside s so) (most.each s so)
 
       is_part : (within m.hand s && is_cleared line place s) ≡ true → within part s ≡ true
       is_part both =
@@ -175,5 +178,5 @@ module _ (line : Line) (w : World) (ordered : IsOrdered line) (alone : IsAlone l
   pub some_left : (part.count == m.hand.count) ≡ false → (within m.hand (behind part) ≡ true) × (within part (behind part) ≡ false)
   some_left apart = elim (eqb_tells part.count m.hand.count) [
     | inl e ↦ absurd (both_ways (part.count == m.hand.count) apart e.0)
-    | inr e ↦ let differ = e.1 in (within_from m.hand (behind part) (omega arith) (omega (arith, most.fits, differ)), within_after part (behind part) (omega arith))
+    | inr e ↦ let differ = e.1 in (within_from m.hand (behind part) (omega arith) (omega (arith, most.fits, differ)), within_behind part (behind part) (omega arith))
   ]

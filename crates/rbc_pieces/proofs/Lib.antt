@@ -1,5 +1,3 @@
-pub mod Maps
-pub mod Ranges
 pub mod Off
 pub mod Seats
 pub mod Stands

@@ -14,13 +14,13 @@ use Rattle.rbc_spec.specs.OwnSteps.{Own}
 use Rattle.rbc_spec.specs.Quiet.{Quiet, is_of_centre, TakesAll, both}
 use Rattle.rbc_spec.specs.World.{World, Bytes}
 use Rattle.rbc_spec.specs.Run.{Piece, OwnStep, silent, heard}
+use Rattle.rbc_lemmas.proofs.Lists.{none_passes}
+use Rattle.std.proofs.lemmas.List.{append-nil}
+use Rattle.rbc_lemmas.proofs.Puts.{put_keeps}
 use Rattle.rbc_alone.specs.Alone.{IsAlone, alone_off}
 use Rattle.rbc_pieces.specs.Pieces.{with_centre}
-use Rattle.rbc_pieces.proofs.Maps.{put_keeps}
-use Rattle.rbc_pieces.proofs.Acts.{append_nil}
 use Rattle.rbc_pieces.proofs.Off.{shows, mark_stays, wish_stays, mission_stays}
 use Rattle.rbc_pieces.proofs.Silence.{same_silence}
-use Rattle.rbc_pieces.proofs.Missions.{none_passes}
 use Rattle.rbc_pieces.proofs.InOrder.{none_in_order, piece_in_order}
 
 -- a step that leaves all that is seen of its centre is not seen
@@ -44,7 +44,7 @@ unseen line w c new trains same = shows line w c new trains (alone_off line w) (
 })
 
 pub nothing_more : (said : Said) → said ≡ both said nothing
-nothing_more said = λ i. record { sayings = sym (append_nil said.sayings) i; words = sym (append_nil said.words) i }
+nothing_more said = λ i. record { sayings = sym (append-nil said.sayings) i; words = sym (append-nil said.words) i }
 
 module _ (line : Line) (w : World) (alone : IsAlone line w) (c t_train t : ℕ) (trains : List ℕ) (at : is_centre line c ≡ true) where
   abbrev pub now : LineState

@@ -1,7 +1,6 @@
 -- What a change of a train's mission shows on the line, and what a message that is not silent tells.
-use Rattle.std.proofs.Common.{◌≡◌, ℕ, zero, suc, ◌==◌, Bool, true, false, cond, Option, Some, None, option_map, is_none, refl, sym, ap, ◌∙◌, inl, inr, List, [], ◌∷◌, slice_get, if◌then◌else◌}
+use Rattle.std.proofs.Common.{◌≡◌, ℕ, ◌==◌, Bool, true, false, Option, Some, None, option_map, is_none, refl, sym, ap, ◌∙◌, inl, inr, if◌then◌else◌}
 use Rattle.std.specs.Option.{option_map_or, option_and_then}
-use Rattle.std.specs.List.{find}
 use Rattle.std.proofs.lemmas.Bool.Decides.{eqb_tells}
 use Rattle.rbc_spec.specs.Maps.{put}
 use Rattle.rbc_spec.specs.Line.{Line, registrar}
@@ -12,20 +11,9 @@ use Rattle.rbc_spec.specs.LineCentre.{LineState}
 use Rattle.rbc_spec.specs.OwnSteps.{without_proposal}
 use Rattle.rbc_spec.specs.World.{World}
 use Rattle.rbc_spec.specs.ReadOff.{seen}
+use Rattle.rbc_lemmas.proofs.Puts.{put_same}
 use Rattle.rbc_alone.specs.Alone.{IsAlone, alone_off}
-use Rattle.rbc_pieces.proofs.Maps.{put_same}
 use Rattle.rbc_pieces.proofs.Off.{registrar_of_mission, mission_at_registrar, mission_stays, mission_put}
-
--- where nothing is found, none passes
-pub none_passes : {X : Type 0} (test : X → Bool) (xs : List X) (n : ℕ) (x : X) → find test xs ≡ None → slice_get xs n ≡ Some x → test x ≡ false
-none_passes test [] zero x none is = cc
-none_passes test [] (suc n) x none is = cc
-none_passes test (y ∷ ys) n x none is = by_test (test y) refl n is none (λ k others at. none_passes test ys k x others at)
-  where
-    by_test : (b : Bool) → test y ≡ b → (n : ℕ) → slice_get (y ∷ ys) n ≡ Some x → cond b (Some y) (find test ys) ≡ None → ((k : ℕ) → find test ys ≡ None → slice_get ys k ≡ Some x → test x ≡ false) → test x ≡ false
-    by_test true t n at h others = cc
-    by_test false t zero at h others = let same : y ≡ x = cc in ap test (sym same) ∙ t
-    by_test false t (suc k) at h others = others k h at
 
 -- what is not none is something
 pub some_of : {X : Type 0} (o : Option X) → is_none o ≡ false → (x : X) × (o ≡ Some x)

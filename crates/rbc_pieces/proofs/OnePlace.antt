@@ -1,11 +1,9 @@
 -- Where each mission stays at one centre, each section in use and each train's right is in one place.
-use Rattle.std.proofs.Common.{◌≡◌, ◌≢◌, ℕ, zero, suc, ◌+◌, ◌<◌, ◌≤◌, ◌==◌, ◌&&◌, Bool, true, false, cond, Option, Some, None, option_map, is_some, is_none, refl, sym, ap, ◌∙◌, inl, inr, List, [], ◌∷◌, ◌++◌, length, map, slice_get, subst, eq-eqb, ne_eqb, eqb-true, arith}
+use Rattle.std.proofs.Common.{◌≡◌, ◌≢◌, ℕ, zero, suc, ◌+◌, ◌<◌, ◌≤◌, ◌==◌, ◌&&◌, Bool, true, false, cond, Option, Some, None, option_map, is_some, is_none, refl, sym, ap, ◌∙◌, inl, inr, List, [], ◌∷◌, ◌++◌, length, map, slice_get, eq-eqb, ne_eqb, eqb-true, arith}
 use Rattle.std.specs.Option.{option_map_or}
-use Rattle.std.specs.List.{find, flat_map, count_by, range_with_len, All}
+use Rattle.std.specs.List.{find, flat_map, count_by, range_with_len}
 use Rattle.std.proofs.lemmas.Bool.{false_from_ne_true, both_ways, and_from}
 use Rattle.std.proofs.lemmas.Bool.Decides.{eqb_tells}
-use Rattle.std.proofs.lemmas.Option.{slice_get_within, get_or_from_slice_get}
-use Rattle.std.proofs.lemmas.List.Elements.{All-get_or}
 use Rattle.std.proofs.lemmas.List.Sums.{sum_by-cons}
 use Rattle.rbc_spec.specs.Runs.{Run, no_run, within}
 use Rattle.rbc_spec.specs.Line.{Line, IsLine, Section, Train, AreDistinct, section, is_home, registrar}
@@ -16,13 +14,14 @@ use Rattle.rbc_spec.specs.Centre.{is_registrar_of, is_taken_for, is_out_for}
 use Rattle.rbc_spec.specs.World.{World}
 use Rattle.rbc_spec.specs.ReadOff.{centres_of, frames_on_way}
 use Rattle.rbc_spec.specs.Promises.{once, held_for, carried_for, holders, user, carries_right, HasOnePlace}
+use Rattle.rbc_lemmas.proofs.Lists.{each_at}
+use Rattle.rbc_lemmas.proofs.Lines.{one_home, registrar_below}
+use Rattle.std.proofs.lemmas.List.{append-nil}
 use Rattle.rbc_alone.specs.Alone.{IsAlone, IsMissionAlone, hand_has}
 use Rattle.rbc_alone.proofs.Missions.{none_within}
-use Rattle.rbc_pieces.proofs.Acts.{append_nil}
 use Rattle.rbc_pieces.proofs.Off.{registrar_of_mission}
 use Rattle.rbc_pieces.proofs.Seats.{flat_map-none, none_on_way, one_seat}
-use Rattle.rbc_pieces.proofs.Stands.{one_home, hand_of}
-use Rattle.rbc_pieces.proofs.ReadOff.{registrar_is_centre}
+use Rattle.rbc_pieces.proofs.Stands.{hand_of}
 
 -- ## Lists
 
@@ -36,7 +35,7 @@ flat_map-range_one f a zero r low high only = absurd (let wrong : ⊥ = omega ar
 flat_map-range_one f a (suc n) r low high only = elim (eqb_tells r a) [
   | inl e ↦ let same = e.1 in
       let others : flat_map f (range_with_len (a + 1) n) ≡ [] = flat_map-range_none f (a + 1) n (λ s from. only s (λ is. let wrong : ⊥ = omega (arith, is, from, same) in wrong)) in
-      ap (λ ys. f a ++ ys) others ∙ append_nil (f a) ∙ ap f (sym same)
+      ap (λ ys. f a ++ ys) others ∙ append-nil (f a) ∙ ap f (sym same)
   | inr e ↦ let apart = e.1 in rw (only a (λ is. apart (sym is))) (flat_map-range_one f (a + 1) n r (omega (arith, apart)) (omega arith) only)
 ]
 
@@ -63,10 +62,6 @@ count_range_one test a (suc n) r low high passes only = elim (eqb_tells r a) [
       count_more test a (range_with_len (a + 1) n) false 1 (only a (λ is. apart (sym is)))
       (count_range_one test (a + 1) n r (omega (arith, apart)) (omega arith) passes only)
 ]
-
--- what holds of each item holds of the one at a place
-each_at : {X : Type 0} (P : X → Type 0) (xs : List X) (i : ℕ) (x : X) → All P xs → slice_get xs i ≡ Some x → P x
-each_at P xs i x all at = subst P (get_or_from_slice_get xs i x x at) (All-get_or P xs i x (slice_get_within xs i x at) all)
 
 -- ## Trains of the line
 
@@ -121,14 +116,14 @@ module _ (line : Line) (w : World) (ok : IsLine line) (alone : IsAlone line w) w
   held_here : (s c t : ℕ) → held_for line s (w.at c) t ≡ once (is_taken_for t ((w.at c).book s)) t
   held_here s c t =
       ap (λ (o : Option Place). in_mission s t ((w.at c).mission t) ++ option_map_or (λ place. once (within (covered line place) s) t) o []) ((alone.each c).no_wait t)
-      ∙ append_nil (in_mission s t ((w.at c).mission t)) ∙ by_mission ((w.at c).mission t) refl ∙ ap (λ b. once b t) (sym ((alone.each c).taken s t))
+      ∙ append-nil (in_mission s t ((w.at c).mission t)) ∙ by_mission ((w.at c).mission t) refl ∙ ap (λ b. once b t) (sym ((alone.each c).taken s t))
     where
       not_in_pool : (m : centre.Mission) → IsMissionAlone line m → once (within m.pool s) t ≡ []
       not_in_pool m is_alone = ap (λ b. once b t) (ap (λ (r : Run). within r s) is_alone.no_pool ∙ false_from_ne_true (within no_run s) (none_within s))
 
       by_mission : (o : Option centre.Mission) → (w.at c).mission t ≡ o → in_mission s t o ≡ once (hand_has o s) t
       by_mission None has = refl
-      by_mission (Some m) has = ap (λ us. once (within m.hand s) t ++ us) (not_in_pool m ((alone.each c).mission t m has)) ∙ append_nil (once (within m.hand s) t)
+      by_mission (Some m) has = ap (λ us. once (within m.hand s) t ++ us) (not_in_pool m ((alone.each c).mission t m has)) ∙ append-nil (once (within m.hand s) t)
 
   abbrev engines : List ℕ
   engines = map (λ p. p.nid_engine) line.trains
@@ -165,7 +160,7 @@ module _ (line : Line) (w : World) (ok : IsLine line) (alone : IsAlone line w) w
   section_held : (s c : ℕ) → is_home line c s ≡ true → holders line w s ≡ user ((w.at c).book s)
   section_held s c home =
       ap (λ (fs : List Frame). flat_map (held_at_centre s) (centres_of line) ++ flat_map (λ (f : Frame). carried_for s f.body) fs) (none_on_way line w alone)
-      ∙ append_nil (flat_map (held_at_centre s) (centres_of line))
+      ∙ append-nil (flat_map (held_at_centre s) (centres_of line))
       ∙ flat_map-range_one (held_at_centre s) 0 (length line.centres) c (omega arith) (omega (arith, home_is_centre line ok s c home)) (λ d apart. none_elsewhere s c d home apart)
       ∙ held_by_user s c
 
@@ -182,7 +177,7 @@ module _ (line : Line) (w : World) (ok : IsLine line) (alone : IsAlone line w) w
   right_placed t r is = by_mission ((w.at r).mission t) refl
     where
       within_line : r < 0 + length line.centres
-      within_line = omega (arith, registrar_is_centre line ok t r is)
+      within_line = omega (arith, registrar_below line ok t r is)
 
       no_right : (c : ℕ) → c ≢ r → has_right t c ≡ false
       no_right c apart = (alone.each c).right t ∙ ap (λ b. b && is_none ((w.at c).mission t)) (not_registrar line t r c is apart)

@@ -1,9 +1,9 @@
 -- Each event keeps its promises, whatever state the one line centre goes on from.
-use Rattle.std.proofs.Common.{◌≡◌, ◌⊎◌, ℕ, ◌*◌, ◌==◌, ◌&&◌, not, Bool, true, false, Option, Some, None, refl, sym, ap, ◌∙◌, inl, inr, List, [], ◌∷◌, ◌++◌, Ok, Err, if◌then◌else◌, eqb-true, eq-eqb, leb-true, ltb-true, nat_le, nat_lt, subst}
+use Rattle.std.proofs.Common.{◌≡◌, ◌⊎◌, ℕ, ◌*◌, ◌==◌, ◌&&◌, Bool, true, false, Option, Some, None, refl, sym, ap, ◌∙◌, inl, inr, List, [], ◌∷◌, ◌++◌, Ok, Err, if◌then◌else◌, eqb-true, eq-eqb, leb-true, ltb-true, nat_le, nat_lt, subst}
 use Rattle.std.specs.Option.{option_map_or}
 use Rattle.std.specs.List.{All}
 use Rattle.std.proofs.lemmas.List.Elements.{All-append, All-contains, All-cons}
-use Rattle.std.proofs.lemmas.Bool.{and_parts}
+use Rattle.std.proofs.lemmas.Bool.{and_parts, not-false}
 use Rattle.rbc_spec.specs.Line.{Line, Section, section, is_centre, is_home, end}
 use Rattle.rbc_spec.specs.Place.{place_on}
 use Rattle.rbc_spec.specs.Message.{TrainMessage, TrainBody, TrainData, Request, Report, ShorteningGranted, ShorteningRejected, EndOfMission, InitiationOfSession, TerminationOfSession, StartOfMission, SessionEstablished}
@@ -17,15 +17,11 @@ use Rattle.rbc_spec.specs.Run as run
 use Rattle.rbc_spec.specs.Run.{Piece, Goes, Steps, silent, heard, listened, OwnStep, has_here, answers_it}
 use Rattle.rbc_spec.specs.ReadOff.{StandsFor, HasMark, IsGiven, IsMissionOf, supervised, parted, seen, read_off}
 use Rattle.rbc_spec.specs.Promises.{MayFree, cleared, shortened, KeepsPromises}
-use Rattle.rbc_pieces.proofs.Maps.{put_there}
-use Rattle.rbc_pieces.proofs.Missions.{none_passes}
+use Rattle.rbc_lemmas.proofs.Lists.{none_passes}
+use Rattle.rbc_lemmas.proofs.Puts.{put_there}
 use Rattle.rbc_pieces.proofs.Waits.{WaitsKeep, Leaves, if_not, wait_on, plain_leaves, quiets_leave}
 use Rattle.rbc_pieces.proofs.Frees.{Frees, by_report, by_end, by_cut, OwnLeaves, of_leaves, by_test, own_leaves}
 use Rattle.rbc_pieces.proofs.Words.{IsShut, Fits, no_words, fits_on, quiets_fit, own_fits}
-
-true_of : (b : Bool) → not b ≡ false → b ≡ true
-true_of true h = refl
-true_of false h = cc
 
 given_is : (t : ℕ) (m : Mark) → is_given_to t m ≡ true → m ≡ Given t
 given_is t Shut h = cc
@@ -81,15 +77,15 @@ module _ (line : Line) (w : World) (v : LineState) (stands : StandsFor line w v)
 
     frees_is : (body : TrainBody) → run.silence line v c (message body) ≡ None → (u s : ℕ) → Frees line (hears c (message body) v) t u s body → MayFree line w u s (Bytes c (Ok (message body)))
     frees_is (Report position) fair u s (by_report _ place train on is) =
-        let h = here_is c t (λ n. true) (true_of (has_here v c t (λ n. true)) (none_passes (run.holds line v c (message (Report position)) (Report position)) (reasons_of (Report position)) 4 NotSupervised fair refl)) in
+        let h = here_is c t (λ n. true) (not-false (has_here v c t (λ n. true)) (none_passes (run.holds line v c (message (Report position)) (Report position)) (reasons_of (Report position)) 4 NotSupervised fair refl)) in
         cleared c (message (Report position)) position h.0.mission place train (same (Report position) fair) (subst (λ (x : ℕ). (w.at c).mission x ≡ Some h.0.mission) train h.0.has) (inl refl)
         (subst (λ (o : Option Mission). place_on line (option_map_or (λ n. n.place.track) o 0) position ≡ Some place) h.0.is_seen on) is
     frees_is (EndOfMission position) fair u s (by_end _ place train on is) =
-        let h = here_is c t (λ n. true) (true_of (has_here v c t (λ n. true)) (none_passes (run.holds line v c (message (EndOfMission position)) (EndOfMission position)) (reasons_of (EndOfMission position)) 4 NotSupervised fair refl)) in
+        let h = here_is c t (λ n. true) (not-false (has_here v c t (λ n. true)) (none_passes (run.holds line v c (message (EndOfMission position)) (EndOfMission position)) (reasons_of (EndOfMission position)) 4 NotSupervised fair refl)) in
         cleared c (message (EndOfMission position)) position h.0.mission place train (same (EndOfMission position) fair) (subst (λ (x : ℕ). (w.at c).mission x ≡ Some h.0.mission) train h.0.has) (inr refl)
         (subst (λ (o : Option Mission). place_on line (option_map_or (λ n. n.place.track) o 0) position ≡ Some place) h.0.is_seen on) is
     frees_is (ShorteningGranted stamp position) fair u s (by_cut _ _ place train on time past) =
-        let h = here_is c t (answers_it stamp) (true_of (has_here v c t (answers_it stamp)) (none_passes (run.holds line v c (message (ShorteningGranted stamp position)) (ShorteningGranted stamp position)) (reasons_of (ShorteningGranted stamp position)) 5 Unasked fair refl)) in
+        let h = here_is c t (answers_it stamp) (not-false (has_here v c t (answers_it stamp)) (none_passes (run.holds line v c (message (ShorteningGranted stamp position)) (ShorteningGranted stamp position)) (reasons_of (ShorteningGranted stamp position)) 5 Unasked fair refl)) in
         let p = asked_is stamp (seen c h.0.mission) h.1 in
         let last : last_kept_of v t ≡ p.0.last_kept = ap (λ (o : Option Mission). option_map_or (λ m. option_map_or (λ q. q.last_kept) m.proposal 0) o 0) h.0.is_seen ∙ ap (λ (o : Option centre.Proposal). option_map_or (λ q. q.last_kept) o 0) p.1 in
         shortened c (message (ShorteningGranted stamp position)) position h.0.mission p.0 place train (same (ShorteningGranted stamp position) fair) (subst (λ (x : ℕ). (w.at c).mission x ≡ Some h.0.mission) train h.0.has)

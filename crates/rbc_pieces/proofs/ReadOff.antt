@@ -1,10 +1,9 @@
 -- The state that is read off centres that have their missions to themselves.
-use Rattle.std.proofs.Common.{◌≡◌, ◌≢◌, ℕ, zero, suc, ◌+◌, ◌<◌, ◌≤◌, ◌==◌, ◌&&◌, Bool, true, false, cond, Option, Some, None, option_map, is_some, refl, sym, ap, ◌∙◌, inl, inr, List, [], ◌∷◌, length, map, slice_get, arith, subst}
+use Rattle.std.proofs.Common.{◌≡◌, ◌≢◌, ℕ, zero, suc, ◌+◌, ◌<◌, ◌≤◌, ◌==◌, ◌&&◌, Bool, true, false, cond, Option, Some, None, option_map, is_some, refl, sym, ap, ◌∙◌, inl, inr, List, [], ◌∷◌, length, map, slice_get, arith}
 use Rattle.std.specs.Option.{option_map_or, option_and_then}
-use Rattle.std.specs.List.{find, filter_map, range_with_len, AllByRecursion}
+use Rattle.std.specs.List.{find, filter_map, range_with_len}
 use Rattle.std.proofs.lemmas.Bool.{both_ways}
 use Rattle.std.proofs.lemmas.Bool.Decides.{eqb_tells}
-use Rattle.std.proofs.lemmas.List.Elements.{recursion_from_All}
 use Rattle.rbc_spec.specs.Runs.{within}
 use Rattle.rbc_spec.specs.Line.{Line, IsLine, Section, Train, section, is_home, registrar}
 use Rattle.rbc_spec.specs.Centre as centre
@@ -12,9 +11,11 @@ use Rattle.rbc_spec.specs.Centre.{is_registrar_of, is_taken_for}
 use Rattle.rbc_spec.specs.LineCentre as line_centre
 use Rattle.rbc_spec.specs.World.{World}
 use Rattle.rbc_spec.specs.ReadOff.{read_off, mark_of, held_at, held, holder, centres_of, Held, seen}
+use Rattle.rbc_lemmas.proofs.Lines.{one_home, registrar_below}
+use Rattle.rbc_lemmas.proofs.Lists.{find-none}
 use Rattle.rbc_alone.specs.Alone.{IsAlone, hand_has, mark_alone, alone_off}
 use Rattle.rbc_pieces.proofs.Seats.{filter_map-range_none, all_at_centres, not_held}
-use Rattle.rbc_pieces.proofs.Stands.{find-none, one_home, taken_there}
+use Rattle.rbc_pieces.proofs.Stands.{taken_there}
 
 -- ## Lists
 
@@ -31,14 +32,6 @@ only_of_range f a (suc n) r low high only = elim (eqb_tells r a) [
     by_value : (o : Option _) → f a ≡ o → filter_map f (range_with_len (a + 1) n) ≡ [] → slice_get (filter_map f (range_with_len a (suc n))) 0 ≡ f a
     by_value None is none = rw (is, none) refl
     by_value (Some x) is none = rw (is) refl
-
-find_gives : {X : Type 0} (P : X → Type 0) (test : X → Bool) (xs : List X) (x : X) → AllByRecursion P xs → find test xs ≡ Some x → P x
-find_gives P test [] x all is = cc
-find_gives P test (y ∷ ys) x all is = by_test (test y) (find_gives P test ys x all.1) is
-  where
-    by_test : (b : Bool) → (find test ys ≡ Some x → P x) → cond b (Some y) (find test ys) ≡ Some x → P x
-    by_test true others h = let same : y ≡ x = cc in subst P same all.0
-    by_test false others h = others h
 
 -- where one engine of the line alone passes, it is found
 find_engine : (test : ℕ → Bool) (trains : List Train) (t : ℕ) → is_some (find (λ p. p.nid_engine == t) trains) ≡ true → test t ≡ true → ((u : ℕ) → test u ≡ true → u ≡ t)
@@ -57,17 +50,6 @@ find_engine test (p ∷ ps) t is passes only = by_test (test p.nid_engine) refl 
         skip true g = cc
         skip false g = refl
 
--- a train's registrar is a centre of the line
-pub registrar_is_centre : (line : Line) → IsLine line → (t r : ℕ) → registrar line t ≡ Some r → r < length line.centres
-registrar_is_centre line is_line t r is = below (find (λ p. p.nid_engine == t) line.trains) refl is
-  where
-    below : (o : Option Train) → find (λ p. p.nid_engine == t) line.trains ≡ o → option_map (λ p. p.registrar) o ≡ Some r → r < length line.centres
-    below None found h = cc
-    below (Some p) found h =
-        let fits = (find_gives (λ p. (p.nid_engine ≤ 16777215) × (p.registrar < length line.centres)) (λ p. p.nid_engine == t) line.trains p (recursion_from_All _ line.trains is_line.ranges.trains) found).1 in
-        let same : p.registrar ≡ r = cc in
-        omega (arith, fits, same)
-
 module _ (line : Line) (w : World) (is_line : IsLine line) (alone : IsAlone line w) where
   -- ## Missions
 
@@ -81,7 +63,7 @@ module _ (line : Line) (w : World) (is_line : IsLine line) (alone : IsAlone line
       by_registrar : (o : Option ℕ) → registrar line t ≡ o → slice_get (filter_map (held_at w t) (centres_of line)) 0 ≡ option_and_then (held_at w t) o
       by_registrar None is =
           ap (λ (xs : List Held). slice_get xs 0) (filter_map-range_none (held_at w t) 0 (length line.centres) (λ c low. not_held line w alone t c (ap (λ (o : Option ℕ). option_map_or (λ r. r == c) o false) is)))
-      by_registrar (Some r) is = only_of_range (held_at w t) 0 (length line.centres) r (omega arith) (omega (arith, registrar_is_centre line is_line t r is))
+      by_registrar (Some r) is = only_of_range (held_at w t) 0 (length line.centres) r (omega arith) (omega (arith, registrar_below line is_line t r is))
           (λ s apart. not_held line w alone t s (ap (λ (o : Option ℕ). option_map_or (λ r. r == s) o false) is ∙ other s apart))
         where
           other : (s : ℕ) → s ≢ r → (r == s) ≡ false

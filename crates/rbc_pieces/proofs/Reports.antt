@@ -17,13 +17,14 @@ use Rattle.rbc_spec.specs.LineCentre.{LineState, change_mission, set_mission, cl
 use Rattle.rbc_spec.specs.OwnSteps.{Own, release_words, is_cleared_of, ended, track_of}
 use Rattle.rbc_spec.specs.World.{World}
 use Rattle.rbc_spec.specs.ReadOff.{seen}
+use Rattle.std.proofs.lemmas.List.{append-nil}
+use Rattle.rbc_lemmas.proofs.Puts.{put_keeps, put_at_pair, put_over, put_there, itself}
 use Rattle.rbc_alone.specs.Alone.{IsOrdered, IsAlone, alone_off}
-use Rattle.rbc_pieces.proofs.Maps.{put_keeps, put_at_pair, put_over, put_there, itself}
 use Rattle.rbc_pieces.proofs.Off.{shows, mark_stays, wish_stays}
 use Rattle.rbc_pieces.proofs.Missions.{some_of, mission_becomes, mission_here}
 use Rattle.rbc_pieces.proofs.Books.{supervises_is}
 use Rattle.rbc_pieces.proofs.Silence.{report_elsewhere}
-use Rattle.rbc_pieces.proofs.Acts.{not_yielded, append_nil, words_alone, Does, both_do, with_it, without_it, does_as}
+use Rattle.rbc_pieces.proofs.Acts.{not_yielded, words_alone, Does, both_do, with_it, without_it, does_as}
 use Rattle.rbc_pieces.proofs.Clearing as clearing
 use Rattle.rbc_pieces.proofs.Messages.{AtOnce, Goes, stamp, ticked, message, before, reply, left, not_for, goes_at_once}
 
@@ -108,7 +109,7 @@ module _ (line : Line) (ordered : IsOrdered line) (w : World) (alone : IsAlone l
             let body : TrainBody = Report position in
             answer_closed body
             (report_comes position closed _ (does_as _ heard closed _ _
-            (both_do (report_here line c t position m) (yield_if_due line c t) heard closed closed _ [] (clearing.clears_all line ordered w alone c t_train t (stamp line w alone c t_train t trains at) trains m has place is_all position on) not_yielded_then) (append_nil (words))))
+            (both_do (report_here line c t position m) (yield_if_due line c t) heard closed closed _ [] (clearing.clears_all line ordered w alone c t_train t (stamp line w alone c t_train t trains at) trains m has place is_all position on) not_yielded_then) (append-nil (words))))
             (rw (supervised body) (rw (track_is body position ∙ on) (record { said_is = refl; new_is = sym (clearing.closed_is line ordered w alone c t_train t (stamp line w alone c t_train t trains at) trains m has place is_all) })))
 
         end_closes : (position : Position) → place_on line m.place.track position ≡ Some place → Answer (EndOfMission position)
@@ -143,7 +144,7 @@ module _ (line : Line) (ordered : IsOrdered line) (w : World) (alone : IsAlone l
             report_comes position kept_so _ (does_as _ heard kept_so _ _
             (both_do (report_here line c t position m) (yield_if_due line c t) heard kept_so kept_so _ [] (clearing.clears_part line ordered w alone c t_train t (stamp line w alone c t_train t trains at) trains m has place is_part position on)
             (not_yielded line c t kept_so (Some shorter) (clearing.kept_there line ordered w alone c t_train t (stamp line w alone c t_train t trains at) trains m has place is_part) (λ x is. let same : shorter ≡ x = cc in sym (ap (λ (n : centre.Mission). n.handing) same) ∙ no_handing)))
-            (append_nil (words)))
+            (append-nil (words)))
             in
             record {
               state = kept_so;

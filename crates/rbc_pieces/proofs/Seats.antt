@@ -8,8 +8,8 @@ use Rattle.rbc_spec.specs.Frame.{Frame}
 use Rattle.rbc_spec.specs.Centre.{is_registrar_of}
 use Rattle.rbc_spec.specs.World.{World, way}
 use Rattle.rbc_spec.specs.ReadOff.{held_at, handed_over, centres_of, frames_on_way, all_held}
+use Rattle.std.proofs.lemmas.List.{append-nil}
 use Rattle.rbc_alone.specs.Alone.{IsAlone}
-use Rattle.rbc_pieces.proofs.Acts.{append_nil}
 
 -- ## Lists
 
@@ -49,7 +49,7 @@ module _ (line : Line) (w : World) (alone : IsAlone line w) where
   -- a train's missions are those that centres have
   pub all_at_centres : (t : ℕ) → all_held line w t ≡ filter_map (held_at w t) (centres_of line)
   all_at_centres t = ap (λ (xs : List Frame). filter_map (held_at w t) (centres_of line) ++ filter_map (λ (f : Frame). handed_over t f.body) xs) none_on_way
-      ∙ append_nil (filter_map (held_at w t) (centres_of line))
+      ∙ append-nil (filter_map (held_at w t) (centres_of line))
 
   pub not_held : (t c : ℕ) → is_registrar_of line c t ≡ false → held_at w t c ≡ None
   not_held t c away = rw ((alone.each c).at_registrar t away) refl

@@ -13,10 +13,10 @@ use Rattle.rbc_spec.specs.Step as step
 use Rattle.rbc_spec.specs.LineCentre.{LineState, change_mission, is_waiting_at, told, saying_of, says, Said, nothing}
 use Rattle.rbc_spec.specs.OwnSteps.{with_phase, session_ends, without_ask}
 use Rattle.rbc_spec.specs.World.{World}
+use Rattle.rbc_lemmas.proofs.Puts.{put_keeps, put_at_pair, put_over, put_pair_same}
+use Rattle.rbc_lemmas.proofs.Lists.{filter-none}
 use Rattle.rbc_alone.specs.Alone.{IsAlone, alone_off}
 use Rattle.rbc_pieces.specs.Pieces.{with_centre}
-use Rattle.rbc_pieces.proofs.Maps.{put_keeps, put_at_pair, put_over, put_pair_same}
-use Rattle.rbc_pieces.proofs.Ranges.{filter-none}
 use Rattle.rbc_pieces.proofs.Off.{shows, mark_stays, wish_stays, mission_stays}
 use Rattle.rbc_pieces.proofs.Missions.{some_of, mission_changes, proposal_drops}
 use Rattle.rbc_pieces.proofs.Messages.{AtOnce, Goes, ticked, message, before, reply, not_for, goes_at_once}

@@ -1,10 +1,10 @@
 -- What is read off centres that have their missions to themselves stands for them.
-use Rattle.std.proofs.Common.{◌≡◌, ℕ, ◌==◌, Bool, true, false, Option, Some, None, option_map, refl, sym, ap, ◌∙◌, inl, inr, List, [], ◌∷◌, subst, arith}
-use Rattle.std.specs.Option.{option_map_or, option_and_then}
-use Rattle.std.specs.List.{find, Contains}
+use Rattle.std.proofs.Common.{◌≡◌, ℕ, true, false, Option, Some, None, option_map, refl, sym, ap, ◌∙◌, inl, inr, List, [], subst, arith}
+use Rattle.std.specs.Option.{option_and_then}
+use Rattle.std.specs.List.{Contains}
 use Rattle.std.proofs.lemmas.Bool.Decides.{eqb_tells}
 use Rattle.rbc_spec.specs.Runs.{Run, within}
-use Rattle.rbc_spec.specs.Line.{Line, Section, section, is_home, registrar}
+use Rattle.rbc_spec.specs.Line.{Line, is_home, registrar}
 use Rattle.rbc_spec.specs.Frame.{Frame}
 use Rattle.rbc_spec.specs.Centre as centre
 use Rattle.rbc_spec.specs.Centre.{is_registrar_of, is_taken_for, is_used_for}
@@ -12,21 +12,12 @@ use Rattle.rbc_spec.specs.LineCentre as line_centre
 use Rattle.rbc_spec.specs.LineCentre.{LineState, Mark, is_given_to, IsHand}
 use Rattle.rbc_spec.specs.World.{World}
 use Rattle.rbc_spec.specs.ReadOff.{seen, StandsFor, IsOnTheWay, IsHandOf, IsMissionOf, at_centre as hand_at_centre, on_the_way, supervised, parted, IsGiven, HasMark}
+use Rattle.rbc_lemmas.proofs.Lines.{one_home, taken_is}
 use Rattle.rbc_alone.specs.Alone.{IsAlone, hand_has, mark_alone, alone_off}
 use Rattle.rbc_pieces.proofs.Off.{mark_at_home, wish_at_home, given_is, registrar_of_mission, mission_at_registrar, given_is_hand, hand_is_home}
 use Rattle.rbc_pieces.proofs.Seats.{no_way, one_seat}
 
 -- ## Sections and trains
-
-pub find-none : {X : Type 0} (test : X → Bool) (xs : List X) → ((x : X) → test x ≡ false) → find test xs ≡ None
-find-none test [] none = refl
-find-none test (x ∷ xs) none = rw (none x) (find-none test xs none)
-
-taken_is : (entry : centre.Entry) (t : ℕ) → is_taken_for t entry ≡ true → entry ≡ centre.Taken t
-taken_is centre.Shut t h = cc
-taken_is centre.Open t h = cc
-taken_is (centre.Taken u) t h = elim (eqb_tells u t) [ inl e ↦ ap (λ (x : ℕ). centre.Taken x) (e.1) | inr e ↦ absurd (let wrong : true ≡ false = sym h ∙ e.0 in cc) ]
-taken_is (centre.Out u d) t h = cc
 
 pub taken_there : (t : ℕ) → is_taken_for t (centre.Taken t) ≡ true
 taken_there t = elim (eqb_tells t t) [ inl e ↦ e.0 | inr e ↦ absurd (e.1 refl) ]
@@ -39,17 +30,6 @@ given_is_only (centre.Out u d) t h = elim (eqb_tells u t) [ inl e ↦ ap (λ (x 
 
 given_there : (t : ℕ) → is_given_to t (line_centre.Given t) ≡ true
 given_there t = elim (eqb_tells t t) [ inl e ↦ e.0 | inr e ↦ absurd (e.1 refl) ]
-
--- a section has one home
-pub one_home : (line : Line) (c d s : ℕ) → is_home line c s ≡ true → is_home line d s ≡ true → c ≡ d
-one_home line c d s = by_section (section line s)
-  where
-    by_section : (o : Option Section) → option_map_or (λ p. p.home == c) o false ≡ true → option_map_or (λ p. p.home == d) o false ≡ true → c ≡ d
-    by_section None a b = cc
-    by_section (Some p) a b = elim (eqb_tells p.home c) [
-      | inr e ↦ absurd (let wrong : true ≡ false = sym a ∙ e.0 in cc)
-      | inl e ↦ elim (eqb_tells p.home d) [ inr g ↦ absurd (let wrong : true ≡ false = sym b ∙ g.0 in cc) | inl g ↦ sym (e.1) ∙ g.1 ]
-    ]
 
 -- a hand that has a section is of a mission
 pub hand_of : (mission : Option centre.Mission) (s : ℕ) → hand_has mission s ≡ true → (m : centre.Mission) × (mission ≡ Some m) × (within m.hand s ≡ true)
@@ -69,7 +49,7 @@ module _ (line : Line) (w : World) (alone : IsAlone line w) where
       wrong
 
   taken_in_hand : (d t s : ℕ) (m : centre.Mission) → (w.at d).mission t ≡ Some m → within m.hand s ≡ true → (w.at d).book s ≡ centre.Taken t
-  taken_in_hand d t s m has so = taken_is ((w.at d).book s) t ((alone.each d).taken s t ∙ ap (λ (o : Option centre.Mission). hand_has o s) has ∙ so)
+  taken_in_hand d t s m has so = taken_is t ((w.at d).book s) ((alone.each d).taken s t ∙ ap (λ (o : Option centre.Mission). hand_has o s) has ∙ so)
 
   -- the section is in the train's hand at its home
   record IsHeld (t s : ℕ) : Type 0 where

@@ -17,10 +17,10 @@ use Rattle.rbc_spec.specs.Quiet.{Dismiss, TakesAll}
 use Rattle.rbc_spec.specs.World.{World}
 use Rattle.rbc_spec.specs.Theorems.{IsStartAccepted}
 use Rattle.rbc_spec.specs.ReadOff.{seen}
+use Rattle.rbc_lemmas.proofs.Puts.{put_keeps, put_at_pair}
+use Rattle.rbc_lemmas.proofs.Runs.{each_within}
 use Rattle.rbc_alone.specs.Alone.{IsAlone, alone_off}
 use Rattle.rbc_pieces.specs.Pieces.{with_centre}
-use Rattle.rbc_pieces.proofs.Maps.{put_keeps, put_at_pair}
-use Rattle.rbc_pieces.proofs.Ranges.{each_within}
 use Rattle.rbc_pieces.proofs.Off.{shows, mark_stays, wish_stays, mission_stays, mission_put, wish_at_home, given_is_hand, mission_at_registrar}
 use Rattle.rbc_pieces.proofs.Missions.{mission_here, mission_changes}
 use Rattle.rbc_pieces.proofs.Books.{booked_marks, free_is_open, supervises_is}

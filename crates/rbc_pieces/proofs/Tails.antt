@@ -1,14 +1,14 @@
 -- What is cut off from a hand behind the last section that is kept.
-use Rattle.std.proofs.Common.{◌≡◌, ◌⊎◌, ℕ, ◌+◌, ◌<◌, ◌≤◌, ◌==◌, ◌&&◌, nat_lt, Bool, true, false, Some, refl, sym, ap, ◌∙◌, inl, inr, arith, eqb-true, ltb-true, lt-ltb}
+use Rattle.std.proofs.Common.{◌≡◌, ℕ, ◌+◌, ◌==◌, ◌&&◌, nat_lt, Bool, true, false, Some, sym, ap, ◌∙◌, inl, inr, arith, eqb-true, ltb-true, lt-ltb}
 use Rattle.std.proofs.lemmas.Bool.{and_parts, and_from, both_ways}
 use Rattle.std.proofs.lemmas.Bool.Decides.{eqb_tells}
-use Rattle.rbc_spec.specs.Runs.{Run, within, joined, part_from}
+use Rattle.rbc_spec.specs.Runs.{Run, within, joined, part_from, is_empty}
 use Rattle.rbc_spec.specs.Line.{Line}
 use Rattle.rbc_spec.specs.Centre as centre
 use Rattle.rbc_spec.specs.OwnSteps.{is_cut_of}
 use Rattle.rbc_spec.specs.World.{World}
+use Rattle.rbc_lemmas.proofs.Runs.{within_true, within_from, within_before, same_tests, joined_empty}
 use Rattle.rbc_alone.specs.Alone.{IsAlone, alone_off}
-use Rattle.rbc_pieces.proofs.Ranges.{within_true, within_from, within_before, stands, same_tests, none_within, whole_hand}
 use Rattle.rbc_pieces.proofs.Off.{given_is_hand}
 
 module _ (line : Line) (w : World) (alone : IsAlone line w) (c t : ℕ) (m : centre.Mission) (has : (w.at c).mission t ≡ Some m) (last_kept : ℕ) where
@@ -22,19 +22,7 @@ module _ (line : Line) (w : World) (alone : IsAlone line w) (c t : ℕ) (m : cen
   is_released s = is_cut_of (alone_off line w) t last_kept s
 
   gone_is : (s : ℕ) → within gone s ≡ within tail s
-  gone_is s = by_count (tail.count == 0) refl
-    where
-      by_count : (b : Bool) → (tail.count == 0) ≡ b → within gone s ≡ within tail s
-      by_count true none = rw none (ap (λ (r : Run). within r s) ((alone.each c).mission t m has).no_pool ∙ none_within s
-          ∙ sym (within_none_of tail s (eqb-true tail.count 0 none)))
-        where
-          within_none_of : (r : Run) (s : ℕ) → r.count ≡ 0 → within r s ≡ false
-          within_none_of r s none = by_place (stands r s)
-            where
-              by_place : ((within r s ≡ true) × (r.first ≤ s) × (s < r.first + r.count)) ⊎ ((within r s ≡ false) × ((s < r.first) ⊎ (r.first + r.count ≤ s))) → within r s ≡ false
-              by_place (inl h) = absurd (let low = h.1 in let high = h.2 in let wrong : ⊥ = omega (arith, low, high, none) in wrong)
-              by_place (inr h) = h.0
-      by_count false some = ap (λ (r : Run). within r s) (whole_hand tail m.pool ((alone.each c).mission t m has).no_pool some)
+  gone_is s = joined_empty tail m.pool s (ap is_empty ((alone.each c).mission t m has).no_pool)
 
   tail_inside : (s : ℕ) → within tail s ≡ true → within m.hand s ≡ true
   tail_inside s so = let ends = within_true tail s so in let low = ends.0 in let high = ends.1 in within_from m.hand s (omega (arith, low)) (omega (arith, low, high))

@@ -15,9 +15,9 @@ use Rattle.rbc_spec.specs.OwnSteps.{set_mark, wished_back, is_unused_mark}
 use Rattle.rbc_spec.specs.Quiet.{Quiet, is_of_centre, TakesAll, both}
 use Rattle.rbc_spec.specs.World.{World, Event, centre_of}
 use Rattle.rbc_spec.specs.Run.{Piece, OwnStep}
+use Rattle.rbc_lemmas.proofs.Puts.{put_keeps}
 use Rattle.rbc_alone.specs.Alone.{IsAlone, mark_alone, alone_off}
 use Rattle.rbc_pieces.specs.Pieces.{with_centre}
-use Rattle.rbc_pieces.proofs.Maps.{put_keeps}
 use Rattle.rbc_pieces.proofs.Messages.{nothing_more}
 use Rattle.rbc_pieces.proofs.InOrder.{piece_in_order}
 use Rattle.rbc_pieces.proofs.Off.{shows, mark_stays, wish_stays, mission_stays, mark_at_home, unused_is}

@@ -1,6 +1,6 @@
 -- A set and an unset are pieces of the one line centre's run.
-use Rattle.std.proofs.Common.{◌≡◌, ◌≢◌, ℕ, ◌+◌, ◌-◌, ◌*◌, ◌==◌, ◌&&◌, not, nat_le, Bool, true, false, Option, Some, None, option_map, is_none, refl, sym, ap, ◌∙◌, List, [], ◌∷◌, inl, inr, arith, leb-true, eq-eqb}
-use Rattle.std.proofs.lemmas.Bool.{and_parts, both_ways}
+use Rattle.std.proofs.Common.{◌≡◌, ◌≢◌, ℕ, ◌+◌, ◌-◌, ◌*◌, ◌==◌, ◌&&◌, not, nat_le, Bool, true, false, Some, option_map, is_none, refl, sym, ap, ◌∙◌, List, [], ◌∷◌, inl, inr, arith, leb-true, eq-eqb}
+use Rattle.std.proofs.lemmas.Bool.{and_parts, both_ways, not-true, and_from}
 use Rattle.std.proofs.lemmas.Bool.Decides.{eqb_tells}
 use Rattle.rbc_spec.specs.Maps.{put}
 use Rattle.rbc_spec.specs.Runs.{within}
@@ -20,9 +20,10 @@ use Rattle.rbc_spec.specs.Quiet.{Propose, Proposes}
 use Rattle.rbc_spec.specs.World.{World, Event, Set, Unset}
 use Rattle.rbc_spec.specs.ReadOff.{seen}
 use Rattle.rbc_spec.specs.Theorems.{MayPropose, Asks, asked, not_asked}
+use Rattle.rbc_lemmas.proofs.Lists.{none_is}
+use Rattle.rbc_lemmas.proofs.Puts.{put_keeps, put_at_pair, put_over}
+use Rattle.rbc_lemmas.proofs.Runs.{within_true}
 use Rattle.rbc_alone.specs.Alone.{IsAlone, alone_off}
-use Rattle.rbc_pieces.proofs.Maps.{put_keeps, put_at_pair, put_over}
-use Rattle.rbc_pieces.proofs.Ranges.{within_true}
 use Rattle.rbc_pieces.proofs.Off.{shows, mark_stays, given_is_hand}
 use Rattle.rbc_pieces.proofs.Stands.{hand_of, taken_there}
 use Rattle.rbc_pieces.proofs.Missions.{mission_here, mission_changes}
@@ -34,14 +35,6 @@ up_is : (phase : centre.Phase) → is_up phase ≡ true → phase ≡ centre.Up
 up_is centre.Silent h = cc
 up_is centre.Opened h = cc
 up_is centre.Up h = refl
-
-none_is : {X : Type 0} (o : Option X) → is_none o ≡ true → o ≡ None
-none_is None h = refl
-none_is (Some x) h = cc
-
-not_true : (b : Bool) → not b ≡ true → b ≡ false
-not_true true h = cc
-not_true false h = refl
 
 module _ (line : Line) (w : World) (alone : IsAlone line w) (c s : ℕ) (trains : List ℕ) (at : is_centre line c ≡ true) where
   abbrev v : LineState
@@ -181,14 +174,14 @@ module _ (line : Line) (w : World) (alone : IsAlone line w) (c s : ℕ) (trains 
         let four = and_parts (within m.hand s && not (s == m.hand.first)) (nat_le m.place.front (10 * start line s)) three.0 in
         let five = and_parts (within m.hand s) (not (s == m.hand.first)) four.0 in
         let ends = within_true m.hand s five.0 in
-        let apart : s ≢ m.hand.first = elim (eqb_tells s m.hand.first) [ inl e ↦ absurd (both_ways (s == m.hand.first) (not_true (s == m.hand.first) five.1) e.0) | inr e ↦ e.1 ] in
+        let apart : s ≢ m.hand.first = elim (eqb_tells s m.hand.first) [ inl e ↦ absurd (both_ways (s == m.hand.first) (not-true (s == m.hand.first) five.1) e.0) | inr e ↦ e.1 ] in
         record {
           mission = seen c m;
           hand = m.hand;
           of_train = mission_here line w c t m alone has;
           supervises = refl;
           is_up = up_is ((w.at c).phase t) two.0;
-          goes_on = not_true m.is_ended two.1;
+          goes_on = not-true m.is_ended two.1;
           none_stands = none_is m.proposal one.1;
           is_hand = record { each = λ j. given_is_hand line w c t m alone has j };
           in_hand = in_hand;
@@ -254,14 +247,9 @@ module _ (line : Line) (w : World) (alone : IsAlone line w) (c s : ℕ) (trains 
   unset_at_home (centre.Out t d) is home = absurd (
       let out : centre.is_out_for t d (centre.Out t d) ≡ false = sym (ap (centre.is_out_for t d) is) ∙ (alone.each c).not_out s t d in
       elim (eqb_tells t t) [
-        | inl e ↦ elim (eqb_tells d d) [ inl g ↦ let wrong : true ≡ false = sym (both_true (t == t) (d == d) e.0 g.0) ∙ out in cc | inr g ↦ g.1 refl ]
+        | inl e ↦ elim (eqb_tells d d) [ inl g ↦ let wrong : true ≡ false = sym (and_from (t == t) (d == d) e.0 g.0) ∙ out in cc | inr g ↦ g.1 refl ]
         | inr e ↦ e.1 refl
       ])
-    where
-      both_true : (a b : Bool) → a ≡ true → b ≡ true → (a && b) ≡ true
-      both_true true true f g = refl
-      both_true true false f g = cc
-      both_true false b f g = cc
 
   pub unset_answered : Unset_answer
   unset_answered = by_home (is_home line c s) refl

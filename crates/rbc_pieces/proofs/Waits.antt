@@ -9,8 +9,8 @@ use Rattle.rbc_spec.specs.Place.{Place, covered}
 use Rattle.rbc_spec.specs.LineCentre.{LineState, Mark, Shut, Open, Kept, Given, is_waiting_at, is_waiting, free, says, Said}
 use Rattle.rbc_spec.specs.OwnSteps.{begins}
 use Rattle.rbc_spec.specs.Quiet.{Quiet, Keep, Unkeep, Admit, Dismiss, LayDown, TakeUp, Propose, Order, EndOrder, TakesQuiet, TakesAll}
-use Rattle.rbc_pieces.proofs.Ranges.{any-range}
-use Rattle.rbc_pieces.proofs.Stands.{one_home}
+use Rattle.rbc_lemmas.proofs.Lines.{one_home}
+use Rattle.rbc_lemmas.proofs.Lists.{any-range}
 
 -- a section that a start of the train waits for at the centre
 pub record IsWaited (line : Line) (v : LineState) (t c s : ℕ) : Type 0 where

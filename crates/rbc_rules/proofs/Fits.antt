@@ -1,18 +1,19 @@
 -- What decisions find out of the mission, the book and the line.
 use Rattle.std.proofs.Common.{◌≡◌, ℕ, zero, suc, ◌+◌, ◌-◌, ◌<◌, ◌≤◌, ◌&&◌, Bool, true, false, nat_lt, length, Option, Some, None, refl, sym, ap, ◌∙◌, arith}
 use Rattle.std.proofs.lemmas.Bool.Decides.{nat_tests}
-use Rattle.std.proofs.lemmas.Option.{slice_get_past}
 use Rattle.rbc_spec.specs.Runs.{Run, within, behind, all_of}
 use Rattle.rbc_spec.specs.Line.{Line, IsLine}
 use Rattle.rbc_spec.specs.Sections.{is_on}
 use Rattle.rbc_spec.specs.Place as place
 use Rattle.rbc_spec.specs.Centre as spec
 use Rattle.rbc_spec.specs.Centre.{is_open, is_free}
+use Rattle.rbc_lemmas.proofs.Lines.{on_line}
+use Rattle.rbc_lemmas.proofs.Runs.{each_within}
 use Rattle.rbc_book.specs.Book.{Pages, entry_at}
 use Rattle.rbc_right.specs.Rights.{Rights, is_here}
 use Rattle.rbc_grant.specs.Grants as grants
 use Rattle.rbc_alone.proofs.Ordered.{is_ordered}
-use Rattle.rbc_alone.proofs.Fits.{all_each, begun_alone, fit_parts}
+use Rattle.rbc_alone.proofs.Fits.{begun_alone, fit_parts}
 use Rattle.rbc_place.specs.Places.{place_of}
 use Rattle.rbc_place.specs.declared.place.Place.{Place}
 use Rattle.rbc_hand.specs.SectionRuns.{run_of}
@@ -23,15 +24,6 @@ use Rattle.rbc_mission.specs.declared.mission.Mission.{Mission as Facts}
 use Rattle.rbc_rules.specs.Desks.{HasBook}
 use Rattle.rbc_rules.specs.Decisions.{Fits, IsGroup}
 use Rattle.rbc_rules.specs.declared.act.Act.TheVariants as act
-
--- a section of a track is one of the line
-on_line : (line : Line) (track s : ℕ) → is_on line track s ≡ true → s < length line.sections
-on_line line track s on = by_within (nat_lt s (length line.sections)) refl
-  where
-    by_within : (b : Bool) → nat_lt s (length line.sections) ≡ b → s < length line.sections
-    by_within true e = grind (arith, nat_tests)
-    by_within false e = let past : length line.sections ≤ s = grind (arith, nat_tests) in
-        let no : false ≡ true = sym (rw (slice_get_past line.sections s past) refl) ∙ on in cc
 
 pub and_left : (a b : Bool) → (a && b) ≡ true → a ≡ true
 and_left true b h = refl
@@ -74,7 +66,7 @@ hand_is facts hand m e = cc
 
 -- each section of a run of free ones is open
 pub all_open : (line : Line) (c : ℕ) (k : spec.Centre) (book : Pages) (run : Run) → HasBook k book → all_of (is_free line c k) run ≡ true → IsAllOpen run book
-all_open line c k book run pages h s w = ap is_open (sym (pages s)) ∙ and_right _ _ (all_each (is_free line c k) run h s w)
+all_open line c k book run pages h s w = ap is_open (sym (pages s)) ∙ and_right _ _ (each_within (is_free line c k) run h s w)
 
 -- a start that is fit, of sections that are released, with the right here
 pub start_fits : (line : Line) (book : Pages) (rights : Rights) (i : ℕ) (mission : Option spec.Mission) (p : Place) (run : SectionRun) → IsLine line → mission ≡ None → place.is_fit line (place_of p) ≡ true

@@ -15,8 +15,8 @@ use Rattle.rbc_spec.specs.Step as step
 use Rattle.rbc_spec.specs.Step.{Refusal, Effect}
 use Rattle.rbc_spec.specs.World.{World, Event, Bytes, Set, Unset, Delivery, NotSent, mention, takes, stepped, at_centre, frame_sent, world_step, world_run, ◌>>=◌}
 use Rattle.rbc_spec.specs.Theorems.{IsOneCentreLine}
+use Rattle.rbc_lemmas.proofs.Lists.{none_passes}
 use Rattle.rbc_alone.specs.Alone.{IsOrdered}
-use Rattle.rbc_pieces.proofs.Missions.{none_passes}
 use Rattle.rbc_single.proofs.Homes.{free_at_registrar, none_next}
 
 module _ (line : Line) (ordered : IsOrdered line) (d : ℕ) (one : IsOneCentreLine line d) where

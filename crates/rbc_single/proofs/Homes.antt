@@ -1,10 +1,9 @@
 -- The one centre of a line is the home of each section and the registrar of each train: where a centre has some section to
 -- itself, it is the registrar of every train of the line.
-use Rattle.std.proofs.Common.{◌≡◌, ℕ, zero, suc, ◌==◌, ◌<◌, ◌&&◌, Bool, true, false, cond, Option, Some, None, option_map, is_none, nat_lt, refl, sym, ap, ◌∙◌, List, [], ◌∷◌, length, drop, not, slice_get, subst, inl, inr, arith, ltb-true, if◌then◌else◌}
+use Rattle.std.proofs.Common.{◌≡◌, ℕ, zero, suc, ◌==◌, ◌<◌, ◌&&◌, Bool, true, false, cond, Option, Some, None, option_map, is_none, nat_lt, refl, sym, ap, ◌∙◌, List, [], ◌∷◌, length, drop, not, slice_get, subst, arith, ltb-true, if◌then◌else◌}
 use Rattle.std.specs.Option.{option_map_or}
 use Rattle.std.specs.List.{All, find, zip, position_or_len}
-use Rattle.std.proofs.lemmas.Bool.{and_parts}
-use Rattle.std.proofs.lemmas.Bool.Decides.{eqb_tells}
+use Rattle.std.proofs.lemmas.Bool.{and_parts, eqb-true}
 use Rattle.std.proofs.lemmas.Option.{same_Some}
 use Rattle.std.proofs.lemmas.List.Elements.{All-head, All-tail, All-drop}
 use Rattle.std.proofs.lemmas.List.Folds.{find_at}
@@ -14,27 +13,16 @@ use Rattle.rbc_spec.specs.Place.{Place, Position, extent, is_fit, covered, fit_p
 use Rattle.rbc_spec.specs.Centre as centre
 use Rattle.rbc_spec.specs.Centre.{is_open, is_free, is_registrar_of}
 use Rattle.rbc_spec.specs.Theorems.{IsOneCentreLine}
+use Rattle.rbc_lemmas.proofs.Puts.{itself}
+use Rattle.rbc_lemmas.proofs.Lists.{each_at}
+use Rattle.rbc_lemmas.proofs.Runs.{each_within}
 use Rattle.rbc_alone.specs.Alone.{IsOrdered}
 use Rattle.rbc_alone.proofs.Fits.{fit_parts, fit_covers, covers_within}
-use Rattle.rbc_pieces.proofs.Ranges.{each_within}
-
--- what holds of each holds of what stands at a place
-each_at : {X : Type 0} (P : X → Type 0) (xs : List X) (n : ℕ) (x : X) → All P xs → slice_get xs n ≡ Some x → P x
-each_at P [] zero x all is = cc
-each_at P [] (suc n) x all is = cc
-each_at P (y ∷ ys) zero x all is = subst P (same_Some y x is) (All-head P y ys all)
-each_at P (y ∷ ys) (suc n) x all is = each_at P ys n x (All-tail P y ys all) is
 
 some_at : {X : Type 0} (xs : List X) (n : ℕ) → n < length xs → (x : X) × (slice_get xs n ≡ Some x)
 some_at [] n low = absurd (omega (arith, low))
 some_at (x ∷ xs) zero low = (x, refl)
 some_at (x ∷ xs) (suc n) low = some_at xs n (omega (arith, low))
-
-equal : (a b : ℕ) → (a == b) ≡ true → a ≡ b
-equal a b is = elim (eqb_tells a b) [ inl e ↦ e.1 | inr e ↦ absurd (let wrong : true ≡ false = sym is ∙ e.0 in cc) ]
-
-itself : (a : ℕ) → (a == a) ≡ true
-itself a = elim (eqb_tells a a) [ inl e ↦ e.0 | inr e ↦ absurd (e.1 refl) ]
 
 -- a fit place is one
 fit_of : (line : Line) (is_valid : Bool) (o : Option Place) (place : Place) → option_map_or (λ p. if is_valid && is_fit line p then Some p else None) o None ≡ Some place → is_fit line place ≡ true
@@ -51,7 +39,7 @@ module _ (line : Line) (d : ℕ) (one : IsOneCentreLine line d) where
     where
       by_section : (o : Option Section) → section line s ≡ o → option_map_or (λ p. p.home == c) o false ≡ true → c ≡ d
       by_section None at h = cc
-      by_section (Some p) at h = sym (equal p.home c h) ∙ each_at (λ q. q.home ≡ d) line.sections s p one.homes at
+      by_section (Some p) at h = sym (eqb-true p.home c h) ∙ each_at (λ q. q.home ≡ d) line.sections s p one.homes at
 
   registrar_is : (t : ℕ) → is_none (train_number line t) ≡ false → is_registrar_of line d t ≡ true
   registrar_is t known = by_number (nat_lt (position_or_len (λ p. p.nid_engine == t) line.trains) (length line.trains)) refl known

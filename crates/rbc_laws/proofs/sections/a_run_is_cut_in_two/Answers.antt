@@ -1,4 +1,4 @@
-use Rattle.rbc_laws.proofs.Runs.{within_part_before, within_part_from, parts_count}
+use Rattle.rbc_lemmas.proofs.Runs.{within_part_before, within_part_from, parts_count}
 use Rattle.rbc_laws.proofs.sections.a_run_is_cut_in_two.Goals as goal
 
 pub returns-clause-before : goal.returns-clause-before

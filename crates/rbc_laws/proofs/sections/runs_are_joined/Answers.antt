@@ -1,4 +1,4 @@
-use Rattle.rbc_laws.proofs.Runs.{within_joined, joined_empty, joined_count}
+use Rattle.rbc_lemmas.proofs.Runs.{within_joined, joined_empty, joined_count}
 use Rattle.rbc_laws.proofs.sections.runs_are_joined.Goals as goal
 
 pub returns-clause-both : goal.returns-clause-both

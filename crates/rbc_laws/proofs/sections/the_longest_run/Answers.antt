@@ -1,5 +1,5 @@
 use Rattle.rbc_spec.specs.Runs.{longest}
-use Rattle.rbc_laws.proofs.Longest.{longest_is, longest_only}
+use Rattle.rbc_lemmas.proofs.Longest.{longest_is, longest_only}
 use Rattle.rbc_laws.proofs.sections.the_longest_run.Goals as goal
 
 pub returns-clause-is : goal.returns-clause-is

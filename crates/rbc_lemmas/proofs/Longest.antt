@@ -2,8 +2,8 @@
 use Rattle.std.proofs.Common.{◌≡◌, ℕ, zero, suc, ◌+◌, ◌<◌, ◌≤◌, Bool, true, false, sym, ap, ◌∙◌, subst, arith, ⊎_elim, le_antisymm}
 use Rattle.std.proofs.lemmas.Bool.{cond-true, cond-false, cases_lt, cases_Bool, both_ways}
 use Rattle.rbc_spec.specs.Runs.{Run, within, longest}
-use Rattle.rbc_laws.specs.Runs.{IsLongest}
-use Rattle.rbc_laws.proofs.Runs.{within_true, within_from, within_none}
+use Rattle.rbc_lemmas.specs.Runs.{IsLongest}
+use Rattle.rbc_lemmas.proofs.Runs.{within_true, within_from, within_none}
 
 -- the run of so many sections from the first on
 abbrev pub from : ℕ → ℕ → Run
@@ -49,3 +49,9 @@ not_longer test first most n m one two = ⊎_elim
 -- there is one longest run
 pub longest_only : (test : ℕ → Bool) (first most n m : ℕ) → IsLongest test first most n → IsLongest test first most m → n ≡ m
 longest_only test first most n m one two = le_antisymm (not_longer test first most n m one two) (not_longer test first most m n two one)
+
+pub longest_few : (test : ℕ → Bool) (first most : ℕ) → longest test first most ≤ most
+longest_few test first most = (longest_is test first most).fits
+
+pub longest_each : (test : ℕ → Bool) (first most s : ℕ) → first ≤ s → s < first + longest test first most → test s ≡ true
+longest_each test first most s low high = (longest_is test first most).each s (within_from (from first (longest test first most)) s low high)

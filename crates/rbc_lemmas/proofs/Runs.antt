@@ -1,7 +1,12 @@
--- Laws of runs: what is in them, what two share, and a run cut in two or joined.
-use Rattle.std.proofs.Common.{◌≡◌, ◌≢◌, ℕ, ◌+◌, ◌-◌, ◌<◌, ◌≤◌, Bool, true, false, ◌&&◌, ◌||◌, nat_le, nat_lt, refl, sym, ap, ◌∙◌, arith, ⊎_elim, leb-true, ltb-true, le-leb, lt-ltb, le-ltb, eq-eqb, eqb-true}
-use Rattle.std.proofs.lemmas.Bool.{or_left, or_right, or_cases, cases_lt, cases_eq, cond-true, cond-false, and_parts, and_from, and_left, and_right, lt-leb, ne_eqb, eqb-false}
-use Rattle.rbc_spec.specs.Runs.{Run, within, behind, is_empty, part_before, part_from, shared, joined}
+-- Laws of runs: what is in them, what two share, a run cut in two or joined, and tests of a run's sections.
+use Rattle.std.proofs.Common.{◌≡◌, ◌≢◌, ◌⊎◌, ℕ, zero, suc, ◌+◌, ◌-◌, ◌<◌, ◌≤◌, ◌==◌, Bool, true, false, ◌&&◌, ◌||◌, nat_le, nat_lt, ◌++◌, refl, sym, ap, ◌∙◌, inl, inr, arith, ⊎_elim, leb-true, ltb-true, le-leb, lt-ltb, le-ltb, eq-eqb, eqb-true}
+use Rattle.std.specs.List.{filter, range_with_len}
+use Rattle.std.proofs.lemmas.Bool.{or_left, or_right, or_cases, cases_lt, cases_eq, cond-true, cond-false, and_parts, and_from, and_left, and_right, both_ways, lt-leb, ne_eqb, eqb-false, false_from_ne_true}
+use Rattle.std.proofs.lemmas.Bool.Decides.{eqb_tells}
+use Rattle.std.proofs.lemmas.List.{append-nil}
+use Rattle.std.proofs.lemmas.List.Elements.{filter-append}
+use Rattle.rbc_spec.specs.Runs.{Run, no_run, within, behind, is_empty, part_before, part_from, shared, joined, all_of}
+use Rattle.rbc_lemmas.proofs.Lists.{range-append, filter-range_none, each_of, all_from}
 
 -- what is within a run stands between its ends
 pub within_true : (r : Run) (s : ℕ) → within r s ≡ true → (r.first ≤ s) × (s < r.first + r.count)
@@ -25,6 +30,16 @@ within_before r s low = and_left (nat_le r.first s) (nat_lt s (r.first + r.count
 pub within_behind : (r : Run) (s : ℕ) → r.first + r.count ≤ s → within r s ≡ false
 unfolding within
 within_behind r s high = and_right (nat_le r.first s) (nat_lt s (r.first + r.count)) (le-ltb s (r.first + r.count) high)
+
+-- three ways: within a run, before it or after it
+pub stands : (r : Run) (s : ℕ) → ((within r s ≡ true) × (r.first ≤ s) × (s < r.first + r.count)) ⊎ ((within r s ≡ false) × ((s < r.first) ⊎ (r.first + r.count ≤ s)))
+stands r s = ⊎_elim
+    (λ (low : s < r.first). inr (within_before r s low, inl low))
+    (λ (from : r.first ≤ s). ⊎_elim
+    (λ (high : s < r.first + r.count). inl (within_from r s from high, from, high))
+    (λ (after : r.first + r.count ≤ s). inr (within_behind r s after, inr after))
+    (cases_lt s (r.first + r.count)))
+    (cases_lt s r.first)
 
 -- nothing is within an empty run
 pub within_none : (r : Run) (s : ℕ) → r.count ≡ 0 → within r s ≡ false
@@ -132,3 +147,58 @@ run_only r q some same =
     let high = within_true q last (sym (same last) ∙ within_from r last (omega arith) (omega arith)) in
     let high' = within_true r last' (same last' ∙ within_from q last' (omega arith) (omega arith)) in
     same_run r q (omega arith) (omega arith)
+
+-- ## Tests of the sections of a run
+
+-- what all sections of a run pass each passes
+pub each_within : (test : ℕ → Bool) (r : Run) → all_of test r ≡ true → (s : ℕ) → within r s ≡ true → test s ≡ true
+each_within test r all s so = let ends = within_true r s so in each_of test r.first r.count all s ends.0 ends.1
+
+pub all_within : (test : ℕ → Bool) (r : Run) → ((s : ℕ) → within r s ≡ true → test s ≡ true) → all_of test r ≡ true
+all_within test r each = all_from test r.first r.count (λ s low high. each s (within_from r s low high))
+
+-- what passes only within a run is found by going through that run
+pub filter_run : (test : ℕ → Bool) (r : Run) (n : ℕ) → ((s : ℕ) → test s ≡ true → within r s ≡ true) → ((s : ℕ) → within r s ≡ true → s < n)
+    → filter test (range_with_len 0 n) ≡ filter test (range_with_len r.first r.count)
+filter_run test r n only inside = by_count r.count refl
+  where
+    out : (s : ℕ) → within r s ≡ false → test s ≡ false
+    out s away = false_from_ne_true (test s) (λ passes. both_ways (within r s) away (only s passes))
+
+    by_count : (k : ℕ) → r.count ≡ k → filter test (range_with_len 0 n) ≡ filter test (range_with_len r.first r.count)
+    by_count zero is =
+        filter-range_none test 0 n (λ s low high. out s (by_place s (cases_lt s r.first)))
+        ∙ ap (λ k. filter test (range_with_len r.first k)) (sym is)
+      where
+        by_place : (s : ℕ) → (s < r.first) ⊎ (r.first ≤ s) → within r s ≡ false
+        by_place s (inl low) = within_before r s low
+        by_place s (inr high) = within_behind r s (omega (arith, is))
+    by_count (suc k) is =
+        let last : ℕ = r.first + k in
+        let below : last < n = inside last (within_from r last (omega arith) (omega (arith, is))) in
+        let rest : ℕ = n - (r.first + r.count) in
+        let whole : n ≡ r.first + (r.count + rest) = omega (arith, is, below) in
+        ap (λ m. filter test (range_with_len 0 m)) whole
+        ∙ ap (filter test) (range-append 0 r.first (r.count + rest))
+        ∙ filter-append test (range_with_len 0 r.first) (range_with_len (0 + r.first) (r.count + rest))
+        ∙ ap (λ xs. xs ++ filter test (range_with_len (0 + r.first) (r.count + rest))) (filter-range_none test 0 r.first (λ s low high. out s (within_before r s (omega arith))))
+        ∙ ap (λ k. filter test (range_with_len k (r.count + rest))) (let e : 0 + r.first ≡ r.first = omega arith in e)
+        ∙ ap (filter test) (range-append r.first r.count rest)
+        ∙ filter-append test (range_with_len r.first r.count) (range_with_len (r.first + r.count) rest)
+        ∙ ap (λ xs. filter test (range_with_len r.first r.count) ++ xs) (filter-range_none test (r.first + r.count) rest (λ s low high. out s (within_behind r s low)))
+        ∙ append-nil (filter test (range_with_len r.first r.count))
+
+-- ## No run, and a run joined with it
+
+pub some_count : (n : ℕ) → 1 ≤ n → (n == 0) ≡ false
+some_count n some = elim (eqb_tells n 0) [ inl e ↦ absurd (let same = e.1 in let wrong : ⊥ = omega (arith, same) in wrong) | inr e ↦ e.0 ]
+
+pub none_within : (s : ℕ) → within no_run s ≡ false
+none_within s = within_behind no_run s (omega arith)
+
+-- a hand and no pool
+pub whole_hand : (hand pool : Run) → pool ≡ no_run → (hand.count == 0) ≡ false → joined hand pool ≡ hand
+whole_hand hand pool none some = ap (joined hand) none ∙ rw some (λ i. record { first = hand.first; count = e i })
+  where
+    e : hand.count + 0 ≡ hand.count
+    e = omega arith

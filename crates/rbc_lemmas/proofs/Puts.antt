@@ -1,5 +1,6 @@
--- Laws of functions of numbers that change at one place.
-use Rattle.std.proofs.Common.{◌≡◌, ℕ, ◌==◌, true, false, cond, refl, sym, ap, ◌∙◌, inl, inr}
+-- Laws of functions with another value at one place, or at one pair.
+use Rattle.std.proofs.Common.{eq-eqb, ◌≡◌, ℕ, ◌==◌, true, false, cond, refl, sym, ap, ◌∙◌, inl, inr}
+use Rattle.std.proofs.lemmas.Bool.{cond-true, cond-false, ne_eqb}
 use Rattle.std.proofs.lemmas.Bool.Decides.{eqb_tells}
 use Rattle.rbc_spec.specs.Maps.{put, put_pair}
 
@@ -24,9 +25,15 @@ put_at_pair f at c new t value changed u d = elim (eqb_tells d c) as (λ _. f (p
   ]
 ]
 
--- what was put there is there
+-- where a function was put, and elsewhere
+pub put_here : {X : Type 0} (f : ℕ → X) (t u : ℕ) (x : X) → u ≡ t → put f t x u ≡ x
+put_here f t u x e = cond-true (u == t) x (f u) (eq-eqb u t e)
+
+pub put_other : {X : Type 0} (f : ℕ → X) (t u : ℕ) (x : X) → (u ≡ t → ⊥) → put f t x u ≡ f u
+put_other f t u x apart = cond-false (u == t) x (f u) (ne_eqb u t apart)
+
 pub put_there : {X : Type 0} (f : ℕ → X) (t : ℕ) (x : X) → put f t x t ≡ x
-put_there f t x = elim (eqb_tells t t) as (λ _. put f t x t ≡ x) [ inl e ↦ rw (e.0) refl | inr e ↦ absurd (e.1 refl) ]
+put_there f t x = put_here f t t x refl
 
 -- putting twice is putting the last
 pub put_over : {X : Type 0} (t : ℕ) (x y : X) (f : ℕ → X) (u : ℕ) → put (put f t y) t x u ≡ put f t x u
@@ -61,4 +68,4 @@ put_pair_back f t c x y there u d = elim (eqb_tells u t) as (λ _. put_pair (put
 
 -- a number is itself
 pub itself : (t : ℕ) → (t == t) ≡ true
-itself t = elim (eqb_tells t t) [ inl e ↦ e.0 | inr e ↦ absurd (e.1 refl) ]
+itself t = eq-eqb t t refl

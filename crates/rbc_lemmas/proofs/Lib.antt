@@ -1,0 +1,6 @@
+pub mod Lists
+pub mod Runs
+pub mod Longest
+pub mod Puts
+pub mod Lines
+pub mod Acts
