@@ -10,3 +10,6 @@ pub mod SentSteps
 pub mod SentFrames
 pub mod SentEvents
 pub mod SentTaken
+pub mod Questions
+pub mod QuestionSteps
+pub mod Counted

@@ -83,7 +83,7 @@ module _ (d : ℕ) (line : Line) (c : ℕ) where
     abbrev j : Centre
     j = ticked (stamp_of k event) k
 
-    done : IsFew d line c (effect reach line c j event).reply
+    pub done : IsFew d line c (effect reach line c j event).reply
     done = effect_few reach event j (record { missions = h.missions; pools = h.pools; waits = h.waits }) few
 
     pub few_frames : length ((taken reach line c event k).0.frames d) ≤ 3

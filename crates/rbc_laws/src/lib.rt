@@ -2,11 +2,13 @@
 //! without an answer, and of what a step sends. The functions do nothing: each contract is a law of the definitions.
 #![tactic(auto)]
 
+mod asks;
 mod distances;
 mod sections;
 mod silences;
 mod steps;
 
+pub use asks::a_question_stands_for_an_empty_pool;
 pub use distances::{a_place_is_ahead_of_its_group, no_distance_is_cut};
 pub use sections::{
     a_cut_run_is_joined_again, a_run_is_cut_in_two, runs_are_joined, runs_of_the_same_sections,
@@ -16,4 +18,4 @@ pub use silences::{
     a_silent_message_changes_nothing, silence_is_the_same_at_every_reach,
     the_line_centre_is_silent_for_the_same_reasons,
 };
-pub use steps::{a_step_sends_few, a_step_sends_in_order};
+pub use steps::{a_step_sends_few, a_step_sends_in_order, each_frame_is_counted_in_range};

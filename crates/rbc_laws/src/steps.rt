@@ -1,12 +1,12 @@
 //! Laws of what a step sends and says.
 
-ghost use Rattle.std.specs.Prelude.{ℕ, ◌≤◌, length, map};
+ghost use Rattle.std.specs.Prelude.{◌≡◌, ℕ, ◌≤◌, true, None, length, map, All};
 ghost use Rattle.rbc_spec.specs.Reach.{Reach};
-ghost use Rattle.rbc_spec.specs.Line.{Line};
+ghost use Rattle.rbc_spec.specs.Line.{Line, is_linked};
 ghost use Rattle.rbc_spec.specs.Frame.{Frame};
 ghost use Rattle.rbc_spec.specs.Centre.{Centre};
-ghost use Rattle.rbc_spec.specs.Step.{Event, taken};
-ghost use Rattle.rbc_laws.specs.Sending.{HoldsFew, TakesFew, GoInOrder};
+ghost use Rattle.rbc_spec.specs.Step.{Event, refusal, taken};
+ghost use Rattle.rbc_laws.specs.Sending.{HoldsFew, TakesFew, GoInOrder, IsCountedInRange};
 
 /// A step sends at most three frames on a link, two messages to trains and 64 words to the interlocking, at every reach: where hand and
 /// pool have at most 64 sections, and so has a start that waits and a run that comes home.
@@ -24,4 +24,10 @@ pub fn a_step_sends_few()
 pub fn a_step_sends_in_order()
     ensures { (reach : Reach) (line : Line) (c d : ℕ) (k : Centre) (event : Event) → HoldsFew line k → TakesFew event
         → GoInOrder (map (λ (f : Frame). f.body) ((taken reach line c event k).0.frames d)) }
+{}
+
+/// What a step that is not refused sends on a link has its numbers and its stamp in the ranges of their fields, at every reach.
+pub fn each_frame_is_counted_in_range()
+    ensures { (reach : Reach) (line : Line) (c d : ℕ) (k : Centre) (event : Event) → HoldsFew line k → TakesFew event → is_linked line c d ≡ true
+        → refusal line c k event ≡ None → All IsCountedInRange ((taken reach line c event k).0.frames d) }
 {}
