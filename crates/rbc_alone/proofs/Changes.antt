@@ -2,6 +2,7 @@
 use Rattle.std.proofs.Common.{◌≡◌, ℕ, ◌&&◌, ◌||◌, not, if◌then◌else◌, Bool, true, false, Option, Some, None, option_map, is_none, refl, sym, ap, ◌∙◌, subst}
 use Rattle.std.proofs.lemmas.Option.{same_Some}
 use Rattle.std.proofs.lemmas.Bool.{both_ways, true_from_ne_false, and_parts, and_left, and_right}
+use Rattle.std.proofs.Math.Bool.{and-true}
 use Rattle.rbc_spec.specs.Maps.{put}
 use Rattle.rbc_spec.specs.Runs.{Run, within}
 use Rattle.rbc_spec.specs.Line.{Line, is_home}
@@ -75,28 +76,20 @@ module _ (line : Line) (c : ℕ) where
   -- a mission ends at the registrar, and the right is back
   pub ends_here : (k : Centre) (t : ℕ) → is_registrar_of line c t ≡ true → Follows k t None (put k.has_right t true)
   ends_here k t here = record {
-    right = put_here k.has_right t t true refl ∙ sym here ∙ and_one (is_registrar_of line c t);
+    right = put_here k.has_right t t true refl ∙ sym here ∙ sym (and-true (is_registrar_of line c t));
     rights = λ u apart. put_other k.has_right t u true apart;
     at_registrar = λ away. refl;
     alone = λ m is. cc;
   }
-    where
-      and_one : (b : Bool) → b ≡ (b && true)
-      and_one true = refl
-      and_one false = refl
 
   -- a mission begins at the registrar, and the right is in it
   pub starts_here : (k : Centre) (t : ℕ) (n : Mission) → is_registrar_of line c t ≡ true → IsMissionAlone line n → Follows k t (Some n) (put k.has_right t false)
   starts_here k t n here alone = record {
-    right = put_here k.has_right t t false refl ∙ and_none (is_registrar_of line c t);
+    right = put_here k.has_right t t false refl ∙ sym (and_right (is_registrar_of line c t) false refl);
     rights = λ u apart. put_other k.has_right t u false apart;
     at_registrar = λ away. absurd (both_ways (is_registrar_of line c t) away here);
     alone = λ p is. subst (IsMissionAlone line) (same_Some n p is) alone;
   }
-    where
-      and_none : (b : Bool) → false ≡ (b && false)
-      and_none true = refl
-      and_none false = refl
 
   -- ## Changes
 

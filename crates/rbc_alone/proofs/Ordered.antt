@@ -1,5 +1,6 @@
 -- Each line is in order, and a centre begins alone.
-use Rattle.std.proofs.Common.{◌≡◌, ℕ, ◌&&◌, Bool, true, false, refl}
+use Rattle.std.proofs.Common.{ℕ, refl, sym}
+use Rattle.std.proofs.Math.Bool.{and-true}
 use Rattle.rbc_spec.specs.Line.{Line, IsLine}
 use Rattle.rbc_spec.specs.Centre.{beginning, is_registrar_of}
 use Rattle.rbc_spec.proofs.Places as places
@@ -12,10 +13,6 @@ is_ordered line ok = record {
   ends_rise = λ track s e le one two. places.ends_rise line track s e one two le;
 }
 
-and_true : (b : Bool) → b ≡ (b && true)
-and_true true = refl
-and_true false = refl
-
 -- at the beginning nothing is under way
 pub begins_alone : (line : Line) (c : ℕ) → IsAloneAt line c (beginning line c)
 unfolding beginning
@@ -24,7 +21,7 @@ begins_alone line c = record {
   not_out = λ s t d. refl;
   foreign = λ s away. refl;
   unwished = λ s unused. refl;
-  right = λ t. and_true (is_registrar_of line c t);
+  right = λ t. sym (and-true (is_registrar_of line c t));
   at_registrar = λ t away. refl;
   mission = λ t m at. cc;
   no_wait = λ t. refl;

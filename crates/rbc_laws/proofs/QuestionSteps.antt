@@ -1,6 +1,7 @@
 -- While a question for sections stands, the pool of its train's mission is empty: each step of a centre keeps that.
 use Rattle.std.proofs.Common.{◌≡◌, ℕ, ◌==◌, Bool, true, false, not, ◌&&◌, if◌then◌else◌, Option, Some, None, is_none, is_some, nat_lt, length, refl, ap}
 use Rattle.std.specs.Option.{option_map_or}
+use Rattle.std.proofs.Math.Bool.{and-true}
 use Rattle.rbc_spec.specs.Maps.{has, put}
 use Rattle.rbc_spec.specs.Reach.{Reach, follows_rule}
 use Rattle.rbc_spec.specs.Runs.{Run, part_from, all_of, within, behind, is_empty, part_before}
@@ -134,8 +135,4 @@ begins line c t first m asks has = cc
 
 -- an empty pool passes the test
 pub wanted_is : (line : Line) (r : Run) (m : Mission) → is_empty m.pool ≡ true → is_wanted line r m ≡ follows_hand line r m
-wanted_is line r m empty = rw empty (ap (λ b. ((r.first == behind m.hand) && is_on line m.place.track r.first) && b) (and_true (not m.is_ended)))
-  where
-    and_true : (b : Bool) → (b && true) ≡ b
-    and_true true = refl
-    and_true false = refl
+wanted_is line r m empty = rw empty (ap (λ b. ((r.first == behind m.hand) && is_on line m.place.track r.first) && b) (and-true (not m.is_ended)))

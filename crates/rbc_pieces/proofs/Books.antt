@@ -1,7 +1,8 @@
 -- What changes of the book and of what was said show on the line.
-use Rattle.std.proofs.Common.{◌≡◌, ℕ, ◌&&◌, Bool, true, false, Option, Some, None, is_some, refl, ap, ◌∙◌, if◌then◌else◌}
+use Rattle.std.proofs.Common.{◌≡◌, ℕ, ◌&&◌, Bool, true, false, Option, Some, None, is_some, refl, ap, ◌∙◌, if◌then◌else◌, sym}
 use Rattle.std.specs.Option.{option_map_or}
 use Rattle.std.proofs.lemmas.Bool.{and_parts}
+use Rattle.std.proofs.Math.Bool.{and-true}
 use Rattle.rbc_spec.specs.Runs.{Run, within}
 use Rattle.rbc_spec.specs.Line.{Line, is_home}
 use Rattle.rbc_spec.specs.Centre as centre
@@ -40,13 +41,9 @@ module _ (line : Line) (w : World) (c : ℕ) where
   pub supervises_is : (t : ℕ) → IsAlone line w → supervises v c t ≡ is_some ((w.at c).mission t)
   supervises_is t alone = drop_true (v.mission t) ∙ here_is line w alone c t (λ n. true) (λ n. true) (λ n has. refl) ∙ some_is ((w.at c).mission t)
     where
-      and_true : (b : Bool) → b ≡ (b && true)
-      and_true true = refl
-      and_true false = refl
-
       drop_true : (o : Option line_centre.Mission) → option_map_or (λ m. is_at c m.supervisor) o false ≡ option_map_or (λ m. is_at c m.supervisor && true) o false
       drop_true None = refl
-      drop_true (Some m) = and_true (is_at c m.supervisor)
+      drop_true (Some m) = sym (and-true (is_at c m.supervisor))
 
       some_is : (o : Option centre.Mission) → step.mission_has (λ n. true) o ≡ is_some o
       some_is None = refl

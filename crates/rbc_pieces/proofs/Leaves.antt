@@ -2,8 +2,9 @@
 use Rattle.std.proofs.Common.{◌≡◌, ◌⊎◌, ℕ, ◌+◌, ◌*◌, ◌<◌, ◌≤◌, ◌==◌, ◌&&◌, not, Bool, true, false, Option, Some, None, refl, sym, ap, ◌∙◌, map, if◌then◌else◌, inl, inr, arith, ℤ, pos, negsuc, int_le, leb-true, le-leb}
 use Rattle.std.specs.Option.{option_map_or}
 use Rattle.std.specs.List.{filter, list_any, range_with_len}
-use Rattle.std.proofs.lemmas.Bool.{and_parts, and_from, both_ways, cases_lt}
+use Rattle.std.proofs.lemmas.Bool.{and_parts, and_from, both_ways, cases_lt, and_right}
 use Rattle.std.proofs.lemmas.Bool.Decides.{eqb_tells}
+use Rattle.std.proofs.Math.Bool.{and-true}
 use Rattle.rbc_spec.specs.Runs.{Run, within, behind}
 use Rattle.rbc_spec.specs.Line.{Line, is_home, end}
 use Rattle.rbc_spec.specs.Sections.{is_on, section_count}
@@ -102,17 +103,9 @@ module _ (line : Line) (w : World) (alone : IsAlone line w) (c t : ℕ) (m : cen
   pub still_given : (s : ℕ) → is_given_to t ((release line c t is_released v).mark s) ≡ (within m.hand s && not (within r s))
   still_given s = by_run (within r s) refl
     where
-      none_left : (b : Bool) → (b && false) ≡ false
-      none_left true = refl
-      none_left false = refl
-
-      all_left : (b : Bool) → (b && true) ≡ b
-      all_left true = refl
-      all_left false = refl
-
       by_run : (b : Bool) → within r s ≡ b → is_given_to t ((release line c t is_released v).mark s) ≡ (within m.hand s && not b)
-      by_run true so = rw (released s ∙ so, home_of s so) (after_leaving t (v.wish s)) ∙ sym (none_left (within m.hand s))
-      by_run false so = rw (released s ∙ so) (given_is_hand line w c t m alone has s) ∙ sym (all_left (within m.hand s))
+      by_run true so = rw (released s ∙ so, home_of s so) (after_leaving t (v.wish s)) ∙ sym (and_right (within m.hand s) false refl)
+      by_run false so = rw (released s ∙ so) (given_is_hand line w c t m alone has s) ∙ sym (and-true (within m.hand s))
 
   abbrev is_some_given : Bool
   is_some_given = list_any (λ s. is_given_to t ((release line c t is_released v).mark s)) (range_with_len 0 (section_count line))
