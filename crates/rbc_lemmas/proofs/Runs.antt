@@ -90,6 +90,10 @@ none_joined a b none = cond-true (is_empty a) b (record { first = a.first; count
 some_joined : (a b : Run) → a.count ≢ 0 → joined a b ≡ record { first = a.first; count = a.count + b.count }
 some_joined a b some = cond-false (is_empty a) b (record { first = a.first; count = a.count + b.count }) (ne_eqb a.count 0 some)
 
+-- a hand that is not empty and a run behind it
+pub joined_is : (hand : Run) (n : ℕ) → 1 ≤ hand.count → joined hand (record { first = behind hand; count = n }) ≡ record { first = hand.first; count = hand.count + n }
+joined_is hand n some = cond-false (is_empty hand) _ _ (ne_eqb hand.count 0 (λ e. omega arith))
+
 pub joined_count : (a b : Run) → (joined a b).count ≡ a.count + b.count
 joined_count a b = ⊎_elim
     (λ (none : a.count ≡ 0). ap (λ (r : Run). r.count) (none_joined a b none) ∙ (omega arith))

@@ -15,7 +15,8 @@ use Rattle.rbc_spec.specs.Acts.{Act, become, rest, ◌>>◌, hear, change_missio
 use Rattle.rbc_spec.specs.Rules.{set_phase, drop_wait, close_session, answered}
 use Rattle.rbc_spec.specs.Links.{is_train, of_train, received, announced, route_withdrawn, route_returned, yielded}
 use Rattle.rbc_spec.specs.Step.{Event, Train, Set, Unset, Deliver, Effect, is_out_of_phase, silence, offered, body_taken, taken_by, hear_and_answer, effect, state_after, stamp_of, ticked}
-use Rattle.rbc_alone.proofs.Stays.{by_same, put_here, put_other}
+use Rattle.rbc_lemmas.proofs.Puts.{put_here, put_other}
+use Rattle.rbc_alone.proofs.Stays.{by_same}
 use Rattle.rbc_laws.proofs.Reasons.{not_for}
 use Rattle.rbc_flow.specs.Sound.{IsCentreSound}
 use Rattle.rbc_sound.specs.Stays.{HasHandRange, IsInRange, StaysSound}

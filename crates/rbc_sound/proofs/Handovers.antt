@@ -15,9 +15,10 @@ use Rattle.rbc_spec.specs.Acts.{become, rest, ◌>>◌, with_some, booked, set_m
 use Rattle.rbc_spec.specs.Links.{expect, announced, is_under, cancelled, claimed, taking_over, may_arrive, may_take, take_mission, yielded}
 use Rattle.rbc_alone.specs.Alone.{hand_has}
 use Rattle.rbc_alone.proofs.Entries.{booked_for, unused_booked}
-use Rattle.rbc_alone.proofs.Fits.{all_each}
+use Rattle.rbc_lemmas.proofs.Runs.{each_within}
 use Rattle.rbc_alone.proofs.Missions.{none_within}
-use Rattle.rbc_alone.proofs.Stays.{put_here, put_other, by_same}
+use Rattle.rbc_lemmas.proofs.Puts.{put_here, put_other}
+use Rattle.rbc_alone.proofs.Stays.{by_same}
 use Rattle.rbc_flow.specs.Counts.{wait_has}
 use Rattle.rbc_flow.specs.Sound.{IsMissionAt, IsCentreSound}
 use Rattle.rbc_sound.proofs.Held.{Held, held, shut_unbooked, booked_out, held_mission}
@@ -133,7 +134,7 @@ module _ (line : Line) (ok : IsLine line) (c : ℕ) where
     ends = and_parts _ _ (and_parts (is_on_track line place.track hand && has (is_on line place.track) (section_of_group line place.group)) _ front_parts.1).1
 
     was_out : (s : ℕ) → is_home line c s ≡ true → within hand s ≡ true → is_out_for t d (k.book s) ≡ true
-    was_out s home has = sym (cond-true (is_home line c s) (is_out_for t d (k.book s)) _ home) ∙ all_each (may_arrive line c k d t place.track) hand ends.1 s has
+    was_out s home has = sym (cond-true (is_home line c s) (is_out_for t d (k.book s)) _ home) ∙ each_within (may_arrive line c k d t place.track) hand ends.1 s has
 
     -- the train is heard, and the expectation ends
     abbrev ready : Centre
@@ -151,7 +152,7 @@ module _ (line : Line) (ok : IsLine line) (c : ℕ) where
 
     came_sound : IsMissionAt line c ready came
     came_sound = record {
-      hand = record { some = range.0; few = range.1; on_track = λ s has. all_each (λ x. is_on line place.track x) hand tracks.0 s has; group = tracks.1; front = leb-true _ _ ends.0 };
+      hand = record { some = range.0; few = range.1; on_track = λ s has. each_within (λ x. is_on line place.track x) hand tracks.0 s has; group = tracks.1; front = leb-true _ _ ends.0 };
       pool_follows = λ some. cc;
       pool_away = λ s has. absurd (none_within s has);
       handing_to = λ h is. cc;

@@ -9,7 +9,7 @@ use Rattle.rbc_spec.specs.Place.{Place, covered}
 use Rattle.rbc_spec.specs.Centre.{Centre, Entry, Shut, Taken, Out, Mission, is_open, is_unused, is_taken_for}
 use Rattle.rbc_spec.specs.Acts.{booked, freed, set_mission}
 use Rattle.rbc_alone.specs.Alone.{hand_has}
-use Rattle.rbc_alone.proofs.Stays.{put_here, put_other}
+use Rattle.rbc_lemmas.proofs.Puts.{put_here, put_other}
 use Rattle.rbc_alone.proofs.Entries.{given, taken_given, taken_for_one, hand_given, others_given, booked_for, taken_here, taken_elsewhere, unused_booked}
 use Rattle.rbc_flow.specs.Counts.{wait_has}
 use Rattle.rbc_flow.specs.Sound.{IsHandAt, IsMissionAt, IsCentreSound}

@@ -10,7 +10,7 @@ use Rattle.rbc_spec.specs.Acts.{become, rest, ◌>>◌, change_mission, may_prop
 use Rattle.rbc_spec.specs.Rules.{tell}
 use Rattle.rbc_spec.specs.Step.{make, set, unset, wished}
 use Rattle.rbc_alone.proofs.Entries.{unused_taken}
-use Rattle.rbc_alone.proofs.Stays.{put_here, put_other}
+use Rattle.rbc_lemmas.proofs.Puts.{put_here, put_other}
 use Rattle.rbc_flow.specs.Sound.{IsCentreSound}
 use Rattle.rbc_sound.proofs.Sends.{Sound, leaves, none_sent, one_sent, rest_sound, then_sound, if_sound, if_reply, or_reply}
 use Rattle.rbc_sound.proofs.Again.{book_sound, changed_sound, said_sound}

@@ -12,11 +12,11 @@ use Rattle.rbc_spec.specs.Frame.{Cancel, ReturnRight, yielded_place}
 use Rattle.rbc_spec.specs.Centre.{Centre, Out, Mission, Handing, is_up, is_taken_for, is_registrar_of}
 use Rattle.rbc_spec.specs.Acts.{Act, become, rest, ◌>>◌, where_so, send, booked, leave, set_mission, change_mission, cancel, return_right, close, part_at, end_order, yield, is_of_two, yield_if_due}
 use Rattle.rbc_alone.specs.Alone.{hand_has}
-use Rattle.rbc_alone.proofs.Fits.{all_each}
+use Rattle.rbc_lemmas.proofs.Runs.{each_within}
 use Rattle.rbc_flow.specs.Counts.{wait_has}
 use Rattle.rbc_flow.specs.Sound.{IsMissionAt, IsCentreSound, IsYieldSound}
 use Rattle.rbc_flow.proofs.Neighbours.{neighbours}
-use Rattle.rbc_flow.proofs.Trains.{registrar_below}
+use Rattle.rbc_lemmas.proofs.Lines.{registrar_below}
 use Rattle.rbc_sound.proofs.Held.{Held, held, held_freed, held_lent, held_mission, held_aside}
 use Rattle.rbc_sound.proofs.Sends.{Sends, Sound, leaves, none_sent, one_sent, then_sent, returned_sent, sends_of, rest_sound, if_sound, if_reply, or_reply}
 use Rattle.rbc_sound.proofs.Again.{left_law, gone_law, again, said_sound}
@@ -184,7 +184,7 @@ module _ (line : Line) (ok : IsLine line) (c : ℕ) where
         is_hand = is.hand;
         to_next = is.handing_to h handed;
         known = known;
-        of_two = λ s has. by_home s (or_cases (is_home line c s) (is_home line h.to s) (all_each (λ x. is_home line c x || is_home line h.to x) m.hand two s has));
+        of_two = λ s has. by_home s (or_cases (is_home line c s) (is_home line h.to s) (each_within (λ x. is_home line c x || is_home line h.to x) m.hand two s has));
       }
         where
           by_home : (s : ℕ) → (is_home line c s ≡ true) ⊎ (is_home line h.to s ≡ true) → (is_home line c s ≡ true) ⊎ (is_home line h.to s ≡ true)

@@ -8,9 +8,11 @@ use Rattle.rbc_spec.specs.Line.{Line, Section, section, section_of_group}
 use Rattle.rbc_spec.specs.Sections.{is_on}
 use Rattle.rbc_spec.specs.Place.{Place, Position, extent, has_place, place_behind, group_start, covered, is_fit, fit_place}
 use Rattle.rbc_alone.specs.Alone.{IsOrdered}
-use Rattle.rbc_alone.proofs.Fits.{fit_parts, all_each, one_track, begun_alone}
+use Rattle.rbc_lemmas.proofs.Lines.{one_track}
+use Rattle.rbc_lemmas.proofs.Runs.{each_within}
+use Rattle.rbc_alone.proofs.Fits.{fit_parts, begun_alone}
 use Rattle.rbc_laws.proofs.Places.{extent_ahead}
-use Rattle.rbc_laws.proofs.Runs.{within_from}
+use Rattle.rbc_lemmas.proofs.Runs.{within_from}
 use Rattle.rbc_flow.specs.Sound.{IsHandAt}
 
 -- the group is on the place's track, and not behind its front
@@ -84,4 +86,4 @@ pub same_track : (line : Line) (old place : Place) (hand : Run) → IsHandAt lin
 same_track line old place hand is at all =
     let s : ℕ = (covered line place).first in
     let there = within_from (covered line place) s (omega arith) (omega (arith, at.some)) in
-    one_track line s place.track old.track (at.on_track s there) (is.on_track s (all_each (within hand) (covered line place) all s there))
+    one_track line s place.track old.track (at.on_track s there) (is.on_track s (each_within (within hand) (covered line place) all s there))

@@ -11,9 +11,11 @@ use Rattle.rbc_spec.specs.Frame.{TakingOver, Cancel}
 use Rattle.rbc_spec.specs.Centre.{Centre, Mission, Proposal, Expectation}
 use Rattle.rbc_spec.specs.Acts.{Act, rest, ◌>>◌, with_mission, send, leave, returned, set_mission, change_mission, return_pool, cancel, close, part_at, yield_if_due}
 use Rattle.rbc_spec.specs.Rules.{cleared, clear, report_here, report, take_over, end_mission, cut, granted, answer_granted}
-use Rattle.rbc_alone.proofs.Hands.{within_rest, within_kept, longest_few, within_true, within_from, same_tests}
+use Rattle.rbc_lemmas.proofs.Longest.{longest_few}
+use Rattle.rbc_lemmas.proofs.Runs.{within_true, within_from, same_tests}
+use Rattle.rbc_alone.proofs.Hands.{within_rest, within_kept}
 use Rattle.rbc_alone.proofs.Missions.{none_within}
-use Rattle.rbc_laws.proofs.Runs.{within_none, within_joined, joined_empty}
+use Rattle.rbc_lemmas.proofs.Runs.{within_none, within_joined, joined_empty}
 use Rattle.rbc_laws.proofs.Places.{placed_on}
 use Rattle.rbc_flow.specs.Sound.{IsMissionAt, IsCentreSound, IsBodySound}
 use Rattle.rbc_sound.proofs.Held.{still}

@@ -16,9 +16,9 @@ use Rattle.rbc_spec.specs.Acts.{Act, rest, ◌>>◌, say, booked, set_mission, c
 use Rattle.rbc_spec.specs.Rules.{may_follow, extension, extended_by, authority, announce_if_due, ask_route_if_due, at_border, grant, request}
 use Rattle.rbc_spec.proofs.Places.{section_on}
 use Rattle.rbc_alone.specs.Alone.{hand_has}
-use Rattle.rbc_alone.proofs.Hands.{within_joined, within_true, joined_is, longest_few, longest_each}
+use Rattle.rbc_lemmas.proofs.Runs.{within_joined, within_true, within_from, joined_is}
+use Rattle.rbc_lemmas.proofs.Longest.{longest_few, longest_each}
 use Rattle.rbc_laws.proofs.Places.{placed_on}
-use Rattle.rbc_laws.proofs.Runs.{within_from}
 use Rattle.rbc_flow.specs.Counts.{wait_has}
 use Rattle.rbc_flow.specs.Sound.{IsHandAt, IsMissionAt, IsCentreSound}
 use Rattle.rbc_sound.proofs.Held.{Held, held, held_booked, held_mission, held_aside}
@@ -182,7 +182,7 @@ module _ (line : Line) (ok : IsLine line) (c : ℕ) where
           arith,
           grown_law (within more s) (mine s) (wait_has line (k.wait t) s) (within m.hand s)
               (omega (arith, old.claims s t home, ap (λ (o : Option Mission). one_if (hand_has o s)) at)) (λ has. open_untaken t k s (follows_open s home has)),
-          ap one_if (within_joined m.hand more.count s is.hand.some),
+          ap one_if (within_joined m.hand more s refl),
         ))
         (λ n this. (subst (IsMissionAt line c k) (same_Some (extended_by more here) n this) extended_is, old.mission_known t m at))
 

@@ -11,10 +11,10 @@ use Rattle.rbc_spec.specs.Centre.{Centre, Entry, Shut, Open, Taken, Out, Mission
 use Rattle.rbc_spec.specs.Acts.{become, rest, ◌>>◌, where_so, send, booked, freed, returned, change_mission, propose_if_so, end_order}
 use Rattle.rbc_spec.specs.Links.{is_of_line, lendable, route_asked, is_wanted, route_told, route_withdrawn, route_returned}
 use Rattle.rbc_alone.proofs.Entries.{given, taken_given}
-use Rattle.rbc_alone.proofs.Fits.{all_each}
-use Rattle.rbc_alone.proofs.Hands.{within_true, within_from}
+use Rattle.rbc_lemmas.proofs.Runs.{each_within}
+use Rattle.rbc_lemmas.proofs.Runs.{within_true, within_from}
 use Rattle.rbc_flow.specs.Sound.{IsMissionAt, IsCentreSound}
-use Rattle.rbc_flow.proofs.Basics.{one_home}
+use Rattle.rbc_lemmas.proofs.Lines.{one_home}
 use Rattle.rbc_sound.proofs.Held.{shut_unbooked, lent_for, lent_out, lent_unused, given_out, given_unused, away}
 use Rattle.rbc_sound.proofs.Sends.{Sound, leaves, none_sent, one_sent, returned_sent, rest_sound, then_sound, if_sound, if_reply, or_reply}
 use Rattle.rbc_sound.proofs.Again.{book_sound, free_sound, changed_sound}
@@ -65,7 +65,7 @@ module _ (line : Line) (ok : IsLine line) (c d : ℕ) (to : is_centre line d ≡
       pooled j n wanted homes is = record {
         hand = is.hand;
         pool_follows = λ some. eqb-true r.first (behind n.hand) (and_parts (r.first == behind n.hand) (is_on line n.place.track r.first) (and_parts ((r.first == behind n.hand) && is_on line n.place.track r.first) _ wanted).0).0;
-        pool_away = λ s has. false_from_ne_true (is_home line c s) (λ home. apart (one_home line c d s home (all_each (is_home line d) r homes s has)));
+        pool_away = λ s has. false_from_ne_true (is_home line c s) (λ home. apart (one_home line c d s home (each_within (is_home line d) r homes s has)));
         handing_to = is.handing_to;
         handing_number = is.handing_number;
       }

@@ -10,7 +10,7 @@ use Rattle.rbc_spec.specs.Frame.{Body, RouteReturn}
 use Rattle.rbc_spec.specs.Centre.{Centre}
 use Rattle.rbc_spec.specs.Acts.{Act, Reply, rest, ◌>>◌, send, returned}
 use Rattle.rbc_alone.proofs.Ordered.{is_ordered}
-use Rattle.rbc_laws.proofs.Runs.{within_from}
+use Rattle.rbc_lemmas.proofs.Runs.{within_from}
 use Rattle.rbc_flow.specs.Sound.{IsCentreSound, IsBodySound}
 use Rattle.rbc_flow.specs.Keeping.{LeavesSound}
 use Rattle.rbc_flow.proofs.Homes.{in_both}

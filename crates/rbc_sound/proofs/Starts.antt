@@ -15,7 +15,7 @@ use Rattle.rbc_spec.specs.Acts.{Act, become, rest, ◌>>◌, where_so, send, boo
 use Rattle.rbc_spec.specs.Rules.{accept, reject, restart, start_here, start_waiting, start_elsewhere, start_new, start_mission}
 use Rattle.rbc_alone.specs.Alone.{hand_has}
 use Rattle.rbc_alone.proofs.Ordered.{is_ordered}
-use Rattle.rbc_alone.proofs.Fits.{all_each}
+use Rattle.rbc_lemmas.proofs.Runs.{each_within}
 use Rattle.rbc_alone.proofs.Missions.{none_within}
 use Rattle.rbc_flow.specs.Counts.{wait_has}
 use Rattle.rbc_flow.specs.Sound.{IsHandAt, IsMissionAt, IsCentreSound}
@@ -59,7 +59,7 @@ module _ (line : Line) (ok : IsLine line) (c : ℕ) (k : Centre) (old : IsCentre
     mine s = is_taken_for t (k.book s)
 
     is_free_at : (s : ℕ) → within (covered line place) s ≡ true → (is_home line c s ≡ true) × (is_open (k.book s) ≡ true)
-    is_free_at s has = and_parts (is_home line c s) (is_open (k.book s)) (all_each (is_free line c k) (covered line place) free s has)
+    is_free_at s has = and_parts (is_home line c s) (is_open (k.book s)) (each_within (is_free line c k) (covered line place) free s has)
 
     abbrev taken_now : Centre
     taken_now = (booked is_open (Taken t) (covered line place) k).state

@@ -11,6 +11,7 @@ ghost use Rattle.rbc_spec.specs.World.{World, Answer, new_world, world_run};
 ghost use Rattle.rbc_flow.specs.Sound.{IsCentreSound, IsBodySound};
 ghost use Rattle.rbc_sound.specs.Stays.{HasHandRange, IsInRange, StaysSound};
 ghost use Rattle.rbc_sound.specs.Worlds.{AreCentresSound};
+ghost use Rattle.rbc_sound.specs.Within.{IsCentreWithin, StaysWithin};
 
 /// At its beginning a centre is sound.
 pub fn a_centre_begins_sound()
@@ -34,4 +35,10 @@ pub fn a_frame_in_range_has_a_hand()
 pub fn each_centre_of_a_world_is_sound()
     ensures { (reach : Reach) (line : Line) (events : List world.Event) (answers : List Answer) (w : World) → IsLine line
         → world_run reach line (new_world line) events ≡ Ok (answers, w) → AreCentresSound line w }
+{}
+
+/// Where the centres of a reach hand no mission over, a centre announces no handover and sends no Yield, whatever happens to it.
+pub fn a_centre_stays_within_its_reach()
+    ensures begins { (reach : Reach) (line : Line) (c : ℕ) → IsCentreWithin reach (beginning line c) }
+    ensures stays { (reach : Reach) (line : Line) (c : ℕ) (k : Centre) (event : Event) → IsCentreWithin reach k → StaysWithin reach line c k event }
 {}
