@@ -49,7 +49,7 @@ pub fn name_of_number(number: u64) -> &'static str {
         9 => "Request to Shorten MA",
         24 => "General Message",
         32 => "RBC/RIU System Version",
-        39 => "Acknowledgement of termination",
+        39 => "Acknowledgement of termination of a communication session",
         40 => "Train Rejected",
         41 => "Train Accepted",
         129 => "Validated Train Data",

@@ -9,6 +9,9 @@ use std::alloc::AllocError;
 // A distance or a doubt of this value is unknown.
 const UNKNOWN: u64 = 32_767;
 
+// V_TRAIN of 600 km/h. Greater values are spare.
+const MOST_SPEED: u64 = 120;
+
 pub fn add_position(fields: &mut Fields, position: &Position) -> Result<(), AllocError> {
     fields.packet(Position::NID_PACKET, "position report")?;
     fields.bits_of_packet(position.l_packet())?;
@@ -30,15 +33,22 @@ fn add_location(fields: &mut Fields, location: &Location) -> Result<(), AllocErr
 }
 
 fn add_running(fields: &mut Fields, position: &Position) -> Result<(), AllocError> {
-    let speed = position.v_train.value();
-    let meaning = Meaning::Count {
-        count: 5 * speed,
-        unit: "km/h",
-    };
-    fields.add("V_TRAIN", speed, meaning)?;
+    add_speed(fields, position.v_train.value())?;
     add_direction(fields, "Q_DIRTRAIN", position.q_dirtrain)?;
     let mode = position.m_mode;
     fields.words("M_MODE", mode.value(), words_of_mode(mode))
+}
+
+/// V_TRAIN in steps of 5 km/h.
+fn add_speed(fields: &mut Fields, value: u64) -> Result<(), AllocError> {
+    if value > MOST_SPEED {
+        return fields.words("V_TRAIN", value, "spare");
+    }
+    let meaning = Meaning::Count {
+        count: 5 * value,
+        unit: "km/h",
+    };
+    fields.add("V_TRAIN", value, meaning)
 }
 
 fn words_of_scale(scale: QScale) -> &'static str {
@@ -82,7 +92,7 @@ fn add_direction(
         Direction::Reverse => "reverse",
         Direction::Nominal => "nominal",
         Direction::Unknown => "unknown",
-        Direction::Spare => "no meaning",
+        Direction::Spare => "spare",
     };
     fields.words(name, direction.value(), words)
 }
@@ -130,9 +140,9 @@ fn add_level(fields: &mut Fields, level: Level) -> Result<(), AllocError> {
         Level::Level1 => (2, "Level 1"),
         Level::Level2 => (3, "Level 2"),
         Level::Level3 => (4, "Level 3"),
-        Level::Spare5 => (5, "no meaning"),
-        Level::Spare6 => (6, "no meaning"),
-        Level::Spare7 => (7, "no meaning"),
+        Level::Spare5 => (5, "spare"),
+        Level::Spare6 => (6, "spare"),
+        Level::Spare7 => (7, "spare"),
     };
     fields.words("M_LEVEL", value, words)?;
     match level {

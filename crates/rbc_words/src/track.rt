@@ -7,8 +7,8 @@ use rbc_packets::{Authority, SessionOrder, Transition};
 use rbc_vars::TTrain;
 use std::alloc::AllocError;
 
-// T_TRAIN of this value is unknown.
-const UNKNOWN_TIME: u64 = 4_294_967_295;
+/// T_TRAIN of this value is unknown.
+pub const UNKNOWN_TIME: u64 = 4_294_967_295;
 
 /// What stands behind NID_MESSAGE and L_MESSAGE.
 pub fn add_track(fields: &mut Fields, message: &TrackMsg) -> Result<(), AllocError> {

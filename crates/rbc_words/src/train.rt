@@ -3,6 +3,7 @@
 use crate::field::Meaning;
 use crate::fields::Fields;
 use crate::position::add_position;
+use crate::track::UNKNOWN_TIME;
 use rbc_msgs::{TrainBody, TrainMsg};
 use rbc_packets::Opaque;
 use rbc_vars::{QMarqstreason, QStatus, TTrain};
@@ -64,7 +65,11 @@ fn add_reason(fields: &mut Fields, reason: QMarqstreason) -> Result<(), AllocErr
 
 // T_TRAIN of the request that is answered.
 fn add_request(fields: &mut Fields, request: TTrain) -> Result<(), AllocError> {
-    fields.words("T_TRAIN", request.value(), "of the request")
+    let words = match request.value() {
+        UNKNOWN_TIME => "unknown",
+        _ => "of the request",
+    };
+    fields.words("T_TRAIN", request.value(), words)
 }
 
 fn add_status(fields: &mut Fields, status: QStatus) -> Result<(), AllocError> {
