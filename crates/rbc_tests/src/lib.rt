@@ -1,13 +1,12 @@
-//! Tests across the crates, of what no clause says: threads at a node, and that calls which take memory succeed where it is at hand. Those of
-//! bytes stand in `rbc_codec_tests`, and what the program prints is data of `rbc_rows`. A call that takes no memory and whose clauses give its
-//! result whole has no test.
+//! Tests of what no clause says and no row of `rbc_rows` reaches: threads at a node, streams, a whole list of events, and how calls end where
+//! an allocation fails. What the program prints is data of `rbc_rows`.
 #![tactic(auto)]
 
 #[cfg(test)]
 mod line;
 #[cfg(test)]
-mod log;
-#[cfg(test)]
 mod node;
+#[cfg(test)]
+mod stream;
 #[cfg(test)]
 mod world;

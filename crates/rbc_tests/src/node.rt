@@ -1,7 +1,6 @@
-use crate::line::{eight_sections, two_centres};
+use crate::line::two_centres;
 use rbc_centre::{Event, Word};
 use rbc_line::Line;
-use rbc_log::CentreLog;
 use rbc_node::{Gate, Node, Open, ShareFault};
 use std::alloc::Global;
 use std::sync::atomic::{AtomicBool, AtomicU32, Ordering};
@@ -71,18 +70,6 @@ fn a_share_is_stray_where_its_last_receipt_is_not(rt: HostRuntime) -> Result<(),
     Ok(())
 }
 
-#[test]
-fn a_share_commits_to_a_log_that_it_is_lent(rt: HostRuntime) -> Result<(), Fail> {
-    let line = two_centres(rt.alloc())?;
-    let mut log = CentreLog::new(rt.alloc(), &line, A)?;
-    let (a, _b) = both(rt.alloc(), &line)?;
-    let mut share = a.share();
-    assert!(rt; share.commit(&mut log, Event::Set(1)).is_ok());
-    assert_eq!(rt; log.entries().len(), 1);
-    assert_eq!(rt; share.receipts().len(), 1);
-    Ok(())
-}
-
 /// Holds the commit of A back under its lock until the commit of B is answered, and once more behind its lock until another commit
 /// of A is answered: each time at most so many turns. Counts the commits that are over.
 #[derive(Drop)]
@@ -127,7 +114,7 @@ impl Gate for Held {
 
 #[test]
 fn a_commit_waits_for_the_lock_of_its_centre_alone(rt: HostRuntime) -> Result<(), Fail> {
-    let line = eight_sections(rt.alloc())?;
+    let line = two_centres(rt.alloc())?;
     let (a, b) = both(rt.alloc(), &line)?;
     let mut of_a = a.share();
     let mut of_b = b.share();
@@ -143,7 +130,7 @@ fn a_commit_waits_for_the_lock_of_its_centre_alone(rt: HostRuntime) -> Result<()
         || a.commit(&rt, &gate, &mut of_a, Event::Set(0)),
         || {
             gate.wait_for(&gate.is_begun);
-            let other = b.commit(&rt, &gate, &mut of_b, Event::Set(4));
+            let other = b.commit(&rt, &gate, &mut of_b, Event::Set(2));
             gate.is_other_answered.store(true, Ordering::SeqCst);
             let next = a.commit(&rt, &Open, &mut a.share(), Event::Set(1));
             gate.is_next_answered.store(true, Ordering::SeqCst);
@@ -159,7 +146,7 @@ fn a_commit_waits_for_the_lock_of_its_centre_alone(rt: HostRuntime) -> Result<()
     assert_eq!(rt; other.stamp, 1);
     assert_eq!(rt; next.stamp, 2);
     assert_eq!(rt; first.words().as_slice(), [Word::Done(0)].as_slice());
-    assert_eq!(rt; other.words().as_slice(), [Word::Done(4)].as_slice());
+    assert_eq!(rt; other.words().as_slice(), [Word::Done(2)].as_slice());
     assert_eq!(rt; of_a.receipts().len(), 1);
     assert_eq!(rt; of_b.receipts().len(), 1);
     Ok(())
