@@ -144,7 +144,7 @@ module _ (line : Line) (ok : IsLine line) (c : ℕ) where
       on_track = λ s has. ⊎_elim
           (λ (old_one : within m.hand s ≡ true). subst (λ track. is_on line track s ≡ true) (sym same) (is.hand.on_track s old_one))
           (λ (new_one : within more s ≡ true). follows_on s new_one)
-          (or_cases (within m.hand s) (within more s) (sym (within_joined m.hand more.count s is.hand.some) ∙ has));
+          (or_cases (within m.hand s) (within more s) (sym (within_joined m.hand more s refl) ∙ has));
       group = there.group;
       front = there.front;
     }
