@@ -1,0 +1,13 @@
+pub mod Tally
+pub mod Ready
+pub mod Parts
+pub mod Behind
+pub mod Leaving
+pub mod Starts
+pub mod Borders
+pub mod Messages
+pub mod Frames
+pub mod Steps
+pub mod Homes
+pub mod Rights
+pub mod Tokens
