@@ -1,8 +1,9 @@
 //! `rbcline`, the program of the radio block centres: it runs a script of events on a line, and prints what comes out.
 #![tactic(auto)]
 
-use rbc_report::command::{command, report};
+use rbc_report::command::command;
 use rbc_report::disk::{Disk, words_of};
+use rbc_status::report;
 use std::io;
 use std::process::ExitCode;
 

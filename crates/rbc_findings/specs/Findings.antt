@@ -1,14 +1,10 @@
 -- Which fault of a line file each thing that is wrong in it is a case of.
-use Rattle.std.specs.Prelude.{ℕ, List, Option, option_map, slice_get, MatchOption}
-use Rattle.toml.specs.Data.{Members}
 use Rattle.rbc_line.specs.declared.fault.LineFault.{LineFault}
 use Rattle.rbc_line.specs.declared.fault.LineFault.TheVariants.{Shape, Centres, Tracks, Sections, Trains, Length, Number, Twice, Home, Order}
 use Rattle.rbc_findings.specs.declared.finding.Counted.{Counted}
 use Rattle.rbc_findings.specs.declared.finding.Counted.TheVariants as counted
-use Rattle.rbc_findings.specs.declared.finding.Finding.{Finding}
 use Rattle.rbc_findings.specs.declared.finding.Flaw.{Flaw}
 use Rattle.rbc_findings.specs.declared.finding.Flaw.TheVariants as flaw
-use Rattle.rbc_line.specs.Faults.{number_of, AppliesToTables, IsLowest}
 
 -- too few or too many of them
 abbrev pub count_fault : Counted → LineFault
@@ -33,15 +29,3 @@ flaw_fault (flaw.NumberTwice key value first) = Twice
 flaw_fault (flaw.Home key name) = Home
 flaw_fault (flaw.Order home) = Order
 flaw_fault (flaw.Unplaced fault) = fault
-
--- the number of the fault that a finding is a case of
-abbrev pub fault_number : Finding → ℕ
-fault_number finding = number_of (flaw_fault finding.flaw)
-
--- the fault that the first finding is a case of
-abbrev pub first_fault : List Finding → Option LineFault
-first_fault findings = option_map (λ finding. flaw_fault finding.flaw) (slice_get findings 0)
-
--- nothing is found where no fault applies to the tables; else the first finding is a case of the lowest that applies
-abbrev pub Explains : Members → List Finding → Type 0
-Explains ms findings = MatchOption (first_fault findings) ((fault : LineFault) → ¬ AppliesToTables ms fault) (IsLowest (AppliesToTables ms))

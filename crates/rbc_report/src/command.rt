@@ -1,15 +1,13 @@
-ghost use Rattle.rbc_report.specs.Statuses.{IsReported, IsStatus};
+ghost use Rattle.rbc_status.specs.Statuses.{IsStatus};
 
 use crate::explain::explain;
-use crate::fault::Fault;
 use crate::files::Files;
 use crate::in_words::{show_message, tell_printed};
 use crate::run::{check, run};
 use crate::words::{Request, requested};
+use rbc_status::{Fault, ended};
 use std::alloc::Global;
 use std::convert::AsStr;
-use std::fmt::Display;
-use std::io;
 use std::io::Write;
 
 /// Does what the words behind the program's name ask for, and gives the exit status: 0 done, 2 words refused (help
@@ -23,10 +21,8 @@ pub fn command<S: AsStr, F: Files, O: Write, E: Write>(
 ) -> u8
     ensures { IsStatus result }
 {
-    match obey(alloc, words, files, out) {
-        Ok(()) => 0,
-        Err(fault) => report(&fault, out, err),
-    }
+    let done = obey(alloc, words, files, out);
+    ended(done, out, err)
 }
 
 fn obey<'a, S: AsStr, F: Files, O: Write>(
@@ -42,25 +38,4 @@ fn obey<'a, S: AsStr, F: Files, O: Write>(
         Request::Message { digits } => show_message(alloc, digits, out),
         Request::Printed { file, printed } => tell_printed(alloc, file, printed, files, out),
     }
-}
-
-/// Says what went wrong, and gives the exit status. Help that was asked for goes to `out`.
-pub fn report<O: Write, E: Write>(fault: &Fault, out: &mut O, err: &mut E) -> u8
-    ensures { IsReported fault.now result }
-{
-    let told = match fault {
-        Fault::Write => Ok(()),
-        Fault::Usage(usage) if usage.use_stderr() => tell(err, format_args!("{usage}")),
-        Fault::Usage(help) => tell(out, format_args!("{help}")),
-        _ => tell(err, format_args!("{fault}\n")),
-    };
-    match told {
-        Ok(()) => fault.status(),
-        Err(_) => 6,
-    }
-}
-
-fn tell<W: Write, T: Display + Drop>(to: &mut W, text: T) -> io::Result<()> {
-    write!(to, "{text}")?;
-    to.flush()
 }

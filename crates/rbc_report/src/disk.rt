@@ -1,5 +1,5 @@
-use crate::fault::Fault;
 use crate::files::Files;
+use rbc_status::Fault;
 use std::alloc::AllocError;
 use std::io::ErrorKind;
 use std::rt::Env;

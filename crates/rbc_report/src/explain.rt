@@ -1,8 +1,9 @@
-use crate::fault::Fault;
 use crate::files::Files;
 use crate::picture::print_picture;
-use rbc_findings::{Finding, LineText};
+use rbc_explain::LineText;
+use rbc_findings::Finding;
 use rbc_line::{Line, LineFault};
+use rbc_status::Fault;
 use std::alloc::{AllocError, Global};
 use std::io::{BufWriter, Write};
 

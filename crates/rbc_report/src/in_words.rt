@@ -1,10 +1,10 @@
 //! Messages, and what `run` prints, in words.
 
-use crate::fault::Fault;
 use crate::files::Files;
 use crate::run::line_in;
 use hex::FromHexError;
 use rbc_line::Line;
+use rbc_status::Fault;
 use rbc_words::{Field, fields_of, line_in_words, name_of, words_of_fault};
 use std::alloc::{AllocError, Global};
 use std::io::{BufWriter, Write};

@@ -5,7 +5,6 @@
 pub mod command;
 pub mod disk;
 mod explain;
-pub mod fault;
 pub mod files;
 mod in_words;
 mod picture;

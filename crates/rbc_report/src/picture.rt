@@ -1,8 +1,8 @@
 //! A line as a reader wants to see it: its centres, its tracks with their sections and borders, and its trains.
 
-use crate::fault::Fault;
 use crate::print::name_of;
 use rbc_line::{Line, Section};
+use rbc_status::Fault;
 use std::io::Write;
 
 /// Prints all that a line file says.

@@ -1,9 +1,9 @@
 //! What `run` prints: events, what they lead to, and the line.
 
-use crate::fault::Fault;
 use rbc_centre::{Outcome, Saying, StepFault, Word};
 use rbc_line::Line;
 use rbc_msgs::encode_track;
+use rbc_status::Fault;
 use rbc_world::{Answer, LineView, Mark, SectionView, World, WorldEvent};
 use std::alloc::Global;
 use std::io::Write;

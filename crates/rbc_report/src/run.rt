@@ -1,8 +1,8 @@
-use crate::fault::Fault;
 use crate::files::Files;
 use crate::print::{print_answer, print_counts, print_event, print_line};
 use rbc_line::Line;
 use rbc_script::script::{Entry, script_of};
+use rbc_status::Fault;
 use rbc_world::World;
 use std::alloc::{AllocError, Global};
 use std::io::{BufWriter, Write};

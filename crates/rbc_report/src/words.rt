@@ -1,6 +1,6 @@
-use crate::fault::Fault;
 use clap::error::ErrorKind;
 use clap::{Arg, ArgMatches, Command, Error};
+use rbc_status::Fault;
 use std::alloc::{AllocError, Global};
 use std::convert::AsStr;
 

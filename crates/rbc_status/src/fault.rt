@@ -35,7 +35,7 @@ pub enum Fault<'a> {
 }
 
 impl Fault<'_> {
-    ghost use Rattle.rbc_report.specs.Statuses.{status_of};
+    ghost use Rattle.rbc_status.specs.Statuses.{status_of};
 
     /// The program's exit status.
     pub fn status(&self) -> u8

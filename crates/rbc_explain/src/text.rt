@@ -3,10 +3,10 @@ ghost use Rattle.std.specs.List.Sorted.{IsNonDecreasingBy};
 ghost use Rattle.toml.specs.Errors.{IsMemory};
 ghost use Rattle.toml.specs.Parse.{parse_document};
 ghost use Rattle.toml.specs.View.{table_view};
-ghost use Rattle.rbc_findings.specs.Findings.{Explains, fault_number};
+ghost use Rattle.rbc_explain.specs.Lowest.{Explains, fault_number};
 
-use crate::finding::Finding;
-use crate::inspect::cases_from;
+use crate::order::cases_from;
+use rbc_findings::Finding;
 use rbc_line::{Line, LineFault};
 use std::alloc::{AllocError, Global};
 use toml::Table;
