@@ -1,0 +1,113 @@
+//! From metres and events to places on the page, in pixels from its left and its upper edge.
+
+ghost use Rattle.std.specs.Prelude.{◌≤◌};
+
+use rbc_line::Line;
+use rbc_place::track_end;
+
+/// The width of the page.
+pub const WIDTH: u64 = 1200;
+/// Where the line ends on it.
+pub const RIGHT: u64 = 1180;
+/// Where the line begins, with words beside the events and without.
+const LEFT_OF_WORDS: u64 = 180;
+
+const LEFT: u64 = 70;
+/// The space between two tracks.
+pub const GAP: u64 = 30;
+/// The height of an event where there are few, and of all events where there are many.
+const ROW: u64 = 24;
+
+const MOST_HEIGHT: u64 = 3400;
+
+/// The place of each metre and each event.
+#[derive(Clone, Copy)]
+pub struct Scale<'a> {
+    pub line: &'a Line,
+    /// The upper edge of the events.
+    pub top: u64,
+    pub event_count: usize,
+}
+
+impl<'a> Scale<'a> {
+    /// The place of a point of a track, in metres from the start of the track. What lies past the track's end is shown there.
+    pub fn x(&self, track: u8, metres: u32) -> u64
+        ensures { result ≤ 1180 }
+    {
+        let tracks = u64::from(self.line.track_count()).saturating_sub(1);
+        let room = RIGHT
+            .saturating_sub(self.left())
+            .saturating_sub(tracks.saturating_mul(GAP));
+        let metres = u64::from(metres.min(track_end(self.line, track)));
+        let before = self.metres_before(track).saturating_add(metres);
+        let whole = self.metres_before(self.line.track_count());
+        let gaps = u64::from(track).saturating_mul(GAP);
+        let place = share(room, before, whole);
+        self.left()
+            .saturating_add(gaps)
+            .saturating_add(place)
+            .min(RIGHT)
+    }
+
+    /// Where the line begins.
+    pub fn left(&self) -> u64 {
+        if self.has_room() { LEFT_OF_WORDS } else { LEFT }
+    }
+
+    /// How long the tracks in front of this one are, in metres.
+    fn metres_before(&self, track: u8) -> u64 {
+        let mut metres: u64 = 0;
+        for t in 0..track {
+            metres = metres.saturating_add(u64::from(track_end(self.line, t)));
+        }
+        metres
+    }
+
+    /// The height of all events.
+    pub fn height(&self) -> u64
+        ensures { result ≤ 3400 }
+    {
+        let count = self.event_count as u64;
+        count.saturating_mul(ROW).max(ROW).min(MOST_HEIGHT)
+    }
+
+    /// The lower edge of the events.
+    pub fn bottom(&self) -> u64 {
+        self.top.saturating_add(self.height())
+    }
+
+    /// The middle of an event. An event past the last is at the lower edge.
+    pub fn y(&self, event: usize) -> u64 {
+        let halves = (event as u64).saturating_mul(2).saturating_add(1);
+        let whole = (self.event_count as u64).saturating_mul(2);
+        let place = share(self.height(), halves, whole).min(self.height());
+        self.top.saturating_add(place)
+    }
+
+    /// Each which event has its number written, so that there is room for it: 1, 2, 5, 10 and so on.
+    pub fn stride(&self) -> usize {
+        let mut stride: usize = 1;
+        for factor in [2, 5, 10, 20, 50, 100, 200, 500, 1000, 2000, 5000, 10_000] {
+            let room = share(self.height(), stride as u64, self.event_count as u64);
+            if room >= 18 || self.event_count <= 1 {
+                return stride;
+            }
+            stride = factor;
+        }
+        stride
+    }
+
+    /// Whether each event has room for its own words.
+    pub fn has_room(&self) -> bool {
+        self.stride() == 1
+    }
+}
+
+/// The share of a room that a part has in a whole, to the nearest; all of it in a whole of nothing.
+fn share(room: u64, part: u64, whole: u64) -> u64 {
+    let doubled = room
+        .saturating_mul(part)
+        .saturating_mul(2)
+        .saturating_add(whole);
+    doubled.checked_div(whole.saturating_mul(2)).unwrap_or(room)
+}

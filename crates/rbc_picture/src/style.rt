@@ -1,0 +1,38 @@
+//! How things look: each kind of thing has a class of its own, each train one for its colour and one for its dashes.
+
+ghost use Rattle.std.specs.Prelude.{◌≡◌, ◌%◌, ◌/◌};
+
+/// The style sheet.
+pub const STYLE: &str = ".bar{fill:currentColor;fill-opacity:.3;stroke:currentColor}
+.front{fill:none;stroke:currentColor;stroke-width:2;stroke-linejoin:round}
+.sign{fill:currentColor;stroke:currentColor;stroke-width:1.5}
+.hollow{fill:#fff}
+.cut{fill:none;stroke:currentColor;stroke-width:1.5;stroke-dasharray:4 3}
+.even{fill:#fff}
+.odd{fill:#f1f4f8}
+.section{stroke:#cfd5dc}
+.border{stroke:#333;stroke-width:2;stroke-dasharray:10 5}
+.event{stroke:#e4e8ed}
+text{fill:#222}
+.small{font-size:11px;fill:#555}
+.silent{fill:#aaa;font-style:italic}
+.name{font-size:11px;font-weight:bold;fill:currentColor;stroke:#fff;stroke-width:3px;paint-order:stroke}
+.c0{color:#1f6fb4}.c1{color:#d96b00}.c2{color:#2a9134}.c3{color:#c8282d}
+.c4{color:#7d4fb3}.c5{color:#8a5a3c}.c6{color:#d0468f}.c7{color:#0b8f99}
+.d1{stroke-dasharray:8 3}.d2{stroke-dasharray:3 3}.d3{stroke-dasharray:10 3 2 3}.d4{stroke-dasharray:1 3}
+.d5{stroke-dasharray:14 4}.d6{stroke-dasharray:6 2 2 2}.d7{stroke-dasharray:2 6}
+";
+
+/// The colour of a train, one of eight.
+pub fn colour_of(train: u8) -> u8
+    ensures { result ≡ train % 8 }
+{
+    train % 8
+}
+
+/// The dashes of a train, one of eight: trains of one colour have other dashes.
+pub fn dashes_of(train: u8) -> u8
+    ensures { result ≡ train / 8 % 8 }
+{
+    train / 8 % 8
+}
