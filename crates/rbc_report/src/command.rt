@@ -1,5 +1,6 @@
 ghost use Rattle.rbc_status.specs.Statuses.{IsStatus};
 
+use crate::diagram::draw_printed;
 use crate::explain::explain;
 use crate::files::Files;
 use crate::in_words::{show_message, tell_printed};
@@ -37,5 +38,6 @@ fn obey<'a, S: AsStr, F: Files, O: Write>(
         Request::Run { file, script } => run(alloc, file, script, files, out),
         Request::Message { digits } => show_message(alloc, digits, out),
         Request::Printed { file, printed } => tell_printed(alloc, file, printed, files, out),
+        Request::Picture { file, printed } => draw_printed(alloc, file, printed, files, out),
     }
 }

@@ -17,6 +17,8 @@ pub enum Request<'a> {
     Message { digits: &'a str },
     /// Say what `run` printed in words.
     Printed { file: &'a str, printed: &'a str },
+    /// Draw what `run` printed.
+    Picture { file: &'a str, printed: &'a str },
 }
 
 /// Reads the words behind the program's name.
@@ -40,6 +42,11 @@ fn named<'a>(matches: &ArgMatches<'a>) -> Option<Request<'a>> {
     }
     if let Some(words) = matches.subcommand_matches("words") {
         return named_words(words);
+    }
+    if let Some(picture) = matches.subcommand_matches("picture") {
+        let file = picture.get_str("FILE")?;
+        let printed = picture.get_str("PRINTED")?;
+        return Some(Request::Picture { file, printed });
     }
     named_run(matches)
 }
@@ -73,7 +80,8 @@ fn rbcline<'a>(alloc: Global) -> Result<Command<'a>, AllocError> {
     let command = command.subcommand(check(alloc)?)?;
     let command = command.subcommand(explain(alloc)?)?;
     let command = command.subcommand(run(alloc)?)?;
-    command.subcommand(words(alloc)?)
+    let command = command.subcommand(words(alloc)?)?;
+    command.subcommand(picture(alloc)?)
 }
 
 fn check<'a>(alloc: Global) -> Result<Command<'a>, AllocError> {
@@ -108,6 +116,14 @@ fn words<'a>(alloc: Global) -> Result<Command<'a>, AllocError> {
         .help("The message in hexadecimal, of a train or of a centre")
         .exclusive(true);
     let command = command.arg(message)?;
+    let command = command.arg(file(alloc, "FILE", "The line file"))?;
+    command.arg(file(alloc, "PRINTED", "What `run` printed"))
+}
+
+fn picture<'a>(alloc: Global) -> Result<Command<'a>, AllocError> {
+    let command = Command::new(alloc, "picture").about(
+        "Draws what a run printed as a time-distance diagram, in SVG",
+    );
     let command = command.arg(file(alloc, "FILE", "The line file"))?;
     command.arg(file(alloc, "PRINTED", "What `run` printed"))
 }
