@@ -1,6 +1,6 @@
 //! The diagram of what `run` printed.
 
-use crate::fault::Fault;
+use rbc_status::Fault;
 use crate::files::Files;
 use crate::run::line_in;
 use rbc_picture::picture;
