@@ -12,8 +12,8 @@ use Rattle.rbc_line.proofs.Lists.{find-position_none}
 use Rattle.rbc_book.specs.Book.{Pages, entry_at, wish_at}
 use Rattle.rbc_right.specs.Rights.{Rights, is_here}
 use Rattle.rbc_session.specs.Sessions.{Records, phase_at}
-use Rattle.rbc_session.specs.Standing.{standing_phase}
-use Rattle.rbc_centre.specs.Standings.{Stands}
+use Rattle.rbc_session.specs.SessionStates.{session_phase}
+use Rattle.rbc_centre.specs.SessionStates.{Stands}
 use Rattle.rbc_centre.specs.State.{stands_for, of_trains, right_at, unknown_state, IsUnknown}
 use Rattle.rbc_centre.specs.declared.train.TrainState.{TrainState}
 
@@ -34,7 +34,7 @@ get_at (y ∷ ys) (suc i) d x h = get_at ys i d x h
 module _ (line : Line) (states : List TrainState) (each : (i : ℕ) (p : TrainState) → slice_get states i ≡ Some p → IsUnknown line i p) where
   -- a part that is the same of each train
   part_at_all : {X : Type 0} (part : TrainState → X) (none : X) → ((i t : ℕ) → part (unknown_state i t) ≡ none) → (i : ℕ) (o : Option TrainState) → slice_get states i ≡ o → option_map_or part o none ≡ none
-  part_at_all part none same i (Some p) at = ap part ((each i p at).state) ∙ same i p.course.engine
+  part_at_all part none same i (Some p) at = ap part ((each i p at).state) ∙ same i p.supervision.engine
   part_at_all part none same i None at = refl
 
   of_all : {X : Type 0} (part : TrainState → X) (none : X) → ((i t : ℕ) → part (unknown_state i t) ≡ none) → (t : ℕ) → of_trains part none line states t ≡ none
@@ -59,10 +59,10 @@ module _ (line : Line) (states : List TrainState) (each : (i : ℕ) (p : TrainSt
     clock = 0;
     book = λ s. shut s i;
     wish = λ s. unwished s i;
-    phase = λ t. of_all (λ p. standing_phase p.standing) centre.Silent (λ j u. refl) t i;
+    phase = λ t. of_all (λ p. session_phase p.session_state) centre.Closed (λ j u. refl) t i;
     heard = λ t. of_all (λ p. p.heard) None (λ j u. refl) t i;
     said = λ t. of_all (λ p. p.said) 0 (λ j u. refl) t i;
-    mission = λ t. of_all (λ p. p.course.mission) None (λ j u. refl) t i;
+    mission = λ t. of_all (λ p. p.supervision.mission) None (λ j u. refl) t i;
     has_right = λ t. right_at_home c t rights here i;
   }
 
@@ -71,8 +71,8 @@ module _ (line : Line) (states : List TrainState) (each : (i : ℕ) (p : TrainSt
   pub none_said : (i : ℕ) (p : TrainState) → slice_get states i ≡ Some p → p.said ≤ 0
   none_said i p at = let said : p.said ≡ 0 = ap (λ (q : TrainState). q.said) ((each i p at).state) in omega (arith, said)
 
-  pub numbers : (t i : ℕ) (p : TrainState) → train_number line t ≡ Some i → slice_get states i ≡ Some p → p.course.number ≡ i
-  numbers t i p number at = ap (λ (q : TrainState). q.course.number) ((each i p at).state)
+  pub numbers : (t i : ℕ) (p : TrainState) → train_number line t ≡ Some i → slice_get states i ≡ Some p → p.supervision.number ≡ i
+  numbers t i p number at = ap (λ (q : TrainState). q.supervision.number) ((each i p at).state)
 
   no_train : Train
   no_train = record { nid_engine = 0; registrar = 0 }
@@ -84,17 +84,17 @@ module _ (line : Line) (states : List TrainState) (each : (i : ℕ) (p : TrainSt
       let same : q.nid_engine ≡ e = cc in
       sym same ∙ eqb-true q.nid_engine t passes
 
-  pub engines : (t i : ℕ) (p : TrainState) → train_number line t ≡ Some i → slice_get states i ≡ Some p → p.course.engine ≡ t
-  engines t i p number at = engine_at t i p.course.engine (slice_get line.trains i) number refl ((each i p at).engine)
+  pub engines : (t i : ℕ) (p : TrainState) → train_number line t ≡ Some i → slice_get states i ≡ Some p → p.supervision.engine ≡ t
+  engines t i p number at = engine_at t i p.supervision.engine (slice_get line.trains i) number refl ((each i p at).engine)
 
-  pub no_groups : (i : ℕ) (p : TrainState) (m : Mission) → slice_get states i ≡ Some p → p.course.mission ≡ Some m → m.place.group ≤ 16777215
-  no_groups i p m at mission = let e : None ≡ Some m = sym (ap (λ (q : TrainState). q.course.mission) ((each i p at).state)) ∙ mission in cc
+  pub no_groups : (i : ℕ) (p : TrainState) (m : Mission) → slice_get states i ≡ Some p → p.supervision.mission ≡ Some m → m.place.group ≤ 16777215
+  no_groups i p m at mission = let e : None ≡ Some m = sym (ap (λ (q : TrainState). q.supervision.mission) ((each i p at).state)) ∙ mission in cc
 
   -- no session stands with a train that was never heard
-  pub silent_everywhere : (sessions : Records) → ((u : ℕ) → phase_at sessions u ≡ centre.Silent)
-      → (t i : ℕ) (p : TrainState) → train_number line t ≡ Some i → slice_get states i ≡ Some p → Stands sessions p.standing t
-  silent_everywhere sessions silent t i p number at =
-      subst (λ (q : TrainState). Stands sessions q.standing t) (sym ((each i p at).state)) (silent t, λ key absent. cc)
+  pub closed_everywhere : (sessions : Records) → ((u : ℕ) → phase_at sessions u ≡ centre.Closed)
+      → (t i : ℕ) (p : TrainState) → train_number line t ≡ Some i → slice_get states i ≡ Some p → Stands sessions p.session_state t
+  closed_everywhere sessions closed t i p number at =
+      subst (λ (q : TrainState). Stands sessions q.session_state t) (sym ((each i p at).state)) (closed t, λ key absent. cc)
 
 -- one more train
 pub each_more : (line : Line) (states more : List TrainState) (train : TrainState) (e : ℕ) → more ≡ states ++ train ∷ [] → train ≡ unknown_state (length states) e
@@ -104,8 +104,8 @@ each_more line states more train e pushed is engine each i p at = by_place i (sy
   where
     last : IsUnknown line (length states) train
     last = record {
-      state = is ∙ ap (λ n. unknown_state (length states) n) (sym (ap (λ (q : TrainState). q.course.engine) is));
-      engine = engine ∙ ap (λ n. Some n) (sym (ap (λ (q : TrainState). q.course.engine) is));
+      state = is ∙ ap (λ n. unknown_state (length states) n) (sym (ap (λ (q : TrainState). q.supervision.engine) is));
+      engine = engine ∙ ap (λ n. Some n) (sym (ap (λ (q : TrainState). q.supervision.engine) is));
     }
 
     of_last : (n : ℕ) (q : TrainState) → n ≡ length states → train ≡ q → IsUnknown line n q

@@ -1,6 +1,6 @@
 pub mod Puts
 pub mod Rules
-pub mod Standings
+pub mod SessionStates
 pub mod States
 pub mod Begins
 pub mod Turns

@@ -5,13 +5,13 @@ use Rattle.rbc_spec.specs.Line.{Line}
 use Rattle.rbc_spec.specs.Place.{Place, Position, fit_place, place_on}
 use Rattle.rbc_spec.specs.Message.{TrainBody, TrainData, Request, Report, ShorteningGranted, ShorteningRejected, EndOfMission, InitiationOfSession, TerminationOfSession, StartOfMission, SessionEstablished}
 use Rattle.rbc_spec.specs.Outcome.{Reason, NoPlace, NoTrainData, ProposalPending, Unasked}
-use Rattle.rbc_spec.specs.Centre.{Centre, Phase, Silent, Opened, Up, Mission, Proposal}
+use Rattle.rbc_spec.specs.Centre.{Centre, Phase, Closed, Opened, Up, Mission, Proposal}
 use Rattle.rbc_mission.specs.Deeds as deeds
 use Rattle.rbc_mission.specs.Deeds.{Deed, OpenSession, EstablishSession, CloseSession, RejectStart, Restart, Start, TakeData, Grant, Clear, End, ClearAndEnd, DropProposal, Cut, Rule, rule_of, rule_under_way, unless, if_asked, start_at, grant_at, cut_at, supervised, if_up, closing, establishing}
 use Rattle.rbc_centre.specs.Sessions.{session_of, phase_after}
-use Rattle.rbc_centre.specs.declared.session_act.SessionAct.TheVariants as act
+use Rattle.rbc_centre.specs.declared.session_deed.SessionDeed.TheVariants as session_deed
 
--- the phase by the act on the session is that by the deed
+-- the phase by what is done to the session is that by the deed
 pub phase_same : (deed : Deed) (phase : Phase) → phase_after (session_of deed) phase ≡ deeds.phase_after deed phase
 phase_same OpenSession phase = refl
 phase_same EstablishSession phase = refl
@@ -28,7 +28,7 @@ phase_same DropProposal phase = refl
 phase_same (Cut keep) phase = refl
 
 -- a session is opened by that deed alone, and confirmed by that one
-pub opens : (deed : Deed) → session_of deed ≡ act.Open → deed ≡ OpenSession
+pub opens : (deed : Deed) → session_of deed ≡ session_deed.Open → deed ≡ OpenSession
 opens OpenSession e = refl
 opens EstablishSession e = cc
 opens CloseSession e = cc
@@ -43,7 +43,7 @@ opens (ClearAndEnd place count) e = cc
 opens DropProposal e = cc
 opens (Cut keep) e = cc
 
-pub confirms : (deed : Deed) → session_of deed ≡ act.Establish → deed ≡ EstablishSession
+pub confirms : (deed : Deed) → session_of deed ≡ session_deed.Establish → deed ≡ EstablishSession
 confirms OpenSession e = cc
 confirms EstablishSession e = refl
 confirms CloseSession e = cc
@@ -116,7 +116,7 @@ asked_other stamp m deed other = or_other m.proposal (λ p. if p.stamp == stamp 
     by_stamp false p = of_err Unasked
 
 up_other : (phase : Phase) (rule : Rule) → LeavesSessions rule → LeavesSessions (if_up phase rule)
-up_other Silent rule other = of_err _
+up_other Closed rule other = of_err _
 up_other Opened rule other = of_err _
 up_other Up rule other = other
 
@@ -154,12 +154,12 @@ module _ (line : Line) (c : ℕ) (k : Centre) (t : ℕ) where
   begin_other phase mission is_valid position = up_other phase _ (of_deed _ (start_other mission (fit_place line is_valid position)))
 
   closing_opens_none : (phase : Phase) → closing phase ≡ Ok OpenSession → ⊥
-  closing_opens_none Silent e = cc
+  closing_opens_none Closed e = cc
   closing_opens_none Opened e = cc
   closing_opens_none Up e = cc
 
   establishing_opens_none : (phase : Phase) → establishing phase ≡ Ok OpenSession → ⊥
-  establishing_opens_none Silent e = cc
+  establishing_opens_none Closed e = cc
   establishing_opens_none Opened e = cc
   establishing_opens_none Up e = cc
 
@@ -177,12 +177,12 @@ module _ (line : Line) (c : ℕ) (k : Centre) (t : ℕ) where
   opened_by_initiation phase mission (EndOfMission position) e = absurd (not_both (way_other phase mission (EndOfMission position) OpenSession e))
 
   closing_confirms_none : (phase : Phase) → closing phase ≡ Ok EstablishSession → ⊥
-  closing_confirms_none Silent e = cc
+  closing_confirms_none Closed e = cc
   closing_confirms_none Opened e = cc
   closing_confirms_none Up e = cc
 
   establishing_was_opened : (phase : Phase) → establishing phase ≡ Ok EstablishSession → phase ≡ Opened
-  establishing_was_opened Silent e = cc
+  establishing_was_opened Closed e = cc
   establishing_was_opened Opened e = refl
   establishing_was_opened Up e = cc
 

@@ -8,9 +8,9 @@ use Rattle.rbc_spec.specs.Line.{Line, Train, train_number}
 use Rattle.rbc_right.specs.Rights.{Rights, is_here}
 use Rattle.rbc_session.specs.Sessions.{Records}
 use Rattle.rbc_spec.specs.Centre.{Phase}
-use Rattle.rbc_centre.specs.Standings.{Enters, Stands}
+use Rattle.rbc_centre.specs.SessionStates.{Enters, Stands}
 use Rattle.rbc_centre.specs.State.{of_trains, right_at}
-use Rattle.rbc_centre.proofs.Standings.{stands_for_train, stands_with_train}
+use Rattle.rbc_centre.proofs.SessionStates.{stands_for_train, stands_with_train}
 use Rattle.rbc_centre.specs.declared.train.TrainState.{TrainState}
 
 -- ## Lists
@@ -118,12 +118,12 @@ other_train line t u i j at_t at_u apart same = apart (let e : Some j ≡ Some i
 
 -- what stands with each train, behind a change of one
 pub each_stands_after : (line : Line) (old new : Records) (states : List TrainState) (t i : ℕ) (state : TrainState) (phase : Phase) → i < length states → train_number line t ≡ Some i
-    → Enters old new state.standing t phase → ((u j : ℕ) (p : TrainState) → train_number line u ≡ Some j → slice_get states j ≡ Some p → Stands old p.standing u)
-    → (u j : ℕ) (p : TrainState) → train_number line u ≡ Some j → slice_get (set states i state) j ≡ Some p → Stands new p.standing u
+    → Enters old new state.session_state t phase → ((u j : ℕ) (p : TrainState) → train_number line u ≡ Some j → slice_get states j ≡ Some p → Stands old p.session_state u)
+    → (u j : ℕ) (p : TrainState) → train_number line u ≡ Some j → slice_get (set states i state) j ≡ Some p → Stands new p.session_state u
 each_stands_after line old new states t i state phase within at_t enters each u j p at_u found =
-    each_after (λ n q. train_number line u ≡ Some n → Stands new q.standing u) states i state within
-    (λ at. subst (λ (x : ℕ). Stands new state.standing x) (same_train line u t i at at_t) (stands_with_train new state.standing t enters.stands))
-    (λ n q apart at number. stands_with_train new q.standing u (enters.others q.standing u (other_train line t u i n at_t number apart) (stands_for_train old q.standing u (each u n q number at))))
+    each_after (λ n q. train_number line u ≡ Some n → Stands new q.session_state u) states i state within
+    (λ at. subst (λ (x : ℕ). Stands new state.session_state x) (same_train line u t i at at_t) (stands_with_train new state.session_state t enters.stands))
+    (λ n q apart at number. stands_with_train new q.session_state u (enters.others q.session_state u (other_train line t u i n at_t number apart) (stands_for_train old q.session_state u (each u n q number at))))
     j p found at_u
 
 -- what holds of each train of the line, by its number, behind a change of one

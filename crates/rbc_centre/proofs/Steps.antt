@@ -3,14 +3,14 @@ use Rattle.std.proofs.Common.{◌≡◌, ℕ, ◌+◌, ◌<◌, ◌≤◌, ◌&&
 use Rattle.std.specs.List.{list_any, range_with_len}
 use Rattle.std.proofs.lemmas.Bool.Decides.{nat_tests}
 use Rattle.rbc_spec.specs.Line.{Line, is_linked}
-use Rattle.rbc_spec.specs.Reach.{Alone}
+use Rattle.rbc_spec.specs.Reach.{Local}
 use Rattle.rbc_spec.specs.Message.{TrainMessage}
 use Rattle.rbc_spec.specs.Outcome.{Reason, Saying, Word, Outcome}
 use Rattle.rbc_spec.specs.Centre as centre
 use Rattle.rbc_spec.specs.Acts.{Reply}
 use Rattle.rbc_spec.specs.Step as step
 use Rattle.rbc_spec.specs.Step.{Event, Train, Set, Unset, Effect}
-use Rattle.rbc_alone.specs.Alone.{IsAloneAt}
+use Rattle.rbc_local.specs.Local.{IsLocalAt}
 use Rattle.rbc_msgs.specs.StepMessage.{step_message}
 use Rattle.rbc_book.specs.Book.{Pages}
 use Rattle.rbc_right.specs.Rights.{Rights}
@@ -22,10 +22,10 @@ use Rattle.rbc_centre.specs.declared.train.TrainState.{TrainState}
 use Rattle.rbc_mission.proofs.Silences.{none_of}
 use Rattle.rbc_centre.proofs.Silences.{ticked_is}
 
--- a clock that ticks leaves a centre alone
-pub alone_later : (line : Line) (c old clock : ℕ) (pages : Pages) (rights : Rights) (states : List TrainState) → IsAloneAt line c (stands_for line c old pages rights states) → IsAloneAt line c (stands_for line c clock pages rights states)
+-- a clock that ticks leaves a centre local
+pub local_later : (line : Line) (c old clock : ℕ) (pages : Pages) (rights : Rights) (states : List TrainState) → IsLocalAt line c (stands_for line c old pages rights states) → IsLocalAt line c (stands_for line c clock pages rights states)
 unfolding stands_for
-alone_later line c old clock pages rights states a = record {
+local_later line c old clock pages rights states a = record {
   taken = a.taken;
   not_out = a.not_out;
   foreign = a.foreign;
@@ -57,13 +57,13 @@ module _ (line : Line) (c clock : ℕ) (old_book new_book : Pages) (old_rights n
   left = stands_for line c (clock + 1) new_book new_rights new
 
   -- what is said and told, and the state that is left, are those of the step
-  pub stands_behind : (event : Event) → step.stamp_of k event ≡ clock + 1 → (silence : Option Reason) → step.effect Alone line c (step.ticked (clock + 1) k) event ≡ record { reply = replied left sayings words; link = None; silence = silence }
-      → outcome ≡ spoken (clock + 1) sayings words silence → (outcome, left) ≡ step.taken Alone line c event k
+  pub stands_behind : (event : Event) → step.stamp_of k event ≡ clock + 1 → (silence : Option Reason) → step.effect Local line c (step.ticked (clock + 1) k) event ≡ record { reply = replied left sayings words; link = None; silence = silence }
+      → outcome ≡ spoken (clock + 1) sayings words silence → (outcome, left) ≡ step.taken Local line c event k
   unfolding stands_for centre.beginning
   stands_behind event stamp silence effect o =
       ap (λ (x : Outcome). (x, left)) o
       ∙ ap (λ (e : Effect). (step.outcome_of (clock + 1) k e, step.state_after (clock + 1) k e)) (sym effect)
-      ∙ ap (λ n. (step.outcome_of n k (step.effect Alone line c (step.ticked n k) event), step.state_after n k (step.effect Alone line c (step.ticked n k) event))) (sym stamp)
+      ∙ ap (λ n. (step.outcome_of n k (step.effect Local line c (step.ticked n k) event), step.state_after n k (step.effect Local line c (step.ticked n k) event))) (sym stamp)
 
   abbrev later : centre.Centre
   later = stands_for line c (clock + 1) old_book old_rights old
@@ -75,17 +75,17 @@ module _ (line : Line) (c clock : ℕ) (old_book new_book : Pages) (old_rights n
   is_later = ticked_is line c clock (clock + 1) old_book old_rights old
 
   -- a message that is answered
-  pub answer_stands : (m : TrainMessage) → outcome ≡ spoken (clock + 1) sayings words None → replied left sayings words ≡ step.hear_and_answer Alone line c m later
-      → step.silence line c later m ≡ None → (outcome, left) ≡ step.taken Alone line c (Train m) k
+  pub answer_stands : (m : TrainMessage) → outcome ≡ spoken (clock + 1) sayings words None → replied left sayings words ≡ step.hear_and_answer Local line c m later
+      → step.silence line c later m ≡ None → (outcome, left) ≡ step.taken Local line c (Train m) k
   unfolding stands_for
   answer_stands m o r h =
       let silent : step.silence line c (step.ticked (clock + 1) k) m ≡ None = ap (λ (x : centre.Centre). step.silence line c x m) is_later ∙ h in
-      let reply : step.hear_and_answer Alone line c m (step.ticked (clock + 1) k) ≡ replied left sayings words = ap (λ (x : centre.Centre). step.hear_and_answer Alone line c m x) is_later ∙ sym r in
+      let reply : step.hear_and_answer Local line c m (step.ticked (clock + 1) k) ≡ replied left sayings words = ap (λ (x : centre.Centre). step.hear_and_answer Local line c m x) is_later ∙ sym r in
       stands_behind (Train m) refl None (rw silent (ap (effect_of None) reply)) o
 
   -- a message that is silent
   pub silent_stands : (m : TrainMessage) (why : Reason) → outcome ≡ spoken (clock + 1) sayings words (Some why) → replied left sayings words ≡ replied later [] []
-      → step.silence line c later m ≡ Some why → (outcome, left) ≡ step.taken Alone line c (Train m) k
+      → step.silence line c later m ≡ Some why → (outcome, left) ≡ step.taken Local line c (Train m) k
   unfolding stands_for
   silent_stands m why o r h =
       let silent : step.silence line c (step.ticked (clock + 1) k) m ≡ Some why = ap (λ (x : centre.Centre). step.silence line c x m) is_later ∙ h in
@@ -93,11 +93,11 @@ module _ (line : Line) (c clock : ℕ) (old_book new_book : Pages) (old_rights n
       stands_behind (Train m) refl (Some why) (rw silent (ap (effect_of (Some why)) reply)) o
 
   -- what the interlocking says
-  pub set_stands : (s : ℕ) → outcome ≡ spoken (clock + 1) sayings words None → replied left sayings words ≡ step.set line c s later → (outcome, left) ≡ step.taken Alone line c (Set s) k
+  pub set_stands : (s : ℕ) → outcome ≡ spoken (clock + 1) sayings words None → replied left sayings words ≡ step.set line c s later → (outcome, left) ≡ step.taken Local line c (Set s) k
   unfolding stands_for
   set_stands s o r = stands_behind (Set s) refl None (ap (effect_of None) (ap (step.set line c s) is_later ∙ sym r)) o
 
-  pub unset_stands : (s : ℕ) → outcome ≡ spoken (clock + 1) sayings words None → replied left sayings words ≡ step.unset line c s later → (outcome, left) ≡ step.taken Alone line c (Unset s) k
+  pub unset_stands : (s : ℕ) → outcome ≡ spoken (clock + 1) sayings words None → replied left sayings words ≡ step.unset line c s later → (outcome, left) ≡ step.taken Local line c (Unset s) k
   unfolding stands_for
   unset_stands s o r = stands_behind (Unset s) refl None (ap (effect_of None) (ap (step.unset line c s) is_later ∙ sym r)) o
 
@@ -146,13 +146,13 @@ module _ (line : Line) (event : Event) (c clock : ℕ) (pages : Pages) (rights :
   unfolding stands_for
   clock_of = refl
 
-  pub refused_step : 1073741823 ≤ clock → step.step Alone line c event at ≡ Err step.ClockEnd
+  pub refused_step : 1073741823 ≤ clock → step.step Local line c event at ≡ Err step.ClockEnd
   unfolding step.step
   refused_step late = rw (refusal_at_end line event c at brings (rw clock_of late)) refl
 
-  pub taken_step : (p : Outcome × centre.Centre) → clock < 1073741823 → p ≡ step.taken Alone line c event at → step.step Alone line c event at ≡ Ok p
+  pub taken_step : (p : Outcome × centre.Centre) → clock < 1073741823 → p ≡ step.taken Local line c event at → step.step Local line c event at ≡ Ok p
   unfolding step.step
   taken_step p early t = rw (no_refusal early) (ap (λ q. Ok q) (sym t))
 
-  pub not_refused : clock < 1073741823 → step.step Alone line c event at ≡ Ok (step.taken Alone line c event at)
-  not_refused early = taken_step (step.taken Alone line c event at) early refl
+  pub not_refused : clock < 1073741823 → step.step Local line c event at ≡ Ok (step.taken Local line c event at)
+  not_refused early = taken_step (step.taken Local line c event at) early refl

@@ -7,13 +7,13 @@ use Rattle.rbc_spec.specs.Centre as centre
 use Rattle.rbc_spec.specs.Centre.{Entry, Shut, Open, Taken, Out, Mission, is_unused, is_taken_for, is_out_for}
 use Rattle.rbc_spec.specs.Acts.{Reply, propose_if_so}
 use Rattle.rbc_spec.specs.Step as step
-use Rattle.rbc_alone.specs.Alone.{IsAloneAt, hand_has}
-use Rattle.rbc_alone.proofs.Steps.{set_stays, unset_stays}
+use Rattle.rbc_local.specs.Local.{IsLocalAt, hand_has}
+use Rattle.rbc_local.proofs.Steps.{set_stays, unset_stays}
 use Rattle.rbc_book.specs.Book.{Pages, is_own, entry_at, wish_at}
 use Rattle.rbc_book.specs.Answers.{unset_answer}
 use Rattle.rbc_book.specs.declared.answer.Unset.TheVariants as Unset
 use Rattle.rbc_right.specs.Rights.{Rights}
-use Rattle.rbc_session.specs.Standing.{standing_phase}
+use Rattle.rbc_session.specs.SessionStates.{session_phase}
 use Rattle.rbc_rules.specs.Tellings.{wishing}
 use Rattle.rbc_rules.proofs.Tellings.{shut_at_once, asked_of_taken, left_at_unset, opened_at_once, kept_in_use, left_at_set}
 use Rattle.rbc_centre.specs.Answers.{asked}
@@ -52,9 +52,9 @@ module _ (line : Line) (c clock : ℕ) (old new : Pages) (rights : Rights) (stat
         (λ i. replied (record k { book = λ n. entries n i; wish = λ n. wishes n i }) [] (NotHome s ∷ []))
         ∙ sym (left_at_set line c s k (sym home ∙ own))
 
-    pub set_alone : IsAloneAt line c k → IsAloneAt line c left
-    set_alone alone =
-        subst (λ (r : Reply). IsAloneAt line c r.state) (sym (set_turns (is_own old s) (is_unused (entry_at old s)) refl refl)) ((set_stays line c s k alone).state)
+    pub set_local : IsLocalAt line c k → IsLocalAt line c left
+    set_local local =
+        subst (λ (r : Reply). IsLocalAt line c r.state) (sym (set_turns (is_own old s) (is_unused (entry_at old s)) refl refl)) ((set_stays line c s k local).state)
 
   module _ (entry : (n : ℕ) → entry_at new n ≡ (if (is_own old s && is_unused (entry_at old s)) && (n == s) then Shut else entry_at old n))
       (wish : (n : ℕ) → wish_at new n ≡ (if is_own old s && (n == s) then not (is_unused (entry_at old s)) else wish_at old n)) where
@@ -72,19 +72,19 @@ module _ (line : Line) (c clock : ℕ) (old new : Pages) (rights : Rights) (stat
         (λ i. replied (record k { book = λ n. entries n i; wish = λ n. wishes n i }) [] (NotHome s ∷ []))
         ∙ sym (left_at_unset line c s k (sym home ∙ own))
 
-    pub unset_alone : (own : Bool) → is_own old s ≡ own → (own ≡ true → is_unused (entry_at old s) ≡ true) → IsAloneAt line c k → IsAloneAt line c left
-    unset_alone own is never alone = subst (λ (r : Reply). IsAloneAt line c r.state) (sym (unset_turns own is never)) ((unset_stays line c s k alone).state)
+    pub unset_local : (own : Bool) → is_own old s ≡ own → (own ≡ true → is_unused (entry_at old s) ≡ true) → IsLocalAt line c k → IsLocalAt line c left
+    unset_local own is never local = subst (λ (r : Reply). IsLocalAt line c r.state) (sym (unset_turns own is never)) ((unset_stays line c s k local).state)
 
     -- a section that is in use for a train
     module _ (t i : ℕ) (before after : TrainState) (sayings : List Saying) (own : is_own old s ≡ true) (taken : entry_at old s ≡ Taken t)
         (number : train_number line t ≡ Some i) (at : slice_get states i ≡ Some before) (within : i < length states)
-        (standing : after.standing ≡ before.standing) (heard : after.heard ≡ before.heard)
+        (session_state : after.session_state ≡ before.session_state) (heard : after.heard ≡ before.heard)
         (asks : (j : centre.Centre) → HasTrain j t before → propose_if_so line t s j ≡ asked t after sayings j) where
       wishing_is : HasTrain (wishing s k) t before
       unfolding stands_for
       wishing_is = record {
-        phase_is = sym (part_of_train (λ p. standing_phase p.standing) centre.Silent line states t i before number at);
-        mission_is = sym (part_of_train (λ p. p.course.mission) None line states t i before number at);
+        phase_is = sym (part_of_train (λ p. session_phase p.session_state) centre.Closed line states t i before number at);
+        mission_is = sym (part_of_train (λ p. p.supervision.mission) None line states t i before number at);
         said_is = sym (part_of_train (λ p. p.said) 0 line states t i before number at);
       }
 
@@ -103,33 +103,33 @@ module _ (line : Line) (c clock : ℕ) (old new : Pages) (rights : Rights) (stat
           (λ j. replied (record k {
             book = λ n. entries n j;
             wish = λ n. wishes n j;
-            phase = λ u. same_part (λ p. standing_phase p.standing) centre.Silent (ap standing_phase standing) u j;
+            phase = λ u. same_part (λ p. session_phase p.session_state) centre.Closed (ap session_phase session_state) u j;
             heard = λ u. same_part (λ p. p.heard) None heard u j;
             said = λ u. of_trains-set (λ p. p.said) 0 line states t i after number within u j;
-            mission = λ u. of_trains-set (λ p. p.course.mission) None line states t i after number within u j;
+            mission = λ u. of_trains-set (λ p. p.supervision.mission) None line states t i after number within u j;
           }) sayings (Asked s ∷ []))
           ∙ sym (asked_of_taken line c s t k (asked t after sayings (wishing s k)) (sym home ∙ own) taken (asks (wishing s k) wishing_is))
 
-      pub asked_alone : IsAloneAt line c k → IsAloneAt line c (stands_for line c clock new rights (set states i after))
-      asked_alone alone = subst (λ (r : Reply). IsAloneAt line c r.state) (sym asked_turns) ((unset_stays line c s k alone).state)
+      pub asked_local : IsLocalAt line c k → IsLocalAt line c (stands_for line c clock new rights (set states i after))
+      asked_local local = subst (λ (r : Reply). IsLocalAt line c r.state) (sym asked_turns) ((unset_stays line c s k local).state)
 
-  -- at a centre that is alone, a section in use is so for a train of the line
-  pub user_stands : IsAloneAt line c k → (e : Entry) → entry_at old s ≡ e → is_unused e ≡ false → (t : ℕ) × (e ≡ Taken t)
+  -- at a centre that is local, a section in use is so for a train of the line
+  pub user_stands : IsLocalAt line c k → (e : Entry) → entry_at old s ≡ e → is_unused e ≡ false → (t : ℕ) × (e ≡ Taken t)
   unfolding stands_for
-  user_stands alone Shut is used = cc
-  user_stands alone Open is used = cc
-  user_stands alone (Taken t) is used = (t, refl)
-  user_stands alone (Out t d) is used =
-      let out : is_out_for t d (Out t d) ≡ false = ap (is_out_for t d) (sym is) ∙ alone.not_out s t d in
+  user_stands local Shut is used = cc
+  user_stands local Open is used = cc
+  user_stands local (Taken t) is used = (t, refl)
+  user_stands local (Out t d) is used =
+      let out : is_out_for t d (Out t d) ≡ false = ap (is_out_for t d) (sym is) ∙ local.not_out s t d in
       let no = rw (eq-eqb t t refl, eq-eqb d d refl) at out in cc
 
-  pub user_number : IsAloneAt line c k → (t : ℕ) → entry_at old s ≡ Taken t → (o : Option ℕ) → train_number line t ≡ o → o ≡ None → ⊥
+  pub user_number : IsLocalAt line c k → (t : ℕ) → entry_at old s ≡ Taken t → (o : Option ℕ) → train_number line t ≡ o → o ≡ None → ⊥
   unfolding stands_for
-  user_number alone t taken (Some i) number none = cc
-  user_number alone t taken None number none =
+  user_number local t taken (Some i) number none = cc
+  user_number local t taken None number none =
       let here : is_taken_for t (Taken t) ≡ true = eq-eqb t t refl in
       let no : true ≡ false =
-      sym here ∙ ap (is_taken_for t) (sym taken) ∙ alone.taken s t ∙ ap (λ o. hand_has o s) (sym (part_of_foreign (λ p. p.course.mission) None line states t number))
+      sym here ∙ ap (is_taken_for t) (sym taken) ∙ local.taken s t ∙ ap (λ o. hand_has o s) (sym (part_of_foreign (λ p. p.supervision.mission) None line states t number))
       in cc
 
 -- what a book answers to an unset says whether the section is in use

@@ -1,7 +1,7 @@
 pub mod Sessions
 pub mod Answers
-pub mod Standings
+pub mod SessionStates
 pub mod Views
 pub mod State
-pub mod Meaning
+pub mod States
 pub mod Answer

@@ -5,8 +5,8 @@ use Rattle.rbc_spec.specs.Line.{Line, train_number}
 use Rattle.rbc_spec.specs.Centre as centre
 use Rattle.rbc_book.specs.Book.{Pages, entry_at, wish_at}
 use Rattle.rbc_right.specs.Rights.{Rights, is_here}
-use Rattle.rbc_session.specs.Standing.{standing_phase}
-use Rattle.rbc_session.specs.declared.session.Standing.TheVariants as standing
+use Rattle.rbc_session.specs.SessionStates.{session_phase}
+use Rattle.rbc_session.specs.declared.session.SessionState.TheVariants as session_state
 use Rattle.rbc_centre.specs.declared.train.TrainState.{TrainState}
 
 -- what is kept of a train of the line
@@ -28,24 +28,24 @@ stands_for line number clock pages rights trains = record (centre.beginning line
   clock = clock;
   book = entry_at pages;
   wish = wish_at pages;
-  phase = of_trains (λ p. standing_phase p.standing) centre.Silent line trains;
+  phase = of_trains (λ p. session_phase p.session_state) centre.Closed line trains;
   heard = of_trains (λ p. p.heard) None line trains;
   said = of_trains (λ p. p.said) 0 line trains;
-  mission = of_trains (λ p. p.course.mission) None line trains;
+  mission = of_trains (λ p. p.supervision.mission) None line trains;
   has_right = right_at line rights;
 }
 
 -- what is kept of a train that was never heard, by its place in the line file and its NID_ENGINE
 abbrev pub unknown_state : ℕ → ℕ → TrainState
-unknown_state i t = record { standing = standing.Silent; heard = None; said = 0; course = record { number = i; engine = t; mission = None } }
+unknown_state i t = record { session_state = session_state.Closed; heard = None; said = 0; supervision = record { number = i; engine = t; mission = None } }
 
 -- the state is of the train at place i of the line file, which was never heard
 pub record IsUnknown (line : Line) (i : ℕ) (p : TrainState) : Type 0 where
-  pub state : p ≡ unknown_state i p.course.engine
-  pub engine : option_map (λ q. q.nid_engine) (slice_get line.trains i) ≡ Some p.course.engine
+  pub state : p ≡ unknown_state i p.supervision.engine
+  pub engine : option_map (λ q. q.nid_engine) (slice_get line.trains i) ≡ Some p.supervision.engine
 
 -- centre k has this session and this mission of train t, and has said so many messages to it
 pub record HasTrain (k : centre.Centre) (t : ℕ) (p : TrainState) : Type 0 where
-  pub phase_is : k.phase t ≡ standing_phase p.standing
-  pub mission_is : k.mission t ≡ p.course.mission
+  pub phase_is : k.phase t ≡ session_phase p.session_state
+  pub mission_is : k.mission t ≡ p.supervision.mission
   pub said_is : k.said t ≡ p.said

@@ -9,7 +9,7 @@ use Rattle.rbc_centre.specs.declared.event.Event.{Event}
 use Rattle.rbc_centre.specs.declared.event.Event.TheVariants.{Train, Set, Unset}
 use Rattle.rbc_centre.specs.declared.fault.StepFault.{StepFault}
 use Rattle.rbc_centre.specs.declared.fault.StepFault.TheVariants as fault
-use Rattle.rbc_rules.specs.declared.silence.Silence.{Silence}
+use Rattle.rbc_rules.specs.declared.reason.Reason.{Reason as ReasonCode}
 use Rattle.rbc_centre.specs.declared.outcome.Saying.{Saying as SayingCode}
 use Rattle.rbc_centre.specs.declared.outcome.Word.{Word}
 use Rattle.rbc_centre.specs.declared.outcome.Word.TheVariants as word
@@ -57,6 +57,6 @@ number_of_fault fault.LinkFull = 2
 number_of_fault fault.ClockEnd = 3
 
 -- why a message is left without an answer
-abbrev pub why_of : {X : Type 0} → Result X Silence → Option Reason
+abbrev pub why_of : {X : Type 0} → Result X ReasonCode → Option Reason
 why_of (Ok x) = None
 why_of (Err why) = Some (reason_of why)

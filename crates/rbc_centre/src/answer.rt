@@ -3,13 +3,13 @@ ghost use Rattle.rbc_spec.specs.Line.{Line};
 ghost use Rattle.rbc_spec.specs.Message.{ShorteningRequest};
 ghost use Rattle.rbc_spec.specs.Centre.{Mission};
 ghost use Rattle.rbc_mission.specs.Deeds as deeds;
-ghost use Rattle.rbc_rules.specs.Acts.{deed_of};
+ghost use Rattle.rbc_rules.specs.Deeds.{deed_of};
 ghost use Rattle.rbc_rules.specs.Decisions.{EndsThere};
 ghost use Rattle.rbc_centre.specs.Answers.{answer_seen, HasGroup};
 
 use rbc_msgs::{NID_LRBG_UNKNOWN, TrackBody};
 use rbc_packets::Authority;
-use rbc_rules::Act;
+use rbc_rules::Deed;
 use rbc_vars::{LEndsection, TTrain};
 
 /// What a train is answered: the balise group that the message counts from, or `NID_LRBG_UNKNOWN`, and what it says.
@@ -43,32 +43,32 @@ impl Answer {
         }
     }
 
-    /// What the train of a message with this T_TRAIN is answered to an act, if anything.
-    pub(crate) fn of(act: Act, t_train: u32) -> Option<Answer>
-        requires { HasGroup act }
-        ensures body { (line : Line) (mission : Option Mission) → EndsThere line mission act → option_map answer_seen result ≡ deeds.answer_of line t_train (deed_of act) mission }
+    /// What the train of a message with this T_TRAIN is answered to a deed, if anything.
+    pub(crate) fn of(deed: Deed, t_train: u32) -> Option<Answer>
+        requires { HasGroup deed }
+        ensures body { (line : Line) (mission : Option Mission) → EndsThere line mission deed → option_map answer_seen result ≡ deeds.answer_of line t_train (deed_of deed) mission }
         ensures group { IfSome result (λ a. a.nid_lrbg < 16777216) }
     {
-        match act {
-            Act::OpenSession => Some(Answer::plain(TrackBody::SystemVersion)),
-            Act::CloseSession => Some(Answer::plain(TrackBody::TerminationAcknowledged)),
-            Act::RejectStart => Some(Answer::plain(TrackBody::TrainRejected)),
-            Act::Restart(_) | Act::Start(_, _) => Some(Answer::plain(TrackBody::TrainAccepted)),
-            Act::TakeData => Some(Answer::plain(TrackBody::DataAcknowledged(TTrain::new(u64::from(
+        match deed {
+            Deed::OpenSession => Some(Answer::plain(TrackBody::SystemVersion)),
+            Deed::CloseSession => Some(Answer::plain(TrackBody::TerminationAcknowledged)),
+            Deed::RejectStart => Some(Answer::plain(TrackBody::TrainRejected)),
+            Deed::Restart(_) | Deed::Start(_, _) => Some(Answer::plain(TrackBody::TrainAccepted)),
+            Deed::TakeData => Some(Answer::plain(TrackBody::DataAcknowledged(TTrain::new(u64::from(
                 t_train,
             ))))),
-            Act::Extend(place, grant) => Some(Answer {
+            Deed::Extend(place, grant) => Some(Answer {
                 nid_lrbg: place.group,
                 body: TrackBody::Authority(Authority {
                     l_endsection: LEndsection::new(u64::from(grant.end)),
                 }),
             }),
-            Act::EstablishSession
-            | Act::Clear(_, _)
-            | Act::End
-            | Act::ClearAndEnd(_, _)
-            | Act::DropProposal
-            | Act::Cut(_) => None,
+            Deed::EstablishSession
+            | Deed::Clear(_, _)
+            | Deed::End
+            | Deed::ClearAndEnd(_, _)
+            | Deed::DropProposal
+            | Deed::Cut(_) => None,
         }
     }
 }

@@ -3,14 +3,14 @@ ghost use Rattle.rbc_spec.specs.Line.{is_centre, is_home, train_number};
 ghost use Rattle.rbc_spec.specs.Centre.{Mission, beginning};
 ghost use Rattle.rbc_spec.specs.Step as spec;
 ghost use Rattle.rbc_spec.specs.Reach as reach;
-ghost use Rattle.rbc_alone.specs.Alone.{IsOrdered, IsAloneAt};
+ghost use Rattle.rbc_local.specs.Local.{IsOrdered, IsLocalAt};
 ghost use Rattle.rbc_book.specs.Book.{is_own};
 ghost use Rattle.rbc_book.specs.Entries.{entry_of};
 ghost use Rattle.rbc_rules.specs.Desks.{mission_by};
 ghost use Rattle.rbc_msgs.specs.StepMessage.{step_message};
-ghost use Rattle.rbc_session.specs.Standing.{phase_of};
+ghost use Rattle.rbc_session.specs.SessionStates.{phase_of};
 ghost use Rattle.rbc_centre.specs.Answer.{Steps, IsWantedBy};
-ghost use Rattle.rbc_centre.specs.Standings.{Stands};
+ghost use Rattle.rbc_centre.specs.SessionStates.{Stands};
 ghost use Rattle.rbc_centre.specs.State.{stands_for, IsUnknown};
 ghost use Rattle.rbc_centre.specs.Views.{event_of, outcome_of};
 ghost use Rattle.rbc_centre.specs.declared.train.TrainState.{TrainState};
@@ -48,13 +48,13 @@ pub struct Centre {
     ghost ordered: { IsOrdered line },
     ghost in_time: { clock ≤ 1073741823 },
     ghost own_sections: { (s : ℕ) → is_own book s ≡ is_home line number s },
-    ghost alone: { IsAloneAt line number (stands_for line number clock book registrar trains.items) },
+    ghost local: { IsLocalAt line number (stands_for line number clock book registrar trains.items) },
     ghost each_right: { length registrar ≡ length line.trains },
     ghost each_train: { length trains.items ≡ length line.trains },
-    ghost each_number: { (t i : ℕ) → (p : TrainState) → train_number line t ≡ Some i → slice_get trains.items i ≡ Some p → p.course.number ≡ i },
-    ghost each_engine: { (t i : ℕ) → (p : TrainState) → train_number line t ≡ Some i → slice_get trains.items i ≡ Some p → p.course.engine ≡ t },
-    ghost each_group: { (i : ℕ) → (p : TrainState) → (m : Mission) → slice_get trains.items i ≡ Some p → p.course.mission ≡ Some m → m.place.group < 16777216 },
-    ghost each_stands: { (t i : ℕ) → (p : TrainState) → train_number line t ≡ Some i → slice_get trains.items i ≡ Some p → Stands sessions p.standing t },
+    ghost each_number: { (t i : ℕ) → (p : TrainState) → train_number line t ≡ Some i → slice_get trains.items i ≡ Some p → p.supervision.number ≡ i },
+    ghost each_engine: { (t i : ℕ) → (p : TrainState) → train_number line t ≡ Some i → slice_get trains.items i ≡ Some p → p.supervision.engine ≡ t },
+    ghost each_group: { (i : ℕ) → (p : TrainState) → (m : Mission) → slice_get trains.items i ≡ Some p → p.supervision.mission ≡ Some m → m.place.group < 16777216 },
+    ghost each_stands: { (t i : ℕ) → (p : TrainState) → train_number line t ≡ Some i → slice_get trains.items i ≡ Some p → Stands sessions p.session_state t },
     ghost counted: { (i : ℕ) → (p : TrainState) → slice_get trains.items i ≡ Some p → p.said ≤ clock },
 }
 
@@ -75,14 +75,14 @@ impl Drop for Centre {
 }
 
 impl Centre {
-    ghost use Rattle.rbc_centre.specs.Meaning.{line_of, number_of, meaning};
+    ghost use Rattle.rbc_centre.specs.States.{line_of, number_of, state_of};
 
     /// A centre of the line at its beginning. It keeps a copy of the line.
     pub fn new(alloc: Global, line: &Line, number: u8) -> Result<Centre, AllocError>
         requires { is_centre line.now number ≡ true }
         ensures line { IfOk result (λ k. line_of k ≡ line.now) }
         ensures number { IfOk result (λ k. number_of k ≡ number) }
-        ensures beginning { IfOk result (λ k. meaning k ≡ beginning line.now number) }
+        ensures beginning { IfOk result (λ k. state_of k ≡ beginning line.now number) }
     {
         let line = line.copied(alloc)?;
         let mut book = Book::new(alloc, &line, number)?;
@@ -109,18 +109,18 @@ impl Centre {
 
     /// What the centre's book has of a section; a number of no section is shut.
     pub fn page(&self, s: u16) -> Page
-        ensures entry { entry_of result.entry ≡ (meaning self.now).book s }
-        ensures wish { result.is_wished ≡ (meaning self.now).wish s }
+        ensures entry { entry_of result.entry ≡ (state_of self.now).book s }
+        ensures wish { result.is_wished ≡ (state_of self.now).wish s }
     {
         self.book.page(s)
     }
 
     /// What the centre keeps of a train; a foreign engine was never heard.
     pub fn train(&self, nid_engine: u32) -> TrainPage
-        ensures phase { phase_of result.phase ≡ (meaning self.now).phase nid_engine }
-        ensures heard { result.heard ≡ (meaning self.now).heard nid_engine }
-        ensures said { result.said ≡ (meaning self.now).said nid_engine }
-        ensures mission { mission_by result.mission result.hand ≡ (meaning self.now).mission nid_engine }
+        ensures phase { phase_of result.phase ≡ (state_of self.now).phase nid_engine }
+        ensures heard { result.heard ≡ (state_of self.now).heard nid_engine }
+        ensures said { result.said ≡ (state_of self.now).said nid_engine }
+        ensures mission { mission_by result.mission result.hand ≡ (state_of self.now).mission nid_engine }
     {
         match self.line.train_number(nid_engine) {
             Some(i) => self.trains[i as usize].page(),
@@ -130,9 +130,9 @@ impl Centre {
 
     /// Says whether a further step has a stamp: it is refused as `ClockEnd` where the last stamp is used.
     pub fn may_step(&self) -> Result<(), StepFault>
-        ensures ok { OnOk result ((event : EventInMemory) → IsOk (spec.step reach.Alone (line_of self.now) (number_of self.now) (event_of event) (meaning self.now))) }
+        ensures ok { OnOk result ((event : EventInMemory) → IsOk (spec.step reach.Local (line_of self.now) (number_of self.now) (event_of event) (state_of self.now))) }
         ensures err { IfErr result (λ fault. (fault ≡ ClockEnd) × ((event : EventInMemory)
-            → spec.step reach.Alone (line_of self.now) (number_of self.now) (event_of event) (meaning self.now) ≡ Err spec.ClockEnd)) }
+            → spec.step reach.Local (line_of self.now) (number_of self.now) (event_of event) (state_of self.now) ≡ Err spec.ClockEnd)) }
     {
         if self.clock < LAST_STAMP {
             return Ok(());
@@ -145,10 +145,10 @@ impl Centre {
     pub fn step(&mut self, event: &Event) -> Result<Outcome, StepFault>
         ensures line { line_of self.new ≡ line_of self.old }
         ensures number { number_of self.new ≡ number_of self.old }
-        ensures exact { Steps (λ o. (outcome_of o, meaning self.new)) result
-            (spec.step reach.Alone (line_of self.old) (number_of self.old) (event_of event.now) (meaning self.old)) }
+        ensures exact { Steps (λ o. (outcome_of o, state_of self.new)) result
+            (spec.step reach.Local (line_of self.old) (number_of self.old) (event_of event.now) (state_of self.old)) }
         ensures memory { IsWantedBy (event_of event.now) result }
-        ensures err { OnErr result (meaning self.new ≡ meaning self.old) }
+        ensures err { OnErr result (state_of self.new ≡ state_of self.old) }
     {
         if self.clock >= LAST_STAMP {
             return Err(StepFault::ClockEnd);
@@ -164,10 +164,10 @@ impl Centre {
     pub fn hear(&mut self, message: &TrainMsg) -> Result<Outcome, StepFault>
         ensures line { line_of self.new ≡ line_of self.old }
         ensures number { number_of self.new ≡ number_of self.old }
-        ensures exact { Steps (λ o. (outcome_of o, meaning self.new)) result
-            (spec.step reach.Alone (line_of self.old) (number_of self.old) (spec.Train (step_message message.now)) (meaning self.old)) }
+        ensures exact { Steps (λ o. (outcome_of o, state_of self.new)) result
+            (spec.step reach.Local (line_of self.old) (number_of self.old) (spec.Train (step_message message.now)) (state_of self.old)) }
         ensures memory { IsWantedBy (spec.Train (step_message message.now)) result }
-        ensures err { OnErr result (meaning self.new ≡ meaning self.old) }
+        ensures err { OnErr result (state_of self.new ≡ state_of self.old) }
     {
         if self.clock < LAST_STAMP {
             self.take(message)

@@ -6,20 +6,20 @@ ghost use Rattle.rbc_spec.specs.Step as spec;
 ghost use Rattle.rbc_spec.specs.Reach as reach;
 ghost use Rattle.rbc_msgs.specs.StepMessage.{step_body, step_message};
 ghost use Rattle.rbc_mission.specs.Deeds.{rule_of, OpenSession};
-ghost use Rattle.rbc_rules.specs.Acts.{deed_of};
+ghost use Rattle.rbc_rules.specs.Deeds.{deed_of};
 ghost use Rattle.rbc_rules.specs.Decisions.{Fits, EndsThere};
 ghost use Rattle.rbc_session.specs.Sessions.{HasRoom};
 ghost use Rattle.rbc_centre.specs.Answer.{Steps, IsWantedBy};
-ghost use Rattle.rbc_centre.specs.Meaning.{line_of, number_of, meaning, IsSame};
+ghost use Rattle.rbc_centre.specs.States.{line_of, number_of, state_of, IsSame};
 ghost use Rattle.rbc_centre.specs.Views.{outcome_of, why_of};
 
 use crate::answer::Answer;
 use crate::centre::Centre;
 use crate::fault::StepFault;
 use crate::outcome::Outcome;
-use crate::session_act::SessionAct;
+use crate::session_deed::SessionDeed;
 use rbc_msgs::TrainMsg;
-use rbc_rules::{Act, Silence, carry_out, decide};
+use rbc_rules::{Deed, Reason, carry_out, decide};
 use std::alloc::AllocError;
 
 impl Centre {
@@ -28,15 +28,15 @@ impl Centre {
         requires { self.old.clock < 1073741823 }
         ensures line { line_of self.new ≡ line_of self.old }
         ensures number { number_of self.new ≡ number_of self.old }
-        ensures exact { Steps (λ o. (outcome_of o, meaning self.new)) result
-            (Ok (spec.taken reach.Alone (line_of self.old) (number_of self.old) (spec.Train (step_message message.now)) (meaning self.old))) }
+        ensures exact { Steps (λ o. (outcome_of o, state_of self.new)) result
+            (Ok (spec.taken reach.Local (line_of self.old) (number_of self.old) (spec.Train (step_message message.now)) (state_of self.old))) }
         ensures memory { IsWantedBy (spec.Train (step_message message.now)) result }
-        ensures err { OnErr result (meaning self.new ≡ meaning self.old) }
+        ensures err { OnErr result (state_of self.new ≡ state_of self.old) }
     {
-        match self.act_of(message) {
-            Ok((i, act)) => {
-                self.make_room(act)?;
-                Ok(self.answer(i, message, act))
+        match self.decision(message) {
+            Ok((i, deed)) => {
+                self.make_room(deed)?;
+                Ok(self.answer(i, message, deed))
             }
             Err(why) => {
                 self.clock += 1;
@@ -45,33 +45,33 @@ impl Centre {
         }
     }
 
-    // Room for the session that the act opens. Nothing else changes.
-    fn make_room(&mut self, act: Act) -> Result<(), AllocError>
+    // Room for the session that the deed opens. Nothing else changes.
+    fn make_room(&mut self, deed: Deed) -> Result<(), AllocError>
         ensures same { IsSame self.old self.new }
-        ensures room { OnOk result (deed_of act ≡ OpenSession → HasRoom self.new.sessions) }
-        ensures err { OnErr result (deed_of act ≡ OpenSession) }
+        ensures room { OnOk result (deed_of deed ≡ OpenSession → HasRoom self.new.sessions) }
+        ensures err { OnErr result (deed_of deed ≡ OpenSession) }
     {
-        match act {
-            Act::OpenSession => self.sessions.reserve(),
+        match deed {
+            Deed::OpenSession => self.sessions.reserve(),
             _ => Ok(()),
         }
     }
 
     // The number of the message's train in the line file, and what the message comes to; or why it is left without an answer.
-    fn act_of(&self, message: &TrainMsg) -> Result<(usize, Act), Silence>
+    fn decision(&self, message: &TrainMsg) -> Result<(usize, Deed), Reason>
         ensures number { IfOk result (λ p. train_number (line_of self.now) message.now.nid_engine ≡ Some p.0) }
-        ensures rule { IfOk result (λ p. rule_of (line_of self.now) (number_of self.now) (meaning self.now) message.now.nid_engine
-            ((meaning self.now).phase message.now.nid_engine) ((meaning self.now).mission message.now.nid_engine) (step_body message.now.body) ≡ Ok (deed_of p.1)) }
-        ensures fits { IfOk result (λ p. Fits self.now.book self.now.registrar p.0 ((meaning self.now).mission message.now.nid_engine) p.1) }
-        ensures end { IfOk result (λ p. EndsThere (line_of self.now) ((meaning self.now).mission message.now.nid_engine) p.1) }
-        ensures silence { (clock : ℕ) → spec.silence (line_of self.now) (number_of self.now) (spec.ticked clock (meaning self.now)) (step_message message.now) ≡ why_of result }
+        ensures rule { IfOk result (λ p. rule_of (line_of self.now) (number_of self.now) (state_of self.now) message.now.nid_engine
+            ((state_of self.now).phase message.now.nid_engine) ((state_of self.now).mission message.now.nid_engine) (step_body message.now.body) ≡ Ok (deed_of p.1)) }
+        ensures fits { IfOk result (λ p. Fits self.now.book self.now.registrar p.0 ((state_of self.now).mission message.now.nid_engine) p.1) }
+        ensures end { IfOk result (λ p. EndsThere (line_of self.now) ((state_of self.now).mission message.now.nid_engine) p.1) }
+        ensures silence { (clock : ℕ) → spec.silence (line_of self.now) (number_of self.now) (spec.ticked clock (state_of self.now)) (step_message message.now) ≡ why_of result }
     {
         let Some(i) = self.line.train_number(message.nid_engine()) else {
-            return Err(Silence::ForeignEngine);
+            return Err(Reason::ForeignEngine);
         };
         let train = &self.trains[i as usize];
         if train.is_stale(message.t_train()) {
-            return Err(Silence::StaleStamp);
+            return Err(Reason::StaleStamp);
         }
         match decide(
             &self.line,
@@ -81,37 +81,42 @@ impl Centre {
             &train.known(),
             message.body(),
         ) {
-            Ok(act) => Ok((i as usize, act)),
+            Ok(deed) => Ok((i as usize, deed)),
             Err(why) => Err(why),
         }
     }
 
     // The step of a message that is not silent, from train number i of the line.
-    fn answer(&mut self, i: usize, message: &TrainMsg, act: Act) -> Outcome
+    fn answer(&mut self, i: usize, message: &TrainMsg, deed: Deed) -> Outcome
         requires time { self.old.clock < 1073741823 }
         requires number { train_number (line_of self.old) message.now.nid_engine ≡ Some i }
-        requires rule { rule_of (line_of self.old) (number_of self.old) (meaning self.old) message.now.nid_engine
-            ((meaning self.old).phase message.now.nid_engine) ((meaning self.old).mission message.now.nid_engine) (step_body message.now.body) ≡ Ok (deed_of act) }
-        requires fits { Fits self.old.book self.old.registrar i ((meaning self.old).mission message.now.nid_engine) act }
-        requires end { EndsThere (line_of self.old) ((meaning self.old).mission message.now.nid_engine) act }
-        requires heard { (clock : ℕ) → spec.silence (line_of self.old) (number_of self.old) (spec.ticked clock (meaning self.old)) (step_message message.now) ≡ None }
-        requires room { deed_of act ≡ OpenSession → HasRoom self.old.sessions }
+        requires rule { rule_of (line_of self.old) (number_of self.old) (state_of self.old) message.now.nid_engine
+            ((state_of self.old).phase message.now.nid_engine) ((state_of self.old).mission message.now.nid_engine) (step_body message.now.body) ≡ Ok (deed_of deed) }
+        requires fits { Fits self.old.book self.old.registrar i ((state_of self.old).mission message.now.nid_engine) deed }
+        requires end { EndsThere (line_of self.old) ((state_of self.old).mission message.now.nid_engine) deed }
+        requires heard { (clock : ℕ) → spec.silence (line_of self.old) (number_of self.old) (spec.ticked clock (state_of self.old)) (step_message message.now) ≡ None }
+        requires room { deed_of deed ≡ OpenSession → HasRoom self.old.sessions }
         ensures line { line_of self.new ≡ line_of self.old }
         ensures number { number_of self.new ≡ number_of self.old }
-        ensures exact { (outcome_of result, meaning self.new)
-            ≡ spec.taken reach.Alone (line_of self.old) (number_of self.old) (spec.Train (step_message message.now)) (meaning self.old) }
+        ensures exact { (outcome_of result, state_of self.new)
+            ≡ spec.taken reach.Local (line_of self.old) (number_of self.old) (spec.Train (step_message message.now)) (state_of self.old) }
     {
         self.clock += 1;
         let nid_engine = message.nid_engine();
         let train = &mut self.trains[i];
         train.hear(
             &mut self.sessions,
-            SessionAct::of(act),
+            SessionDeed::of(deed),
             nid_engine,
             message.t_train(),
         );
-        let told = carry_out(act, &mut train.course, &mut self.book, &mut self.registrar);
-        let saying = train.say(nid_engine, Answer::of(act, message.t_train()));
+        let told = carry_out(
+            deed,
+            &mut train.supervision,
+            &mut self.book,
+            &mut self.registrar,
+        );
+        let saying = train.say(nid_engine, Answer::of(deed, message.t_train()));
         Outcome::said(self.clock, saying, told)
     }
 }

@@ -6,7 +6,7 @@ ghost use Rattle.rbc_spec.specs.Line.{train_number};
 ghost use Rattle.rbc_spec.specs.Step as step;
 ghost use Rattle.rbc_spec.specs.Reach as reach;
 ghost use Rattle.rbc_book.specs.Book.{entry_at};
-ghost use Rattle.rbc_centre.specs.Meaning.{line_of, number_of, meaning};
+ghost use Rattle.rbc_centre.specs.States.{line_of, number_of, state_of};
 ghost use Rattle.rbc_centre.specs.Views.{outcome_of};
 
 use crate::centre::Centre;
@@ -19,8 +19,8 @@ impl Centre {
         requires { self.old.clock < 1073741823 }
         ensures line { line_of self.new ≡ line_of self.old }
         ensures number { number_of self.new ≡ number_of self.old }
-        ensures exact { (outcome_of result, meaning self.new)
-            ≡ step.taken reach.Alone (line_of self.old) (number_of self.old) (step.Set s) (meaning self.old) }
+        ensures exact { (outcome_of result, state_of self.new)
+            ≡ step.taken reach.Local (line_of self.old) (number_of self.old) (step.Set s) (state_of self.old) }
     {
         self.clock += 1;
         match self.book.set(s) {
@@ -34,8 +34,8 @@ impl Centre {
         requires { self.old.clock < 1073741823 }
         ensures line { line_of self.new ≡ line_of self.old }
         ensures number { number_of self.new ≡ number_of self.old }
-        ensures exact { (outcome_of result, meaning self.new)
-            ≡ step.taken reach.Alone (line_of self.old) (number_of self.old) (step.Unset s) (meaning self.old) }
+        ensures exact { (outcome_of result, state_of self.new)
+            ≡ step.taken reach.Local (line_of self.old) (number_of self.old) (step.Unset s) (state_of self.old) }
     {
         let user = self.user_of(s);
         self.clock += 1;

@@ -6,7 +6,7 @@ ghost use Rattle.rbc_centre.specs.Views.{saying_of, sayings_of, word_of};
 use arrayvec::ArrayVec;
 use rbc_mission::Told;
 use rbc_msgs::{NID_LRBG_UNKNOWN, TrackBody, TrackMsg};
-use rbc_rules::Silence;
+use rbc_rules::Reason;
 
 /// A message to a train.
 #[derive(Clone, Copy, Debug, PartialEq, Eq)]
@@ -71,7 +71,7 @@ pub struct Outcome {
     /// The sections that were wished back and are shut now, of which the interlocking is told behind that.
     pub told: Told,
     /// Why a train's message was left without an answer.
-    pub silence: Option<Silence>,
+    pub silence: Option<Reason>,
 }
 
 impl Outcome {
@@ -79,7 +79,7 @@ impl Outcome {
     ghost use Rattle.rbc_rules.specs.Reasons.{reason_of};
 
     /// A step that does not answer.
-    pub(crate) fn silent(stamp: u32, why: Silence) -> Outcome
+    pub(crate) fn silent(stamp: u32, why: Reason) -> Outcome
         ensures { outcome_of result ≡ record { stamp = stamp; sayings = []; frames = λ d. []; words = []; link = None; silence = Some (reason_of why) } }
     {
         Outcome {

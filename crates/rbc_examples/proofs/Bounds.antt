@@ -9,7 +9,7 @@ use Rattle.std.proofs.lemmas.Bool.{and_parts}
 use Rattle.std.proofs.lemmas.Option.{slice_get_within}
 use Rattle.rbc_spec.specs.Line.{Line, Section, section, is_home}
 use Rattle.rbc_spec.specs.Sections.{section_count, is_on}
-use Rattle.rbc_spec.specs.Runs.{Run, within, behind, run_of}
+use Rattle.rbc_spec.specs.SectionRuns.{SectionRun, within, behind, run_of}
 use Rattle.rbc_spec.specs.Place.{Place, covers, covered}
 use Rattle.rbc_spec.specs.LineCentre.{LineState, Mark, Shut, Open, Kept, Given, is_given_to, free, mark_all, release, close_if_empty}
 use Rattle.rbc_spec.specs.OwnSteps.{shortened, is_cut_of, reported, is_cleared_of}
@@ -49,7 +49,7 @@ run_end test (suc n) a = by_test (test a) refl (run_end test n (a + 1))
 run_end_from_0 : (test : ℕ → Bool) (n : ℕ) → behind (run_of (filter test (range_with_len 0 n))) ≤ n
 run_end_from_0 test n = let end = run_end test n 0 in omega (arith, end)
 
-within_before : (r : Run) (n s : ℕ) → behind r ≤ n → within r s ≡ true → s < n
+within_before : (r : SectionRun) (n s : ℕ) → behind r ≤ n → within r s ≡ true → s < n
 unfolding within
 within_before r n s end so =
     let before : nat_lt s (behind r) ≡ true = (and_parts (nat_le r.first s) (nat_lt s (behind r)) so).1 in

@@ -20,9 +20,9 @@ pub mod HandoverMet
 pub mod RacesMet
 pub mod ThreeCentresMet
 pub mod Stands
-pub mod Alone
+pub mod Forced
 pub mod ConditionsMet
-pub mod AloneMet
+pub mod ForcedMet
 pub mod StrayFrames
 pub mod PlacesMet
 pub mod NotAllowed

@@ -1,7 +1,7 @@
 -- The steps of Limits, computed.
 use Rattle.std.proofs.Common.{◌≡◌, [], ◌∷◌, Ok, Err, None, refl}
 use Rattle.rbc_spec.specs.Reach.{Whole}
-use Rattle.rbc_spec.specs.Runs.{within, longest}
+use Rattle.rbc_spec.specs.SectionRuns.{within, longest}
 use Rattle.rbc_spec.specs.Line.{start, end}
 use Rattle.rbc_spec.specs.Place.{extent}
 use Rattle.rbc_spec.specs.Frame.{RouteAsk}

@@ -2,7 +2,7 @@
 use Rattle.std.proofs.Common.{◌≡◌, ◌≤◌, List, [], ◌∷◌, slice_get, Some, inl, inr, true≢false, refl, sym, ap, ◌∙◌, arith}
 use Rattle.std.specs.List.{list_all}
 use Rattle.std.proofs.lemmas.Option.{none-some}
-use Rattle.rbc_spec.specs.Runs.{within, longest}
+use Rattle.rbc_spec.specs.SectionRuns.{within, longest}
 use Rattle.rbc_spec.specs.Line.{start as line_start, end}
 use Rattle.rbc_spec.specs.Place.{extent}
 use Rattle.rbc_spec.specs.Outcome.{Outcome, Reason, Word, Told}

@@ -1,7 +1,7 @@
 -- That each thing stays in one place in scenes, computed.
 use Rattle.std.proofs.Common.{◌≡◌, true, false, refl, [], ◌∷◌}
 use Rattle.std.specs.List.{list_all}
-use Rattle.rbc_spec.specs.Runs.{within, longest}
+use Rattle.rbc_spec.specs.SectionRuns.{within, longest}
 use Rattle.rbc_spec.specs.Line.{start as line_start, end}
 use Rattle.rbc_spec.specs.Place.{extent}
 use Rattle.rbc_spec.specs.Centre.{beginning}

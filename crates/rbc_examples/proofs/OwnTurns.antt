@@ -1,7 +1,7 @@
 -- What comes of an event in Moves is an own step of the one line centre.
 use Rattle.std.proofs.Common.{◌≡◌, inl, inr, ℕ, ◌+◌, ◌-◌, ◌==◌, ◌≤◌, ◌<◌, true, false, ◌&&◌, ◌||◌, not, nat_le, nat_lt, List, Option, Some, None, Ok, Err, refl, sym, ap, ◌∙◌, arith, ⊎_elim}
 use Rattle.std.proofs.lemmas.Bool.{and_parts, leb-true, ltb-true, cases_Bool, cases_lt, eqb-true, or_cases, not-true}
-use Rattle.rbc_spec.specs.Runs.{Run, within, behind, all_of}
+use Rattle.rbc_spec.specs.SectionRuns.{SectionRun, within, behind, all_of}
 use Rattle.rbc_spec.specs.Line.{Line, is_centre, is_home, end}
 use Rattle.rbc_spec.specs.Sections.{section_count, is_on}
 use Rattle.rbc_spec.specs.Place.{Place, Position, covered, group_start, place_on, fit_place}
@@ -33,13 +33,13 @@ beyond line v t s bound past = ⊎_elim (λ (yes_given : is_given_to t (v.mark s
     (λ (not_given : is_given_to t (v.mark s) ≡ false). not_given) (cases_Bool (is_given_to t (v.mark s)))
 
 -- nor in a run that ends with the line
-outside : (hand : Run) (s : ℕ) → behind hand ≤ s → within hand s ≡ false
+outside : (hand : SectionRun) (s : ℕ) → behind hand ≤ s → within hand s ≡ false
 unfolding within
 outside hand s past = ⊎_elim
     (λ (yes_in : (nat_le hand.first s && nat_lt s (behind hand)) ≡ true). absurd (omega (arith, ltb-true s (behind hand) (and_parts _ _ yes_in).1)))
     (λ (not_in : (nat_le hand.first s && nat_lt s (behind hand)) ≡ false). not_in) (cases_Bool (nat_le hand.first s && nat_lt s (behind hand)))
 
-pub hand_is : (line : Line) (v : LineState) (t : ℕ) (hand : Run) → IsWithinLine line v.mark → is_hand line v t hand ≡ true → IsHand v t hand
+pub hand_is : (line : Line) (v : LineState) (t : ℕ) (hand : SectionRun) → IsWithinLine line v.mark → is_hand line v t hand ≡ true → IsHand v t hand
 hand_is line v t hand bound so = record {
   each = λ s. ⊎_elim
       (λ (small : s < section_count line). same (is_given_to t (v.mark s)) (within hand s)
@@ -51,7 +51,7 @@ hand_is line v t hand bound so = record {
 
 -- ## Requests
 
-end_is : (line : Line) (v : LineState) (c : ℕ) (place : Place) (hand : Run) → is_end line v c place hand ≡ true → Ends line v c place hand
+end_is : (line : Line) (v : LineState) (c : ℕ) (place : Place) (hand : SectionRun) → is_end line v c place hand ≡ true → Ends line v c place hand
 end_is line v c place hand so = ⊎_elim
     (λ (near : (not (is_on line place.track (behind hand)) || not (is_home line c (behind hand) && is_mark_open (v.mark (behind hand)))) ≡ true). ⊎_elim
     (λ (off : not (is_on line place.track (behind hand)) ≡ true). Ends.off_track (not-true _ off))
@@ -64,14 +64,14 @@ end_is line v c place hand so = ⊎_elim
     (or_cases _ _ so)
 
 -- the sections by which a hand is extended are of the line
-added_within : (line : Line) (v : LineState) (t c : ℕ) (place : Place) (r : Run)
+added_within : (line : Line) (v : LineState) (t c : ℕ) (place : Place) (r : SectionRun)
     → all_of (λ s. may_be_given line v c t s && is_on line place.track s) r ≡ true → (s : ℕ) → within r s ≡ true → s < section_count line
 unfolding within
 added_within line v t c place r each s so =
     let ends = and_parts _ _ so in
     on_within line place.track s (and_parts _ _ (each_of _ r.first r.count each s (leb-true r.first s ends.0) (ltb-true s (behind r) ends.1))).1
 
-extend_is : (line : Line) (v : LineState) (t c : ℕ) (place : Place) (hand : Run) (count : ℕ) → IsWithinLine line v.mark
+extend_is : (line : Line) (v : LineState) (t c : ℕ) (place : Place) (hand : SectionRun) (count : ℕ) → IsWithinLine line v.mark
     → Valid (Does line (Extends line v t c place)) (extend line v t c place hand count)
 extend_is line v t c place hand count bound = valid_allowed (Does line (Extends line v t c place)) _ _ (λ so.
     let parts = and_parts _ _ so in

@@ -6,10 +6,10 @@ use Rattle.std.proofs.lemmas.Bool.{and_parts, leb-true, ltb-true, cases_Bool, eq
 use Rattle.std.proofs.lemmas.Option.{none-some, same_Some}
 use Rattle.rbc_spec.specs.Line.{Line, is_home, start, next_centre}
 use Rattle.rbc_spec.specs.Sections.{section_count}
-use Rattle.rbc_spec.specs.Runs.{within}
+use Rattle.rbc_spec.specs.SectionRuns.{within}
 use Rattle.rbc_spec.specs.Place.{covered, group_start}
-use Rattle.rbc_spec.specs.Centre.{Phase, Silent, Opened, Up, is_up}
-use Rattle.rbc_spec.specs.LineCentre.{LineState, Mark, Shut, Open, Kept, Given, Mission, Supervisor, At, Parted, is_given_to, is_kept_for, is_mark_open, is_at, supervises, is_waiting_at}
+use Rattle.rbc_spec.specs.Centre.{Phase, Closed, Opened, Up, is_up}
+use Rattle.rbc_spec.specs.LineCentre.{LineState, Mark, Shut, Open, Kept, Given, LineMission, Supervisor, At, Parted, is_given_to, is_kept_for, is_mark_open, is_at, supervises, is_waiting_at}
 use Rattle.rbc_spec.specs.Quiet.{Quiet, Keep, Unkeep, Admit, Dismiss, LayDown, TakeUp, Propose, Order, EndOrder, TakesQuiet, TakesAll}
 use Rattle.rbc_lemmas.proofs.Lists.{none_is, each_of}
 use Rattle.rbc_examples.specs.Turns.{Turn, hand_of, parted_at, is_over_border, quiet_turn, quiet_turns}
@@ -32,7 +32,7 @@ kept_is t (Kept u) so = ap Kept (eqb-true u t so)
 kept_is t (Given u) so = absurd (true≢false (sym so))
 
 up_is : (phase : Phase) → is_up phase ≡ true → phase ≡ Up
-up_is Silent so = absurd (true≢false (sym so))
+up_is Closed so = absurd (true≢false (sym so))
 up_is Opened so = absurd (true≢false (sym so))
 up_is Up so = refl
 
@@ -53,7 +53,7 @@ abbrev pub IsQuiet : Line → LineState → Quiet → Turn → Type 0
 IsQuiet line v q = Does line (TakesQuiet line v q)
 
 -- a mission that is supervised at c is supervised there
-not_there : (v : LineState) (t c : ℕ) → supervises v c t ≡ false → (m : Mission) → v.mission t ≡ Some m → m.supervisor ≡ At c → ⊥
+not_there : (v : LineState) (t c : ℕ) → supervises v c t ≡ false → (m : LineMission) → v.mission t ≡ Some m → m.supervisor ≡ At c → ⊥
 not_there v t c not_so m of_train by = absurd (true≢false
     (sym (at_itself c m.supervisor by) ∙ sym (ap (λ o. option_map_or (λ n. is_at c n.supervisor) o false) of_train) ∙ not_so))
 

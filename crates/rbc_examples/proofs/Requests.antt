@@ -1,6 +1,6 @@
 -- What is seen of the scenes of Requests, computed.
 use Rattle.std.proofs.Common.{◌≡◌, refl}
-use Rattle.rbc_spec.specs.Runs.{within, longest}
+use Rattle.rbc_spec.specs.SectionRuns.{within, longest}
 use Rattle.rbc_spec.specs.Line.{start as line_start, end}
 use Rattle.rbc_spec.specs.Place.{extent}
 use Rattle.rbc_spec.specs.Centre.{beginning}

@@ -1,6 +1,6 @@
 -- The one line centre meets what the centres answer in the scenes of Shortening, computed.
 use Rattle.std.proofs.Common.{refl}
-use Rattle.rbc_spec.specs.Runs.{within, longest}
+use Rattle.rbc_spec.specs.SectionRuns.{within, longest}
 use Rattle.rbc_spec.specs.Line.{start as line_start, end}
 use Rattle.rbc_spec.specs.Place.{extent}
 use Rattle.rbc_spec.specs.Centre.{beginning}

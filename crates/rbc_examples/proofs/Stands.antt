@@ -4,7 +4,7 @@ use Rattle.std.specs.List.{Contains}
 use Rattle.std.proofs.Math.Seq.{drop-nil}
 use Rattle.std.proofs.lemmas.Bool.{cases_eq, cases_Bool, eqb-true, and_parts, leb-true, ltb-true}
 use Rattle.std.proofs.lemmas.Option.{none-some, same_Some}
-use Rattle.rbc_spec.specs.Runs.{Run, no_run, within, longest}
+use Rattle.rbc_spec.specs.SectionRuns.{SectionRun, no_run, within, longest}
 use Rattle.rbc_spec.specs.Line.{is_home, start as line_start, end}
 use Rattle.rbc_spec.specs.Centre as centre
 use Rattle.rbc_spec.specs.Place.{extent}
@@ -12,7 +12,7 @@ use Rattle.rbc_spec.specs.Centre.{beginning}
 use Rattle.rbc_spec.specs.Acts.{◌>>◌}
 use Rattle.rbc_spec.specs.Step.{step}
 use Rattle.rbc_spec.specs.World.{World, new_world, world_step}
-use Rattle.rbc_spec.specs.LineCentre.{LineState, Shut, Given, Mission, is_given_to, IsHand, line_beginning}
+use Rattle.rbc_spec.specs.LineCentre.{LineState, Shut, Given, LineMission, is_given_to, IsHand, line_beginning}
 use Rattle.rbc_spec.specs.ReadOff.{IsOnTheWay, IsHandOf, IsMissionOf, IsGiven, HasMark, StandsFor, seen, all_held, read_off}
 use Rattle.rbc_spec.specs.Frame.{Frame}
 use Rattle.rbc_examples.specs.Turns.{quiet_turns}
@@ -126,11 +126,11 @@ none_on_way a b f way =
 
 -- ## Hands
 
-record IsItsHand (t : ℕ) (hand : Run) : Type 0 where
+record IsItsHand (t : ℕ) (hand : SectionRun) : Type 0 where
   train_1 : t ≡ 1
   hand_is : hand ≡ record { first = 1; count = 1 }
 
-only_hand : (t : ℕ) (hand : Run) → IsHandOf w t hand → IsItsHand t hand
+only_hand : (t : ℕ) (hand : SectionRun) → IsHandOf w t hand → IsItsHand t hand
 unfolding its_mission
 only_hand t hand (IsHandOf.at_centre c m has is) =
     let its = only_mission c t m has.at_centre in
@@ -189,13 +189,13 @@ mark_is = each_section (λ s c. HasMark w s c (v.mark s))
 
 -- ## Missions
 
-mission_is : (t : ℕ) (m : Mission) → v.mission t ≡ Some m → IsMissionOf w t m
+mission_is : (t : ℕ) (m : LineMission) → v.mission t ≡ Some m → IsMissionOf w t m
 unfolding its_mission within longest line_start end extent beginning ◌>>◌ step new_world world_step line_beginning quiet_turns play world_after state_after
 mission_is t m = at_or (λ u. v.mission u ≡ Some m → IsMissionOf w u m) 1 t
     (λ so. subst (IsMissionOf w 1) (same_Some (seen 0 its_mission) m so) (IsMissionOf.supervised 0 its_mission (record { at_centre = refl })))
     (λ apart. rw apart (λ so. absurd (none-some m so)))
 
-each_mission : (t : ℕ) (m : Mission) → IsMissionOf w t m → v.mission t ≡ Some m
+each_mission : (t : ℕ) (m : LineMission) → IsMissionOf w t m → v.mission t ≡ Some m
 unfolding its_mission within longest line_start end extent beginning ◌>>◌ step new_world world_step line_beginning quiet_turns play world_after state_after
 each_mission t m (IsMissionOf.supervised c k has) =
     let its = only_mission c t k has.at_centre in
@@ -209,7 +209,7 @@ unfolding its_mission within longest line_start end extent beginning ◌>>◌ st
 seats t = at_or (λ u. length (all_held line w u) ≤ 1) 1 t (omega arith) (λ apart. rw apart (omega arith))
 
 -- section 1, and no other
-one : Run
+one : SectionRun
 one = record { first = 1; count = 1 }
 
 not_in_one : (s : ℕ) → (s == 1) ≡ false → within one s ≡ false
@@ -224,7 +224,7 @@ given_one : (s : ℕ) → is_given_to 1 (v.mark s) ≡ within one s
 unfolding one its_mission within longest line_start end extent beginning ◌>>◌ step new_world world_step line_beginning quiet_turns play world_after state_after
 given_one s = at_or (λ e. is_given_to 1 (v.mark e) ≡ within one e) 1 s refl (λ apart. rw (not_in_one s apart, apart) refl)
 
-hands_are : (t : ℕ) (hand : Run) → IsHandOf w t hand → IsHand v t hand
+hands_are : (t : ℕ) (hand : SectionRun) → IsHandOf w t hand → IsHand v t hand
 unfolding one
 hands_are t hand has =
     let its = only_hand t hand has in

@@ -10,7 +10,7 @@ pub mod Conditions
 pub mod Limits
 pub mod Turns
 pub mod Moves
-pub mod Alone
+pub mod Forced
 pub mod Pieces
 pub mod SceneMoves
 pub mod LateMoves

@@ -1,7 +1,7 @@
 -- Steps of a centre that are refused, frames of a centre to which it has no link, and a whole run.
 use Rattle.std.specs.Prelude.{ℕ, List, [], ◌∷◌, map, Option, Some, None, Result, Ok, Err}
 use Rattle.rbc_spec.specs.Reach.{Whole}
-use Rattle.rbc_spec.specs.Runs.{Run}
+use Rattle.rbc_spec.specs.SectionRuns.{SectionRun}
 use Rattle.rbc_spec.specs.Frame.{Frame, Body, GiveRight}
 use Rattle.rbc_spec.specs.Acts.{begun, ask_route}
 use Rattle.rbc_spec.specs.Outcome.{Outcome, Taken, Early, NoLink}
@@ -59,7 +59,7 @@ having_sent count = record (beginning line 0) { sent = λ d. times count (frame 
 -- ## The last section
 
 -- what is asked for behind a hand at a border
-abbrev pub asks_behind : Run → List Body
+abbrev pub asks_behind : SectionRun → List Body
 asks_behind hand =
     (ask_route 1 1 (record (begun line (record { track = 0; group = group_1; front = 16200; rear = None })) { hand = hand }) (beginning line 0)).frames 1
 

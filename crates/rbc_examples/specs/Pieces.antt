@@ -9,11 +9,11 @@ use Rattle.rbc_spec.specs.Place.{Place}
 use Rattle.rbc_spec.specs.Centre.{Phase}
 use Rattle.rbc_spec.specs.Step.{Refusal}
 use Rattle.rbc_spec.specs.World.{World, Event, Answer, Answered, NoCentre, NotSent, Fault, new_world, world_step, world_run}
-use Rattle.rbc_spec.specs.LineCentre.{LineState, Mark, Mission, line_beginning}
+use Rattle.rbc_spec.specs.LineCentre.{LineState, Mark, LineMission, line_beginning}
 use Rattle.rbc_spec.specs.Run as run
 use Rattle.rbc_spec.specs.Run.{spoken_in}
 use Rattle.rbc_spec.specs.ReadOff.{read_off, IsLineRun}
-use Rattle.rbc_spec.specs.Theorems.{IsOneCentreLine, RunsAlone}
+use Rattle.rbc_spec.specs.Theorems.{IsOneCentreLine, ForcedRun}
 use Rattle.rbc_examples.specs.Scene.{Scene, Happens}
 use Rattle.rbc_examples.specs.Moves.{Move, Shown, Speaks, Nowhere, NeverSent, BadBytes, Played, play}
 
@@ -28,7 +28,7 @@ pub record Side : Type 0 where
 
 -- and of the train
 pub record OfTrain : Type 0 where
-  pub mission : Option Mission
+  pub mission : Option LineMission
   pub sides : List Side
 
 -- the marks of the sections in order, those that are wished back, and what there is of each train
@@ -83,14 +83,14 @@ pub record IsMetByRun (line : Line) (scene : List Scene) (moves : List Move) : T
   pub is_run : run.Run line line_beginning (events_of moves) answers last
   pub read : sheet line (read_off line after) ≡ sheet line last
 
--- the same by a run that leaves the line centre no choice, on a line that one centre has alone
-pub record IsMetAlone (line : Line) (c : ℕ) (scene : List Scene) : Type 0 where
+-- the same by a run that leaves the line centre no choice, on a one-centre line
+pub record IsMetByForcedRun (line : Line) (c : ℕ) (scene : List Scene) : Type 0 where
   pub answers : List Answer
   pub after : World
   pub last : LineState
-  pub is_alone : IsOneCentreLine line c
+  pub one_centre : IsOneCentreLine line c
   pub ran : world_run Whole line (new_world line) (filter_map event_of scene) ≡ Ok (answers, after)
-  pub is_run : RunsAlone line line_beginning (filter_map event_of scene) answers last
+  pub is_run : ForcedRun line line_beginning (filter_map event_of scene) answers last
   pub read : sheet line (read_off line after) ≡ sheet line last
 
 -- what the centres answer to a scene, and the world that they leave, are as the main theorem says

@@ -3,7 +3,7 @@ use Rattle.std.specs.Prelude.{ℕ, zero, suc, ◌+◌, ◌==◌, ◌||◌, Bool,
 use Rattle.std.specs.List.{range_with_len, list_any, filter, find, zip, flat_map}
 use Rattle.std.specs.Option.{option_map_or}
 use Rattle.rbc_spec.specs.Reach.{Whole}
-use Rattle.rbc_spec.specs.Runs.{Run, no_run, within}
+use Rattle.rbc_spec.specs.SectionRuns.{SectionRun, no_run, within}
 use Rattle.rbc_spec.specs.Line.{Line, Section, Centre as CentreOfLine, section}
 use Rattle.rbc_spec.specs.Sections.{section_count}
 use Rattle.rbc_spec.specs.Place.{Position}
@@ -169,7 +169,7 @@ items l NotSent = NeverSent ∷ []
 items l (Fault number) = BadBytes number ∷ []
 
 -- the hand of train t in a frame
-abbrev pub yielded : ℕ → Body → Run
+abbrev pub yielded : ℕ → Body → SectionRun
 yielded t (Yield number u heard has_data is_ended place hand) = if u == t then hand else no_run
 yielded t body = no_run
 

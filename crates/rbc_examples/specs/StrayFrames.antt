@@ -2,14 +2,14 @@
 use Rattle.std.specs.Prelude.{ℕ, Bool, true, false, List, [], ◌∷◌, ◌++◌, map, Option, Some, None, Result, Ok, Err, ℤ, pos, ◌-ℤ◌}
 use Rattle.std.specs.List.{filter, filter_map, range_with_len}
 use Rattle.rbc_spec.specs.Reach.{Whole}
-use Rattle.rbc_spec.specs.Runs.{Run, no_run}
+use Rattle.rbc_spec.specs.SectionRuns.{SectionRun, no_run}
 use Rattle.rbc_spec.specs.Line.{Line}
 use Rattle.rbc_spec.specs.Sections.{section_count}
 use Rattle.rbc_spec.specs.Place.{Place}
 use Rattle.rbc_spec.specs.Frame.{Body, AskRight, GiveRight, RefuseRight, ReturnRight, RouteAsk, RouteInfo, RouteWithdraw, RouteReturn, Announce, Cancel, TakingOver, Yield}
 use Rattle.rbc_spec.specs.Outcome.{Saying, Word, Outcome, Taken as LinkAnswer, Next}
 use Rattle.rbc_spec.specs.Message.{Report}
-use Rattle.rbc_spec.specs.Centre.{Centre, Entry, Shut, Taken, Out, Phase, Silent, Up, Mission, Handing, Expectation}
+use Rattle.rbc_spec.specs.Centre.{Centre, Entry, Shut, Taken, Out, Phase, Closed, Up, Mission, Handing, Expectation}
 use Rattle.rbc_spec.specs.Acts.{Reply}
 use Rattle.rbc_spec.specs.Links.{received}
 use Rattle.rbc_spec.specs.Step.{Refusal, Deliver, step}
@@ -122,7 +122,7 @@ taking_over = centre_behind
 -- a train that a centre knows nothing of, whose right is here or not
 abbrev pub unknown_train : Bool → OfTrain
 unknown_train has_right = record {
-  phase = Silent;
+  phase = Closed;
   heard = None;
   said = 0;
   mission = None;
@@ -175,7 +175,7 @@ calm_at_b phase heard said e = record {
 }
 
 -- train 1's mission at A with this hand and handover
-abbrev pub mission_at_a : Run → Run → Option Handing → Mission
+abbrev pub mission_at_a : SectionRun → SectionRun → Option Handing → Mission
 mission_at_a hand pool handing = record {
   place = record { track = 0; group = group_1; front = 16200; rear = Some (pos 13900) };
   hand = hand;
@@ -213,11 +213,11 @@ abbrev pub strays_to_the_expecting : List Body
 strays_to_the_expecting = Announce 2 1 0 ∷ Cancel 2 1 ∷ Cancel 1 2 ∷ the_yield ∷ []
 
 -- a yield of this number and train, with this place's track, group and front, and hand
-abbrev pub yield_of : (number t track group : ℕ) → ℤ → Run → Body
+abbrev pub yield_of : (number t track group : ℕ) → ℤ → SectionRun → Body
 yield_of number t track group front hand =
     Yield number t 6 true false (record { track = track; group = group; front = front; rear = Some (pos 13900) }) hand
 
-abbrev pub one_to_six : Run
+abbrev pub one_to_six : SectionRun
 one_to_six = record { first = 1; count = 6 }
 
 -- under another number, of another train, with a track that is not the hand's, a group that is not of the line, a front before the group, an own
@@ -254,7 +254,7 @@ calm_announcing =
     calm_at_a (mission_at_a one_to_six (record { first = 7; count = 0 }) (Some (record { number = 1; to = 1; is_claimed = false }))) 6 6 (Some 7) 1
 
 abbrev pub calm_expecting : Effect
-calm_expecting = calm_at_b Silent None 0 (record { number = 1; is_taking = false })
+calm_expecting = calm_at_b Closed None 0 (record { number = 1; is_taking = false })
 
 abbrev pub calm_taking : Effect
 calm_taking = calm_at_b Up (Some 9) 1 (record { number = 1; is_taking = true })

@@ -4,14 +4,14 @@ use Rattle.std.specs.Prelude.{ℕ, ◌+◌, ◌-◌, ◌*◌, ◌==◌, Bool, tr
 use Rattle.std.specs.List.{find, list_all, range_with_len}
 use Rattle.std.specs.Option.{option_map_or}
 use Rattle.rbc_spec.specs.Maps.{put, put_pair}
-use Rattle.rbc_spec.specs.Runs.{Run, within, behind, all_of}
+use Rattle.rbc_spec.specs.SectionRuns.{SectionRun, within, behind, all_of}
 use Rattle.rbc_spec.specs.Line.{Line, is_centre, is_home, start, end, next_centre}
 use Rattle.rbc_spec.specs.Sections.{is_on, run_where, section_count, nid_rbc}
 use Rattle.rbc_spec.specs.Place.{Place, covered, group_start, fit_place, place_on}
 use Rattle.rbc_spec.specs.Message.{TrainMessage, TrainBody, TrainData, Request, Report, ShorteningGranted, ShorteningRejected, EndOfMission, InitiationOfSession, TerminationOfSession, StartOfMission, SessionEstablished, TrackBody, Authority, DataAcknowledged, SystemVersion, TerminationAcknowledged, TrainRejected, TrainAccepted, ShorteningRequest, Transition, EndSession, unknown_group}
 use Rattle.rbc_spec.specs.Outcome.{Word, Done, Asked, NotHome, Reason}
-use Rattle.rbc_spec.specs.Centre.{Opened, Up, Silent, is_up, is_registrar_of}
-use Rattle.rbc_spec.specs.LineCentre.{LineState, Open, Shut, Kept, Given, Mission, Supervisor, At, Parted, is_given_to, is_kept_for, is_mark_open, is_at, supervises, is_waiting_at, is_waiting, free, told, mark_all, set_mission, change_mission, hears, says, Said}
+use Rattle.rbc_spec.specs.Centre.{Opened, Up, Closed, is_up, is_registrar_of}
+use Rattle.rbc_spec.specs.LineCentre.{LineState, Open, Shut, Kept, Given, LineMission, Supervisor, At, Parted, is_given_to, is_kept_for, is_mark_open, is_at, supervises, is_waiting_at, is_waiting, free, told, mark_all, set_mission, change_mission, hears, says, Said}
 use Rattle.rbc_spec.specs.OwnSteps.{one_message, session_ends, with_phase, may_start, begins, restarted, waits, may_be_given, is_cleared_of, reported, release_words, ended, without_ask, shortened, shortening_words, track_of, last_kept_of, is_unused_mark, set_mark, wished_back}
 use Rattle.rbc_spec.specs.Quiet.{Quiet, Keep, Unkeep, Admit, Dismiss, LayDown, TakeUp, Propose, Order, EndOrder, both}
 use Rattle.rbc_spec.specs.Run.{silence, may_listen}
@@ -49,7 +49,7 @@ allowed is_allowed x = if is_allowed then Some x else None
 -- ## Hands
 
 -- the sections that are given to the train, as a run
-abbrev pub hand_of : Line → LineState → ℕ → Run
+abbrev pub hand_of : Line → LineState → ℕ → SectionRun
 hand_of line v t = run_where line (λ s. is_given_to t (v.mark s))
 
 abbrev pub is_same : Bool → Bool → Bool
@@ -57,29 +57,29 @@ is_same true b = b
 is_same false b = not b
 
 -- they are this run
-abbrev pub is_hand : Line → LineState → ℕ → Run → Bool
+abbrev pub is_hand : Line → LineState → ℕ → SectionRun → Bool
 is_hand line v t hand =
     list_all (λ s. is_same (is_given_to t (v.mark s)) (within hand s)) (range_with_len 0 (section_count line)) && nat_le (behind hand) (section_count line)
 
 -- the hand may not be longer
-abbrev pub is_end : Line → LineState → ℕ → Place → Run → Bool
+abbrev pub is_end : Line → LineState → ℕ → Place → SectionRun → Bool
 is_end line v c place hand =
     (not (is_on line place.track (behind hand)) || not (is_home line c (behind hand) && is_mark_open (v.mark (behind hand))))
     || ((hand.count == 32) || not (nat_le (end line (behind hand)) (group_start line place + 32767)))
 
 -- the hand may be extended by this run, and no further
-abbrev pub may_extend : Line → LineState → (t c : ℕ) → Place → Run → Run → Bool
+abbrev pub may_extend : Line → LineState → (t c : ℕ) → Place → SectionRun → SectionRun → Bool
 may_extend line v t c place hand r =
     (is_hand line v t hand && all_of (λ s. may_be_given line v c t s && is_on line place.track s) r)
     && (is_end line v c place (record { first = hand.first; count = hand.count + r.count })
     && (nat_le (hand.count + r.count) 32 && nat_le (end line (behind hand + r.count - 1)) (group_start line place + 32767)))
 
-abbrev pub extended : Line → LineState → (t c : ℕ) → Place → Run → Run → Turn
+abbrev pub extended : Line → LineState → (t c : ℕ) → Place → SectionRun → SectionRun → Turn
 extended line v t c place hand r =
     answering t c place.group (Authority (end line (behind hand + r.count - 1) - group_start line place)) [] v
     (change_mission t (λ m. record m { place = place }) (mark_all (within r) (Given t) v))
 
-abbrev pub extend : Line → LineState → (t c : ℕ) → Place → Run → ℕ → Option Turn
+abbrev pub extend : Line → LineState → (t c : ℕ) → Place → SectionRun → ℕ → Option Turn
 extend line v t c place hand count =
     allowed (may_extend line v t c place hand (record { first = behind hand; count = count })) (extended line v t c place hand (record { first = behind hand; count = count }))
 
@@ -141,7 +141,7 @@ abbrev pub own_turn : Line → ℕ → TrainMessage → TrainBody → LineState 
 own_turn line c m InitiationOfSession v choice =
     Some (session_turn line m.nid_engine c SystemVersion v (with_phase m.nid_engine c Opened (session_ends line m.nid_engine c v)))
 own_turn line c m TerminationOfSession v choice =
-    Some (session_turn line m.nid_engine c TerminationAcknowledged v (with_phase m.nid_engine c Silent (session_ends line m.nid_engine c v)))
+    Some (session_turn line m.nid_engine c TerminationAcknowledged v (with_phase m.nid_engine c Closed (session_ends line m.nid_engine c v)))
 own_turn line c m SessionEstablished v choice = Some (quietly (with_phase m.nid_engine c Up v))
 own_turn line c m (StartOfMission is_valid position) v choice = start_at line m.nid_engine c (fit_place line is_valid position) v choice
 own_turn line c m (TrainData position) v choice =
@@ -197,10 +197,10 @@ dismissed line v t c =
     answering t c unknown_group TrainRejected (told line (is_waiting_at line v t c) v) v
     (record (free (is_waiting_at line v t c) v) { wait = put_pair v.wait t c None })
 
-abbrev pub laid_down : LineState → ℕ → Mission → ℕ → Turn
+abbrev pub laid_down : LineState → ℕ → LineMission → ℕ → Turn
 laid_down v t m stamp = quietly (set_mission t (Some (record m { supervisor = Parted stamp; proposal = None })) v)
 
-abbrev pub taken_up : LineState → (t c : ℕ) → Mission → ℕ → Turn
+abbrev pub taken_up : LineState → (t c : ℕ) → LineMission → ℕ → Turn
 taken_up v t c m stamp = quietly
     (record (set_mission t (Some (record m { supervisor = At c })) v) { heard = put_pair v.heard t c (Some (option_map_or (max stamp) (v.heard t c) stamp)) })
 
@@ -209,13 +209,13 @@ abbrev pub parted_at : Supervisor → Option ℕ
 parted_at (At c) = None
 parted_at (Parted stamp) = Some stamp
 
-abbrev pub may_propose : Line → LineState → (t c s : ℕ) → Mission → Run → Bool
+abbrev pub may_propose : Line → LineState → (t c s : ℕ) → LineMission → SectionRun → Bool
 may_propose line v t c s m hand =
     ((is_at c m.supervisor && is_up (v.phase t c)) && (not m.is_ended && is_none m.proposal))
     && ((is_hand line v t hand && within hand s)
     && (nat_lt hand.first s && (nat_le m.place.front (10 * start line s) && nat_le (start line s) (group_start line m.place + 32767))))
 
-abbrev pub proposed : Line → LineState → (t c s : ℕ) → Mission → Turn
+abbrev pub proposed : Line → LineState → (t c s : ℕ) → LineMission → Turn
 proposed line v t c s m =
     answering t c m.place.group (ShorteningRequest (start line s - group_start line m.place)) [] v
     (change_mission t (λ n. record n { proposal = Some (record { stamp = v.said t c + 1; last_kept = s - 1 }) }) v)
@@ -224,17 +224,17 @@ proposed line v t c s m =
 abbrev pub is_over_border : Line → LineState → (t next s : ℕ) → Bool
 is_over_border line v t next s = is_given_to t (v.mark s) && is_home line next s
 
-abbrev pub may_order : Line → LineState → (t c : ℕ) → Mission → (next border : ℕ) → Bool
+abbrev pub may_order : Line → LineState → (t c : ℕ) → LineMission → (next border : ℕ) → Bool
 may_order line v t c m next border =
     ((is_at c m.supervisor && is_up (v.phase t c))
     && (is_over_border line v t next border && list_all (λ s. not (is_over_border line v t next s)) (range_with_len 0 border)))
     && (nat_le (group_start line m.place) (start line border) && nat_le (start line border) (group_start line m.place + 32767))
 
-abbrev pub ordered : Line → LineState → (t c : ℕ) → Mission → (next border : ℕ) → Turn
+abbrev pub ordered : Line → LineState → (t c : ℕ) → LineMission → (next border : ℕ) → Turn
 ordered line v t c m next border =
     answering t c m.place.group (Transition (start line border - group_start line m.place) line.nid_c (nid_rbc line next)) [] v v
 
-abbrev pub order_to : Line → LineState → (t c : ℕ) → Mission → ℕ → Option Turn
+abbrev pub order_to : Line → LineState → (t c : ℕ) → LineMission → ℕ → Option Turn
 order_to line v t c m next = option_map_or
     (λ border. allowed (may_order line v t c m next border) (ordered line v t c m next border))
     (find (is_over_border line v t next) (range_with_len 0 (section_count line))) None

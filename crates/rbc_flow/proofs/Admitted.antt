@@ -9,7 +9,7 @@ use Rattle.rbc_ledger.proofs.Sums.{put_same, put_other, put_keeps, cases_link, o
 use Rattle.rbc_ledger.proofs.Network.{counted_took, way_acted_none, way_took_other}
 use Rattle.rbc_ledger.proofs.Resource.{placed_acted, placed_took, sent_none}
 use Rattle.rbc_spec.specs.Maps.{has, put_pair}
-use Rattle.rbc_spec.specs.Runs.{within}
+use Rattle.rbc_spec.specs.SectionRuns.{within}
 use Rattle.rbc_spec.specs.Line.{Line, section, is_centre, is_home}
 use Rattle.rbc_spec.specs.Place.{Place, covered}
 use Rattle.rbc_spec.specs.Message.{TrainAccepted, unknown_group}
@@ -17,7 +17,7 @@ use Rattle.rbc_spec.specs.Frame.{Body, GiveRight, Yield, yielded_place}
 use Rattle.rbc_spec.specs.Centre as centre
 use Rattle.rbc_spec.specs.Centre.{Centre, Entry, is_taken_for}
 use Rattle.rbc_spec.specs.Acts.{begun}
-use Rattle.rbc_spec.specs.Reach.{Reach, Alone, Rights, Routes, Whole}
+use Rattle.rbc_spec.specs.Reach.{Reach, Local, Rights, Routes, Whole}
 use Rattle.rbc_spec.specs.Links.{received}
 use Rattle.rbc_spec.specs.Step.{body_taken}
 use Rattle.rbc_spec.specs.LineCentre as line_centre
@@ -25,7 +25,7 @@ use Rattle.rbc_spec.specs.LineCentre.{LineState, Said, says, nothing}
 use Rattle.rbc_spec.specs.OwnSteps.{begins, begun_at, one_message}
 use Rattle.rbc_spec.specs.Quiet.{Admit, TakesAll}
 use Rattle.rbc_spec.specs.ReadOff.{seen}
-use Rattle.rbc_alone.specs.Alone.{hand_has}
+use Rattle.rbc_local.specs.Local.{hand_has}
 use Rattle.rbc_flow.specs.Flow.{Flow, centre_count}
 use Rattle.rbc_flow.specs.Counts.{hands, missions, yield_inside}
 use Rattle.rbc_flow.specs.Sound.{IsFlowSound}
@@ -220,7 +220,7 @@ module _ (line : Line) (w : Flow) (sound : IsFlowSound line w) (v : LineState) (
 
   -- at each reach
   pub leads : (reach : Reach) → k.has_asked t ≡ true → Leads line (took w a c) c (body_taken reach line c a (GiveRight t) (record k { taken = put k.taken a number })) v
-  leads Alone asked = admitted asked
+  leads Local asked = admitted asked
   leads Rights asked = admitted asked
   leads Routes asked = admitted asked
   leads Whole asked = admitted asked

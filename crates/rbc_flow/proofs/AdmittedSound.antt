@@ -8,15 +8,15 @@ use Rattle.rbc_ledger.specs.Resource.{carried, placed}
 use Rattle.rbc_ledger.proofs.Sums.{put_same, put_other, sum_zero, links_zero, cases_link, one_if_some, one_if_true}
 use Rattle.rbc_ledger.proofs.Resource.{sent_none, carried_more}
 use Rattle.rbc_ledger.proofs.Places.{head_only}
-use Rattle.rbc_spec.specs.Runs.{within}
+use Rattle.rbc_spec.specs.SectionRuns.{within}
 use Rattle.rbc_spec.specs.Line.{Line, is_centre, is_home, train_number}
 use Rattle.rbc_spec.specs.Place.{Place, covered}
 use Rattle.rbc_spec.specs.Frame.{GiveRight}
 use Rattle.rbc_spec.specs.Centre as centre
 use Rattle.rbc_spec.specs.Centre.{Centre, is_taken_for}
 use Rattle.rbc_spec.specs.Acts.{begun}
-use Rattle.rbc_alone.specs.Alone.{hand_has}
-use Rattle.rbc_alone.proofs.Missions.{none_within}
+use Rattle.rbc_local.specs.Local.{hand_has}
+use Rattle.rbc_local.proofs.Missions.{none_within}
 use Rattle.rbc_flow.specs.Flow.{Flow, centre_count}
 use Rattle.rbc_flow.specs.Counts.{rights, tokens, lent, missions, pool_has, wait_has}
 use Rattle.rbc_flow.specs.Pairs.{handing_to}

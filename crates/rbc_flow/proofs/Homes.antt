@@ -7,19 +7,19 @@ use Rattle.rbc_ledger.specs.Sums.{one_if, sum_below}
 use Rattle.rbc_ledger.specs.Resource.{carried, sent_by}
 use Rattle.rbc_ledger.proofs.Sums.{sum_zero, sum_only, sum_le, one_if_le}
 use Rattle.rbc_ledger.proofs.Resource.{carried_none, carried_more}
-use Rattle.rbc_spec.specs.Runs.{Run, within, shared, is_empty}
+use Rattle.rbc_spec.specs.SectionRuns.{SectionRun, within, shared, is_empty}
 use Rattle.rbc_spec.specs.Line.{Line, Section, section, is_home}
 use Rattle.rbc_spec.specs.Sections.{home_run, is_on}
 use Rattle.rbc_spec.specs.Frame.{Body, RouteReturn}
 use Rattle.rbc_spec.specs.Centre.{Centre}
 use Rattle.rbc_spec.specs.Acts.{returned}
-use Rattle.rbc_alone.specs.Alone.{IsOrdered}
+use Rattle.rbc_local.specs.Local.{IsOrdered}
 use Rattle.rbc_lemmas.proofs.Runs.{within_shared}
 use Rattle.rbc_flow.specs.Flow.{centre_count}
 use Rattle.rbc_flow.specs.Counts.{tokens}
 
 -- what two runs share is in both
-pub in_both : (a b : Run) (s : ℕ) → within (shared a b) s ≡ true → (within a s ≡ true) × (within b s ≡ true)
+pub in_both : (a b : SectionRun) (s : ℕ) → within (shared a b) s ≡ true → (within a s ≡ true) × (within b s ≡ true)
 in_both a b s is = and_parts (within a s) (within b s) (sym (within_shared a b s) ∙ is)
 
 -- each section has one home at most
@@ -42,14 +42,14 @@ homes_once line s n x = by_section (section line s)
         (λ (past : n ≤ p.home). omega (arith, sum_zero n (λ d. one_if (x && (p.home == d))) (λ d below. none x (p.home == d) (elim (eqb_tells p.home d) [ inl e ↦ absurd (let no : ⊥ = omega (arith, e.1) in no) | inr e ↦ e.0 ]))))
         (cases_lt p.home n)
 
-module _ (line : Line) (ordered : IsOrdered line) (c t track : ℕ) (r : Run) (k : Centre) (u s : ℕ) where
+module _ (line : Line) (ordered : IsOrdered line) (c t track : ℕ) (r : SectionRun) (k : Centre) (u s : ℕ) where
   abbrev frames : ℕ → List Body
   frames = (returned line c t track r k).frames
 
   one_frame : (d : ℕ) → carried (tokens line u s) c d (frames d) ≤ one_if (((t == u) && within r s) && is_home line d s)
   one_frame d = by_empty ((d == c) || is_empty part)
     where
-      part : Run
+      part : SectionRun
       part = shared r (home_run line d track)
 
       named : (b : Bool) → within part s ≡ b → one_if ((t == u) && b) ≤ one_if (((t == u) && within r s) && is_home line d s)

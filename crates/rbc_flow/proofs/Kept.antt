@@ -14,7 +14,7 @@ use Rattle.rbc_spec.specs.Line.{Line, is_centre, is_home}
 use Rattle.rbc_spec.specs.Frame.{Body}
 use Rattle.rbc_spec.specs.Centre.{Centre, Entry, Mission, Expectation, is_unused, is_taken_for, is_used_for, is_out_for}
 use Rattle.rbc_spec.specs.Place.{Place}
-use Rattle.rbc_alone.specs.Alone.{hand_has}
+use Rattle.rbc_local.specs.Local.{hand_has}
 use Rattle.rbc_flow.specs.Flow.{Flow, centre_count}
 use Rattle.rbc_flow.specs.Counts.{rights, tokens, lent, pool_has, wait_has}
 use Rattle.rbc_flow.specs.Pairs.{IsPaired, follows, handing_to, count_if, announces, takes_over, yields, before, after}

@@ -16,7 +16,7 @@ use Rattle.rbc_spec.specs.Centre.{Centre}
 use Rattle.rbc_spec.specs.Step as centre
 use Rattle.rbc_spec.specs.Step.{Effect, Refusal, step, refusal, taken, numbered, frames_of, state_after, offered}
 use Rattle.rbc_spec.specs.World.{World, Event, Bytes, Set, Unset, Delivery, Answer, NoCentre, NotSent, frame_sent, mention, stepped, at_centre, takes, world_step}
-use Rattle.rbc_alone.proofs.Worlds.{world_of}
+use Rattle.rbc_local.proofs.Worlds.{world_of}
 use Rattle.rbc_flow.specs.Flow.{flow_of}
 use Rattle.rbc_flow.specs.Numbers.{HasNumbers, IsNumbered}
 

@@ -10,7 +10,7 @@ use Rattle.rbc_ledger.specs.Resource.{carried, allowed}
 use Rattle.rbc_ledger.proofs.Sums.{sum_same, sum_plus, sum_only}
 use Rattle.rbc_ledger.proofs.Places.{placed_parts}
 use Rattle.rbc_spec.specs.Maps.{has}
-use Rattle.rbc_spec.specs.Runs.{within}
+use Rattle.rbc_spec.specs.SectionRuns.{within}
 use Rattle.rbc_spec.specs.Line.{Line, IsLine, Section, Train, section, is_home, is_centre, registrar, train_number}
 use Rattle.rbc_spec.specs.Place.{Place, covered}
 use Rattle.rbc_spec.specs.Frame.{Body, Frame, RouteInfo, RouteReturn, Yield}
@@ -20,7 +20,7 @@ use Rattle.rbc_spec.specs.World.{World}
 use Rattle.rbc_spec.specs.World as world
 use Rattle.rbc_spec.specs.ReadOff.{centres_of, frames_on_way}
 use Rattle.rbc_spec.specs.Promises.{once, held_for, carried_for, holders, user, carries_right, HasOnePlace}
-use Rattle.rbc_alone.specs.Alone.{hand_has}
+use Rattle.rbc_local.specs.Local.{hand_has}
 use Rattle.rbc_flow.specs.Flow.{flow_of, centre_count}
 use Rattle.rbc_flow.specs.Counts.{rights, tokens, token_inside, pool_has, wait_has}
 use Rattle.rbc_flow.specs.Sound.{IsFlowSound, LosesNothing}

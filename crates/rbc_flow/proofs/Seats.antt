@@ -9,11 +9,11 @@ use Rattle.rbc_ledger.specs.Network.{way}
 use Rattle.rbc_ledger.specs.Resource.{carried, placed}
 use Rattle.rbc_ledger.proofs.Sums.{sum_le}
 use Rattle.rbc_ledger.proofs.Places.{placed_parts}
-use Rattle.rbc_spec.specs.Runs.{Run}
+use Rattle.rbc_spec.specs.SectionRuns.{SectionRun}
 use Rattle.rbc_spec.specs.Line.{Line, is_centre}
 use Rattle.rbc_spec.specs.Frame.{Body, Frame, Yield, yielded_place}
 use Rattle.rbc_spec.specs.Centre as centre
-use Rattle.rbc_spec.specs.LineCentre.{Mission}
+use Rattle.rbc_spec.specs.LineCentre.{LineMission}
 use Rattle.rbc_spec.specs.World.{World}
 use Rattle.rbc_spec.specs.World as world
 use Rattle.rbc_spec.specs.ReadOff.{at_centre, on_the_way, IsHandOf, Held, held_at, handed_over, centres_of, frames_on_way, all_held, seen}
@@ -107,14 +107,14 @@ module _ (line : Line) (w : World) (sound : IsFlowSound line (flow_of w)) where
   among : (c : ℕ) → is_centre line c ≡ true → Contains (centres_of line) c
   among c at = contains_range 0 (centre_count line) c (omega arith) (omega (arith, ltb-true c (centre_count line) at))
 
-  abbrev held_as : Mission → Run → Held
+  abbrev held_as : LineMission → SectionRun → Held
   held_as m hand = record { mission = m; hand = hand }
 
-  is_held : (t : ℕ) (hand : Run) → IsHandOf w t hand → (m : Mission) × Contains (all_held line w t) (held_as m hand)
+  is_held : (t : ℕ) (hand : SectionRun) → IsHandOf w t hand → (m : LineMission) × Contains (all_held line w t) (held_as m hand)
   is_held t hand (at_centre c m has same) = (seen c m, by_centre (is_centre line c) refl)
     where
       gives : held_at w t c ≡ Some (held_as (seen c m) hand)
-      gives = ap (option_map (λ (x : centre.Mission). held_as (seen c x) x.hand)) has.at_centre ∙ ap (λ (r : Run). Some (held_as (seen c m) r)) same
+      gives = ap (option_map (λ (x : centre.Mission). held_as (seen c x) x.hand)) has.at_centre ∙ ap (λ (r : SectionRun). Some (held_as (seen c m) r)) same
 
       by_centre : (b : Bool) → is_centre line c ≡ b → Contains (all_held line w t) (held_as (seen c m) hand)
       by_centre true at = Contains-append_left (filter_map (held_at w t) (centres_of line)) (filter_map (λ (f : Frame). handed_over t f.body) (frames_on_way line w)) (held_as (seen c m) hand)
@@ -137,7 +137,7 @@ module _ (line : Line) (w : World) (sound : IsFlowSound line (flow_of w)) where
       by_centres true false from to = absurd (nothing_sent (flow_of w) a b (sound.no_sent a b (inr to)) _ there)
 
   -- all hands of a train are one
-  pub one_hand : (t : ℕ) (one two : Run) → IsHandOf w t one → IsHandOf w t two → one ≡ two
+  pub one_hand : (t : ℕ) (one two : SectionRun) → IsHandOf w t one → IsHandOf w t two → one ≡ two
   one_hand t one two first second =
       let a = is_held t one first in
       let b = is_held t two second in

@@ -10,19 +10,19 @@ use Rattle.rbc_ledger.proofs.Sums.{sum_some, links_some, sum_le, one_if_some, on
 use Rattle.rbc_ledger.proofs.Places.{placed_parts, held_le_placed, held_carried_le_placed}
 use Rattle.rbc_lemmas.proofs.Runs.{same_tests}
 use Rattle.std.proofs.lemmas.List.Elements.{All-contains}
-use Rattle.rbc_spec.specs.Runs.{Run, within}
+use Rattle.rbc_spec.specs.SectionRuns.{SectionRun, within}
 use Rattle.rbc_spec.specs.Maps.{has}
 use Rattle.rbc_spec.specs.Line.{Line, Section, section, is_centre, is_home}
 use Rattle.rbc_spec.specs.Frame.{Body, Yield, yielded_place}
 use Rattle.rbc_spec.specs.Centre as centre
 use Rattle.rbc_spec.specs.Centre.{Entry, is_used_for}
 use Rattle.rbc_spec.specs.LineCentre as line_centre
-use Rattle.rbc_spec.specs.LineCentre.{LineState, Mark, Mission, is_given_to}
+use Rattle.rbc_spec.specs.LineCentre.{LineState, Mark, LineMission, is_given_to}
 use Rattle.rbc_spec.specs.World.{World}
 use Rattle.rbc_spec.specs.ReadOff.{at_centre, on_the_way, supervised, StandsFor, IsHandOf, IsMissionOf, IsGiven, HasMark, seen}
 use Rattle.rbc_spec.specs.ReadOff as off
 use Rattle.rbc_flow.specs.Flow.{Flow, flow_of, centre_count}
-use Rattle.rbc_alone.specs.Alone.{hand_has}
+use Rattle.rbc_local.specs.Local.{hand_has}
 use Rattle.rbc_flow.specs.Counts.{tokens, hands, missions, hand_inside, token_inside, yield_inside}
 use Rattle.rbc_flow.specs.Sound.{IsFlowSound, IsBodySound, IsYieldSound}
 use Rattle.rbc_flow.specs.Shows.{Shows, shown, is_in_hand, parted}
@@ -162,8 +162,8 @@ module _ (line : Line) (w : World) (sound : IsFlowSound line (flow_of w)) (v : L
       link_has a b false z from to f is one = absurd (nothing_sent (flow_of w) a b (sound.no_sent a b (inl from)) f is)
       link_has a b true false from to f is one = absurd (nothing_sent (flow_of w) a b (sound.no_sent a b (inr to)) f is)
 
-      by_hand : (hand : Run) → within hand s ≡ true → IsHandOf w t hand → is_in_hand line (flow_of w) s t ≡ true
-      by_hand hand in_hand (at_centre c m has same) = centre_has c m (is_centre line c) refl has.at_centre (ap (λ (r : Run). within r s) same ∙ in_hand)
+      by_hand : (hand : SectionRun) → within hand s ≡ true → IsHandOf w t hand → is_in_hand line (flow_of w) s t ≡ true
+      by_hand hand in_hand (at_centre c m has same) = centre_has c m (is_centre line c) refl has.at_centre (ap (λ (r : SectionRun). within r s) same ∙ in_hand)
       by_hand hand in_hand (on_the_way a b f heard has_data is_ended place on carries) =
           link_has a b (is_centre line a) (is_centre line b) refl refl (Yield carries.number t heard has_data is_ended (yielded_place place) hand) (on_link w a b f _ on.on_way carries.is_yield)
           (one_if_true ((t == t) && within hand s) (and_from (t == t) (within hand s) (itself t) in_hand))
@@ -181,18 +181,18 @@ module _ (line : Line) (w : World) (sound : IsFlowSound line (flow_of w)) (v : L
     shut = λ is. sees.mark s c home ∙ ap (λ e. shown e (is_in_hand line (flow_of w) s)) is;
   }
 
-  shown_so : (t : ℕ) (m : Mission) → IsMissionOf w t m → v.mission t ≡ Some m
+  shown_so : (t : ℕ) (m : LineMission) → IsMissionOf w t m → v.mission t ≡ Some m
   shown_so t m (supervised c x has) = sees.mission t c x has.at_centre
   shown_so t m (off.parted a b f heard has_data is_ended place hand on carries) =
       sees.on_way a b carries.number t heard has_data is_ended place hand (on_link w a b f _ on.on_way carries.is_yield)
 
-  found_mission : (t : ℕ) (m : Mission) → v.mission t ≡ Some m → IsMissionOf w t m
+  found_mission : (t : ℕ) (m : LineMission) → v.mission t ≡ Some m → IsMissionOf w t m
   found_mission t m is = by_count (placed (missions t) (centre_count line) (flow_of w)) refl
     where
-      seen_same : (x : Mission) → v.mission t ≡ Some x → IsMissionOf w t x → IsMissionOf w t m
-      seen_same x same has = let e : ◌≡◌ {A = Option Mission} (Some x) (Some m) = sym same ∙ is in subst (IsMissionOf w t) (some_is x e) has
+      seen_same : (x : LineMission) → v.mission t ≡ Some x → IsMissionOf w t x → IsMissionOf w t m
+      seen_same x same has = let e : ◌≡◌ {A = Option LineMission} (Some x) (Some m) = sym same ∙ is in subst (IsMissionOf w t) (some_is x e) has
         where
-          some_is : (y : Mission) → ◌≡◌ {A = Option Mission} (Some y) (Some m) → y ≡ m
+          some_is : (y : LineMission) → ◌≡◌ {A = Option LineMission} (Some y) (Some m) → y ≡ m
           some_is y e = cc
 
       at : (c : ℕ) (o : Option centre.Mission) → (w.at c).mission t ≡ o → is_some o ≡ true → IsMissionOf w t m
@@ -211,7 +211,7 @@ module _ (line : Line) (w : World) (sound : IsFlowSound line (flow_of w)) (v : L
       on a b f there has = absurd (let no : ⊥ = omega (arith, has) in no)
 
       by_count : (k : ℕ) → placed (missions t) (centre_count line) (flow_of w) ≡ k → IsMissionOf w t m
-      by_count zero none = absurd (let wrong : ◌≡◌ {A = Option Mission} None (Some m) = sym (sees.no_mission t none) ∙ is in cc)
+      by_count zero none = absurd (let wrong : ◌≡◌ {A = Option LineMission} None (Some m) = sym (sees.no_mission t none) ∙ is in cc)
       by_count (suc k) some = by_centres (sum_below (centre_count line) (λ c. (missions t).held c (w.at c))) refl
         where
           by_centres : (n : ℕ) → sum_below (centre_count line) (λ c. (missions t).held c (w.at c)) ≡ n → IsMissionOf w t m
@@ -224,7 +224,7 @@ module _ (line : Line) (w : World) (sound : IsFlowSound line (flow_of w)) (v : L
               at who.0 ((w.at who.0).mission t) refl (one_if_some _ who.2)
 
   -- a train's hand is all that is given to it
-  hand_is : (t : ℕ) (hand : Run) → IsHandOf w t hand → (s : ℕ) → is_given_to t (v.mark s) ≡ within hand s
+  hand_is : (t : ℕ) (hand : SectionRun) → IsHandOf w t hand → (s : ℕ) → is_given_to t (v.mark s) ≡ within hand s
   hand_is t hand is s = same_tests _ _
       (λ given. by_section (section line s) refl (given_mark t (v.mark s) given))
       (λ has.

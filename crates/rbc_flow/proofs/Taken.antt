@@ -10,7 +10,7 @@ use Rattle.rbc_ledger.proofs.Chain.{chain_took}
 use Rattle.rbc_ledger.proofs.Network.{each_head}
 use Rattle.rbc_ledger.proofs.Resource.{carried_more}
 use Rattle.rbc_ledger.proofs.Places.{head_only, held_carried_le_placed}
-use Rattle.rbc_spec.specs.Runs.{Run, within}
+use Rattle.rbc_spec.specs.SectionRuns.{SectionRun, within}
 use Rattle.rbc_spec.specs.Line.{Line, Section, section, is_centre, is_home, is_linked, next_centre}
 use Rattle.rbc_spec.specs.Sections.{is_on}
 use Rattle.rbc_spec.specs.Place.{Place, group_start}
@@ -30,7 +30,7 @@ use Rattle.rbc_flow.proofs.Basics.{all_within, one_home, itself, neither, none_i
 le_true : (m n : ℕ) → m ≤ n → nat_le m n ≡ true
 le_true m n le = le-leb m n le
 
-module _ (line : Line) (near : AreNeighbours line) (w : Flow) (sound : IsFlowSound line w) (a c number t heard : ℕ) (has_data is_ended : Bool) (carried_as : YieldedPlace) (hand : Run)
+module _ (line : Line) (near : AreNeighbours line) (w : Flow) (sound : IsFlowSound line w) (a c number t heard : ℕ) (has_data is_ended : Bool) (carried_as : YieldedPlace) (hand : SectionRun)
     (from : is_centre line a ≡ true) (to : is_centre line c ≡ true) (small : a < centre_count line) (below : c < centre_count line)
     (takes : TakesHead w a c (Yield number t heard has_data is_ended carried_as hand)) where
   abbrev f : Body

@@ -3,7 +3,7 @@ use Rattle.std.proofs.Common.{◌≡◌, ℕ, ◌+◌, Bool, true, false, not, �
 use Rattle.std.specs.Option.{option_map_or}
 use Rattle.rbc_spec.specs.Maps.{has, put}
 use Rattle.rbc_spec.specs.Reach.{Reach, asks_rights, lends_routes, hands_over, follows_rule}
-use Rattle.rbc_spec.specs.Runs.{Run, part_from, all_of, within, no_run, most_in_hand, behind, is_empty, part_before}
+use Rattle.rbc_spec.specs.SectionRuns.{SectionRun, part_from, all_of, within, no_run, most_in_hand, behind, is_empty, part_before}
 use Rattle.rbc_spec.specs.Line.{Line, section, end, registrar, next_centre, is_home}
 use Rattle.rbc_spec.specs.Sections.{nid_rbc, is_on}
 use Rattle.rbc_spec.specs.Place.{Place, Position, covered, fit_place, place_on}
@@ -56,7 +56,7 @@ of_option None act a each other = other
 of_option (Some x) act a each other = each x
 
 module _ (line : Line) (c t : ℕ) where
-  leave_keeps : (track : ℕ) (r : Run) → Keeps (leave line c t track r)
+  leave_keeps : (track : ℕ) (r : SectionRun) → Keeps (leave line c t track r)
   leave_keeps track r = both _ _ (record { each = λ k. refl }) (record { each = λ k. refl })
 
   return_keeps : Keeps (return_right line c t)
@@ -183,7 +183,7 @@ module _ (line : Line) (c t : ℕ) where
   given_keeps : Keeps (right_given line c t)
   given_keeps = when _ _ (both _ _ (record { each = λ k. refl }) (chosen _ _ _ (of_some _ _ (λ place. both _ _ (record { each = λ k. refl }) (begin_keeps place))) return_keeps))
 
-  told_keeps : (d : ℕ) (r : Run) → Keeps (route_told line c d t r)
+  told_keeps : (d : ℕ) (r : SectionRun) → Keeps (route_told line c d t r)
   told_keeps d r = when _ _ (both _ _ (record { each = λ k. refl }) (chosen (λ k. has (is_wanted line r) (k.mission t)) (change_mission t (λ m. record m { pool = r })) (if is_empty r then rest else send d (RouteReturn t r)) (record { each = λ k. refl })
       (branch (is_empty r) rest (send d (RouteReturn t r)) (record { each = λ k. refl }) (record { each = λ k. refl }))))
 
@@ -214,7 +214,7 @@ module _ (line : Line) (c : ℕ) where
       (λ m. branch (within m.pool s) (returned line c t m.place.track (part_from s m.pool) >> change_mission t (λ n. record n { pool = part_before s n.pool })) (propose_if_so line t s)
       (both _ _ (record { each = λ k. refl }) (record { each = λ k. refl })) (propose_if_keeps line c t s))
 
-  home_keeps : (d t : ℕ) (r : Run) → Keeps (route_returned line c d t r)
+  home_keeps : (d t : ℕ) (r : SectionRun) → Keeps (route_returned line c d t r)
   home_keeps d t r = both _ _ (record { each = λ k. refl }) (when (λ k. not (uses_some line c k t) && ((is_none (k.mission t) && is_none (k.wait t)) && not (is_expected line k t))) (end_order line c t) (end_keeps line c t))
 
   pub received_keeps : (d : ℕ) (body : Body) → Keeps (received line c d body)

@@ -6,13 +6,13 @@ use Rattle.rbc_ledger.specs.Network.{to_one}
 use Rattle.rbc_ledger.specs.Resource.{carried, sent_by}
 use Rattle.rbc_ledger.proofs.Sums.{sum_le, one_if_le}
 use Rattle.rbc_ledger.proofs.Resource.{sent_append, sent_single, carried_none, carried_more}
-use Rattle.rbc_spec.specs.Runs.{Run, within, shared, is_empty}
+use Rattle.rbc_spec.specs.SectionRuns.{SectionRun, within, shared, is_empty}
 use Rattle.rbc_spec.specs.Line.{Line, is_home}
 use Rattle.rbc_spec.specs.Sections.{home_run, is_on}
 use Rattle.rbc_spec.specs.Frame.{Body, YieldedPlace, RouteReturn, Yield}
 use Rattle.rbc_spec.specs.Centre.{Centre}
 use Rattle.rbc_spec.specs.Acts.{returned}
-use Rattle.rbc_alone.specs.Alone.{IsOrdered}
+use Rattle.rbc_local.specs.Local.{IsOrdered}
 use Rattle.rbc_flow.specs.Flow.{centre_count}
 use Rattle.rbc_flow.specs.Counts.{lent}
 use Rattle.rbc_flow.proofs.Basics.{itself, one_home}
@@ -34,7 +34,7 @@ yield_law true false to taken out cd td pool own lent = rw (lent refl refl) (by 
     by false b = omega arith
 yield_law false home to taken out cd td pool own lent = omega arith
 
-module _ (line : Line) (ordered : IsOrdered line) (c t to track number heard : ℕ) (has_data is_ended : Bool) (place : YieldedPlace) (hand pool : Run) (k j : Centre) (small : to < centre_count line) (u s d : ℕ) where
+module _ (line : Line) (ordered : IsOrdered line) (c t to track number heard : ℕ) (has_data is_ended : Bool) (place : YieldedPlace) (hand pool : SectionRun) (k j : Centre) (small : to < centre_count line) (u s d : ℕ) where
   -- what goes home, and the Yield
   abbrev frames : ℕ → List Body
   frames e = (returned line c t track pool j).frames e ++ to_one to (Yield number t heard has_data is_ended place hand ∷ []) e
@@ -42,7 +42,7 @@ module _ (line : Line) (ordered : IsOrdered line) (c t to track number heard : �
   one_out : (e : ℕ) → carried (lent line u s d) c e ((returned line c t track pool j).frames e) ≤ one_if ((((t == u) && within pool s) && ((c == d) && not (is_home line c s))) && is_home line e s)
   one_out e = by_empty (e == c) refl (is_empty part)
     where
-      part : Run
+      part : SectionRun
       part = shared pool (home_run line e track)
 
       away : (b : Bool) → is_home line c s ≡ b → (e == c) ≡ false → is_home line e s ≡ true → is_home line c s ≡ false

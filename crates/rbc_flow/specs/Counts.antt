@@ -3,13 +3,13 @@ use Rattle.std.specs.Prelude.{ℕ, ◌+◌, ◌==◌, Bool, ◌&&◌, not, if◌
 use Rattle.rbc_ledger.specs.Sums.{one_if}
 use Rattle.rbc_ledger.specs.Resource.{Resource}
 use Rattle.rbc_spec.specs.Maps.{has}
-use Rattle.rbc_spec.specs.Runs.{within}
+use Rattle.rbc_spec.specs.SectionRuns.{within}
 use Rattle.rbc_spec.specs.Line.{Line, is_home}
 use Rattle.rbc_spec.specs.Place.{Place, covered}
 use Rattle.rbc_spec.specs.Frame.{Body, RouteInfo, RouteReturn, Yield}
 use Rattle.rbc_spec.specs.Centre.{Centre, Mission, is_used_for, is_out_for, is_registrar_of}
 use Rattle.rbc_spec.specs.Promises.{carries_right}
-use Rattle.rbc_alone.specs.Alone.{hand_has}
+use Rattle.rbc_local.specs.Local.{hand_has}
 
 -- ## Sections that a centre has for a train, beside those of its hand (`hand_has`)
 

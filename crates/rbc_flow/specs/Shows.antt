@@ -2,12 +2,12 @@
 use Rattle.std.specs.Prelude.{◌≡◌, ℕ, Bool, true, false, if◌then◌else◌, Some, None, nat_lt, Contains}
 use Rattle.rbc_ledger.specs.Network.{way}
 use Rattle.rbc_ledger.specs.Resource.{placed}
-use Rattle.rbc_spec.specs.Runs.{Run}
+use Rattle.rbc_spec.specs.SectionRuns.{SectionRun}
 use Rattle.rbc_spec.specs.Line.{Line, is_home, section}
 use Rattle.rbc_spec.specs.Place.{Place}
 use Rattle.rbc_spec.specs.Frame.{Yield, yielded_place}
 use Rattle.rbc_spec.specs.Centre as centre
-use Rattle.rbc_spec.specs.LineCentre.{LineState, Mark, Shut, Open, Kept, Given, Mission, Parted}
+use Rattle.rbc_spec.specs.LineCentre.{LineState, Mark, Shut, Open, Kept, Given, LineMission, Parted}
 use Rattle.rbc_spec.specs.ReadOff.{seen}
 use Rattle.rbc_flow.specs.Flow.{Flow, centre_count}
 use Rattle.rbc_flow.specs.Counts.{hands, missions}
@@ -24,7 +24,7 @@ shown (centre.Taken t) given = if given t then Given t else Kept t
 shown (centre.Out t d) given = if given t then Given t else Kept t
 
 -- the mission that a Yield hands over
-abbrev pub parted : ℕ → Bool → Bool → Place → Mission
+abbrev pub parted : ℕ → Bool → Bool → Place → LineMission
 parted heard has_data is_ended place = record { place = place; has_data = has_data; is_ended = is_ended; proposal = None; supervisor = Parted heard }
 
 pub record Shows (line : Line) (w : Flow) (v : LineState) : Type 0 where
@@ -37,6 +37,6 @@ pub record Shows (line : Line) (w : Flow) (v : LineState) : Type 0 where
   pub no_section : (s : ℕ) → section line s ≡ None → v.mark s ≡ Shut
   pub no_wish : (s : ℕ) → section line s ≡ None → v.wish s ≡ false
   pub mission : (t c : ℕ) (m : centre.Mission) → (w.at c).mission t ≡ Some m → v.mission t ≡ Some (seen c m)
-  pub on_way : (a b number t heard : ℕ) (has_data is_ended : Bool) (place : Place) (hand : Run) → Contains (way w a b) (Yield number t heard has_data is_ended (yielded_place place) hand)
+  pub on_way : (a b number t heard : ℕ) (has_data is_ended : Bool) (place : Place) (hand : SectionRun) → Contains (way w a b) (Yield number t heard has_data is_ended (yielded_place place) hand)
       → v.mission t ≡ Some (parted heard has_data is_ended place)
   pub no_mission : (t : ℕ) → placed (missions t) (centre_count line) w ≡ 0 → v.mission t ≡ None

@@ -5,13 +5,13 @@ use Rattle.rbc_ledger.specs.Network.{IsCounted, EachOnTheWay}
 use Rattle.rbc_ledger.specs.Resource.{IsWithinCap, IsAtCap}
 use Rattle.rbc_spec.specs.Maps.{has}
 use Rattle.rbc_spec.specs.Reach.{Reach, hands_over}
-use Rattle.rbc_spec.specs.Runs.{Run, most_in_hand, within, behind, is_empty}
+use Rattle.rbc_spec.specs.SectionRuns.{SectionRun, most_in_hand, within, behind, is_empty}
 use Rattle.rbc_spec.specs.Line.{Line, is_centre, is_home, section_of_group, next_centre, train_number}
 use Rattle.rbc_spec.specs.Sections.{is_on}
 use Rattle.rbc_spec.specs.Place.{Place, covered, group_start}
 use Rattle.rbc_spec.specs.Frame.{YieldedPlace, yielded_place, Body, Announce, Cancel, Yield}
 use Rattle.rbc_spec.specs.Centre.{Centre, Shut, Out, Mission, Handing, is_unused, is_taken_for}
-use Rattle.rbc_alone.specs.Alone.{hand_has}
+use Rattle.rbc_local.specs.Local.{hand_has}
 use Rattle.rbc_flow.specs.Flow.{Flow, centre_count}
 use Rattle.rbc_flow.specs.Counts.{wait_has, rights, tokens, lent}
 use Rattle.rbc_flow.specs.Pairs.{IsPaired, yields}
@@ -19,7 +19,7 @@ use Rattle.rbc_flow.specs.Pairs.{IsPaired, yields}
 -- ## Of one centre
 
 -- a hand of 1 to 32 sections of the place's track, with the place's group on it and not behind the front
-pub record IsHandAt (line : Line) (place : Place) (hand : Run) : Type 0 where
+pub record IsHandAt (line : Line) (place : Place) (hand : SectionRun) : Type 0 where
   pub some : 1 ≤ hand.count
   pub few : hand.count ≤ most_in_hand
   pub on_track : (s : ℕ) → within hand s ≡ true → is_on line place.track s ≡ true
@@ -48,7 +48,7 @@ pub record IsCentreSound (line : Line) (c : ℕ) (k : Centre) : Type 0 where
 -- ## Of what is on the way
 
 -- a Yield from a to b carries a place of the line with its hand, to the next centre, and each section of the hand is of one of these two
-pub record IsYieldSound (line : Line) (a b t : ℕ) (carried : YieldedPlace) (hand : Run) : Type 0 where
+pub record IsYieldSound (line : Line) (a b t : ℕ) (carried : YieldedPlace) (hand : SectionRun) : Type 0 where
   pub place : Place
   pub is_carried : carried ≡ yielded_place place
   pub is_hand : IsHandAt line place hand

@@ -4,9 +4,9 @@ ghost use Rattle.std.specs.Prelude.{◌≡◌, ◌≤◌, ◌<◌, ℕ, ◌+◌,
 ghost use Rattle.rbc_ledger.specs.Sums.{one_if};
 ghost use Rattle.rbc_ledger.specs.Network.{took, acted, to_one, TakesHead, IsCounted};
 ghost use Rattle.rbc_ledger.specs.Resource.{sent_by};
-ghost use Rattle.rbc_alone.specs.Alone.{IsOrdered};
+ghost use Rattle.rbc_local.specs.Local.{IsOrdered};
 ghost use Rattle.rbc_spec.specs.Maps.{put};
-ghost use Rattle.rbc_spec.specs.Runs.{Run, within};
+ghost use Rattle.rbc_spec.specs.SectionRuns.{SectionRun, within};
 ghost use Rattle.rbc_spec.specs.Line.{Line, IsLine, is_centre, is_home};
 ghost use Rattle.rbc_spec.specs.Place.{Place};
 ghost use Rattle.rbc_spec.specs.Frame.{Frame, Body, YieldedPlace, carried_place};
@@ -75,7 +75,7 @@ pub fn one_act_after_another()
 
 /// Whoever a Yield comes to, as the next frame of its link, takes it, in the place that it carries.
 pub fn each_yield_is_taken()
-    ensures { (line : Line) (w : Flow) (a c number t heard : ℕ) (has_data is_ended : Bool) (carried : YieldedPlace) (hand : Run)
+    ensures { (line : Line) (w : Flow) (a c number t heard : ℕ) (has_data is_ended : Bool) (carried : YieldedPlace) (hand : SectionRun)
         → IsLine line → IsFlowSound line w → is_centre line a ≡ true → is_centre line c ≡ true
         → TakesHead w a c (Yield number t heard has_data is_ended carried hand)
         → (place : Place) × (carried_place carried ≡ Some place) × (may_take line c (w.at c) a number t place hand ≡ true) }
@@ -129,9 +129,9 @@ pub fn a_step_is_an_act()
 /// The frames by which sections go home name each section of the run once at most, and no other; and with a Yield behind them no section's
 /// name is on its way more often than the centre had it.
 pub fn what_goes_home_goes_once()
-    ensures tokens { (line : Line) (c t track u s : ℕ) (r : Run) (k : Centre) → IsOrdered line
+    ensures tokens { (line : Line) (c t track u s : ℕ) (r : SectionRun) (k : Centre) → IsOrdered line
         → sent_by (tokens line u s) (centre_count line) c (returned line c t track r k).frames ≤ one_if ((t == u) && within r s) }
-    ensures names { (line : Line) (c t to track number heard u s d : ℕ) (has_data is_ended : Bool) (place : YieldedPlace) (hand pool : Run) (k : Centre)
+    ensures names { (line : Line) (c t to track number heard u s d : ℕ) (has_data is_ended : Bool) (place : YieldedPlace) (hand pool : SectionRun) (k : Centre)
         → IsOrdered line → to < centre_count line
         → sent_by (lent line u s d) (centre_count line) c (λ e. (returned line c t track pool k).frames e ++ to_one to (Yield number t heard has_data is_ended place hand ∷ []) e)
         ≤ one_if (((t == u) && within pool s) && ((c == d) && not (is_home line c s)))

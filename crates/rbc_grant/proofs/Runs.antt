@@ -4,7 +4,7 @@ use Rattle.std.proofs.lemmas.Bool.{cases_Bool}
 use Rattle.std.specs.Prelude.{nat_le, ◌&&◌}
 use Rattle.std.proofs.lemmas.Bool.{false≢true}
 use Rattle.std.proofs.lemmas.Bool.Decides.{nat_tests}
-use Rattle.rbc_spec.specs.Runs.{Run, behind, longest}
+use Rattle.rbc_spec.specs.SectionRuns.{SectionRun, behind, longest}
 use Rattle.rbc_spec.specs.Line.{Line, end}
 use Rattle.rbc_spec.specs.Place.{Place, group_start}
 use Rattle.rbc_book.specs.Book.{Pages}
@@ -47,7 +47,7 @@ at_most : (x y : ℕ) → nat_le x y ≡ true → x ≤ y
 at_most x y h = grind (arith, nat_tests)
 
 -- where each section that follows may follow, the hand's end has room in L_ENDSECTION as before
-pub has_room : (line : Line) (book : Pages) (place : Place) (hand : Run) (n : ℕ) → ((k : ℕ) → k < n → may_follow line book place (behind hand + k) ≡ true) → may_request line hand place ≡ true
+pub has_room : (line : Line) (book : Pages) (place : Place) (hand : SectionRun) (n : ℕ) → ((k : ℕ) → k < n → may_follow line book place (behind hand + k) ≡ true) → may_request line hand place ≡ true
     → end line (behind hand + n - 1) ≤ group_start line place + 32767
 has_room line book place hand zero each asked =
     let at : behind hand + 0 - 1 ≡ behind hand - 1 = omega arith in

@@ -1,6 +1,6 @@
 -- What a request for a movement authority may be given (3.8), where no pool of another centre's sections stands.
 use Rattle.std.specs.Prelude.{ℕ, ◌+◌, ◌-◌, ◌*◌, Bool, ◌&&◌, nat_le}
-use Rattle.rbc_spec.specs.Runs.{Run, behind}
+use Rattle.rbc_spec.specs.SectionRuns.{SectionRun, behind}
 use Rattle.rbc_spec.specs.Line.{Line, end}
 use Rattle.rbc_spec.specs.Sections.{is_on}
 use Rattle.rbc_spec.specs.Centre.{is_open}
@@ -8,7 +8,7 @@ use Rattle.rbc_spec.specs.Place.{Place, group_start}
 use Rattle.rbc_book.specs.Book.{Pages, entry_at}
 
 -- the safe front end is not past the hand's end, which has room in L_ENDSECTION
-abbrev pub may_request : Line → Run → Place → Bool
+abbrev pub may_request : Line → SectionRun → Place → Bool
 may_request line hand place =
     nat_le place.front (10 * end line (behind hand - 1)) && nat_le (end line (behind hand - 1)) (group_start line place + 32767)
 

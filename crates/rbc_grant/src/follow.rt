@@ -1,5 +1,5 @@
 ghost use Rattle.std.specs.Prelude.{◌≡◌, ◌-◌, ◌≤◌};
-ghost use Rattle.rbc_spec.specs.Runs.{behind, longest};
+ghost use Rattle.rbc_spec.specs.SectionRuns.{behind, longest};
 ghost use Rattle.rbc_hand.specs.SectionRuns.{run_of};
 ghost use Rattle.rbc_place.specs.Places.{place_of};
 ghost use Rattle.rbc_grant.specs.Grants as grants;

@@ -1,5 +1,5 @@
 ghost use Rattle.std.specs.Prelude.{◌≡◌, ℕ, ◌+◌, ◌-◌, ◌<◌, ◌≤◌, true};
-ghost use Rattle.rbc_spec.specs.Runs.{behind, longest};
+ghost use Rattle.rbc_spec.specs.SectionRuns.{behind, longest};
 ghost use Rattle.rbc_spec.specs.Line.{end, IsLine};
 ghost use Rattle.rbc_spec.specs.Place as spec;
 ghost use Rattle.rbc_hand.specs.SectionRuns.{run_of};

@@ -4,7 +4,7 @@ use Rattle.std.specs.List.{AllByRecursion}
 use Rattle.std.proofs.lemmas.Bool.{and_parts, and_from, or_right, lt-ltb, eq-eqb, ltb-true, eqb-true}
 use Rattle.std.proofs.lemmas.Bool.Decides.{eqb_tells}
 use Rattle.std.proofs.lemmas.List.{map-append, length-map, append-nil}
-use Rattle.rbc_spec.specs.Runs.{Run, behind}
+use Rattle.rbc_spec.specs.SectionRuns.{SectionRun, behind}
 use Rattle.rbc_hand.specs.Tokens.{Held, Own, section_of, held_of, token_of}
 use Rattle.rbc_hand.specs.Hands.{Holding, run, back, takes, IsAllOwn, Follow, holding, IsHand}
 use Rattle.rbc_hand.specs.declared.token.Token.{Token}
@@ -149,12 +149,12 @@ extends first old new room more x from push same begins fits is =
     moved [] f e h = tt
     moved (y ∷ ys) f e h = subst (λ n. Follow n (y ∷ ys)) (sym (e (omega arith))) h
 
-pub takes_next : (r : Run) (s : ℕ) → r.count < 32 → s < 65535 → s ≡ behind r → takes r s ≡ true
+pub takes_next : (r : SectionRun) (s : ℕ) → r.count < 32 → s < 65535 → s ≡ behind r → takes r s ≡ true
 unfolding takes
 takes_next r s room number next =
     and_from _ _ (and_from _ _ (lt-ltb r.count 32 room) (lt-ltb s 65535 number)) (or_right (r.count == 0) (s == behind r) (eq-eqb s (behind r) next))
 
-pub takes_first : (r : Run) (s : ℕ) → r.count ≡ 0 → s < 65535 → takes r s ≡ true
+pub takes_first : (r : SectionRun) (s : ℕ) → r.count ≡ 0 → s < 65535 → takes r s ≡ true
 unfolding takes
 takes_first r s none number =
     and_from _ _ (and_from _ _ (lt-ltb r.count 32 (omega (arith, none))) (lt-ltb s 65535 number)) (ap (λ b. b || (s == behind r)) (eq-eqb r.count 0 none))

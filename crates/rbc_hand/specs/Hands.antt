@@ -1,7 +1,7 @@
 -- Hands: consecutive sections, and what is held of each.
 use Rattle.std.specs.Prelude.{◌≡◌, ℕ, ◌+◌, ◌-◌, ◌≤◌, ◌==◌, Bool, ◌&&◌, ◌||◌, List, [], ◌∷◌, ◌++◌, length, map, take, drop, if◌then◌else◌, Option, option_map, nat_lt, slice_get}
 use Rattle.std.specs.List.{AllByRecursion}
-use Rattle.rbc_spec.specs.Runs.{Run, behind, is_empty}
+use Rattle.rbc_spec.specs.SectionRuns.{SectionRun, behind, is_empty}
 use Rattle.rbc_hand.specs.declared.token.Token.{Token}
 use Rattle.rbc_hand.specs.Tokens.{Held, Own, section_of, held_of, token_of}
 
@@ -10,7 +10,7 @@ pub record Holding : Type 0 where
   pub first : ℕ
   pub holds : List Held
 
-abbrev pub run : Holding → Run
+abbrev pub run : Holding → SectionRun
 run h = record { first = h.first; count = length h.holds }
 
 abbrev pub nothing : Holding
@@ -34,28 +34,28 @@ abbrev pub without_back : Holding → Holding
 without_back h = record h { holds = take (length h.holds - 1) h.holds }
 
 -- the same of its run
-abbrev pub shorter_in_front : Run → Run
+abbrev pub shorter_in_front : SectionRun → SectionRun
 shorter_in_front r = record { first = r.first + 1; count = r.count - 1 }
 
-abbrev pub run_without_front : Run → Run
+abbrev pub run_without_front : SectionRun → SectionRun
 run_without_front r = if is_empty r then r else shorter_in_front r
 
-abbrev pub run_without_back : Run → Run
+abbrev pub run_without_back : SectionRun → SectionRun
 run_without_back r = record r { count = r.count - 1 }
 
 -- the section may come behind the last of a hand: there is room, and it follows it, or the hand is empty. No line has a
 -- section 65 535
-unfoldable pub takes : Run → ℕ → Bool
+unfoldable pub takes : SectionRun → ℕ → Bool
 takes r s = (nat_lt r.count 32 && nat_lt s 65535) && (is_empty r || (s == behind r))
 
 -- the hand with one section more
 abbrev pub extended : Holding → ℕ → Held → Holding
 extended h s held = record { first = if length h.holds == 0 then s else h.first; holds = h.holds ++ held ∷ [] }
 
-abbrev pub longer : Run → Run
+abbrev pub longer : SectionRun → SectionRun
 longer r = record r { count = r.count + 1 }
 
-abbrev pub one : ℕ → Run
+abbrev pub one : ℕ → SectionRun
 one s = record { first = s; count = 1 }
 
 -- each section is an own one of the hand's centre, with its claim for the train

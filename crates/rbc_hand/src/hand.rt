@@ -32,7 +32,7 @@ impl Hand {
     ghost use Rattle.rbc_hand.specs.Tokens.{section_of, held_of, Own, token_of};
     ghost use Rattle.rbc_hand.specs.SectionRuns.{run_of};
     ghost use Rattle.rbc_hand.specs.Hands.{run, nothing, front, back, without_front, without_back, run_without_front, run_without_back, shorter_in_front, takes, extended, one, longer, IsAllOwn};
-    ghost use Rattle.rbc_spec.specs.Runs.{no_run, is_empty, joined, behind};
+    ghost use Rattle.rbc_spec.specs.SectionRuns.{no_run, is_empty, joined, behind};
 
     /// The most sections that a hand has.
     pub const ROOM: u16 = 32;

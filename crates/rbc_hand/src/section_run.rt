@@ -1,5 +1,5 @@
 ghost use Rattle.std.specs.Prelude.{◌≡◌};
-ghost use Rattle.rbc_spec.specs.Runs.{behind, is_empty, within};
+ghost use Rattle.rbc_spec.specs.SectionRuns.{behind, is_empty, within};
 
 /// Consecutive sections: the first by its number over the whole line, and how many they are.
 #[derive(Clone, Copy, Debug, PartialEq, Eq)]
@@ -19,7 +19,7 @@ impl SectionRun {
     }
 
     /// Whether the section is one of them.
-    #[tactic(auto, unfolding(rbc_spec::specs::Runs::within))]
+    #[tactic(auto, unfolding(rbc_spec::specs::SectionRuns::within))]
     pub fn contains(self, section: u16) -> bool
         ensures { result ≡ within (run_of self) section }
     {

@@ -2,7 +2,7 @@
 use Rattle.std.proofs.Common.{◌≡◌, ◌≢◌, ℕ, ◌+◌, ◌-◌, ◌*◌, ◌<◌, ◌≤◌, ◌==◌, ◌&&◌, ◌||◌, not, nat_le, Bool, true, false, is_none, refl, sym, ap, ◌∙◌, arith, ⊎_elim, leb-true}
 use Rattle.std.specs.Option.{option_map_or}
 use Rattle.std.proofs.lemmas.Bool.{and_parts, and_from, or_cases, cases_eq, cond-true, cond-false, eqb-false, eq-eqb, ne_eqb, eqb-true, not-false}
-use Rattle.rbc_spec.specs.Runs.{Run, within, behind, is_empty, shared, joined}
+use Rattle.rbc_spec.specs.SectionRuns.{SectionRun, within, behind, is_empty, shared, joined}
 use Rattle.rbc_spec.specs.Line.{Line, IsLine, is_home, start, end}
 use Rattle.rbc_spec.specs.Sections.{is_on, home_run}
 use Rattle.rbc_spec.specs.Place.{Place, group_start}
@@ -20,7 +20,7 @@ use Rattle.rbc_laws.proofs.Reasons.{not_for}
 use Rattle.rbc_laws.proofs.Places.{extent_ahead, placed_on}
 
 -- where a run that follows another ends
-behind_joined : (a b : Run) → b.first ≡ behind a → behind (joined a b) ≡ behind a + b.count
+behind_joined : (a b : SectionRun) → b.first ≡ behind a → behind (joined a b) ≡ behind a + b.count
 behind_joined a b follows = ⊎_elim
     (λ (none : a.count ≡ 0). ap behind (cond-true (is_empty a) b (record { first = a.first; count = a.count + b.count }) (eq-eqb a.count 0 none)) ∙ (omega arith))
     (λ (some : a.count ≢ 0). ap behind (cond-false (is_empty a) b (record { first = a.first; count = a.count + b.count }) (ne_eqb a.count 0 some)) ∙ (omega arith))
@@ -43,7 +43,7 @@ module _ (line : Line) (c : ℕ) (k : Centre) (m : TrainMessage) (n : Mission) (
       let ahead : IsAhead line place = extent_ahead line h.position place (placed_on line n.place.track h.position place h.place_is).extent_is in
       omega (arith, ahead, not_past)
 
-  abbrev more : Run
+  abbrev more : SectionRun
   more = extension line c k (record n { place = place })
 
   abbrev test : ℕ → Bool
@@ -71,8 +71,8 @@ module _ (line : Line) (c : ℕ) (k : Centre) (m : TrainMessage) (n : Mission) (
       → is_empty (part_at line d place.track n.hand) ≡ true → is_empty (part_at line d place.track (extended line c k place n).hand) ≡ false
       → group_start line place ≤ start line (part_at line d place.track (extended line c k place n).hand).first
   border_ahead d ok on some none there =
-      let hand : Run = joined n.hand more in
-      let part : Run = shared hand (home_run line d place.track) in
+      let hand : SectionRun = joined n.hand more in
+      let part : SectionRun = shared hand (home_run line d place.track) in
       let border : ℕ = part.first in
       let filled : part.count ≢ 0 = eqb-false part.count 0 there in
       let both = and_parts (within hand border) (within (home_run line d place.track) border)
@@ -91,7 +91,7 @@ module _ (line : Line) (c : ℕ) (k : Centre) (m : TrainMessage) (n : Mission) (
       let before = ends_before line place.track (behind n.hand - 1) border on of_d.1 (omega (arith, count, ends.0)) in
       omega (arith, group_before, before)
     where
-      no_room : (r : Run) → r.count ≡ 0 → (s : ℕ) → r.first ≤ s → s < r.first + r.count → ⊥
+      no_room : (r : SectionRun) → r.count ≡ 0 → (s : ℕ) → r.first ≤ s → s < r.first + r.count → ⊥
       no_room r empty s low high = omega arith
 
 -- a request to shorten reaches no section that starts before the group

@@ -4,7 +4,7 @@ use Rattle.std.specs.Option.{option_map_or}
 use Rattle.std.proofs.Math.Bool.{and-true}
 use Rattle.rbc_spec.specs.Maps.{has, put}
 use Rattle.rbc_spec.specs.Reach.{Reach, follows_rule}
-use Rattle.rbc_spec.specs.Runs.{Run, part_from, all_of, within, behind, is_empty, part_before}
+use Rattle.rbc_spec.specs.SectionRuns.{SectionRun, part_from, all_of, within, behind, is_empty, part_before}
 use Rattle.rbc_spec.specs.Line.{Line, section, is_home}
 use Rattle.rbc_spec.specs.Sections.{is_on}
 use Rattle.rbc_spec.specs.Message.{TrainMessage, TrainBody, TrainData, Request, Report, ShorteningGranted, ShorteningRejected, EndOfMission, InitiationOfSession, TerminationOfSession, StartOfMission, SessionEstablished}
@@ -39,7 +39,7 @@ module _ (line : Line) (c : ℕ) where
         (booked is_open (Out t d) (lendable line c k first most) >> send d (RouteInfo t (lendable line c k first most))) (both _ _ (record { each = λ k h. h }) (record { each = λ k h. h }))).each k h;
   }
 
-  told_keeps : (d t : ℕ) (r : Run) → Keeps (route_told line c d t r)
+  told_keeps : (d t : ℕ) (r : SectionRun) → Keeps (route_told line c d t r)
   unfolding ◌>>◌
   told_keeps d t r = where_keeps (λ k. (has (λ first. first == r.first) (k.route_ask t) && (is_of_line line r && is_home line d r.first)) && all_of (is_home line d) r)
       (become (λ k. record k { route_ask = put k.route_ask t None }) >> choose (λ k. has (is_wanted line r) (k.mission t)) (change_mission t (λ m. record m { pool = r })) (if is_empty r then rest else send d (RouteReturn t r)))
@@ -50,7 +50,7 @@ module _ (line : Line) (c : ℕ) where
       (λ m. branch (within m.pool s) (returned line c t m.place.track (part_from s m.pool) >> change_mission t (λ n. record n { pool = part_before s n.pool })) (propose_if_so line t s)
       (both _ _ (record { each = λ k h. h }) (changes t (λ n. record n { pool = part_before s n.pool }) (λ n e. none_before s n.pool e))) (propose_if_keeps line c t s))
 
-  home_keeps : (d t : ℕ) (r : Run) → Keeps (route_returned line c d t r)
+  home_keeps : (d t : ℕ) (r : SectionRun) → Keeps (route_returned line c d t r)
   home_keeps d t r = both _ _ (record { each = λ k h. h }) (where_keeps (λ k. not (uses_some line c k t) && ((is_none (k.mission t) && is_none (k.wait t)) && not (is_expected line k t))) (end_order line c t) (end_keeps line c t))
 
   take_keeps : (d t heard : ℕ) (m : Mission) → is_empty m.pool ≡ true → Keeps (take_mission line c d t heard m)
@@ -134,5 +134,5 @@ unfolding beginning
 begins line c t first m asks has = cc
 
 -- an empty pool passes the test
-pub wanted_is : (line : Line) (r : Run) (m : Mission) → is_empty m.pool ≡ true → is_wanted line r m ≡ follows_hand line r m
+pub wanted_is : (line : Line) (r : SectionRun) (m : Mission) → is_empty m.pool ≡ true → is_wanted line r m ≡ follows_hand line r m
 wanted_is line r m empty = rw empty (ap (λ b. ((r.first == behind m.hand) && is_on line m.place.track r.first) && b) (and-true (not m.is_ended)))

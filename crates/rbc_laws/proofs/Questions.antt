@@ -5,7 +5,7 @@ use Rattle.std.proofs.lemmas.Option.{same_Some}
 use Rattle.std.specs.Option.{option_map_or}
 use Rattle.rbc_spec.specs.Maps.{has, put}
 use Rattle.rbc_spec.specs.Reach.{Reach, asks_rights, lends_routes, hands_over}
-use Rattle.rbc_spec.specs.Runs.{Run, part_from, all_of, within, no_run, most_in_hand, behind, is_empty, part_before, joined}
+use Rattle.rbc_spec.specs.SectionRuns.{SectionRun, part_from, all_of, within, no_run, most_in_hand, behind, is_empty, part_before, joined}
 use Rattle.rbc_spec.specs.Line.{Line, end, registrar, next_centre, is_home, start}
 use Rattle.rbc_spec.specs.Sections.{nid_rbc, is_on}
 use Rattle.rbc_spec.specs.Place.{Place, Position, covered, fit_place, place_on, group_start}
@@ -91,14 +91,14 @@ change_at t f k h new = set_at t (option_map f (k.mission t)) k h (λ first m as
 pub changes : (t : ℕ) (f : Mission → Mission) → ((m : Mission) → is_empty m.pool ≡ true → is_empty (f m).pool ≡ true) → Keeps (change_mission t f)
 changes t f keeps = record { each = λ k h. change_at t f k h (λ first m asks has. keeps m (h t first m asks has)) }
 
-pub none_before : (s : ℕ) (pool : Run) → is_empty pool ≡ true → is_empty (part_before s pool) ≡ true
+pub none_before : (s : ℕ) (pool : SectionRun) → is_empty pool ≡ true → is_empty (part_before s pool) ≡ true
 none_before s pool none = let no : pool.count ≡ 0 = eqb-true pool.count 0 none in eq-eqb (part_before s pool).count 0 (omega (arith, no))
 
 module _ (line : Line) (c t : ℕ) where
   pub unproposed : Keeps (change_mission t (λ n. record n { proposal = None }))
   unproposed = changes t (λ n. record n { proposal = None }) (λ m e. e)
 
-  leave_keeps : (track : ℕ) (r : Run) → Keeps (leave line c t track r)
+  leave_keeps : (track : ℕ) (r : SectionRun) → Keeps (leave line c t track r)
   leave_keeps track r = both _ _ (record { each = λ k h. h }) (record { each = λ k h. h })
 
   pub return_keeps : Keeps (return_right line c t)
@@ -198,13 +198,13 @@ module _ (line : Line) (c t : ℕ) where
   border_keeps reach d = both _ _ (branch (hands_over reach) (announce_if_due line t d) rest (announce_if_keeps d) (record { each = λ k h. h })) (ask_if_keeps d)
 
   -- an empty pool is left as it is by a longer hand
-  extended_empty : (r : Run) (m : Mission) → is_empty m.pool ≡ true → is_empty (extended_by r m).pool ≡ true
+  extended_empty : (r : SectionRun) (m : Mission) → is_empty m.pool ≡ true → is_empty (extended_by r m).pool ≡ true
   extended_empty r m empty = ap is_empty (cond-true (is_empty m.pool) m.pool (part_from (behind r) m.pool) empty) ∙ empty
 
   granted_keeps : (reach : Reach) (m : Mission) (k : Centre) → ((first : ℕ) → k.route_ask t ≡ Some first → is_empty m.pool ≡ true) → AsksForEmptyPools k → AsksForEmptyPools (grant reach line c t m k).state
   unfolding ◌>>◌
   granted_keeps reach m k empty h =
-      let r : Run = extension line c k m in
+      let r : SectionRun = extension line c k m in
       let n : Mission = extended_by r m in
       (branch (lends_routes reach) _ _ (of_option (next_centre line c m.place.track) _ _ (λ d. border_keeps reach d) (record { each = λ k h. h })) (record { each = λ k h. h })).each
       (((booked is_open (Taken t) r >> set_mission t (Some n)) >> say t m.place.group (Authority (authority line n))) k).state
@@ -276,7 +276,7 @@ module _ (line : Line) (c t : ℕ) where
       (cases_eq u t)
 
   -- what was asked for goes into the pool behind the question's end
-  pub told_at : (d : ℕ) (r : Run) (k : Centre) → AsksForEmptyPools k → (z : Bool)
+  pub told_at : (d : ℕ) (r : SectionRun) (k : Centre) → AsksForEmptyPools k → (z : Bool)
       → AsksForEmptyPools (if z then change_mission t (λ m. record m { pool = r }) (record k { route_ask = put k.route_ask t None })
       else (if is_empty r then rest else send d (RouteReturn t r)) (record k { route_ask = put k.route_ask t None })).state
   told_at d r k h true = change_at t (λ m. record m { pool = r }) (record k { route_ask = put k.route_ask t None }) (ended k h) (λ first m asks has. absurd (none_asked first (sym (put_there k.route_ask t None) ∙ asks)))

@@ -3,14 +3,14 @@ use Rattle.std.proofs.Common.{◌≡◌, ◌⊎◌, inl, inr, ℕ, ◌+◌, ◌-
 use Rattle.std.specs.Option.{option_map_or}
 use Rattle.std.specs.List.{find}
 use Rattle.std.proofs.lemmas.Bool.{cases_Bool, and_left, and_parts}
-use Rattle.rbc_spec.specs.Runs.{within, behind}
+use Rattle.rbc_spec.specs.SectionRuns.{within, behind}
 use Rattle.rbc_spec.specs.Line.{Line, end}
 use Rattle.rbc_spec.specs.Sections.{section_count}
 use Rattle.rbc_spec.specs.Place.{Position, group_start, place_on}
 use Rattle.rbc_spec.specs.Message.{TrainMessage, TrainBody, TrainData, Request, Report, ShorteningGranted, ShorteningRejected, EndOfMission, InitiationOfSession, TerminationOfSession, StartOfMission, SessionEstablished, is_stale}
 use Rattle.rbc_spec.specs.Outcome.{Reason, StaleStamp, NoSession, ForeignEngine, NoPlace, NotSupervised, NoTrainData, ProposalPending, Unasked, MissionEnded, WrongPhase, reasons_of}
 use Rattle.rbc_spec.specs.Centre as centre
-use Rattle.rbc_spec.specs.Centre.{is_up, is_expected, is_silent}
+use Rattle.rbc_spec.specs.Centre.{is_up, is_expected, is_closed}
 use Rattle.rbc_spec.specs.LineCentre as line_centre
 use Rattle.rbc_spec.specs.LineCentre.{LineState, is_at, is_given_to}
 use Rattle.rbc_spec.specs.Step as step
@@ -33,7 +33,7 @@ module _ (line : Line) (w : World) (v : LineState) (stands : StandsFor line w v)
   mission = k.mission t
 
   -- a mission that the centre does not have is at another centre, or parted
-  away : (m : line_centre.Mission) → IsMissionOf w t m → mission ≡ None → is_at c m.supervisor ≡ false
+  away : (m : line_centre.LineMission) → IsMissionOf w t m → mission ≡ None → is_at c m.supervisor ≡ false
   away m (supervised d n has) none = ⊎_elim
       (λ (here : (d == c) ≡ true). absurd (two (sym (ap (λ e. (w.at e).mission t) (eqb-true d c here)) ∙ has.at_centre)))
       (λ (apart : (d == c) ≡ false). apart)
@@ -43,20 +43,20 @@ module _ (line : Line) (w : World) (v : LineState) (stands : StandsFor line w v)
       two some = let wrong : None ≡ Some n = sym none ∙ some in cc
   away m (parted a b f heard has_data is_ended place hand on carries) none = refl
 
-  here_at : (test : line_centre.Mission → Bool) (n : centre.Mission) → mission ≡ Some n → run.has_here v c t test ≡ test (seen c n)
+  here_at : (test : line_centre.LineMission → Bool) (n : centre.Mission) → mission ≡ Some n → run.has_here v c t test ≡ test (seen c n)
   here_at test n has =
-      ap (λ (o : Option line_centre.Mission). option_map_or (λ m. is_at c m.supervisor && test m) o false) (stands.each_mission t (seen c n) (supervised c n (record { at_centre = has })))
+      ap (λ (o : Option line_centre.LineMission). option_map_or (λ m. is_at c m.supervisor && test m) o false) (stands.each_mission t (seen c n) (supervised c n (record { at_centre = has })))
       ∙ true_and (c == c) (test (seen c n)) (eq-eqb c c refl)
 
-  not_here : (test : line_centre.Mission → Bool) → mission ≡ None → run.has_here v c t test ≡ false
+  not_here : (test : line_centre.LineMission → Bool) → mission ≡ None → run.has_here v c t test ≡ false
   not_here test none = by_mission (v.mission t) refl
     where
-      by_mission : (o : Option line_centre.Mission) → v.mission t ≡ o → option_map_or (λ m. is_at c m.supervisor && test m) o false ≡ false
+      by_mission : (o : Option line_centre.LineMission) → v.mission t ≡ o → option_map_or (λ m. is_at c m.supervisor && test m) o false ≡ false
       by_mission (Some m) is = and_left (is_at c m.supervisor) (test m) (away m (stands.mission t m is) none)
       by_mission None is = refl
 
   -- the centre's mission passes one test exactly where the line's passes the other
-  pub here_is : (test : line_centre.Mission → Bool) (other : centre.Mission → Bool) → ((n : centre.Mission) → mission ≡ Some n → test (seen c n) ≡ other n)
+  pub here_is : (test : line_centre.LineMission → Bool) (other : centre.Mission → Bool) → ((n : centre.Mission) → mission ≡ Some n → test (seen c n) ≡ other n)
       → run.has_here v c t test ≡ step.mission_has other mission
   here_is test other same = by_mission mission refl
     where
@@ -145,7 +145,7 @@ module _ (line : Line) (w : World) (v : LineState) (stands : StandsFor line w v)
 
     same_reason : (body : TrainBody) → HasEndIfAsked line k (m body) → (why : Reason) → run.holds line v c (m body) body why ≡ without_waiting body why
     same_reason body ok StaleStamp = ap (is_stale t_train) (stands.heard t c)
-    same_reason body ok NoSession = ap is_silent (stands.phase t c)
+    same_reason body ok NoSession = ap is_closed (stands.phase t c)
     same_reason body ok ForeignEngine = refl
     same_reason body ok NoPlace = same_place body ok
     same_reason body ok NotSupervised = supervised_is

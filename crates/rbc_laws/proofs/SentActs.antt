@@ -4,7 +4,7 @@ use Rattle.std.specs.List.{range_with_len}
 use Rattle.std.specs.Option.{option_map_or}
 use Rattle.std.proofs.lemmas.Bool.{cond-true, lt-ltb, le-ltb, eqb-false, or_right, or_parts, not-true}
 use Rattle.rbc_spec.specs.Maps.{put}
-use Rattle.rbc_spec.specs.Runs.{Run, within, behind, is_empty, shared}
+use Rattle.rbc_spec.specs.SectionRuns.{SectionRun, within, behind, is_empty, shared}
 use Rattle.rbc_spec.specs.Line.{Line, is_home, registrar}
 use Rattle.rbc_spec.specs.Sections.{home_run, nid_rbc}
 use Rattle.rbc_spec.specs.Message.{EndSession, unknown_group}
@@ -36,45 +36,45 @@ module _ (bound d : ℕ) (line : Line) (c t : ℕ) where
   sends_one low high e body k from to = sends_yes bound d low high (d == e) body (send e body k) refl refl refl (λ is. (from, to))
 
   -- a run that goes home, of which the ranks are known
-  home_sends : (low high track : ℕ) (r : Run) (k : Centre)
+  home_sends : (low high track : ℕ) (r : SectionRun) (k : Centre)
       → ((shared r (home_run line d track)).count ≢ 0 → (low ≤ side (nat_lt (shared r (home_run line d track)).first bound)) × (side (nat_lt (shared r (home_run line d track)).first bound) < high))
       → Sends bound d low high 1 0 0 (returned line c t track r k)
   home_sends low high track r k between =
-      let part : Run = shared r (home_run line d track) in
+      let part : SectionRun = shared r (home_run line d track) in
       sends_yes bound d low high (not ((d == c) || is_empty part)) (RouteReturn t part) (returned line c t track r k) (none_passing ((d == c) || is_empty part) (RouteReturn t part)) refl refl
       (λ is. between (eqb-false part.count 0 (or_parts (d == c) (is_empty part) (not-true ((d == c) || is_empty part) is)).1))
 
-  pub home_any : (track : ℕ) (r : Run) (k : Centre) → Sends bound d 0 2 1 0 0 (returned line c t track r k)
+  pub home_any : (track : ℕ) (r : SectionRun) (k : Centre) → Sends bound d 0 2 1 0 0 (returned line c t track r k)
   home_any track r k = home_sends 0 2 track r k (λ some. (omega arith, side_below (nat_lt (shared r (home_run line d track)).first bound)))
 
-  pub home_low : (track : ℕ) (r : Run) (k : Centre) → behind r ≤ bound → Sends bound d 0 1 1 0 0 (returned line c t track r k)
+  pub home_low : (track : ℕ) (r : SectionRun) (k : Centre) → behind r ≤ bound → Sends bound d 0 1 1 0 0 (returned line c t track r k)
   home_low track r k low = home_sends 0 1 track r k (λ some.
       let is : nat_lt (shared r (home_run line d track)).first bound ≡ true = lt-ltb (shared r (home_run line d track)).first bound (omega (arith, some)) in
       (omega arith, let e : side (nat_lt (shared r (home_run line d track)).first bound) ≡ 0 = ap side is in omega (arith, e)))
 
-  pub home_high : (track : ℕ) (r : Run) (k : Centre) → (r.count ≡ 0) ⊎ (bound ≤ r.first) → Sends bound d 1 2 1 0 0 (returned line c t track r k)
+  pub home_high : (track : ℕ) (r : SectionRun) (k : Centre) → (r.count ≡ 0) ⊎ (bound ≤ r.first) → Sends bound d 1 2 1 0 0 (returned line c t track r k)
   home_high track r k (inl none) = home_sends 1 2 track r k (λ some. absurd (omega (arith, some)))
   home_high track r k (inr high) = home_sends 1 2 track r k (λ some.
       let is : nat_lt (shared r (home_run line d track)).first bound ≡ false = le-ltb (shared r (home_run line d track)).first bound (omega (arith, some)) in
       let e : side (nat_lt (shared r (home_run line d track)).first bound) ≡ 1 = ap side is in (omega (arith, e), omega (arith, e)))
 
   -- an empty run sends nothing
-  pub home_none : (low high track : ℕ) (r : Run) (k : Centre) → r.count ≡ 0 → Sends bound d low high 0 0 0 (returned line c t track r k)
+  pub home_none : (low high track : ℕ) (r : SectionRun) (k : Centre) → r.count ≡ 0 → Sends bound d low high 0 0 0 (returned line c t track r k)
   home_none low high track r k none = sends_none bound d low high (returned line c t track r k)
       (cond-true ((d == c) || is_empty (shared r (home_run line d track))) [] (RouteReturn t (shared r (home_run line d track)) ∷ [])
       (or_right (d == c) _ (eq-eqb (shared r (home_run line d track)).count 0 (omega (arith, none))))) refl refl
 
   -- ## Sections that leave
 
-  pub freed_sends : (low high : ℕ) (is_meant : Entry → Bool) (r : Run) (k : Centre) → Sends bound d low high 0 0 r.count (freed line c is_meant r k)
+  pub freed_sends : (low high : ℕ) (is_meant : Entry → Bool) (r : SectionRun) (k : Centre) → Sends bound d low high 0 0 r.count (freed line c is_meant r k)
   freed_sends low high is_meant r k = sends_words bound d low high r.count (freed line c is_meant r k) refl refl
       (few_passing (λ s. ((within r s && is_home line c s) && is_meant (k.book s)) && k.wish s) r.first r.count)
 
-  pub leave_any : (track : ℕ) (r : Run) (k : Centre) → Sends bound d 0 2 1 0 (r.count + 0) (leave line c t track r k)
+  pub leave_any : (track : ℕ) (r : SectionRun) (k : Centre) → Sends bound d 0 2 1 0 (r.count + 0) (leave line c t track r k)
   leave_any track r k = sends_then bound d 0 0 2 0 1 0 0 r.count 0 (freed line c (is_taken_for t) r) (returned line c t track r) k (omega arith) (omega arith)
       (freed_sends 0 0 (is_taken_for t) r k) (home_any track r _)
 
-  pub leave_low : (track : ℕ) (r : Run) (k : Centre) → behind r ≤ bound → Sends bound d 0 1 1 0 (r.count + 0) (leave line c t track r k)
+  pub leave_low : (track : ℕ) (r : SectionRun) (k : Centre) → behind r ≤ bound → Sends bound d 0 1 1 0 (r.count + 0) (leave line c t track r k)
   leave_low track r k low = sends_then bound d 0 0 1 0 1 0 0 r.count 0 (freed line c (is_taken_for t) r) (returned line c t track r) k (omega arith) (omega arith)
       (freed_sends 0 0 (is_taken_for t) r k) (home_low track r _ low)
 

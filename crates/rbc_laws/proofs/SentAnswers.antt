@@ -2,7 +2,7 @@
 use Rattle.std.proofs.Common.{◌≡◌, ◌⊎◌, ℕ, ◌+◌, ◌≤◌, ◌==◌, Bool, true, false, if◌then◌else◌, Option, Some, None, option_map, refl, sym, ap, ◌∙◌, subst, arith}
 use Rattle.std.specs.Option.{option_map_or}
 use Rattle.rbc_spec.specs.Maps.{put}
-use Rattle.rbc_spec.specs.Runs.{Run, no_run, behind, part_from, joined}
+use Rattle.rbc_spec.specs.SectionRuns.{SectionRun, no_run, behind, part_from, joined}
 use Rattle.rbc_spec.specs.Line.{Line}
 use Rattle.rbc_spec.specs.Place.{Place, Position, is_cleared, place_on}
 use Rattle.rbc_spec.specs.Centre.{Centre, Mission}
@@ -61,7 +61,7 @@ module _ (d : ℕ) (line : Line) (c t : ℕ) where
     -- the pool of the train's mission, if it has one, sends home what is behind the hand
     pool_sends : (n : Mission) (k : Centre) → n.pool ≡ m.pool → Sends bound d 1 2 1 0 0 (returned line c t n.place.track n.pool k)
     pool_sends n k is = home_high bound d line c t n.place.track n.pool k
-        (subst (λ (r : Run). (r.count ≡ 0) ⊎ (bound ≤ r.first)) (sym is) follows)
+        (subst (λ (r : SectionRun). (r.count ≡ 0) ⊎ (bound ≤ r.first)) (sym is) follows)
 
     same_pool : (j : Centre) (n o : Mission) → j.mission t ≡ Some n → j.mission t ≡ Some o → n.pool ≡ m.pool → o.pool ≡ m.pool
     same_pool j n o one two is = let same : Some n ≡ Some o = sym one ∙ two in let e : n ≡ o = cc in ap (λ (x : Mission). x.pool) (sym e) ∙ is

@@ -3,7 +3,7 @@ use Rattle.std.proofs.Common.{ℕ, ◌+◌, ◌≤◌, ◌&&◌, not, Bool, true
 use Rattle.std.specs.Option.{option_map_or}
 use Rattle.std.specs.List.{find, range_with_len}
 use Rattle.rbc_spec.specs.Maps.{put}
-use Rattle.rbc_spec.specs.Runs.{Run, no_run, within, is_empty, part_before, part_from, all_of}
+use Rattle.rbc_spec.specs.SectionRuns.{SectionRun, no_run, within, is_empty, part_before, part_from, all_of}
 use Rattle.rbc_spec.specs.Line.{Line, is_home, section}
 use Rattle.rbc_spec.specs.Place.{Place}
 use Rattle.rbc_spec.specs.Frame.{Body, Frame, AskRight, GiveRight, RefuseRight, ReturnRight, RouteAsk, RouteInfo, RouteWithdraw, RouteReturn, Announce, Cancel, TakingOver, Yield, carried_place}
@@ -60,7 +60,7 @@ module _ (d : ℕ) (line : Line) (c t : ℕ) where
       (sends_then 0 d 0 0 8 0 1 0 0 0 0 (booked is_open (Out t e) (lendable line c k first most)) (send e (RouteInfo t (lendable line c k first most))) k (omega arith) (omega arith)
       (sends_none 0 d 0 0 _ refl refl refl) (sends_one 0 d line c t 0 8 e (RouteInfo t (lendable line c k first most)) _ (omega arith) (omega arith))))
 
-  told_few : (e : ℕ) (r : Run) (k : Centre) → Few d line c t (route_told line c e t r k)
+  told_few : (e : ℕ) (r : SectionRun) (k : Centre) → Few d line c t (route_told line c e t r k)
   unfolding ◌>>◌
   told_few e r k = where_few _ _ k (few_if d line c t _ _ _
       (quiet d line c t (change_mission t (λ m. record m { pool = r }) (become (λ j. record j { route_ask = put j.route_ask t None }) k).state) refl (omega arith) (omega arith)) (goes (is_empty r)))
@@ -83,7 +83,7 @@ module _ (d : ℕ) (line : Line) (c t : ℕ) where
       by_mission (Some m) = by_pool (within m.pool s) m
       by_mission None = quiet d line c t _ refl (omega arith) (omega arith)
 
-  come_home_few : (e : ℕ) (r : Run) (k : Centre) → r.count ≤ 64 → Few d line c t (route_returned line c e t r k)
+  come_home_few : (e : ℕ) (r : SectionRun) (k : Centre) → r.count ≤ 64 → Few d line c t (route_returned line c e t r k)
   come_home_few e r k size = few d line c t 0 0 0 1 (r.count + 0) _ (omega arith) (omega arith) (omega arith) (omega (arith, size))
       (sends_then 0 d 0 0 0 0 0 0 1 r.count 0 (freed line c (is_out_for t e) r)
       (where_so (λ j. not (uses_some line c j t) && ((is_none (j.mission t) && is_none (j.wait t)) && not (is_expected line j t))) (end_order line c t)) k (omega arith) (omega arith)

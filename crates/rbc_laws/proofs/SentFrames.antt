@@ -3,12 +3,12 @@ use Rattle.std.proofs.Common.{◌≡◌, ℕ, ◌+◌, ◌≤◌, ◌&&◌, not,
 use Rattle.std.specs.Option.{option_map_or}
 use Rattle.rbc_spec.specs.Maps.{put}
 use Rattle.rbc_spec.specs.Reach.{Reach, asks_rights}
-use Rattle.rbc_spec.specs.Runs.{within, behind, all_of}
+use Rattle.rbc_spec.specs.SectionRuns.{within, behind, all_of}
 use Rattle.rbc_spec.specs.Line.{Line, is_centre, registrar}
 use Rattle.rbc_spec.specs.Place.{Place, Position, covered, fit_place}
 use Rattle.rbc_spec.specs.Frame.{Body, AskRight, TakingOver}
 use Rattle.rbc_spec.specs.Message.{TrainMessage, TrainBody, TrainData, Request, Report, ShorteningGranted, ShorteningRejected, EndOfMission, InitiationOfSession, TerminationOfSession, StartOfMission, SessionEstablished, SystemVersion, TerminationAcknowledged, unknown_group}
-use Rattle.rbc_spec.specs.Centre.{Centre, Mission, Taken, Silent, Opened, Expectation, is_open, is_taken_for, is_registrar_of, is_free}
+use Rattle.rbc_spec.specs.Centre.{Centre, Mission, Taken, Closed, Opened, Expectation, is_open, is_taken_for, is_registrar_of, is_free}
 use Rattle.rbc_spec.specs.Acts.{Act, Reply, rest, become, ◌>>◌, where_so, with_some, send, say, return_pool, booked, freed, change_mission, yield_if_due}
 use Rattle.rbc_spec.specs.Rules.{answered, restart, start_new, start_here, start_waiting, start_elsewhere, start_mission, accept, reject, drop_wait, close_session, set_phase, report, take_over, end_mission, answer_granted, report_here}
 use Rattle.rbc_lemmas.proofs.Acts.{alike_then}
@@ -98,9 +98,9 @@ module _ (d : ℕ) (line : Line) (c t : ℕ) where
 
   close_session_few : (k : Centre) → HoldsFew line k → Sends 0 d 0 0 0 0 64 (close_session line c t k)
   unfolding ◌>>◌
-  close_session_few k h = sends_then 0 d 0 0 0 0 0 0 0 0 64 (set_phase t Silent >> change_mission t (λ n. record n { proposal = None })) (drop_wait line c t) k (omega arith) (omega arith)
+  close_session_few k h = sends_then 0 d 0 0 0 0 0 0 0 0 64 (set_phase t Closed >> change_mission t (λ n. record n { proposal = None })) (drop_wait line c t) k (omega arith) (omega arith)
       (sends_none 0 d 0 0 _ refl refl refl)
-      (drop_sends ((set_phase t Silent >> change_mission t (λ n. record n { proposal = None })) k).state (h.waits t))
+      (drop_sends ((set_phase t Closed >> change_mission t (λ n. record n { proposal = None })) k).state (h.waits t))
 
   -- ## Every message
 

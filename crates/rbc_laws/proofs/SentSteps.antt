@@ -3,7 +3,7 @@ use Rattle.std.proofs.Common.{◌≡◌, ℕ, ◌+◌, ◌-◌, ◌*◌, ◌≤�
 use Rattle.std.specs.Option.{option_map_or}
 use Rattle.rbc_spec.specs.Maps.{put}
 use Rattle.rbc_spec.specs.Reach.{Reach, lends_routes, hands_over}
-use Rattle.rbc_spec.specs.Runs.{Run, no_run, behind, is_empty, part_before, part_from, joined}
+use Rattle.rbc_spec.specs.SectionRuns.{SectionRun, no_run, behind, is_empty, part_before, part_from, joined}
 use Rattle.rbc_spec.specs.Line.{Line, is_home, start, end, next_centre}
 use Rattle.rbc_spec.specs.Sections.{is_on, nid_rbc}
 use Rattle.rbc_spec.specs.Place.{Place, Position, group_start, place_on}
@@ -48,7 +48,7 @@ module _ (d : ℕ) (line : Line) (c t : ℕ) where
           ap (λ (x : Mission). x.handing) (sym same) ∙ at
 
   module _ (m : Mission) (few : m.hand.count + m.pool.count ≤ 64) (last_kept : ℕ) where
-    abbrev tail : Run
+    abbrev tail : SectionRun
     tail = part_from (last_kept + 1) m.hand
 
     abbrev kept : Mission
@@ -174,7 +174,7 @@ module _ (d : ℕ) (line : Line) (c t : ℕ) where
 
   grant_sends : (reach : Reach) (m : Mission) (k : Centre) → Sends 0 d 5 7 2 2 0 (grant reach line c t m k)
   grant_sends reach m k =
-      let r : Run = extension line c k m in
+      let r : SectionRun = extension line c k m in
       let n : Mission = extended_by r m in
       let says : Act = booked is_open (Taken t) r >> set_mission t (Some n) >> say t m.place.group (Authority (authority line n)) in
       sends_then 0 d 5 5 7 0 2 1 1 0 0 says

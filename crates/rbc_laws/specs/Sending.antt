@@ -1,6 +1,6 @@
 -- What a step of a centre may send on a link, say to trains and tell the interlocking.
 use Rattle.std.specs.Prelude.{◌≡◌, ◌⊎◌, ℕ, ◌+◌, ◌<◌, ◌≤◌, List, [], ◌∷◌, ⊤, Some}
-use Rattle.rbc_spec.specs.Runs.{behind}
+use Rattle.rbc_spec.specs.SectionRuns.{behind}
 use Rattle.rbc_spec.specs.Line.{Line}
 use Rattle.rbc_spec.specs.Place.{Place, covered}
 use Rattle.rbc_spec.specs.Frame.{Frame, Body, ReturnRight, RouteAsk, RouteReturn, Announce, Cancel, Yield}

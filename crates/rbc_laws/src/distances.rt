@@ -1,7 +1,7 @@
 //! Laws of distances in metres: no rule subtracts more than there is.
 
 ghost use Rattle.std.specs.Prelude.{◌≡◌, ℕ, ◌-◌, ◌≤◌, Bool, true, false, Some};
-ghost use Rattle.rbc_spec.specs.Runs.{behind, is_empty};
+ghost use Rattle.rbc_spec.specs.SectionRuns.{behind, is_empty};
 ghost use Rattle.rbc_spec.specs.Line.{Line, IsLine, start, end};
 ghost use Rattle.rbc_spec.specs.Sections.{is_on};
 ghost use Rattle.rbc_spec.specs.Place.{Place, Position, extent, group_start};

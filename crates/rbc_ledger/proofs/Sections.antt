@@ -2,7 +2,7 @@
 use Rattle.std.proofs.Common.{◌≡◌, ◌≢◌, ℕ, zero, suc, ◌+◌, ◌==◌, Bool, true, false, ◌&&◌, ◌||◌, List, [], ◌∷◌, refl, sym, ap, ◌∙◌, arith, ⊎_elim, ne_eqb, filter, eq-eqb, eqb-true}
 use Rattle.std.specs.List.{range_with_len}
 use Rattle.std.proofs.lemmas.Bool.{cond_both, or_left, cases_eq, and_left, and_right}
-use Rattle.rbc_spec.specs.Runs.{Run, within}
+use Rattle.rbc_spec.specs.SectionRuns.{SectionRun, within}
 use Rattle.rbc_lemmas.proofs.Runs.{within_true, within_from, within_before, within_none, same_tests}
 use Rattle.rbc_ledger.specs.Sections.{sections, is_among, AreApart}
 
@@ -25,7 +25,7 @@ among_range first (suc count) s = ⊎_elim
     (cases_eq s first)
 
 -- what is among the sections of a run is what is within it
-pub among_sections : (r : Run) (s : ℕ) → is_among (sections r) s ≡ within r s
+pub among_sections : (r : SectionRun) (s : ℕ) → is_among (sections r) s ≡ within r s
 among_sections r s = among_range r.first r.count s
 
 apart_range : (first count : ℕ) → AreApart (range_with_len first count)
@@ -36,7 +36,7 @@ apart_range first (suc count) = (
 )
 
 -- the sections of a run are apart
-pub apart_sections : (r : Run) → AreApart (sections r)
+pub apart_sections : (r : SectionRun) → AreApart (sections r)
 apart_sections r = apart_range r.first r.count
 
 -- among those that pass a test is what is among all and passes

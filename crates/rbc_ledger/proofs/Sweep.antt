@@ -2,7 +2,7 @@
 use Rattle.std.proofs.Common.{◌≡◌, ◌≢◌, ℕ, ◌==◌, ◌&&◌, ◌||◌, Bool, true, false, if◌then◌else◌, List, [], ◌∷◌, ◌++◌, map, filter, append_assoc, refl, sym, ap, ◌∙◌, subst, ⊎_elim, eq-eqb, ne_eqb}
 use Rattle.std.proofs.lemmas.Bool.{cond-true, cond-false, cases_eq, both_ways, or_left, or_right, or_parts, and_parts}
 use Rattle.rbc_ledger.specs.Sums.{put}
-use Rattle.rbc_spec.specs.Runs.{Run, within}
+use Rattle.rbc_spec.specs.SectionRuns.{SectionRun, within}
 use Rattle.rbc_ledger.specs.Sections.{sections, is_among, AreApart}
 use Rattle.rbc_ledger.specs.Sweep.{Spoken, sweep, AllMay, at_section, changed, said, Part, IsPart, in_part}
 use Rattle.rbc_ledger.proofs.Sums.{put_same, put_other}
@@ -122,7 +122,7 @@ sweep_may may change say (k ∷ ss) f apart each = (
 )
 
 -- a sweep over a run is the change of each entry within it at once
-pub sweep_over : {A W : Type 0} (change : ℕ → A → A) (say : ℕ → A → List W) (r : Run) (f : ℕ → A)
+pub sweep_over : {A W : Type 0} (change : ℕ → A → A) (say : ℕ → A → List W) (r : SectionRun) (f : ℕ → A)
     → sweep (at_section change say) (sections r) f
     ≡ record { state = λ s. if within r s then change s (f s) else f s; words = said (sections r) say f }
 sweep_over change say r f = λ i.
@@ -133,7 +133,7 @@ sweep_over change say r f = λ i.
     }
 
 -- and over those sections of a run that pass a test
-pub sweep_where : {A W : Type 0} (change : ℕ → A → A) (say : ℕ → A → List W) (test : ℕ → Bool) (r : Run)
+pub sweep_where : {A W : Type 0} (change : ℕ → A → A) (say : ℕ → A → List W) (test : ℕ → Bool) (r : SectionRun)
     (f : ℕ → A) → sweep (at_section change say) (filter test (sections r)) f ≡ record {
       state = λ s. if within r s && test s then change s (f s) else f s;
       words =
@@ -154,7 +154,7 @@ sweep_where change say test r f = λ i.
     apart = apart_filter test (sections r) (apart_sections r)
 
 -- what may be done at each entry within a run may be done all along
-pub may_over : {A W : Type 0} (may : ℕ → A → Type 0) (change : ℕ → A → A) (say : ℕ → A → List W) (r : Run)
+pub may_over : {A W : Type 0} (may : ℕ → A → Type 0) (change : ℕ → A → A) (say : ℕ → A → List W) (r : SectionRun)
     (f : ℕ → A) → ((s : ℕ) → within r s ≡ true → may s (f s))
     → AllMay (λ s g. may s (g s)) (at_section change say) (sections r) f
 may_over may change say r f each =
@@ -163,7 +163,7 @@ may_over may change say r f each =
 
 -- and at those that pass a test
 pub may_where : {A W : Type 0} (may : ℕ → A → Type 0) (change : ℕ → A → A) (say : ℕ → A → List W) (test : ℕ → Bool)
-    (r : Run) (f : ℕ → A) → ((s : ℕ) → within r s ≡ true → test s ≡ true → may s (f s))
+    (r : SectionRun) (f : ℕ → A) → ((s : ℕ) → within r s ≡ true → test s ≡ true → may s (f s))
     → AllMay (λ s g. may s (g s)) (at_section change say) (filter test (sections r)) f
 may_where may change say test r f each =
     sweep_may may change say (filter test (sections r)) f

@@ -1,10 +1,10 @@
 -- The sections of a run, as a list.
 use Rattle.std.specs.Prelude.{◌≡◌, ℕ, Bool, false, ◌||◌, ◌==◌, ⊤, List, [], ◌∷◌}
 use Rattle.std.specs.List.{range_with_len}
-use Rattle.rbc_spec.specs.Runs.{Run}
+use Rattle.rbc_spec.specs.SectionRuns.{SectionRun}
 
 -- the sections of a run, in order
-abbrev pub sections : Run → List ℕ
+abbrev pub sections : SectionRun → List ℕ
 sections r = range_with_len r.first r.count
 
 -- s is one of these

@@ -6,7 +6,7 @@
 
 ghost use Rattle.std.specs.Prelude.{◌≡◌, ℕ, ◌+◌, ◌<◌, ◌&&◌, ◌||◌, Bool, false, List, [], ◌∷◌, Some, All, if◌then◌else◌, flat_map, filter};
 ghost use Rattle.rbc_ledger.specs.Network.{numbered};
-ghost use Rattle.rbc_spec.specs.Runs.{Run, within};
+ghost use Rattle.rbc_spec.specs.SectionRuns.{SectionRun, within};
 ghost use Rattle.rbc_ledger.specs.Sections.{sections};
 ghost use Rattle.rbc_ledger.specs.Sweep.{Spoken, sweep, at_section};
 ghost use Rattle.rbc_ledger.specs.Coin.{Event, Letter, is_loss, run, start, IsInOnePlace, IsInOnePlaceAtMost, IsInTurn};
@@ -34,14 +34,14 @@ pub fn in_turn()
 /// Changes of one section after another are one change of the whole run, and what is said is what is said of each
 /// section, in order. The same for those sections of the run that pass a test.
 pub fn run_at_once()
-    ensures state { (change : ℕ → ℕ → ℕ) (say : ℕ → ℕ → List ℕ) (r : Run) (f : ℕ → ℕ) (s : ℕ)
+    ensures state { (change : ℕ → ℕ → ℕ) (say : ℕ → ℕ → List ℕ) (r : SectionRun) (f : ℕ → ℕ) (s : ℕ)
         → (sweep (at_section change say) (sections r) f).state s
         ≡ (if within r s then change s (f s) else f s) }
-    ensures words { (change : ℕ → ℕ → ℕ) (say : ℕ → ℕ → List ℕ) (r : Run) (f : ℕ → ℕ)
+    ensures words { (change : ℕ → ℕ → ℕ) (say : ℕ → ℕ → List ℕ) (r : SectionRun) (f : ℕ → ℕ)
         → (sweep (at_section change say) (sections r) f).words
         ≡ flat_map (λ s. say s (f s)) (sections r) }
     ensures tested { (change : ℕ → ℕ → ℕ) (say : ℕ → ℕ → List ℕ) (test : ℕ → Bool)
-        (r : Run) (f : ℕ → ℕ) (s : ℕ)
+        (r : SectionRun) (f : ℕ → ℕ) (s : ℕ)
         → (sweep (at_section change say) (filter test (sections r)) f).state s
         ≡ (if within r s && test s then change s (f s) else f s) }
 {}

@@ -1,12 +1,12 @@
 -- Laws of the longest run under a test.
 use Rattle.std.proofs.Common.{◌≡◌, ℕ, zero, suc, ◌+◌, ◌<◌, ◌≤◌, Bool, true, false, sym, ap, ◌∙◌, subst, arith, ⊎_elim, le_antisymm}
 use Rattle.std.proofs.lemmas.Bool.{cond-true, cond-false, cases_lt, cases_Bool, both_ways}
-use Rattle.rbc_spec.specs.Runs.{Run, within, longest}
+use Rattle.rbc_spec.specs.SectionRuns.{SectionRun, within, longest}
 use Rattle.rbc_lemmas.specs.Runs.{IsLongest}
 use Rattle.rbc_lemmas.proofs.Runs.{within_true, within_from, within_none}
 
 -- the run of so many sections from the first on
-abbrev pub from : ℕ → ℕ → Run
+abbrev pub from : ℕ → ℕ → SectionRun
 from first count = record { first = first; count = count }
 
 longest_yes : (test : ℕ → Bool) (first most count : ℕ) → IsLongest test (first + 1) most count → test first ≡ true

@@ -5,34 +5,34 @@ use Rattle.std.proofs.lemmas.Bool.{or_left, or_right, or_cases, cases_lt, cases_
 use Rattle.std.proofs.lemmas.Bool.Decides.{eqb_tells}
 use Rattle.std.proofs.lemmas.List.{append-nil}
 use Rattle.std.proofs.lemmas.List.Elements.{filter-append}
-use Rattle.rbc_spec.specs.Runs.{Run, no_run, within, behind, is_empty, part_before, part_from, shared, joined, all_of}
+use Rattle.rbc_spec.specs.SectionRuns.{SectionRun, no_run, within, behind, is_empty, part_before, part_from, shared, joined, all_of}
 use Rattle.rbc_lemmas.proofs.Lists.{range-append, filter-range_none, each_of, all_from}
 
 -- what is within a run stands between its ends
-pub within_true : (r : Run) (s : ℕ) → within r s ≡ true → (r.first ≤ s) × (s < r.first + r.count)
+pub within_true : (r : SectionRun) (s : ℕ) → within r s ≡ true → (r.first ≤ s) × (s < r.first + r.count)
 unfolding within
 within_true r s in_run =
     let both = and_parts (nat_le r.first s) (nat_lt s (r.first + r.count)) in_run in
     (leb-true r.first s both.0, ltb-true s (r.first + r.count) both.1)
 
 -- what stands between its ends is within it
-pub within_from : (r : Run) (s : ℕ) → r.first ≤ s → s < r.first + r.count → within r s ≡ true
+pub within_from : (r : SectionRun) (s : ℕ) → r.first ≤ s → s < r.first + r.count → within r s ≡ true
 unfolding within
 within_from r s low high =
     and_from (nat_le r.first s) (nat_lt s (r.first + r.count)) (le-leb r.first s low) (lt-ltb s (r.first + r.count) high)
 
 -- what stands before it is not
-pub within_before : (r : Run) (s : ℕ) → s < r.first → within r s ≡ false
+pub within_before : (r : SectionRun) (s : ℕ) → s < r.first → within r s ≡ false
 unfolding within
 within_before r s low = and_left (nat_le r.first s) (nat_lt s (r.first + r.count)) (lt-leb r.first s low)
 
 -- nor what stands behind it
-pub within_behind : (r : Run) (s : ℕ) → r.first + r.count ≤ s → within r s ≡ false
+pub within_behind : (r : SectionRun) (s : ℕ) → r.first + r.count ≤ s → within r s ≡ false
 unfolding within
 within_behind r s high = and_right (nat_le r.first s) (nat_lt s (r.first + r.count)) (le-ltb s (r.first + r.count) high)
 
 -- three ways: within a run, before it or after it
-pub stands : (r : Run) (s : ℕ) → ((within r s ≡ true) × (r.first ≤ s) × (s < r.first + r.count)) ⊎ ((within r s ≡ false) × ((s < r.first) ⊎ (r.first + r.count ≤ s)))
+pub stands : (r : SectionRun) (s : ℕ) → ((within r s ≡ true) × (r.first ≤ s) × (s < r.first + r.count)) ⊎ ((within r s ≡ false) × ((s < r.first) ⊎ (r.first + r.count ≤ s)))
 stands r s = ⊎_elim
     (λ (low : s < r.first). inr (within_before r s low, inl low))
     (λ (from : r.first ≤ s). ⊎_elim
@@ -42,7 +42,7 @@ stands r s = ⊎_elim
     (cases_lt s r.first)
 
 -- nothing is within an empty run
-pub within_none : (r : Run) (s : ℕ) → r.count ≡ 0 → within r s ≡ false
+pub within_none : (r : SectionRun) (s : ℕ) → r.count ≡ 0 → within r s ≡ false
 within_none r s none = ⊎_elim (λ (low : s < r.first). within_before r s low)
     (λ (high : r.first ≤ s). within_behind r s (omega arith)) (cases_lt s r.first)
 
@@ -52,7 +52,7 @@ same_tests true b to from = sym (to refl)
 same_tests false true to from = from refl
 same_tests false false to from = refl
 
-pub within_part_before : (r : Run) (cut s : ℕ) → within (part_before cut r) s ≡ (within r s && nat_lt s cut)
+pub within_part_before : (r : SectionRun) (cut s : ℕ) → within (part_before cut r) s ≡ (within r s && nat_lt s cut)
 within_part_before r cut s = same_tests _ _
     (λ part. let ends = within_true (part_before cut r) s part in
     and_from (within r s) (nat_lt s cut) (within_from r s (omega arith) (omega arith)) (lt-ltb s cut (omega arith)))
@@ -61,7 +61,7 @@ within_part_before r cut s = same_tests _ _
     let low : s < cut = ltb-true s cut parts.1 in
     within_from (part_before cut r) s (omega arith) (omega arith))
 
-pub within_part_from : (r : Run) (cut s : ℕ) → within (part_from cut r) s ≡ (within r s && nat_le cut s)
+pub within_part_from : (r : SectionRun) (cut s : ℕ) → within (part_from cut r) s ≡ (within r s && nat_le cut s)
 within_part_from r cut s = same_tests _ _
     (λ part. let ends = within_true (part_from cut r) s part in
     and_from (within r s) (nat_le cut s) (within_from r s (omega arith) (omega arith)) (le-leb cut s (omega arith)))
@@ -70,10 +70,10 @@ within_part_from r cut s = same_tests _ _
     let high : cut ≤ s = leb-true cut s parts.1 in
     within_from (part_from cut r) s (omega arith) (omega arith))
 
-pub parts_count : (r : Run) (cut : ℕ) → (part_before cut r).count + (part_from cut r).count ≡ r.count
+pub parts_count : (r : SectionRun) (cut : ℕ) → (part_before cut r).count + (part_from cut r).count ≡ r.count
 parts_count r cut = omega arith
 
-pub within_shared : (a b : Run) (s : ℕ) → within (shared a b) s ≡ (within a s && within b s)
+pub within_shared : (a b : SectionRun) (s : ℕ) → within (shared a b) s ≡ (within a s && within b s)
 within_shared a b s = same_tests _ _
     (λ in_both. let ends = within_true (shared a b) s in_both in
     and_from (within a s) (within b s) (within_from a s (omega arith) (omega arith)) (within_from b s (omega arith) (omega arith)))
@@ -84,23 +84,23 @@ within_shared a b s = same_tests _ _
 
 -- ## Joined runs
 
-none_joined : (a b : Run) → a.count ≡ 0 → joined a b ≡ b
+none_joined : (a b : SectionRun) → a.count ≡ 0 → joined a b ≡ b
 none_joined a b none = cond-true (is_empty a) b (record { first = a.first; count = a.count + b.count }) (eq-eqb a.count 0 none)
 
-some_joined : (a b : Run) → a.count ≢ 0 → joined a b ≡ record { first = a.first; count = a.count + b.count }
+some_joined : (a b : SectionRun) → a.count ≢ 0 → joined a b ≡ record { first = a.first; count = a.count + b.count }
 some_joined a b some = cond-false (is_empty a) b (record { first = a.first; count = a.count + b.count }) (ne_eqb a.count 0 some)
 
 -- a hand that is not empty and a run behind it
-pub joined_is : (hand : Run) (n : ℕ) → 1 ≤ hand.count → joined hand (record { first = behind hand; count = n }) ≡ record { first = hand.first; count = hand.count + n }
+pub joined_is : (hand : SectionRun) (n : ℕ) → 1 ≤ hand.count → joined hand (record { first = behind hand; count = n }) ≡ record { first = hand.first; count = hand.count + n }
 joined_is hand n some = cond-false (is_empty hand) _ _ (ne_eqb hand.count 0 (λ e. omega arith))
 
-pub joined_count : (a b : Run) → (joined a b).count ≡ a.count + b.count
+pub joined_count : (a b : SectionRun) → (joined a b).count ≡ a.count + b.count
 joined_count a b = ⊎_elim
-    (λ (none : a.count ≡ 0). ap (λ (r : Run). r.count) (none_joined a b none) ∙ (omega arith))
-    (λ (some : a.count ≢ 0). ap (λ (r : Run). r.count) (some_joined a b some))
+    (λ (none : a.count ≡ 0). ap (λ (r : SectionRun). r.count) (none_joined a b none) ∙ (omega arith))
+    (λ (some : a.count ≢ 0). ap (λ (r : SectionRun). r.count) (some_joined a b some))
     (cases_eq a.count 0)
 
-within_both : (a b : Run) (s : ℕ) → b.first ≡ behind a
+within_both : (a b : SectionRun) (s : ℕ) → b.first ≡ behind a
     → within (record { first = a.first; count = a.count + b.count }) s ≡ (within a s || within b s)
 within_both a b s follows = same_tests _ _
     (λ whole. let ends = within_true (record { first = a.first; count = a.count + b.count }) s whole in ⊎_elim
@@ -114,17 +114,17 @@ within_both a b s follows = same_tests _ _
     within_from (record { first = a.first; count = a.count + b.count }) s (omega arith) (omega arith))
     (or_cases (within a s) (within b s) part))
 
-pub within_joined : (a b : Run) (s : ℕ) → b.first ≡ behind a → within (joined a b) s ≡ (within a s || within b s)
+pub within_joined : (a b : SectionRun) (s : ℕ) → b.first ≡ behind a → within (joined a b) s ≡ (within a s || within b s)
 within_joined a b s follows = ⊎_elim
     (λ (none : a.count ≡ 0). ap (λ r. within r s) (none_joined a b none) ∙ ap (λ x. x || within b s) (sym (within_none a s none)))
     (λ (some : a.count ≢ 0). ap (λ r. within r s) (some_joined a b some) ∙ within_both a b s follows)
     (cases_eq a.count 0)
 
 -- two runs with the same ends are one
-pub same_run : (r q : Run) → r.first ≡ q.first → r.count ≡ q.count → r ≡ q
+pub same_run : (r q : SectionRun) → r.first ≡ q.first → r.count ≡ q.count → r ≡ q
 same_run r q first count = λ i. record { first = first i; count = count i }
 
-pub joined_empty : (a b : Run) (s : ℕ) → is_empty b ≡ true → within (joined a b) s ≡ within a s
+pub joined_empty : (a b : SectionRun) (s : ℕ) → is_empty b ≡ true → within (joined a b) s ≡ within a s
 joined_empty a b s empty =
     let nothing : b.count ≡ 0 = eqb-true b.count 0 empty in ⊎_elim
     (λ (none : a.count ≡ 0). ap (λ r. within r s) (none_joined a b none) ∙ within_none b s nothing ∙ sym (within_none a s none))
@@ -132,7 +132,7 @@ joined_empty a b s empty =
     (some_joined a b some ∙ same_run (record { first = a.first; count = a.count + b.count }) a refl (omega arith)))
     (cases_eq a.count 0)
 
-pub joined_again : (r : Run) (cut : ℕ) → r.first ≤ cut → cut ≤ behind r → joined (part_before cut r) (part_from cut r) ≡ r
+pub joined_again : (r : SectionRun) (cut : ℕ) → r.first ≤ cut → cut ≤ behind r → joined (part_before cut r) (part_from cut r) ≡ r
 joined_again r cut low high = ⊎_elim
     (λ (none : (part_before cut r).count ≡ 0). none_joined (part_before cut r) (part_from cut r) none
     ∙ same_run (part_from cut r) r (omega arith) (omega arith))
@@ -141,7 +141,7 @@ joined_again r cut low high = ⊎_elim
     (cases_eq (part_before cut r).count 0)
 
 -- runs that are not empty and have the same sections are one run
-pub run_only : (r q : Run) → is_empty r ≡ false → ((s : ℕ) → within r s ≡ within q s) → r ≡ q
+pub run_only : (r q : SectionRun) → is_empty r ≡ false → ((s : ℕ) → within r s ≡ within q s) → r ≡ q
 run_only r q some same =
     let more : r.count ≢ 0 = eqb-false r.count 0 some in
     let low = within_true q r.first (sym (same r.first) ∙ within_from r r.first (omega arith) (omega arith)) in
@@ -155,14 +155,14 @@ run_only r q some same =
 -- ## Tests of the sections of a run
 
 -- what all sections of a run pass each passes
-pub each_within : (test : ℕ → Bool) (r : Run) → all_of test r ≡ true → (s : ℕ) → within r s ≡ true → test s ≡ true
+pub each_within : (test : ℕ → Bool) (r : SectionRun) → all_of test r ≡ true → (s : ℕ) → within r s ≡ true → test s ≡ true
 each_within test r all s so = let ends = within_true r s so in each_of test r.first r.count all s ends.0 ends.1
 
-pub all_within : (test : ℕ → Bool) (r : Run) → ((s : ℕ) → within r s ≡ true → test s ≡ true) → all_of test r ≡ true
+pub all_within : (test : ℕ → Bool) (r : SectionRun) → ((s : ℕ) → within r s ≡ true → test s ≡ true) → all_of test r ≡ true
 all_within test r each = all_from test r.first r.count (λ s low high. each s (within_from r s low high))
 
 -- what passes only within a run is found by going through that run
-pub filter_run : (test : ℕ → Bool) (r : Run) (n : ℕ) → ((s : ℕ) → test s ≡ true → within r s ≡ true) → ((s : ℕ) → within r s ≡ true → s < n)
+pub filter_run : (test : ℕ → Bool) (r : SectionRun) (n : ℕ) → ((s : ℕ) → test s ≡ true → within r s ≡ true) → ((s : ℕ) → within r s ≡ true → s < n)
     → filter test (range_with_len 0 n) ≡ filter test (range_with_len r.first r.count)
 filter_run test r n only inside = by_count r.count refl
   where
@@ -201,7 +201,7 @@ pub none_within : (s : ℕ) → within no_run s ≡ false
 none_within s = within_behind no_run s (omega arith)
 
 -- a hand and no pool
-pub whole_hand : (hand pool : Run) → pool ≡ no_run → (hand.count == 0) ≡ false → joined hand pool ≡ hand
+pub whole_hand : (hand pool : SectionRun) → pool ≡ no_run → (hand.count == 0) ≡ false → joined hand pool ≡ hand
 whole_hand hand pool none some = ap (joined hand) none ∙ rw some (λ i. record { first = hand.first; count = e i })
   where
     e : hand.count + 0 ≡ hand.count

@@ -5,13 +5,13 @@ use Rattle.rbc_ledger.specs.Sums.{one_if}
 use Rattle.rbc_ledger.specs.Resource.{sent_by}
 use Rattle.rbc_ledger.proofs.Sums.{one_if_true, one_if_le, one_if_le_one, one_if_some}
 use Rattle.rbc_spec.specs.Maps.{has}
-use Rattle.rbc_spec.specs.Runs.{Run, within}
+use Rattle.rbc_spec.specs.SectionRuns.{SectionRun, within}
 use Rattle.rbc_spec.specs.Line.{Line, is_home, next_centre}
 use Rattle.rbc_spec.specs.Place.{Place, covered}
 use Rattle.rbc_spec.specs.Frame.{Body, AskRight, GiveRight, RefuseRight, ReturnRight, RouteAsk, RouteInfo, RouteWithdraw, RouteReturn, Announce, Cancel, TakingOver, Yield}
 use Rattle.rbc_spec.specs.Centre.{Centre, Entry, Shut, Open, Taken, Out, Mission, is_open, is_unused, is_taken_for, is_out_for, is_used_for}
 use Rattle.rbc_spec.specs.Acts.{returned}
-use Rattle.rbc_alone.specs.Alone.{IsOrdered, hand_has}
+use Rattle.rbc_local.specs.Local.{IsOrdered, hand_has}
 use Rattle.rbc_flow.specs.Flow.{centre_count}
 use Rattle.rbc_flow.specs.Neighbours.{AreNeighbours}
 use Rattle.rbc_flow.specs.Counts.{lent, pool_has}
@@ -117,7 +117,7 @@ module _ (line : Line) (ordered : IsOrdered line) (c t s d : ℕ) where
   other_body a b (TakingOver number u) h = refl
   other_body a b (Yield number u heard has_data is_ended place hand) h = ap (λ z. one_if ((z && within hand s) && (if is_home line b s then a == d else b == d))) (ne_eqb u t h)
 
-  goes : (u track : ℕ) (r : Run) (k : Centre) → sent_by (lent line t s d) (centre_count line) c (returned line c u track r k).frames ≤ gone y u r
+  goes : (u track : ℕ) (r : SectionRun) (k : Centre) → sent_by (lent line t s d) (centre_count line) c (returned line c u track r k).frames ≤ gone y u r
   goes u track r k = omega (arith, home_goes_once line ordered (lent line t s d) c u track s ((u == t) && (c == d)) (λ e q. in_order (u == t) (within q s) (c == d)) r k, as_gone (u == t) (c == d) (within r s) (is_home line c s))
     where
       in_order : (a w z : Bool) → one_if ((a && w) && z) ≤ one_if ((a && z) && w)
@@ -138,16 +138,16 @@ module _ (line : Line) (ordered : IsOrdered line) (c t s d : ℕ) where
   no_weight home = ap (λ z. one_if ((c == d) && not z)) home ∙ no_use (c == d)
 
   -- what a frame that names the section has inside, where it is of the run
-  named : (r : Run) (z : Bool) → within r s ≡ true → one_if (((t == t) && within r s) && z) ≡ one_if z
+  named : (r : SectionRun) (z : Bool) → within r s ≡ true → one_if (((t == t) && within r s) && z) ≡ one_if z
   named r z is = ap (λ x. one_if ((x && within r s) && z)) (itself t) ∙ ap (λ x. one_if ((true && x) && z)) is
 
-  not_named : (r : Run) (z : Bool) → within r s ≡ false → one_if (((t == t) && within r s) && z) ≡ 0
+  not_named : (r : SectionRun) (z : Bool) → within r s ≡ false → one_if (((t == t) && within r s) && z) ≡ 0
   not_named r z is = ap (λ x. one_if ((x && within r s) && z)) (itself t) ∙ ap (λ x. one_if ((true && x) && z)) is
 
   out_entry : (a : ℕ) → is_home line c s ≡ true → one_if (is_home line c s && is_out_for t d (Out t a)) ≡ one_if (a == d)
   out_entry a home = ap (λ z. one_if (z && ((t == t) && (a == d)))) home ∙ ap (λ z. one_if (true && (z && (a == d)))) (itself t)
 
-  lends : (a : ℕ) (r : Run) (e : Entry) → is_home line c s ≡ true → is_open e ≡ true
+  lends : (a : ℕ) (r : SectionRun) (e : Entry) → is_home line c s ≡ true → is_open e ≡ true
       → one_if (is_home line c s && is_out_for t d e) + one_if (((t == t) && within r s) && (a == d)) ≤ one_if (is_home line c s && is_out_for t d (Out t a))
   lends a r e home is = by_run (within r s) refl
     where
@@ -155,7 +155,7 @@ module _ (line : Line) (ordered : IsOrdered line) (c t s d : ℕ) where
       by_run true in_run = omega (arith, no_entry e (open_not_out t d e is), named r (a == d) in_run, out_entry a home)
       by_run false out = omega (arith, no_entry e (open_not_out t d e is), not_named r (a == d) out)
 
-  told : (r : Run) → part y r ≤ one_if (((t == t) && within r s) && (c == d))
+  told : (r : SectionRun) → part y r ≤ one_if (((t == t) && within r s) && (c == d))
   told r = by_run (within r s) refl
     where
       less : (a b : Bool) → one_if (a && b) ≤ one_if a
@@ -170,7 +170,7 @@ module _ (line : Line) (ordered : IsOrdered line) (c t s d : ℕ) where
   out_less : (a : ℕ) (e : Entry) → is_out_for t a e ≡ true → one_if (is_home line c s && is_out_for t d e) ≤ one_if (a == d)
   out_less a e out = one_if_le (is_home line c s && is_out_for t d e) (a == d) (λ h. out_at_one t t a d e out (and_parts (is_home line c s) (is_out_for t d e) h).1)
 
-  takes : (a : ℕ) (hand : Run) (e : Entry) → one_if (is_home line c s && is_out_for t d e) + (0 + part y hand)
+  takes : (a : ℕ) (hand : SectionRun) (e : Entry) → one_if (is_home line c s && is_out_for t d e) + (0 + part y hand)
       ≤ one_if (((t == t) && within hand s) && (if is_home line c s then a == d else c == d)) + one_if (is_home line c s && is_out_for t d (if within hand s && is_out_for t a e then Taken t else e))
   takes a hand e = by_tests (within hand s) refl (is_home line c s) refl (is_out_for t a e) refl
     where
@@ -186,7 +186,7 @@ module _ (line : Line) (ordered : IsOrdered line) (c t s d : ℕ) where
           less true q = one_if_le_one q
           less false q = omega arith
 
-  yields : (to : ℕ) (hand : Run) (e : Entry) → (true ≡ true → MayYield line c y hand e to)
+  yields : (to : ℕ) (hand : SectionRun) (e : Entry) → (true ≡ true → MayYield line c y hand e to)
       → one_if (is_home line c s && is_out_for t d e) + one_if (((t == t) && within hand s) && (if is_home line to s then c == d else to == d))
       ≤ (0 + part y hand) + one_if (is_home line c s && is_out_for t d (if within hand s && is_taken_for t e then Out t to else e))
   yields to hand e may = by_tests (within hand s) refl (is_home line c s) refl

@@ -1,6 +1,6 @@
 ghost use Rattle.std.specs.Prelude.{◌≡◌, true, [], IfOk, IfErr, OnErr};
 ghost use Rattle.rbc_spec.specs.Line.{is_centre};
-ghost use Rattle.rbc_centre.specs.Meaning.{line_of, number_of};
+ghost use Rattle.rbc_centre.specs.States.{line_of, number_of};
 ghost use Rattle.rbc_centre.specs.Views.{event_of, outcome_of};
 ghost use Rattle.rbc_log.specs.Log.{IsReplaying, Appends, IsUnchanged, IsRefusal};
 

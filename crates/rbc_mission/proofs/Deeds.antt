@@ -3,13 +3,13 @@ use Rattle.std.proofs.Common.{◌≡◌, ℕ, ◌+◌, ◌-◌, ◌*◌, ◌≤�
 use Rattle.std.specs.Option.{option_map_or}
 use Rattle.std.proofs.lemmas.Bool.Decides.{eqb_tells, nat_tests}
 use Rattle.rbc_spec.specs.Maps.{put}
-use Rattle.rbc_spec.specs.Reach.{Alone}
-use Rattle.rbc_spec.specs.Runs.{Run, no_run, within, behind, is_empty, part_from, joined, all_of}
+use Rattle.rbc_spec.specs.Reach.{Local}
+use Rattle.rbc_spec.specs.SectionRuns.{SectionRun, no_run, within, behind, is_empty, part_from, joined, all_of}
 use Rattle.rbc_spec.specs.Line.{Line, end}
 use Rattle.rbc_spec.specs.Place.{Place, Position, covered, fit_place, place_on}
 use Rattle.rbc_spec.specs.Message.{TrainMessage, TrainBody, TrainData, Request, Report, ShorteningGranted, ShorteningRejected, EndOfMission, InitiationOfSession, TerminationOfSession, StartOfMission, SessionEstablished, TrainRejected, unknown_group}
 use Rattle.rbc_spec.specs.Outcome.{Saying, Word}
-use Rattle.rbc_spec.specs.Centre.{Centre, Entry, Phase, Silent, Opened, Up, Mission, Proposal, is_taken_for, is_free, is_registrar_of}
+use Rattle.rbc_spec.specs.Centre.{Centre, Entry, Phase, Closed, Opened, Up, Mission, Proposal, is_taken_for, is_free, is_registrar_of}
 use Rattle.rbc_spec.specs.Acts.{Act, Reply, ◌>>◌, rest, freed, returned, with_some, hear, set_mission, change_mission, return_pool, return_right, yield_if_due}
 use Rattle.rbc_spec.specs.Rules.{extension, cleared, report_here, report, cut, granted, answer_granted}
 use Rattle.rbc_spec.specs.Step.{hear_and_answer}
@@ -26,8 +26,8 @@ put_same t x f there u = elim (eqb_tells u t) as (λ _. put f t x u ≡ f u) [
 ]
 
 -- a mission that no other centre has a part in
-abbrev pub alone : Place → Run → Bool → Bool → Option Proposal → Mission
-alone place hand has_data is_ended proposal =
+abbrev pub local : Place → SectionRun → Bool → Bool → Option Proposal → Mission
+local place hand has_data is_ended proposal =
     record { place = place; hand = hand; pool = no_run; has_data = has_data; is_ended = is_ended; proposal = proposal; handing = None }
 
 self : (t : ℕ) → (t == t) ≡ true
@@ -50,23 +50,23 @@ unfolding ◌>>◌
 follows_twice a b c k = refl
 
 -- two runs with the same sections to give back
-pub record Alike (r q : Run) : Type 0 where
+pub record Alike (r q : SectionRun) : Type 0 where
   pub entry : (line : Line) (c t : ℕ) (book : ℕ → Entry) (wish : ℕ → Bool) (s : ℕ) → entry_after line c t (Frees r) book wish s ≡ entry_after line c t (Frees q) book wish s
   pub wish : (line : Line) (c t : ℕ) (book : ℕ → Entry) (wish : ℕ → Bool) (s : ℕ) → wish_after line c t (Frees r) book wish s ≡ wish_after line c t (Frees q) book wish s
   pub words : (line : Line) (c t : ℕ) (book : ℕ → Entry) (wish : ℕ → Bool) → words_after line c t (Frees r) book wish ≡ words_after line c t (Frees q) book wish
 
-pub alike_same : (r q : Run) → r ≡ q → Alike r q
+pub alike_same : (r q : SectionRun) → r ≡ q → Alike r q
 alike_same r q is = record {
   entry = λ line c t book wish s. ap (λ x. entry_after line c t (Frees x) book wish s) is;
   wish = λ line c t book wish s. ap (λ x. wish_after line c t (Frees x) book wish s) is;
   words = λ line c t book wish. ap (λ x. words_after line c t (Frees x) book wish) is;
 }
 
-within_none : (r : Run) (s : ℕ) → r.count ≡ 0 → within r s ≡ false
+within_none : (r : SectionRun) (s : ℕ) → r.count ≡ 0 → within r s ≡ false
 unfolding within
 within_none r s none = grind (arith, nat_tests)
 
-pub alike_none : (r q : Run) → r.count ≡ 0 → q.count ≡ 0 → Alike r q
+pub alike_none : (r q : SectionRun) → r.count ≡ 0 → q.count ≡ 0 → Alike r q
 alike_none r q a b = record {
   entry = λ line c t book wish s. rw (within_none r s a, within_none q s b) refl;
   wish = λ line c t book wish s. rw (within_none r s a, within_none q s b) refl;
@@ -97,7 +97,7 @@ module _ (line : Line) (c : ℕ) (k : Centre) (t_train t : ℕ) where
 
   module _ (phase : Phase) (right : Bool) (mission : Option Mission) (phase_is : k.phase t ≡ phase) (right_is : k.has_right t ≡ right) (mission_is : k.mission t ≡ mission) (no_wait : k.wait t ≡ None) where
     abbrev Does : TrainBody → Deed → Type 0
-    Does body deed = hear_and_answer Alone line c (m body) k ≡ performed line c (m body) deed phase mission right k
+    Does body deed = hear_and_answer Local line c (m body) k ≡ performed line c (m body) deed phase mission right k
 
     -- a deed that keeps the mission keeps the right
     keeps_mission : (deed : Deed) → ((o : Option Mission) → mission_after deed o ≡ o) → (u : ℕ) → k.mission u ≡ put k.mission t (mission_after deed mission) u
@@ -127,8 +127,8 @@ module _ (line : Line) (c : ℕ) (k : Centre) (t_train t : ℕ) where
 
     pub opens : Does InitiationOfSession OpenSession
     unfolding ◌>>◌
-    opens = rw (no_wait) (raw_same (put (put k.phase t Silent) t Opened) _ (put k.mission t (option_map (λ (n : Mission). record n { proposal = None }) (k.mission t))) _ k.has_right _ k.book _ k.wish _ (put k.said t (k.said t + 1)) _ _ [] _
-        (put_over t Opened Silent k.phase) (λ u. ap (λ (x : Option Mission). put k.mission t x u) (ap (option_map (λ (n : Mission). record n { proposal = None })) mission_is ∙ keeps mission))
+    opens = rw (no_wait) (raw_same (put (put k.phase t Closed) t Opened) _ (put k.mission t (option_map (λ (n : Mission). record n { proposal = None }) (k.mission t))) _ k.has_right _ k.book _ k.wish _ (put k.said t (k.said t + 1)) _ _ [] _
+        (put_over t Opened Closed k.phase) (λ u. ap (λ (x : Option Mission). put k.mission t x u) (ap (option_map (λ (n : Mission). record n { proposal = None })) mission_is ∙ keeps mission))
         (keeps_right OpenSession right_keeps) (λ s. refl) (λ s. refl) (λ u. refl) refl)
       where
         keeps : (o : Option Mission) → option_map (λ (n : Mission). record n { proposal = None }) o ≡ mission_after OpenSession o
@@ -141,7 +141,7 @@ module _ (line : Line) (c : ℕ) (k : Centre) (t_train t : ℕ) where
 
     pub closes : Does TerminationOfSession CloseSession
     unfolding ◌>>◌
-    closes = rw (no_wait) (raw_same (put k.phase t Silent) _ (put k.mission t (option_map (λ (n : Mission). record n { proposal = None }) (k.mission t))) _ k.has_right _ k.book _ k.wish _ (put k.said t (k.said t + 1)) _ _ [] _
+    closes = rw (no_wait) (raw_same (put k.phase t Closed) _ (put k.mission t (option_map (λ (n : Mission). record n { proposal = None }) (k.mission t))) _ k.has_right _ k.book _ k.wish _ (put k.said t (k.said t + 1)) _ _ [] _
         (λ u. refl) (λ u. ap (λ (x : Option Mission). put k.mission t x u) (ap (option_map (λ (n : Mission). record n { proposal = None })) mission_is ∙ keeps mission))
         (keeps_right CloseSession right_keeps) (λ s. refl) (λ s. refl) (λ u. refl) refl)
       where
@@ -179,7 +179,7 @@ module _ (line : Line) (c : ℕ) (k : Centre) (t_train t : ℕ) where
 
   module _ (phase : Phase) (right : Bool) (n : Mission) (phase_is : k.phase t ≡ phase) (right_is : k.has_right t ≡ right) (mission_is : k.mission t ≡ Some n) (no_wait : k.wait t ≡ None) where
     abbrev Turns : TrainBody → Deed → Type 0
-    Turns body deed = hear_and_answer Alone line c (m body) k ≡ performed line c (m body) deed phase (Some n) right k
+    Turns body deed = hear_and_answer Local line c (m body) k ≡ performed line c (m body) deed phase (Some n) right k
 
     same_phase : (u : ℕ) → k.phase u ≡ put k.phase t phase u
     same_phase u = sym (put_same t phase k.phase phase_is u)
@@ -216,19 +216,19 @@ module _ (line : Line) (c : ℕ) (k : Centre) (t_train t : ℕ) where
   -- ## Sections that change
 
   -- a mission that no other centre has a part in, of sections that are all of home here, so that none goes home from here
-  module _ (phase : Phase) (right : Bool) (place : Place) (hand : Run) (has_data is_ended : Bool) (proposal : Option Proposal) (phase_is : k.phase t ≡ phase) (right_is : k.has_right t ≡ right)
-      (mission_is : k.mission t ≡ Some (alone place hand has_data is_ended proposal)) (no_wait : k.wait t ≡ None) (some : is_empty hand ≡ false) (registered : is_registrar_of line c t ≡ true)
-      (home : (r : Run) → ((s : ℕ) → within r s ≡ true → within hand s ≡ true) → returned line c t place.track r ≡ rest)
+  module _ (phase : Phase) (right : Bool) (place : Place) (hand : SectionRun) (has_data is_ended : Bool) (proposal : Option Proposal) (phase_is : k.phase t ≡ phase) (right_is : k.has_right t ≡ right)
+      (mission_is : k.mission t ≡ Some (local place hand has_data is_ended proposal)) (no_wait : k.wait t ≡ None) (some : is_empty hand ≡ false) (registered : is_registrar_of line c t ≡ true)
+      (home : (r : SectionRun) → ((s : ℕ) → within r s ≡ true → within hand s ≡ true) → returned line c t place.track r ≡ rest)
       (no_pool : (track : ℕ) → returned line c t track no_run ≡ rest) where
     abbrev n : Mission
-    n = alone place hand has_data is_ended proposal
+    n = local place hand has_data is_ended proposal
 
     -- the centre that has heard the train
     abbrev heard : Centre
     heard = record k { heard = put k.heard t (Some t_train) }
 
     abbrev Comes : TrainBody → Deed → Type 0
-    Comes body deed = hear_and_answer Alone line c (m body) k ≡ performed line c (m body) deed phase (Some n) right k
+    Comes body deed = hear_and_answer Local line c (m body) k ≡ performed line c (m body) deed phase (Some n) right k
 
     phase_stays : (u : ℕ) → k.phase u ≡ put k.phase t phase u
     phase_stays u = sym (put_same t phase k.phase phase_is u)
@@ -252,7 +252,7 @@ module _ (line : Line) (c : ℕ) (k : Centre) (t_train t : ℕ) where
     abbrev end_of : Reply → Reply
     end_of a = follow (follow a (finishing a.state)) (yield_if_due line c t (follow a (finishing a.state)).state)
 
-    end_raw : (position : Position) → hear_and_answer Alone line c (m (EndOfMission position)) k ≡ end_of (report_here line c t position n heard)
+    end_raw : (position : Position) → hear_and_answer Local line c (m (EndOfMission position)) k ≡ end_of (report_here line c t position n heard)
     unfolding ◌>>◌
     end_raw position = rw mission_is refl
 
@@ -262,29 +262,29 @@ module _ (line : Line) (c : ℕ) (k : Centre) (t_train t : ℕ) where
     abbrev marked : Centre → Option Mission → Centre
     marked j o = record j { mission = put j.mission t o }
 
-    abbrev finished : Place → Run → Bool → Mission
-    finished p h d = alone p h d true None
+    abbrev finished : Place → SectionRun → Bool → Mission
+    finished p h d = local p h d true None
 
     abbrev finishing_by : Centre → Act → Reply
     finishing_by j back = ((back >> change_mission t (λ y. record y { pool = no_run })) >> change_mission t (λ y. record y { is_ended = true; proposal = None })) j
 
-    finishing_raw : (j : Centre) (p : Place) (h : Run) (d e : Bool) (o : Option Proposal) → j.mission t ≡ Some (alone p h d e o) → finishing j ≡ finishing_by j (returned line c t p.track no_run)
+    finishing_raw : (j : Centre) (p : Place) (h : SectionRun) (d e : Bool) (o : Option Proposal) → j.mission t ≡ Some (local p h d e o) → finishing j ≡ finishing_by j (returned line c t p.track no_run)
     finishing_raw j p h d e o at = rw at refl
 
-    finishing_rests : (j : Centre) (p : Place) (h : Run) (d e : Bool) (o : Option Proposal) → j.mission t ≡ Some (alone p h d e o) → finishing_by j rest ≡ quiet (marked j (Some (finished p h d))) []
+    finishing_rests : (j : Centre) (p : Place) (h : SectionRun) (d e : Bool) (o : Option Proposal) → j.mission t ≡ Some (local p h d e o) → finishing_by j rest ≡ quiet (marked j (Some (finished p h d))) []
     unfolding ◌>>◌
-    finishing_rests j p h d e o at = rw (self t, at) (λ i. quiet (record j { mission = λ u. put_over t (Some (finished p h d)) (Some (alone p h d e o)) j.mission u i }) [])
+    finishing_rests j p h d e o at = rw (self t, at) (λ i. quiet (record j { mission = λ u. put_over t (Some (finished p h d)) (Some (local p h d e o)) j.mission u i }) [])
 
-    finishes : (j : Centre) (p : Place) (h : Run) (d e : Bool) (o : Option Proposal) → j.mission t ≡ Some (alone p h d e o) → finishing j ≡ quiet (marked j (Some (finished p h d))) []
+    finishes : (j : Centre) (p : Place) (h : SectionRun) (d e : Bool) (o : Option Proposal) → j.mission t ≡ Some (local p h d e o) → finishing j ≡ quiet (marked j (Some (finished p h d))) []
     finishes j p h d e o at = finishing_raw j p h d e o at ∙ ap (finishing_by j) (no_pool p.track) ∙ finishing_rests j p h d e o at
 
-    yields_not : (j : Centre) (p : Place) (h : Run) (d e : Bool) (o : Option Proposal) → j.mission t ≡ Some (alone p h d e o) → yield_if_due line c t j ≡ quiet j []
+    yields_not : (j : Centre) (p : Place) (h : SectionRun) (d e : Bool) (o : Option Proposal) → j.mission t ≡ Some (local p h d e o) → yield_if_due line c t j ≡ quiet j []
     yields_not j p h d e o at = rw at refl
 
     yields_none : (j : Centre) → j.mission t ≡ None → yield_if_due line c t j ≡ quiet j []
     yields_none j at = rw at refl
 
-    ends_by : (j : Centre) (words : List Word) (p : Place) (h : Run) (d e : Bool) (o : Option Proposal) → j.mission t ≡ Some (alone p h d e o)
+    ends_by : (j : Centre) (words : List Word) (p : Place) (h : SectionRun) (d e : Bool) (o : Option Proposal) → j.mission t ≡ Some (local p h d e o)
         → end_of (quiet j words) ≡ quiet (marked j (Some (finished p h d))) ((words ++ []) ++ [])
     ends_by j words p h d e o at =
         ap (λ b. follow (follow (quiet j words) b) (yield_if_due line c t (follow (quiet j words) b).state)) (finishes j p h d e o at)
@@ -302,7 +302,7 @@ module _ (line : Line) (c : ℕ) (k : Centre) (t_train t : ℕ) where
 
       pub requests : Comes (Request position) (Grant now added)
       unfolding ◌>>◌
-      requests = rw (mission_is, on, some) (raw_same k.phase _ (put k.mission t (Some (alone now (record { first = hand.first; count = hand.count + added }) has_data is_ended proposal))) _ k.has_right _
+      requests = rw (mission_is, on, some) (raw_same k.phase _ (put k.mission t (Some (local now (record { first = hand.first; count = hand.count + added }) has_data is_ended proposal))) _ k.has_right _
           (entry_after line c t (Takes (record { first = behind hand; count = added })) k.book k.wish) _ k.wish _ (put k.said t (k.said t + 1)) _ _ [] _
           phase_stays (λ u. refl) right_stays (λ s. refl) (λ s. refl) (λ u. refl) refl)
 
@@ -310,10 +310,10 @@ module _ (line : Line) (c : ℕ) (k : Centre) (t_train t : ℕ) where
       abbrev gone : ℕ
       gone = (cleared line now n).count
 
-      abbrev front : Run
+      abbrev front : SectionRun
       front = record { first = hand.first; count = gone }
 
-      abbrev freed_words : Run → List Word
+      abbrev freed_words : SectionRun → List Word
       freed_words r = words_after line c t (Frees r) k.book k.wish
 
       within_front : gone ≤ hand.count → (s : ℕ) → within front s ≡ true → within hand s ≡ true
@@ -336,7 +336,7 @@ module _ (line : Line) (c : ℕ) (k : Centre) (t_train t : ℕ) where
       unfolding ◌>>◌
       leaves part few = rw (self t, part) (raw_same k.phase _ (put k.mission t (Some (record n { place = now; hand = part_from (behind front) hand }))) _ k.has_right _
           (entry_after line c t (Frees front) k.book k.wish) _ (wish_after line c t (Frees front) k.book k.wish) _ k.said _ [] _ (freed_words front)
-          phase_stays (λ u. ap (λ (r : Run). put k.mission t (Some (record n { place = now; hand = r })) u) (rest_of few)) right_stays (λ s. refl) (λ s. refl) said_stays
+          phase_stays (λ u. ap (λ (r : SectionRun). put k.mission t (Some (record n { place = now; hand = r })) u) (rest_of few)) right_stays (λ s. refl) (λ s. refl) said_stays
           (append_nil ((freed_words front ++ []) ++ []) ∙ append_nil (freed_words front ++ []) ∙ append_nil (freed_words front)))
 
       pub clears : (gone == hand.count) ≡ false → gone ≤ hand.count → Comes (Report position) (Clear now gone)
@@ -346,7 +346,7 @@ module _ (line : Line) (c : ℕ) (k : Centre) (t_train t : ℕ) where
           ∙ leaves part few
 
       -- a report that leaves nothing of the hand
-      abbrev closing : Run → Act → Act
+      abbrev closing : SectionRun → Act → Act
       closing r back = ((freed line c (is_taken_for t) r >> back) >> ((set_mission t None >> rest) >> return_right line c t)) >> yield_if_due line c t
 
       whole_hand : joined hand no_run ≡ hand
@@ -358,7 +358,7 @@ module _ (line : Line) (c : ℕ) (k : Centre) (t_train t : ℕ) where
       closes_raw : (gone == hand.count) ≡ true → report line c t position heard ≡ closing (joined hand no_run) (returned line c t place.track (joined hand no_run)) heard
       closes_raw whole = rw (mission_is, on, whole) refl
 
-      closes_with : (r : Run) → (gone == hand.count) ≡ true → r ≡ record { first = hand.first; count = gone }
+      closes_with : (r : SectionRun) → (gone == hand.count) ≡ true → r ≡ record { first = hand.first; count = gone }
           → follow (hear (m (Report position)) k) (closing r rest heard) ≡ performed line c (m (Report position)) (Clear now gone) phase (Some n) right k
       unfolding ◌>>◌
       closes_with r whole is = rw (registered, self t, whole) (raw_same k.phase _ (put k.mission t None) _ (put k.has_right t true) _
@@ -373,7 +373,7 @@ module _ (line : Line) (c : ℕ) (k : Centre) (t_train t : ℕ) where
           ∙ ap (follow (hear (m (Report position)) k)) (closes_raw whole ∙ ap (λ r. closing r (returned line c t place.track r) heard) whole_hand ∙ ap (λ back. closing hand back heard) (home hand in_hand))
           ∙ closes_with hand whole (λ i. record { first = hand.first; count = sym same i })
 
-      abbrev left : Run → Option Mission → (ℕ → Bool) → Centre
+      abbrev left : SectionRun → Option Mission → (ℕ → Bool) → Centre
       left r after rights = record k {
         heard = put k.heard t (Some t_train);
         mission = put k.mission t after;
@@ -398,7 +398,7 @@ module _ (line : Line) (c : ℕ) (k : Centre) (t_train t : ℕ) where
       here_all_raw : (gone == hand.count) ≡ true → report_here line c t position n heard ≡ ((freed line c (is_taken_for t) (joined hand no_run) >> returned line c t place.track (joined hand no_run)) >> ((set_mission t None >> rest) >> return_right line c t)) heard
       here_all_raw whole = rw (on, whole) refl
 
-      here_closes : (r : Run) → r ≡ front → ((freed line c (is_taken_for t) r >> rest) >> ((set_mission t None >> rest) >> return_right line c t)) heard ≡ quiet (left front None (put k.has_right t true)) (freed_words front)
+      here_closes : (r : SectionRun) → r ≡ front → ((freed line c (is_taken_for t) r >> rest) >> ((set_mission t None >> rest) >> return_right line c t)) heard ≡ quiet (left front None (put k.has_right t true)) (freed_words front)
       unfolding ◌>>◌
       here_closes r is = rw registered (ap (quiet (left r None (put k.has_right t true))) (append_nil (freed_words r ++ []) ∙ append_nil (freed_words r)) ∙ ap (λ x. quiet (left x None (put k.has_right t true)) (freed_words x)) is)
 
@@ -416,7 +416,7 @@ module _ (line : Line) (c : ℕ) (k : Centre) (t_train t : ℕ) where
           ≡ performed line c (m (EndOfMission position)) (ClearAndEnd now gone) phase (Some n) right k
       ended_some part few = rw part (raw_same k.phase _ (put (put k.mission t (Some short)) t (Some (record short { is_ended = true; proposal = None }))) _ k.has_right _
           (entry_after line c t (Frees front) k.book k.wish) _ (wish_after line c t (Frees front) k.book k.wish) _ k.said _ [] _ (freed_words front)
-          phase_stays (λ u. put_over t _ _ k.mission u ∙ ap (λ (r : Run). put k.mission t (Some (record n { place = now; hand = r; is_ended = true; proposal = None })) u) (rest_of few)) right_stays (λ s. refl) (λ s. refl) said_stays
+          phase_stays (λ u. put_over t _ _ k.mission u ∙ ap (λ (r : SectionRun). put k.mission t (Some (record n { place = now; hand = r; is_ended = true; proposal = None })) u) (rest_of few)) right_stays (λ s. refl) (λ s. refl) said_stays
           (append_nil (freed_words front ++ []) ∙ append_nil (freed_words front)))
 
       pub ends_clearing : (gone == hand.count) ≡ false → gone ≤ hand.count → Comes (EndOfMission position) (ClearAndEnd now gone)
@@ -467,7 +467,7 @@ module _ (line : Line) (c : ℕ) (k : Centre) (t_train t : ℕ) where
       asks : answer_granted line c t position heard ≡ granted line c t position n asked_for heard
       asks = rw (mission_is, asked) refl
 
-      granted_raw : hear_and_answer Alone line c (m (ShorteningGranted stamp position)) k ≡ answer_of_train (cuts position dropped)
+      granted_raw : hear_and_answer Local line c (m (ShorteningGranted stamp position)) k ≡ answer_of_train (cuts position dropped)
       granted_raw = follows (hear (m (ShorteningGranted stamp position))) (answer_granted line c t position) k
           ∙ ap (follow (quiet heard [])) (asks ∙ follows_twice (change_mission t (λ x. record x { proposal = None })) (cuts position) (yield_if_due line c t) heard)
 
@@ -491,14 +491,14 @@ module _ (line : Line) (c : ℕ) (k : Centre) (t_train t : ℕ) where
         abbrev keep : ℕ
         keep = min hand.count (last + 1 - hand.first)
 
-        abbrev tail : Run
+        abbrev tail : SectionRun
         tail = part_from (last + 1) hand
 
         -- what is cut off, as the mission has it and as it is counted
-        abbrev off_run : Run
+        abbrev off_run : SectionRun
         off_run = joined tail no_run
 
-        abbrev off_end : Run
+        abbrev off_end : SectionRun
         off_end = record { first = hand.first + keep; count = hand.count - keep }
 
         abbrev leave_by : Act → Act
@@ -523,7 +523,7 @@ module _ (line : Line) (c : ℕ) (k : Centre) (t_train t : ℕ) where
             wish = wish_after line c t (Frees off_run) k.book k.wish;
           }
 
-          abbrev off_words : Run → List Word
+          abbrev off_words : SectionRun → List Word
           off_words r = words_after line c t (Frees r) k.book k.wish
 
           part_cut : (leave_by rest >> (set_mission t (Some kept_mission) >> rest)) dropped ≡ quiet (cut_off (Some kept_mission) k.has_right) (off_words off_run)
@@ -571,11 +571,11 @@ module _ (line : Line) (c : ℕ) (k : Centre) (t_train t : ℕ) where
   module _ (phase : Phase) (right : Bool) (phase_is : k.phase t ≡ phase) (right_is : k.has_right t ≡ right) (mission_is : k.mission t ≡ None) (no_wait : k.wait t ≡ None)
       (is_valid : Bool) (position : Position) (place : Place) (fit : fit_place line is_valid position ≡ Some place) where
     abbrev Begins : Deed → Type 0
-    Begins deed = hear_and_answer Alone line c (m (StartOfMission is_valid position)) k ≡ performed line c (m (StartOfMission is_valid position)) deed phase None right k
+    Begins deed = hear_and_answer Local line c (m (StartOfMission is_valid position)) k ≡ performed line c (m (StartOfMission is_valid position)) deed phase None right k
 
     pub begins : all_of (is_free line c k) (covered line place) ≡ true → is_registrar_of line c t ≡ true → right ≡ true → Begins (Start place (covered line place))
     unfolding ◌>>◌
-    begins free home here = rw (fit, mission_is, free, home, right_is, here) (raw_same k.phase _ (put k.mission t (Some (alone place (covered line place) false false None))) _ (put k.has_right t false) _
+    begins free home here = rw (fit, mission_is, free, home, right_is, here) (raw_same k.phase _ (put k.mission t (Some (local place (covered line place) false false None))) _ (put k.has_right t false) _
         (entry_after line c t (Takes (covered line place)) k.book k.wish) _ k.wish _ (put k.said t (k.said t + 1)) _ _ [] _
         (λ u. sym (put_same t phase k.phase phase_is u)) (λ u. refl) (λ u. refl) (λ s. refl) (λ s. refl) (λ u. refl) refl)
 

@@ -1,6 +1,6 @@
 pub mod Runs
 pub mod Marks
-pub mod Courses
+pub mod Supervisions
 pub mod Deeds
 pub mod Silences
 pub mod Replies

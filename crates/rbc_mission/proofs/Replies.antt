@@ -1,17 +1,17 @@
 -- The reply to a message that is not silent, by the deed that its rule names.
 use Rattle.std.proofs.Common.{◌≡◌, ℕ, zero, suc, ◌+◌, ◌-◌, ◌*◌, ◌≤◌, ◌==◌, Bool, true, false, cond, min, max, Option, Some, None, is_some, nat_le, Ok, refl, subst, arith}
 use Rattle.std.proofs.lemmas.Bool.Decides.{nat_tests}
-use Rattle.rbc_spec.specs.Reach.{Alone}
-use Rattle.rbc_spec.specs.Runs.{Run, no_run, within, is_empty, part_from, joined, longest, all_of}
+use Rattle.rbc_spec.specs.Reach.{Local}
+use Rattle.rbc_spec.specs.SectionRuns.{SectionRun, no_run, within, is_empty, part_from, joined, longest, all_of}
 use Rattle.rbc_spec.specs.Line.{Line, end}
 use Rattle.rbc_spec.specs.Place.{Place, Position, covered, is_cleared, fit_place, place_on}
 use Rattle.rbc_spec.specs.Message.{TrainMessage, TrainBody, TrainData, Request, Report, ShorteningGranted, ShorteningRejected, EndOfMission, InitiationOfSession, TerminationOfSession, StartOfMission, SessionEstablished}
-use Rattle.rbc_spec.specs.Centre.{Centre, Phase, Silent, Opened, Up, Mission, Proposal, is_free, is_registrar_of}
+use Rattle.rbc_spec.specs.Centre.{Centre, Phase, Closed, Opened, Up, Mission, Proposal, is_free, is_registrar_of}
 use Rattle.rbc_spec.specs.Acts.{rest, returned}
 use Rattle.rbc_spec.specs.Rules.{cleared}
 use Rattle.rbc_spec.specs.Step.{hear_and_answer}
 use Rattle.rbc_mission.specs.Deeds.{Deed, OpenSession, EstablishSession, CloseSession, RejectStart, Restart, Start, TakeData, Grant, Clear, End, ClearAndEnd, DropProposal, Cut, Rule, rule_of, may_extend, performed}
-use Rattle.rbc_mission.proofs.Deeds.{alone, Alike, alike_same, alike_none, establishes, opens, closes, not_fit, starts_within, starts_outside, takes_data, rejects_shortening, requests, clears, clears_all, ends_clearing, ends_closing, ends_without_place, granted_without_place, granted_past, cuts_part, cuts_all, begins, not_free, not_registrar, no_right}
+use Rattle.rbc_mission.proofs.Deeds.{local, Alike, alike_same, alike_none, establishes, opens, closes, not_fit, starts_within, starts_outside, takes_data, rejects_shortening, requests, clears, clears_all, ends_clearing, ends_closing, ends_without_place, granted_without_place, granted_past, cuts_part, cuts_all, begins, not_free, not_registrar, no_right}
 
 -- ## Numbers
 
@@ -25,11 +25,11 @@ longest_few test first (suc most) = by_first (test first) (longest_few test (fir
     by_first false h = omega arith
 
 -- what is cut off, as the mission has it and as it is counted
-module _ (hand : Run) (last : ℕ) (some : is_empty hand ≡ false) where
+module _ (hand : SectionRun) (last : ℕ) (some : is_empty hand ≡ false) where
   abbrev keep : ℕ
   keep = min hand.count (last + 1 - hand.first)
 
-  abbrev tail : Run
+  abbrev tail : SectionRun
   tail = part_from (last + 1) hand
 
   whole_tail : (tail.count == hand.count) ≡ (keep == 0)
@@ -60,7 +60,7 @@ module _ (line : Line) (c : ℕ) (k : Centre) (t_train t : ℕ) where
   m body = record { t_train = t_train; nid_engine = t; body = body }
 
   abbrev Replies : TrainBody → Phase → Option Mission → Bool → Deed → Type 0
-  Replies body phase mission right deed = hear_and_answer Alone line c (m body) k ≡ performed line c (m body) deed phase mission right k
+  Replies body phase mission right deed = hear_and_answer Local line c (m body) k ≡ performed line c (m body) deed phase mission right k
 
   by_rule : (body : TrainBody) (phase : Phase) (mission : Option Mission) (right : Bool) (a b : Deed) → Replies body phase mission right a → ◌≡◌ {A = Rule} (Ok a) (Ok b) → Replies body phase mission right b
   by_rule body phase mission right a b is same = let e : a ≡ b = cc in subst (Replies body phase mission right) e is
@@ -88,10 +88,10 @@ module _ (line : Line) (c : ℕ) (k : Centre) (t_train t : ℕ) where
 
     pub reply_elsewhere : (phase : Phase) (body : TrainBody) (deed : Deed) → k.phase t ≡ phase → rule_of line c k t phase None body ≡ Ok deed → Replies body phase None right deed
     reply_elsewhere phase InitiationOfSession deed p h = by_rule InitiationOfSession phase None right OpenSession deed (opens line c k t_train t phase right None p right_is mission_is no_wait) h
-    reply_elsewhere Silent body deed p h = never body h
+    reply_elsewhere Closed body deed p h = never body h
       where
-        never : (body : TrainBody) → rule_of line c k t Silent None body ≡ Ok deed → Replies body Silent None right deed
-        never InitiationOfSession h = by_rule InitiationOfSession Silent None right OpenSession deed (opens line c k t_train t Silent right None p right_is mission_is no_wait) h
+        never : (body : TrainBody) → rule_of line c k t Closed None body ≡ Ok deed → Replies body Closed None right deed
+        never InitiationOfSession h = by_rule InitiationOfSession Closed None right OpenSession deed (opens line c k t_train t Closed right None p right_is mission_is no_wait) h
         never TerminationOfSession h = cc
         never SessionEstablished h = cc
         never (StartOfMission is_valid position) h = cc
@@ -121,12 +121,12 @@ module _ (line : Line) (c : ℕ) (k : Centre) (t_train t : ℕ) where
     reply_elsewhere Up (EndOfMission position) deed p h = cc
 
   -- a train that is
-  module _ (right : Bool) (place : Place) (hand : Run) (has_data is_ended : Bool) (proposal : Option Proposal) (right_is : k.has_right t ≡ right)
-      (mission_is : k.mission t ≡ Some (alone place hand has_data is_ended proposal)) (no_wait : k.wait t ≡ None) (some : is_empty hand ≡ false) (registered : is_registrar_of line c t ≡ true)
-      (home : (r : Run) → ((s : ℕ) → within r s ≡ true → within hand s ≡ true) → returned line c t place.track r ≡ rest)
+  module _ (right : Bool) (place : Place) (hand : SectionRun) (has_data is_ended : Bool) (proposal : Option Proposal) (right_is : k.has_right t ≡ right)
+      (mission_is : k.mission t ≡ Some (local place hand has_data is_ended proposal)) (no_wait : k.wait t ≡ None) (some : is_empty hand ≡ false) (registered : is_registrar_of line c t ≡ true)
+      (home : (r : SectionRun) → ((s : ℕ) → within r s ≡ true → within hand s ≡ true) → returned line c t place.track r ≡ rest)
       (no_pool : (track : ℕ) → returned line c t track no_run ≡ rest) where
     abbrev n : Mission
-    n = alone place hand has_data is_ended proposal
+    n = local place hand has_data is_ended proposal
 
     abbrev Does : TrainBody → Phase → Deed → Type 0
     Does body phase deed = Replies body phase (Some n) right deed
@@ -244,15 +244,15 @@ module _ (line : Line) (c : ℕ) (k : Centre) (t_train t : ℕ) where
 
     pub reply_under_way : (phase : Phase) (body : TrainBody) (deed : Deed) → k.phase t ≡ phase → rule_of line c k t phase (Some n) body ≡ Ok deed → Does body phase deed
     reply_under_way phase InitiationOfSession deed p h = may_do InitiationOfSession phase OpenSession deed (opens line c k t_train t phase right (Some n) p right_is mission_is no_wait) h
-    reply_under_way Silent TerminationOfSession deed p h = cc
-    reply_under_way Silent SessionEstablished deed p h = cc
-    reply_under_way Silent (StartOfMission is_valid position) deed p h = cc
-    reply_under_way Silent (TrainData position) deed p h = cc
-    reply_under_way Silent (Request position) deed p h = cc
-    reply_under_way Silent (Report position) deed p h = cc
-    reply_under_way Silent (ShorteningGranted stamp position) deed p h = cc
-    reply_under_way Silent (ShorteningRejected stamp position) deed p h = cc
-    reply_under_way Silent (EndOfMission position) deed p h = cc
+    reply_under_way Closed TerminationOfSession deed p h = cc
+    reply_under_way Closed SessionEstablished deed p h = cc
+    reply_under_way Closed (StartOfMission is_valid position) deed p h = cc
+    reply_under_way Closed (TrainData position) deed p h = cc
+    reply_under_way Closed (Request position) deed p h = cc
+    reply_under_way Closed (Report position) deed p h = cc
+    reply_under_way Closed (ShorteningGranted stamp position) deed p h = cc
+    reply_under_way Closed (ShorteningRejected stamp position) deed p h = cc
+    reply_under_way Closed (EndOfMission position) deed p h = cc
     reply_under_way Opened TerminationOfSession deed p h = may_do TerminationOfSession Opened CloseSession deed (closes line c k t_train t Opened right (Some n) p right_is mission_is no_wait) h
     reply_under_way Opened SessionEstablished deed p h = may_do SessionEstablished Opened EstablishSession deed (establishes line c k t_train t Opened right (Some n) p right_is mission_is no_wait) h
     reply_under_way Opened (StartOfMission is_valid position) deed p h = cc

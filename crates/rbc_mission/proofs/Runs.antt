@@ -5,7 +5,7 @@ use Rattle.std.proofs.lemmas.List.Elements.{filter-append}
 use Rattle.std.proofs.lemmas.List.{append-nil}
 use Rattle.std.proofs.lemmas.Bool.{cases_Bool}
 use Rattle.std.proofs.lemmas.Bool.Decides.{eqb_tells, nat_tests}
-use Rattle.rbc_spec.specs.Runs.{Run, within, joined}
+use Rattle.rbc_spec.specs.SectionRuns.{SectionRun, within, joined}
 use Rattle.rbc_spec.specs.Centre.{Entry, Shut, Open, Taken, is_open, is_taken_for}
 use Rattle.rbc_book.specs.Book.{Pages, is_own, entry_at, wish_at}
 use Rattle.rbc_book.specs.Claim.{section_of, claim_on, is_taken_by}
@@ -52,7 +52,7 @@ taken_twice t e false true = refl
 taken_twice t e false false = refl
 
 -- one run after another
-pub takes_then : (t : ℕ) (r q p : Run) (a b c : Pages) → ((s : ℕ) → within p s ≡ (within r s || within q s)) → TakesRun t r a b → TakesRun t q b c → TakesRun t p a c
+pub takes_then : (t : ℕ) (r q p : SectionRun) (a b c : Pages) → ((s : ℕ) → within p s ≡ (within r s || within q s)) → TakesRun t r a b → TakesRun t q b c → TakesRun t p a c
 takes_then t r q p a b c both first next = record {
   homes = λ s. next.homes s ∙ first.homes s;
   entry = λ s. next.entry s ∙ ap (λ e. cond (within q s && is_open e) (Taken t) e) (first.entry s) ∙ taken_twice t (entry_at a s) (within r s) (within q s)
@@ -83,10 +83,10 @@ pub record HasTaken (t from n0 k : ℕ) (hand : Holding) (old new : Pages) : Typ
 pub taken_none : (t from : ℕ) (hand : Holding) (book : Pages) → IsAllOwn t hand → (0 < length hand.holds → hand.first + length hand.holds ≡ from) → HasTaken t from (length hand.holds) 0 hand book book
 taken_none t from hand book own next = record { count = omega arith; begins = next; own = own; book = takes_none t from book }
 
-joined_count : (r : Run) (s : ℕ) → (joined r (one s)).count ≡ r.count + 1
+joined_count : (r : SectionRun) (s : ℕ) → (joined r (one s)).count ≡ r.count + 1
 joined_count r s = elim (eqb_tells r.count 0) as (λ _. (joined r (one s)).count ≡ r.count + 1) [ inl e ↦ rw (e.0, e.1) refl | inr e ↦ rw (e.0) refl ]
 
-joined_begins : (r : Run) (s n0 k from : ℕ) → r.count ≡ n0 + k → (0 < r.count → r.first + n0 ≡ from) → s ≡ from + k → (joined r (one s)).first + n0 ≡ from
+joined_begins : (r : SectionRun) (s n0 k from : ℕ) → r.count ≡ n0 + k → (0 < r.count → r.first + n0 ≡ from) → s ≡ from + k → (joined r (one s)).first + n0 ≡ from
 joined_begins r s n0 k from count begins is =
     elim (eqb_tells r.count 0) as (λ _. (joined r (one s)).first + n0 ≡ from) [
       | inl e ↦ rw (e.0) (omega (arith, e.1, count, is))
@@ -99,8 +99,8 @@ joined_begins r s n0 k from count begins is =
 
 pub taken_more : (t from n0 k s : ℕ) (hand more : Holding) (a b c : Pages) → s ≡ from + k → HasTaken t from n0 k hand a b → run more ≡ joined (run hand) (one s) → IsAllOwn t more → TakesRun t (one s) b c → HasTaken t from n0 (k + 1) more a c
 taken_more t from n0 k s hand more a b c is before grown own next = record {
-  count = let e : length more.holds ≡ length hand.holds + 1 = ap (λ (r : Run). r.count) grown ∙ joined_count (run hand) s in omega (arith, e, before.count);
-  begins = λ _. ap (λ (r : Run). r.first + n0) grown ∙ joined_begins (run hand) s n0 k from before.count before.begins is;
+  count = let e : length more.holds ≡ length hand.holds + 1 = ap (λ (r : SectionRun). r.count) grown ∙ joined_count (run hand) s in omega (arith, e, before.count);
+  begins = λ _. ap (λ (r : SectionRun). r.first + n0) grown ∙ joined_begins (run hand) s n0 k from before.count before.begins is;
   own = own;
   book = takes_then t _ (one s) _ a b c (λ j. within_more from k j ∙ ap (λ x. within (record { first = from; count = k }) j || within (one x) j) (sym is)) before.book next;
 }
@@ -185,7 +185,7 @@ wish_twice t e w true y = elim (cases_Bool (is_taken_for t e)) [
 wish_twice t e w false y = refl
 
 -- one run after another
-pub frees_then : (t : ℕ) (r q p : Run) (a b c : Pages) → ((s : ℕ) → within p s ≡ (within r s || within q s)) → FreesRun t r a b → FreesRun t q b c → FreesRun t p a c
+pub frees_then : (t : ℕ) (r q p : SectionRun) (a b c : Pages) → ((s : ℕ) → within p s ≡ (within r s || within q s)) → FreesRun t r a b → FreesRun t q b c → FreesRun t p a c
 frees_then t r q p a b c both first next = record {
   homes = λ s. next.homes s ∙ first.homes s;
   entry = λ s. next.entry s
@@ -242,7 +242,7 @@ frees_one t s claim a b is homes entry wish = frees_on t s a b homes
     (λ k. entry k ∙ ap (λ (x : Claim). cond (is_taken_by a x && (k == section_of x)) (back_to (wish_at a (section_of x))) (entry_at a k)) is)
     (λ k. wish k ∙ ap (λ (x : Claim). cond (is_taken_by a x && (k == section_of x)) false (wish_at a k)) is)
 
-run_by : (r : Run) (first count : ℕ) → r.first ≡ first → r.count ≡ count → r ≡ record { first = first; count = count }
+run_by : (r : SectionRun) (first count : ℕ) → r.first ≡ first → r.count ≡ count → r ≡ record { first = first; count = count }
 run_by r first count a b i = record { first = a i; count = b i }
 
 -- so many sections at the front of the hand are given back
@@ -256,8 +256,8 @@ freed_front_none t hand book own = record { hand = run_by _ (hand.first + 0) (le
 
 pub freed_front_more : (t k : ℕ) (first now next : Holding) (a b c : Pages) → k < length first.holds → HasFreedFront t k first now a b → run next ≡ run_without_front (run now) → IsAllOwn t next → FreesRun t (one now.first) b c → HasFreedFront t (k + 1) first next a c
 freed_front_more t k first now next a b c lt so_far cut own frees =
-    let count : length now.holds ≡ length first.holds - k = ap (λ (r : Run). r.count) so_far.hand in
-    let begins : now.first ≡ first.first + k = ap (λ (r : Run). r.first) so_far.hand in
+    let count : length now.holds ≡ length first.holds - k = ap (λ (r : SectionRun). r.count) so_far.hand in
+    let begins : now.first ≡ first.first + k = ap (λ (r : SectionRun). r.first) so_far.hand in
     let empty : (length now.holds == 0) ≡ false = grind (arith, nat_tests) in
     let shorter : run next ≡ record { first = now.first + 1; count = length now.holds - 1 } = cut ∙ ap (λ x. cond x (run now) (record { first = now.first + 1; count = length now.holds - 1 })) empty in
     record {
@@ -277,8 +277,8 @@ freed_back_none t hand book own = record { hand = run_by _ hand.first (length ha
 
 pub freed_back_more : (t k : ℕ) (first now next : Holding) (a b c : Pages) → k < length first.holds → HasFreedBack t k first now a b → run next ≡ run_without_back (run now) → IsAllOwn t next → FreesRun t (one (now.first + (length now.holds - 1))) b c → HasFreedBack t (k + 1) first next a c
 freed_back_more t k first now next a b c lt so_far cut own frees =
-    let count : length now.holds ≡ length first.holds - k = ap (λ (r : Run). r.count) so_far.hand in
-    let begins : now.first ≡ first.first = ap (λ (r : Run). r.first) so_far.hand in
+    let count : length now.holds ≡ length first.holds - k = ap (λ (r : SectionRun). r.count) so_far.hand in
+    let begins : now.first ≡ first.first = ap (λ (r : SectionRun). r.first) so_far.hand in
     let last : now.first + (length now.holds - 1) ≡ first.first + (length first.holds - (k + 1)) = omega (arith, begins, count) in
     let behind_last : first.first + (length first.holds - k) ≡ first.first + (length first.holds - (k + 1)) + 1 = omega arith in
     record {

@@ -5,7 +5,7 @@ use Rattle.rbc_spec.specs.Line.{Line, train_number}
 use Rattle.rbc_spec.specs.Place.{Place, Position, place_on}
 use Rattle.rbc_spec.specs.Message.{TrainMessage, TrainBody, TrainData, Request, Report, ShorteningGranted, ShorteningRejected, EndOfMission, InitiationOfSession, TerminationOfSession, StartOfMission, SessionEstablished, is_stale}
 use Rattle.rbc_spec.specs.Outcome.{Reason, StaleStamp, ForeignEngine}
-use Rattle.rbc_spec.specs.Centre.{Centre, Phase, Silent, Opened, Up, Mission, Proposal, is_expected}
+use Rattle.rbc_spec.specs.Centre.{Centre, Phase, Closed, Opened, Up, Mission, Proposal, is_expected}
 use Rattle.rbc_spec.specs.Step.{silence}
 use Rattle.rbc_mission.specs.Deeds.{Rule, rule_of, may_extend}
 
@@ -53,7 +53,7 @@ module _ (line : Line) (c : ℕ) (k : Centre) (t_train t : ℕ) where
     Says phase mission body = silence line c k (m body) ≡ reason_in (rule_of line c k t phase mission body)
 
     -- a train whose session is not up
-    early_silence : (mission : Option Mission) (body : TrainBody) → k.phase t ≡ Silent → Says Silent mission body
+    early_silence : (mission : Option Mission) (body : TrainBody) → k.phase t ≡ Closed → Says Closed mission body
     early_silence n InitiationOfSession p = rw (f, s) refl
     early_silence n TerminationOfSession p = rw (f, s, p) refl
     early_silence n SessionEstablished p = rw (f, s, p) refl
@@ -149,7 +149,7 @@ module _ (line : Line) (c : ℕ) (k : Centre) (t_train t : ℕ) where
 
     -- a message in time of a train of the line is silent where its rule has a reason
     pub timely_silence : (phase : Phase) (mission : Option Mission) (body : TrainBody) → k.phase t ≡ phase → k.mission t ≡ mission → Says phase mission body
-    timely_silence Silent mission body p g = early_silence mission body p
+    timely_silence Closed mission body p g = early_silence mission body p
     timely_silence Opened mission body p g = opened_silence mission body p
     timely_silence Up None body p g = elsewhere_silence body p g
     timely_silence Up (Some n) body p g = under_way_silence n p g body

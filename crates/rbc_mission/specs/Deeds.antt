@@ -3,12 +3,12 @@ use Rattle.std.specs.Prelude.{ℕ, ◌+◌, ◌-◌, ◌*◌, ◌==◌, Bool, tr
 use Rattle.std.specs.Option.{option_map_or}
 use Rattle.std.specs.List.{filter, range_with_len}
 use Rattle.rbc_spec.specs.Maps.{put}
-use Rattle.rbc_spec.specs.Runs.{Run, no_run, within, behind, all_of}
+use Rattle.rbc_spec.specs.SectionRuns.{SectionRun, no_run, within, behind, all_of}
 use Rattle.rbc_spec.specs.Line.{Line, is_home, end}
 use Rattle.rbc_spec.specs.Place.{Place, Position, covered, group_start, fit_place, place_on}
 use Rattle.rbc_spec.specs.Message.{TrainMessage, TrainBody, TrainData, Request, Report, ShorteningGranted, ShorteningRejected, EndOfMission, InitiationOfSession, TerminationOfSession, StartOfMission, SessionEstablished, TrackBody, Authority, DataAcknowledged, SystemVersion, TerminationAcknowledged, TrainRejected, TrainAccepted, unknown_group}
 use Rattle.rbc_spec.specs.Outcome.{Reason, NoSession, NoPlace, NotSupervised, NoTrainData, ProposalPending, Unasked, MissionEnded, WrongPhase, Saying, Word, Told}
-use Rattle.rbc_spec.specs.Centre.{Centre, Entry, Shut, Open, Taken, Phase, Silent, Opened, Up, Mission, Proposal, is_open, is_taken_for, is_free, is_registrar_of}
+use Rattle.rbc_spec.specs.Centre.{Centre, Entry, Shut, Open, Taken, Phase, Closed, Opened, Up, Mission, Proposal, is_open, is_taken_for, is_free, is_registrar_of}
 use Rattle.rbc_spec.specs.Acts.{Reply}
 use Rattle.rbc_spec.specs.Rules.{extension, cleared}
 
@@ -19,7 +19,7 @@ pub data Deed : Type 0 where
   CloseSession : Deed  -- it is closed (3.5.5)
   RejectStart : Deed  -- (5.4)
   Restart : (place : Place) → Deed  -- the mission goes on from this place
-  Start : (place : Place) (run : Run) → Deed  -- a mission begins with these sections
+  Start : (place : Place) (run : SectionRun) → Deed  -- a mission begins with these sections
   TakeData : Deed  -- its train data are known
   Grant : (place : Place) (count : ℕ) → Deed  -- so many sections behind the hand are added to it
   Clear : (place : Place) (count : ℕ) → Deed  -- so many sections leave the hand at its front
@@ -36,19 +36,19 @@ Rule = Result Deed Reason
 
 -- this where the session is up
 abbrev pub if_up : Phase → Rule → Rule
-if_up Silent rule = Err NoSession
+if_up Closed rule = Err NoSession
 if_up Opened rule = Err WrongPhase
 if_up Up rule = rule
 
 -- closing wants a session
 abbrev pub closing : Phase → Rule
-closing Silent = Err NoSession
+closing Closed = Err NoSession
 closing Opened = Ok CloseSession
 closing Up = Ok CloseSession
 
 -- confirming wants one that was opened and not confirmed
 abbrev pub establishing : Phase → Rule
-establishing Silent = Err NoSession
+establishing Closed = Err NoSession
 establishing Opened = Ok EstablishSession
 establishing Up = Err WrongPhase
 
@@ -124,7 +124,7 @@ rule_of line c k t phase mission (EndOfMission position) = if_up phase (supervis
 abbrev pub phase_after : Deed → Phase → Phase
 phase_after OpenSession phase = Opened
 phase_after EstablishSession phase = Up
-phase_after CloseSession phase = Silent
+phase_after CloseSession phase = Closed
 phase_after deed phase = phase
 
 -- the mission without its first sections, at this place
@@ -161,8 +161,8 @@ mission_after deed None = comes_up deed
 -- what becomes of sections
 pub data Change : Type 0 where
   Keeps : Change  -- nothing
-  Takes : (run : Run) → Change  -- the open ones of the run are taken into use for the train
-  Frees : (run : Run) → Change  -- those of the run that are in use for it are given back
+  Takes : (run : SectionRun) → Change  -- the open ones of the run are taken into use for the train
+  Frees : (run : SectionRun) → Change  -- those of the run that are in use for it are given back
 
 abbrev pub change_of : Deed → Option Mission → Change
 change_of (Start place run) None = Takes run
@@ -172,7 +172,7 @@ change_of (ClearAndEnd place count) (Some m) = Frees (record { first = m.hand.fi
 change_of (Cut keep) (Some m) = Frees (record { first = m.hand.first + keep; count = m.hand.count - keep })
 change_of deed mission = Keeps
 
-abbrev pub is_given_back : Line → ℕ → ℕ → Run → (ℕ → Entry) → ℕ → Bool
+abbrev pub is_given_back : Line → ℕ → ℕ → SectionRun → (ℕ → Entry) → ℕ → Bool
 is_given_back line c t r book s = (within r s && is_home line c s) && is_taken_for t (book s)
 
 abbrev pub entry_after : Line → ℕ → ℕ → Change → (ℕ → Entry) → (ℕ → Bool) → ℕ → Entry

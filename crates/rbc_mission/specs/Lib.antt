@@ -1,5 +1,5 @@
 pub mod Deeds
 pub mod Marks
 pub mod Sections
-pub mod Courses
+pub mod Supervisions
 pub mod Changes

@@ -2,7 +2,7 @@ ghost use Rattle.std.specs.Prelude.{◌≡◌, ℕ, Some, None, length, nat_lt, 
 ghost use Rattle.rbc_spec.specs.Maps.{put};
 ghost use Rattle.rbc_right.specs.Rights.{is_here, right_of};
 
-use crate::mission::Mission;
+use crate::facts::MissionFacts;
 use rbc_right::{Registrar, Right};
 use std::mem;
 
@@ -51,10 +51,10 @@ pub(crate) fn release(held: &mut HeldRight, registrar: &mut Registrar)
 /// What becomes of a mission with these facts: it stays, or it closes, where no section is left, and the right goes home.
 pub(crate) fn stay(
     is_left: bool,
-    facts: Mission,
+    facts: MissionFacts,
     held: &mut HeldRight,
     registrar: &mut Registrar,
-) -> Option<Mission>
+) -> Option<MissionFacts>
     ensures mission { result ≡ (if is_left then Some facts else None) }
     ensures held { held.new ≡ (if is_left then held.old else HeldRight.Nothing) }
     ensures here { (n j : ℕ) → held.old ≡ HeldRight.Held (right_of n)

@@ -3,12 +3,12 @@
 //! comes from the registrar, and closes where the last section is given back and the right goes home: it has both or neither.
 #![tactic(auto)]
 
-mod course;
+mod facts;
 mod held;
-mod mission;
 mod sections;
+mod supervision;
 mod told;
 
-pub use course::Course;
-pub use mission::Mission;
+pub use facts::MissionFacts;
+pub use supervision::Supervision;
 pub use told::Told;

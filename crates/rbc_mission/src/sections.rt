@@ -1,5 +1,5 @@
 ghost use Rattle.std.specs.Prelude.{◌≡◌, ◌+◌, ◌-◌, ◌≤◌, ◌<◌, ◌==◌, ◌&&◌, ℕ, length, true, false, if◌then◌else◌};
-ghost use Rattle.rbc_spec.specs.Runs.{within, behind, is_empty, joined};
+ghost use Rattle.rbc_spec.specs.SectionRuns.{within, behind, is_empty, joined};
 ghost use Rattle.rbc_spec.specs.Centre.{is_open, is_taken_for};
 ghost use Rattle.rbc_book.specs.Book.{entry_at, wish_at};
 ghost use Rattle.rbc_hand.specs.SectionRuns.{run_of};

@@ -1,7 +1,7 @@
 -- A commit with a share: it goes to a log that has what the share has seen of it, and the share has the receipt.
 use Rattle.std.specs.Prelude.{◌≡◌, [], ◌∷◌, ◌++◌, length, map, IfSome}
 use Rattle.rbc_spec.specs.Outcome.{Outcome}
-use Rattle.rbc_centre.specs.Meaning.{number_of}
+use Rattle.rbc_centre.specs.States.{number_of}
 use Rattle.rbc_centre.specs.Views.{event_of}
 use Rattle.rbc_centre.specs.declared.event.Event.{Event}
 use Rattle.rbc_log.specs.Log.{LogValue, IsReplaying, Appends, IsRefusal}

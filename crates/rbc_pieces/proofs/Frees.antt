@@ -3,7 +3,7 @@ use Rattle.std.proofs.Common.{◌≡◌, ◌⊎◌, ℕ, ◌*◌, ◌&&◌, not,
 use Rattle.std.specs.Bool.{MatchBool}
 use Rattle.std.proofs.lemmas.Bool.{and_parts, or_cases, not-true}
 use Rattle.std.proofs.lemmas.Option.{same_Some}
-use Rattle.rbc_spec.specs.Runs.{Run, within, behind, all_of}
+use Rattle.rbc_spec.specs.SectionRuns.{SectionRun, within, behind, all_of}
 use Rattle.rbc_spec.specs.Line.{Line, is_centre, is_home, end}
 use Rattle.rbc_spec.specs.Sections.{is_on}
 use Rattle.rbc_spec.specs.Place.{Place, Position, covered, is_cleared, fit_place, place_on}
@@ -124,7 +124,7 @@ module _ (line : Line) (v : LineState) (keep : WaitsKeep line v) (c : ℕ) (at :
   extends_leave place said new h = subst (Leaves line v) (sym h.says_it.new_is) (loose_leaves line v keep _ (within more) stay loose (λ s is. is)
       (wait_on line v keep _ refl (λ u d s waited. stay s (λ so. not_more u d s waited so))))
     where
-      more : Run
+      more : SectionRun
       more = record { first = behind h.hand; count = h.count }
 
       may_be : (s : ℕ) → within more s ≡ true → may_be_given line v c t s ≡ true

@@ -3,7 +3,7 @@ use Rattle.std.proofs.Common.{◌≡◌, ◌⊎◌, ℕ, zero, suc, ◌+◌, ◌
 use Rattle.std.specs.Option.{option_map_or}
 use Rattle.std.proofs.lemmas.Bool.{and_parts, and_from, or_left, cases_lt, not-false}
 use Rattle.rbc_spec.specs.Maps.{put}
-use Rattle.rbc_spec.specs.Runs.{Run, within, behind, longest, joined}
+use Rattle.rbc_spec.specs.SectionRuns.{SectionRun, within, behind, longest, joined}
 use Rattle.rbc_spec.specs.Line.{Line, is_centre, end}
 use Rattle.rbc_spec.specs.Sections.{is_on}
 use Rattle.rbc_spec.specs.Place.{Place, Position, group_start, place_on}
@@ -23,24 +23,24 @@ use Rattle.rbc_lemmas.proofs.Puts.{put_keeps, put_at_pair}
 use Rattle.rbc_lemmas.proofs.Longest.{longest_is}
 use Rattle.rbc_lemmas.specs.Runs.{IsLongest}
 use Rattle.rbc_lemmas.proofs.Runs.{within_from, all_within, some_count, none_within}
-use Rattle.rbc_alone.specs.Alone.{IsAlone}
+use Rattle.rbc_local.specs.Local.{IsLocal}
 use Rattle.rbc_pieces.proofs.Off.{shows, wish_stays, given_is_hand}
 use Rattle.rbc_pieces.proofs.Missions.{some_of, mission_becomes, mission_here}
 use Rattle.rbc_pieces.proofs.Books.{booked_marks, free_is_open}
 use Rattle.rbc_pieces.proofs.Messages.{AtOnce, Goes, ticked, message, before, not_for, goes_at_once}
 
-module _ (line : Line) (w : World) (alone : IsAlone line w) (c t_train t : ℕ) (trains : List ℕ) (at : is_centre line c ≡ true) (position : Position) where
+module _ (line : Line) (w : World) (local : IsLocal line w) (c t_train t : ℕ) (trains : List ℕ) (at : is_centre line c ≡ true) (position : Position) where
   abbrev body : TrainBody
   body = Request position
 
   abbrev k : centre.Centre
-  k = ticked line w alone c t_train t trains at
+  k = ticked line w local c t_train t trains at
 
   abbrev v : LineState
-  v = before line w alone c t_train t trains at body
+  v = before line w local c t_train t trains at body
 
   abbrev Answer : Type 0
-  Answer = AtOnce line w alone c t_train t trains at body
+  Answer = AtOnce line w local c t_train t trains at body
 
   module _ (m : centre.Mission) (has : (w.at c).mission t ≡ Some m) (place : Place) (on : place_on line m.place.track position ≡ Some place)
       (near : nat_le (end line (behind m.hand - 1)) (group_start line place + 32767) ≡ true) where
@@ -53,17 +53,17 @@ module _ (line : Line) (w : World) (alone : IsAlone line w) (c t_train t : ℕ) 
     abbrev count : ℕ
     count = longest test (behind m.hand) (32 - m.hand.count)
 
-    abbrev more : Run
+    abbrev more : SectionRun
     more = record { first = behind m.hand; count = count }
 
-    abbrev grown : Run
+    abbrev grown : SectionRun
     grown = record { first = m.hand.first; count = m.hand.count + count }
 
     some : 1 ≤ m.hand.count
-    some = ((alone.each c).mission t m has).some
+    some = ((local.each c).mission t m has).some
 
     few : m.hand.count ≤ 32
-    few = ((alone.each c).mission t m has).few
+    few = ((local.each c).mission t m has).few
 
     most : IsLongest test (behind m.hand) (32 - m.hand.count) count
     most = longest_is test (behind m.hand) (32 - m.hand.count)
@@ -75,7 +75,7 @@ module _ (line : Line) (w : World) (alone : IsAlone line w) (c t_train t : ℕ) 
       in_reach : nat_le (end line s) (group_start line place + 32767) ≡ true
 
     no_pool : (s : ℕ) → within m.pool s ≡ false
-    no_pool s = ap (λ (r : Run). within r s) ((alone.each c).mission t m has).no_pool ∙ none_within s
+    no_pool s = ap (λ (r : SectionRun). within r s) ((local.each c).mission t m has).no_pool ∙ none_within s
 
     follows : (s : ℕ) → test s ≡ true → Follows s
     follows s passes =
@@ -117,7 +117,7 @@ module _ (line : Line) (w : World) (alone : IsAlone line w) (c t_train t : ℕ) 
         by_count (suc n) is = (each_follows (behind m.hand + count - 1) (within_from more (behind m.hand + count - 1) (omega (arith, is)) (omega (arith, is)))).in_reach
 
     authority_is : authority line (extended_by more placed) ≡ end line (behind m.hand + count - 1) - group_start line place
-    authority_is = ap (λ (r : Run). end line (behind r - 1) - group_start line place) hand_is ∙ ap (λ e. end line (e - 1) - group_start line place) (let e : m.hand.first + (m.hand.count + count) ≡ m.hand.first + m.hand.count + count = omega arith in e)
+    authority_is = ap (λ (r : SectionRun). end line (behind r - 1) - group_start line place) hand_is ∙ ap (λ e. end line (e - 1) - group_start line place) (let e : m.hand.first + (m.hand.count + count) ≡ m.hand.first + m.hand.count + count = omega arith in e)
       where
         hand_is : joined m.hand more ≡ grown
         hand_is = rw (some_count m.hand.count some) refl
@@ -143,11 +143,11 @@ module _ (line : Line) (w : World) (alone : IsAlone line w) (c t_train t : ℕ) 
           words_are = rw (has) (rw on refl);
           own_step = (
             place,
-            ap (λ (o : Option line_centre.Mission). place_on line (option_map_or (λ n. n.place.track) o 0) position) (mission_here line w c t m alone has) ∙ on,
+            ap (λ (o : Option line_centre.LineMission). place_on line (option_map_or (λ n. n.place.track) o 0) position) (mission_here line w c t m local has) ∙ on,
             record {
               hand = m.hand;
               count = count;
-              is_hand = record { each = λ s. given_is_hand line w c t m alone has s };
+              is_hand = record { each = λ s. given_is_hand line w c t m local has s };
               each = all_within (λ s. may_be_given line v c t s && is_on line place.track s) more (λ s inside. let f = each_follows s inside in
                   and_from (may_be_given line v c t s) (is_on line place.track s) (or_left _ _ (free_is_open line w c s ∙ f.free)) f.on_track);
               ends = ends;
@@ -163,18 +163,18 @@ module _ (line : Line) (w : World) (alone : IsAlone line w) (c t_train t : ℕ) 
             heard = λ u d. put_at_pair (λ (j : centre.Centre). j.heard) w.at c _ t (Some t_train) (λ _. refl) u d;
             said = λ u d. put_at_pair (λ (j : centre.Centre). j.said) w.at c _ t ((w.at c).said t + 1) (λ _. refl) u d;
             wait = λ u d. refl;
-            mission = λ u. mission_becomes line w c t m (Some (extended_by more placed)) (option_map (λ (n : line_centre.Mission). record n { place = place }) (v.mission t)) u alone has
-                (sym (ap (option_map (λ (n : line_centre.Mission). record n { place = place })) (mission_here line w c t m alone has)));
+            mission = λ u. mission_becomes line w c t m (Some (extended_by more placed)) (option_map (λ (n : line_centre.LineMission). record n { place = place }) (v.mission t)) u local has
+                (sym (ap (option_map (λ (n : line_centre.LineMission). record n { place = place })) (mission_here line w c t m local has)));
           });
         }
 
   abbrev in_reach_of : centre.Mission → Place → Bool
   in_reach_of m place = nat_le place.front (10 * end line (behind m.hand - 1)) && nat_le (end line (behind m.hand - 1)) (group_start line place + 32767)
 
-  pub requested : step.silence line c k (message line w alone c t_train t trains at body) ≡ None → Answer
+  pub requested : step.silence line c k (message line w local c t_train t trains at body) ≡ None → Answer
   requested h =
-      let here = some_of ((w.at c).mission t) (not_for line w alone c t_train t trains at body 4 NotSupervised h refl) in
-      let fails : not (may_request line here.0 position) ≡ false = sym (ap (step.mission_has (λ m. not (may_request line m position))) here.1) ∙ not_for line w alone c t_train t trains at body 8 NoPlace h refl in
+      let here = some_of ((w.at c).mission t) (not_for line w local c t_train t trains at body 4 NotSupervised h refl) in
+      let fails : not (may_request line here.0 position) ≡ false = sym (ap (step.mission_has (λ m. not (may_request line m position))) here.1) ∙ not_for line w local c t_train t trains at body 8 NoPlace h refl in
       by_place here.0 here.1 (place_on line here.0.place.track position) refl (not-false (may_request line here.0 position) fails)
     where
       by_place : (m : centre.Mission) → (w.at c).mission t ≡ Some m → (o : Option Place) → place_on line m.place.track position ≡ o → option_map_or (in_reach_of m) o false ≡ true → Answer
@@ -182,5 +182,5 @@ module _ (line : Line) (w : World) (alone : IsAlone line w) (c t_train t : ℕ) 
       by_place m has (Some place) on passes =
           granted m has place on (and_parts (nat_le place.front (10 * end line (behind m.hand - 1))) (nat_le (end line (behind m.hand - 1)) (group_start line place + 32767)) passes).1
 
-  pub request_goes : Goes line w alone c t_train t trains at (Request position)
-  request_goes = goes_at_once line w alone c t_train t trains at (Request position) requested
+  pub request_goes : Goes line w local c t_train t trains at (Request position)
+  request_goes = goes_at_once line w local c t_train t trains at (Request position) requested

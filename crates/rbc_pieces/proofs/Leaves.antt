@@ -5,7 +5,7 @@ use Rattle.std.specs.List.{filter, list_any, range_with_len}
 use Rattle.std.proofs.lemmas.Bool.{and_parts, and_from, both_ways, cases_lt, and_right}
 use Rattle.std.proofs.lemmas.Bool.Decides.{eqb_tells}
 use Rattle.std.proofs.Math.Bool.{and-true}
-use Rattle.rbc_spec.specs.Runs.{Run, within, behind}
+use Rattle.rbc_spec.specs.SectionRuns.{SectionRun, within, behind}
 use Rattle.rbc_spec.specs.Line.{Line, is_home, end}
 use Rattle.rbc_spec.specs.Sections.{is_on, section_count}
 use Rattle.rbc_spec.specs.Place.{Place, is_cleared}
@@ -22,7 +22,7 @@ use Rattle.rbc_lemmas.proofs.Longest.{longest_is}
 use Rattle.rbc_lemmas.specs.Runs.{IsLongest}
 use Rattle.rbc_lemmas.proofs.Lists.{any-range, any-range_none}
 use Rattle.rbc_lemmas.proofs.Runs.{within_true, within_from, within_behind, same_tests, filter_run}
-use Rattle.rbc_alone.specs.Alone.{IsOrdered, IsAlone, hand_has, mark_alone, alone_off}
+use Rattle.rbc_local.specs.Local.{IsOrdered, IsLocal, hand_has, local_mark, local_read_off}
 use Rattle.rbc_pieces.proofs.Off.{mark_stays, wish_stays, wish_at_home, given_is_hand, hand_is_home}
 
 -- where a section is cleared, one that ends no farther is
@@ -40,19 +40,19 @@ after_leaving t true = refl
 after_leaving t false = refl
 
 -- of a run of the hand, which is told by a test of the line
-module _ (line : Line) (w : World) (alone : IsAlone line w) (c t : ℕ) (m : centre.Mission) (has : (w.at c).mission t ≡ Some m)
-    (r : Run) (is_released : ℕ → Bool) (released : (s : ℕ) → is_released s ≡ within r s) (inside : (s : ℕ) → within r s ≡ true → within m.hand s ≡ true) where
+module _ (line : Line) (w : World) (local : IsLocal line w) (c t : ℕ) (m : centre.Mission) (has : (w.at c).mission t ≡ Some m)
+    (r : SectionRun) (is_released : ℕ → Bool) (released : (s : ℕ) → is_released s ≡ within r s) (inside : (s : ℕ) → within r s ≡ true → within m.hand s ≡ true) where
   abbrev v : LineState
-  v = alone_off line w
+  v = local_read_off line w
 
   abbrev k : centre.Centre
   k = w.at c
 
   home_of : (s : ℕ) → within r s ≡ true → is_home line c s ≡ true
-  home_of s so = hand_is_home line c t k m (alone.each c) has s (inside s so)
+  home_of s so = hand_is_home line c t k m (local.each c) has s (inside s so)
 
   taken_of : (s : ℕ) → within r s ≡ true → is_taken_for t (k.book s) ≡ true
-  taken_of s so = (alone.each c).taken s t ∙ ap (λ (o : Option centre.Mission). hand_has o s) has ∙ inside s so
+  taken_of s so = (local.each c).taken s t ∙ ap (λ (o : Option centre.Mission). hand_has o s) has ∙ inside s so
 
   -- the section is freed
   abbrev is_freed : ℕ → Bool
@@ -64,14 +64,14 @@ module _ (line : Line) (w : World) (alone : IsAlone line w) (c t : ℕ) (m : cen
   abbrev freed_wish : ℕ → Bool
   freed_wish s = not (is_freed s) && k.wish s
 
-  pub left_marks : (s : ℕ) → (if is_home line c s then mark_alone (freed_book s) else v.mark s) ≡ (release line c t is_released v).mark s
+  pub left_marks : (s : ℕ) → (if is_home line c s then local_mark (freed_book s) else v.mark s) ≡ (release line c t is_released v).mark s
   left_marks s = by_run (within r s) refl
     where
-      by_wish : (a b : Bool) → a ≡ b → mark_alone (if a then centre.Shut else centre.Open) ≡ (if b then line_centre.Shut else line_centre.Open)
+      by_wish : (a b : Bool) → a ≡ b → local_mark (if a then centre.Shut else centre.Open) ≡ (if b then line_centre.Shut else line_centre.Open)
       by_wish a true h = rw h refl
       by_wish a false h = rw h refl
 
-      by_run : (b : Bool) → within r s ≡ b → (if is_home line c s then mark_alone (freed_book s) else v.mark s) ≡ (release line c t is_released v).mark s
+      by_run : (b : Bool) → within r s ≡ b → (if is_home line c s then local_mark (freed_book s) else v.mark s) ≡ (release line c t is_released v).mark s
       by_run true so = rw (so, home_of s so, taken_of s so, released s ∙ so) (by_wish (k.wish s) (v.wish s) (sym (wish_at_home line w c s (home_of s so))))
       by_run false so = rw (so, released s ∙ so) (mark_stays line w c s (k.book s) (λ _. refl))
 
@@ -97,7 +97,7 @@ module _ (line : Line) (w : World) (alone : IsAlone line w) (c t : ℕ) (m : cen
       only s passes = sym (released s) ∙ (and_parts (is_released s) (is_home line c s) (and_parts (is_released s && is_home line c s) (v.wish s) passes).0).0
 
       within_line : (s : ℕ) → within r s ≡ true → s < section_count line
-      within_line s so = on_line line m.place.track s (((alone.each c).mission t m has).on_track s (inside s so))
+      within_line s so = on_line line m.place.track s (((local.each c).mission t m has).on_track s (inside s so))
 
   -- what is still given to the train
   pub still_given : (s : ℕ) → is_given_to t ((release line c t is_released v).mark s) ≡ (within m.hand s && not (within r s))
@@ -105,7 +105,7 @@ module _ (line : Line) (w : World) (alone : IsAlone line w) (c t : ℕ) (m : cen
     where
       by_run : (b : Bool) → within r s ≡ b → is_given_to t ((release line c t is_released v).mark s) ≡ (within m.hand s && not b)
       by_run true so = rw (released s ∙ so, home_of s so) (after_leaving t (v.wish s)) ∙ sym (and_right (within m.hand s) false refl)
-      by_run false so = rw (released s ∙ so) (given_is_hand line w c t m alone has s) ∙ sym (and-true (within m.hand s))
+      by_run false so = rw (released s ∙ so) (given_is_hand line w c t m local has s) ∙ sym (and-true (within m.hand s))
 
   abbrev is_some_given : Bool
   is_some_given = list_any (λ s. is_given_to t ((release line c t is_released v).mark s)) (range_with_len 0 (section_count line))
@@ -120,7 +120,7 @@ module _ (line : Line) (w : World) (alone : IsAlone line w) (c t : ℕ) (m : cen
 
   pub some_given : (s : ℕ) → within m.hand s ≡ true → within r s ≡ false → is_some_given ≡ true
   some_given s so out = any-range (λ e. is_given_to t ((release line c t is_released v).mark e)) 0 (section_count line) s (omega arith)
-      (let below = on_line line m.place.track s (((alone.each c).mission t m has).on_track s so) in omega (arith, below))
+      (let below = on_line line m.place.track s (((local.each c).mission t m has).on_track s so) in omega (arith, below))
       (still_given s ∙ rw (so, out) refl)
 
 -- whether the hand of the train is empty
@@ -130,22 +130,22 @@ close_is line t v b is = ap (λ a. if a then v else set_mission t None v) is
 
 -- ## What is cleared
 
-module _ (line : Line) (w : World) (ordered : IsOrdered line) (alone : IsAlone line w) (c t : ℕ) (m : centre.Mission) (has : (w.at c).mission t ≡ Some m) (place : Place) where
-  abbrev part : Run
+module _ (line : Line) (w : World) (ordered : IsOrdered line) (local : IsLocal line w) (c t : ℕ) (m : centre.Mission) (has : (w.at c).mission t ≡ Some m) (place : Place) where
+  abbrev part : SectionRun
   part = cleared line place m
 
   most : IsLongest (is_cleared line place) m.hand.first m.hand.count part.count
   most = longest_is (is_cleared line place) m.hand.first m.hand.count
 
   on_track : (s : ℕ) → within m.hand s ≡ true → is_on line m.place.track s ≡ true
-  on_track = ((alone.each c).mission t m has).on_track
+  on_track = ((local.each c).mission t m has).on_track
 
   pub cleared_inside : (s : ℕ) → within part s ≡ true → within m.hand s ≡ true
   cleared_inside s so = let ends = within_true part s so in within_from m.hand s (omega (arith, ends.0)) (omega (arith, ends.1, most.fits))
 
   -- since ends rise along a track, what a place clears is a beginning of the hand
-  pub cleared_is : (s : ℕ) → is_cleared_of line (alone_off line w) t place s ≡ within part s
-  cleared_is s = ap (λ b. b && is_cleared line place s) (given_is_hand line w c t m alone has s) ∙ same_tests (within m.hand s && is_cleared line place s) (within part s) is_part is_cleared_there
+  pub cleared_is : (s : ℕ) → is_cleared_of line (local_read_off line w) t place s ≡ within part s
+  cleared_is s = ap (λ b. b && is_cleared line place s) (given_is_hand line w c t m local has s) ∙ same_tests (within m.hand s && is_cleared line place s) (within part s) is_part is_cleared_there
     where
       is_cleared_there : within part s ≡ true → (within m.hand s && is_cleared line place s) ≡ true
       is_cleared_there so = and_from (within m.hand s) (is_cleared line place s) (cleared_inside s so) (most.each s so)

@@ -1,13 +1,13 @@
 -- A run of a world as it goes on, event by event.
 use Rattle.std.proofs.Common.{◌≡◌, List, [], ◌∷◌, ◌++◌, Result, Ok, Err, refl, sym, ap, subst, ◌∙◌, append_assoc, append-nil}
-use Rattle.rbc_spec.specs.Reach.{Alone}
+use Rattle.rbc_spec.specs.Reach.{Local}
 use Rattle.rbc_spec.specs.Line.{Line, IsLine}
 use Rattle.rbc_spec.specs.Step.{Refusal}
 use Rattle.rbc_spec.specs.LineCentre.{LineState, line_beginning}
 use Rattle.rbc_spec.specs.World.{World, Event, Answer, world_step, world_run, new_world, ◌>>=◌}
 use Rattle.rbc_spec.specs.Run.{Run, Goes}
 use Rattle.rbc_spec.specs.ReadOff.{IsLineRun, read_off}
-use Rattle.rbc_alone.specs.Alone.{IsAlone}
+use Rattle.rbc_local.specs.Local.{IsLocal}
 use Rattle.rbc_pieces.proofs.Runs.{with_first, after_first, whole_run, run_of_none, run_of_cons}
 use Rattle.rbc_pieces.proofs.Whole.{beginning_read, read_stands}
 
@@ -17,35 +17,35 @@ with_front answers others = Ok (answers ++ others.0, others.1)
 
 -- after some of the events, with these answers to them, the world is w, and the rest is still to come
 pub record Reaches (line : Line) (all rest : List Event) (answers : List Answer) (w : World) : Type 0 where
-  pub same : world_run Alone line (new_world line) all ≡ (world_run Alone line w rest >>= with_front answers)
+  pub same : world_run Local line (new_world line) all ≡ (world_run Local line w rest >>= with_front answers)
 
 none_in_front : (r : Result (List Answer × World) Refusal) → r ≡ (r >>= with_front [])
 none_in_front (Ok p) = refl
 none_in_front (Err why) = refl
 
 pub at_start : (line : Line) (all : List Event) → Reaches line all all [] (new_world line)
-at_start line all = record { same = none_in_front (world_run Alone line (new_world line) all) }
+at_start line all = record { same = none_in_front (world_run Local line (new_world line) all) }
 
-one_more : (answers : List Answer) (answer : Answer) (r : Result (List Answer × World) Refusal) → ((r >>= with_first Alone answer) >>= with_front answers) ≡ (r >>= with_front (answers ++ answer ∷ []))
+one_more : (answers : List Answer) (answer : Answer) (r : Result (List Answer × World) Refusal) → ((r >>= with_first Local answer) >>= with_front answers) ≡ (r >>= with_front (answers ++ answer ∷ []))
 one_more answers answer (Ok p) = ap (λ (front : List Answer). Ok (front, p.1)) (sym (append_assoc answers (answer ∷ []) p.0))
 one_more answers answer (Err why) = refl
 
 pub goes_on : (line : Line) (all rest : List Event) (answers : List Answer) (w : World) (event : Event) (answer : Answer) (new : World)
-    → Reaches line all (event ∷ rest) answers w → world_step Alone line w event ≡ Ok (answer, new) → Reaches line all rest (answers ++ answer ∷ []) new
+    → Reaches line all (event ∷ rest) answers w → world_step Local line w event ≡ Ok (answer, new) → Reaches line all rest (answers ++ answer ∷ []) new
 goes_on line all rest answers w event answer new so_far s = record {
-  same = so_far.same ∙ ap (λ r. r >>= with_front answers) (whole_run Alone line w event rest (answer, new) (world_run Alone line new rest) s refl)
-      ∙ one_more answers answer (world_run Alone line new rest);
+  same = so_far.same ∙ ap (λ r. r >>= with_front answers) (whole_run Local line w event rest (answer, new) (world_run Local line new rest) s refl)
+      ∙ one_more answers answer (world_run Local line new rest);
 }
 
-pub at_end : (line : Line) (all : List Event) (answers : List Answer) (w : World) → Reaches line all [] answers w → world_run Alone line (new_world line) all ≡ Ok (answers, w)
+pub at_end : (line : Line) (all : List Event) (answers : List Answer) (w : World) → Reaches line all [] answers w → world_run Local line (new_world line) all ≡ Ok (answers, w)
 at_end line all answers w so_far =
-    so_far.same ∙ ap (λ r. r >>= with_front answers) (run_of_none Alone line w) ∙ ap (λ (front : List Answer). Ok (front, w)) (append-nil answers)
+    so_far.same ∙ ap (λ r. r >>= with_front answers) (run_of_none Local line w) ∙ ap (λ (front : List Answer). Ok (front, w)) (append-nil answers)
 
 -- a step that is refused ends the run
 pub stops_at : (line : Line) (all rest : List Event) (answers : List Answer) (w : World) (event : Event) (why : Refusal)
-    → Reaches line all (event ∷ rest) answers w → world_step Alone line w event ≡ Err why → world_run Alone line (new_world line) all ≡ Err why
+    → Reaches line all (event ∷ rest) answers w → world_step Local line w event ≡ Err why → world_run Local line (new_world line) all ≡ Err why
 stops_at line all rest answers w event why so_far s =
-    so_far.same ∙ ap (λ r. r >>= with_front answers) (run_of_cons Alone line w event rest ∙ ap (λ step. step >>= after_first Alone line rest) s)
+    so_far.same ∙ ap (λ r. r >>= with_front answers) (run_of_cons Local line w event rest ∙ ap (λ step. step >>= after_first Local line rest) s)
 
 -- ## The run of the one line centre as it goes on
 
@@ -72,9 +72,9 @@ run_goes_on line all rest answers w new event answer so_far piece = record {
       (so_far.goes_on (answer ∷ others) last (read_off line new, piece, r));
 }
 
-pub ends_run : (line : Line) (all : List Event) (answers : List Answer) (w : World) → IsLine line → IsAlone line w → RunsTo line all [] answers w → IsLineRun line all answers w
-ends_run line all answers w ok alone so_far = record {
+pub ends_run : (line : Line) (all : List Event) (answers : List Answer) (w : World) → IsLine line → IsLocal line w → RunsTo line all [] answers w → IsLineRun line all answers w
+ends_run line all answers w ok local so_far = record {
   last = read_off line w;
   is_run = subst (λ (front : List Answer). Run line line_beginning all front (read_off line w)) (append-nil answers) (so_far.goes_on [] (read_off line w) refl);
-  stands = read_stands line ok w alone;
+  stands = read_stands line ok w local;
 }

@@ -1,7 +1,7 @@
 -- The step of a message, in parts: it is silent, or heard and answered.
 use Rattle.std.proofs.Common.{◌≡◌, ℕ, ◌+◌, Bool, true, false, Option, Some, None, refl, sym, ap, ◌∙◌, inl, inr, List, [], Ok, subst, slice_get}
 use Rattle.std.specs.List.{list_all}
-use Rattle.rbc_spec.specs.Reach.{Alone}
+use Rattle.rbc_spec.specs.Reach.{Local}
 use Rattle.rbc_spec.specs.Line.{Line, is_centre}
 use Rattle.rbc_spec.specs.Message.{TrainMessage, TrainBody}
 use Rattle.rbc_spec.specs.Outcome.{Reason, reasons_of}
@@ -17,7 +17,7 @@ use Rattle.rbc_spec.specs.Run.{Piece, OwnStep, silent, heard}
 use Rattle.rbc_lemmas.proofs.Lists.{none_passes}
 use Rattle.std.proofs.lemmas.List.{append-nil}
 use Rattle.rbc_lemmas.proofs.Puts.{put_keeps}
-use Rattle.rbc_alone.specs.Alone.{IsAlone, alone_off}
+use Rattle.rbc_local.specs.Local.{IsLocal, local_read_off}
 use Rattle.rbc_pieces.specs.Pieces.{with_centre}
 use Rattle.rbc_pieces.proofs.Off.{shows, mark_stays, wish_stays, mission_stays}
 use Rattle.rbc_pieces.proofs.Silence.{same_silence}
@@ -32,8 +32,8 @@ pub record IsUnseen (old new : centre.Centre) : Type 0 where
   pub said : new.said ≡ old.said
   pub mission : new.mission ≡ old.mission
 
-pub unseen : (line : Line) (w : World) (c : ℕ) (new : centre.Centre) (trains : List ℕ) → IsUnseen (w.at c) new → alone_off line (with_centre w c new trains) ≡ alone_off line w
-unseen line w c new trains same = shows line w c new trains (alone_off line w) (record {
+pub unseen : (line : Line) (w : World) (c : ℕ) (new : centre.Centre) (trains : List ℕ) → IsUnseen (w.at c) new → local_read_off line (with_centre w c new trains) ≡ local_read_off line w
+unseen line w c new trains same = shows line w c new trains (local_read_off line w) (record {
   mark = λ s. mark_stays line w c s (new.book s) (λ _. ap (λ (f : ℕ → centre.Entry). f s) same.book);
   wish = λ s. wish_stays line w c s (new.wish s) (λ _. ap (λ (f : ℕ → Bool). f s) same.wish);
   phase = λ t d. put_keeps (λ (k : centre.Centre). k.phase t) w.at c new (ap (λ (f : ℕ → centre.Phase). f t) same.phase) d;
@@ -46,9 +46,9 @@ unseen line w c new trains same = shows line w c new trains (alone_off line w) (
 pub nothing_more : (said : Said) → said ≡ both said nothing
 nothing_more said = λ i. record { sayings = sym (append-nil said.sayings) i; words = sym (append-nil said.words) i }
 
-module _ (line : Line) (w : World) (alone : IsAlone line w) (c t_train t : ℕ) (trains : List ℕ) (at : is_centre line c ≡ true) where
+module _ (line : Line) (w : World) (local : IsLocal line w) (c t_train t : ℕ) (trains : List ℕ) (at : is_centre line c ≡ true) where
   abbrev pub now : LineState
-  now = alone_off line w
+  now = local_read_off line w
 
   abbrev pub stamp : ℕ
   stamp = (w.at c).clock + 1
@@ -60,29 +60,29 @@ module _ (line : Line) (w : World) (alone : IsAlone line w) (c t_train t : ℕ) 
   message body = record { t_train = t_train; nid_engine = t; body = body }
 
   abbrev pub reply : TrainBody → Reply
-  reply body = step.hear_and_answer Alone line c (message body) ticked
+  reply body = step.hear_and_answer Local line c (message body) ticked
 
   abbrev pub before : TrainBody → LineState
   before body = hears c (message body) now
 
   -- what a step with this effect shows of the one line centre
   abbrev PieceOf : TrainBody → Effect → Type 0
-  PieceOf body e = Piece line now (Bytes c (Ok (message body))) (step.outcome_of stamp (w.at c) e) (alone_off line (with_centre w c (step.state_after stamp (w.at c) e) trains))
+  PieceOf body e = Piece line now (Bytes c (Ok (message body))) (step.outcome_of stamp (w.at c) e) (local_read_off line (with_centre w c (step.state_after stamp (w.at c) e) trains))
 
   -- the step of the message is a piece
   abbrev pub Goes : TrainBody → Type 0
-  Goes body = PieceOf body (step.effect Alone line c ticked (step.Train (message body)))
+  Goes body = PieceOf body (step.effect Local line c ticked (step.Train (message body)))
 
   silent_goes : (body : TrainBody) (why : Reason) → step.silence line c ticked (message body) ≡ Some why → Goes body
   silent_goes body why h =
-      let effect : step.effect Alone line c ticked (step.Train (message body)) ≡ record { reply = record { state = ticked; frames = λ d. []; sayings = []; words = [] }; link = None; silence = Some why } = rw h refl in
+      let effect : step.effect Local line c ticked (step.Train (message body)) ≡ record { reply = record { state = ticked; frames = λ d. []; sayings = []; words = [] }; link = None; silence = Some why } = rw h refl in
       subst (PieceOf body) (sym effect) (record {
         own = nothing;
         mid = now;
         why = Some why;
         quiets = [];
         later = nothing;
-        own_step = (at, silent why (same_silence line w alone c t t_train stamp body ∙ h) refl refl refl);
+        own_step = (at, silent why (same_silence line w local c t t_train stamp body ∙ h) refl refl refl);
         quiet_steps = (refl, unseen line w c _ trains (record { book = refl; wish = refl; phase = refl; heard = refl; said = refl; mission = refl }));
         own_centre = refl;
         none_if_silent = inr refl;
@@ -106,7 +106,7 @@ module _ (line : Line) (w : World) (alone : IsAlone line w) (c t_train t : ℕ) 
     pub sayings_are : (reply body).sayings ≡ said.sayings
     pub words_are : (reply body).words ≡ said.words
     pub own_step : Own line (before body) c (message body) body own mid
-    pub quiet_steps : TakesAll line mid quiets later (alone_off line (with_centre w c (left state (reply body)) trains))
+    pub quiet_steps : TakesAll line mid quiets later (local_read_off line (with_centre w c (left state (reply body)) trains))
     pub says_it : said ≡ both own later
     pub own_centre : list_all (is_of_centre line c) quiets ≡ true
     pub none_told : later.words ≡ []
@@ -114,10 +114,10 @@ module _ (line : Line) (w : World) (alone : IsAlone line w) (c t_train t : ℕ) 
   answered_goes : (body : TrainBody) → step.silence line c ticked (message body) ≡ None → Answers body → Goes body
   answered_goes body h a =
       let made : Reply = record { state = a.state; frames = (reply body).frames; sayings = a.said.sayings; words = a.said.words } in
-      let effect : step.effect Alone line c ticked (step.Train (message body)) ≡ record { reply = made; link = None; silence = None } =
+      let effect : step.effect Local line c ticked (step.Train (message body)) ≡ record { reply = made; link = None; silence = None } =
       rw h (λ i. record { reply = record { state = a.state_is i; frames = (reply body).frames; sayings = a.sayings_are i; words = a.words_are i }; link = None; silence = None })
       in
-      let own_step : OwnStep line now (Bytes c (Ok (message body))) a.own a.mid None = (at, heard (same_silence line w alone c t t_train stamp body ∙ h) refl (record { own = a.own_step })) in
+      let own_step : OwnStep line now (Bytes c (Ok (message body))) a.own a.mid None = (at, heard (same_silence line w local c t t_train stamp body ∙ h) refl (record { own = a.own_step })) in
       subst (PieceOf body) (sym effect) (record {
         own = a.own;
         mid = a.mid;
@@ -141,7 +141,7 @@ module _ (line : Line) (w : World) (alone : IsAlone line w) (c t_train t : ℕ) 
     pub sayings_are : (reply body).sayings ≡ said.sayings
     pub words_are : (reply body).words ≡ said.words
     pub own_step : Own line (before body) c (message body) body said mid
-    pub shown : alone_off line (with_centre w c (left state (reply body)) trains) ≡ mid
+    pub shown : local_read_off line (with_centre w c (left state (reply body)) trains) ≡ mid
 
   pub answers_at_once : (body : TrainBody) → AtOnce body → Answers body
   answers_at_once body a = record {

@@ -12,7 +12,7 @@ use Rattle.rbc_spec.specs.OwnSteps.{without_proposal}
 use Rattle.rbc_spec.specs.World.{World}
 use Rattle.rbc_spec.specs.ReadOff.{seen}
 use Rattle.rbc_lemmas.proofs.Puts.{put_same}
-use Rattle.rbc_alone.specs.Alone.{IsAlone, alone_off}
+use Rattle.rbc_local.specs.Local.{IsLocal, local_read_off}
 use Rattle.rbc_pieces.proofs.Off.{registrar_of_mission, mission_at_registrar, mission_stays, mission_put}
 
 -- what is not none is something
@@ -22,31 +22,31 @@ some_of (Some x) h = (x, refl)
 
 module _ (line : Line) (w : World) (c t : ℕ) where
   abbrev v : LineState
-  v = alone_off line w
+  v = local_read_off line w
 
   -- the mission is on the line as its centre has it
-  pub mission_here : (m : centre.Mission) → IsAlone line w → (w.at c).mission t ≡ Some m → v.mission t ≡ Some (seen c m)
-  mission_here m alone has = mission_at_registrar line w c t (registrar_of_mission line c t (w.at c) m (alone.each c) has) ∙ ap (option_map (seen c)) has
+  pub mission_here : (m : centre.Mission) → IsLocal line w → (w.at c).mission t ≡ Some m → v.mission t ≡ Some (seen c m)
+  mission_here m local has = mission_at_registrar line w c t (registrar_of_mission line c t (w.at c) m (local.each c) has) ∙ ap (option_map (seen c)) has
 
   -- a mission becomes another
-  pub mission_becomes : (old : centre.Mission) (new : Option centre.Mission) (shown : Option line_centre.Mission) (u : ℕ) → IsAlone line w → (w.at c).mission t ≡ Some old → option_map (seen c) new ≡ shown
+  pub mission_becomes : (old : centre.Mission) (new : Option centre.Mission) (shown : Option line_centre.LineMission) (u : ℕ) → IsLocal line w → (w.at c).mission t ≡ Some old → option_map (seen c) new ≡ shown
       → (if is_registrar_of line c u then option_map (seen c) (put (w.at c).mission t new u) else v.mission u) ≡ put v.mission t shown u
-  mission_becomes old new shown u alone has same =
-      mission_put line w c t new u (registrar_of_mission line c t (w.at c) old (alone.each c) has) ∙ ap (λ (o : Option line_centre.Mission). put v.mission t o u) same
+  mission_becomes old new shown u local has same =
+      mission_put line w c t new u (registrar_of_mission line c t (w.at c) old (local.each c) has) ∙ ap (λ (o : Option line_centre.LineMission). put v.mission t o u) same
 
   -- and is changed, as the line's is
-  pub mission_changes : (m : centre.Mission) (change : centre.Mission → centre.Mission) (shown : line_centre.Mission → line_centre.Mission) (u : ℕ) → IsAlone line w → (w.at c).mission t ≡ Some m
+  pub mission_changes : (m : centre.Mission) (change : centre.Mission → centre.Mission) (shown : line_centre.LineMission → line_centre.LineMission) (u : ℕ) → IsLocal line w → (w.at c).mission t ≡ Some m
       → seen c (change m) ≡ shown (seen c m)
       → (if is_registrar_of line c u then option_map (seen c) (put (w.at c).mission t (option_map change ((w.at c).mission t)) u) else v.mission u) ≡ put v.mission t (option_map shown (v.mission t)) u
-  mission_changes m change shown u alone has same =
-      mission_becomes m (option_map change ((w.at c).mission t)) (option_map shown (v.mission t)) u alone has
-      (ap (λ (o : Option centre.Mission). option_map (seen c) (option_map change o)) has ∙ ap (λ x. Some x) same ∙ sym (ap (option_map shown) (mission_here m alone has)))
+  mission_changes m change shown u local has same =
+      mission_becomes m (option_map change ((w.at c).mission t)) (option_map shown (v.mission t)) u local has
+      (ap (λ (o : Option centre.Mission). option_map (seen c) (option_map change o)) has ∙ ap (λ x. Some x) same ∙ sym (ap (option_map shown) (mission_here m local has)))
 
   -- the request to shorten is dropped where the mission is here
-  pub proposal_drops : (u : ℕ) → IsAlone line w
+  pub proposal_drops : (u : ℕ) → IsLocal line w
       → (if is_registrar_of line c u then option_map (seen c) (put (w.at c).mission t (option_map (λ (m : centre.Mission). record m { proposal = None }) ((w.at c).mission t)) u) else v.mission u)
       ≡ put v.mission t (option_map (without_proposal c) (v.mission t)) u
-  proposal_drops u alone = by_registrar (is_registrar_of line c t) refl
+  proposal_drops u local = by_registrar (is_registrar_of line c t) refl
     where
       drop_here : (o : Option centre.Mission) → option_map (seen c) (option_map (λ (m : centre.Mission). record m { proposal = None }) o) ≡ option_map (without_proposal c) (option_map (seen c) o)
       drop_here None = refl
@@ -65,9 +65,9 @@ module _ (line : Line) (w : World) (c t : ℕ) where
           → (if is_registrar_of line c u then option_map (seen c) (put (w.at c).mission t (option_map (λ (m : centre.Mission). record m { proposal = None }) ((w.at c).mission t)) u) else v.mission u)
           ≡ put v.mission t (option_map (without_proposal c) (v.mission t)) u
       by_registrar true is = mission_put line w c t (option_map (λ (m : centre.Mission). record m { proposal = None }) ((w.at c).mission t)) u is
-          ∙ ap (λ (o : Option line_centre.Mission). put v.mission t o u) (drop_here ((w.at c).mission t) ∙ sym (ap (option_map (without_proposal c)) (mission_at_registrar line w c t is)))
+          ∙ ap (λ (o : Option line_centre.LineMission). put v.mission t o u) (drop_here ((w.at c).mission t) ∙ sym (ap (option_map (without_proposal c)) (mission_at_registrar line w c t is)))
       by_registrar false is =
-          let none = (alone.each c).at_registrar t is in
+          let none = (local.each c).at_registrar t is in
           mission_stays line w c u (put (w.at c).mission t (option_map (λ (m : centre.Mission). record m { proposal = None }) ((w.at c).mission t)) u)
           (put_same t (option_map (λ (m : centre.Mission). record m { proposal = None }) ((w.at c).mission t)) (w.at c).mission (none ∙ sym (ap (option_map (λ (m : centre.Mission). record m { proposal = None })) none)) u)
           ∙ sym (put_same t (option_map (without_proposal c) (v.mission t)) v.mission (sym (away (registrar line t) is)) u)

@@ -5,7 +5,7 @@ use Rattle.std.specs.List.{find, flat_map, count_by, range_with_len}
 use Rattle.std.proofs.lemmas.Bool.{false_from_ne_true, both_ways, and_from}
 use Rattle.std.proofs.lemmas.Bool.Decides.{eqb_tells}
 use Rattle.std.proofs.lemmas.List.Sums.{sum_by-cons}
-use Rattle.rbc_spec.specs.Runs.{Run, no_run, within}
+use Rattle.rbc_spec.specs.SectionRuns.{SectionRun, no_run, within}
 use Rattle.rbc_spec.specs.Line.{Line, IsLine, Section, Train, AreDistinct, section, is_home, registrar}
 use Rattle.rbc_spec.specs.Place.{Place, covered}
 use Rattle.rbc_spec.specs.Frame.{Frame}
@@ -17,8 +17,8 @@ use Rattle.rbc_spec.specs.Promises.{once, held_for, carried_for, holders, user, 
 use Rattle.rbc_lemmas.proofs.Lists.{each_at}
 use Rattle.rbc_lemmas.proofs.Lines.{one_home, registrar_below}
 use Rattle.std.proofs.lemmas.List.{append-nil}
-use Rattle.rbc_alone.specs.Alone.{IsAlone, IsMissionAlone, hand_has}
-use Rattle.rbc_alone.proofs.Missions.{none_within}
+use Rattle.rbc_local.specs.Local.{IsLocal, IsLocalMission, hand_has}
+use Rattle.rbc_local.proofs.Missions.{none_within}
 use Rattle.rbc_pieces.proofs.Off.{registrar_of_mission}
 use Rattle.rbc_pieces.proofs.Seats.{flat_map-none, none_on_way, one_seat}
 use Rattle.rbc_pieces.proofs.Stands.{hand_of}
@@ -105,7 +105,7 @@ not_registrar line t r c is apart = ap (λ (o : Option ℕ). option_map_or (λ d
 is_there : (line : Line) (t r : ℕ) → registrar line t ≡ Some r → is_registrar_of line r t ≡ true
 is_there line t r is = ap (λ (o : Option ℕ). option_map_or (λ d. d == r) o false) is ∙ eq-eqb r r refl
 
-module _ (line : Line) (w : World) (ok : IsLine line) (alone : IsAlone line w) where
+module _ (line : Line) (w : World) (ok : IsLine line) (local : IsLocal line w) where
   -- ## Sections
 
   -- the train, for its mission's hand and its pool
@@ -115,15 +115,15 @@ module _ (line : Line) (w : World) (ok : IsLine line) (alone : IsAlone line w) w
   -- a centre has a section for the train for which its book has it taken
   held_here : (s c t : ℕ) → held_for line s (w.at c) t ≡ once (is_taken_for t ((w.at c).book s)) t
   held_here s c t =
-      ap (λ (o : Option Place). in_mission s t ((w.at c).mission t) ++ option_map_or (λ place. once (within (covered line place) s) t) o []) ((alone.each c).no_wait t)
-      ∙ append-nil (in_mission s t ((w.at c).mission t)) ∙ by_mission ((w.at c).mission t) refl ∙ ap (λ b. once b t) (sym ((alone.each c).taken s t))
+      ap (λ (o : Option Place). in_mission s t ((w.at c).mission t) ++ option_map_or (λ place. once (within (covered line place) s) t) o []) ((local.each c).no_wait t)
+      ∙ append-nil (in_mission s t ((w.at c).mission t)) ∙ by_mission ((w.at c).mission t) refl ∙ ap (λ b. once b t) (sym ((local.each c).taken s t))
     where
-      not_in_pool : (m : centre.Mission) → IsMissionAlone line m → once (within m.pool s) t ≡ []
-      not_in_pool m is_alone = ap (λ b. once b t) (ap (λ (r : Run). within r s) is_alone.no_pool ∙ false_from_ne_true (within no_run s) (none_within s))
+      not_in_pool : (m : centre.Mission) → IsLocalMission line m → once (within m.pool s) t ≡ []
+      not_in_pool m is_local = ap (λ b. once b t) (ap (λ (r : SectionRun). within r s) is_local.no_pool ∙ false_from_ne_true (within no_run s) (none_within s))
 
       by_mission : (o : Option centre.Mission) → (w.at c).mission t ≡ o → in_mission s t o ≡ once (hand_has o s) t
       by_mission None has = refl
-      by_mission (Some m) has = ap (λ us. once (within m.hand s) t ++ us) (not_in_pool m ((alone.each c).mission t m has)) ∙ append-nil (once (within m.hand s) t)
+      by_mission (Some m) has = ap (λ us. once (within m.hand s) t ++ us) (not_in_pool m ((local.each c).mission t m has)) ∙ append-nil (once (within m.hand s) t)
 
   abbrev engines : List ℕ
   engines = map (λ p. p.nid_engine) line.trains
@@ -135,13 +135,13 @@ module _ (line : Line) (w : World) (ok : IsLine line) (alone : IsAlone line w) w
   -- only its home has it for a train
   none_elsewhere : (s c d : ℕ) → is_home line c s ≡ true → d ≢ c → held_at_centre s d ≡ []
   none_elsewhere s c d home apart = flat_map-none (held_for line s (w.at d)) engines
-      (λ t. held_here s d t ∙ ap (λ e. once (is_taken_for t e) t) ((alone.each d).foreign s (false_from_ne_true (is_home line d s) (λ there. apart (one_home line d c s there home)))))
+      (λ t. held_here s d t ∙ ap (λ e. once (is_taken_for t e) t) ((local.each d).foreign s (false_from_ne_true (is_home line d s) (λ there. apart (one_home line d c s there home)))))
 
   -- a train for which a section is taken is of the line
   is_of_line : (s c t : ℕ) → is_taken_for t ((w.at c).book s) ≡ true → is_some (find (λ p. p.nid_engine == t) line.trains) ≡ true
   is_of_line s c t taken =
-      let h = hand_of ((w.at c).mission t) s (sym ((alone.each c).taken s t) ∙ taken) in
-      by_train (find (λ p. p.nid_engine == t) line.trains) (registrar_of_mission line c t (w.at c) h.0 (alone.each c) h.1)
+      let h = hand_of ((w.at c).mission t) s (sym ((local.each c).taken s t) ∙ taken) in
+      by_train (find (λ p. p.nid_engine == t) line.trains) (registrar_of_mission line c t (w.at c) h.0 (local.each c) h.1)
     where
       by_train : (o : Option Train) → option_map_or (λ r. r == c) (option_map (λ p. p.registrar) o) false ≡ true → is_some o ≡ true
       by_train None here = cc
@@ -155,11 +155,11 @@ module _ (line : Line) (w : World) (ok : IsLine line) (alone : IsAlone line w) w
       by_entry centre.Shut is = flat_map-none (λ t. []) engines (λ t. refl)
       by_entry centre.Open is = flat_map-none (λ t. []) engines (λ t. refl)
       by_entry (centre.Taken t) is = there_once t line.trains ok.distinct.engines (is_of_line s c t (ap (is_taken_for t) is ∙ eq-eqb t t refl))
-      by_entry (centre.Out t d) is = absurd (both_ways ((t == t) && (d == d)) (sym (ap (is_out_for t d) is) ∙ (alone.each c).not_out s t d) (and_from (t == t) (d == d) (eq-eqb t t refl) (eq-eqb d d refl)))
+      by_entry (centre.Out t d) is = absurd (both_ways ((t == t) && (d == d)) (sym (ap (is_out_for t d) is) ∙ (local.each c).not_out s t d) (and_from (t == t) (d == d) (eq-eqb t t refl) (eq-eqb d d refl)))
 
   section_held : (s c : ℕ) → is_home line c s ≡ true → holders line w s ≡ user ((w.at c).book s)
   section_held s c home =
-      ap (λ (fs : List Frame). flat_map (held_at_centre s) (centres_of line) ++ flat_map (λ (f : Frame). carried_for s f.body) fs) (none_on_way line w alone)
+      ap (λ (fs : List Frame). flat_map (held_at_centre s) (centres_of line) ++ flat_map (λ (f : Frame). carried_for s f.body) fs) (none_on_way line w local)
       ∙ append-nil (flat_map (held_at_centre s) (centres_of line))
       ∙ flat_map-range_one (held_at_centre s) 0 (length line.centres) c (omega arith) (omega (arith, home_is_centre line ok s c home)) (λ d apart. none_elsewhere s c d home apart)
       ∙ held_by_user s c
@@ -180,13 +180,13 @@ module _ (line : Line) (w : World) (ok : IsLine line) (alone : IsAlone line w) w
       within_line = omega (arith, registrar_below line ok t r is)
 
       no_right : (c : ℕ) → c ≢ r → has_right t c ≡ false
-      no_right c apart = (alone.each c).right t ∙ ap (λ b. b && is_none ((w.at c).mission t)) (not_registrar line t r c is apart)
+      no_right c apart = (local.each c).right t ∙ ap (λ b. b && is_none ((w.at c).mission t)) (not_registrar line t r c is apart)
 
       right_here : (o : Option centre.Mission) → (w.at r).mission t ≡ o → has_right t r ≡ is_none o
-      right_here o has = (alone.each r).right t ∙ ap (λ b. b && is_none ((w.at r).mission t)) (is_there line t r is) ∙ ap is_none has
+      right_here o has = (local.each r).right t ∙ ap (λ b. b && is_none ((w.at r).mission t)) (is_there line t r is) ∙ ap is_none has
 
       no_mission : (c : ℕ) → c ≢ r → has_mission t c ≡ false
-      no_mission c apart = ap is_some ((alone.each c).at_registrar t (not_registrar line t r c is apart))
+      no_mission c apart = ap is_some ((local.each c).at_registrar t (not_registrar line t r c is apart))
 
       nowhere : (test : ℕ → Bool) → test r ≡ false → ((c : ℕ) → c ≢ r → test c ≡ false) → (c : ℕ) → test c ≡ false
       nowhere test here elsewhere c = elim (eqb_tells c r) [ inl e ↦ ap test (e.1) ∙ here | inr e ↦ elsewhere c (e.1) ]
@@ -205,12 +205,12 @@ module _ (line : Line) (w : World) (ok : IsLine line) (alone : IsAlone line w) w
       → count_by (has_right t) (centres_of line) + count_by (has_mission t) (centres_of line) + count_by (λ f. carries_right t f.body) (frames_on_way line w) ≡ 1
   right_in_one_place t r is =
       let placed = right_placed t r is in
-      let carried : count_by (λ (f : Frame). carries_right t f.body) (frames_on_way line w) ≡ 0 = ap (count_by (λ (f : Frame). carries_right t f.body)) (none_on_way line w alone) in
+      let carried : count_by (λ (f : Frame). carries_right t f.body) (frames_on_way line w) ≡ 0 = ap (count_by (λ (f : Frame). carries_right t f.body)) (none_on_way line w local) in
       omega (arith, placed, carried)
 
   pub has_one_place : HasOnePlace line w
   has_one_place = record {
     sections = section_held;
     rights = right_in_one_place;
-    missions = one_seat line w alone;
+    missions = one_seat line w local;
   }

@@ -10,7 +10,7 @@ use Rattle.rbc_spec.specs.Message.{TrainMessage, TrainBody, TrainData, Request, 
 use Rattle.rbc_spec.specs.Outcome.{Outcome, Word, Told, Done, Asked, NotHome, Reason, NotSupervised, Unasked, reasons_of}
 use Rattle.rbc_spec.specs.Centre as centre
 use Rattle.rbc_spec.specs.Step as step
-use Rattle.rbc_spec.specs.LineCentre.{LineState, Mission, Mark, Shut, Open, Kept, Given, is_at, is_given_to, hears, Said}
+use Rattle.rbc_spec.specs.LineCentre.{LineState, LineMission, Mark, Shut, Open, Kept, Given, is_at, is_given_to, hears, Said}
 use Rattle.rbc_spec.specs.OwnSteps.{Sets, Unsets, is_unused_mark, set_mark, wished_back, last_kept_of}
 use Rattle.rbc_spec.specs.World.{World, Event, Bytes, Set, Unset, Delivery, Answer, Answered, NoCentre, NotSent, Fault}
 use Rattle.rbc_spec.specs.Run as run
@@ -47,10 +47,10 @@ pub record IsSupervisor (w : World) (c t : ℕ) (v : LineState) : Type 0 where
   pub is_seen : v.mission t ≡ Some (seen c mission)
 
 module _ (line : Line) (w : World) (v : LineState) (stands : StandsFor line w v) where
-  here_is : (c t : ℕ) (test : Mission → Bool) → has_here v c t test ≡ true → (h : IsSupervisor w c t v) × (test (seen c h.mission) ≡ true)
+  here_is : (c t : ℕ) (test : LineMission → Bool) → has_here v c t test ≡ true → (h : IsSupervisor w c t v) × (test (seen c h.mission) ≡ true)
   here_is c t test = by_mission (v.mission t) refl
     where
-      by_place : (m : Mission) → v.mission t ≡ Some m → IsMissionOf w t m → (is_at c m.supervisor ≡ true) → test m ≡ true → (h : IsSupervisor w c t v) × (test (seen c h.mission) ≡ true)
+      by_place : (m : LineMission) → v.mission t ≡ Some m → IsMissionOf w t m → (is_at c m.supervisor ≡ true) → test m ≡ true → (h : IsSupervisor w c t v) × (test (seen c h.mission) ≡ true)
       by_place _ is (supervised d n has) at so =
           let same : d ≡ c = eqb-true d c at in (
             record { mission = n; has = subst (λ (x : ℕ). (w.at x).mission t ≡ Some n) same has.at_centre; is_seen = subst (λ (x : ℕ). v.mission t ≡ Some (seen x n)) same is },
@@ -58,12 +58,12 @@ module _ (line : Line) (w : World) (v : LineState) (stands : StandsFor line w v)
           )
       by_place _ is (parted a b f stamp d e p hand on carries) at so = cc
 
-      by_mission : (o : Option Mission) → v.mission t ≡ o → option_map_or (λ m. is_at c m.supervisor && test m) o false ≡ true → (h : IsSupervisor w c t v) × (test (seen c h.mission) ≡ true)
+      by_mission : (o : Option LineMission) → v.mission t ≡ o → option_map_or (λ m. is_at c m.supervisor && test m) o false ≡ true → (h : IsSupervisor w c t v) × (test (seen c h.mission) ≡ true)
       by_mission None is h = cc
       by_mission (Some m) is h = let parts = and_parts (is_at c m.supervisor) (test m) h in by_place m is (stands.mission t m is) parts.0 parts.1
 
   -- the request that is answered stands
-  asked_is : (stamp : ℕ) (n : Mission) → answers_it stamp n ≡ true → (p : centre.Proposal) × (n.proposal ≡ Some p) × (stamp ≡ p.stamp)
+  asked_is : (stamp : ℕ) (n : LineMission) → answers_it stamp n ≡ true → (p : centre.Proposal) × (n.proposal ≡ Some p) × (stamp ≡ p.stamp)
   asked_is stamp n = by_proposal n.proposal
     where
       by_proposal : (o : Option centre.Proposal) → option_map_or (λ p. p.stamp == stamp) o false ≡ true → (p : centre.Proposal) × (o ≡ Some p) × (stamp ≡ p.stamp)
@@ -79,18 +79,18 @@ module _ (line : Line) (w : World) (v : LineState) (stands : StandsFor line w v)
     frees_is (Report position) fair u s (by_report _ place train on is) =
         let h = here_is c t (λ n. true) (not-false (has_here v c t (λ n. true)) (none_passes (run.holds line v c (message (Report position)) (Report position)) (reasons_of (Report position)) 4 NotSupervised fair refl)) in
         cleared c (message (Report position)) position h.0.mission place train (same (Report position) fair) (subst (λ (x : ℕ). (w.at c).mission x ≡ Some h.0.mission) train h.0.has) (inl refl)
-        (subst (λ (o : Option Mission). place_on line (option_map_or (λ n. n.place.track) o 0) position ≡ Some place) h.0.is_seen on) is
+        (subst (λ (o : Option LineMission). place_on line (option_map_or (λ n. n.place.track) o 0) position ≡ Some place) h.0.is_seen on) is
     frees_is (EndOfMission position) fair u s (by_end _ place train on is) =
         let h = here_is c t (λ n. true) (not-false (has_here v c t (λ n. true)) (none_passes (run.holds line v c (message (EndOfMission position)) (EndOfMission position)) (reasons_of (EndOfMission position)) 4 NotSupervised fair refl)) in
         cleared c (message (EndOfMission position)) position h.0.mission place train (same (EndOfMission position) fair) (subst (λ (x : ℕ). (w.at c).mission x ≡ Some h.0.mission) train h.0.has) (inr refl)
-        (subst (λ (o : Option Mission). place_on line (option_map_or (λ n. n.place.track) o 0) position ≡ Some place) h.0.is_seen on) is
+        (subst (λ (o : Option LineMission). place_on line (option_map_or (λ n. n.place.track) o 0) position ≡ Some place) h.0.is_seen on) is
     frees_is (ShorteningGranted stamp position) fair u s (by_cut _ _ place train on time past) =
         let h = here_is c t (answers_it stamp) (not-false (has_here v c t (answers_it stamp)) (none_passes (run.holds line v c (message (ShorteningGranted stamp position)) (ShorteningGranted stamp position)) (reasons_of (ShorteningGranted stamp position)) 5 Unasked fair refl)) in
         let p = asked_is stamp (seen c h.0.mission) h.1 in
-        let last : last_kept_of v t ≡ p.0.last_kept = ap (λ (o : Option Mission). option_map_or (λ m. option_map_or (λ q. q.last_kept) m.proposal 0) o 0) h.0.is_seen ∙ ap (λ (o : Option centre.Proposal). option_map_or (λ q. q.last_kept) o 0) p.1 in
+        let last : last_kept_of v t ≡ p.0.last_kept = ap (λ (o : Option LineMission). option_map_or (λ m. option_map_or (λ q. q.last_kept) m.proposal 0) o 0) h.0.is_seen ∙ ap (λ (o : Option centre.Proposal). option_map_or (λ q. q.last_kept) o 0) p.1 in
         shortened c (message (ShorteningGranted stamp position)) position h.0.mission p.0 place train (same (ShorteningGranted stamp position) fair) (subst (λ (x : ℕ). (w.at c).mission x ≡ Some h.0.mission) train h.0.has)
         p.1 (ap (λ (x : ℕ). ShorteningGranted x position) p.2)
-        (subst (λ (o : Option Mission). place_on line (option_map_or (λ n. n.place.track) o 0) position ≡ Some place) h.0.is_seen on)
+        (subst (λ (o : Option LineMission). place_on line (option_map_or (λ n. n.place.track) o 0) position ≡ Some place) h.0.is_seen on)
         (leb-true place.front (10 * end line p.0.last_kept) (subst (λ (x : ℕ). nat_le place.front (10 * end line x) ≡ true) last time))
         (ltb-true p.0.last_kept s (subst (λ (x : ℕ). nat_lt x s ≡ true) last past))
     frees_is InitiationOfSession fair u s frees = elim frees [ ]

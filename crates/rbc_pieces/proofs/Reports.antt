@@ -2,7 +2,7 @@
 use Rattle.std.proofs.Common.{◌≡◌, ℕ, ◌==◌, Bool, true, false, Option, Some, None, option_map, is_none, is_some, refl, sym, ap, ◌∙◌, List, [], if◌then◌else◌}
 use Rattle.std.specs.Option.{option_map_or}
 use Rattle.rbc_spec.specs.Maps.{put}
-use Rattle.rbc_spec.specs.Runs.{no_run}
+use Rattle.rbc_spec.specs.SectionRuns.{no_run}
 use Rattle.rbc_spec.specs.Line.{Line, is_centre}
 use Rattle.rbc_spec.specs.Place.{Place, Position, place_on}
 use Rattle.rbc_spec.specs.Message.{TrainBody, Report, EndOfMission}
@@ -19,7 +19,7 @@ use Rattle.rbc_spec.specs.World.{World}
 use Rattle.rbc_spec.specs.ReadOff.{seen}
 use Rattle.std.proofs.lemmas.List.{append-nil}
 use Rattle.rbc_lemmas.proofs.Puts.{put_keeps, put_at_pair, put_over, put_there, itself}
-use Rattle.rbc_alone.specs.Alone.{IsOrdered, IsAlone, alone_off}
+use Rattle.rbc_local.specs.Local.{IsOrdered, IsLocal, local_read_off}
 use Rattle.rbc_pieces.proofs.Off.{shows, mark_stays, wish_stays}
 use Rattle.rbc_pieces.proofs.Missions.{some_of, mission_becomes, mission_here}
 use Rattle.rbc_pieces.proofs.Books.{supervises_is}
@@ -28,40 +28,40 @@ use Rattle.rbc_pieces.proofs.Acts.{not_yielded, words_alone, Does, both_do, with
 use Rattle.rbc_pieces.proofs.Clearing as clearing
 use Rattle.rbc_pieces.proofs.Messages.{AtOnce, Goes, stamp, ticked, message, before, reply, left, not_for, goes_at_once}
 
-module _ (line : Line) (ordered : IsOrdered line) (w : World) (alone : IsAlone line w) (c t_train t : ℕ) (trains : List ℕ) (at : is_centre line c ≡ true) where
+module _ (line : Line) (ordered : IsOrdered line) (w : World) (local : IsLocal line w) (c t_train t : ℕ) (trains : List ℕ) (at : is_centre line c ≡ true) where
   abbrev k : centre.Centre
-  k = ticked line w alone c t_train t trains at
+  k = ticked line w local c t_train t trains at
 
   abbrev v : TrainBody → LineState
-  v body = before line w alone c t_train t trains at body
+  v body = before line w local c t_train t trains at body
 
   abbrev Answer : TrainBody → Type 0
-  Answer body = AtOnce line w alone c t_train t trains at body
+  Answer body = AtOnce line w local c t_train t trains at body
 
   abbrev is_silent : TrainBody → Type 0
-  is_silent body = step.silence line c k (message line w alone c t_train t trains at body) ≡ None
+  is_silent body = step.silence line c k (message line w local c t_train t trains at body) ≡ None
 
   abbrev made : TrainBody → centre.Centre → centre.Centre
-  made body state = left line w alone c t_train t trains at state (reply line w alone c t_train t trains at body)
+  made body state = left line w local c t_train t trains at state (reply line w local c t_train t trains at body)
 
   module _ (m : centre.Mission) (has : (w.at c).mission t ≡ Some m) where
     abbrev heard : centre.Centre
-    heard = clearing.heard line ordered w alone c t_train t (stamp line w alone c t_train t trains at) trains m has
+    heard = clearing.heard line ordered w local c t_train t (stamp line w local c t_train t trains at) trains m has
 
     no_handing : m.handing ≡ None
-    no_handing = clearing.no_handing line ordered w alone c t_train t (stamp line w alone c t_train t trains at) trains m has
+    no_handing = clearing.no_handing line ordered w local c t_train t (stamp line w local c t_train t trains at) trains m has
 
     supervised : (body : TrainBody) → supervises (v body) c t ≡ true
-    supervised body = supervises_is line w c t alone ∙ ap is_some has
+    supervised body = supervises_is line w c t local ∙ ap is_some has
 
     track_is : (body : TrainBody) (position : Position) → place_on line (track_of (v body) t) position ≡ place_on line m.place.track position
-    track_is body position = ap (λ (o : Option line_centre.Mission). place_on line (option_map_or (λ n. n.place.track) o 0) position) (mission_here line w c t m alone has)
+    track_is body position = ap (λ (o : Option line_centre.LineMission). place_on line (option_map_or (λ n. n.place.track) o 0) position) (mission_here line w c t m local has)
 
     -- what a message leaves and tells
     record Comes (body : TrainBody) (s : centre.Centre) (words : List Word) : Type 0 where
-      state_is : (reply line w alone c t_train t trains at body).state ≡ s
-      sayings_are : (reply line w alone c t_train t trains at body).sayings ≡ []
-      words_are : (reply line w alone c t_train t trains at body).words ≡ words
+      state_is : (reply line w local c t_train t trains at body).state ≡ s
+      sayings_are : (reply line w local c t_train t trains at body).sayings ≡ []
+      words_are : (reply line w local c t_train t trains at body).words ≡ words
 
     report_comes : (position : Position) (s : centre.Centre) (words : List Word) → Does (report_here line c t position m >> yield_if_due line c t) heard s words → Comes (Report position) s words
     unfolding ◌>>◌
@@ -78,21 +78,21 @@ module _ (line : Line) (ordered : IsOrdered line) (w : World) (alone : IsAlone l
     -- ## The place clears the whole hand
 
     abbrev closed : centre.Centre
-    closed = clearing.closed line ordered w alone c t_train t (stamp line w alone c t_train t trains at) trains m has
+    closed = clearing.closed line ordered w local c t_train t (stamp line w local c t_train t trains at) trains m has
 
     module _ (place : Place) where
       abbrev words : List Word
-      words = release_words line c (is_cleared_of line (alone_off line w) t place) (alone_off line w)
+      words = release_words line c (is_cleared_of line (local_read_off line w) t place) (local_read_off line w)
 
       abbrev placed_line : LineState
-      placed_line = clearing.placed_line line ordered w alone c t_train t (stamp line w alone c t_train t trains at) trains m has place
+      placed_line = clearing.placed_line line ordered w local c t_train t (stamp line w local c t_train t trains at) trains m has place
 
       module _ (is_all : ((cleared line place m).count == m.hand.count) ≡ true) where
         not_yielded_then : Does (yield_if_due line c t) closed closed []
-        not_yielded_then = not_yielded line c t closed None (clearing.none_there line ordered w alone c t_train t (stamp line w alone c t_train t trains at) trains m has place is_all) (λ x is. cc)
+        not_yielded_then = not_yielded line c t closed None (clearing.none_there line ordered w local c t_train t (stamp line w local c t_train t trains at) trains m has place is_all) (λ x is. cc)
 
         answer_closed : (body : TrainBody) → Comes body closed (words)
-            → Own line (v body) c (message line w alone c t_train t trains at body) body (record { sayings = []; words = words }) (set_mission t None placed_line) → Answer body
+            → Own line (v body) c (message line w local c t_train t trains at body) body (record { sayings = []; words = words }) (set_mission t None placed_line) → Answer body
         answer_closed body comes own = record {
           state = closed;
           said = record { sayings = []; words = words };
@@ -101,7 +101,7 @@ module _ (line : Line) (ordered : IsOrdered line) (w : World) (alone : IsAlone l
           sayings_are = comes.sayings_are;
           words_are = comes.words_are;
           own_step = own;
-          shown = clearing.closed_shown line ordered w alone c t_train t (stamp line w alone c t_train t trains at) trains m has place is_all (made body closed).sent;
+          shown = clearing.closed_shown line ordered w local c t_train t (stamp line w local c t_train t trains at) trains m has place is_all (made body closed).sent;
         }
 
         report_closes : (position : Position) → place_on line m.place.track position ≡ Some place → Answer (Report position)
@@ -109,14 +109,14 @@ module _ (line : Line) (ordered : IsOrdered line) (w : World) (alone : IsAlone l
             let body : TrainBody = Report position in
             answer_closed body
             (report_comes position closed _ (does_as _ heard closed _ _
-            (both_do (report_here line c t position m) (yield_if_due line c t) heard closed closed _ [] (clearing.clears_all line ordered w alone c t_train t (stamp line w alone c t_train t trains at) trains m has place is_all position on) not_yielded_then) (append-nil (words))))
-            (rw (supervised body) (rw (track_is body position ∙ on) (record { said_is = refl; new_is = sym (clearing.closed_is line ordered w alone c t_train t (stamp line w alone c t_train t trains at) trains m has place is_all) })))
+            (both_do (report_here line c t position m) (yield_if_due line c t) heard closed closed _ [] (clearing.clears_all line ordered w local c t_train t (stamp line w local c t_train t trains at) trains m has place is_all position on) not_yielded_then) (append-nil (words))))
+            (rw (supervised body) (rw (track_is body position ∙ on) (record { said_is = refl; new_is = sym (clearing.closed_is line ordered w local c t_train t (stamp line w local c t_train t trains at) trains m has place is_all) })))
 
         end_closes : (position : Position) → place_on line m.place.track position ≡ Some place → Answer (EndOfMission position)
         end_closes position on =
             let body : TrainBody = EndOfMission position in
             let none_ended : ended t (set_mission t None placed_line) ≡ set_mission t None placed_line = λ i. record (set_mission t None placed_line) {
-              mission = λ u. (ap (λ (o : Option line_centre.Mission). put (set_mission t None placed_line).mission t (option_map (λ (n : line_centre.Mission). record n { is_ended = true; proposal = None }) o) u) (put_there placed_line.mission t None)
+              mission = λ u. (ap (λ (o : Option line_centre.LineMission). put (set_mission t None placed_line).mission t (option_map (λ (n : line_centre.LineMission). record n { is_ended = true; proposal = None }) o) u) (put_there placed_line.mission t None)
                   ∙ put_over t None None placed_line.mission u) i;
             }
             in
@@ -124,26 +124,26 @@ module _ (line : Line) (ordered : IsOrdered line) (w : World) (alone : IsAlone l
             (end_comes position closed _ (does_as _ heard closed _ _
             (both_do _ (yield_if_due line c t) heard closed closed _ []
             (both_do (with_some (λ j. j.mission t) (report_here line c t position)) (with_some (λ j. j.mission t) (λ n. return_pool line c t n >> change_here t (λ x. record x { is_ended = true; proposal = None }))) heard closed closed _ []
-            (with_it (λ (j : centre.Centre). j.mission t) (report_here line c t position) heard closed m _ has (clearing.clears_all line ordered w alone c t_train t (stamp line w alone c t_train t trains at) trains m has place is_all position on)) (without_it (λ (j : centre.Centre). j.mission t) _ closed (clearing.none_there line ordered w alone c t_train t (stamp line w alone c t_train t trains at) trains m has place is_all)))
+            (with_it (λ (j : centre.Centre). j.mission t) (report_here line c t position) heard closed m _ has (clearing.clears_all line ordered w local c t_train t (stamp line w local c t_train t trains at) trains m has place is_all position on)) (without_it (λ (j : centre.Centre). j.mission t) _ closed (clearing.none_there line ordered w local c t_train t (stamp line w local c t_train t trains at) trains m has place is_all)))
             not_yielded_then) (words_alone (words))))
-            (rw (track_is body position ∙ on) (record { said_is = refl; new_is = sym (ap (ended t) (clearing.closed_is line ordered w alone c t_train t (stamp line w alone c t_train t trains at) trains m has place is_all) ∙ none_ended) }))
+            (rw (track_is body position ∙ on) (record { said_is = refl; new_is = sym (ap (ended t) (clearing.closed_is line ordered w local c t_train t (stamp line w local c t_train t trains at) trains m has place is_all) ∙ none_ended) }))
 
       -- ## A part of the hand is left
 
       module _ (is_part : ((cleared line place m).count == m.hand.count) ≡ false) where
         abbrev shorter : centre.Mission
-        shorter = clearing.shorter line ordered w alone c t_train t (stamp line w alone c t_train t trains at) trains m has place is_part
+        shorter = clearing.shorter line ordered w local c t_train t (stamp line w local c t_train t trains at) trains m has place is_part
 
         abbrev kept_so : centre.Centre
-        kept_so = clearing.shortened line ordered w alone c t_train t (stamp line w alone c t_train t trains at) trains m has place is_part (Some shorter) k.mission
+        kept_so = clearing.shortened line ordered w local c t_train t (stamp line w local c t_train t trains at) trains m has place is_part (Some shorter) k.mission
 
         report_leaves : (position : Position) → place_on line m.place.track position ≡ Some place → Answer (Report position)
         report_leaves position on =
             let body : TrainBody = Report position in
             let comes : Comes body kept_so (words) =
             report_comes position kept_so _ (does_as _ heard kept_so _ _
-            (both_do (report_here line c t position m) (yield_if_due line c t) heard kept_so kept_so _ [] (clearing.clears_part line ordered w alone c t_train t (stamp line w alone c t_train t trains at) trains m has place is_part position on)
-            (not_yielded line c t kept_so (Some shorter) (clearing.kept_there line ordered w alone c t_train t (stamp line w alone c t_train t trains at) trains m has place is_part) (λ x is. let same : shorter ≡ x = cc in sym (ap (λ (n : centre.Mission). n.handing) same) ∙ no_handing)))
+            (both_do (report_here line c t position m) (yield_if_due line c t) heard kept_so kept_so _ [] (clearing.clears_part line ordered w local c t_train t (stamp line w local c t_train t trains at) trains m has place is_part position on)
+            (not_yielded line c t kept_so (Some shorter) (clearing.kept_there line ordered w local c t_train t (stamp line w local c t_train t trains at) trains m has place is_part) (λ x is. let same : shorter ≡ x = cc in sym (ap (λ (n : centre.Mission). n.handing) same) ∙ no_handing)))
             (append-nil (words)))
             in
             record {
@@ -153,18 +153,18 @@ module _ (line : Line) (ordered : IsOrdered line) (w : World) (alone : IsAlone l
               state_is = comes.state_is;
               sayings_are = comes.sayings_are;
               words_are = comes.words_are;
-              own_step = rw (supervised body) (rw (track_is body position ∙ on) (record { said_is = refl; new_is = sym (clearing.left_is line ordered w alone c t_train t (stamp line w alone c t_train t trains at) trains m has place is_part) }));
-              shown = clearing.shortened_shown line ordered w alone c t_train t (stamp line w alone c t_train t trains at) trains m has place is_part (made body kept_so).sent shorter k.mission (seen c shorter) placed_line.mission (λ u. refl) refl (clearing.placed_mission line ordered w alone c t_train t (stamp line w alone c t_train t trains at) trains m has place is_part);
+              own_step = rw (supervised body) (rw (track_is body position ∙ on) (record { said_is = refl; new_is = sym (clearing.left_is line ordered w local c t_train t (stamp line w local c t_train t trains at) trains m has place is_part) }));
+              shown = clearing.shortened_shown line ordered w local c t_train t (stamp line w local c t_train t trains at) trains m has place is_part (made body kept_so).sent shorter k.mission (seen c shorter) placed_line.mission (λ u. refl) refl (clearing.placed_mission line ordered w local c t_train t (stamp line w local c t_train t trains at) trains m has place is_part);
             }
 
         abbrev at_end : centre.Mission
-        at_end = clearing.at_end line ordered w alone c t_train t (stamp line w alone c t_train t trains at) trains m has place is_part
+        at_end = clearing.at_end line ordered w local c t_train t (stamp line w local c t_train t trains at) trains m has place is_part
 
         abbrev without_pool : centre.Mission
-        without_pool = clearing.without_pool line ordered w alone c t_train t (stamp line w alone c t_train t trains at) trains m has place is_part
+        without_pool = clearing.without_pool line ordered w local c t_train t (stamp line w local c t_train t trains at) trains m has place is_part
 
         abbrev last_left : centre.Centre
-        last_left = clearing.last_left line ordered w alone c t_train t (stamp line w alone c t_train t trains at) trains m has place is_part
+        last_left = clearing.last_left line ordered w local c t_train t (stamp line w local c t_train t trains at) trains m has place is_part
 
         end_leaves : (position : Position) → place_on line m.place.track position ≡ Some place → Answer (EndOfMission position)
         end_leaves position on =
@@ -173,8 +173,8 @@ module _ (line : Line) (ordered : IsOrdered line) (w : World) (alone : IsAlone l
             end_comes position last_left _ (does_as _ heard last_left _ _
             (both_do _ (yield_if_due line c t) heard last_left last_left _ []
             (both_do (with_some (λ j. j.mission t) (report_here line c t position)) (with_some (λ j. j.mission t) (λ n. return_pool line c t n >> change_here t (λ x. record x { is_ended = true; proposal = None }))) heard kept_so last_left _ []
-            (with_it (λ (j : centre.Centre). j.mission t) (report_here line c t position) heard kept_so m _ has (clearing.clears_part line ordered w alone c t_train t (stamp line w alone c t_train t trains at) trains m has place is_part position on))
-            (with_it (λ (j : centre.Centre). j.mission t) _ kept_so last_left shorter [] (clearing.kept_there line ordered w alone c t_train t (stamp line w alone c t_train t trains at) trains m has place is_part) (clearing.ends_part line ordered w alone c t_train t (stamp line w alone c t_train t trains at) trains m has place is_part)))
+            (with_it (λ (j : centre.Centre). j.mission t) (report_here line c t position) heard kept_so m _ has (clearing.clears_part line ordered w local c t_train t (stamp line w local c t_train t trains at) trains m has place is_part position on))
+            (with_it (λ (j : centre.Centre). j.mission t) _ kept_so last_left shorter [] (clearing.kept_there line ordered w local c t_train t (stamp line w local c t_train t trains at) trains m has place is_part) (clearing.ends_part line ordered w local c t_train t (stamp line w local c t_train t trains at) trains m has place is_part)))
             (not_yielded line c t last_left (Some at_end) (put_there (put (put k.mission t (Some shorter)) t (Some without_pool)) t (Some at_end)) (λ x is. let same : at_end ≡ x = cc in sym (ap (λ (n : centre.Mission). n.handing) same) ∙ no_handing)))
             (words_alone (words)))
             in
@@ -185,9 +185,9 @@ module _ (line : Line) (ordered : IsOrdered line) (w : World) (alone : IsAlone l
               state_is = comes.state_is;
               sayings_are = comes.sayings_are;
               words_are = comes.words_are;
-              own_step = rw (track_is body position ∙ on) (record { said_is = refl; new_is = sym (ap (ended t) (clearing.left_is line ordered w alone c t_train t (stamp line w alone c t_train t trains at) trains m has place is_part)) });
-              shown = clearing.shortened_shown line ordered w alone c t_train t (stamp line w alone c t_train t trains at) trains m has place is_part (made body last_left).sent at_end (put (put k.mission t (Some shorter)) t (Some without_pool)) (seen c at_end) (ended t placed_line).mission
-                  (λ u. put_over t (Some at_end) (Some without_pool) (put k.mission t (Some shorter)) u ∙ put_over t (Some at_end) (Some shorter) k.mission u) refl (clearing.ended_mission line ordered w alone c t_train t (stamp line w alone c t_train t trains at) trains m has place is_part);
+              own_step = rw (track_is body position ∙ on) (record { said_is = refl; new_is = sym (ap (ended t) (clearing.left_is line ordered w local c t_train t (stamp line w local c t_train t trains at) trains m has place is_part)) });
+              shown = clearing.shortened_shown line ordered w local c t_train t (stamp line w local c t_train t trains at) trains m has place is_part (made body last_left).sent at_end (put (put k.mission t (Some shorter)) t (Some without_pool)) (seen c at_end) (ended t placed_line).mission
+                  (λ u. put_over t (Some at_end) (Some without_pool) (put k.mission t (Some shorter)) u ∙ put_over t (Some at_end) (Some shorter) k.mission u) refl (clearing.ended_mission line ordered w local c t_train t (stamp line w local c t_train t trains at) trains m has place is_part);
             }
 
     -- ## An end without a place
@@ -234,9 +234,9 @@ module _ (line : Line) (ordered : IsOrdered line) (w : World) (alone : IsAlone l
             heard = λ u d. put_at_pair (λ (j : centre.Centre). j.heard) w.at c (made body ended_here) t (Some t_train) (λ _. refl) u d;
             said = λ u d. put_keeps (λ (j : centre.Centre). j.said u) w.at c (made body ended_here) refl d;
             wait = λ u d. refl;
-            mission = λ u. ap (λ (o : Option centre.Mission). if is_registrar_of line c u then option_map (seen c) o else (alone_off line w).mission u) (put_over t (Some done) (Some without) (w.at c).mission u)
-                ∙ mission_becomes line w c t m (Some done) (option_map (λ (n : line_centre.Mission). record n { is_ended = true; proposal = None }) ((alone_off line w).mission t)) u alone has
-                (sym (ap (option_map (λ (n : line_centre.Mission). record n { is_ended = true; proposal = None })) (mission_here line w c t m alone has)));
+            mission = λ u. ap (λ (o : Option centre.Mission). if is_registrar_of line c u then option_map (seen c) o else (local_read_off line w).mission u) (put_over t (Some done) (Some without) (w.at c).mission u)
+                ∙ mission_becomes line w c t m (Some done) (option_map (λ (n : line_centre.LineMission). record n { is_ended = true; proposal = None }) ((local_read_off line w).mission t)) u local has
+                (sym (ap (option_map (λ (n : line_centre.LineMission). record n { is_ended = true; proposal = None })) (mission_here line w c t m local has)));
           });
         }
 
@@ -264,17 +264,17 @@ module _ (line : Line) (ordered : IsOrdered line) (w : World) (alone : IsAlone l
 
   pub report_heard : (position : Position) → is_silent (Report position) → Answer (Report position)
   report_heard position h =
-      let unsupervised = not_for line w alone c t_train t trains at (Report position) 4 NotSupervised h refl in
-      let here = some_of ((w.at c).mission t) (sym (report_elsewhere line w alone c t t_train (stamp line w alone c t_train t trains at) position) ∙ unsupervised) in
-      report_answered here.0 here.1 position (sym (ap (step.mission_has (λ m. is_none (place_on line m.place.track position))) here.1) ∙ not_for line w alone c t_train t trains at (Report position) 5 NoPlace h refl)
+      let unsupervised = not_for line w local c t_train t trains at (Report position) 4 NotSupervised h refl in
+      let here = some_of ((w.at c).mission t) (sym (report_elsewhere line w local c t t_train (stamp line w local c t_train t trains at) position) ∙ unsupervised) in
+      report_answered here.0 here.1 position (sym (ap (step.mission_has (λ m. is_none (place_on line m.place.track position))) here.1) ∙ not_for line w local c t_train t trains at (Report position) 5 NoPlace h refl)
 
-  pub report_goes : (position : Position) → Goes line w alone c t_train t trains at (Report position)
-  report_goes position = goes_at_once line w alone c t_train t trains at (Report position) (report_heard position)
+  pub report_goes : (position : Position) → Goes line w local c t_train t trains at (Report position)
+  report_goes position = goes_at_once line w local c t_train t trains at (Report position) (report_heard position)
 
   pub end_heard : (position : Position) → is_silent (EndOfMission position) → Answer (EndOfMission position)
   end_heard position h =
-      let here = some_of ((w.at c).mission t) (not_for line w alone c t_train t trains at (EndOfMission position) 4 NotSupervised h refl) in
+      let here = some_of ((w.at c).mission t) (not_for line w local c t_train t trains at (EndOfMission position) 4 NotSupervised h refl) in
       end_answered here.0 here.1 position
 
-  pub end_goes : (position : Position) → Goes line w alone c t_train t trains at (EndOfMission position)
-  end_goes position = goes_at_once line w alone c t_train t trains at (EndOfMission position) (end_heard position)
+  pub end_goes : (position : Position) → Goes line w local c t_train t trains at (EndOfMission position)
+  end_goes position = goes_at_once line w local c t_train t trains at (EndOfMission position) (end_heard position)

@@ -9,7 +9,7 @@ use Rattle.rbc_spec.specs.Centre.{is_registrar_of}
 use Rattle.rbc_spec.specs.World.{World, way}
 use Rattle.rbc_spec.specs.ReadOff.{held_at, handed_over, centres_of, frames_on_way, all_held}
 use Rattle.std.proofs.lemmas.List.{append-nil}
-use Rattle.rbc_alone.specs.Alone.{IsAlone}
+use Rattle.rbc_local.specs.Local.{IsLocal}
 
 -- ## Lists
 
@@ -39,9 +39,9 @@ one_of_range f a (suc n) r only = elim (eqb_tells r a) [
 
 -- ## Seats
 
-module _ (line : Line) (w : World) (alone : IsAlone line w) where
+module _ (line : Line) (w : World) (local : IsLocal line w) where
   pub no_way : (a b : ℕ) → way w a b ≡ []
-  no_way a b = ap (drop ((w.at b).taken a)) ((alone.each a).none_sent b) ∙ drop-nil ((w.at b).taken a)
+  no_way a b = ap (drop ((w.at b).taken a)) ((local.each a).none_sent b) ∙ drop-nil ((w.at b).taken a)
 
   pub none_on_way : frames_on_way line w ≡ []
   none_on_way = flat_map-none (λ a. flat_map (λ b. way w a b) (centres_of line)) (centres_of line) (λ a. flat_map-none (λ b. way w a b) (centres_of line) (λ b. no_way a b))
@@ -52,7 +52,7 @@ module _ (line : Line) (w : World) (alone : IsAlone line w) where
       ∙ append-nil (filter_map (held_at w t) (centres_of line))
 
   pub not_held : (t c : ℕ) → is_registrar_of line c t ≡ false → held_at w t c ≡ None
-  not_held t c away = rw ((alone.each c).at_registrar t away) refl
+  not_held t c away = rw ((local.each c).at_registrar t away) refl
 
   pub one_seat : (t : ℕ) → length (all_held line w t) ≤ 1
   one_seat t = rw (all_at_centres t) (by_registrar (registrar line t) refl)

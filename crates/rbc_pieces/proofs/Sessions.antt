@@ -15,32 +15,32 @@ use Rattle.rbc_spec.specs.OwnSteps.{with_phase, session_ends, without_ask}
 use Rattle.rbc_spec.specs.World.{World}
 use Rattle.rbc_lemmas.proofs.Puts.{put_keeps, put_at_pair, put_over, put_pair_same}
 use Rattle.rbc_lemmas.proofs.Lists.{filter-none}
-use Rattle.rbc_alone.specs.Alone.{IsAlone, alone_off}
+use Rattle.rbc_local.specs.Local.{IsLocal, local_read_off}
 use Rattle.rbc_pieces.specs.Pieces.{with_centre}
 use Rattle.rbc_pieces.proofs.Off.{shows, mark_stays, wish_stays, mission_stays}
 use Rattle.rbc_pieces.proofs.Missions.{some_of, mission_changes, proposal_drops}
 use Rattle.rbc_pieces.proofs.Messages.{AtOnce, Goes, ticked, message, before, reply, not_for, goes_at_once}
 
-module _ (line : Line) (w : World) (alone : IsAlone line w) (c t_train t : ℕ) (trains : List ℕ) (at : is_centre line c ≡ true) where
+module _ (line : Line) (w : World) (local : IsLocal line w) (c t_train t : ℕ) (trains : List ℕ) (at : is_centre line c ≡ true) where
   abbrev k : centre.Centre
-  k = ticked line w alone c t_train t trains at
+  k = ticked line w local c t_train t trains at
 
   abbrev v : TrainBody → LineState
-  v body = before line w alone c t_train t trains at body
+  v body = before line w local c t_train t trains at body
 
   abbrev is_silent : TrainBody → Type 0
-  is_silent body = step.silence line c k (message line w alone c t_train t trains at body) ≡ None
+  is_silent body = step.silence line c k (message line w local c t_train t trains at body) ≡ None
 
   abbrev Piece_of : TrainBody → Type 0
-  Piece_of body = Goes line w alone c t_train t trains at body
+  Piece_of body = Goes line w local c t_train t trains at body
 
   abbrev Answer : TrainBody → Type 0
-  Answer body = AtOnce line w alone c t_train t trains at body
+  Answer body = AtOnce line w local c t_train t trains at body
 
   pub established : Answer SessionEstablished
   unfolding ◌>>◌
   established = record {
-    state = (reply line w alone c t_train t trains at SessionEstablished).state;
+    state = (reply line w local c t_train t trains at SessionEstablished).state;
     said = nothing;
     mid = with_phase t c centre.Up (v SessionEstablished);
     state_is = refl;
@@ -59,7 +59,7 @@ module _ (line : Line) (w : World) (alone : IsAlone line w) (c t_train t : ℕ) 
   }
 
   pub established_goes : Piece_of SessionEstablished
-  established_goes = goes_at_once line w alone c t_train t trains at SessionEstablished (λ _. established)
+  established_goes = goes_at_once line w local c t_train t trains at SessionEstablished (λ _. established)
 
   -- ## A session opens or closes
 
@@ -80,7 +80,7 @@ module _ (line : Line) (w : World) (alone : IsAlone line w) (c t_train t : ℕ) 
 
   -- whatever the centre has sent
   closed_shown : (body : TrainBody) (phase : centre.Phase) (phases : ℕ → centre.Phase) (sent : ℕ → List Frame) → ((u : ℕ) → phases u ≡ put (w.at c).phase t phase u)
-      → alone_off line (with_centre w c (record (closed phases) { sent = sent }) trains) ≡ closed_line phase body
+      → local_read_off line (with_centre w c (record (closed phases) { sent = sent }) trains) ≡ closed_line phase body
   closed_shown body phase phases sent is = shows line w c (record (closed phases) { sent = sent }) trains (closed_line phase body) (record {
     mark = λ s. mark_stays line w c s _ (λ _. refl);
     wish = λ s. wish_stays line w c s _ (λ _. refl);
@@ -88,7 +88,7 @@ module _ (line : Line) (w : World) (alone : IsAlone line w) (c t_train t : ℕ) 
     heard = λ u d. put_at_pair (λ (j : centre.Centre). j.heard) w.at c (record (closed phases) { sent = sent }) t (Some t_train) (λ _. refl) u d;
     said = λ u d. put_at_pair (λ (j : centre.Centre). j.said) w.at c (record (closed phases) { sent = sent }) t ((w.at c).said t + 1) (λ _. refl) u d;
     wait = λ u d. sym (put_pair_same (λ _ _. None) t c None refl u d);
-    mission = λ u. proposal_drops line w c t u alone;
+    mission = λ u. proposal_drops line w c t u local;
   })
 
   pub opened : Answer InitiationOfSession
@@ -96,42 +96,42 @@ module _ (line : Line) (w : World) (alone : IsAlone line w) (c t_train t : ℕ) 
   opened =
       let said : Said = record { sayings = saying_of t c unknown_group SystemVersion (v InitiationOfSession) ∷ []; words = [] } in
       record {
-        state = closed (put (put k.phase t centre.Silent) t centre.Opened);
+        state = closed (put (put k.phase t centre.Closed) t centre.Opened);
         said = said;
         mid = closed_line centre.Opened InitiationOfSession;
-        state_is = rw ((alone.each c).no_wait t) refl;
-        sayings_are = rw ((alone.each c).no_wait t) refl;
-        words_are = rw ((alone.each c).no_wait t) refl;
+        state_is = rw ((local.each c).no_wait t) refl;
+        sayings_are = rw ((local.each c).no_wait t) refl;
+        words_are = rw ((local.each c).no_wait t) refl;
         own_step = record {
           said_is = ap (λ (words : List Word). record { sayings = saying_of t c unknown_group SystemVersion (v InitiationOfSession) ∷ []; words = words }) (sym (none_told InitiationOfSession));
           new_is = refl;
         };
-        shown = closed_shown InitiationOfSession centre.Opened (put (put k.phase t centre.Silent) t centre.Opened) _ (put_over t centre.Opened centre.Silent (w.at c).phase);
+        shown = closed_shown InitiationOfSession centre.Opened (put (put k.phase t centre.Closed) t centre.Opened) _ (put_over t centre.Opened centre.Closed (w.at c).phase);
       }
 
   pub opened_goes : Piece_of InitiationOfSession
-  opened_goes = goes_at_once line w alone c t_train t trains at InitiationOfSession (λ _. opened)
+  opened_goes = goes_at_once line w local c t_train t trains at InitiationOfSession (λ _. opened)
 
   pub ended : Answer TerminationOfSession
   unfolding ◌>>◌
   ended =
       let said : Said = record { sayings = saying_of t c unknown_group TerminationAcknowledged (v TerminationOfSession) ∷ []; words = [] } in
       record {
-        state = closed (put k.phase t centre.Silent);
+        state = closed (put k.phase t centre.Closed);
         said = said;
-        mid = closed_line centre.Silent TerminationOfSession;
-        state_is = rw ((alone.each c).no_wait t) refl;
-        sayings_are = rw ((alone.each c).no_wait t) refl;
-        words_are = rw ((alone.each c).no_wait t) refl;
+        mid = closed_line centre.Closed TerminationOfSession;
+        state_is = rw ((local.each c).no_wait t) refl;
+        sayings_are = rw ((local.each c).no_wait t) refl;
+        words_are = rw ((local.each c).no_wait t) refl;
         own_step = record {
           said_is = ap (λ (words : List Word). record { sayings = saying_of t c unknown_group TerminationAcknowledged (v TerminationOfSession) ∷ []; words = words }) (sym (none_told TerminationOfSession));
           new_is = refl;
         };
-        shown = closed_shown TerminationOfSession centre.Silent (put k.phase t centre.Silent) _ (λ u. refl);
+        shown = closed_shown TerminationOfSession centre.Closed (put k.phase t centre.Closed) _ (λ u. refl);
       }
 
   pub ended_goes : Piece_of TerminationOfSession
-  ended_goes = goes_at_once line w alone c t_train t trains at TerminationOfSession (λ _. ended)
+  ended_goes = goes_at_once line w local c t_train t trains at TerminationOfSession (λ _. ended)
 
   -- ## Train data, and a rejected request to shorten
 
@@ -139,11 +139,11 @@ module _ (line : Line) (w : World) (alone : IsAlone line w) (c t_train t : ℕ) 
   unfolding ◌>>◌
   data_heard position h =
       let body : TrainBody = TrainData position in
-      let here = some_of ((w.at c).mission t) (not_for line w alone c t_train t trains at body 4 NotSupervised h refl) in
+      let here = some_of ((w.at c).mission t) (not_for line w local c t_train t trains at body 4 NotSupervised h refl) in
       let said : Said = record { sayings = saying_of t c unknown_group (DataAcknowledged t_train) (v body) ∷ []; words = [] } in
       let shown : LineState = says t c (change_mission t (λ n. record n { has_data = true }) (v body)) in
       record {
-        state = (reply line w alone c t_train t trains at body).state;
+        state = (reply line w local c t_train t trains at body).state;
         said = said;
         mid = shown;
         state_is = refl;
@@ -157,21 +157,21 @@ module _ (line : Line) (w : World) (alone : IsAlone line w) (c t_train t : ℕ) 
           heard = λ u d. put_at_pair (λ (j : centre.Centre). j.heard) w.at c _ t (Some t_train) (λ _. refl) u d;
           said = λ u d. put_at_pair (λ (j : centre.Centre). j.said) w.at c _ t ((w.at c).said t + 1) (λ _. refl) u d;
           wait = λ u d. refl;
-          mission = λ u. mission_changes line w c t here.0 (λ n. record n { has_data = true }) (λ n. record n { has_data = true }) u alone here.1 refl;
+          mission = λ u. mission_changes line w c t here.0 (λ n. record n { has_data = true }) (λ n. record n { has_data = true }) u local here.1 refl;
         });
       }
 
   pub data_goes : (position : Position) → Piece_of (TrainData position)
-  data_goes position = goes_at_once line w alone c t_train t trains at (TrainData position) (data_heard position)
+  data_goes position = goes_at_once line w local c t_train t trains at (TrainData position) (data_heard position)
 
   pub rejected : (asked : ℕ) (position : Position) → is_silent (ShorteningRejected asked position) → Answer (ShorteningRejected asked position)
   unfolding ◌>>◌
   rejected asked position h =
       let body : TrainBody = ShorteningRejected asked position in
-      let here = some_of ((w.at c).mission t) (not_for line w alone c t_train t trains at body 4 NotSupervised h refl) in
+      let here = some_of ((w.at c).mission t) (not_for line w local c t_train t trains at body 4 NotSupervised h refl) in
       let shown : LineState = without_ask t (v body) in
       record {
-        state = (reply line w alone c t_train t trains at body).state;
+        state = (reply line w local c t_train t trains at body).state;
         said = nothing;
         mid = shown;
         state_is = refl;
@@ -185,9 +185,9 @@ module _ (line : Line) (w : World) (alone : IsAlone line w) (c t_train t : ℕ) 
           heard = λ u d. put_at_pair (λ (j : centre.Centre). j.heard) w.at c _ t (Some t_train) (λ _. refl) u d;
           said = λ u d. put_keeps (λ (j : centre.Centre). j.said u) w.at c _ refl d;
           wait = λ u d. refl;
-          mission = λ u. mission_changes line w c t here.0 (λ n. record n { proposal = None }) (λ n. record n { proposal = None }) u alone here.1 refl;
+          mission = λ u. mission_changes line w c t here.0 (λ n. record n { proposal = None }) (λ n. record n { proposal = None }) u local here.1 refl;
         });
       }
 
   pub rejected_goes : (asked : ℕ) (position : Position) → Piece_of (ShorteningRejected asked position)
-  rejected_goes asked position = goes_at_once line w alone c t_train t trains at (ShorteningRejected asked position) (rejected asked position)
+  rejected_goes asked position = goes_at_once line w local c t_train t trains at (ShorteningRejected asked position) (rejected asked position)

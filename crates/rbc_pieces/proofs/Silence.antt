@@ -17,18 +17,18 @@ use Rattle.rbc_lemmas.proofs.Runs.{within_from}
 use Rattle.rbc_lemmas.proofs.Lines.{on_line}
 use Rattle.rbc_laws.specs.Silences.{HasEndIfAsked}
 use Rattle.rbc_laws.proofs.SameReasons as laws
-use Rattle.rbc_alone.specs.Alone.{IsAlone, alone_off}
-use Rattle.rbc_pieces.proofs.Stands.{alone_stands}
+use Rattle.rbc_local.specs.Local.{IsLocal, local_read_off}
+use Rattle.rbc_pieces.proofs.Stands.{local_stands}
 
-module _ (line : Line) (w : World) (alone : IsAlone line w) (c t : ℕ) where
+module _ (line : Line) (w : World) (local : IsLocal line w) (c t : ℕ) where
   -- the centre supervises exactly the train that it has a mission of
-  pub here_is : (test : line_centre.Mission → Bool) (other : centre.Mission → Bool) → ((m : centre.Mission) → (w.at c).mission t ≡ Some m → test (seen c m) ≡ other m)
-      → run.has_here (alone_off line w) c t test ≡ step.mission_has other ((w.at c).mission t)
-  here_is = laws.here_is line w (alone_off line w) (alone_stands line w alone) c t
+  pub here_is : (test : line_centre.LineMission → Bool) (other : centre.Mission → Bool) → ((m : centre.Mission) → (w.at c).mission t ≡ Some m → test (seen c m) ≡ other m)
+      → run.has_here (local_read_off line w) c t test ≡ step.mission_has other ((w.at c).mission t)
+  here_is = laws.here_is line w (local_read_off line w) (local_stands line w local) c t
 
   -- no centre expects a train
   unexpected : is_expected line (w.at c) t ≡ false
-  unexpected = any-range_none (λ d. is_some ((w.at c).expects d t)) 0 (length line.centres) (λ d low high. ap is_some ((alone.each c).not_expected d t))
+  unexpected = any-range_none (λ d. is_some ((w.at c).expects d t)) 0 (length line.centres) (λ d low high. ap is_some ((local.each c).not_expected d t))
 
   module _ (t_train stamp : ℕ) where
     abbrev k : centre.Centre
@@ -57,7 +57,7 @@ module _ (line : Line) (w : World) (alone : IsAlone line w) (c t : ℕ) where
     same_supervision InitiationOfSession = refl
     same_supervision TerminationOfSession = refl
 
-    same_reason : (body : TrainBody) (why : Reason) → laws.without_waiting line w (alone_off line w) (alone_stands line w alone) c t t_train body why ≡ step.holds line c k (m body) why
+    same_reason : (body : TrainBody) (why : Reason) → laws.without_waiting line w (local_read_off line w) (local_stands line w local) c t t_train body why ≡ step.holds line c k (m body) why
     same_reason body StaleStamp = refl
     same_reason body NoSession = refl
     same_reason body ForeignEngine = refl
@@ -83,12 +83,12 @@ module _ (line : Line) (w : World) (alone : IsAlone line w) (c t : ℕ) where
 
     has_end : (body : TrainBody) → HasEndIfAsked line (w.at c) (m body)
     has_end body position n asks has =
-        let on_track = ((alone.each c).mission t n has).on_track in
-        let some = ((alone.each c).mission t n has).some in
+        let on_track = ((local.each c).mission t n has).on_track in
+        let some = ((local.each c).mission t n has).some in
         let last : ℕ = n.hand.first + n.hand.count - 1 in
         let below = on_line line n.place.track last (on_track last (within_from n.hand last (omega (arith, some)) (omega (arith, some)))) in
         record { some = some; last = omega (arith, some, below) }
 
-    pub same_silence : (body : TrainBody) → run.silence line (alone_off line w) c (m body) ≡ step.silence line c k (m body)
-    same_silence body = laws.run_is line w (alone_off line w) (alone_stands line w alone) c t t_train body (has_end body)
+    pub same_silence : (body : TrainBody) → run.silence line (local_read_off line w) c (m body) ≡ step.silence line c k (m body)
+    same_silence body = laws.run_is line w (local_read_off line w) (local_stands line w local) c t t_train body (has_end body)
         ∙ ap (λ (test : Reason → Bool). find test (reasons_of body)) (λ i why. same_reason body why i)

@@ -4,7 +4,7 @@ use Rattle.std.proofs.Common.{◌≡◌, ℕ, ◌+◌, ◌&&◌, Bool, true, fal
 use Rattle.std.proofs.lemmas.Bool.{and_parts}
 use Rattle.std.proofs.lemmas.Option.{same_Some}
 use Rattle.rbc_spec.specs.Maps.{put}
-use Rattle.rbc_spec.specs.Runs.{within, all_of}
+use Rattle.rbc_spec.specs.SectionRuns.{within, all_of}
 use Rattle.rbc_spec.specs.Line.{Line, is_centre, is_home}
 use Rattle.rbc_spec.specs.Place.{Place, Position, covered, fit_place}
 use Rattle.rbc_spec.specs.Message.{TrainBody, StartOfMission, TrainAccepted, TrainRejected, unknown_group}
@@ -19,7 +19,7 @@ use Rattle.rbc_spec.specs.Theorems.{IsStartAccepted}
 use Rattle.rbc_spec.specs.ReadOff.{seen}
 use Rattle.rbc_lemmas.proofs.Puts.{put_keeps, put_at_pair}
 use Rattle.rbc_lemmas.proofs.Runs.{each_within}
-use Rattle.rbc_alone.specs.Alone.{IsAlone, alone_off}
+use Rattle.rbc_local.specs.Local.{IsLocal, local_read_off}
 use Rattle.rbc_pieces.specs.Pieces.{with_centre}
 use Rattle.rbc_pieces.proofs.Off.{shows, mark_stays, wish_stays, mission_stays, mission_put, wish_at_home, given_is_hand, mission_at_registrar}
 use Rattle.rbc_pieces.proofs.Missions.{mission_here, mission_changes}
@@ -29,30 +29,30 @@ use Rattle.rbc_pieces.proofs.Messages.{Answers, AtOnce, Goes, ticked, message, b
 
 -- ## A start
 
-module _ (line : Line) (w : World) (alone : IsAlone line w) (c t_train t : ℕ) (trains : List ℕ) (at : is_centre line c ≡ true) (is_valid : Bool) (position : Position) where
+module _ (line : Line) (w : World) (local : IsLocal line w) (c t_train t : ℕ) (trains : List ℕ) (at : is_centre line c ≡ true) (is_valid : Bool) (position : Position) where
   abbrev body : TrainBody
   body = StartOfMission is_valid position
 
   abbrev k : centre.Centre
-  k = ticked line w alone c t_train t trains at
+  k = ticked line w local c t_train t trains at
 
   abbrev v : LineState
-  v = before line w alone c t_train t trains at body
+  v = before line w local c t_train t trains at body
 
   -- the start is answered at once, and accepted wherever it may be
   pub record Decides : Type 0 where
-    pub at_once : AtOnce line w alone c t_train t trains at body
-    pub accepts : IsStartAccepted line v c (message line w alone c t_train t trains at body) body at_once.said at_once.mid
+    pub at_once : AtOnce line w local c t_train t trains at body
+    pub accepts : IsStartAccepted line v c (message line w local c t_train t trains at body) body at_once.said at_once.mid
 
   -- or it waits, all sections being free here, at another centre than the train's registrar, and is dismissed
   pub data Comes : Type 0 where
     decided : Decides → Comes
     dismissed : (place : Place) → fit_place line is_valid position ≡ Some place → all_of (is_free line c (w.at c)) (covered line place) ≡ true → is_registrar_of line c t ≡ false
-        → Answers line w alone c t_train t trains at body → Comes
+        → Answers line w local c t_train t trains at body → Comes
 
   -- what is said of a start that is accepted wherever it may be
   abbrev Accepted : Said → LineState → Type 0
-  Accepted said new = IsStartAccepted line v c (message line w alone c t_train t trains at body) body said new
+  Accepted said new = IsStartAccepted line v c (message line w local c t_train t trains at body) body said new
 
   abbrev rejection_said : Said
   rejection_said = record { sayings = saying_of t c unknown_group TrainRejected v ∷ []; words = [] }
@@ -65,9 +65,9 @@ module _ (line : Line) (w : World) (alone : IsAlone line w) (c t_train t : ℕ) 
   told_one = record k { heard = put k.heard t (Some t_train); said = put k.said t (k.said t + 1) }
 
   abbrev made : centre.Centre → centre.Centre
-  made state = left line w alone c t_train t trains at state (reply line w alone c t_train t trains at body)
+  made state = left line w local c t_train t trains at state (reply line w local c t_train t trains at body)
 
-  rejected_shown : alone_off line (with_centre w c (made told_one) trains) ≡ says t c v
+  rejected_shown : local_read_off line (with_centre w c (made told_one) trains) ≡ says t c v
   rejected_shown = shows line w c (made told_one) trains (says t c v) (record {
     mark = λ s. mark_stays line w c s _ (λ _. refl);
     wish = λ s. wish_stays line w c s _ (λ _. refl);
@@ -80,9 +80,9 @@ module _ (line : Line) (w : World) (alone : IsAlone line w) (c t_train t : ℕ) 
 
   -- what the rules come to where the start is rejected
   record IsRejection : Type 0 where
-    state : (reply line w alone c t_train t trains at body).state ≡ told_one
-    sayings : (reply line w alone c t_train t trains at body).sayings ≡ rejection_said.sayings
-    words : (reply line w alone c t_train t trains at body).words ≡ []
+    state : (reply line w local c t_train t trains at body).state ≡ told_one
+    sayings : (reply line w local c t_train t trains at body).sayings ≡ rejection_said.sayings
+    words : (reply line w local c t_train t trains at body).words ≡ []
 
   rejected_at_once : IsRejection → Starts line t c (fit_place line is_valid position) v rejection_said (says t c v) → Accepted rejection_said (says t c v) → Comes
   rejected_at_once is step_is accepts = decided (record {
@@ -111,13 +111,13 @@ module _ (line : Line) (w : World) (alone : IsAlone line w) (c t_train t : ℕ) 
 
     module _ (m : centre.Mission) (has : (w.at c).mission t ≡ Some m) where
       supervised : supervises v c t ≡ true
-      supervised = supervises_is line w c t alone ∙ ap is_some has
+      supervised = supervises_is line w c t local ∙ ap is_some has
 
       in_hand_is : all_of (λ s. is_given_to t (v.mark s)) (covered line place) ≡ all_of (within m.hand) (covered line place)
-      in_hand_is = ap (λ (test : ℕ → Bool). all_of test (covered line place)) (λ i s. given_is_hand line w c t m alone has s i)
+      in_hand_is = ap (λ (test : ℕ → Bool). all_of test (covered line place)) (λ i s. given_is_hand line w c t m local has s i)
 
       not_without : {said : Said} {new : LineState} → Accepted said new
-      not_without p is may here none = let wrong : None ≡ Some (seen c m) = sym none ∙ mission_here line w c t m alone has in cc
+      not_without p is may here none = let wrong : None ≡ Some (seen c m) = sym none ∙ mission_here line w c t m local has in cc
 
       restart_rejected : all_of (within m.hand) (covered line place) ≡ false → Comes
       unfolding ◌>>◌
@@ -146,7 +146,7 @@ module _ (line : Line) (w : World) (alone : IsAlone line w) (c t_train t : ℕ) 
                 heard = λ u d. put_at_pair (λ (j : centre.Centre). j.heard) w.at c (made state) t (Some t_train) (λ _. refl) u d;
                 said = λ u d. put_at_pair (λ (j : centre.Centre). j.said) w.at c (made state) t ((w.at c).said t + 1) (λ _. refl) u d;
                 wait = λ u d. refl;
-                mission = λ u. mission_changes line w c t m change (λ n. record n { place = place; has_data = false; is_ended = false; proposal = None }) u alone has refl;
+                mission = λ u. mission_changes line w c t m change (λ n. record n { place = place; has_data = false; is_ended = false; proposal = None }) u local has refl;
               });
             };
             accepts = not_without;
@@ -163,7 +163,7 @@ module _ (line : Line) (w : World) (alone : IsAlone line w) (c t_train t : ℕ) 
 
     module _ (has_none : (w.at c).mission t ≡ None) where
       unsupervised : supervises v c t ≡ false
-      unsupervised = supervises_is line w c t alone ∙ ap is_some has_none
+      unsupervised = supervises_is line w c t local ∙ ap is_some has_none
 
       same_place : (p : Place) → fit_place line is_valid position ≡ Some p → place ≡ p
       same_place p is = same_Some place p (sym fit ∙ is)
@@ -184,7 +184,7 @@ module _ (line : Line) (w : World) (alone : IsAlone line w) (c t_train t : ℕ) 
         unwished_there : (s : ℕ) → within (covered line place) s ≡ true → v.wish s ≡ false
         unwished_there s inside =
             let parts = and_parts (is_home line c s) (is_open ((w.at c).book s)) (each_free s inside) in
-            wish_at_home line w c s parts.0 ∙ (alone.each c).unwished s (open_unused ((w.at c).book s) parts.1)
+            wish_at_home line w c s parts.0 ∙ (local.each c).unwished s (open_unused ((w.at c).book s) parts.1)
           where
             open_unused : (entry : centre.Entry) → is_open entry ≡ true → is_unused entry ≡ true
             open_unused centre.Shut h = cc
@@ -195,7 +195,7 @@ module _ (line : Line) (w : World) (alone : IsAlone line w) (c t_train t : ℕ) 
         begun_here : is_registrar_of line c t ≡ true → Comes
         unfolding ◌>>◌
         begun_here here =
-            let right : (w.at c).has_right t ≡ true = (alone.each c).right t ∙ both_are here (ap is_none has_none) in
+            let right : (w.at c).has_right t ≡ true = (local.each c).right t ∙ both_are here (ap is_none has_none) in
             let state : centre.Centre = record k {
               heard = put k.heard t (Some t_train);
               book = λ s. if within (covered line place) s && is_open (k.book s) then centre.Taken t else k.book s;
@@ -278,9 +278,9 @@ module _ (line : Line) (w : World) (alone : IsAlone line w) (c t_train t : ℕ) 
       by_place None is = without_place is
       by_place (Some place) is = starts_at place is
 
-  answers_of : Comes → Answers line w alone c t_train t trains at body
-  answers_of (decided d) = answers_at_once line w alone c t_train t trains at body d.at_once
+  answers_of : Comes → Answers line w local c t_train t trains at body
+  answers_of (decided d) = answers_at_once line w local c t_train t trains at body d.at_once
   answers_of (dismissed place fit is_all_free away a) = a
 
-  pub start_goes : Goes line w alone c t_train t trains at (StartOfMission is_valid position)
-  start_goes = message_goes line w alone c t_train t trains at (StartOfMission is_valid position) (λ _. answers_of starts)
+  pub start_goes : Goes line w local c t_train t trains at (StartOfMission is_valid position)
+  start_goes = message_goes line w local c t_train t trains at (StartOfMission is_valid position) (λ _. answers_of starts)

@@ -16,15 +16,15 @@ use Rattle.rbc_spec.specs.Quiet.{Quiet, is_of_centre, TakesAll, both}
 use Rattle.rbc_spec.specs.World.{World, Event, centre_of}
 use Rattle.rbc_spec.specs.Run.{Piece, OwnStep}
 use Rattle.rbc_lemmas.proofs.Puts.{put_keeps}
-use Rattle.rbc_alone.specs.Alone.{IsAlone, mark_alone, alone_off}
+use Rattle.rbc_local.specs.Local.{IsLocal, local_mark, local_read_off}
 use Rattle.rbc_pieces.specs.Pieces.{with_centre}
 use Rattle.rbc_pieces.proofs.Messages.{nothing_more}
 use Rattle.rbc_pieces.proofs.InOrder.{piece_in_order}
 use Rattle.rbc_pieces.proofs.Off.{shows, mark_stays, wish_stays, mission_stays, mark_at_home, unused_is}
 
-module _ (line : Line) (w : World) (alone : IsAlone line w) (c s : ℕ) (trains : List ℕ) (at : is_centre line c ≡ true) where
+module _ (line : Line) (w : World) (local : IsLocal line w) (c s : ℕ) (trains : List ℕ) (at : is_centre line c ≡ true) where
   abbrev pub v : LineState
-  v = alone_off line w
+  v = local_read_off line w
 
   abbrev pub stamp : ℕ
   stamp = (w.at c).clock + 1
@@ -39,7 +39,7 @@ module _ (line : Line) (w : World) (alone : IsAlone line w) (c s : ℕ) (trains 
   left state r = step.state_after stamp (w.at c) (effect_of (record r { state = state }))
 
   abbrev pub Piece_of : Event → Reply → Type 0
-  Piece_of event r = Piece line v event (step.outcome_of stamp (w.at c) (effect_of r)) (alone_off line (with_centre w c (step.state_after stamp (w.at c) (effect_of r)) trains))
+  Piece_of event r = Piece line v event (step.outcome_of stamp (w.at c) (effect_of r)) (local_read_off line (with_centre w c (step.state_after stamp (w.at c) (effect_of r)) trains))
 
   -- what the interlocking tells is answered so
   pub record Answers (event : Event) (r : Reply) : Type 0 where
@@ -53,7 +53,7 @@ module _ (line : Line) (w : World) (alone : IsAlone line w) (c s : ℕ) (trains 
     pub sayings_are : r.sayings ≡ said.sayings
     pub words_are : r.words ≡ said.words
     pub own_step : OwnStep line v event own mid None
-    pub quiet_steps : TakesAll line mid quiets later (alone_off line (with_centre w c (left state r) trains))
+    pub quiet_steps : TakesAll line mid quiets later (local_read_off line (with_centre w c (left state r) trains))
     pub says_it : said ≡ both own later
     pub own_centre : list_all (is_of_centre line (centre_of event)) quiets ≡ true
     pub none_told : later.words ≡ []
@@ -85,7 +85,7 @@ module _ (line : Line) (w : World) (alone : IsAlone line w) (c s : ℕ) (trains 
     pub sayings_are : r.sayings ≡ said.sayings
     pub words_are : r.words ≡ said.words
     pub own_step : OwnStep line v event said mid None
-    pub shown : alone_off line (with_centre w c (left state r) trains) ≡ mid
+    pub shown : local_read_off line (with_centre w c (left state r) trains) ≡ mid
 
   abbrev pub answers_at_once : (event : Event) (r : Reply) → AtOnce event r → Answers event r
   answers_at_once event r a = record {
@@ -110,8 +110,8 @@ module _ (line : Line) (w : World) (alone : IsAlone line w) (c s : ℕ) (trains 
 
   -- ## One section
 
-  pub mark_put : (entry : centre.Entry) (home : is_home line c s ≡ true) (j : ℕ) → (if is_home line c j then mark_alone (put (w.at c).book s entry j) else v.mark j) ≡ put v.mark s (mark_alone entry) j
-  mark_put entry home j = elim (eqb_tells j s) as (λ _. (if is_home line c j then mark_alone (put (w.at c).book s entry j) else v.mark j) ≡ put v.mark s (mark_alone entry) j) [
+  pub mark_put : (entry : centre.Entry) (home : is_home line c s ≡ true) (j : ℕ) → (if is_home line c j then local_mark (put (w.at c).book s entry j) else v.mark j) ≡ put v.mark s (local_mark entry) j
+  mark_put entry home j = elim (eqb_tells j s) as (λ _. (if is_home line c j then local_mark (put (w.at c).book s entry j) else v.mark j) ≡ put v.mark s (local_mark entry) j) [
     | inl e ↦ let here : is_home line c j ≡ true = ap (is_home line c) (e.1) ∙ home in rw here (rw (e.0) refl)
     | inr e ↦ rw (e.0) (mark_stays line w c j ((w.at c).book j) (λ _. refl))
   ]
@@ -134,9 +134,9 @@ module _ (line : Line) (w : World) (alone : IsAlone line w) (c s : ℕ) (trains 
     pub said : new.said ≡ (w.at c).said
     pub mission : new.mission ≡ (w.at c).mission
 
-  pub entered_seen : (entry : centre.Entry) (new : centre.Centre) → is_home line c s ≡ true → Entered entry new → alone_off line (with_centre w c new trains) ≡ set_mark s (mark_alone entry) v
-  entered_seen entry new home e = shows line w c new trains (set_mark s (mark_alone entry) v) (record {
-    mark = λ j. ap (λ (x : centre.Entry). if is_home line c j then mark_alone x else v.mark j) (e.book j) ∙ mark_put entry home j;
+  pub entered_seen : (entry : centre.Entry) (new : centre.Centre) → is_home line c s ≡ true → Entered entry new → local_read_off line (with_centre w c new trains) ≡ set_mark s (local_mark entry) v
+  entered_seen entry new home e = shows line w c new trains (set_mark s (local_mark entry) v) (record {
+    mark = λ j. ap (λ (x : centre.Entry). if is_home line c j then local_mark x else v.mark j) (e.book j) ∙ mark_put entry home j;
     wish = λ j. ap (λ (x : Bool). if is_home line c j then x else v.wish j) (e.wish j) ∙ wish_put false home j;
     phase = λ t d. put_keeps (λ (x : centre.Centre). x.phase t) w.at c new (ap (λ (f : ℕ → centre.Phase). f t) e.phase) d;
     heard = λ t d. put_keeps (λ (x : centre.Centre). x.heard t) w.at c new (ap (λ (f : ℕ → Option ℕ). f t) e.heard) d;
@@ -147,7 +147,7 @@ module _ (line : Line) (w : World) (alone : IsAlone line w) (c s : ℕ) (trains 
 
   -- what is wished of a section in use
   pub wish_seen : (wish : Bool) (new : centre.Centre) → is_home line c s ≡ true → new.book ≡ (w.at c).book → new.wish ≡ put (w.at c).wish s wish → new.phase ≡ (w.at c).phase → new.heard ≡ (w.at c).heard
-      → new.said ≡ (w.at c).said → new.mission ≡ (w.at c).mission → alone_off line (with_centre w c new trains) ≡ wished_back s wish v
+      → new.said ≡ (w.at c).said → new.mission ≡ (w.at c).mission → local_read_off line (with_centre w c new trains) ≡ wished_back s wish v
   wish_seen wish new home book wish_is phase heard said mission = shows line w c new trains (wished_back s wish v) (record {
     mark = λ j. mark_stays line w c j (new.book j) (λ _. ap (λ (f : ℕ → centre.Entry). f j) book);
     wish = λ j. ap (λ (f : ℕ → Bool). if is_home line c j then f j else v.wish j) wish_is ∙ wish_put wish home j;

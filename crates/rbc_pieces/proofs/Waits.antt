@@ -3,7 +3,7 @@ use Rattle.std.proofs.Common.{◌≡◌, ℕ, ◌==◌, ◌&&◌, not, Bool, tru
 use Rattle.std.specs.Option.{option_map_or}
 use Rattle.std.proofs.lemmas.Bool.Decides.{eqb_tells}
 use Rattle.rbc_spec.specs.Maps.{put, put_pair}
-use Rattle.rbc_spec.specs.Runs.{within}
+use Rattle.rbc_spec.specs.SectionRuns.{within}
 use Rattle.rbc_spec.specs.Line.{Line, is_centre, is_home}
 use Rattle.rbc_spec.specs.Place.{Place, covered}
 use Rattle.rbc_spec.specs.LineCentre.{LineState, Mark, Shut, Open, Kept, Given, is_waiting_at, is_waiting, free, says, Said}

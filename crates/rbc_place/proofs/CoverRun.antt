@@ -3,7 +3,7 @@ use Rattle.std.proofs.Common.{◌≡◌, ℕ, ◌+◌, ◌-◌, ◌<◌, ◌≤�
 use Rattle.std.specs.List.{filter, range_with_len}
 use Rattle.rbc_spec.specs.Line.{Line, IsLine}
 use Rattle.rbc_spec.specs.Place.{Place, covers, covered}
-use Rattle.rbc_spec.specs.Runs.{Run, run_of}
+use Rattle.rbc_spec.specs.SectionRuns.{SectionRun, run_of}
 use Rattle.rbc_place.specs.Places.{is_behind}
 use Rattle.rbc_place.proofs.Behind.{behind_not_covered, ahead_not_covered}
 use Rattle.rbc_place.proofs.Found.{IsFound, none_up_to, found_all}
@@ -14,7 +14,7 @@ pub covers_none : (line : Line) (place : Place) (first : ℕ) → ((s : ℕ) →
 covers_none line place first behind = none_up_to (covers line place) first (λ s lt. behind_not_covered line place s (behind s lt))
 
 -- nothing is covered behind the first section ahead that is not
-pub covers_no_more : (line : Line) → IsLine line → (place : Place) (s : ℕ) (r : Run) → s ≤ length line.sections
+pub covers_no_more : (line : Line) → IsLine line → (place : Place) (s : ℕ) (r : SectionRun) → s ≤ length line.sections
     → is_behind line place.track place.rear s ≡ false → covers line place s ≡ false → IsFound (covers line place) s r → r ≡ covered line place
 covers_no_more line ok place s r bound ahead off so_far =
     let all : s + (length line.sections - s) ≡ length line.sections = omega arith in

@@ -1,6 +1,6 @@
 -- How many sections pass a test, one after another: what a loop over them knows.
 use Rattle.std.proofs.Common.{◌≡◌, ℕ, zero, suc, ◌+◌, ◌-◌, ◌<◌, ◌≤◌, Bool, true, false, refl, ap, sym, ◌∙◌, arith}
-use Rattle.rbc_spec.specs.Runs.{longest}
+use Rattle.rbc_spec.specs.SectionRuns.{longest}
 
 -- of so many that may pass, the first k have
 pub record HasPassed (test : ℕ → Bool) (first most k : ℕ) : Type 0 where

@@ -2,7 +2,7 @@
 use Rattle.std.specs.Prelude.{ℕ, ◌+◌, ◌*◌, ◌==◌, Bool, true, false, ◌&&◌, ◌||◌, nat_lt, Option, ℤ, pos, ◌-ℤ◌, int_le, option_map, if◌then◌else◌}
 use Rattle.std.specs.Option.{option_map_or}
 use Rattle.rbc_spec.specs.Line.{Line, section, end}
-use Rattle.rbc_spec.specs.Runs.{Run, is_empty}
+use Rattle.rbc_spec.specs.SectionRuns.{SectionRun, is_empty}
 use Rattle.rbc_spec.specs.Place as spec
 use Rattle.rbc_place.specs.declared.place.Place.{Place}
 
@@ -19,7 +19,7 @@ place_from track metres p = record {
 }
 
 -- the run with one section more behind its last, which is its first where it was empty
-abbrev pub with_last : Run → ℕ → Run
+abbrev pub with_last : SectionRun → ℕ → SectionRun
 with_last r s = if is_empty r then record { first = s; count = 1 } else record { first = r.first; count = r.count + 1 }
 
 -- a section is behind: of an earlier track, or of this one and ending at or before the rear end, in decimetres; where that is not

@@ -1,6 +1,6 @@
 ghost use Rattle.std.specs.Prelude.{◌≡◌, ◌<◌, ◌≤◌, length};
 ghost use Rattle.rbc_spec.specs.Line.{IsLine};
-ghost use Rattle.rbc_spec.specs.Runs.{behind};
+ghost use Rattle.rbc_spec.specs.SectionRuns.{behind};
 ghost use Rattle.rbc_spec.specs.Place as spec;
 ghost use Rattle.rbc_hand.specs.SectionRuns.{run_of};
 ghost use Rattle.rbc_place.specs.Places.{place_of, with_last};

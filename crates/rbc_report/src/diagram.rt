@@ -1,9 +1,9 @@
 //! The diagram of what `run` printed.
 
-use rbc_status::Fault;
 use crate::files::Files;
 use crate::run::line_in;
 use rbc_picture::picture;
+use rbc_status::Fault;
 use std::alloc::Global;
 use std::io::Write;
 

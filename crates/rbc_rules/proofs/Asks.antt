@@ -9,8 +9,8 @@ use Rattle.rbc_spec.specs.Centre.{Centre, Mission, Proposal}
 use Rattle.rbc_spec.specs.Acts.{Reply, ◌>>◌, may_propose, propose, propose_if_so, where_so, rest}
 use Rattle.rbc_hand.specs.SectionRuns.{run_of}
 use Rattle.rbc_shorten.specs.Requests.{may_shorten_at, shortening_at, is_free, is_cut_behind_first}
-use Rattle.rbc_shorten.specs.declared.mission.Mission.{Mission as ShortenFacts}
-use Rattle.rbc_shorten.specs.declared.mission.Shortening.{Shortening}
+use Rattle.rbc_shorten.specs.declared.facts.ShorteningFacts.{ShorteningFacts}
+use Rattle.rbc_shorten.specs.declared.facts.Shortening.{Shortening}
 use Rattle.rbc_rules.specs.Asking.{asked_back}
 use Rattle.rbc_rules.proofs.Fits.{and_right}
 
@@ -65,7 +65,7 @@ module _ (line : Line) (t s : ℕ) (m : Mission) (k : Centre) (there : k.mission
       ∙ (λ i. proposed t k m.place.group (parts.1 i).l_endsection (record { stamp = counts i; last_kept = (parts.1 i).last_kept }))
 
 -- the end that is asked for has room in L_ENDSECTION
-pub has_room : (metres s : ℕ) (facts : ShortenFacts) (x : Shortening) → cond (may_shorten_at metres facts s) (Some (shortening_at metres facts s)) None ≡ Some x → x.l_endsection ≤ 32767
+pub has_room : (metres s : ℕ) (facts : ShorteningFacts) (x : Shortening) → cond (may_shorten_at metres facts s) (Some (shortening_at metres facts s)) None ≡ Some x → x.l_endsection ≤ 32767
 unfolding may_shorten_at
 has_room metres s facts x is =
     let parts = some_only _ _ x is in

@@ -5,7 +5,7 @@ use Rattle.rbc_spec.specs.Place.{Place, Position, place_on}
 use Rattle.rbc_spec.specs.Centre.{Centre, Mission}
 use Rattle.rbc_spec.specs.Rules.{extension}
 use Rattle.rbc_book.specs.Book.{Pages, entry_at, wish_at}
-use Rattle.rbc_mission.specs.Courses.{Standing}
+use Rattle.rbc_mission.specs.Supervisions.{SupervisionState}
 use Rattle.rbc_mission.specs.Changes.{IsBooked}
 use Rattle.rbc_mission.specs.Deeds.{Rule, Grant, Clear, ClearAndEnd, may_extend, request_rule, change_of, entry_after, wish_after}
 
@@ -23,7 +23,7 @@ pub cleared_same : (place : Place) (count : ℕ) (mission : Option Mission) → 
 cleared_same place count (Some m) = refl
 cleared_same place count None = refl
 
-pub cleared_booked : (line : Line) (c : ℕ) (from : Standing) (old new : Pages) (place : Place) (count : ℕ) → IsBooked line c (Clear place count) from old new → IsBooked line c (ClearAndEnd place count) from old new
+pub cleared_booked : (line : Line) (c : ℕ) (from : SupervisionState) (old new : Pages) (place : Place) (count : ℕ) → IsBooked line c (Clear place count) from old new → IsBooked line c (ClearAndEnd place count) from old new
 cleared_booked line c from old new place count b = record {
   entry = λ s. b.entry s ∙ ap (λ change. entry_after line c from.engine change (entry_at old) (wish_at old) s) (cleared_same place count from.mission);
   wish = λ s. b.wish s ∙ ap (λ change. wish_after line c from.engine change (entry_at old) (wish_at old) s) (cleared_same place count from.mission);

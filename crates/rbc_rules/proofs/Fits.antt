@@ -1,7 +1,7 @@
 -- What decisions find out of the mission, the book and the line.
 use Rattle.std.proofs.Common.{◌≡◌, ℕ, zero, suc, ◌+◌, ◌-◌, ◌<◌, ◌≤◌, ◌&&◌, Bool, true, false, nat_lt, length, Option, Some, None, refl, sym, ap, ◌∙◌, arith}
 use Rattle.std.proofs.lemmas.Bool.Decides.{nat_tests}
-use Rattle.rbc_spec.specs.Runs.{Run, within, behind, all_of}
+use Rattle.rbc_spec.specs.SectionRuns.{SectionRun, within, behind, all_of}
 use Rattle.rbc_spec.specs.Line.{Line, IsLine}
 use Rattle.rbc_spec.specs.Sections.{is_on}
 use Rattle.rbc_spec.specs.Place as place
@@ -12,18 +12,18 @@ use Rattle.rbc_lemmas.proofs.Runs.{each_within}
 use Rattle.rbc_book.specs.Book.{Pages, entry_at}
 use Rattle.rbc_right.specs.Rights.{Rights, is_here}
 use Rattle.rbc_grant.specs.Grants as grants
-use Rattle.rbc_alone.proofs.Ordered.{is_ordered}
-use Rattle.rbc_alone.proofs.Fits.{begun_alone, fit_parts}
+use Rattle.rbc_local.proofs.Ordered.{is_ordered}
+use Rattle.rbc_local.proofs.Fits.{begun_local, fit_parts}
 use Rattle.rbc_place.specs.Places.{place_of}
 use Rattle.rbc_place.specs.declared.place.Place.{Place}
 use Rattle.rbc_hand.specs.SectionRuns.{run_of}
-use Rattle.rbc_hand.specs.declared.section_run.SectionRun.{SectionRun}
-use Rattle.rbc_mission.specs.Courses.{mission_of, IsAlone}
+use Rattle.rbc_hand.specs.declared.section_run.SectionRun.{SectionRun as SectionRunCode}
+use Rattle.rbc_mission.specs.Supervisions.{mission_of, HasLocalForm}
 use Rattle.rbc_mission.specs.Changes.{MayGrow, IsAllOpen}
-use Rattle.rbc_mission.specs.declared.mission.Mission.{Mission as Facts}
+use Rattle.rbc_mission.specs.declared.facts.MissionFacts.{MissionFacts as Facts}
 use Rattle.rbc_rules.specs.Desks.{HasBook}
 use Rattle.rbc_rules.specs.Decisions.{Fits, IsGroup}
-use Rattle.rbc_rules.specs.declared.act.Act.TheVariants as act
+use Rattle.rbc_rules.specs.declared.deed.Deed.TheVariants as deed
 
 pub and_left : (a b : Bool) → (a && b) ≡ true → a ≡ true
 and_left true b h = refl
@@ -43,16 +43,16 @@ opened_behind line book p m count each s h =
     ap (λ x. is_open (entry_at book x)) (sym same) ∙ and_right _ _ (and_left _ _ (each (s - behind m.hand) (omega (arith, low, high))))
 
 -- so many sections that may follow the hand can be taken into it
-pub grows : (line : Line) (book : Pages) (p : place.Place) (m : spec.Mission) (count : ℕ) → IsLine line → IsAlone m → count ≤ 32 - m.hand.count
+pub grows : (line : Line) (book : Pages) (p : place.Place) (m : spec.Mission) (count : ℕ) → IsLine line → HasLocalForm m → count ≤ 32 - m.hand.count
     → ((k : ℕ) → k < count → grants.may_follow line book p (behind m.hand + k) ≡ true) → MayGrow m count book
-grows line book p m count of_line alone room each = record {
-  most = let a = alone.most in omega (arith, room, a);
+grows line book p m count of_line local room each = record {
+  most = let a = local.most in omega (arith, room, a);
   numbers = by_count count refl;
   free = opened_behind line book p m count each;
 }
   where
     by_count : (n : ℕ) → count ≡ n → behind m.hand + count ≤ 65535
-    by_count zero e = let a = alone.numbers in omega (arith, a, e)
+    by_count zero e = let a = local.numbers in omega (arith, a, e)
     by_count (suc n) e =
         let h = each n (omega (arith, e)) in
         let on = and_left _ _ (and_left _ _ h) in
@@ -61,20 +61,20 @@ grows line book p m count of_line alone room each = record {
         omega (arith, few, most, e)
 
 -- the hand of a mission by its facts
-pub hand_is : (facts : Facts) (hand : SectionRun) (m : spec.Mission) → ◌≡◌ {A = Option spec.Mission} (Some (mission_of (run_of hand) facts)) (Some m) → mission_of (run_of hand) facts ≡ m
+pub hand_is : (facts : Facts) (hand : SectionRunCode) (m : spec.Mission) → ◌≡◌ {A = Option spec.Mission} (Some (mission_of (run_of hand) facts)) (Some m) → mission_of (run_of hand) facts ≡ m
 hand_is facts hand m e = cc
 
 -- each section of a run of free ones is open
-pub all_open : (line : Line) (c : ℕ) (k : spec.Centre) (book : Pages) (run : Run) → HasBook k book → all_of (is_free line c k) run ≡ true → IsAllOpen run book
+pub all_open : (line : Line) (c : ℕ) (k : spec.Centre) (book : Pages) (run : SectionRun) → HasBook k book → all_of (is_free line c k) run ≡ true → IsAllOpen run book
 all_open line c k book run pages h s w = ap is_open (sym (pages s)) ∙ and_right _ _ (each_within (is_free line c k) run h s w)
 
 -- a start that is fit, of sections that are released, with the right here
-pub start_fits : (line : Line) (book : Pages) (rights : Rights) (i : ℕ) (mission : Option spec.Mission) (p : Place) (run : SectionRun) → IsLine line → mission ≡ None → place.is_fit line (place_of p) ≡ true
+pub start_fits : (line : Line) (book : Pages) (rights : Rights) (i : ℕ) (mission : Option spec.Mission) (p : Place) (run : SectionRunCode) → IsLine line → mission ≡ None → place.is_fit line (place_of p) ≡ true
     → run_of run ≡ place.covered line (place_of p) → behind (run_of run) ≤ length line.sections → IsAllOpen (run_of run) book → is_here rights i ≡ true → IsGroup p.group
-    → Fits book rights i mission (act.Start p run)
+    → Fits book rights i mission (deed.Start p run)
 start_fits line book rights i mission p run of_line none fit covers bound opened here group =
-    let begun = begun_alone line (is_ordered line of_line) (place_of p) (fit_parts line (place_of p) fit) in
-    let count : run.count ≡ (place.covered line (place_of p)).count = ap (λ (r : Run). r.count) covers in
+    let begun = begun_local line (is_ordered line of_line) (place_of p) (fit_parts line (place_of p) fit) in
+    let count : run.count ≡ (place.covered line (place_of p)).count = ap (λ (r : SectionRun). r.count) covers in
     let some = begun.some in
     let few = begun.few in
     let most = of_line.limits.sections in

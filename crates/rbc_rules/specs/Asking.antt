@@ -4,8 +4,8 @@ use Rattle.rbc_spec.specs.Maps.{put}
 use Rattle.rbc_spec.specs.Message.{ShorteningRequest}
 use Rattle.rbc_spec.specs.Centre.{Centre, Mission}
 use Rattle.rbc_spec.specs.Acts.{Reply}
-use Rattle.rbc_session.specs.Standing.{phase_of}
-use Rattle.rbc_shorten.specs.Missions.{proposal_of}
+use Rattle.rbc_session.specs.SessionStates.{phase_of}
+use Rattle.rbc_shorten.specs.Facts.{proposal_of}
 use Rattle.rbc_rules.specs.Desks.{mission_by}
 use Rattle.rbc_rules.specs.declared.rules.Train.{Train}
 use Rattle.rbc_rules.specs.declared.asking.Asking.{Asking}

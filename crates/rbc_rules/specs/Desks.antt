@@ -6,8 +6,8 @@ use Rattle.rbc_book.specs.Book.{Pages, is_own, entry_at}
 use Rattle.rbc_right.specs.Rights.{Rights, is_here}
 use Rattle.rbc_hand.specs.SectionRuns.{run_of}
 use Rattle.rbc_hand.specs.declared.section_run.SectionRun.{SectionRun}
-use Rattle.rbc_mission.specs.Courses.{mission_of}
-use Rattle.rbc_mission.specs.declared.mission.Mission.{Mission as Facts}
+use Rattle.rbc_mission.specs.Supervisions.{mission_of}
+use Rattle.rbc_mission.specs.declared.facts.MissionFacts.{MissionFacts as Facts}
 
 -- the book is that of centre c of the line
 abbrev pub IsBookOf : Line → ℕ → Pages → Type 0

@@ -1,5 +1,5 @@
 pub mod Reasons
-pub mod Acts
+pub mod Deeds
 pub mod Decisions
 pub mod Desks
 pub mod Asking

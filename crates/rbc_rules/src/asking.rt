@@ -3,22 +3,22 @@
 ghost use Rattle.std.specs.Prelude.{◌≡◌, ◌≤◌, Some, IfSome};
 ghost use Rattle.rbc_spec.specs.Acts.{propose_if_so};
 ghost use Rattle.rbc_spec.specs.Centre as spec;
-ghost use Rattle.rbc_session.specs.Standing.{phase_of};
+ghost use Rattle.rbc_session.specs.SessionStates.{phase_of};
 ghost use Rattle.rbc_hand.specs.SectionRuns.{run_of};
-ghost use Rattle.rbc_shorten.specs.Missions.{IsMission};
-ghost use Rattle.rbc_mission.specs.Courses.{mission_of};
+ghost use Rattle.rbc_shorten.specs.Facts.{AreFactsOf};
+ghost use Rattle.rbc_mission.specs.Supervisions.{mission_of};
 ghost use Rattle.rbc_rules.specs.Decisions.{IsGroup};
 ghost use Rattle.rbc_rules.specs.Desks.{mission_by};
 ghost use Rattle.rbc_rules.specs.Asking.{IsTrain, asked_back};
 
 use crate::rules::Train;
 use rbc_line::Line;
-use rbc_mission::Mission;
+use rbc_mission::MissionFacts;
 use rbc_place::group_start;
 use rbc_session::Phase;
 use rbc_shorten::{Proposal, propose};
 
-/// A request to shorten a train's movement authority (3.8.6).
+/// A request for co-operative shortening of MA to a train (3.8.6).
 #[derive(Clone, Copy, Debug, PartialEq, Eq)]
 pub struct Asking {
     /// What stands at the centre until the train answers.
@@ -53,11 +53,11 @@ pub fn ask_back(line: &Line, train: &Train, s: u16, stamp: u32) -> Option<Asking
 }
 
 // What decides whether the train may be asked to shorten the authority of its mission.
-fn facts(line: &Line, train: &Train, mission: &Mission) -> rbc_shorten::Mission
+fn facts(line: &Line, train: &Train, mission: &MissionFacts) -> rbc_shorten::ShorteningFacts
     ensures { (k : spec.Centre) → k.phase train.now.nid_engine ≡ phase_of train.now.phase
-        → IsMission line.now train.now.nid_engine (mission_of (run_of train.now.hand) mission.now) k result }
+        → AreFactsOf line.now train.now.nid_engine (mission_of (run_of train.now.hand) mission.now) k result }
 {
-    rbc_shorten::Mission {
+    rbc_shorten::ShorteningFacts {
         is_up: is_up(train.phase),
         is_ended: mission.is_ended,
         proposal: mission.proposal,
@@ -72,7 +72,7 @@ fn is_up(phase: Phase) -> bool
     ensures { result ≡ spec.is_up (phase_of phase) }
 {
     match phase {
-        Phase::Silent | Phase::Opened => false,
+        Phase::Closed | Phase::Opened => false,
         Phase::Up => true,
     }
 }

@@ -1,31 +1,31 @@
 ghost use Rattle.std.specs.Prelude.{◌≡◌, ◌&&◌, ◌<◌, ℕ, Some, IfOk};
 ghost use Rattle.std.specs.Option.{option_map_or};
-ghost use Rattle.rbc_spec.specs.Runs.{all_of};
+ghost use Rattle.rbc_spec.specs.SectionRuns.{all_of};
 ghost use Rattle.rbc_spec.specs.Place.{fit_place};
 ghost use Rattle.rbc_spec.specs.Centre as spec;
 ghost use Rattle.rbc_spec.specs.Centre.{is_free, is_registrar_of};
 ghost use Rattle.rbc_msgs.specs.StepMessage as message;
 ghost use Rattle.rbc_msgs.specs.StepMessage.{position_of, step_body};
-ghost use Rattle.rbc_session.specs.Standing.{phase_of};
+ghost use Rattle.rbc_session.specs.SessionStates.{phase_of};
 ghost use Rattle.rbc_hand.specs.SectionRuns.{run_of};
 ghost use Rattle.rbc_right.specs.Rights.{Rights, is_here};
-ghost use Rattle.rbc_mission.specs.Courses.{mission_of, IsAlone};
+ghost use Rattle.rbc_mission.specs.Supervisions.{mission_of, HasLocalForm};
 ghost use Rattle.rbc_mission.specs.Deeds as deeds;
-ghost use Rattle.rbc_rules.specs.Decisions.{act_seen, Fits, EndsThere};
-ghost use Rattle.rbc_rules.specs.Acts.{deed_of};
+ghost use Rattle.rbc_rules.specs.Decisions.{deed_seen, Fits, EndsThere};
+ghost use Rattle.rbc_rules.specs.Deeds.{deed_of};
 ghost use Rattle.rbc_rules.specs.Desks.{IsBookOf, HasBook, IsDesk, mission_by};
 
-use crate::act::Act;
 use crate::deciding::{
-    Decision, closing, data, end, establishing, grant, has_all, if_up, place_of_start, rejection,
-    report,
+    Decision, closing, data, end, establishing, has_all, if_up, place_of_start, rejection, report,
+    shortening_granted,
 };
-use crate::silence::Silence;
+use crate::deed::Deed;
+use crate::reason::Reason;
 use rbc_book::Book;
 use rbc_grant::{answer_request, may_request};
 use rbc_hand::SectionRun;
 use rbc_line::Line;
-use rbc_mission::Mission;
+use rbc_mission::MissionFacts;
 use rbc_msgs::TrainBody;
 use rbc_packets::Position;
 use rbc_place::{covered, place_on};
@@ -42,7 +42,7 @@ pub struct Train {
     /// How far the session with it has come.
     pub phase: Phase,
     /// The mission that the centre supervises.
-    pub mission: Option<Mission>,
+    pub mission: Option<MissionFacts>,
     /// The sections of its movement authority, none where there is no mission.
     pub hand: SectionRun,
 }
@@ -57,16 +57,16 @@ pub fn decide(
     body: &TrainBody,
 ) -> Decision
     requires book { IsBookOf line.now centre book.now }
-    requires alone { (m : spec.Mission) → mission_by train.now.mission train.now.hand ≡ Some m → IsAlone m }
-    ensures act { (k : spec.Centre) → IsDesk k train.now.nid_engine train.now.number book.now registrar.now
-        → act_seen result ≡ deeds.rule_of line.now centre k train.now.nid_engine (phase_of train.now.phase) (mission_by train.now.mission train.now.hand) (step_body body.now) }
-    // The act can be carried out.
+    requires local { (m : spec.Mission) → mission_by train.now.mission train.now.hand ≡ Some m → HasLocalForm m }
+    ensures deed { (k : spec.Centre) → IsDesk k train.now.nid_engine train.now.number book.now registrar.now
+        → deed_seen result ≡ deeds.rule_of line.now centre k train.now.nid_engine (phase_of train.now.phase) (mission_by train.now.mission train.now.hand) (step_body body.now) }
+    // The deed can be carried out.
     ensures fits { IfOk result (Fits book.now registrar.now train.now.number (mission_by train.now.mission train.now.hand)) }
     ensures end { IfOk result (EndsThere line.now (mission_by train.now.mission train.now.hand)) }
 {
     let phase = train.phase;
     match body {
-        TrainBody::InitiationOfSession => Ok(Act::OpenSession),
+        TrainBody::InitiationOfSession => Ok(Deed::OpenSession),
         TrainBody::TerminationOfSession => closing(phase),
         TrainBody::SessionEstablished => establishing(phase),
         TrainBody::StartOfMission { q_status, position } => {
@@ -90,14 +90,14 @@ pub fn decide(
 // What a message comes to that is for the train's supervisor.
 fn under_way(line: &Line, centre: u8, book: &Book, train: &Train, body: &TrainBody) -> Decision
     requires book { IsBookOf line.now centre book.now }
-    requires alone { (m : spec.Mission) → mission_by train.now.mission train.now.hand ≡ Some m → IsAlone m }
-    ensures act { (k : spec.Centre) → HasBook k book.now
-        → act_seen result ≡ deeds.supervised (mission_by train.now.mission train.now.hand) (deeds.rule_under_way line.now centre k (step_body body.now)) }
+    requires local { (m : spec.Mission) → mission_by train.now.mission train.now.hand ≡ Some m → HasLocalForm m }
+    ensures deed { (k : spec.Centre) → HasBook k book.now
+        → deed_seen result ≡ deeds.supervised (mission_by train.now.mission train.now.hand) (deeds.rule_under_way line.now centre k (step_body body.now)) }
     ensures fits { (rights : Rights) (i : ℕ) → IfOk result (Fits book.now rights i (mission_by train.now.mission train.now.hand)) }
     ensures end { IfOk result (EndsThere line.now (mission_by train.now.mission train.now.hand)) }
 {
     let Some(mission) = train.mission else {
-        return Err(Silence::NotSupervised);
+        return Err(Reason::NotSupervised);
     };
     let hand = train.hand;
     match body {
@@ -107,14 +107,14 @@ fn under_way(line: &Line, centre: u8, book: &Book, train: &Train, body: &TrainBo
         ),
         TrainBody::Report { position } => report(line, &mission, hand, position),
         TrainBody::ShorteningGranted { request, position } => {
-            grant(line, &mission, hand, *request, position)
+            shortening_granted(line, &mission, hand, *request, position)
         }
         TrainBody::ShorteningRejected { request, .. } => rejection(&mission, hand, *request),
         TrainBody::EndOfMission { position } => end(line, &mission, hand, position),
         TrainBody::InitiationOfSession
         | TrainBody::TerminationOfSession
         | TrainBody::SessionEstablished
-        | TrainBody::StartOfMission { .. } => Err(Silence::NotSupervised),
+        | TrainBody::StartOfMission { .. } => Err(Reason::NotSupervised),
     }
 }
 
@@ -128,7 +128,7 @@ fn start(
     train: &Train,
     q_status: QStatus,
     position: &Position,
-) -> Act
+) -> Deed
     requires { IsBookOf line.now centre book.now }
     ensures deed { (k : spec.Centre) → IsDesk k train.now.nid_engine train.now.number book.now registrar.now
         → deed_of result ≡ option_map_or (deeds.start_at line.now centre k train.now.nid_engine (mission_by train.now.mission train.now.hand))
@@ -137,22 +137,22 @@ fn start(
     ensures end { EndsThere line.now (mission_by train.now.mission train.now.hand) result }
 {
     let Some(place) = place_of_start(line, q_status, position) else {
-        return Act::RejectStart;
+        return Deed::RejectStart;
     };
     let run = covered(line, &place);
     match train.mission {
         Some(_) => {
             if has_all(train.hand, run) {
-                Act::Restart(place)
+                Deed::Restart(place)
             } else {
-                Act::RejectStart
+                Deed::RejectStart
             }
         }
         None => {
             if are_free(line, centre, book, run) && has_right(line, centre, registrar, train) {
-                Act::Start(place, run)
+                Deed::Start(place, run)
             } else {
-                Act::RejectStart
+                Deed::RejectStart
             }
         }
     }
@@ -163,33 +163,33 @@ fn request(
     line: &Line,
     centre: u8,
     book: &Book,
-    mission: &Mission,
+    mission: &MissionFacts,
     hand: SectionRun,
     position: &Position,
 ) -> Decision
     requires book { IsBookOf line.now centre book.now }
-    requires alone { IsAlone (mission_of (run_of hand) mission.now) }
-    ensures act { (k : spec.Centre) → HasBook k book.now
-        → act_seen result ≡ deeds.request_rule line.now centre k (position_of position.now) (mission_of (run_of hand) mission.now) }
+    requires local { HasLocalForm (mission_of (run_of hand) mission.now) }
+    ensures deed { (k : spec.Centre) → HasBook k book.now
+        → deed_seen result ≡ deeds.request_rule line.now centre k (position_of position.now) (mission_of (run_of hand) mission.now) }
     ensures fits { (rights : Rights) (i : ℕ) → IfOk result (Fits book.now rights i (Some (mission_of (run_of hand) mission.now))) }
     ensures end { IfOk result (EndsThere line.now (Some (mission_of (run_of hand) mission.now))) }
 {
     if mission.is_ended {
-        return Err(Silence::MissionEnded);
+        return Err(Reason::MissionEnded);
     }
     if !mission.has_data {
-        return Err(Silence::NoTrainData);
+        return Err(Reason::NoTrainData);
     }
     if mission.proposal.is_some() {
-        return Err(Silence::ProposalPending);
+        return Err(Reason::ProposalPending);
     }
     let Some(place) = place_on(line, mission.place.track, position) else {
-        return Err(Silence::NoPlace);
+        return Err(Reason::NoPlace);
     };
     if !may_request(line, hand, &place) {
-        return Err(Silence::NoPlace);
+        return Err(Reason::NoPlace);
     }
-    Ok(Act::Extend(place, answer_request(line, book, hand, &place)))
+    Ok(Deed::Extend(place, answer_request(line, book, hand, &place)))
 }
 
 // Whether all sections of the run are released, and of this centre's home.

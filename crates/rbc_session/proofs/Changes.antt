@@ -5,10 +5,10 @@ use Rattle.std.proofs.lemmas.Bool.{cases_eq, false≢true}
 use Rattle.std.proofs.lemmas.Bool.Decides.{eqb_tells}
 use Rattle.std.proofs.lemmas.Option.{none-some, same_Some}
 use Rattle.slab.specs.Slab.{get, Updates, HasRoomFor}
-use Rattle.rbc_spec.specs.Centre.{Silent, Up}
+use Rattle.rbc_spec.specs.Centre.{Closed, Up}
 use Rattle.rbc_session.specs.Sessions.{Records, record_phase, phase_at, train_at, HasRoom, IsOneATrain}
 use Rattle.rbc_session.specs.declared.sessions.Record.{Record}
-use Rattle.rbc_session.proofs.Records.{phase_of_found, phase_of_absent, found_or_absent, silent_is_absent}
+use Rattle.rbc_session.proofs.Records.{phase_of_found, phase_of_absent, found_or_absent, closed_is_absent}
 
 module _ (old new : Records) (key : ℕ) (slot : Option Record) (written : Updates old new key slot) where
   -- one record that is no other's train's leaves each train with one
@@ -51,10 +51,10 @@ module _ (old new : Records) (key : ℕ) (slot : Option Record) (written : Updat
 
 -- ## A session is opened
 
-module _ (old new : Records) (key : ℕ) (r : Record) (written : Updates old new key (Some r)) (one : IsOneATrain old) (fresh : get old key ≡ None) (silent : phase_at old r.nid_engine ≡ Silent) where
+module _ (old new : Records) (key : ℕ) (r : Record) (written : Updates old new key (Some r)) (one : IsOneATrain old) (fresh : get old key ≡ None) (closed : phase_at old r.nid_engine ≡ Closed) where
   pub one_opened : IsOneATrain new
   one_opened = one_after old new key (Some r) written one (λ k q p apart at is same.
-      silent_is_absent old r.nid_engine one silent k q at (same ∙ ap (λ (x : Record). x.nid_engine) (sym (same_Some r p is))))
+      closed_is_absent old r.nid_engine one closed k q at (same ∙ ap (λ (x : Record). x.nid_engine) (sym (same_Some r p is))))
 
   pub phases_opened : (u : ℕ) → phase_at new u ≡ cond (u == r.nid_engine) (record_phase r) (phase_at old u)
   phases_opened u =
@@ -101,9 +101,9 @@ module _ (old new : Records) (key : ℕ) (r : Record) (one : IsOneATrain old) (a
   pub one_ended : Updates old new key None → IsOneATrain new
   one_ended written = one_after old new key None written one (λ k q x k_not at_k is eq. none-some x is)
 
-  pub phases_ended : Updates old new key None → (u : ℕ) → phase_at new u ≡ cond (is_its u) Silent (phase_at old u)
+  pub phases_ended : Updates old new key None → (u : ℕ) → phase_at new u ≡ cond (is_its u) Closed (phase_at old u)
   phases_ended written u =
-      elim (eqb_tells r.nid_engine u) as (λ _. phase_at new u ≡ cond (is_its u) Silent (phase_at old u)) [
+      elim (eqb_tells r.nid_engine u) as (λ _. phase_at new u ≡ cond (is_its u) Closed (phase_at old u)) [
         | inl e ↦ rw (its_train u, e.0) (phase_of_absent new u (λ k q at_k same. elim (cases_eq k key) [
           | inl k_is ↦ none-some q (sym written.changed ∙ ap (get new) (sym k_is) ∙ at_k)
           | inr k_not ↦ apart_from k q k_not (sym (written.others k k_not) ∙ at_k) (same ∙ sym e.1)
@@ -126,10 +126,10 @@ module _ (old new : Records) (key : ℕ) (one : IsOneATrain old) where
   is_its_train u = option_map_or (λ t. t == u) (train_at old key) false
 
   -- its end
-  pub phases_closed : Updates old new key None → (u : ℕ) → phase_at new u ≡ cond (is_its_train u) Silent (phase_at old u)
+  pub phases_closed : Updates old new key None → (u : ℕ) → phase_at new u ≡ cond (is_its_train u) Closed (phase_at old u)
   phases_closed written u = by_record (get old key) refl
     where
-      by_record : (o : Option Record) → get old key ≡ o → phase_at new u ≡ cond (is_its_train u) Silent (phase_at old u)
+      by_record : (o : Option Record) → get old key ≡ o → phase_at new u ≡ cond (is_its_train u) Closed (phase_at old u)
       by_record (Some r) at = phases_ended old new key r one at written u
       by_record None at =
           let one_new : IsOneATrain new = one_after old new key None written one (λ k q x k_not at_k is eq. none-some x is) in

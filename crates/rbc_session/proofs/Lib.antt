@@ -1,3 +1,3 @@
 pub mod Records
 pub mod Changes
-pub mod Standings
+pub mod SessionStates

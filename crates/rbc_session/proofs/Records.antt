@@ -4,7 +4,7 @@ use Rattle.std.proofs.lemmas.Bool.{cases_eq}
 use Rattle.std.proofs.lemmas.Bool.Decides.{eqb_tells}
 use Rattle.std.proofs.lemmas.Option.{none-some, same_Some}
 use Rattle.slab.specs.Slab.{get}
-use Rattle.rbc_spec.specs.Centre.{Silent, Opened, Up}
+use Rattle.rbc_spec.specs.Centre.{Closed, Opened, Up}
 use Rattle.rbc_session.specs.Sessions.{Records, record_phase, phase_in, phase_at, train_at, IsOneATrain, AtMostOneATrain}
 use Rattle.rbc_session.specs.declared.sessions.Record.{Record}
 
@@ -45,7 +45,7 @@ found_phase (Some p ∷ rest) (suc k) r t one at same =
     ]
 
 -- the phase of a train that has none
-absent_phase : (slots : Slots) (t : ℕ) → IsAbsent slots t → phase_in slots t ≡ Silent
+absent_phase : (slots : Slots) (t : ℕ) → IsAbsent slots t → phase_in slots t ≡ Closed
 absent_phase [] t absent = refl
 absent_phase (None ∷ rest) t absent = absent_phase rest t (λ k. absent (suc k))
 absent_phase (Some p ∷ rest) t absent =
@@ -83,19 +83,19 @@ pub phase_of_found : (sessions : Records) (k : ℕ) (r : Record) → IsOneATrain
 unfolding phase_at IsOne
 phase_of_found sessions k r one at = found_phase sessions.slots k r r.nid_engine one at refl
 
-pub phase_of_absent : (sessions : Records) (t : ℕ) → ((k : ℕ) (r : Record) → get sessions k ≡ Some r → r.nid_engine ≢ t) → phase_at sessions t ≡ Silent
+pub phase_of_absent : (sessions : Records) (t : ℕ) → ((k : ℕ) (r : Record) → get sessions k ≡ Some r → r.nid_engine ≢ t) → phase_at sessions t ≡ Closed
 unfolding phase_at
 phase_of_absent sessions t absent = absent_phase sessions.slots t absent
 
 pub found_or_absent : (sessions : Records) (t : ℕ) → ((k : ℕ) × (r : Record) × (get sessions k ≡ Some r) × (r.nid_engine ≡ t)) ⊎ ((k : ℕ) (r : Record) → get sessions k ≡ Some r → r.nid_engine ≢ t)
 found_or_absent sessions t = is_found sessions.slots t
 
--- a train whose phase is silent has no record
-pub silent_is_absent : (sessions : Records) (t : ℕ) → IsOneATrain sessions → phase_at sessions t ≡ Silent → (k : ℕ) (r : Record) → get sessions k ≡ Some r → r.nid_engine ≢ t
-silent_is_absent sessions t one silent k r at same =
-    never r.is_up (sym (phase_of_found sessions k r one at) ∙ ap (phase_at sessions) same ∙ silent)
+-- a train whose phase is closed has no record
+pub closed_is_absent : (sessions : Records) (t : ℕ) → IsOneATrain sessions → phase_at sessions t ≡ Closed → (k : ℕ) (r : Record) → get sessions k ≡ Some r → r.nid_engine ≢ t
+closed_is_absent sessions t one closed k r at same =
+    never r.is_up (sym (phase_of_found sessions k r one at) ∙ ap (phase_at sessions) same ∙ closed)
   where
-    never : (b : _) → cond b Up Opened ≡ Silent → ⊥
+    never : (b : _) → cond b Up Opened ≡ Closed → ⊥
     never true h = cc
     never false h = cc
 

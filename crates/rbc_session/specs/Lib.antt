@@ -1,3 +1,3 @@
 pub mod Sessions
 pub mod Session
-pub mod Standing
+pub mod SessionStates

@@ -1,7 +1,7 @@
 -- What a centre's sessions are.
 use Rattle.std.specs.Prelude.{◌≡◌, ℕ, ◌==◌, if◌then◌else◌, List, [], ◌∷◌, Option, Some, None, option_map}
 use Rattle.slab.specs.Slab.{Slab, get, HasRoomFor}
-use Rattle.rbc_spec.specs.Centre.{Phase, Silent, Opened, Up}
+use Rattle.rbc_spec.specs.Centre.{Phase, Closed, Opened, Up}
 use Rattle.rbc_session.specs.declared.sessions.Record.{Record}
 
 -- what is known of each session, by its key
@@ -13,7 +13,7 @@ record_phase r = if r.is_up then Up else Opened
 
 -- the phase of the session with the train that is among these
 abbrev pub phase_in : List (Option Record) → ℕ → Phase
-phase_in [] t = Silent
+phase_in [] t = Closed
 phase_in (None ∷ rest) t = phase_in rest t
 phase_in (Some r ∷ rest) t = if r.nid_engine == t then record_phase r else phase_in rest t
 

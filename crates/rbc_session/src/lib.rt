@@ -6,5 +6,5 @@
 mod session;
 mod sessions;
 
-pub use session::{Opened, Phase, Session, Standing, Up};
+pub use session::{Opened, Phase, Session, SessionState, Up};
 pub use sessions::Sessions;

@@ -19,9 +19,9 @@ pub struct Session<S> {
 
 /// What a centre has of a train's session.
 #[derive(Debug)]
-pub enum Standing {
+pub enum SessionState {
     /// There is none.
-    Silent,
+    Closed,
     Opened(Session<Opened>),
     Up(Session<Up>),
 }
@@ -30,24 +30,24 @@ pub enum Standing {
 #[derive(Clone, Copy, Debug, PartialEq, Eq)]
 pub enum Phase {
     /// There is none.
-    Silent,
+    Closed,
     /// The train has asked for it.
     Opened,
     /// The train has confirmed it.
     Up,
 }
 
-impl Standing {
-    ghost use Rattle.rbc_session.specs.Standing.{phase_of, standing_phase};
+impl SessionState {
+    ghost use Rattle.rbc_session.specs.SessionStates.{phase_of, session_phase};
 
     /// How far the session has come.
     pub fn phase(&self) -> Phase
-        ensures { phase_of result ≡ standing_phase self.now }
+        ensures { phase_of result ≡ session_phase self.now }
     {
         match self {
-            Standing::Silent => Phase::Silent,
-            Standing::Opened(_) => Phase::Opened,
-            Standing::Up(_) => Phase::Up,
+            SessionState::Closed => Phase::Closed,
+            SessionState::Opened(_) => Phase::Opened,
+            SessionState::Up(_) => Phase::Up,
         }
     }
 }

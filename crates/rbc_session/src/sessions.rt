@@ -2,7 +2,7 @@ ghost use Rattle.std.specs.Prelude.{◌≡◌, ℕ, true, ◌==◌, if◌then◌
 ghost use Rattle.slab.specs.Slab.{get, Updates};
 ghost use Rattle.rbc_spec.specs.Centre as spec;
 
-use crate::session::{Opened, Session, Standing, Up};
+use crate::session::{Opened, Session, SessionState, Up};
 use slab::Slab;
 use std::alloc::{AllocError, Global};
 use std::marker::Model;
@@ -34,12 +34,12 @@ impl Model for Sessions {
 impl Sessions {
     ghost use Rattle.rbc_session.specs.Sessions.{phase_at, train_at, HasRoom, AtMostOneATrain};
     ghost use Rattle.rbc_session.specs.Session.{key_of, is_of};
-    ghost use Rattle.rbc_session.specs.Standing.{stands_with, has_key};
+    ghost use Rattle.rbc_session.specs.SessionStates.{stands_with, has_key};
 
     /// No session. It takes no memory.
     #[tactic(auto, unfolding(crate::specs::Sessions::phase_at, crate::specs::Sessions::train_at))]
     pub fn new(alloc: Global) -> Sessions
-        ensures phases { (u : ℕ) → phase_at result u ≡ spec.Silent }
+        ensures phases { (u : ℕ) → phase_at result u ≡ spec.Closed }
         ensures keys { (k : ℕ) → train_at result k ≡ None }
     {
         Sessions {
@@ -72,7 +72,7 @@ impl Sessions {
 
     /// Opens a session with a train that has none.
     pub fn open(&mut self, nid_engine: u32) -> Result<Session<Opened>, AllocError>
-        requires { phase_at self.old nid_engine ≡ spec.Silent }
+        requires { phase_at self.old nid_engine ≡ spec.Closed }
         ensures phases { IfOk result (λ _. (u : ℕ) → phase_at self.new u
             ≡ (if u == nid_engine then spec.Opened else phase_at self.old u)) }
         ensures keys { IfOk result (λ session. (k : ℕ) → train_at self.new k
@@ -89,7 +89,7 @@ impl Sessions {
     /// `open` where there is room, which takes no memory.
     pub fn open_reserved(&mut self, nid_engine: u32) -> Session<Opened>
         requires room { HasRoom self.old }
-        requires silent { phase_at self.old nid_engine ≡ spec.Silent }
+        requires closed { phase_at self.old nid_engine ≡ spec.Closed }
         ensures phases { (u : ℕ) → phase_at self.new u
             ≡ (if u == nid_engine then spec.Opened else phase_at self.old u) }
         ensures keys { (k : ℕ) → train_at self.new k
@@ -119,7 +119,7 @@ impl Sessions {
     /// changes nothing.
     pub fn close<S: Drop>(&mut self, session: Session<S>)
         ensures phases { (u : ℕ) → phase_at self.new u
-            ≡ (if is_of self.old session u then spec.Silent else phase_at self.old u) }
+            ≡ (if is_of self.old session u then spec.Closed else phase_at self.old u) }
         ensures keys { (k : ℕ) → train_at self.new k
             ≡ (if k == key_of session then None else train_at self.old k) }
         ensures room { IsSome (train_at self.old (key_of session)) → HasRoom self.new }
@@ -130,17 +130,17 @@ impl Sessions {
     }
 
     /// Ends the session that stands, if there is one.
-    pub fn end(&mut self, standing: Standing)
+    pub fn end(&mut self, session_state: SessionState)
         ensures phases { (u : ℕ) → phase_at self.new u
-            ≡ (if stands_with self.old standing u then spec.Silent else phase_at self.old u) }
+            ≡ (if stands_with self.old session_state u then spec.Closed else phase_at self.old u) }
         ensures keys { (k : ℕ) → train_at self.new k
-            ≡ (if has_key standing k then None else train_at self.old k) }
+            ≡ (if has_key session_state k then None else train_at self.old k) }
         ensures had_room { HasRoom self.old → HasRoom self.new }
     {
-        match standing {
-            Standing::Silent => {}
-            Standing::Opened(session) => self.close(session),
-            Standing::Up(session) => self.close(session),
+        match session_state {
+            SessionState::Closed => {}
+            SessionState::Opened(session) => self.close(session),
+            SessionState::Up(session) => self.close(session),
         }
     }
 }

@@ -1,26 +1,26 @@
 -- A request to shorten by the facts of a mission is one by the rules.
 use Rattle.std.proofs.Common.{◌≡◌, ℕ, ◌+◌, ◌-◌, ◌*◌, ◌==◌, Bool, ◌&&◌, not, cond, nat_le, Option, Some, None, is_none, refl, ap, sym, ◌∙◌}
-use Rattle.rbc_spec.specs.Runs.{Run, within}
+use Rattle.rbc_spec.specs.SectionRuns.{SectionRun, within}
 use Rattle.rbc_spec.specs.Line.{Line, start}
 use Rattle.rbc_spec.specs.Place.{group_start}
 use Rattle.rbc_spec.specs.Centre.{Centre, Mission}
 use Rattle.rbc_spec.specs.Acts.{may_propose}
-use Rattle.rbc_shorten.specs.Missions.{standing_of, IsMission}
+use Rattle.rbc_shorten.specs.Facts.{standing_of, AreFactsOf}
 use Rattle.rbc_shorten.specs.Requests.{may_shorten, may_shorten_at, shortening}
-use Rattle.rbc_shorten.specs.declared.mission.Mission.{Mission as MissionCode}
-use Rattle.rbc_shorten.specs.declared.mission.Proposal.{Proposal as ProposalCode}
-use Rattle.rbc_shorten.specs.declared.mission.Shortening.{Shortening}
+use Rattle.rbc_shorten.specs.declared.facts.ShorteningFacts.{ShorteningFacts}
+use Rattle.rbc_shorten.specs.declared.facts.Proposal.{Proposal as ProposalCode}
+use Rattle.rbc_shorten.specs.declared.facts.Shortening.{Shortening}
 
 standing_alike : (p : Option ProposalCode) → is_none p ≡ is_none (standing_of p)
 standing_alike None = refl
 standing_alike (Some p) = refl
 
 -- the test by its parts
-abbrev test : Line → ℕ → Bool → Bool → Bool → Run → ℕ → ℕ → Bool
+abbrev test : Line → ℕ → Bool → Bool → Bool → SectionRun → ℕ → ℕ → Bool
 test line s up ended none hand front group =
     ((up && not ended) && none) && (((within hand s && not (s == hand.first)) && nat_le front (10 * start line s)) && nat_le (start line s) (group + 32767))
 
-module _ (line : Line) (t s : ℕ) (m : Mission) (k : Centre) (facts : MissionCode) (are : IsMission line t m k facts) where
+module _ (line : Line) (t s : ℕ) (m : Mission) (k : Centre) (facts : ShorteningFacts) (are : AreFactsOf line t m k facts) where
   may_alike : may_shorten line facts s ≡ may_propose line t s m k
   unfolding may_shorten_at
   may_alike i = test line s (are.session i) (are.is_ended i) ((standing_alike facts.proposal ∙ ap is_none are.proposal) i) (are.hand i) (are.front i) (are.group i)
@@ -31,5 +31,5 @@ module _ (line : Line) (t s : ℕ) (m : Mission) (k : Centre) (facts : MissionCo
   by_rules asked is = is ∙ (λ i. cond (may_alike i) (Some (record { l_endsection = start line s - are.group i; last_kept = s - 1 })) None)
 
 -- at a start that was found
-pub found : (line : Line) (facts : MissionCode) (s metres : ℕ) (b c : Bool) → b ≡ c → b ≡ may_shorten_at metres facts s → metres ≡ start line s → may_shorten line facts s ≡ c
+pub found : (line : Line) (facts : ShorteningFacts) (s metres : ℕ) (b c : Bool) → b ≡ c → b ≡ may_shorten_at metres facts s → metres ≡ start line s → may_shorten line facts s ≡ c
 found line facts s metres b c is may at = ap (λ n. may_shorten_at n facts s) (sym at) ∙ sym may ∙ is

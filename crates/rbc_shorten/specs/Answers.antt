@@ -1,14 +1,14 @@
 -- Answers to a request to shorten.
 use Rattle.std.specs.Prelude.{◌≡◌, ℕ, ◌+◌, ◌*◌, ◌==◌, Option, Some, None, Result, Ok, Err, option_map, if◌then◌else◌, nat_le}
 use Rattle.std.specs.Option.{option_map_or}
-use Rattle.rbc_spec.specs.Runs.{Run, part_before}
+use Rattle.rbc_spec.specs.SectionRuns.{SectionRun, part_before}
 use Rattle.rbc_spec.specs.Line.{Line, end}
 use Rattle.rbc_spec.specs.Place.{Position, place_on}
 use Rattle.rbc_spec.specs.Centre.{Mission, Proposal}
 use Rattle.rbc_spec.specs.Acts.{Act, rest}
 use Rattle.rbc_spec.specs.Rules.{cut}
-use Rattle.rbc_shorten.specs.Missions.{standing_of}
-use Rattle.rbc_shorten.specs.declared.mission.Proposal.{Proposal as ProposalCode}
+use Rattle.rbc_shorten.specs.Facts.{standing_of}
+use Rattle.rbc_shorten.specs.declared.facts.Proposal.{Proposal as ProposalCode}
 use Rattle.rbc_shorten.specs.declared.answer.Cut.{Cut}
 use Rattle.rbc_shorten.specs.declared.answer.Cut.TheVariants.{Nothing, Keep}
 use Rattle.rbc_shorten.specs.declared.answer.Unasked.{Unasked}
@@ -22,7 +22,7 @@ on_asked f None stamp = Err unasked
 on_asked f (Some p) stamp = if p.stamp == stamp then Ok (f p) else Err unasked
 
 -- what the train leaves of the hand that has granted the request, with its front there
-abbrev pub cut_of : Line → Run → Option ℕ → ProposalCode → Cut
+abbrev pub cut_of : Line → SectionRun → Option ℕ → ProposalCode → Cut
 cut_of line hand front p =
     option_map_or (λ f. if nat_le f (10 * end line p.last_kept) then Keep ((part_before (p.last_kept + 1) hand).count) else Nothing) front Nothing
 

@@ -1,3 +1,3 @@
-pub mod Missions
+pub mod Facts
 pub mod Requests
 pub mod Answers

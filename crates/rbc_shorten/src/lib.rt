@@ -1,13 +1,13 @@
-//! Shortening a movement authority by agreement with the train (SUBSET-026 3.8.6): when a request to shorten may be made and
+//! Co-operative shortening of MA (SUBSET-026 3.8.6), by agreement with the train: when a request to shorten may be made and
 //! what it asks for, and what an answer to it frees. Nothing is freed but on the answer to the request that stands.
 #![tactic(auto)]
 
 mod answer;
+mod facts;
 mod laws;
-mod mission;
 mod request;
 
 pub use answer::{Cut, Unasked, granted, rejected};
+pub use facts::{Proposal, Shortening, ShorteningFacts};
 pub use laws::what_is_cut_follows_what_is_kept;
-pub use mission::{Mission, Proposal, Shortening};
 pub use request::propose;

@@ -4,10 +4,10 @@ ghost use Rattle.rbc_spec.specs.Place.{group_start};
 ghost use Rattle.rbc_spec.specs.Centre as spec;
 ghost use Rattle.rbc_spec.specs.Acts.{may_propose};
 ghost use Rattle.rbc_hand.specs.SectionRuns.{run_of};
-ghost use Rattle.rbc_shorten.specs.Missions.{IsMission};
+ghost use Rattle.rbc_shorten.specs.Facts.{AreFactsOf};
 ghost use Rattle.rbc_shorten.specs.Requests.{may_shorten, may_shorten_at, shortening, shortening_at, is_free, is_cut_behind_first};
 
-use crate::mission::{Mission, Shortening};
+use crate::facts::{Shortening, ShorteningFacts};
 use rbc_hand::SectionRun;
 use rbc_line::Line;
 use rbc_place::section_start;
@@ -15,40 +15,40 @@ use rbc_place::section_start;
 /// The farthest end that L_ENDSECTION can give, in metres.
 const FARTHEST: u64 = 32_767;
 
-/// A request to shorten the authority to the end of the section before `s` (3.8.6). It may be made exactly where the session
+/// A request for co-operative shortening of MA, to the end of the section before `s` (3.8.6). It may be made exactly where the session
 /// is up, the mission is not ended, no request stands, `s` is in the hand and not its first section, the front is not past the
 /// start of `s`, and this start is at most 32 767 m past the group; else there is none.
-pub fn propose(line: &Line, mission: Mission, s: u16) -> Option<Shortening>
-    ensures exact { result ≡ (if may_shorten line.now mission s then Some (shortening line.now mission s) else None) }
+pub fn propose(line: &Line, facts: ShorteningFacts, s: u16) -> Option<Shortening>
+    ensures exact { result ≡ (if may_shorten line.now facts s then Some (shortening line.now facts s) else None) }
     // The same of the mission that a centre keeps: where it may propose, and what it then sends and keeps.
-    ensures rules { (t : ℕ) (n : spec.Mission) (k : spec.Centre) → IsMission line.now t n k mission
+    ensures rules { (t : ℕ) (n : spec.Mission) (k : spec.Centre) → AreFactsOf line.now t n k facts
         → result ≡ (if may_propose line.now t s n k
         then Some (record { l_endsection = start line.now s - group_start line.now n.place; last_kept = s - 1 }) else None) }
 {
     let start = section_start(line, s);
-    if !may_be_asked(mission, s, start) {
+    if !may_be_asked(facts, s, start) {
         return None;
     }
-    Some(shortening(mission, s, start))
+    Some(shortening(facts, s, start))
 }
 
 // Whether a request to shorten before a section may be made, which starts there.
 #[tactic(auto, unfolding(crate::specs::Requests::may_shorten_at))]
-fn may_be_asked(mission: Mission, s: u16, start: u32) -> bool
-    ensures value { result ≡ may_shorten_at start mission s }
-    ensures room { result ≡ true → start ≤ mission.group_start + 32767 }
+fn may_be_asked(facts: ShorteningFacts, s: u16, start: u32) -> bool
+    ensures value { result ≡ may_shorten_at start facts s }
+    ensures room { result ≡ true → start ≤ facts.group_start + 32767 }
 {
-    is_free(mission)
-        && is_cut_behind_first(mission.hand, s)
-        && u64::from(mission.front) <= 10 * u64::from(start)
-        && u64::from(start) <= u64::from(mission.group_start) + FARTHEST
+    is_free(facts)
+        && is_cut_behind_first(facts.hand, s)
+        && u64::from(facts.front) <= 10 * u64::from(start)
+        && u64::from(start) <= u64::from(facts.group_start) + FARTHEST
 }
 
 // Whether the mission may be asked for anything.
-fn is_free(mission: Mission) -> bool
-    ensures { result ≡ is_free mission }
+fn is_free(facts: ShorteningFacts) -> bool
+    ensures { result ≡ is_free facts }
 {
-    mission.is_up && !mission.is_ended && mission.proposal.is_none()
+    facts.is_up && !facts.is_ended && facts.proposal.is_none()
 }
 
 // Whether the section is in the hand, and not its first.
@@ -59,12 +59,12 @@ fn is_cut_behind_first(hand: SectionRun, s: u16) -> bool
 }
 
 // What a request asks for that keeps the sections before one that starts there.
-fn shortening(mission: Mission, s: u16, start: u32) -> Shortening
-    requires { start ≤ mission.group_start + 32767 }
-    ensures { result ≡ shortening_at start mission s }
+fn shortening(facts: ShorteningFacts, s: u16, start: u32) -> Shortening
+    requires { start ≤ facts.group_start + 32767 }
+    ensures { result ≡ shortening_at start facts s }
 {
     Shortening {
-        l_endsection: start.saturating_sub(mission.group_start) as u16,
+        l_endsection: start.saturating_sub(facts.group_start) as u16,
         last_kept: s.saturating_sub(1),
     }
 }

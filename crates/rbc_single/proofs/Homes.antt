@@ -8,7 +8,7 @@ use Rattle.std.proofs.lemmas.Option.{same_Some}
 use Rattle.std.proofs.lemmas.List.Elements.{All-head, All-tail, All-drop}
 use Rattle.std.proofs.lemmas.List.Folds.{find_at}
 use Rattle.rbc_spec.specs.Line.{Line, Section, Train, section, is_home, is_joint, next_centre, train_number}
-use Rattle.rbc_spec.specs.Runs.{all_of}
+use Rattle.rbc_spec.specs.SectionRuns.{all_of}
 use Rattle.rbc_spec.specs.Place.{Place, Position, extent, is_fit, covered, fit_place}
 use Rattle.rbc_spec.specs.Centre as centre
 use Rattle.rbc_spec.specs.Centre.{is_open, is_free, is_registrar_of}
@@ -16,8 +16,8 @@ use Rattle.rbc_spec.specs.Theorems.{IsOneCentreLine}
 use Rattle.rbc_lemmas.proofs.Puts.{itself}
 use Rattle.rbc_lemmas.proofs.Lists.{each_at}
 use Rattle.rbc_lemmas.proofs.Runs.{each_within}
-use Rattle.rbc_alone.specs.Alone.{IsOrdered}
-use Rattle.rbc_alone.proofs.Fits.{fit_parts, fit_covers, covers_within}
+use Rattle.rbc_local.specs.Local.{IsOrdered}
+use Rattle.rbc_local.proofs.Fits.{fit_parts, fit_covers, covers_within}
 
 some_at : {X : Type 0} (xs : List X) (n : ℕ) → n < length xs → (x : X) × (slice_get xs n ≡ Some x)
 some_at [] n low = absurd (omega (arith, low))

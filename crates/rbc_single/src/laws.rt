@@ -1,38 +1,38 @@
-//! Laws of a line that one centre has alone.
+//! Laws of a one-centre line.
 
 ghost use Rattle.std.specs.Prelude.{◌≡◌, ℕ, List, Ok};
-ghost use Rattle.rbc_spec.specs.Reach.{Alone, Whole};
+ghost use Rattle.rbc_spec.specs.Reach.{Local, Whole};
 ghost use Rattle.rbc_spec.specs.Line.{Line, IsLine};
 ghost use Rattle.rbc_spec.specs.LineCentre.{line_beginning};
 ghost use Rattle.rbc_spec.specs.World.{World, Event, Answer, new_world, world_step, world_run};
 ghost use Rattle.rbc_spec.specs.ReadOff.{read_off};
-ghost use Rattle.rbc_spec.specs.Theorems.{IsOneCentreLine, GoesAlone, RunsAlone, IsOneCentreRun, OneCentreTheorem};
-ghost use Rattle.rbc_alone.specs.Alone.{IsAlone, alone_off};
+ghost use Rattle.rbc_spec.specs.Theorems.{IsOneCentreLine, GoesForced, ForcedRun, IsOneCentreRun, OneCentreTheorem};
+ghost use Rattle.rbc_local.specs.Local.{IsLocal, local_read_off};
 
 /// Whatever happens to the centres of such a line, the one line centre meets it with the same answer and without free
 /// choice, and goes on from what is read off them afterwards.
 pub fn each_event_leaves_no_choice()
-    ensures read { (line : Line) (c : ℕ) (w new : World) (event : Event) (answer : Answer) → IsLine line → IsOneCentreLine line c → IsAlone line w
-        → world_step Alone line w event ≡ Ok (answer, new) → GoesAlone line (read_off line w) event answer (read_off line new) }
-    ensures off { (line : Line) (c : ℕ) (w new : World) (event : Event) (answer : Answer) → IsLine line → IsOneCentreLine line c → IsAlone line w
-        → world_step Alone line w event ≡ Ok (answer, new) → GoesAlone line (alone_off line w) event answer (alone_off line new) }
+    ensures read { (line : Line) (c : ℕ) (w new : World) (event : Event) (answer : Answer) → IsLine line → IsOneCentreLine line c → IsLocal line w
+        → world_step Local line w event ≡ Ok (answer, new) → GoesForced line (read_off line w) event answer (read_off line new) }
+    ensures off { (line : Line) (c : ℕ) (w new : World) (event : Event) (answer : Answer) → IsLine line → IsOneCentreLine line c → IsLocal line w
+        → world_step Local line w event ≡ Ok (answer, new) → GoesForced line (local_read_off line w) event answer (local_read_off line new) }
 {}
 
 /// In whatever states the centres of such a line are, an event comes to the same by all rules as by those of missions that
 /// stay at one centre.
 pub fn no_mission_goes_on_elsewhere()
-    ensures step { (line : Line) (c : ℕ) (w : World) (event : Event) → IsLine line → IsOneCentreLine line c → world_step Whole line w event ≡ world_step Alone line w event }
-    ensures run { (line : Line) (c : ℕ) (w : World) (events : List Event) → IsLine line → IsOneCentreLine line c → world_run Whole line w events ≡ world_run Alone line w events }
+    ensures step { (line : Line) (c : ℕ) (w : World) (event : Event) → IsLine line → IsOneCentreLine line c → world_step Whole line w event ≡ world_step Local line w event }
+    ensures run { (line : Line) (c : ℕ) (w : World) (events : List Event) → IsLine line → IsOneCentreLine line c → world_run Whole line w events ≡ world_run Local line w events }
 {}
 
 /// What the centres of such a line answer and hold, from the line's beginning on, is a run of the one line centre without
 /// free choice: where each mission stays at one centre.
 pub fn each_run_leaves_no_choice()
     ensures run { (line : Line) (c : ℕ) (events : List Event) (answers : List Answer) (w : World) → IsLine line → IsOneCentreLine line c
-        → world_run Alone line (new_world line) events ≡ Ok (answers, w) → IsOneCentreRun line events answers w }
+        → world_run Local line (new_world line) events ≡ Ok (answers, w) → IsOneCentreRun line events answers w }
     // It ends in the state that is read off them.
     ensures last { (line : Line) (c : ℕ) (events : List Event) (answers : List Answer) (w : World) → IsLine line → IsOneCentreLine line c
-        → world_run Alone line (new_world line) events ≡ Ok (answers, w) → RunsAlone line line_beginning events answers (read_off line w) }
+        → world_run Local line (new_world line) events ≡ Ok (answers, w) → ForcedRun line line_beginning events answers (read_off line w) }
 {}
 
 /// What the centres of such a line answer and hold by all rules, from the line's beginning on, is a run of the one line

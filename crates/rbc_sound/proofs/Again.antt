@@ -3,13 +3,13 @@ use Rattle.std.proofs.Common.{◌≡◌, ℕ, ◌+◌, ◌≤◌, ◌&&◌, ◌|
 use Rattle.std.proofs.lemmas.Option.{same_Some}
 use Rattle.rbc_ledger.specs.Sums.{one_if}
 use Rattle.rbc_spec.specs.Maps.{put}
-use Rattle.rbc_spec.specs.Runs.{within}
+use Rattle.rbc_spec.specs.SectionRuns.{within}
 use Rattle.rbc_spec.specs.Line.{Line, is_centre, is_home, train_number}
 use Rattle.rbc_spec.specs.Place.{Place, covered}
 use Rattle.rbc_spec.specs.Centre.{Centre, Entry, Shut, Out, Phase, Mission, is_unused, is_taken_for}
 use Rattle.rbc_spec.specs.Acts.{◌>>◌, freed, change_mission}
 use Rattle.rbc_spec.specs.Rules.{set_phase, drop_wait}
-use Rattle.rbc_alone.specs.Alone.{hand_has}
+use Rattle.rbc_local.specs.Local.{hand_has}
 use Rattle.rbc_flow.specs.Counts.{wait_has}
 use Rattle.rbc_flow.specs.Sound.{IsMissionAt, IsCentreSound}
 use Rattle.rbc_flow.specs.Keeping.{LeavesSound}

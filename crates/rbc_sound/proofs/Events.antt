@@ -4,19 +4,19 @@ use Rattle.std.specs.Option.{option_map_or}
 use Rattle.std.proofs.lemmas.Bool.{and_parts, or_parts, not-true, both_ways}
 use Rattle.rbc_spec.specs.Maps.{put}
 use Rattle.rbc_spec.specs.Reach.{Reach, follows_rule}
-use Rattle.rbc_spec.specs.Runs.{all_of}
+use Rattle.rbc_spec.specs.SectionRuns.{all_of}
 use Rattle.rbc_spec.specs.Line.{Line, IsLine, is_centre, is_linked, section, train_number}
 use Rattle.rbc_spec.specs.Place.{Position}
 use Rattle.rbc_spec.specs.Message.{TrainMessage, TrainBody, TrainData, Request, Report, ShorteningGranted, ShorteningRejected, EndOfMission, InitiationOfSession, TerminationOfSession, StartOfMission, SessionEstablished}
 use Rattle.rbc_spec.specs.Frame.{Frame, Body, AskRight, GiveRight, RefuseRight, ReturnRight, RouteAsk, RouteInfo, RouteWithdraw, RouteReturn, Announce, Cancel, TakingOver, Yield, carried_place}
 use Rattle.rbc_spec.specs.Outcome.{Reason, ForeignEngine, WrongPhase, Taken as LinkAnswer, Next, Old, Early, NoLink}
-use Rattle.rbc_spec.specs.Centre.{Centre, Opened, Silent, Up, is_up}
+use Rattle.rbc_spec.specs.Centre.{Centre, Opened, Closed, Up, is_up}
 use Rattle.rbc_spec.specs.Acts.{Act, become, rest, ◌>>◌, hear, change_mission}
 use Rattle.rbc_spec.specs.Rules.{set_phase, drop_wait, close_session, answered}
 use Rattle.rbc_spec.specs.Links.{is_train, of_train, received, announced, route_withdrawn, route_returned, yielded}
 use Rattle.rbc_spec.specs.Step.{Event, Train, Set, Unset, Deliver, Effect, is_out_of_phase, silence, offered, body_taken, taken_by, hear_and_answer, effect, state_after, stamp_of, ticked}
 use Rattle.rbc_lemmas.proofs.Puts.{put_here, put_other}
-use Rattle.rbc_alone.proofs.Stays.{by_same}
+use Rattle.rbc_local.proofs.Stays.{by_same}
 use Rattle.rbc_laws.proofs.Reasons.{not_for}
 use Rattle.rbc_flow.specs.Sound.{IsCentreSound}
 use Rattle.rbc_sound.specs.Stays.{HasHandRange, IsInRange, StaysSound}
@@ -48,8 +48,8 @@ module _ (line : Line) (ok : IsLine line) (c : ℕ) where
   -- ## A train's message
 
   closed_sound : (t : ℕ) (k : Centre) → IsCentreSound line c k → Sound line c (close_session line c t k)
-  closed_sound t k old = then_sound line c (set_phase t Silent >> change_mission t (λ m. record m { proposal = None })) (drop_wait line c t) k
-      (then_sound line c (set_phase t Silent) (change_mission t (λ m. record m { proposal = None })) k (phase_sound line c k old t Silent)
+  closed_sound t k old = then_sound line c (set_phase t Closed >> change_mission t (λ m. record m { proposal = None })) (drop_wait line c t) k
+      (then_sound line c (set_phase t Closed) (change_mission t (λ m. record m { proposal = None })) k (phase_sound line c k old t Closed)
       (λ j is sound. changed_sound line c j sound t (λ m. record m { proposal = None }) (λ n at. refl) (λ n at. other_words line ok c j n n.has_data n.is_ended None (sound.mission t n at))))
       (λ j is sound. dropped_sound line c j sound t)
 

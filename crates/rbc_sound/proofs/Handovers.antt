@@ -6,19 +6,19 @@ use Rattle.std.proofs.lemmas.Option.{same_Some}
 use Rattle.std.proofs.lemmas.Bool.{and_parts, cond-true, ne_eqb, or_right}
 use Rattle.rbc_ledger.specs.Sums.{one_if}
 use Rattle.rbc_spec.specs.Maps.{has, put, put_pair}
-use Rattle.rbc_spec.specs.Runs.{Run, no_run, most_in_hand, within, all_of}
+use Rattle.rbc_spec.specs.SectionRuns.{SectionRun, no_run, most_in_hand, within, all_of}
 use Rattle.rbc_spec.specs.Line.{Line, IsLine, is_home, section_of_group, train_number, next_centre}
 use Rattle.rbc_spec.specs.Sections.{is_on, is_on_track}
 use Rattle.rbc_spec.specs.Place.{Place, group_start}
 use Rattle.rbc_spec.specs.Centre.{Centre, Entry, Shut, Open, Taken, Out, Mission, Handing, Expectation, is_taken_for, is_out_for}
 use Rattle.rbc_spec.specs.Acts.{become, rest, ◌>>◌, with_some, booked, set_mission, change_mission, propose_if_so, yield_if_due}
 use Rattle.rbc_spec.specs.Links.{expect, announced, is_under, cancelled, claimed, taking_over, may_arrive, may_take, take_mission, yielded}
-use Rattle.rbc_alone.specs.Alone.{hand_has}
-use Rattle.rbc_alone.proofs.Entries.{booked_for, unused_booked}
+use Rattle.rbc_local.specs.Local.{hand_has}
+use Rattle.rbc_local.proofs.Entries.{booked_for, unused_booked}
 use Rattle.rbc_lemmas.proofs.Runs.{each_within}
-use Rattle.rbc_alone.proofs.Missions.{none_within}
+use Rattle.rbc_local.proofs.Missions.{none_within}
 use Rattle.rbc_lemmas.proofs.Puts.{put_here, put_other}
-use Rattle.rbc_alone.proofs.Stays.{by_same}
+use Rattle.rbc_local.proofs.Stays.{by_same}
 use Rattle.rbc_flow.specs.Counts.{wait_has}
 use Rattle.rbc_flow.specs.Sound.{IsMissionAt, IsCentreSound}
 use Rattle.rbc_sound.proofs.Held.{Held, held, shut_unbooked, booked_out, held_mission}
@@ -96,7 +96,7 @@ module _ (line : Line) (ok : IsLine line) (c : ℕ) where
   -- ## A mission is taken
 
   module _ (k : Centre) (t d : ℕ) (is_mine : ℕ → Bool) (waiting : Option Place) (present : Option Mission) (y : Centre) (h : Held line c k t is_mine waiting present y) where
-    held_back : (r : Run) → ((s : ℕ) → is_home line c s ≡ true → within r s ≡ true → is_out_for t d (y.book s) ≡ true)
+    held_back : (r : SectionRun) → ((s : ℕ) → is_home line c s ≡ true → within r s ≡ true → is_out_for t d (y.book s) ≡ true)
         → Held line c k t (λ s. is_mine s || within r s) waiting present (booked (is_out_for t d) (Taken t) r y).state
     held_back r out =
         let there : ℕ → Bool = λ s. within r s && is_out_for t d (y.book s) in
@@ -114,7 +114,7 @@ module _ (line : Line) (ok : IsLine line) (c : ℕ) where
           announced = h.announced;
         }
 
-  module _ (d number t heard : ℕ) (hand : Run) (has_data is_ended : Bool) (place : Place) (k : Centre) (old : IsCentreSound line c k) (known : is_some (train_number line t) ≡ true)
+  module _ (d number t heard : ℕ) (hand : SectionRun) (has_data is_ended : Bool) (place : Place) (k : Centre) (old : IsCentreSound line c k) (known : is_some (train_number line t) ≡ true)
       (range : (1 ≤ hand.count) × (hand.count ≤ most_in_hand)) (may : may_take line c k d number t place hand ≡ true) where
     abbrev came : Mission
     came = record { place = place; hand = hand; pool = no_run; has_data = has_data; is_ended = is_ended; proposal = None; handing = None }
@@ -176,7 +176,7 @@ module _ (line : Line) (ok : IsLine line) (c : ℕ) where
         (λ j is sound. or_reply line c (find (λ s. is_home line c s && j.wish s) (range_with_len hand.first hand.count)) _ (rest j)
         (λ s found. propose_sound line ok c t s j sound) (λ no. rest_sound line c j sound))
 
-  pub yielded_sound : (d number t heard : ℕ) (hand : Run) (has_data is_ended : Bool) (place : Place) (k : Centre) → IsCentreSound line c k → is_some (train_number line t) ≡ true
+  pub yielded_sound : (d number t heard : ℕ) (hand : SectionRun) (has_data is_ended : Bool) (place : Place) (k : Centre) → IsCentreSound line c k → is_some (train_number line t) ≡ true
       → (1 ≤ hand.count) × (hand.count ≤ most_in_hand) → Sound line c (yielded line c d number t hand heard has_data is_ended place k)
   yielded_sound d number t heard hand has_data is_ended place k old known range = if_reply line c (may_take line c k d number t place hand) _ (rest k)
       (λ may. take_sound d number t heard hand has_data is_ended place k old known range may) (λ no. rest_sound line c k old)

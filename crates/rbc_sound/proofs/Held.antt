@@ -3,14 +3,14 @@ use Rattle.std.proofs.Common.{◌≡◌, ◌≢◌, ℕ, ◌+◌, ◌≤◌, ◌
 use Rattle.std.proofs.lemmas.Bool.{cases_eq, both_ways, and_parts, and_right, and_left}
 use Rattle.rbc_ledger.specs.Sums.{one_if}
 use Rattle.rbc_spec.specs.Maps.{put}
-use Rattle.rbc_spec.specs.Runs.{Run, within}
+use Rattle.rbc_spec.specs.SectionRuns.{SectionRun, within}
 use Rattle.rbc_spec.specs.Line.{Line, is_centre, is_home, train_number}
 use Rattle.rbc_spec.specs.Place.{Place, covered}
 use Rattle.rbc_spec.specs.Centre.{Centre, Entry, Shut, Taken, Out, Mission, is_open, is_unused, is_taken_for}
 use Rattle.rbc_spec.specs.Acts.{booked, freed, set_mission}
-use Rattle.rbc_alone.specs.Alone.{hand_has}
+use Rattle.rbc_local.specs.Local.{hand_has}
 use Rattle.rbc_lemmas.proofs.Puts.{put_here, put_other}
-use Rattle.rbc_alone.proofs.Entries.{given, taken_given, taken_for_one, hand_given, others_given, booked_for, taken_here, taken_elsewhere, unused_booked}
+use Rattle.rbc_local.proofs.Entries.{given, taken_given, taken_for_one, hand_given, others_given, booked_for, taken_here, taken_elsewhere, unused_booked}
 use Rattle.rbc_flow.specs.Counts.{wait_has}
 use Rattle.rbc_flow.specs.Sound.{IsHandAt, IsMissionAt, IsCentreSound}
 
@@ -155,7 +155,7 @@ module _ (line : Line) (c : ℕ) (k : Centre) (t : ℕ) where
   -- ## Step by step
 
   module _ (mine : ℕ → Bool) (wait : Option Place) (mission : Option Mission) (y : Centre) (h : Held line c k t mine wait mission y) where
-    pub held_freed : (r : Run) → Held line c k t (λ s. mine s && not (within r s)) wait mission (freed line c (is_taken_for t) r y).state
+    pub held_freed : (r : SectionRun) → Held line c k t (λ s. mine s && not (within r s)) wait mission (freed line c (is_taken_for t) r y).state
     held_freed r =
         let back : ℕ → Bool = λ s. (within r s && is_home line c s) && is_taken_for t (y.book s) in
         record {
@@ -175,7 +175,7 @@ module _ (line : Line) (c : ℕ) (k : Centre) (t : ℕ) where
         }
 
     -- sections that are open become the train's
-    pub held_booked : (r : Run) → ((s : ℕ) → is_home line c s ≡ true → within r s ≡ true → is_open (y.book s) ≡ true)
+    pub held_booked : (r : SectionRun) → ((s : ℕ) → is_home line c s ≡ true → within r s ≡ true → is_open (y.book s) ≡ true)
         → Held line c k t (λ s. mine s || within r s) wait mission (booked is_open (Taken t) r y).state
     held_booked r opened =
         let there : ℕ → Bool = λ s. within r s && is_open (y.book s) in
@@ -195,7 +195,7 @@ module _ (line : Line) (c : ℕ) (k : Centre) (t : ℕ) where
         }
 
     -- the train's sections are lent to a centre
-    pub held_lent : (r : Run) (d : ℕ) → is_centre line d ≡ true → Held line c k t (λ s. mine s && not (within r s)) wait mission (booked (is_taken_for t) (Out t d) r y).state
+    pub held_lent : (r : SectionRun) (d : ℕ) → is_centre line d ≡ true → Held line c k t (λ s. mine s && not (within r s)) wait mission (booked (is_taken_for t) (Out t d) r y).state
     held_lent r d at = record {
       foreign = λ s out. shut_unbooked (within r s) (Out t d) (y.book s) (h.foreign s out) (is_taken_for t) refl;
       out_at = λ s u e is. lent_out t d (within r s && is_taken_for t (y.book s)) (y.book s) (λ x. is_centre line x ≡ true) at (h.out_at s) u e is;

@@ -9,7 +9,7 @@ use Rattle.rbc_spec.specs.Centre.{Centre, Entry, Shut, Open, Taken, Out, is_unus
 use Rattle.rbc_spec.specs.Acts.{become, rest, ◌>>◌, change_mission, may_propose, propose, propose_if_so}
 use Rattle.rbc_spec.specs.Rules.{tell}
 use Rattle.rbc_spec.specs.Step.{make, set, unset, wished}
-use Rattle.rbc_alone.proofs.Entries.{unused_taken}
+use Rattle.rbc_local.proofs.Entries.{unused_taken}
 use Rattle.rbc_lemmas.proofs.Puts.{put_here, put_other}
 use Rattle.rbc_flow.specs.Sound.{IsCentreSound}
 use Rattle.rbc_sound.proofs.Sends.{Sound, leaves, none_sent, one_sent, rest_sound, then_sound, if_sound, if_reply, or_reply}

@@ -5,13 +5,13 @@ use Rattle.std.proofs.lemmas.Option.{same_Some}
 use Rattle.std.proofs.lemmas.Bool.{and_parts, or_cases}
 use Rattle.rbc_ledger.specs.Sums.{one_if}
 use Rattle.rbc_spec.specs.Maps.{put}
-use Rattle.rbc_spec.specs.Runs.{Run, within, is_empty}
+use Rattle.rbc_spec.specs.SectionRuns.{SectionRun, within, is_empty}
 use Rattle.rbc_spec.specs.Line.{Line, IsLine, is_centre, is_home, next_centre, registrar, train_number}
 use Rattle.rbc_spec.specs.Place.{Place}
 use Rattle.rbc_spec.specs.Frame.{Cancel, ReturnRight, yielded_place}
 use Rattle.rbc_spec.specs.Centre.{Centre, Out, Mission, Handing, is_up, is_taken_for, is_registrar_of}
 use Rattle.rbc_spec.specs.Acts.{Act, become, rest, ◌>>◌, where_so, send, booked, leave, set_mission, change_mission, cancel, return_right, close, part_at, end_order, yield, is_of_two, yield_if_due}
-use Rattle.rbc_alone.specs.Alone.{hand_has}
+use Rattle.rbc_local.specs.Local.{hand_has}
 use Rattle.rbc_lemmas.proofs.Runs.{each_within}
 use Rattle.rbc_flow.specs.Counts.{wait_has}
 use Rattle.rbc_flow.specs.Sound.{IsMissionAt, IsCentreSound, IsYieldSound}
@@ -108,7 +108,7 @@ module _ (line : Line) (ok : IsLine line) (c : ℕ) where
     -- ## Leave
 
     -- the whole hand leaves, and the mission closes
-    pub whole_leaves : (m : Mission) (track : ℕ) (r : Run) → ((s : ℕ) → is_home line c s ≡ true → within r s ≡ within n.hand s) → ToCentre m
+    pub whole_leaves : (m : Mission) (track : ℕ) (r : SectionRun) → ((s : ℕ) → is_home line c s ≡ true → within r s ≡ within n.hand s) → ToCentre m
         → Sound line c ((leave line c t track r >> close line c t m) k)
     unfolding ◌>>◌
     whole_leaves m track r same to = leaves line c
@@ -118,7 +118,7 @@ module _ (line : Line) (ok : IsLine line) (c : ℕ) where
         (close_sent t m _ to (old.mission_known t n at).0))
 
     -- a part of the hand leaves
-    pub part_held : (p : Mission) (track : ℕ) (r : Run) → ((s : ℕ) → is_home line c s ≡ true → within r s ≡ true → within n.hand s ≡ true)
+    pub part_held : (p : Mission) (track : ℕ) (r : SectionRun) → ((s : ℕ) → is_home line c s ≡ true → within r s ≡ true → within n.hand s ≡ true)
         → ((s : ℕ) → is_home line c s ≡ true → within p.hand s ≡ (within n.hand s && not (within r s))) → IsMissionAt line c k p
         → IsCentreSound line c ((leave line c t track r >> set_mission t (Some p)) k).state
     unfolding ◌>>◌
@@ -131,7 +131,7 @@ module _ (line : Line) (ok : IsLine line) (c : ℕ) where
         ))
         (λ q is. (subst (IsMissionAt line c k) (same_Some p q is) sound, old.mission_known t n at))
 
-    pub part_leaves : (p : Mission) (track : ℕ) (r : Run) → ((s : ℕ) → is_home line c s ≡ true → within r s ≡ true → within n.hand s ≡ true)
+    pub part_leaves : (p : Mission) (track : ℕ) (r : SectionRun) → ((s : ℕ) → is_home line c s ≡ true → within r s ≡ true → within n.hand s ≡ true)
         → ((s : ℕ) → is_home line c s ≡ true → within p.hand s ≡ (within n.hand s && not (within r s))) → IsMissionAt line c k p
         → Sound line c ((leave line c t track r >> set_mission t (Some p)) k)
     unfolding ◌>>◌
@@ -139,7 +139,7 @@ module _ (line : Line) (ok : IsLine line) (c : ℕ) where
         (then_sent line c _ (λ d. []) (then_sent line c (λ d. []) _ (none_sent line c) (returned_sent line c ok t track r k)) (none_sent line c))
 
     -- and another act follows
-    pub part_then : (p : Mission) (track : ℕ) (r : Run) (act : Act) → ((s : ℕ) → is_home line c s ≡ true → within r s ≡ true → within n.hand s ≡ true)
+    pub part_then : (p : Mission) (track : ℕ) (r : SectionRun) (act : Act) → ((s : ℕ) → is_home line c s ≡ true → within r s ≡ true → within n.hand s ≡ true)
         → ((s : ℕ) → is_home line c s ≡ true → within p.hand s ≡ (within n.hand s && not (within r s))) → IsMissionAt line c k p
         → ((j : Centre) → IsCentreSound line c j → j.mission t ≡ Some p → k.announced ≤ j.announced → Sound line c (act j))
         → Sound line c ((leave line c t track r >> (set_mission t (Some p) >> act)) k)

@@ -3,14 +3,14 @@ use Rattle.std.proofs.Common.{◌≡◌, ℕ, ◌*◌, ◌≤◌, ◌==◌, ◌&
 use Rattle.std.specs.Option.{option_map_or}
 use Rattle.std.proofs.lemmas.Bool.{and_parts}
 use Rattle.rbc_spec.specs.Maps.{has}
-use Rattle.rbc_spec.specs.Runs.{Run, within, all_of}
+use Rattle.rbc_spec.specs.SectionRuns.{SectionRun, within, all_of}
 use Rattle.rbc_spec.specs.Line.{Line, Section, section, section_of_group}
 use Rattle.rbc_spec.specs.Sections.{is_on}
 use Rattle.rbc_spec.specs.Place.{Place, Position, extent, has_place, place_behind, group_start, covered, is_fit, fit_place}
-use Rattle.rbc_alone.specs.Alone.{IsOrdered}
+use Rattle.rbc_local.specs.Local.{IsOrdered}
 use Rattle.rbc_lemmas.proofs.Lines.{one_track}
 use Rattle.rbc_lemmas.proofs.Runs.{each_within}
-use Rattle.rbc_alone.proofs.Fits.{fit_parts, begun_alone}
+use Rattle.rbc_local.proofs.Fits.{fit_parts, begun_local}
 use Rattle.rbc_laws.proofs.Places.{extent_ahead}
 use Rattle.rbc_lemmas.proofs.Runs.{within_from}
 use Rattle.rbc_flow.specs.Sound.{IsHandAt}
@@ -51,7 +51,7 @@ pub reported : (line : Line) (p : Position) (place : Place) → extent line p �
 reported line p place is = record { group = has_group line p place is; front = extent_ahead line p place is }
 
 -- a hand at another place on its track
-pub moved : (line : Line) (old place : Place) (hand : Run) → IsHandAt line old hand → place.track ≡ old.track → IsReported line place → IsHandAt line place hand
+pub moved : (line : Line) (old place : Place) (hand : SectionRun) → IsHandAt line old hand → place.track ≡ old.track → IsReported line place → IsHandAt line place hand
 moved line old place hand is same at = record {
   some = is.some;
   few = is.few;
@@ -77,11 +77,11 @@ fit_is line is_valid p place is = by_extent (extent line p) refl is
 -- the sections that it covers are a hand there
 pub fit_hand : (line : Line) → IsOrdered line → (place : Place) → is_fit line place ≡ true → IsReported line place → IsHandAt line place (covered line place)
 fit_hand line ordered place fit at =
-    let alone = begun_alone line ordered place (fit_parts line place fit) in
-    record { some = alone.some; few = alone.few; on_track = alone.on_track; group = at.group; front = at.front }
+    let local = begun_local line ordered place (fit_parts line place fit) in
+    record { some = local.some; few = local.few; on_track = local.on_track; group = at.group; front = at.front }
 
 -- where a hand has them all, the place is on its track
-pub same_track : (line : Line) (old place : Place) (hand : Run) → IsHandAt line old hand → IsHandAt line place (covered line place) → all_of (within hand) (covered line place) ≡ true
+pub same_track : (line : Line) (old place : Place) (hand : SectionRun) → IsHandAt line old hand → IsHandAt line place (covered line place) → all_of (within hand) (covered line place) ≡ true
     → place.track ≡ old.track
 same_track line old place hand is at all =
     let s : ℕ = (covered line place).first in

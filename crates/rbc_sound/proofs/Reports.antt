@@ -3,7 +3,7 @@ use Rattle.std.proofs.Common.{◌≡◌, ◌≢◌, ℕ, ◌+◌, ◌*◌, ◌�
 use Rattle.std.specs.Option.{option_map_or}
 use Rattle.std.proofs.lemmas.Bool.{and_parts, cases_eq, cases_Bool, cond-true, eqb-false, both_ways}
 use Rattle.std.proofs.lemmas.List.Elements.{All-nil, All-cons}
-use Rattle.rbc_spec.specs.Runs.{Run, no_run, within, behind, is_empty, part_before, part_from, joined}
+use Rattle.rbc_spec.specs.SectionRuns.{SectionRun, no_run, within, behind, is_empty, part_before, part_from, joined}
 use Rattle.rbc_spec.specs.Line.{Line, IsLine, is_centre, is_home, end, next_centre}
 use Rattle.rbc_spec.specs.Sections.{is_on}
 use Rattle.rbc_spec.specs.Place.{Place, Position, is_cleared, place_on}
@@ -13,8 +13,8 @@ use Rattle.rbc_spec.specs.Acts.{Act, rest, ◌>>◌, with_mission, send, leave, 
 use Rattle.rbc_spec.specs.Rules.{cleared, clear, report_here, report, take_over, end_mission, cut, granted, answer_granted}
 use Rattle.rbc_lemmas.proofs.Longest.{longest_few}
 use Rattle.rbc_lemmas.proofs.Runs.{within_true, within_from, same_tests}
-use Rattle.rbc_alone.proofs.Hands.{within_rest, within_kept}
-use Rattle.rbc_alone.proofs.Missions.{none_within}
+use Rattle.rbc_local.proofs.Hands.{within_rest, within_kept}
+use Rattle.rbc_local.proofs.Missions.{none_within}
 use Rattle.rbc_lemmas.proofs.Runs.{within_none, within_joined, joined_empty}
 use Rattle.rbc_laws.proofs.Places.{placed_on}
 use Rattle.rbc_flow.specs.Sound.{IsMissionAt, IsCentreSound, IsBodySound}
@@ -25,7 +25,7 @@ use Rattle.rbc_sound.proofs.Places.{IsReported, reported}
 use Rattle.rbc_sound.proofs.Leaving.{to_centre, whole_leaves, part_leaves, part_then, yielded_if_due}
 
 -- a run and one behind it, which does not have the section
-joined_without : (a b : Run) (s : ℕ) → (a.count ≢ 0 → is_empty b ≡ false → b.first ≡ behind a) → within b s ≡ false → within (joined a b) s ≡ within a s
+joined_without : (a b : SectionRun) (s : ℕ) → (a.count ≢ 0 → is_empty b ≡ false → b.first ≡ behind a) → within b s ≡ false → within (joined a b) s ≡ within a s
 joined_without a b s follows none = ⊎_elim
     (λ (empty : a.count ≡ 0). ap (λ r. within r s) (cond-true (is_empty a) b (record { first = a.first; count = a.count + b.count }) (eq-eqb a.count 0 empty)) ∙ none ∙ sym (within_none a s empty))
     (λ (some : a.count ≢ 0). ⊎_elim (λ (empty : is_empty b ≡ true). joined_empty a b s empty)
@@ -42,15 +42,15 @@ not_away true home is out = absurd (both_ways home (out refl) is)
 not_away false home is out = refl
 
 -- behind a cut, the tail of the hand is followed as the hand is
-tail_behind : (n : ℕ) (hand : Run) → (part_from n hand).count ≢ 0 → behind (part_from n hand) ≡ behind hand
+tail_behind : (n : ℕ) (hand : SectionRun) → (part_from n hand).count ≢ 0 → behind (part_from n hand) ≡ behind hand
 tail_behind n hand some = omega (arith, some)
 
-whole_tail : (n : ℕ) (hand : Run) (s : ℕ) → (part_from n hand).count ≡ hand.count → within (part_from n hand) s ≡ within hand s
+whole_tail : (n : ℕ) (hand : SectionRun) (s : ℕ) → (part_from n hand).count ≡ hand.count → within (part_from n hand) s ≡ within hand s
 whole_tail n hand s all = same_tests _ _
     (λ is. let at = within_true (part_from n hand) s is in within_from hand s (omega (arith, at)) (omega (arith, at)))
     (λ is. let at = within_true hand s is in within_from (part_from n hand) s (omega (arith, at, all)) (omega (arith, at, all)))
 
-tail_part : (n : ℕ) (hand : Run) (s : ℕ) → within (part_from n hand) s ≡ true → within hand s ≡ true
+tail_part : (n : ℕ) (hand : SectionRun) (s : ℕ) → within (part_from n hand) s ≡ true → within hand s ≡ true
 tail_part n hand s is = let at = within_true (part_from n hand) s is in within_from hand s (omega (arith, at)) (omega (arith, at))
 
 module _ (line : Line) (ok : IsLine line) (c : ℕ) where
@@ -76,7 +76,7 @@ module _ (line : Line) (ok : IsLine line) (c : ℕ) where
       → Sound line c (clear line c t m place k)
   clear_sound t m place k old at same there =
       let is = old.mission t m at in
-      let r : Run = cleared line place m in
+      let r : SectionRun = cleared line place m in
       let few = longest_few (is_cleared line place) m.hand.first m.hand.count in
       if_sound line c (r.count == m.hand.count) _ _ k
       (λ all. whole_leaves line ok c k old t m at m m.place.track (joined m.hand m.pool)
@@ -176,10 +176,10 @@ module _ (line : Line) (ok : IsLine line) (c : ℕ) where
   cut_sound : (t last_kept : ℕ) (m n : Mission) (k : Centre) → IsCentreSound line c k → k.mission t ≡ Some n → n.hand ≡ m.hand → IsMissionAt line c k m
       → Sound line c (cut line c t last_kept m k)
   cut_sound t last_kept m n k old at same is =
-      let tail : Run = part_from (last_kept + 1) m.hand in
+      let tail : SectionRun = part_from (last_kept + 1) m.hand in
       let kept : Mission = record m { hand = part_before (last_kept + 1) m.hand; pool = no_run; proposal = None } in
       let cancels : Act = option_map_or (λ h. if is_empty (part_at line h.to m.place.track kept.hand) then cancel t kept else rest) m.handing rest in
-      let r : Run = joined tail m.pool in
+      let r : SectionRun = joined tail m.pool in
       let same_hand : (s : ℕ) → within m.hand s ≡ within n.hand s = λ s. ap (λ h. within h s) (sym same) in
       let r_is : (s : ℕ) → is_home line c s ≡ true → within r s ≡ within tail s
       = λ s home. joined_without tail m.pool s (λ some more. is.pool_follows more ∙ sym (tail_behind (last_kept + 1) m.hand some)) (not_away (within m.pool s) (is_home line c s) home (is.pool_away s)) in

@@ -6,7 +6,7 @@ use Rattle.std.proofs.lemmas.Bool.{and_parts, or_cases, both_ways}
 use Rattle.std.proofs.lemmas.List.Elements.{All-head, All-tail}
 use Rattle.rbc_ledger.specs.Sums.{one_if}
 use Rattle.rbc_spec.specs.Reach.{Reach, lends_routes, hands_over}
-use Rattle.rbc_spec.specs.Runs.{Run, most_in_hand, within, behind, is_empty, part_from, joined}
+use Rattle.rbc_spec.specs.SectionRuns.{SectionRun, most_in_hand, within, behind, is_empty, part_from, joined}
 use Rattle.rbc_spec.specs.Line.{Line, Section, IsLine, section, is_centre, is_home, next_centre}
 use Rattle.rbc_spec.specs.Sections.{is_on}
 use Rattle.rbc_spec.specs.Place.{Place, Position, place_on}
@@ -15,7 +15,7 @@ use Rattle.rbc_spec.specs.Centre.{Centre, Entry, Shut, Open, Out, Taken, Mission
 use Rattle.rbc_spec.specs.Acts.{Act, rest, ◌>>◌, say, booked, set_mission, change_mission, part_at, announce, ask_route}
 use Rattle.rbc_spec.specs.Rules.{may_follow, extension, extended_by, authority, announce_if_due, ask_route_if_due, at_border, grant, request}
 use Rattle.rbc_spec.proofs.Places.{section_on}
-use Rattle.rbc_alone.specs.Alone.{hand_has}
+use Rattle.rbc_local.specs.Local.{hand_has}
 use Rattle.rbc_lemmas.proofs.Runs.{within_joined, within_true, within_from, joined_is}
 use Rattle.rbc_lemmas.proofs.Longest.{longest_few, longest_each}
 use Rattle.rbc_laws.proofs.Places.{placed_on}
@@ -57,7 +57,7 @@ module _ (line : Line) (ok : IsLine line) (c : ℕ) where
   -- ## At a border
 
   -- the track of a hand is one of the line
-  track_below : (place : Place) (hand : Run) → IsHandAt line place hand → nat_lt place.track (length line.tracks) ≡ true
+  track_below : (place : Place) (hand : SectionRun) → IsHandAt line place hand → nat_lt place.track (length line.tracks) ≡ true
   track_below place hand is =
       let p = section_on line place.track hand.first (is.on_track hand.first (within_from hand hand.first (omega arith) (omega (arith, is.some)))) in
       ap (λ x. nat_lt x (length line.tracks)) (sym p.1.on) ∙ track_of_section line ok hand.first p.0 p.1.at
@@ -99,7 +99,7 @@ module _ (line : Line) (ok : IsLine line) (c : ℕ) where
       (λ due. announce_sound t m.place.group d m k old at (some_is_none m.handing (and_parts (is_none m.handing) _ due).0) (next m at))
       (λ no. rest_sound line c k old))
       (λ none. rest_sound line c k old))
-      (λ alone. rest_sound line c k old))
+      (λ local. rest_sound line c k old))
       (λ j is sound. or_reply line c (j.mission t) _ (rest j)
       (λ m at. if_reply line c _ (ask_route t d m j) (rest j) (λ due. ask_sound t d m j sound to) (λ no. rest_sound line c j sound))
       (λ none. rest_sound line c j sound))
@@ -110,7 +110,7 @@ module _ (line : Line) (ok : IsLine line) (c : ℕ) where
     abbrev here : Mission
     here = record m { place = place }
 
-    abbrev more : Run
+    abbrev more : SectionRun
     more = extension line c k here
 
     is : IsMissionAt line c k m
@@ -132,10 +132,10 @@ module _ (line : Line) (ok : IsLine line) (c : ℕ) where
         (or_cases (is_free line c k s) (within m.pool s) free)
 
     count : (joined m.hand more).count ≡ m.hand.count + more.count
-    count = ap (λ (r : Run). r.count) (joined_is m.hand more.count is.hand.some)
+    count = ap (λ (r : SectionRun). r.count) (joined_is m.hand more.count is.hand.some)
 
     ends : behind (joined m.hand more) ≡ behind more
-    ends = ap (λ (r : Run). behind r) (joined_is m.hand more.count is.hand.some) ∙ (omega arith)
+    ends = ap (λ (r : SectionRun). behind r) (joined_is m.hand more.count is.hand.some) ∙ (omega arith)
 
     hand_is : IsHandAt line place (joined m.hand more)
     hand_is = record {
@@ -149,7 +149,7 @@ module _ (line : Line) (ok : IsLine line) (c : ℕ) where
       front = there.front;
     }
 
-    pool_is : (b : Bool) → is_empty m.pool ≡ b → let p : Run = if b then m.pool else part_from (behind more) m.pool in
+    pool_is : (b : Bool) → is_empty m.pool ≡ b → let p : SectionRun = if b then m.pool else part_from (behind more) m.pool in
         (is_empty p ≡ false → p.first ≡ behind (joined m.hand more)) × ((s : ℕ) → within p s ≡ true → is_home line c s ≡ false)
     pool_is true empty = (λ some. absurd (both_ways (is_empty m.pool) some empty), is.pool_away)
     pool_is false some = (

@@ -12,7 +12,7 @@ use Rattle.rbc_spec.specs.Centre.{Centre, Mission, is_taken_for, is_registrar_of
 use Rattle.rbc_spec.specs.Acts.{become, rest, ◌>>◌, send, begun, return_right}
 use Rattle.rbc_spec.specs.Rules.{drop_wait, reject, begin}
 use Rattle.rbc_spec.specs.Links.{right_asked, answered_ask, right_given, right_refused, right_returned}
-use Rattle.rbc_alone.specs.Alone.{hand_has}
+use Rattle.rbc_local.specs.Local.{hand_has}
 use Rattle.rbc_flow.specs.Counts.{wait_has}
 use Rattle.rbc_flow.specs.Sound.{IsMissionAt, IsCentreSound}
 use Rattle.rbc_sound.proofs.Held.{held, sound_again, held_mission, held_wait}

@@ -3,14 +3,14 @@ use Rattle.std.proofs.Common.{◌≡◌, ◌≢◌, ℕ, ◌==◌, ◌&&◌, not
 use Rattle.std.specs.Option.{option_map_or}
 use Rattle.std.proofs.lemmas.Bool.{and_parts, and_right, eqb-false, ne_eqb, false_from_ne_true}
 use Rattle.rbc_spec.specs.Maps.{has, put}
-use Rattle.rbc_spec.specs.Runs.{Run, within, behind, is_empty, part_before, part_from, all_of}
+use Rattle.rbc_spec.specs.SectionRuns.{SectionRun, within, behind, is_empty, part_before, part_from, all_of}
 use Rattle.rbc_spec.specs.Line.{Line, IsLine, is_centre, is_home, section}
 use Rattle.rbc_spec.specs.Sections.{is_on}
 use Rattle.rbc_spec.specs.Frame.{RouteInfo, RouteReturn}
 use Rattle.rbc_spec.specs.Centre.{Centre, Entry, Shut, Open, Taken, Out, Mission, is_open, is_taken_for, is_out_for, uses_some, is_expected}
 use Rattle.rbc_spec.specs.Acts.{become, rest, ◌>>◌, where_so, send, booked, freed, returned, change_mission, propose_if_so, end_order}
 use Rattle.rbc_spec.specs.Links.{is_of_line, lendable, route_asked, is_wanted, route_told, route_withdrawn, route_returned}
-use Rattle.rbc_alone.proofs.Entries.{given, taken_given}
+use Rattle.rbc_local.proofs.Entries.{given, taken_given}
 use Rattle.rbc_lemmas.proofs.Runs.{each_within}
 use Rattle.rbc_lemmas.proofs.Runs.{within_true, within_from}
 use Rattle.rbc_flow.specs.Sound.{IsMissionAt, IsCentreSound}
@@ -40,7 +40,7 @@ out_home t d u false e = refl
 module _ (line : Line) (ok : IsLine line) (c d : ℕ) (to : is_centre line d ≡ true) (apart : c ≢ d) where
   pub asked_route : (t first most : ℕ) (k : Centre) → IsCentreSound line c k → Sound line c (route_asked line c d t first most k)
   asked_route t first most k old =
-      let r : Run = lendable line c k first most in
+      let r : SectionRun = lendable line c k first most in
       if_reply line c (is_some (section line first)) _ (rest k)
       (λ there. then_sound line c (booked is_open (Out t d) r) (send d (RouteInfo t r)) k
       (leaves line c (book_sound line c k old (λ s. lent_for t d (within r s && is_open (k.book s)) (k.book s)) k.wish
@@ -51,7 +51,7 @@ module _ (line : Line) (ok : IsLine line) (c d : ℕ) (to : is_centre line d ≡
       (λ j is sound. leaves line c sound (one_sent line c d (RouteInfo t r) j to (record {}))))
       (λ none. rest_sound line c k old)
 
-  pub told_route : (t : ℕ) (r : Run) (k : Centre) → IsCentreSound line c k → Sound line c (route_told line c d t r k)
+  pub told_route : (t : ℕ) (r : SectionRun) (k : Centre) → IsCentreSound line c k → Sound line c (route_told line c d t r k)
   told_route t r k old = if_reply line c ((has (λ first. first == r.first) (k.route_ask t) && (is_of_line line r && is_home line d r.first)) && all_of (is_home line d) r) _ (rest k)
       (λ mine. then_sound line c (become (λ j. record j { route_ask = put j.route_ask t None })) _ k
       (leaves line c (free_sound line c k old (record k { route_ask = put k.route_ask t None }) refl refl refl refl (λ u is. is) (omega arith)) (none_sent line c))
@@ -88,7 +88,7 @@ module _ (line : Line) (ok : IsLine line) (c d : ℕ) (to : is_centre line d ≡
         handing_number = is.handing_number;
       }
 
-  pub returned_route : (t : ℕ) (r : Run) (k : Centre) → IsCentreSound line c k → Sound line c (route_returned line c d t r k)
+  pub returned_route : (t : ℕ) (r : SectionRun) (k : Centre) → IsCentreSound line c k → Sound line c (route_returned line c d t r k)
   returned_route t r k old =
       let back : ℕ → Bool = λ s. (within r s && is_home line c s) && is_out_for t d (k.book s) in
       then_sound line c (freed line c (is_out_for t d) r)

@@ -3,13 +3,13 @@ use Rattle.std.proofs.Common.{◌≡◌, ◌≢◌, ℕ, ◌==◌, ◌||◌, if�
 use Rattle.std.specs.Option.{option_map_or}
 use Rattle.std.proofs.lemmas.Bool.{both_ways, and_parts, cases_eq, or_right}
 use Rattle.std.proofs.lemmas.List.Elements.{All-nil, All-cons, All-append}
-use Rattle.rbc_spec.specs.Runs.{Run, shared, is_empty}
+use Rattle.rbc_spec.specs.SectionRuns.{SectionRun, shared, is_empty}
 use Rattle.rbc_spec.specs.Line.{Line, Section, IsLine, section, is_centre, is_home}
 use Rattle.rbc_spec.specs.Sections.{is_on, home_run}
 use Rattle.rbc_spec.specs.Frame.{Body, RouteReturn}
 use Rattle.rbc_spec.specs.Centre.{Centre}
 use Rattle.rbc_spec.specs.Acts.{Act, Reply, rest, ◌>>◌, send, returned}
-use Rattle.rbc_alone.proofs.Ordered.{is_ordered}
+use Rattle.rbc_local.proofs.Ordered.{is_ordered}
 use Rattle.rbc_lemmas.proofs.Runs.{within_from}
 use Rattle.rbc_flow.specs.Sound.{IsCentreSound, IsBodySound}
 use Rattle.rbc_flow.specs.Keeping.{LeavesSound}
@@ -49,7 +49,7 @@ module _ (line : Line) (c : ℕ) where
   }
 
   -- sections go home to centres of the line
-  pub returned_sent : IsLine line → (t track : ℕ) (r : Run) (k : Centre) → Sends line c (returned line c t track r k).frames
+  pub returned_sent : IsLine line → (t track : ℕ) (r : SectionRun) (k : Centre) → Sends line c (returned line c t track r k).frames
   returned_sent ok t track r k = record {
     inside = λ d out. by_none d ((d == c) || is_empty (shared r (home_run line d track))) (or_right (d == c) _ (nothing d out));
     bodies = λ d. by_empty d ((d == c) || is_empty (shared r (home_run line d track)));

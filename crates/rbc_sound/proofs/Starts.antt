@@ -6,17 +6,17 @@ use Rattle.std.proofs.lemmas.Bool.{and_parts}
 use Rattle.rbc_ledger.specs.Sums.{one_if}
 use Rattle.rbc_spec.specs.Maps.{put}
 use Rattle.rbc_spec.specs.Reach.{Reach, asks_rights}
-use Rattle.rbc_spec.specs.Runs.{within, all_of}
+use Rattle.rbc_spec.specs.SectionRuns.{within, all_of}
 use Rattle.rbc_spec.specs.Line.{Line, IsLine, is_home, next_centre, registrar}
 use Rattle.rbc_spec.specs.Place.{Place, Position, covered, fit_place}
 use Rattle.rbc_spec.specs.Frame.{AskRight}
 use Rattle.rbc_spec.specs.Centre.{Centre, Taken, Mission, is_open, is_taken_for, is_free, is_registrar_of}
 use Rattle.rbc_spec.specs.Acts.{Act, become, rest, ◌>>◌, where_so, send, booked, set_mission, change_mission, begun}
 use Rattle.rbc_spec.specs.Rules.{accept, reject, restart, start_here, start_waiting, start_elsewhere, start_new, start_mission}
-use Rattle.rbc_alone.specs.Alone.{hand_has}
-use Rattle.rbc_alone.proofs.Ordered.{is_ordered}
+use Rattle.rbc_local.specs.Local.{hand_has}
+use Rattle.rbc_local.proofs.Ordered.{is_ordered}
 use Rattle.rbc_lemmas.proofs.Runs.{each_within}
-use Rattle.rbc_alone.proofs.Missions.{none_within}
+use Rattle.rbc_local.proofs.Missions.{none_within}
 use Rattle.rbc_flow.specs.Counts.{wait_has}
 use Rattle.rbc_flow.specs.Sound.{IsHandAt, IsMissionAt, IsCentreSound}
 use Rattle.rbc_sound.proofs.Held.{Held, held, still, sound_again, held_booked, held_mission, held_wait, held_aside}
@@ -120,7 +120,7 @@ module _ (line : Line) (ok : IsLine line) (c : ℕ) (k : Centre) (old : IsCentre
             (λ i is last. leaves line c (free_sound line c i last (record i { has_asked = put i.has_asked t true }) refl refl refl refl (λ u has. has) (omega arith)) (none_sent line c))
 
     start_elsewhere_sound : (reach : Reach) → Sound line c (start_elsewhere reach line t place k)
-    start_elsewhere_sound reach = if_sound line c (asks_rights reach) (start_waiting line t place) (reject t) k (λ asks. start_waiting_sound) (λ alone. said_sound line c k old t)
+    start_elsewhere_sound reach = if_sound line c (asks_rights reach) (start_waiting line t place) (reject t) k (λ asks. start_waiting_sound) (λ local. said_sound line c k old t)
 
   pub start_sound : (reach : Reach) (is_valid : Bool) (position : Position) → IsKnown line k t → k.wait t ≡ None → Sound line c (start_mission reach line c t is_valid position k)
   start_sound reach is_valid position known no_wait = or_reply line c (fit_place line is_valid position) _ (reject t k)

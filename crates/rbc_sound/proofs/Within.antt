@@ -6,7 +6,7 @@ use Rattle.std.proofs.lemmas.Bool.{cases_eq}
 use Rattle.std.proofs.lemmas.List.Elements.{All-nil, All-cons, All-append}
 use Rattle.rbc_spec.specs.Maps.{put}
 use Rattle.rbc_spec.specs.Reach.{Reach, hands_over}
-use Rattle.rbc_spec.specs.Runs.{Run, no_run, behind, is_empty, part_before, part_from, joined, shared}
+use Rattle.rbc_spec.specs.SectionRuns.{SectionRun, no_run, behind, is_empty, part_before, part_from, joined, shared}
 use Rattle.rbc_spec.specs.Line.{Line, end, registrar}
 use Rattle.rbc_spec.specs.Sections.{home_run}
 use Rattle.rbc_spec.specs.Place.{Place, Position, covered, place_on}
@@ -70,14 +70,14 @@ module _ (reach : Reach) where
 
   -- ## Acts, on any line
 
-  pub returns : (line : Line) (c t track : ℕ) (r : Run) (k : Centre) → IsCentreWithin reach k → Goes (returned line c t track r k)
+  pub returns : (line : Line) (c t track : ℕ) (r : SectionRun) (k : Centre) → IsCentreWithin reach k → Goes (returned line c t track r k)
   returns line c t track r k old = record { centre = old; bodies = λ d. by_empty ((d == c) || is_empty (shared r (home_run line d track))) (shared r (home_run line d track)) }
     where
-      by_empty : (b : Bool) (part : Run) → All (IsBodyWithin reach) (if b then [] else RouteReturn t part ∷ [])
+      by_empty : (b : Bool) (part : SectionRun) → All (IsBodyWithin reach) (if b then [] else RouteReturn t part ∷ [])
       by_empty true part = All-nil (IsBodyWithin reach)
       by_empty false part = All-cons (IsBodyWithin reach) (RouteReturn t part) [] (λ u h is. cc) (All-nil (IsBodyWithin reach))
 
-  pub leaving : (line : Line) (c t track : ℕ) (r : Run) (k : Centre) → IsCentreWithin reach k → Goes (leave line c t track r k)
+  pub leaving : (line : Line) (c t track : ℕ) (r : SectionRun) (k : Centre) → IsCentreWithin reach k → Goes (leave line c t track r k)
   leaving line c t track r k old = then_goes (freed line c (is_taken_for t) r) (returned line c t track r) k (quiet old) (λ j is same. returns line c t track r j same)
 
   pub cancels : (t : ℕ) (m : Mission) (k : Centre) → IsCentreWithin reach k → Goes (cancel t m k)
@@ -116,7 +116,7 @@ module _ (reach : Reach) where
   -- ## Reports, ends and shortenings
 
   pub clears : (line : Line) (c t : ℕ) (m : Mission) (place : Place) (k : Centre) → IsMissionWithin reach m → IsCentreWithin reach k → Goes (clear line c t m place k)
-  clears line c t m place k fine old = let r : Run = cleared line place m in
+  clears line c t m place k fine old = let r : SectionRun = cleared line place m in
       if_goes (r.count == m.hand.count) (leave line c t m.place.track (joined m.hand m.pool) >> close line c t m)
       (leave line c t m.place.track r >> set_mission t (Some (record m { place = place; hand = part_from (behind r) m.hand }))) k
       (λ all. then_goes (leave line c t m.place.track (joined m.hand m.pool)) (close line c t m) k (leaving line c t m.place.track (joined m.hand m.pool) k old) (λ j is same. closes line c t m j same))
@@ -155,7 +155,7 @@ module _ (reach : Reach) where
 
   cuts : (line : Line) (c t last_kept : ℕ) (m : Mission) (k : Centre) → IsMissionWithin reach m → IsCentreWithin reach k → Goes (cut line c t last_kept m k)
   cuts line c t last_kept m k fine old =
-      let tail : Run = part_from (last_kept + 1) m.hand in
+      let tail : SectionRun = part_from (last_kept + 1) m.hand in
       let kept : Mission = record m { hand = part_before (last_kept + 1) m.hand; pool = no_run; proposal = None } in
       let cancelling : Act = option_map_or (λ h. if is_empty (part_at line h.to m.place.track kept.hand) then cancel t kept else rest) m.handing rest in
       then_goes (leave line c t m.place.track (joined tail m.pool)) (if tail.count == m.hand.count then close line c t m else (set_mission t (Some kept) >> cancelling)) k

@@ -5,13 +5,13 @@ use Rattle.std.specs.List.{find, range_with_len}
 use Rattle.std.proofs.lemmas.Option.{same_Some}
 use Rattle.rbc_spec.specs.Maps.{has, put}
 use Rattle.rbc_spec.specs.Reach.{Reach, asks_rights, lends_routes, hands_over, follows_rule}
-use Rattle.rbc_spec.specs.Runs.{within, is_empty, part_before, part_from, all_of}
+use Rattle.rbc_spec.specs.SectionRuns.{within, is_empty, part_before, part_from, all_of}
 use Rattle.rbc_spec.specs.Line.{Line, is_home, next_centre, registrar, section}
 use Rattle.rbc_spec.specs.Place.{Place, Position, covered, fit_place, place_on}
 use Rattle.rbc_spec.specs.Message.{TrainMessage, TrainBody, TrainData, Request, Report, ShorteningGranted, ShorteningRejected, EndOfMission, InitiationOfSession, TerminationOfSession, StartOfMission, SessionEstablished, Authority}
 use Rattle.rbc_spec.specs.Frame.{Frame, Body, AskRight, GiveRight, RefuseRight, ReturnRight, RouteAsk, RouteInfo, RouteWithdraw, RouteReturn, Announce, Cancel, TakingOver, Yield, carried_place}
 use Rattle.rbc_spec.specs.Outcome.{Reason, Done, Asked, NotHome, Taken as LinkAnswer, Next, Old, Early, NoLink}
-use Rattle.rbc_spec.specs.Centre.{Centre, beginning, Entry, Shut, Open, Taken, Out, Opened, Silent, Mission, Handing, is_open, is_unused, is_out_for, is_free, is_registrar_of, uses_some, is_expected}
+use Rattle.rbc_spec.specs.Centre.{Centre, beginning, Entry, Shut, Open, Taken, Out, Opened, Closed, Mission, Handing, is_open, is_unused, is_out_for, is_free, is_registrar_of, uses_some, is_expected}
 use Rattle.rbc_spec.specs.Acts.{Act, become, rest, ◌>>◌, where_so, with_some, send, say, hear, booked, freed, returned, set_mission, change_mission, begun, part_at, announce, ask_route, propose_if_so, yield_if_due, return_right}
 use Rattle.rbc_spec.specs.Rules.{tell, accept, reject, restart, begin, start_here, start_waiting, start_elsewhere, start_new, start_mission, extension, extended_by, authority, announce_if_due, ask_route_if_due, at_border, grant, request, drop_wait, set_phase, close_session, answered}
 use Rattle.rbc_spec.specs.Links.{is_train, is_of_line, lendable, right_asked, answered_ask, right_given, right_refused, right_returned, route_asked, is_wanted, route_told, route_withdrawn, route_returned, announced, is_under, cancelled, claimed, taking_over, may_take, take_mission, yielded, expect, received}
@@ -99,8 +99,8 @@ module _ (reach : Reach) (line : Line) (c : ℕ) where
   -- ## Messages
 
   closes_session : (t : ℕ) (k : Centre) → IsCentreWithin reach k → Goes reach (close_session line c t k)
-  closes_session t k old = then_goes reach (set_phase t Silent >> change_mission t (λ m. record m { proposal = None })) (drop_wait line c t) k
-      (then_goes reach (set_phase t Silent) (change_mission t (λ m. record m { proposal = None })) k (quiet reach old) (λ j is same. changes reach t (λ m. record m { proposal = None }) j same (λ n fine. fine)))
+  closes_session t k old = then_goes reach (set_phase t Closed >> change_mission t (λ m. record m { proposal = None })) (drop_wait line c t) k
+      (then_goes reach (set_phase t Closed) (change_mission t (λ m. record m { proposal = None })) k (quiet reach old) (λ j is same. changes reach t (λ m. record m { proposal = None }) j same (λ n fine. fine)))
       (λ j is same. drops_wait reach line c t j same)
 
   answers : (m : TrainMessage) (body : TrainBody) (k : Centre) → IsCentreWithin reach k → Goes reach (answered reach line c m body k)

@@ -14,7 +14,7 @@ use Rattle.rbc_spec.specs.Centre.{Centre, beginning}
 use Rattle.rbc_spec.specs.Step as centre
 use Rattle.rbc_spec.specs.Step.{Refusal, step, refusal, taken, numbered, frames_of, stamp_of, ticked, effect, state_after}
 use Rattle.rbc_spec.specs.World.{World, Event, Bytes, Set, Unset, Delivery, Answer, NoCentre, NotSent, new_world, frame_sent, mention, stepped, at_centre, takes, world_step, world_run}
-use Rattle.rbc_alone.proofs.Worlds.{world_of, bind_ok}
+use Rattle.rbc_local.proofs.Worlds.{world_of, bind_ok}
 use Rattle.rbc_flow.specs.Sound.{IsCentreSound, IsBodySound}
 use Rattle.rbc_flow.proofs.Begins.{centre_begins}
 use Rattle.rbc_sound.specs.Stays.{IsInRange}

@@ -1,7 +1,7 @@
 -- Steps that leave a sound centre sound.
 use Rattle.std.specs.Prelude.{ℕ, ◌≤◌}
 use Rattle.rbc_spec.specs.Reach.{Reach}
-use Rattle.rbc_spec.specs.Runs.{most_in_hand}
+use Rattle.rbc_spec.specs.SectionRuns.{most_in_hand}
 use Rattle.rbc_spec.specs.Line.{Line}
 use Rattle.rbc_spec.specs.Frame.{Body, Yield}
 use Rattle.rbc_spec.specs.Centre.{Centre}

@@ -2,7 +2,7 @@
 use Rattle.std.proofs.Common.{◌≡◌, ℕ, zero, suc, ◌+◌, ◌<◌, ◌≤◌, ◌&&◌, Bool, true, false, nat_lt, List, [], ◌∷◌, length, filter, refl, sym, ap, ◌∙◌, arith, ⊎_elim}
 use Rattle.std.specs.List.{range_with_len}
 use Rattle.std.proofs.lemmas.Bool.{cond-true, cond-false, cases_Bool, cases_lt, cases_eq, both_ways, false_from_ne_true, and_left, and_right, and_from, le-leb, lt-leb, lt-ltb, le-ltb}
-use Rattle.rbc_spec.specs.Runs.{within, run_of}
+use Rattle.rbc_spec.specs.SectionRuns.{within, run_of}
 
 -- by what a test says
 by_test : {P : Type 0} (b : Bool) → (b ≡ true → P) → (b ≡ false → P) → P

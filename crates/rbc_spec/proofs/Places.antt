@@ -4,7 +4,7 @@ use Rattle.std.specs.List.{sum_by}
 use Rattle.std.specs.Option.{option_map_or}
 use Rattle.std.proofs.lemmas.Option.{slice_get_within, slice_get_past, slice_get_cases}
 use Rattle.std.proofs.lemmas.Bool.{and_parts, and_from, and_left}
-use Rattle.rbc_spec.specs.Runs.{within}
+use Rattle.rbc_spec.specs.SectionRuns.{within}
 use Rattle.rbc_spec.specs.Line.{Line, Section, IsLine, section, is_home, start, end}
 use Rattle.rbc_spec.specs.Sections.{is_on, section_count, home_run}
 use Rattle.rbc_spec.specs.Place.{Place, covers, covered}

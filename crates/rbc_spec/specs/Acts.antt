@@ -3,7 +3,7 @@ use Rattle.std.specs.Prelude.{ℕ, ◌+◌, ◌-◌, ◌*◌, ◌==◌, Bool, tr
 use Rattle.std.specs.Option.{option_map_or}
 use Rattle.std.specs.List.{filter, list_all, range_with_len}
 use Rattle.rbc_spec.specs.Maps.{put}
-use Rattle.rbc_spec.specs.Runs.{Run, no_run, most_in_hand, within, behind, is_empty, shared}
+use Rattle.rbc_spec.specs.SectionRuns.{SectionRun, no_run, most_in_hand, within, behind, is_empty, shared}
 use Rattle.rbc_spec.specs.Line.{Line, is_home, start, registrar}
 use Rattle.rbc_spec.specs.Sections.{nid_rbc, home_run}
 use Rattle.rbc_spec.specs.Place.{Place, covered, group_start, has_room}
@@ -75,13 +75,13 @@ say t group body k =
 -- ## The book
 
 -- the sections of the run that pass a test of their entry become this
-abbrev pub booked : (Entry → Bool) → Entry → Run → Act
+abbrev pub booked : (Entry → Bool) → Entry → SectionRun → Act
 booked is_meant entry r =
     become (λ k. record k { book = λ s. if within r s && is_meant (k.book s) then entry else k.book s })
 
 -- sections of home c in use as meant are given back: each becomes open, and one that is wished back becomes shut, its wish
 -- ends, and that is told
-abbrev pub freed : Line → ℕ → (Entry → Bool) → Run → Act
+abbrev pub freed : Line → ℕ → (Entry → Bool) → SectionRun → Act
 freed line c is_meant r k =
     let is_freed : ℕ → Bool = λ s. (within r s && is_home line c s) && is_meant (k.book s) in
     record {
@@ -95,7 +95,7 @@ freed line c is_meant r k =
     }
 
 -- lent sections of the run go home: one frame for those of each home, which are consecutive
-abbrev pub returned : Line → ℕ → ℕ → ℕ → Run → Act
+abbrev pub returned : Line → ℕ → ℕ → ℕ → SectionRun → Act
 returned line c t track r k = record {
   state = k;
   frames = λ d. let part = shared r (home_run line d track) in if (d == c) || is_empty part then [] else RouteReturn t part ∷ [];
@@ -104,7 +104,7 @@ returned line c t track r k = record {
 }
 
 -- sections leave the train: those of home c are given back, and lent ones go home
-abbrev pub leave : Line → ℕ → ℕ → ℕ → Run → Act
+abbrev pub leave : Line → ℕ → ℕ → ℕ → SectionRun → Act
 leave line c t track r = freed line c (is_taken_for t) r >> returned line c t track r
 
 -- ## Missions
@@ -164,7 +164,7 @@ propose_if_so line t s = with_mission t (λ m. where_so (may_propose line t s m)
 -- ## Handing over (3.15.1)
 
 -- the sections of the hand that are of home d
-abbrev pub part_at : Line → ℕ → ℕ → Run → Run
+abbrev pub part_at : Line → ℕ → ℕ → SectionRun → SectionRun
 part_at line d track hand = shared hand (home_run line d track)
 
 -- a handover is announced where the hand has a section of the next centre and none stands: the train is told where the border is
@@ -197,7 +197,7 @@ yield line c t m h k =
     $ k
 
 -- each section of the hand is of home c or of the accepting centre
-abbrev pub is_of_two : Line → ℕ → ℕ → Run → Bool
+abbrev pub is_of_two : Line → ℕ → ℕ → SectionRun → Bool
 is_of_two line c d hand = list_all (λ s. is_home line c s || is_home line d s) (range_with_len hand.first hand.count)
 
 -- a handover that is claimed is yielded as soon as no third centre's section is in the hand

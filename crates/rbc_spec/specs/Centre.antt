@@ -2,7 +2,7 @@
 use Rattle.std.specs.Prelude.{ℕ, List, [], Bool, true, false, ◌==◌, ◌&&◌, Option, None, is_some, length}
 use Rattle.std.specs.List.{list_any, range_with_len}
 use Rattle.rbc_spec.specs.Maps.{has}
-use Rattle.rbc_spec.specs.Runs.{Run}
+use Rattle.rbc_spec.specs.SectionRuns.{SectionRun}
 use Rattle.rbc_spec.specs.Line.{Line, is_home, registrar}
 use Rattle.rbc_spec.specs.Sections.{section_count}
 use Rattle.rbc_spec.specs.Place.{Place}
@@ -18,7 +18,7 @@ pub data Entry : Type 0 where
 
 -- how far the communication session with a train has come (3.5.3)
 pub data Phase : Type 0 where
-  Silent : Phase
+  Closed : Phase
   Opened : Phase
   Up : Phase
 
@@ -37,8 +37,8 @@ pub record Handing : Type 0 where
 -- that follow the hand at once), whether train data are known and the mission is ended, and what stands
 pub record Mission : Type 0 where
   pub place : Place
-  pub hand : Run
-  pub pool : Run
+  pub hand : SectionRun
+  pub pool : SectionRun
   pub has_data : Bool
   pub is_ended : Bool
   pub proposal : Option Proposal
@@ -76,7 +76,7 @@ beginning line c = record {
   clock = 0;
   book = λ s. Shut;
   wish = λ s. false;
-  phase = λ t. Silent;
+  phase = λ t. Closed;
   heard = λ t. None;
   said = λ t. 0;
   mission = λ t. None;
@@ -93,13 +93,13 @@ beginning line c = record {
 -- ## What a state tells
 
 -- no session stands
-abbrev pub is_silent : Phase → Bool
-is_silent Silent = true
-is_silent Opened = false
-is_silent Up = false
+abbrev pub is_closed : Phase → Bool
+is_closed Closed = true
+is_closed Opened = false
+is_closed Up = false
 
 abbrev pub is_up : Phase → Bool
-is_up Silent = false
+is_up Closed = false
 is_up Opened = false
 is_up Up = true
 

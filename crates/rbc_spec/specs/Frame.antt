@@ -2,7 +2,7 @@
 -- Information come from the RBC/RBC interface (SUBSET-039); the frames and the rule of rights are the profile's.
 use Rattle.std.specs.Prelude.{ℕ, ◌+◌, ◌≤◌, Bool, true, ◌&&◌, IsTrue, Option, Some, None, ℤ, pos, negsuc, ◌-ℤ◌, int_le}
 use Rattle.std.specs.Option.{option_map_or}
-use Rattle.rbc_spec.specs.Runs.{Run, most_in_hand}
+use Rattle.rbc_spec.specs.SectionRuns.{SectionRun, most_in_hand}
 use Rattle.rbc_spec.specs.Place.{Place}
 
 -- the place that a Yield carries: the safe front end too may be any distance, also one before the start of the track
@@ -30,13 +30,13 @@ pub data Body : Type 0 where
   RefuseRight : (t : ℕ) → Body  -- it is not there to be given
   ReturnRight : (t : ℕ) → Body  -- it goes back to the registrar
   RouteAsk : (t first most : ℕ) → Body  -- sections from first on are asked for, at most so many
-  RouteInfo : (t : ℕ) (run : Run) → Body  -- these are lent
+  RouteInfo : (t : ℕ) (run : SectionRun) → Body  -- these are lent
   RouteWithdraw : (t s : ℕ) → Body  -- the interlocking wishes a lent section back
-  RouteReturn : (t : ℕ) (run : Run) → Body  -- lent sections come home
+  RouteReturn : (t : ℕ) (run : SectionRun) → Body  -- lent sections come home
   Announce : (number t track : ℕ) → Body  -- a handover is announced
   Cancel : (number t : ℕ) → Body  -- and cancelled
   TakingOver : (number t : ℕ) → Body  -- the train has reported in the accepting centre's area
-  Yield : (number t heard : ℕ) (has_data is_ended : Bool) (place : YieldedPlace) (hand : Run) → Body  -- the supervision is handed over
+  Yield : (number t heard : ℕ) (has_data is_ended : Bool) (place : YieldedPlace) (hand : SectionRun) → Body  -- the supervision is handed over
 
 pub record Frame : Type 0 where
   pub number : ℕ
@@ -54,7 +54,7 @@ abbrev pub IsHandoverNumber : ℕ → Type 0
 IsHandoverNumber number = (1 ≤ number) × (number ≤ 4294967295)
 
 -- sections below 512, at least and at most so many
-pub record HasRunRange (least most : ℕ) (run : Run) : Type 0 where
+pub record HasRunRange (least most : ℕ) (run : SectionRun) : Type 0 where
   pub first : run.first ≤ 511
   pub count : (least ≤ run.count) × (run.count ≤ most)
   pub last : run.first + run.count ≤ 512

@@ -1,6 +1,6 @@
 pub mod Maps
 pub mod Line
-pub mod Runs
+pub mod SectionRuns
 pub mod Sections
 pub mod Place
 pub mod Message

@@ -3,13 +3,13 @@
 use Rattle.std.specs.Prelude.{◌≡◌, ◌+◌, ℕ, List, [], length, Bool, true, false, ◌==◌, ◌&&◌, not, if◌then◌else◌, Option, Some, None, map, option_map}
 use Rattle.std.specs.List.{filter, list_any, range_with_len}
 use Rattle.rbc_spec.specs.Maps.{has, put, put_pair}
-use Rattle.rbc_spec.specs.Runs.{Run, within}
+use Rattle.rbc_spec.specs.SectionRuns.{SectionRun, within}
 use Rattle.rbc_spec.specs.Line.{Line, is_home}
 use Rattle.rbc_spec.specs.Sections.{section_count}
 use Rattle.rbc_spec.specs.Place.{Place, covered}
 use Rattle.rbc_spec.specs.Message.{TrainMessage, TrackBody}
 use Rattle.rbc_spec.specs.Outcome.{Saying, Word, Told}
-use Rattle.rbc_spec.specs.Centre.{Phase, Silent, Proposal}
+use Rattle.rbc_spec.specs.Centre.{Phase, Closed, Proposal}
 
 -- a section is shut, open, kept for a train that may not run into it, or given to a train in its movement authority
 pub data Mark : Type 0 where
@@ -23,9 +23,9 @@ pub data Supervisor : Type 0 where
   At : (c : ℕ) → Supervisor
   Parted : (stamp : ℕ) → Supervisor
 
--- a train under way: its last place, whether its train data are known and its mission is ended, the request to shorten that
+-- the mission of a train under way: its last place, whether its train data are known and its mission is ended, the request to shorten that
 -- stands, and who supervises it. Its hand is what the marks give it
-pub record Mission : Type 0 where
+pub record LineMission : Type 0 where
   pub place : Place
   pub has_data : Bool
   pub is_ended : Bool
@@ -41,14 +41,14 @@ pub record LineState : Type 0 where
   pub heard : ℕ → ℕ → Option ℕ
   pub said : ℕ → ℕ → ℕ
   pub wait : ℕ → ℕ → Option Place
-  pub mission : ℕ → Option Mission
+  pub mission : ℕ → Option LineMission
 
 -- at the beginning all is shut, and no train is known
 unfoldable pub line_beginning : LineState
 line_beginning = record {
   mark = λ s. Shut;
   wish = λ s. false;
-  phase = λ t c. Silent;
+  phase = λ t c. Closed;
   heard = λ t c. None;
   said = λ t c. 0;
   wait = λ t c. None;
@@ -70,7 +70,7 @@ is_mark_open Open = true
 is_mark_open m = false
 
 -- the hand of a train: the sections that are given to it, which are consecutive
-pub record IsHand (v : LineState) (t : ℕ) (hand : Run) : Type 0 where
+pub record IsHand (v : LineState) (t : ℕ) (hand : SectionRun) : Type 0 where
   pub each : (s : ℕ) → is_given_to t (v.mark s) ≡ within hand s
 
 -- the centre supervises the train
@@ -111,10 +111,10 @@ abbrev pub release : Line → ℕ → ℕ → (ℕ → Bool) → LineState → L
 release line c t is_released v =
     free (λ s. is_released s && is_home line c s) (mark_all (λ s. is_released s && not (is_home line c s)) (Kept t) v)
 
-abbrev pub set_mission : ℕ → Option Mission → LineState → LineState
+abbrev pub set_mission : ℕ → Option LineMission → LineState → LineState
 set_mission t mission v = record v { mission = put v.mission t mission }
 
-abbrev pub change_mission : ℕ → (Mission → Mission) → LineState → LineState
+abbrev pub change_mission : ℕ → (LineMission → LineMission) → LineState → LineState
 change_mission t change v = set_mission t (option_map change (v.mission t)) v
 
 -- a mission whose train has no section left in its hand is none

@@ -5,7 +5,7 @@ use Rattle.std.specs.Option.{option_map_or}
 use Rattle.std.specs.List.{find, range_with_len}
 use Rattle.rbc_spec.specs.Maps.{has, put}
 use Rattle.rbc_spec.specs.Maps.{put_pair}
-use Rattle.rbc_spec.specs.Runs.{Run, no_run, within, behind, is_empty, part_before, part_from, longest, all_of}
+use Rattle.rbc_spec.specs.SectionRuns.{SectionRun, no_run, within, behind, is_empty, part_before, part_from, longest, all_of}
 use Rattle.rbc_spec.specs.Line.{Line, is_home, is_linked, section, next_centre, train_number, section_of_group}
 use Rattle.rbc_spec.specs.Sections.{is_on, is_on_track}
 use Rattle.rbc_spec.specs.Place.{Place, group_start}
@@ -15,7 +15,7 @@ use Rattle.rbc_spec.specs.Acts.{Act, become, rest, ◌>>◌, where_so, with_some
 use Rattle.rbc_spec.specs.Rules.{choose, drop_wait, begin, reject}
 
 -- the sections of the run are of the line, all of one track
-abbrev pub is_of_line : Line → Run → Bool
+abbrev pub is_of_line : Line → SectionRun → Bool
 is_of_line line r = has (λ p. is_on_track line p.track r) (section line r.first)
 
 -- ## Rights (profile)
@@ -48,7 +48,7 @@ right_returned line c t = where_so (λ k. is_registrar_of line c t && (not (k.ha
 -- ## Route Related Information
 
 -- the longest run of released home sections from first on one track, at most so many, is lent
-abbrev pub lendable : Line → ℕ → Centre → ℕ → ℕ → Run
+abbrev pub lendable : Line → ℕ → Centre → ℕ → ℕ → SectionRun
 lendable line c k first most =
     record { first = first; count = longest (λ s. is_free line c k s && has (λ p. is_on line p.track s) (section line first)) first most }
 
@@ -58,11 +58,11 @@ route_asked line c d t first most k =
     (where_so (λ j. is_some (section line first)) (booked is_open (Out t d) r >> send d (RouteInfo t r))) k
 
 -- the lent sections follow the hand of a mission that goes on, whose pool is empty
-abbrev pub is_wanted : Line → Run → Mission → Bool
+abbrev pub is_wanted : Line → SectionRun → Mission → Bool
 is_wanted line r m = ((r.first == behind m.hand) && is_on line m.place.track r.first) && (not m.is_ended && is_empty m.pool)
 
 -- what was asked for goes into the pool, or home again
-abbrev pub route_told : Line → ℕ → ℕ → ℕ → Run → Act
+abbrev pub route_told : Line → ℕ → ℕ → ℕ → SectionRun → Act
 route_told line c d t r = where_so
     (λ k. (has (λ first. first == r.first) (k.route_ask t) && (is_of_line line r && is_home line d r.first)) && all_of (is_home line d) r)
     (become (λ k. record k { route_ask = put k.route_ask t None })
@@ -78,7 +78,7 @@ route_withdrawn line c t s = with_mission t (λ m.
     else propose_if_so line t s)
 
 -- lent sections come home and are given back; a train that is no more to come here is told to end the session
-abbrev pub route_returned : Line → ℕ → ℕ → ℕ → Run → Act
+abbrev pub route_returned : Line → ℕ → ℕ → ℕ → SectionRun → Act
 route_returned line c d t r =
     freed line c (is_out_for t d) r
     >> where_so (λ k. not (uses_some line c k t) && ((is_none (k.mission t) && is_none (k.wait t)) && not (is_expected line k t))) (end_order line c t)
@@ -112,7 +112,7 @@ may_arrive line c k d t track s =
 
 -- a handover is taken under the number that was announced, after this centre said that it takes over, where neither mission
 -- nor right are here, the hand is a run of the place's track, and the place's group is of that track and not behind its front
-abbrev pub may_take : Line → ℕ → Centre → ℕ → ℕ → ℕ → Place → Run → Bool
+abbrev pub may_take : Line → ℕ → Centre → ℕ → ℕ → ℕ → Place → SectionRun → Bool
 may_take line c k d number t place hand =
     (has (λ e. (e.number == number) && e.is_taking) (k.expects d t) && (is_none (k.mission t) && not (k.has_right t)))
     && ((is_on_track line place.track hand && has (is_on line place.track) (section_of_group line place.group))
@@ -127,7 +127,7 @@ take_mission line c d t heard m =
     >> with_some (λ k. find (λ s. is_home line c s && k.wish s) (range_with_len m.hand.first m.hand.count)) (propose_if_so line t)
 
 -- a yield with this place is taken, where it may be
-abbrev pub yielded : Line → ℕ → ℕ → ℕ → ℕ → Run → ℕ → Bool → Bool → Place → Act
+abbrev pub yielded : Line → ℕ → ℕ → ℕ → ℕ → SectionRun → ℕ → Bool → Bool → Place → Act
 yielded line c d number t hand heard has_data is_ended place = where_so (λ k. may_take line c k d number t place hand)
     (take_mission line c d t heard (record { place = place; hand = hand; pool = no_run; has_data = has_data; is_ended = is_ended; proposal = None; handing = None }))
 

@@ -3,14 +3,14 @@
 use Rattle.std.specs.Prelude.{◌≡◌, ◌+◌, ◌-◌, ◌*◌, ◌≤◌, ◌⊎◌, ℕ, List, [], ◌∷◌, Bool, true, false, ◌&&◌, ◌||◌, not, if◌then◌else◌, Option, Some, None, option_map, nat_le, nat_lt, MatchBool}
 use Rattle.std.specs.Option.{option_map_or}
 use Rattle.rbc_spec.specs.Maps.{put, put_pair}
-use Rattle.rbc_spec.specs.Runs.{Run, most_in_hand, within, behind, all_of}
+use Rattle.rbc_spec.specs.SectionRuns.{SectionRun, most_in_hand, within, behind, all_of}
 use Rattle.rbc_spec.specs.Line.{Line, is_home, end}
 use Rattle.rbc_spec.specs.Sections.{is_on}
 use Rattle.rbc_spec.specs.Place.{Place, covered, is_cleared, group_start, farthest, has_room, fit_place, place_on}
 use Rattle.rbc_spec.specs.Message.{TrainMessage, TrainBody, TrainData, Request, Report, ShorteningGranted, ShorteningRejected, EndOfMission, InitiationOfSession, TerminationOfSession, StartOfMission, SessionEstablished, TrackBody, Authority, DataAcknowledged, SystemVersion, TerminationAcknowledged, TrainRejected, TrainAccepted, unknown_group}
 use Rattle.rbc_spec.specs.Outcome.{Word, Done, Asked, NotHome}
-use Rattle.rbc_spec.specs.Centre.{Phase, Silent, Opened, Up, is_registrar_of}
-use Rattle.rbc_spec.specs.LineCentre.{LineState, Mark, Shut, Open, Kept, Given, Mission, At, is_given_to, is_kept_for, is_mark_open, IsHand, is_at, supervises, is_waiting_at, is_waiting, free, told, mark_all, release, set_mission, change_mission, close_if_empty, saying_of, says, Said, nothing}
+use Rattle.rbc_spec.specs.Centre.{Phase, Closed, Opened, Up, is_registrar_of}
+use Rattle.rbc_spec.specs.LineCentre.{LineState, Mark, Shut, Open, Kept, Given, LineMission, At, is_given_to, is_kept_for, is_mark_open, IsHand, is_at, supervises, is_waiting_at, is_waiting, free, told, mark_all, release, set_mission, change_mission, close_if_empty, saying_of, says, Said, nothing}
 
 -- centre c says one message, and these words come out
 abbrev pub one_message : ℕ → ℕ → ℕ → TrackBody → List Word → LineState → Said
@@ -29,7 +29,7 @@ pub record SaysNothing (changed : LineState) (said : Said) (new : LineState) : T
 -- ## Sessions
 
 -- the train's standing request to shorten is dropped where the centre supervises it
-abbrev pub without_proposal : ℕ → Mission → Mission
+abbrev pub without_proposal : ℕ → LineMission → LineMission
 without_proposal c m = if is_at c m.supervisor then record m { proposal = None } else m
 
 -- a session ends: a standing request to shorten is dropped, and a start of mission that waits here, whose sections are freed.
@@ -49,7 +49,7 @@ with_phase t c phase v = record v { phase = put_pair v.phase t c phase }
 abbrev pub may_start : Line → LineState → ℕ → Place → Bool
 may_start line v c place = all_of (λ s. is_home line c s && is_mark_open (v.mark s)) (covered line place)
 
-abbrev pub begun_at : ℕ → Place → Mission
+abbrev pub begun_at : ℕ → Place → LineMission
 begun_at c place = record { place = place; has_data = false; is_ended = false; proposal = None; supervisor = At c }
 
 -- the place's sections are given, and a mission begins there
@@ -95,7 +95,7 @@ Starts line t c (Some place) v said new = MatchBool (supervises v c t) (Restarts
 
 -- the section may not follow in the hand at centre c: it is not on the track, or not released with home c, or would be the
 -- 33rd, or ends too far behind the group
-pub data Ends (line : Line) (v : LineState) (c : ℕ) (place : Place) (hand : Run) : Type 0 where
+pub data Ends (line : Line) (v : LineState) (c : ℕ) (place : Place) (hand : SectionRun) : Type 0 where
   off_track : is_on line place.track (behind hand) ≡ false → Ends line v c place hand
   not_free : (is_home line c (behind hand) && is_mark_open (v.mark (behind hand))) ≡ false → Ends line v c place hand
   full : hand.count ≡ most_in_hand → Ends line v c place hand
@@ -107,7 +107,7 @@ may_be_given line v c t s = (is_home line c s && is_mark_open (v.mark s)) || (is
 
 -- the hand is extended by some run that follows it at once, as far as it may go at this centre
 pub record Extends (line : Line) (v : LineState) (t c : ℕ) (place : Place) (said : Said) (new : LineState) : Type 0 where
-  pub hand : Run
+  pub hand : SectionRun
   pub count : ℕ
   pub is_hand : IsHand v t hand
   pub each : all_of (λ s. may_be_given line v c t s && is_on line place.track s) (record { first = behind hand; count = count }) ≡ true
@@ -179,7 +179,7 @@ abbrev pub Own : Line → LineState → ℕ → TrainMessage → TrainBody → S
 Own line v c m InitiationOfSession said new =
     Says m.nid_engine c unknown_group SystemVersion (told line (is_waiting_at line v m.nid_engine c) v) v (with_phase m.nid_engine c Opened (session_ends line m.nid_engine c v)) said new
 Own line v c m TerminationOfSession said new =
-    Says m.nid_engine c unknown_group TerminationAcknowledged (told line (is_waiting_at line v m.nid_engine c) v) v (with_phase m.nid_engine c Silent (session_ends line m.nid_engine c v)) said new
+    Says m.nid_engine c unknown_group TerminationAcknowledged (told line (is_waiting_at line v m.nid_engine c) v) v (with_phase m.nid_engine c Closed (session_ends line m.nid_engine c v)) said new
 Own line v c m SessionEstablished said new = SaysNothing (with_phase m.nid_engine c Up v) said new
 Own line v c m (StartOfMission is_valid position) said new = Starts line m.nid_engine c (fit_place line is_valid position) v said new
 Own line v c m (TrainData position) said new =

@@ -2,7 +2,7 @@
 use Rattle.std.specs.Prelude.{ℕ, ◌+◌, ◌*◌, ◌==◌, Bool, ◌&&◌, if◌then◌else◌, Option, Some, None, option_map, option_and_then, nat_lt, nat_le, ℤ, pos, ◌-ℤ◌, int_lt, int_le}
 use Rattle.std.specs.Option.{option_map_or}
 use Rattle.rbc_spec.specs.Maps.{has}
-use Rattle.rbc_spec.specs.Runs.{Run, most_in_hand}
+use Rattle.rbc_spec.specs.SectionRuns.{SectionRun, most_in_hand}
 use Rattle.rbc_spec.specs.Line.{Line, Section, section, section_of_group, start, end}
 use Rattle.rbc_spec.specs.Sections.{is_on, run_where, track_end}
 
@@ -73,7 +73,7 @@ covers line place s =
     && has (λ rear. int_lt rear (pos (10 * end line s))) place.rear
 
 -- the sections that the place covers
-abbrev pub covered : Line → Place → Run
+abbrev pub covered : Line → Place → SectionRun
 covered line place = run_where line (covers line place)
 
 -- the section has the safe front end in it, or at its end

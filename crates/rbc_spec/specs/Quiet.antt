@@ -4,13 +4,13 @@ use Rattle.std.specs.Prelude.{◌≡◌, ◌+◌, ◌-◌, ◌*◌, ◌≤◌, �
 use Rattle.std.specs.Option.{option_map_or}
 use Rattle.rbc_spec.specs.Maps.{put}
 use Rattle.rbc_spec.specs.Maps.{put_pair}
-use Rattle.rbc_spec.specs.Runs.{Run, within}
+use Rattle.rbc_spec.specs.SectionRuns.{SectionRun, within}
 use Rattle.rbc_spec.specs.Line.{Line, is_home, start, next_centre}
 use Rattle.rbc_spec.specs.Sections.{nid_rbc}
 use Rattle.rbc_spec.specs.Place.{Place, group_start, farthest}
 use Rattle.rbc_spec.specs.Message.{ShorteningRequest, Transition, EndSession, TrainAccepted, TrainRejected, unknown_group}
 use Rattle.rbc_spec.specs.Centre.{Up}
-use Rattle.rbc_spec.specs.LineCentre.{LineState, Open, Kept, Mission, At, Parted, is_given_to, IsHand, is_waiting_at, is_waiting, free, told, set_mission, change_mission, Said, nothing}
+use Rattle.rbc_spec.specs.LineCentre.{LineState, Open, Kept, LineMission, At, Parted, is_given_to, IsHand, is_waiting_at, is_waiting, free, told, set_mission, change_mission, Said, nothing}
 use Rattle.rbc_spec.specs.OwnSteps.{Says, SaysNothing, Tells, begins}
 
 pub data Quiet : Type 0 where
@@ -52,7 +52,7 @@ pub record Dismisses (line : Line) (v : LineState) (t c : ℕ) (said : Said) (ne
 
 -- a supervisor, who has heard the train last at this stamp, parts with it
 pub record LaysDown (v : LineState) (t c : ℕ) (said : Said) (new : LineState) : Type 0 where
-  pub mission : Mission
+  pub mission : LineMission
   pub stamp : ℕ
   pub of_train : v.mission t ≡ Some mission
   pub supervises : mission.supervisor ≡ At c
@@ -61,7 +61,7 @@ pub record LaysDown (v : LineState) (t c : ℕ) (said : Said) (new : LineState) 
 
 -- a mission that nobody supervises is taken up, with the later of both stamps
 pub record TakesUp (v : LineState) (t c : ℕ) (said : Said) (new : LineState) : Type 0 where
-  pub mission : Mission
+  pub mission : LineMission
   pub stamp : ℕ
   pub of_train : v.mission t ≡ Some mission
   pub parted : mission.supervisor ≡ Parted stamp
@@ -70,8 +70,8 @@ pub record TakesUp (v : LineState) (t c : ℕ) (said : Said) (new : LineState) :
 
 -- message 9 for a section of the hand (3.8.6), where a request to shorten may be made. The section need not be wished back
 pub record Proposes (line : Line) (v : LineState) (t c s : ℕ) (said : Said) (new : LineState) : Type 0 where
-  pub mission : Mission
-  pub hand : Run
+  pub mission : LineMission
+  pub hand : SectionRun
   pub of_train : v.mission t ≡ Some mission
   pub supervises : mission.supervisor ≡ At c
   pub is_up : v.phase t c ≡ Up
@@ -88,7 +88,7 @@ pub record Proposes (line : Line) (v : LineState) (t c s : ℕ) (said : Said) (n
 -- message 24 with packet 131 (3.15.1): the next centre of the track, and where its first section in the hand begins, which is not behind
 -- the group and has room in D_RBCTR
 pub record Orders (line : Line) (v : LineState) (t c : ℕ) (said : Said) (new : LineState) : Type 0 where
-  pub mission : Mission
+  pub mission : LineMission
   pub next : ℕ
   pub border : ℕ
   pub of_train : v.mission t ≡ Some mission
@@ -103,7 +103,7 @@ pub record Orders (line : Line) (v : LineState) (t c : ℕ) (said : Said) (new :
 
 -- message 24 with packet 42: the train is not supervised here and has no section of home c
 pub record EndsSession (line : Line) (v : LineState) (t c : ℕ) (said : Said) (new : LineState) : Type 0 where
-  pub not_here : (m : Mission) → v.mission t ≡ Some m → m.supervisor ≡ At c → ⊥
+  pub not_here : (m : LineMission) → v.mission t ≡ Some m → m.supervisor ≡ At c → ⊥
   pub is_up : v.phase t c ≡ Up
   pub none_given : (s : ℕ) → (is_home line c s && is_given_to t (v.mark s)) ≡ false
   pub says : Says t c unknown_group (EndSession line.nid_c (nid_rbc line c)) [] v v said new

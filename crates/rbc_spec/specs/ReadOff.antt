@@ -3,12 +3,12 @@ use Rattle.std.specs.Prelude.{◌≡◌, ◌⊎◌, ◌≤◌, ℕ, List, ◌++�
 use Rattle.std.specs.List.{Contains, filter_map, find, flat_map, range_with_len}
 use Rattle.std.specs.Option.{option_map_or}
 use Rattle.rbc_spec.specs.Maps.{has}
-use Rattle.rbc_spec.specs.Runs.{Run, within}
+use Rattle.rbc_spec.specs.SectionRuns.{SectionRun, within}
 use Rattle.rbc_spec.specs.Line.{Line, is_home, section}
 use Rattle.rbc_spec.specs.Place.{Place}
 use Rattle.rbc_spec.specs.Frame.{Frame, Body, Yield, yielded_place, carried_place}
 use Rattle.rbc_spec.specs.Centre as centre
-use Rattle.rbc_spec.specs.LineCentre.{LineState, Mark, Shut, Open, Kept, Given, Mission, At, Parted, IsHand, line_beginning}
+use Rattle.rbc_spec.specs.LineCentre.{LineState, Mark, Shut, Open, Kept, Given, LineMission, At, Parted, IsHand, line_beginning}
 use Rattle.rbc_spec.specs.World.{World, Event, Answer, way}
 use Rattle.rbc_spec.specs.Run as run
 
@@ -22,29 +22,29 @@ pub record IsOnTheWay (w : World) (a b : ℕ) (f : Frame) : Type 0 where
   pub on_way : Contains (way w a b) f
 
 -- what a Yield of the train carries
-pub record Carries (f : Frame) (t heard : ℕ) (has_data is_ended : Bool) (place : Place) (hand : Run) : Type 0 where
+pub record Carries (f : Frame) (t heard : ℕ) (has_data is_ended : Bool) (place : Place) (hand : SectionRun) : Type 0 where
   pub number : ℕ
   pub is_yield : f.body ≡ Yield number t heard has_data is_ended (yielded_place place) hand
 
 -- a mission that a centre has, as the line sees it
-abbrev pub seen : ℕ → centre.Mission → Mission
+abbrev pub seen : ℕ → centre.Mission → LineMission
 seen c m = record { place = m.place; has_data = m.has_data; is_ended = m.is_ended; proposal = m.proposal; supervisor = At c }
 
 -- the hand that a centre or a Yield on the way has for the train
-pub data IsHandOf (w : World) (t : ℕ) (hand : Run) : Type 0 where
+pub data IsHandOf (w : World) (t : ℕ) (hand : SectionRun) : Type 0 where
   at_centre : (c : ℕ) (m : centre.Mission) → HasMission w t c m → m.hand ≡ hand → IsHandOf w t hand
   on_the_way : (a b : ℕ) (f : Frame) (heard : ℕ) (has_data is_ended : Bool) (place : Place) → IsOnTheWay w a b f → Carries f t heard has_data is_ended place hand → IsHandOf w t hand
 
 -- the train's mission is found at a centre, or in a Yield on the way
-pub data IsMissionOf (w : World) (t : ℕ) : Mission → Type 0 where
+pub data IsMissionOf (w : World) (t : ℕ) : LineMission → Type 0 where
   supervised : (c : ℕ) (m : centre.Mission) → HasMission w t c m → IsMissionOf w t (seen c m)
-  parted : (a b : ℕ) (f : Frame) (heard : ℕ) (has_data is_ended : Bool) (place : Place) (hand : Run) → IsOnTheWay w a b f → Carries f t heard has_data is_ended place hand
+  parted : (a b : ℕ) (f : Frame) (heard : ℕ) (has_data is_ended : Bool) (place : Place) (hand : SectionRun) → IsOnTheWay w a b f → Carries f t heard has_data is_ended place hand
       → IsMissionOf w t (record { place = place; has_data = has_data; is_ended = is_ended; proposal = None; supervisor = Parted heard })
 
 -- a mission, and its hand
 pub record Held : Type 0 where
-  pub mission : Mission
-  pub hand : Run
+  pub mission : LineMission
+  pub hand : SectionRun
 
 abbrev pub held_at : World → ℕ → ℕ → Option Held
 held_at w t c = option_map (λ m. record { mission = seen c m; hand = m.hand }) ((w.at c).mission t)
@@ -73,7 +73,7 @@ all_held line w t = filter_map (held_at w t) (centres_of line) ++ filter_map (λ
 
 -- the section is in a hand of the train
 pub record IsGiven (w : World) (t s : ℕ) : Type 0 where
-  pub hand : Run
+  pub hand : SectionRun
   pub of_train : IsHandOf w t hand
   pub in_hand : within hand s ≡ true
 
@@ -97,11 +97,11 @@ pub record StandsFor (line : Line) (w : World) (v : LineState) : Type 0 where
   pub wait : (t c : ℕ) → v.wait t c ≡ (w.at c).wait t
   pub wish : (s c : ℕ) → is_home line c s ≡ true → v.wish s ≡ (w.at c).wish s
   pub mark : (s c : ℕ) → is_home line c s ≡ true → HasMark w s c (v.mark s)
-  pub mission : (t : ℕ) (m : Mission) → v.mission t ≡ Some m → IsMissionOf w t m
-  pub each_mission : (t : ℕ) (m : Mission) → IsMissionOf w t m → v.mission t ≡ Some m
+  pub mission : (t : ℕ) (m : LineMission) → v.mission t ≡ Some m → IsMissionOf w t m
+  pub each_mission : (t : ℕ) (m : LineMission) → IsMissionOf w t m → v.mission t ≡ Some m
   pub one_hand : (t u s : ℕ) → IsGiven w t s → IsGiven w u s → t ≡ u
   pub one_seat : (t : ℕ) → length (all_held line w t) ≤ 1
-  pub hands : (t : ℕ) (hand : Run) → IsHandOf w t hand → IsHand v t hand
+  pub hands : (t : ℕ) (hand : SectionRun) → IsHandOf w t hand → IsHand v t hand
 
 -- ## The read-off as a function
 -- For a world that some state stands for, it is that state on the line's sections, trains and centres.

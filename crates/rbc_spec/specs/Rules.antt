@@ -3,14 +3,14 @@ use Rattle.std.specs.Prelude.{ℕ, ◌+◌, ◌-◌, ◌*◌, ◌==◌, Bool, tr
 use Rattle.std.specs.Option.{option_map_or}
 use Rattle.rbc_spec.specs.Maps.{has, put}
 use Rattle.rbc_spec.specs.Reach.{Reach, asks_rights, lends_routes, hands_over}
-use Rattle.rbc_spec.specs.Runs.{Run, no_run, most_in_hand, within, behind, is_empty, part_before, part_from, joined, longest, passing, all_of}
+use Rattle.rbc_spec.specs.SectionRuns.{SectionRun, no_run, most_in_hand, within, behind, is_empty, part_before, part_from, joined, longest, passing, all_of}
 use Rattle.rbc_spec.specs.Line.{Line, is_centre, is_home, end, next_centre, registrar}
 use Rattle.rbc_spec.specs.Sections.{is_on}
 use Rattle.rbc_spec.specs.Place.{Place, Position, covered, is_cleared, group_start, has_room, place_on, fit_place}
 use Rattle.rbc_spec.specs.Message.{TrainMessage, TrainBody, TrainData, Request, Report, ShorteningGranted, ShorteningRejected, EndOfMission, InitiationOfSession, TerminationOfSession, StartOfMission, SessionEstablished, Authority, DataAcknowledged, SystemVersion, TerminationAcknowledged, TrainRejected, TrainAccepted, unknown_group}
 use Rattle.rbc_spec.specs.Frame.{AskRight, TakingOver}
 use Rattle.rbc_spec.specs.Outcome.{Word}
-use Rattle.rbc_spec.specs.Centre.{Centre, Taken, Phase, Silent, Opened, Up, Mission, Proposal, Expectation, is_open, is_taken_for, is_free, is_registrar_of}
+use Rattle.rbc_spec.specs.Centre.{Centre, Taken, Phase, Closed, Opened, Up, Mission, Proposal, Expectation, is_open, is_taken_for, is_free, is_registrar_of}
 use Rattle.rbc_spec.specs.Acts.{Act, become, rest, ◌>>◌, where_so, with_some, with_mission, send, say, booked, freed, leave, set_mission, change_mission, return_pool, cancel, close, begun, part_at, announce, ask_route, yield_if_due}
 
 -- a word to the interlocking
@@ -34,7 +34,7 @@ set_phase t phase = become (λ k. record k { phase = put k.phase t phase })
 -- a session that stands is closed: with it go a standing request to shorten and a start of mission that waits
 abbrev pub close_session : Line → ℕ → ℕ → Act
 close_session line c t =
-    (set_phase t Silent >> change_mission t (λ m. record m { proposal = None })) >> drop_wait line c t
+    (set_phase t Closed >> change_mission t (λ m. record m { proposal = None })) >> drop_wait line c t
 
 -- ## Start of mission (5.4)
 
@@ -97,11 +97,11 @@ may_follow line c k m s =
     (is_on line m.place.track s && (is_free line c k s || within m.pool s)) && has_room line m.place (end line s)
 
 -- the sections by which the hand is extended: as many as may follow, and as the hand has room for
-abbrev pub extension : Line → ℕ → Centre → Mission → Run
+abbrev pub extension : Line → ℕ → Centre → Mission → SectionRun
 extension line c k m = record { first = behind m.hand; count = longest (may_follow line c k m) (behind m.hand) (most_in_hand - m.hand.count) }
 
 -- the mission with a longer hand, and what is left of its pool
-abbrev pub extended_by : Run → Mission → Mission
+abbrev pub extended_by : SectionRun → Mission → Mission
 extended_by r m = record m { hand = joined m.hand r; pool = if is_empty m.pool then m.pool else part_from (behind r) m.pool }
 
 -- a handover to centre d is announced where none stands and the hand has a section of home d
@@ -133,7 +133,7 @@ request reach line c t position = with_mission t (λ m.
 -- ## Report (3.6.5)
 
 -- the first sections of the hand that the train has cleared
-abbrev pub cleared : Line → Place → Mission → Run
+abbrev pub cleared : Line → Place → Mission → SectionRun
 cleared line place m = record { first = m.hand.first; count = passing (is_cleared line place) m.hand }
 
 -- the place is set and what was cleared leaves the hand; a hand that became empty closes the mission

@@ -8,8 +8,8 @@ use Rattle.rbc_spec.specs.Sections.{section_count}
 use Rattle.rbc_spec.specs.Place.{Position, extent, has_front, has_room, place_on}
 use Rattle.rbc_spec.specs.Message.{TrainMessage, TrainBody, Request, Report, ShorteningGranted, ShorteningRejected, StartOfMission, SessionEstablished, is_stale}
 use Rattle.rbc_spec.specs.Outcome.{Outcome, Word, Told, Reason, StaleStamp, NoSession, ForeignEngine, NoPlace, NotSupervised, NoTrainData, ProposalPending, Unasked, MissionEnded, WrongPhase, reasons_of}
-use Rattle.rbc_spec.specs.Centre.{is_up, is_silent}
-use Rattle.rbc_spec.specs.LineCentre.{LineState, Mission, is_at, is_given_to, hears, Said, nothing}
+use Rattle.rbc_spec.specs.Centre.{is_up, is_closed}
+use Rattle.rbc_spec.specs.LineCentre.{LineState, LineMission, is_at, is_given_to, hears, Said, nothing}
 use Rattle.rbc_spec.specs.OwnSteps.{Own, Sets, Unsets}
 use Rattle.rbc_spec.specs.Quiet.{Quiet, is_of_centre, TakesAll, both}
 use Rattle.rbc_spec.specs.World.{Event, Bytes, Set, Unset, Delivery, centre_of, Answer, Answered, NoCentre, NotSent, Fault}
@@ -17,7 +17,7 @@ use Rattle.rbc_spec.specs.World.{Event, Bytes, Set, Unset, Delivery, centre_of, 
 -- ## Reasons of silence, read from the line's state
 
 -- centre c supervises the train, and its mission passes the test
-abbrev pub has_here : LineState → ℕ → ℕ → (Mission → Bool) → Bool
+abbrev pub has_here : LineState → ℕ → ℕ → (LineMission → Bool) → Bool
 has_here v c t test = has (λ m. is_at c m.supervisor && test m) (v.mission t)
 
 -- the front of the report's place is in a section of home c
@@ -30,20 +30,20 @@ abbrev pub last_of_hand : Line → LineState → ℕ → Option ℕ
 last_of_hand line v t = find (λ s. is_given_to t (v.mark s) && not (is_given_to t (v.mark (s + 1)))) (range_with_len 0 (section_count line))
 
 -- the report has a place on the mission's track, not past the hand's end, which has room in L_ENDSECTION
-abbrev pub may_request_at : Line → LineState → ℕ → Mission → Position → Bool
+abbrev pub may_request_at : Line → LineState → ℕ → LineMission → Position → Bool
 may_request_at line v t m position = option_map_or
     (λ place. has (λ s. nat_le place.front (10 * end line s) && has_room line place (end line s)) (last_of_hand line v t))
     (place_on line m.place.track position) false
 
 -- the answer names the request that stands
-abbrev pub answers_it : ℕ → Mission → Bool
+abbrev pub answers_it : ℕ → LineMission → Bool
 answers_it stamp m = has (λ p. p.stamp == stamp) m.proposal
 
 -- the reason holds of a message at centre c. A report elsewhere may have it that the train is not supervised here, and has it
 -- where its front is in no section of home c (Silenced)
 abbrev pub holds : Line → LineState → ℕ → TrainMessage → TrainBody → Reason → Bool
 holds line v c m body StaleStamp = is_stale m.t_train (v.heard m.nid_engine c)
-holds line v c m body NoSession = is_silent (v.phase m.nid_engine c)
+holds line v c m body NoSession = is_closed (v.phase m.nid_engine c)
 holds line v c m body ForeignEngine = is_none (train_number line m.nid_engine)
 holds line v c m SessionEstablished WrongPhase = is_up (v.phase m.nid_engine c)
 holds line v c m (StartOfMission is_valid position) WrongPhase = not (is_up (v.phase m.nid_engine c)) || is_some (v.wait m.nid_engine c)

@@ -4,7 +4,7 @@ use Rattle.std.specs.List.{list_all, filter, sum_by, range_with_len}
 use Rattle.std.specs.Option.{option_map_or}
 use Rattle.rbc_spec.specs.Maps.{has}
 use Rattle.rbc_spec.specs.Line.{Line, section, is_home}
-use Rattle.rbc_spec.specs.Runs.{Run, run_of}
+use Rattle.rbc_spec.specs.SectionRuns.{SectionRun, run_of}
 
 -- NID_RBC of a centre of the line
 abbrev pub nid_rbc : Line → ℕ → ℕ
@@ -19,15 +19,15 @@ abbrev pub is_on : Line → ℕ → ℕ → Bool
 is_on line track s = has (λ p. p.track == track) (section line s)
 
 -- the sections of the line that pass a test, as a run: the first, and how many they are
-abbrev pub run_where : Line → (ℕ → Bool) → Run
+abbrev pub run_where : Line → (ℕ → Bool) → SectionRun
 run_where line test = run_of (filter test (range_with_len 0 (section_count line)))
 
 -- the sections of one home on one track, which are consecutive
-abbrev pub home_run : Line → ℕ → ℕ → Run
+abbrev pub home_run : Line → ℕ → ℕ → SectionRun
 home_run line c track = run_where line (λ s. is_home line c s && is_on line track s)
 
 -- all sections of the run are of one track
-abbrev pub is_on_track : Line → ℕ → Run → Bool
+abbrev pub is_on_track : Line → ℕ → SectionRun → Bool
 is_on_track line track r = list_all (λ s. is_on line track s) (range_with_len r.first r.count)
 
 -- the end of a track: where its last section ends, in metres

@@ -4,14 +4,14 @@ use Rattle.std.specs.Option.{option_map_or}
 use Rattle.std.specs.List.{find, list_any, range_with_len}
 use Rattle.rbc_spec.specs.Maps.{has, put}
 use Rattle.rbc_spec.specs.Reach.{Reach, follows_rule}
-use Rattle.rbc_spec.specs.Runs.{behind}
+use Rattle.rbc_spec.specs.SectionRuns.{behind}
 use Rattle.rbc_spec.specs.Line.{Line, is_home, is_linked, end, train_number}
 use Rattle.rbc_spec.specs.Sections.{section_count}
 use Rattle.rbc_spec.specs.Place.{Position, extent, has_front, has_room, place_on}
 use Rattle.rbc_spec.specs.Message.{TrainMessage, TrainBody, Request, Report, ShorteningGranted, ShorteningRejected, StartOfMission, SessionEstablished, is_stale}
 use Rattle.rbc_spec.specs.Frame.{Frame, Body, RouteWithdraw}
 use Rattle.rbc_spec.specs.Outcome.{Reason, reasons_of, StaleStamp, NoSession, ForeignEngine, NoPlace, NotSupervised, NoTrainData, ProposalPending, Unasked, MissionEnded, WrongPhase, Outcome, Done, Asked, NotHome, Taken as LinkAnswer, Next, Old, Early, NoLink}
-use Rattle.rbc_spec.specs.Centre.{Centre, Entry, Shut, Open, Taken, Out, Mission, is_silent, is_up, is_unused, is_expected}
+use Rattle.rbc_spec.specs.Centre.{Centre, Entry, Shut, Open, Taken, Out, Mission, is_closed, is_up, is_unused, is_expected}
 use Rattle.rbc_spec.specs.Acts.{Act, Reply, become, rest, ◌>>◌, send, hear, propose_if_so}
 use Rattle.rbc_spec.specs.Rules.{tell, answered}
 use Rattle.rbc_spec.specs.Links.{received}
@@ -65,7 +65,7 @@ is_unasked mission body = false
 -- the reason holds of the message
 abbrev pub holds : Line → ℕ → Centre → TrainMessage → Reason → Bool
 holds line c k m StaleStamp = is_stale m.t_train (k.heard m.nid_engine)
-holds line c k m NoSession = is_silent (k.phase m.nid_engine)
+holds line c k m NoSession = is_closed (k.phase m.nid_engine)
 holds line c k m ForeignEngine = is_none (train_number line m.nid_engine)
 holds line c k m NoPlace = has_no_place line (k.mission m.nid_engine) m.body
 holds line c k m NotSupervised = is_unsupervised line c k m.nid_engine m.body

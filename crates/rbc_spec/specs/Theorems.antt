@@ -1,4 +1,4 @@
--- What is claimed of the centres of a line: the main theorem, and that of a line which one centre has alone.
+-- What is claimed of the centres of a line: the main theorem, and that of a one-centre line.
 use Rattle.std.specs.Prelude.{◌≡◌, ℕ, List, [], ◌∷◌, true, Option, Some, None, Ok}
 use Rattle.std.specs.List.{All}
 use Rattle.rbc_spec.specs.Line.{Line, IsLine}
@@ -30,7 +30,7 @@ EachEventTheorem reach = (line : Line) (w new : World) (events : List Event) (an
     → IsLine line → world_run reach line (new_world line) events ≡ Ok (answers, w) → world_step reach line w event ≡ Ok (answer, new)
     → Goes line (read_off line w) event answer (read_off line new) × KeepsPromises line w event answer new × IsSound line new
 
--- ## A line that one centre has alone
+-- ## A one-centre line
 
 -- c is the home of all sections, and every train's registrar
 pub record IsOneCentreLine (line : Line) (c : ℕ) : Type 0 where
@@ -45,7 +45,7 @@ IsStartAccepted line v c m (StartOfMission is_valid position) said new =
 IsStartAccepted line v c m body said new = Unit {0}
 
 -- the own step of a message leaves no choice: it is silent for its reason, also a report elsewhere, and accepts where it may
-pub record StepsAlone (line : Line) (v : LineState) (c : ℕ) (m : TrainMessage) (said : Said) (new : LineState) (why : Option Reason) : Type 0 where
+pub record ForcedMessageStep (line : Line) (v : LineState) (c : ℕ) (m : TrainMessage) (said : Said) (new : LineState) (why : Option Reason) : Type 0 where
   pub silent : why ≡ silence line v c m
   pub starts : why ≡ None → IsStartAccepted line (hears c m v) c m m.body said new
 
@@ -59,35 +59,35 @@ pub data Asks (line : Line) (v : LineState) (c s : ℕ) : List Quiet → Type 0 
   not_asked : ((t : ℕ) → MayPropose line v t c s → ⊥) → Asks line v c s []
 
 -- what follows an event's own step: message 9 behind an unset that asks for it, and no other quiet step
-abbrev pub FollowsAlone : Line → LineState → Event → List Quiet → Type 0
-FollowsAlone line mid (Unset c s) quiets = Asks line mid c s quiets
-FollowsAlone line mid event quiets = quiets ≡ []
+abbrev pub ForcedQuietSteps : Line → LineState → Event → List Quiet → Type 0
+ForcedQuietSteps line mid (Unset c s) quiets = Asks line mid c s quiets
+ForcedQuietSteps line mid event quiets = quiets ≡ []
 
-abbrev pub OwnStepAlone : Line → LineState → Event → Said → LineState → Option Reason → Type 0
-OwnStepAlone line v (Bytes c (Ok m)) said new why = StepsAlone line v c m said new why
-OwnStepAlone line v event said new why = Unit {0}
+abbrev pub ForcedOwnStep : Line → LineState → Event → Said → LineState → Option Reason → Type 0
+ForcedOwnStep line v (Bytes c (Ok m)) said new why = ForcedMessageStep line v c m said new why
+ForcedOwnStep line v event said new why = Unit {0}
 
 -- a piece without free choice
-pub record PieceAlone (line : Line) (v : LineState) (event : Event) (outcome : Outcome) (new : LineState) : Type 0 where
+pub record ForcedPiece (line : Line) (v : LineState) (event : Event) (outcome : Outcome) (new : LineState) : Type 0 where
   pub piece : Piece line v event outcome new
-  pub own_step : OwnStepAlone line v event piece.own piece.mid piece.why
-  pub quiet_steps : FollowsAlone line piece.mid event piece.quiets
+  pub own_step : ForcedOwnStep line v event piece.own piece.mid piece.why
+  pub quiet_steps : ForcedQuietSteps line piece.mid event piece.quiets
 
-abbrev pub GoesAlone : Line → LineState → Event → Answer → LineState → Type 0
-GoesAlone line v event (Answered outcome) new = PieceAlone line v event outcome new
-GoesAlone line v event answer new = Goes line v event answer new
+abbrev pub GoesForced : Line → LineState → Event → Answer → LineState → Type 0
+GoesForced line v event (Answered outcome) new = ForcedPiece line v event outcome new
+GoesForced line v event answer new = Goes line v event answer new
 
 -- the answers to the events lead from v to new without free choice
-abbrev pub RunsAlone : Line → LineState → List Event → List Answer → LineState → Type 0
-RunsAlone line v [] [] new = new ≡ v
-RunsAlone line v (event ∷ events) (answer ∷ answers) new =
-    (mid : LineState) × GoesAlone line v event answer mid × RunsAlone line mid events answers new
-RunsAlone line v events answers new = ⊥
+abbrev pub ForcedRun : Line → LineState → List Event → List Answer → LineState → Type 0
+ForcedRun line v [] [] new = new ≡ v
+ForcedRun line v (event ∷ events) (answer ∷ answers) new =
+    (mid : LineState) × GoesForced line v event answer mid × ForcedRun line mid events answers new
+ForcedRun line v events answers new = ⊥
 
 -- of a whole list of events and the answers to it
 pub record IsOneCentreRun (line : Line) (events : List Event) (answers : List Answer) (w : World) : Type 0 where
   pub last : LineState
-  pub is_run : RunsAlone line line_beginning events answers last
+  pub is_run : ForcedRun line line_beginning events answers last
   pub stands : StandsFor line w last
 
 -- Where one centre has all sections and is every train's registrar, the run leaves no choice

@@ -3,7 +3,7 @@
 ghost use Rattle.std.specs.Prelude.{◌≡◌, ℕ, ◌+◌, ◌<◌, ◌≤◌, ◌&&◌, true, false, Some, None};
 ghost use Rattle.rbc_spec.specs.Line.{Line, IsLine, is_home, start, end};
 ghost use Rattle.rbc_spec.specs.Sections.{is_on, home_run};
-ghost use Rattle.rbc_spec.specs.Runs.{within};
+ghost use Rattle.rbc_spec.specs.SectionRuns.{within};
 ghost use Rattle.rbc_spec.specs.Place.{Place, covers, covered, is_cleared};
 ghost use Rattle.rbc_spec.specs.Message.{is_stale};
 ghost use Rattle.rbc_spec.specs.Outcome.{Next, Old, Early};

@@ -4,14 +4,14 @@ use Rattle.std.specs.Option.{option_map_or}
 use Rattle.std.proofs.Common.{subst}
 use Rattle.std.proofs.lemmas.Bool.{and_parts, eqb-true}
 use Rattle.rbc_ledger.proofs.Sums.{put_same}
-use Rattle.rbc_spec.specs.Runs.{no_run, within, behind, is_empty, part_before, part_from, joined}
+use Rattle.rbc_spec.specs.SectionRuns.{no_run, within, behind, is_empty, part_before, part_from, joined}
 use Rattle.rbc_spec.specs.Line.{Line, end}
 use Rattle.rbc_spec.specs.Place.{Place, Position, place_on}
 use Rattle.rbc_spec.specs.Centre.{Centre, Mission, Handing, Proposal}
 use Rattle.rbc_spec.specs.Acts.{rest, ◌>>◌, leave, set_mission, change_mission, return_pool, cancel, close, part_at, with_mission}
 use Rattle.rbc_spec.specs.Rules.{cleared, clear, report_here, cut}
 use Rattle.rbc_spec.specs.Links.{claimed}
-use Rattle.rbc_alone.specs.Alone.{hand_has}
+use Rattle.rbc_local.specs.Local.{hand_has}
 use Rattle.rbc_lemmas.proofs.Runs.{within_true, within_behind, within_part_before, within_part_from}
 use Rattle.rbc_tokens.proofs.Tally.{Tally}
 use Rattle.rbc_tokens.proofs.Ready.{Ready, Leaves, ready_changed, ready_left, ready_cancel, ready_closed}

@@ -4,7 +4,7 @@ use Rattle.std.specs.Option.{option_map_or}
 use Rattle.std.proofs.lemmas.Bool.{and_parts, leb-true, eqb-true}
 use Rattle.rbc_spec.specs.Maps.{put}
 use Rattle.rbc_spec.specs.Reach.{Reach, lends_routes, hands_over}
-use Rattle.rbc_spec.specs.Runs.{Run, most_in_hand, within, behind, is_empty, part_from}
+use Rattle.rbc_spec.specs.SectionRuns.{SectionRun, most_in_hand, within, behind, is_empty, part_from}
 use Rattle.rbc_spec.specs.Line.{Line, is_home, start, end, next_centre}
 use Rattle.rbc_spec.specs.Sections.{is_on, nid_rbc}
 use Rattle.rbc_spec.specs.Place.{Place, Position, group_start, has_room, place_on}
@@ -76,13 +76,13 @@ module _ (line : Line) (c : ℕ) (y : Tally) (is : IsTally line c y) where
   -- ## A longer hand
 
   module _ (t : ℕ) (m : Mission) (k : Centre) where
-    abbrev r : Run
+    abbrev r : SectionRun
     r = extension line c k m
 
     abbrev e : Entry
     e = k.book y.section
 
-    abbrev pool_left : Run
+    abbrev pool_left : SectionRun
     pool_left = (extended_by r m).pool
 
     pool_less : (b : Bool) → part y (if b then m.pool else part_from (behind r) m.pool) ≤ part y m.pool
@@ -143,7 +143,7 @@ module _ (line : Line) (c : ℕ) (y : Tally) (is : IsTally line c y) where
       (fair_say line c y t m.place.group (Authority (authority line (extended_by more m))) _))
       (by_reach (lends_routes reach) (next_centre line c m.place.track) _))
     where
-      more : Run
+      more : SectionRun
       more = extension line c k m
 
       by_reach : (b : Bool) (o : Option ℕ) (j : Centre) → Makes line c y is j ((if b then option_map_or (at_border reach line c t) o rest else rest) j)

@@ -6,7 +6,7 @@ use Rattle.std.proofs.lemmas.Bool.{cases_eq, and_parts}
 use Rattle.rbc_ledger.proofs.Sums.{put_same, put_other}
 use Rattle.rbc_ledger.proofs.Resource.{sent_none}
 use Rattle.rbc_spec.specs.Maps.{put, has}
-use Rattle.rbc_spec.specs.Runs.{Run, no_run, within, is_empty, part_before, part_from, all_of}
+use Rattle.rbc_spec.specs.SectionRuns.{SectionRun, no_run, within, is_empty, part_before, part_from, all_of}
 use Rattle.rbc_spec.specs.Line.{Line, is_home, section}
 use Rattle.rbc_spec.specs.Sections.{is_on}
 use Rattle.rbc_spec.specs.Place.{Place}
@@ -86,7 +86,7 @@ module _ (line : Line) (c : ℕ) (y : Tally) (is : IsTally line c y) where
       (fair_booked line c y is_open (Out t d) (lendable line c k first most) k) (fair_send line c y d (RouteInfo t (lendable line c k first most)) _)))
       (λ so. fair_rest line c y k)
 
-  told_law : (d t : ℕ) (r : Run) (k : Centre)
+  told_law : (d t : ℕ) (r : SectionRun) (k : Centre)
       → mission_of y (put k.mission t (option_map {T = Mission} {U = Mission} (λ m. record m { pool = r }) (k.mission t)) y.train) ≤ y.res.inside d c (RouteInfo t r) + mission_of y (k.mission y.train)
   told_law d t r k = omega (
     arith,
@@ -98,11 +98,11 @@ module _ (line : Line) (c : ℕ) (y : Tally) (is : IsTally line c y) where
       by_mission None = omega arith
       by_mission (Some m) = omega arith
 
-  sent_back : (d t : ℕ) (r : Run) → y.res.inside c d (RouteReturn t r) ≤ y.res.inside d c (RouteInfo t r)
+  sent_back : (d t : ℕ) (r : SectionRun) → y.res.inside c d (RouteReturn t r) ≤ y.res.inside d c (RouteInfo t r)
   sent_back d t r = ⊎_elim (λ (here : t ≡ y.train). subst (λ v. y.res.inside c d (RouteReturn v r) ≤ y.res.inside d c (RouteInfo v r)) (sym here) (is.told_back d r))
       (λ (other : t ≢ y.train). omega (arith, is.others c d (RouteReturn t r) other)) (cases_eq t y.train)
 
-  fair_told : (d t : ℕ) (r : Run) (k : Centre) → Comes d (RouteInfo t r) k (route_told line c d t r k)
+  fair_told : (d t : ℕ) (r : SectionRun) (k : Centre) → Comes d (RouteInfo t r) k (route_told line c d t r k)
   fair_told d t r k = fair_if line c y ((has (λ first. first == r.first) (k.route_ask t) && (is_of_line line r && is_home line d r.first)) && all_of (is_home line d) r) k _ (rest k)
       (λ so. eased line c y _ 0 k _ (omega arith) (fair_then line c y (become (λ j. record j { route_ask = put j.route_ask t None })) _ k (fair_plain line c y k _ refl refl refl)
       (by_wanted (has (is_wanted line r) (k.mission t)) (is_empty r) (become (λ j. record j { route_ask = put j.route_ask t None }) k).state)))
@@ -121,7 +121,7 @@ module _ (line : Line) (c : ℕ) (y : Tally) (is : IsTally line c y) where
       by_pool m at true = pool_goes line c y is t m.place.track (part_from s m.pool) (λ n. record n { pool = part_before s n.pool }) m k at (omega (arith, cut_parts y s m.pool))
       by_pool m at false = fair_propose_if line c y is t s k
 
-  home_law : (d t : ℕ) (r : Run) (k : Centre) → y.entry (k.book y.section) ≤ y.res.inside d c (RouteReturn t r) + y.entry ((freed line c (is_out_for t d) r k).state.book y.section)
+  home_law : (d t : ℕ) (r : SectionRun) (k : Centre) → y.entry (k.book y.section) ≤ y.res.inside d c (RouteReturn t r) + y.entry ((freed line c (is_out_for t d) r k).state.book y.section)
   home_law d t r k = by_tests (within r y.section) refl (is_home line c y.section) refl (is_out_for t d (k.book y.section)) refl
     where
       by_train : (e g : Entry) → is_home line c y.section ≡ true → within r y.section ≡ true → is_out_for t d e ≡ true → y.entry e ≤ y.res.inside d c (RouteReturn t r) + y.entry g
@@ -136,7 +136,7 @@ module _ (line : Line) (c : ℕ) (y : Tally) (is : IsTally line c y) where
       by_tests true in_run true home false out = omega arith
       by_tests true in_run true home true out = by_train (k.book y.section) (if k.wish y.section then Shut else Open) home in_run out
 
-  fair_home : (d t : ℕ) (r : Run) (k : Centre) → Comes d (RouteReturn t r) k (route_returned line c d t r k)
+  fair_home : (d t : ℕ) (r : SectionRun) (k : Centre) → Comes d (RouteReturn t r) k (route_returned line c d t r k)
   fair_home d t r k = eased line c y _ 0 k _ (omega (arith, home_law d t r k))
       (fair_then line c y (freed line c (is_out_for t d) r) _ k (fair_freed line c y (is_out_for t d) r k)
       (fair_if line c y _ _ _ (rest _) (λ so. fair_end_order line c y is t _) (λ so. fair_rest line c y _)))

@@ -5,24 +5,24 @@ use Rattle.rbc_ledger.specs.Sums.{one_if}
 use Rattle.rbc_ledger.specs.Resource.{Resource, carried, sent_by}
 use Rattle.rbc_ledger.proofs.Sums.{sum_le, one_if_le}
 use Rattle.rbc_ledger.proofs.Resource.{carried_none, carried_more}
-use Rattle.rbc_spec.specs.Runs.{Run, within, shared, is_empty}
+use Rattle.rbc_spec.specs.SectionRuns.{SectionRun, within, shared, is_empty}
 use Rattle.rbc_spec.specs.Line.{Line, is_home}
 use Rattle.rbc_spec.specs.Sections.{home_run, is_on}
 use Rattle.rbc_spec.specs.Frame.{Body, RouteReturn}
 use Rattle.rbc_spec.specs.Centre.{Centre}
 use Rattle.rbc_spec.specs.Acts.{returned}
-use Rattle.rbc_alone.specs.Alone.{IsOrdered}
+use Rattle.rbc_local.specs.Local.{IsOrdered}
 use Rattle.rbc_flow.specs.Flow.{centre_count}
 use Rattle.rbc_lemmas.proofs.Puts.{itself}
 use Rattle.rbc_lemmas.proofs.Lines.{one_home}
 use Rattle.rbc_flow.proofs.Homes.{in_both, homes_once}
 
 -- of a resource of which such a frame has one inside at most, where it names section s
-module _ (line : Line) (ordered : IsOrdered line) (res : Resource Centre Body) (c t track s : ℕ) (a : Bool) (one : (e : ℕ) (q : Run) → res.inside c e (RouteReturn t q) ≤ one_if (a && within q s)) (r : Run) (k : Centre) where
+module _ (line : Line) (ordered : IsOrdered line) (res : Resource Centre Body) (c t track s : ℕ) (a : Bool) (one : (e : ℕ) (q : SectionRun) → res.inside c e (RouteReturn t q) ≤ one_if (a && within q s)) (r : SectionRun) (k : Centre) where
   one_home_goes : (e : ℕ) → carried res c e ((returned line c t track r k).frames e) ≤ one_if (((a && within r s) && not (is_home line c s)) && is_home line e s)
   one_home_goes e = by_empty (e == c) refl (is_empty part)
     where
-      part : Run
+      part : SectionRun
       part = shared r (home_run line e track)
 
       away : (b : Bool) → is_home line c s ≡ b → (e == c) ≡ false → is_home line e s ≡ true → is_home line c s ≡ false

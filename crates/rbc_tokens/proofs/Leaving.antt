@@ -4,7 +4,7 @@ use Rattle.std.specs.Option.{option_map_or}
 use Rattle.std.proofs.lemmas.Bool.{and_parts, cases_eq, ne_eqb}
 use Rattle.rbc_ledger.proofs.Sums.{put_same, put_other}
 use Rattle.rbc_spec.specs.Maps.{put}
-use Rattle.rbc_spec.specs.Runs.{Run, within, is_empty}
+use Rattle.rbc_spec.specs.SectionRuns.{SectionRun, within, is_empty}
 use Rattle.rbc_spec.specs.Line.{Line, registrar}
 use Rattle.rbc_spec.specs.Sections.{nid_rbc}
 use Rattle.rbc_spec.specs.Message.{unknown_group, EndSession}
@@ -45,7 +45,7 @@ module _ (line : Line) (c : ℕ) (y : Tally) (is : IsTally line c y) where
       (λ (here : t ≡ y.train). subst (λ v. y.res.inside a b (ReturnRight v) ≡ back y v) (sym here) (is.backs a b ∙ sym back_own))
       (λ (other : t ≢ y.train). is.others a b (ReturnRight t) other ∙ sym (back_other t other)) (cases_eq t y.train)
 
-  pub fair_returned : (t track : ℕ) (r : Run) (k : Centre) → Fair line c y k (gone y t r) 0 (returned line c t track r k)
+  pub fair_returned : (t track : ℕ) (r : SectionRun) (k : Centre) → Fair line c y k (gone y t r) 0 (returned line c t track r k)
   fair_returned t track r k = record { law = omega (arith, is.home_goes t track r k) }
 
   pub sends_plain : (d : ℕ) (body : Body) (k : Centre) → is_plain body ≡ true → Makes k (send d body k)
@@ -80,27 +80,27 @@ module _ (line : Line) (c : ℕ) (y : Tally) (is : IsTally line c y) where
 
   -- ## Sections that leave
 
-  pub fair_leave : (t track : ℕ) (r : Run) (k : Centre)
+  pub fair_leave : (t track : ℕ) (r : SectionRun) (k : Centre)
       → Fair line c y k (y.entry (k.book y.section) + gone y t r) (y.entry ((freed line c (is_taken_for t) r k).state.book y.section) + 0) (leave line c t track r k)
   fair_leave t track r k = fair_then line c y (freed line c (is_taken_for t) r) (returned line c t track r) k (fair_freed line c y (is_taken_for t) r k)
       (fair_returned t track r (freed line c (is_taken_for t) r k).state)
 
-  pub left_law : (t : ℕ) (k : Centre) (r : Run) (o : Option Mission) → mission_of y o + part y r ≤ mission_of y (k.mission t)
+  pub left_law : (t : ℕ) (k : Centre) (r : SectionRun) (o : Option Mission) → mission_of y o + part y r ≤ mission_of y (k.mission t)
       → (y.entry (k.book y.section) + gone y t r) + mission_of y (put k.mission t o y.train) ≤ y.entry ((freed line c (is_taken_for t) r k).state.book y.section) + mission_of y (k.mission y.train)
   left_law t k r o le = mission_put line c y k t o (y.entry (k.book y.section) + gone y t r) (y.entry ((freed line c (is_taken_for t) r k).state.book y.section))
       (λ here. omega (arith, le, freed_here line c y is t r k here)) (λ other. omega (arith, freed_other line c y is t r k other))
 
-  closing_law : (t : ℕ) (k : Centre) (r : Run) → y.one + part y r ≤ mission_of y (k.mission t)
+  closing_law : (t : ℕ) (k : Centre) (r : SectionRun) → y.one + part y r ≤ mission_of y (k.mission t)
       → ((y.entry (k.book y.section) + gone y t r) + back y t) + mission_of y (put k.mission t None y.train) ≤ y.entry ((freed line c (is_taken_for t) r k).state.book y.section) + mission_of y (k.mission y.train)
   closing_law t k r le = mission_put line c y k t None ((y.entry (k.book y.section) + gone y t r) + back y t) (y.entry ((freed line c (is_taken_for t) r k).state.book y.section))
       (λ here. omega (arith, le, freed_here line c y is t r k here, back_le t)) (λ other. omega (arith, freed_other line c y is t r k other, back_other t other))
 
-  pub leave_close : (t track : ℕ) (r : Run) (m : Mission) (k : Centre) → y.one + part y r ≤ mission_of y (k.mission t) → Makes k ((leave line c t track r >> close line c t m) k)
+  pub leave_close : (t track : ℕ) (r : SectionRun) (m : Mission) (k : Centre) → y.one + part y r ≤ mission_of y (k.mission t) → Makes k ((leave line c t track r >> close line c t m) k)
   unfolding ◌>>◌
   leave_close t track r m k le = eased line c y 0 0 k ((leave line c t track r >> close line c t m) k) (omega (arith, closing_law t k r le))
       (fair_then line c y (leave line c t track r) (close line c t m) k (fair_leave t track r k) (fair_close t m (leave line c t track r k).state))
 
-  pub leave_set : (t track : ℕ) (r : Run) (o : Option Mission) (k : Centre) → mission_of y o + part y r ≤ mission_of y (k.mission t) → Makes k ((leave line c t track r >> set_mission t o) k)
+  pub leave_set : (t track : ℕ) (r : SectionRun) (o : Option Mission) (k : Centre) → mission_of y o + part y r ≤ mission_of y (k.mission t) → Makes k ((leave line c t track r >> set_mission t o) k)
   unfolding ◌>>◌
   leave_set t track r o k le = eased line c y 0 0 k ((leave line c t track r >> set_mission t o) k) (omega (arith, left_law t k r o le))
       (fair_then line c y (leave line c t track r) (set_mission t o) k (fair_leave t track r k) (fair_set line c y t o (leave line c t track r k).state))
@@ -111,7 +111,7 @@ module _ (line : Line) (c : ℕ) (y : Tally) (is : IsTally line c y) where
   fair_end_order t k = fair_if line c y (is_up (k.phase t)) k (say t unknown_group (EndSession line.nid_c (nid_rbc line c)) k) (rest k)
       (λ so. fair_say line c y t unknown_group (EndSession line.nid_c (nid_rbc line c)) k) (λ so. fair_rest line c y k)
 
-  abbrev lent_entry : ℕ → ℕ → Run → Entry → Entry
+  abbrev lent_entry : ℕ → ℕ → SectionRun → Entry → Entry
   lent_entry t to hand e = if within hand y.section && is_taken_for t e then Out t to else e
 
   yielded_law : (t to number heard : ℕ) (m : Mission) (k : Centre) → mission_of y (k.mission t) ≡ whole y m.hand m.pool → (t ≡ y.train → y.names ≡ true → MayYield line c y m.hand (k.book y.section) to)

@@ -7,7 +7,7 @@ use Rattle.rbc_ledger.specs.Resource.{carried, sent_by}
 use Rattle.rbc_ledger.proofs.Resource.{sent_none, carried_none, carried_more}
 use Rattle.rbc_spec.specs.Maps.{put, has}
 use Rattle.rbc_spec.specs.Reach.{Reach}
-use Rattle.rbc_spec.specs.Runs.{Run, no_run, within, behind, is_empty, part_before, part_from, joined}
+use Rattle.rbc_spec.specs.SectionRuns.{SectionRun, no_run, within, behind, is_empty, part_before, part_from, joined}
 use Rattle.rbc_spec.specs.Line.{Line, end, is_centre}
 use Rattle.rbc_spec.specs.Place.{Place, Position, is_cleared, place_on}
 use Rattle.rbc_spec.specs.Message.{TrainMessage, TrainBody, TrainData, Request, Report, ShorteningGranted, ShorteningRejected, EndOfMission, InitiationOfSession, TerminationOfSession, StartOfMission, SessionEstablished, DataAcknowledged, SystemVersion, TerminationAcknowledged, unknown_group}
@@ -87,7 +87,7 @@ module _ (line : Line) (c : ℕ) (y : Tally) (is : IsTally line c y) where
   fair_changed t f k = record { law = omega (arith, sent_none y.res (centre_count line) c) }
 
   -- a part of the pool goes home
-  pub pool_goes : (t track : ℕ) (r : Run) (f : Mission → Mission) (m : Mission) (k : Centre) → k.mission t ≡ Some m → whole y (f m).hand (f m).pool + part y r ≤ whole y m.hand m.pool
+  pub pool_goes : (t track : ℕ) (r : SectionRun) (f : Mission → Mission) (m : Mission) (k : Centre) → k.mission t ≡ Some m → whole y (f m).hand (f m).pool + part y r ≤ whole y m.hand m.pool
       → Makes line c y is k ((returned line c t track r >> change_mission t f) k)
   unfolding ◌>>◌
   pool_goes t track r f m k stands le = eased line c y 0 0 k ((returned line c t track r >> change_mission t f) k)

@@ -1,7 +1,7 @@
 -- What parts of a hand count, and sections that leave a mission.
 use Rattle.std.proofs.Common.{◌≡◌, ◌≢◌, ℕ, ◌+◌, ◌-◌, ◌≤◌, ◌==◌, ◌&&◌, ◌||◌, Bool, true, false, if◌then◌else◌, max, nat_lt, nat_le, refl, sym, ap, ◌∙◌, subst, arith, ⊎_elim, ltb-true, leb-true}
 use Rattle.std.proofs.lemmas.Bool.{cases_eq, and_parts, ne_eqb, eqb-false}
-use Rattle.rbc_spec.specs.Runs.{Run, no_run, within, behind, is_empty, part_before, part_from, joined}
+use Rattle.rbc_spec.specs.SectionRuns.{SectionRun, no_run, within, behind, is_empty, part_before, part_from, joined}
 use Rattle.rbc_spec.specs.Line.{Line, is_home}
 use Rattle.rbc_spec.specs.Centre.{Centre, Entry, Shut, Open, Taken, Out, Mission, is_taken_for, is_used_for}
 use Rattle.rbc_spec.specs.Acts.{freed}
@@ -14,7 +14,7 @@ Follows m = is_empty m.pool ≡ false → m.pool.first ≡ behind m.hand
 
 module _ (y : Tally) where
   -- two parts of the run that share nothing
-  pub two_parts : (a b r : Run) → (within a y.section ≡ true → within r y.section ≡ true) → (within b y.section ≡ true → (within r y.section ≡ true) × (within a y.section ≡ false))
+  pub two_parts : (a b r : SectionRun) → (within a y.section ≡ true → within r y.section ≡ true) → (within b y.section ≡ true → (within r y.section ≡ true) × (within a y.section ≡ false))
       → part y a + part y b ≤ part y r
   two_parts a b r in_a in_b = by_parts (within a y.section) (within b y.section) (within r y.section) in_a in_b
     where
@@ -26,7 +26,7 @@ module _ (y : Tally) where
       by_parts false true false one two = absurd (let wrong : false ≡ true = (two refl).0 in cc)
       by_parts false false w one two = omega arith
 
-  pub less_part : (a r : Run) → (within a y.section ≡ true → within r y.section ≡ true) → part y a ≤ part y r
+  pub less_part : (a r : SectionRun) → (within a y.section ≡ true → within r y.section ≡ true) → part y a ≤ part y r
   less_part a r in_a = by_parts (within a y.section) (within r y.section) in_a
     where
       by_parts : (p w : Bool) → (p ≡ true → w ≡ true) → (if p then y.weight else 0) ≤ (if w then y.weight else 0)
@@ -42,7 +42,7 @@ module _ (y : Tally) where
       by_within false is = refl
 
   -- the run's part from a number on, and before it
-  pub cut_parts : (cut : ℕ) (r : Run) → part y (part_before cut r) + part y (part_from cut r) ≤ part y r
+  pub cut_parts : (cut : ℕ) (r : SectionRun) → part y (part_before cut r) + part y (part_from cut r) ≤ part y r
   cut_parts cut r = two_parts (part_before cut r) (part_from cut r) r
       (λ is. (and_parts (within r y.section) (nat_lt y.section cut) (sym (within_part_before r cut y.section) ∙ is)).0)
       (λ is. let both = and_parts (within r y.section) (nat_le cut y.section) (sym (within_part_from r cut y.section) ∙ is) in
@@ -52,11 +52,11 @@ module _ (y : Tally) where
       not_before false is le = refl
       not_before true is le = absurd (let low = ltb-true y.section cut (and_parts (within r y.section) (nat_lt y.section cut) (sym (within_part_before r cut y.section) ∙ is)).1 in omega (arith, low, le))
 
-  pub from_part : (cut : ℕ) (r : Run) → part y (part_from cut r) ≤ part y r
+  pub from_part : (cut : ℕ) (r : SectionRun) → part y (part_from cut r) ≤ part y r
   from_part cut r = less_part (part_from cut r) r (λ is. (and_parts (within r y.section) (nat_le cut y.section) (sym (within_part_from r cut y.section) ∙ is)).0)
 
   -- a run and one that follows it
-  pub joined_part : (a b : Run) → (is_empty a ≡ false → is_empty b ≡ false → b.first ≡ behind a) → part y (joined a b) ≤ part y a + part y b
+  pub joined_part : (a b : SectionRun) → (is_empty a ≡ false → is_empty b ≡ false → b.first ≡ behind a) → part y (joined a b) ≤ part y a + part y b
   joined_part a b follows = by_empty (is_empty b) refl (is_empty a) refl
     where
       of_two : (p q : Bool) → (if p || q then y.weight else 0) ≤ (if p then y.weight else 0) + (if q then y.weight else 0)
@@ -69,7 +69,7 @@ module _ (y : Tally) where
       by_empty false some false is = omega (arith, ap (λ z. if z then y.weight else 0) (within_joined a b y.section (follows is some)), of_two (within a y.section) (within b y.section))
 
   -- what is in neither of two is not in both joined
-  pub out_of_joined : (a b : Run) → (is_empty a ≡ false → is_empty b ≡ false → b.first ≡ behind a) → within a y.section ≡ false → within b y.section ≡ false → within (joined a b) y.section ≡ false
+  pub out_of_joined : (a b : SectionRun) → (is_empty a ≡ false → is_empty b ≡ false → b.first ≡ behind a) → within a y.section ≡ false → within b y.section ≡ false → within (joined a b) y.section ≡ false
   out_of_joined a b follows out_a out_b = by_empty (is_empty b) refl (is_empty a) refl
     where
       by_empty : (e : Bool) → is_empty b ≡ e → (f : Bool) → is_empty a ≡ f → within (joined a b) y.section ≡ false
@@ -88,17 +88,17 @@ module _ (y : Tally) where
           over p q some = omega (arith, some)
 
 module _ (line : Line) (c : ℕ) (y : Tally) (is : IsTally line c y) where
-  pub gone_here : (t : ℕ) (r : Run) → gone y t r ≤ part_away y r
+  pub gone_here : (t : ℕ) (r : SectionRun) → gone y t r ≤ part_away y r
   gone_here t r = by_train (t == y.train)
     where
       by_train : (b : Bool) → (if b then part_away y r else 0) ≤ part_away y r
       by_train true = omega arith
       by_train false = omega arith
 
-  pub gone_other : (t : ℕ) (r : Run) → t ≢ y.train → gone y t r ≡ 0
+  pub gone_other : (t : ℕ) (r : SectionRun) → t ≢ y.train → gone y t r ≡ 0
   gone_other t r other = ap (λ b. if b then part_away y r else 0) (ne_eqb t y.train other)
 
-  pub away_part : (r : Run) → part_away y r ≤ part y r
+  pub away_part : (r : SectionRun) → part_away y r ≤ part y r
   away_part r = by_within (within r y.section)
     where
       by_within : (b : Bool) → (if b then y.away else 0) ≤ (if b then y.weight else 0)
@@ -106,7 +106,7 @@ module _ (line : Line) (c : ℕ) (y : Tally) (is : IsTally line c y) where
       by_within false = omega arith
 
   -- the own sections of a run that leaves are given back, the others go home
-  pub freed_here : (t : ℕ) (r : Run) (k : Centre) → t ≡ y.train
+  pub freed_here : (t : ℕ) (r : SectionRun) (k : Centre) → t ≡ y.train
       → gone y t r + y.entry (k.book y.section) ≤ y.entry ((freed line c (is_taken_for t) r k).state.book y.section) + part y r
   freed_here t r k here = omega (arith, gone_here t r, by_tests (within r y.section) (is_home line c y.section) refl (is_taken_for t (k.book y.section)) refl)
     where
@@ -126,7 +126,7 @@ module _ (line : Line) (c : ℕ) (y : Tally) (is : IsTally line c y) where
   used_taken t (Taken u) h = h
   used_taken t (Out u d) h = cc
 
-  pub freed_other : (t : ℕ) (r : Run) (k : Centre) → t ≢ y.train
+  pub freed_other : (t : ℕ) (r : SectionRun) (k : Centre) → t ≢ y.train
       → gone y t r + y.entry (k.book y.section) ≤ y.entry ((freed line c (is_taken_for t) r k).state.book y.section)
   freed_other t r k other = omega (arith, gone_other t r other, by_tests (within r y.section && is_home line c y.section) (is_taken_for t (k.book y.section)) refl)
     where

@@ -3,11 +3,11 @@ use Rattle.std.proofs.Common.{◌≡◌, ◌≢◌, ◌⊎◌, inl, inr, ℕ, �
 use Rattle.std.proofs.lemmas.Bool.{cases_eq, eqb-true}
 use Rattle.rbc_ledger.proofs.Sums.{put_same, put_other}
 use Rattle.rbc_spec.specs.Maps.{put}
-use Rattle.rbc_spec.specs.Runs.{Run, within}
+use Rattle.rbc_spec.specs.SectionRuns.{SectionRun, within}
 use Rattle.rbc_spec.specs.Line.{Line, is_home}
 use Rattle.rbc_spec.specs.Centre.{Centre, Entry, Shut, Open, Taken, Out, Mission, Handing, is_taken_for}
 use Rattle.rbc_spec.specs.Acts.{◌>>◌, freed, leave, set_mission, change_mission}
-use Rattle.rbc_alone.specs.Alone.{hand_has}
+use Rattle.rbc_local.specs.Local.{hand_has}
 use Rattle.std.specs.Option.{option_map_or}
 use Rattle.rbc_lemmas.proofs.Runs.{each_within}
 use Rattle.rbc_lemmas.proofs.Lines.{one_home}
@@ -59,11 +59,11 @@ module _ (line : Line) (c : ℕ) (y : Tally) where
       }
 
   -- what is left of a hand was in it, and has not left
-  pub record Leaves (k : Centre) (t : ℕ) (r : Run) (n : Mission) : Type 0 where
+  pub record Leaves (k : Centre) (t : ℕ) (r : SectionRun) (n : Mission) : Type 0 where
     pub hand : within n.hand y.section ≡ true → is_home line c y.section ≡ true → (hand_has (k.mission t) y.section ≡ true) × (within r y.section ≡ false)
     pub way : (h : Handing) → n.handing ≡ Some h → (m : Mission) × (k.mission t ≡ Some m) × (m.handing ≡ Some h)
 
-  still_taken : (t : ℕ) (r : Run) (k : Centre) → (t ≡ y.train → is_home line c y.section ≡ true → within r y.section ≡ false) → is_home line c y.section ≡ true
+  still_taken : (t : ℕ) (r : SectionRun) (k : Centre) → (t ≡ y.train → is_home line c y.section ≡ true → within r y.section ≡ false) → is_home line c y.section ≡ true
       → is_taken_for y.train (k.book y.section) ≡ true → is_taken_for y.train ((freed line c (is_taken_for t) r k).state.book y.section) ≡ true
   still_taken t r k out home taken = by_tests (within r y.section) refl (is_home line c y.section) (is_taken_for t (k.book y.section)) refl
     where
@@ -74,7 +74,7 @@ module _ (line : Line) (c : ℕ) (y : Tally) where
       by_tests true in_run true false is = taken
       by_tests true in_run true true is = absurd (let wrong : true ≡ false = sym in_run ∙ out (taken_once t y.train (k.book y.section) is taken) home in cc)
 
-  pub ready_left : (t track : ℕ) (r : Run) (o : Option Mission) (k : Centre) → ((n : Mission) → o ≡ Some n → Leaves k t r n) → Ready k → Ready ((leave line c t track r >> set_mission t o) k).state
+  pub ready_left : (t track : ℕ) (r : SectionRun) (o : Option Mission) (k : Centre) → ((n : Mission) → o ≡ Some n → Leaves k t r n) → Ready k → Ready ((leave line c t track r >> set_mission t o) k).state
   unfolding ◌>>◌
   ready_left t track r o k leaves ready = by_train (cases_eq y.train t)
     where
@@ -123,7 +123,7 @@ module _ (line : Line) (c : ℕ) (y : Tally) where
       by_registrar false (Some r) = ready
       by_registrar false None = ready
 
-  pub ready_closed : (t track : ℕ) (r : Run) (m : Mission) (k : Centre) → Ready k → Ready ((leave line c t track r >> close line c t m) k).state
+  pub ready_closed : (t track : ℕ) (r : SectionRun) (m : Mission) (k : Centre) → Ready k → Ready ((leave line c t track r >> close line c t m) k).state
   unfolding ◌>>◌
   ready_closed t track r m k ready = ready_return t (cancel t m (set_mission t None (leave line c t track r k).state).state).state
       (ready_cancel t m (set_mission t None (leave line c t track r k).state).state (ready_left t track r None k (λ n is. cc) ready))

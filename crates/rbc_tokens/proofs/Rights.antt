@@ -5,7 +5,7 @@ use Rattle.rbc_ledger.specs.Sums.{one_if}
 use Rattle.rbc_ledger.specs.Resource.{carried, sent_by}
 use Rattle.rbc_ledger.proofs.Sums.{sum_zero, one_if_true, one_if_le_one}
 use Rattle.rbc_ledger.proofs.Resource.{carried_none, carried_more}
-use Rattle.rbc_spec.specs.Runs.{Run, within, shared, is_empty}
+use Rattle.rbc_spec.specs.SectionRuns.{SectionRun, within, shared, is_empty}
 use Rattle.rbc_spec.specs.Line.{Line}
 use Rattle.rbc_spec.specs.Sections.{home_run}
 use Rattle.rbc_spec.specs.Place.{Place, covered}
@@ -62,7 +62,7 @@ module _ (line : Line) (c t : ℕ) where
   other_body a b (TakingOver number u) h = refl
   other_body a b (Yield number u heard has_data is_ended place hand) h = ap one_if (ne_eqb u t h)
 
-  none_goes : (u track : ℕ) (r : Run) (k : Centre) → sent_by (rights line t) (centre_count line) c (returned line c u track r k).frames ≡ 0
+  none_goes : (u track : ℕ) (r : SectionRun) (k : Centre) → sent_by (rights line t) (centre_count line) c (returned line c u track r k).frames ≡ 0
   unfolding sent_by
   none_goes u track r k = sum_zero (centre_count line) (λ d. carried (rights line t) c d ((returned line c u track r k).frames d)) (λ d at. none d ((d == c) || is_empty (shared r (home_run line d track))))
     where

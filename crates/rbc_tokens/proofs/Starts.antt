@@ -6,12 +6,12 @@ use Rattle.rbc_ledger.proofs.Sums.{put_same, put_other}
 use Rattle.rbc_ledger.proofs.Resource.{sent_none}
 use Rattle.rbc_spec.specs.Maps.{put}
 use Rattle.rbc_spec.specs.Reach.{Reach, asks_rights}
-use Rattle.rbc_spec.specs.Runs.{Run, within, all_of}
+use Rattle.rbc_spec.specs.SectionRuns.{SectionRun, within, all_of}
 use Rattle.rbc_spec.specs.Line.{Line, is_home, registrar}
 use Rattle.rbc_spec.specs.Place.{Place, Position, covered, fit_place}
 use Rattle.rbc_spec.specs.Message.{unknown_group, TrainAccepted, TrainRejected}
 use Rattle.rbc_spec.specs.Frame.{AskRight}
-use Rattle.rbc_spec.specs.Centre.{Centre, Entry, Shut, Open, Taken, Out, Mission, Silent, is_open, is_unused, is_taken_for, is_free, is_registrar_of}
+use Rattle.rbc_spec.specs.Centre.{Centre, Entry, Shut, Open, Taken, Out, Mission, Closed, is_open, is_unused, is_taken_for, is_free, is_registrar_of}
 use Rattle.rbc_spec.specs.Acts.{Reply, rest, become, ◌>>◌, where_so, with_some, send, booked, freed, set_mission, change_mission, return_right, begun}
 use Rattle.rbc_spec.specs.Rules.{choose, drop_wait, set_phase, close_session, accept, reject, restart, begin, start_here, start_waiting, start_new, start_mission}
 use Rattle.rbc_spec.specs.Links.{answered_ask, right_given, right_refused}
@@ -30,7 +30,7 @@ open_unused (Out t d) h = cc
 
 module _ (line : Line) (c : ℕ) (y : Tally) (is : IsTally line c y) where
   -- open sections come into use for some train
-  pub booked_open : (g : Entry) (r : Run) (e : Entry) → y.entry e ≤ y.entry (if within r y.section && is_open e then g else e)
+  pub booked_open : (g : Entry) (r : SectionRun) (e : Entry) → y.entry e ≤ y.entry (if within r y.section && is_open e then g else e)
   booked_open g r e = by_tests (within r y.section) (is_open e) refl
     where
       by_tests : (w o : Bool) → is_open e ≡ o → y.entry e ≤ y.entry (if w && o then g else e)
@@ -39,10 +39,10 @@ module _ (line : Line) (c : ℕ) (y : Tally) (is : IsTally line c y) where
       by_tests true true opened = is.unused e g (open_unused e opened)
 
   -- the sections that a start may begin in: all of home, and open
-  abbrev AllOpen : Run → Entry → Type 0
+  abbrev AllOpen : SectionRun → Entry → Type 0
   AllOpen r e = within r y.section ≡ true → (is_home line c y.section ≡ true) × (is_open e ≡ true)
 
-  booked_start : (t : ℕ) (r : Run) (e : Entry) → t ≡ y.train → AllOpen r e
+  booked_start : (t : ℕ) (r : SectionRun) (e : Entry) → t ≡ y.train → AllOpen r e
       → (y.entry e + part y r ≤ y.entry (if within r y.section && is_open e then Taken t else e)) × (y.entry e + start_of y r ≤ y.entry (if within r y.section && is_open e then Taken t else e))
   booked_start t r e here free = by_tests (within r y.section) (is_open e) refl free
     where
@@ -171,8 +171,8 @@ module _ (line : Line) (c : ℕ) (y : Tally) (is : IsTally line c y) where
           (fair_freed line c y (is_taken_for t) (covered line place) k) (fair_wait t None (freed line c (is_taken_for t) (covered line place) k).state))
 
   pub fair_close_session : (t : ℕ) (k : Centre) → Makes line c y is k (close_session line c t k)
-  fair_close_session t k = fair_both line c y (set_phase t Silent >> change_mission t (λ m. record m { proposal = None })) (drop_wait line c t) k
-      (fair_both line c y (set_phase t Silent) (change_mission t (λ m. record m { proposal = None })) k (fair_plain line c y k _ refl refl refl)
+  fair_close_session t k = fair_both line c y (set_phase t Closed >> change_mission t (λ m. record m { proposal = None })) (drop_wait line c t) k
+      (fair_both line c y (set_phase t Closed) (change_mission t (λ m. record m { proposal = None })) k (fair_plain line c y k _ refl refl refl)
       (fair_change line c y t (λ m. record m { proposal = None }) _ (λ m. (refl, refl)))) (fair_drop_wait t _)
 
   -- the sections of a start that waits are of home

@@ -8,7 +8,7 @@ use Rattle.rbc_ledger.proofs.Sums.{sum_zero, put_same, put_other}
 use Rattle.rbc_ledger.proofs.Network.{to_one_other}
 use Rattle.rbc_ledger.proofs.Resource.{sent_none, sent_single, sent_append, carried_none}
 use Rattle.rbc_spec.specs.Maps.{put}
-use Rattle.rbc_spec.specs.Runs.{Run, within}
+use Rattle.rbc_spec.specs.SectionRuns.{SectionRun, within}
 use Rattle.rbc_spec.specs.Line.{Line, is_home}
 use Rattle.rbc_spec.specs.Place.{Place, covered}
 use Rattle.rbc_spec.specs.Message.{TrackBody}
@@ -56,28 +56,28 @@ pub record Tally : Type 0 where
 abbrev pub right_of : Tally → Bool → ℕ
 right_of y b = if b then y.one else 0
 
-abbrev pub part : Tally → Run → ℕ
+abbrev pub part : Tally → SectionRun → ℕ
 part y r = if within r y.section then y.weight else 0
 
-abbrev pub whole : Tally → Run → Run → ℕ
+abbrev pub whole : Tally → SectionRun → SectionRun → ℕ
 whole y hand pool = y.one + (part y hand + part y pool)
 
 abbrev pub mission_of : Tally → Option Mission → ℕ
 mission_of y None = 0
 mission_of y (Some m) = whole y m.hand m.pool
 
-abbrev pub start_of : Tally → Run → ℕ
+abbrev pub start_of : Tally → SectionRun → ℕ
 start_of y r = if within r y.section then y.waiting else 0
 
 abbrev pub wait_of : Line → Tally → Option Place → ℕ
 wait_of line y None = 0
 wait_of line y (Some place) = start_of y (covered line place)
 
-abbrev pub part_away : Tally → Run → ℕ
+abbrev pub part_away : Tally → SectionRun → ℕ
 part_away y r = if within r y.section then y.away else 0
 
 -- what frames that bring the run home for train t have inside
-abbrev pub gone : Tally → ℕ → Run → ℕ
+abbrev pub gone : Tally → ℕ → SectionRun → ℕ
 gone y t r = if t == y.train then part_away y r else 0
 
 -- what a right of train t counts
@@ -85,7 +85,7 @@ abbrev pub back : Tally → ℕ → ℕ
 back y t = if t == y.train then y.one else 0
 
 -- the section, if it is in this hand: an own one is taken for the train, and is of no home of the centre that the hand goes to; another is
-abbrev pub MayYield : Line → ℕ → Tally → Run → Entry → ℕ → Type 0
+abbrev pub MayYield : Line → ℕ → Tally → SectionRun → Entry → ℕ → Type 0
 MayYield line c y hand e to = within hand y.section ≡ true
     → (is_home line c y.section ≡ true → (is_taken_for y.train e ≡ true) × (is_home line to y.section ≡ false)) × (is_home line c y.section ≡ false → is_home line to y.section ≡ true)
 
@@ -97,23 +97,23 @@ pub record IsTally (line : Line) (c : ℕ) (y : Tally) : Type 0 where
   pub others : (a b : ℕ) (body : Body) → train_of body ≢ y.train → y.res.inside a b body ≡ 0
   pub gives : (a b : ℕ) → y.res.inside a b (GiveRight y.train) ≡ y.one
   pub backs : (a b : ℕ) → y.res.inside a b (ReturnRight y.train) ≡ y.one
-  pub home_goes : (t track : ℕ) (r : Run) (k : Centre) → sent_by y.res (centre_count line) c (returned line c t track r k).frames ≤ gone y t r
+  pub home_goes : (t track : ℕ) (r : SectionRun) (k : Centre) → sent_by y.res (centre_count line) c (returned line c t track r k).frames ≤ gone y t r
   pub unused : (e g : Entry) → is_unused e ≡ true → y.entry e ≤ y.entry g
   pub other : (t : ℕ) (e g : Entry) → t ≢ y.train → is_used_for t e ≡ true → y.entry e ≤ y.entry g
   pub light : y.away ≤ y.weight
   pub opens : (e : Entry) → is_home line c y.section ≡ true → is_open e ≡ true → (y.entry e + y.weight ≤ y.entry (Taken y.train)) × (y.entry e + y.waiting ≤ y.entry (Taken y.train))
   pub frees : (e g : Entry) → is_home line c y.section ≡ true → is_taken_for y.train e ≡ true → (y.away + y.entry e ≤ y.entry g + y.weight) × (y.entry e ≤ y.entry g + y.waiting)
   pub waits : is_home line c y.section ≡ true → y.weight ≤ y.waiting
-  pub lends : (d : ℕ) (r : Run) (e : Entry) → is_home line c y.section ≡ true → is_open e ≡ true → y.entry e + y.res.inside c d (RouteInfo y.train r) ≤ y.entry (Out y.train d)
-  pub names : (a b : ℕ) (r : Run) → within r y.section ≡ false → y.res.inside a b (RouteInfo y.train r) ≡ 0
-  pub told : (a : ℕ) (r : Run) → part y r ≤ y.res.inside a c (RouteInfo y.train r)
-  pub told_back : (a : ℕ) (r : Run) → y.res.inside c a (RouteReturn y.train r) ≤ y.res.inside a c (RouteInfo y.train r)
-  pub comes_home : (a : ℕ) (r : Run) (e g : Entry) → is_home line c y.section ≡ true → within r y.section ≡ true → is_out_for y.train a e ≡ true
+  pub lends : (d : ℕ) (r : SectionRun) (e : Entry) → is_home line c y.section ≡ true → is_open e ≡ true → y.entry e + y.res.inside c d (RouteInfo y.train r) ≤ y.entry (Out y.train d)
+  pub names : (a b : ℕ) (r : SectionRun) → within r y.section ≡ false → y.res.inside a b (RouteInfo y.train r) ≡ 0
+  pub told : (a : ℕ) (r : SectionRun) → part y r ≤ y.res.inside a c (RouteInfo y.train r)
+  pub told_back : (a : ℕ) (r : SectionRun) → y.res.inside c a (RouteReturn y.train r) ≤ y.res.inside a c (RouteInfo y.train r)
+  pub comes_home : (a : ℕ) (r : SectionRun) (e g : Entry) → is_home line c y.section ≡ true → within r y.section ≡ true → is_out_for y.train a e ≡ true
       → y.entry e ≤ y.res.inside a c (RouteReturn y.train r) + y.entry g
-  pub yields : (to number heard : ℕ) (has_data is_ended : Bool) (place : YieldedPlace) (hand : Run) (e : Entry) → (y.names ≡ true → MayYield line c y hand e to)
+  pub yields : (to number heard : ℕ) (has_data is_ended : Bool) (place : YieldedPlace) (hand : SectionRun) (e : Entry) → (y.names ≡ true → MayYield line c y hand e to)
       → y.entry e + y.res.inside c to (Yield number y.train heard has_data is_ended place hand)
       ≤ (y.one + part y hand) + y.entry (if within hand y.section && is_taken_for y.train e then Out y.train to else e)
-  pub takes : (a number heard : ℕ) (has_data is_ended : Bool) (place : YieldedPlace) (hand : Run) (e : Entry)
+  pub takes : (a number heard : ℕ) (has_data is_ended : Bool) (place : YieldedPlace) (hand : SectionRun) (e : Entry)
       → y.entry e + (y.one + part y hand)
       ≤ y.res.inside a c (Yield number y.train heard has_data is_ended place hand) + y.entry (if within hand y.section && is_out_for y.train a e then Taken y.train else e)
 
@@ -169,11 +169,11 @@ module _ (line : Line) (c : ℕ) (y : Tally) where
           (λ (other : y.train ≢ t). ap (mission_of y) (put_other k.mission t (option_map f (k.mission t)) y.train other))
           (cases_eq y.train t)
 
-  pub fair_booked : (test : Entry → Bool) (e : Entry) (r : Run) (k : Centre)
+  pub fair_booked : (test : Entry → Bool) (e : Entry) (r : SectionRun) (k : Centre)
       → Fair k (y.entry (k.book y.section)) (y.entry (if within r y.section && test (k.book y.section) then e else k.book y.section)) (booked test e r k)
   fair_booked test e r k = record { law = omega (arith, sent_none y.res (centre_count line) c) }
 
-  pub fair_freed : (test : Entry → Bool) (r : Run) (k : Centre)
+  pub fair_freed : (test : Entry → Bool) (r : SectionRun) (k : Centre)
       → Fair k (y.entry (k.book y.section)) (y.entry ((freed line c test r k).state.book y.section)) (freed line c test r k)
   fair_freed test r k = record { law = omega (arith, sent_none y.res (centre_count line) c) }
 

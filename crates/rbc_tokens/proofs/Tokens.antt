@@ -4,13 +4,13 @@ use Rattle.std.proofs.lemmas.Bool.{ne_eqb, and_parts, and_from, eqb-true}
 use Rattle.rbc_ledger.specs.Sums.{one_if}
 use Rattle.rbc_ledger.specs.Resource.{sent_by}
 use Rattle.rbc_ledger.proofs.Sums.{one_if_true, one_if_le, one_if_le_one}
-use Rattle.rbc_spec.specs.Runs.{Run, within}
+use Rattle.rbc_spec.specs.SectionRuns.{SectionRun, within}
 use Rattle.rbc_spec.specs.Line.{Line, is_home}
 use Rattle.rbc_spec.specs.Place.{Place}
 use Rattle.rbc_spec.specs.Frame.{Body, AskRight, GiveRight, RefuseRight, ReturnRight, RouteAsk, RouteInfo, RouteWithdraw, RouteReturn, Announce, Cancel, TakingOver, Yield}
 use Rattle.rbc_spec.specs.Centre.{Centre, Entry, Shut, Open, Taken, Out, Mission, is_open, is_unused, is_taken_for, is_out_for, is_used_for}
 use Rattle.rbc_spec.specs.Acts.{returned}
-use Rattle.rbc_alone.specs.Alone.{IsOrdered, hand_has}
+use Rattle.rbc_local.specs.Local.{IsOrdered, hand_has}
 use Rattle.rbc_flow.specs.Flow.{centre_count}
 use Rattle.rbc_flow.specs.Counts.{tokens, wait_has, pool_has}
 use Rattle.rbc_lemmas.proofs.Puts.{itself}
@@ -98,7 +98,7 @@ module _ (line : Line) (ordered : IsOrdered line) (c t s : ℕ) where
   other_body a b (TakingOver number u) h = refl
   other_body a b (Yield number u heard has_data is_ended place hand) h = ap (λ z. one_if (z && within hand s)) (ne_eqb u t h)
 
-  goes : (u track : ℕ) (r : Run) (k : Centre) → sent_by (tokens line t s) (centre_count line) c (returned line c u track r k).frames ≤ gone y u r
+  goes : (u track : ℕ) (r : SectionRun) (k : Centre) → sent_by (tokens line t s) (centre_count line) c (returned line c u track r k).frames ≤ gone y u r
   goes u track r k = omega (arith, home_goes_once line ordered (tokens line t s) c u track s (u == t) (λ e q. omega arith) r k, as_gone (u == t) (within r s) (is_home line c s))
     where
       as_gone : (a w h : Bool) → one_if ((a && w) && not h) ≤ (if a then (if w then one_if (not h) else 0) else 0)
@@ -115,13 +115,13 @@ module _ (line : Line) (ordered : IsOrdered line) (c t s : ℕ) where
   away_none : is_home line c s ≡ true → one_if (not (is_home line c s)) ≡ 0
   away_none home = ap (λ z. one_if (not z)) home
 
-  in_run : (r : Run) → within r s ≡ true → one_if ((t == t) && within r s) ≡ 1
+  in_run : (r : SectionRun) → within r s ≡ true → one_if ((t == t) && within r s) ≡ 1
   in_run r is = one_if_true _ (and_from (t == t) (within r s) (itself t) is)
 
-  out_of_run : (r : Run) → within r s ≡ false → one_if ((t == t) && within r s) ≡ 0
+  out_of_run : (r : SectionRun) → within r s ≡ false → one_if ((t == t) && within r s) ≡ 0
   out_of_run r is = ap (λ z. one_if ((t == t) && z)) is ∙ no_use (t == t)
 
-  as_part : (r : Run) → one_if ((t == t) && within r s) ≡ part y r
+  as_part : (r : SectionRun) → one_if ((t == t) && within r s) ≡ part y r
   as_part r = ap (λ z. one_if (z && within r s)) (itself t)
 
   -- an entry in use for the train may be in use for it in another way

@@ -33,7 +33,7 @@ pub(crate) fn words_of_fault_number(number: u32) -> Option<&'static str> {
 }
 
 /// Why a message is left without an answer, by the number that is printed.
-pub(crate) fn words_of_silence(number: u32) -> Option<&'static str> {
+pub(crate) fn words_of_reason(number: u32) -> Option<&'static str> {
     match number {
         1 => Some("its T_TRAIN is not above the last one"),
         2 => Some("no session stands with the train"),

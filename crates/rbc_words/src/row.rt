@@ -1,6 +1,6 @@
 //! The forms of the lines that `run` prints.
 
-use crate::faults::{words_of_fault_number, words_of_silence, words_of_word};
+use crate::faults::{words_of_fault_number, words_of_reason, words_of_word};
 use crate::numbers::{number_of, section_number};
 use rbc_line::Line;
 
@@ -152,7 +152,7 @@ fn answer_of<'a>(centre: &'a str, words: &[&'a str]) -> Option<Row<'a>> {
 }
 
 fn silent_of(centre: &str, number: u32) -> Option<Row<'_>> {
-    let words = words_of_silence(number)?;
+    let words = words_of_reason(number)?;
     Some(Row::Silent {
         centre,
         number,

@@ -7,14 +7,14 @@ use Rattle.rbc_spec.specs.Line.{Line, IsLine}
 use Rattle.rbc_spec.specs.Centre as centre
 use Rattle.rbc_spec.specs.World.{new_world}
 use Rattle.rbc_spec.specs.ReadOff.{StandsFor, read_off}
-use Rattle.rbc_alone.specs.Alone.{IsAloneAt, IsAlone}
-use Rattle.rbc_alone.proofs.Ordered.{begins_alone}
+use Rattle.rbc_local.specs.Local.{IsLocalAt, IsLocal}
+use Rattle.rbc_local.proofs.Ordered.{begins_local}
 use Rattle.rbc_spec.specs.Promises.{IsSound}
 use Rattle.rbc_pieces.proofs.Whole.{read_stands, world_is_sound}
-use Rattle.rbc_centre.specs.Meaning as one
+use Rattle.rbc_centre.specs.States as one
 use Rattle.rbc_centre.specs.declared.centre.Centre.{Centre}
-use Rattle.rbc_world.specs.Meaning.{centres_of, stands_for, AtBeginning}
-use Rattle.rbc_world.specs.World.{meaning}
+use Rattle.rbc_world.specs.States.{centres_of, stands_for, AtBeginning}
+use Rattle.rbc_world.specs.World.{state_of}
 use Rattle.rbc_world.specs.declared.world.World.{World}
 
 -- ## Lists
@@ -33,26 +33,26 @@ slice_get-set_other (y ∷ ys) (suc i) (suc j) x h = slice_get-set_other ys i j 
 
 -- ## Centres by their numbers
 
-pub centre_at : (line : Line) (cs : List Centre) (c : ℕ) (k : Centre) → slice_get cs c ≡ Some k → centres_of line cs c ≡ one.meaning k
-centre_at line cs c k at = ap (λ o. option_map_or one.meaning o (centre.beginning line c)) at
+pub centre_at : (line : Line) (cs : List Centre) (c : ℕ) (k : Centre) → slice_get cs c ≡ Some k → centres_of line cs c ≡ one.state_of k
+centre_at line cs c k at = ap (λ o. option_map_or one.state_of o (centre.beginning line c)) at
 
-pub centres_of-set : (line : Line) (cs : List Centre) (c : ℕ) (k : Centre) → c < length cs → (d : ℕ) → centres_of line (set cs c k) d ≡ put (centres_of line cs) c (one.meaning k) d
-centres_of-set line cs c k within d = elim (eqb_tells d c) as (λ _. centres_of line (set cs c k) d ≡ put (centres_of line cs) c (one.meaning k) d) [
+pub centres_of-set : (line : Line) (cs : List Centre) (c : ℕ) (k : Centre) → c < length cs → (d : ℕ) → centres_of line (set cs c k) d ≡ put (centres_of line cs) c (one.state_of k) d
+centres_of-set line cs c k within d = elim (eqb_tells d c) as (λ _. centres_of line (set cs c k) d ≡ put (centres_of line cs) c (one.state_of k) d) [
   | inl e ↦ rw (e.0) (ap (centres_of line (set cs c k)) (e.1) ∙ centre_at line (set cs c k) c k (slice_get-set_same cs c k within))
-  | inr e ↦ rw (e.0) (ap (λ o. option_map_or one.meaning o (centre.beginning line d)) (slice_get-set_other cs c d k (e.1)))
+  | inr e ↦ rw (e.0) (ap (λ o. option_map_or one.state_of o (centre.beginning line d)) (slice_get-set_other cs c d k (e.1)))
 ]
 
 -- a centre that means what it meant leaves the centres as they were
-pub centres_of-kept : (line : Line) (cs : List Centre) (c : ℕ) (k new : Centre) → slice_get cs c ≡ Some k → c < length cs → one.meaning new ≡ one.meaning k → (d : ℕ) → centres_of line (set cs c new) d ≡ centres_of line cs d
+pub centres_of-kept : (line : Line) (cs : List Centre) (c : ℕ) (k new : Centre) → slice_get cs c ≡ Some k → c < length cs → one.state_of new ≡ one.state_of k → (d : ℕ) → centres_of line (set cs c new) d ≡ centres_of line cs d
 centres_of-kept line cs c k new at within same d = centres_of-set line cs c new within d
-    ∙ elim (eqb_tells d c) as (λ _. put (centres_of line cs) c (one.meaning new) d ≡ centres_of line cs d) [
+    ∙ elim (eqb_tells d c) as (λ _. put (centres_of line cs) c (one.state_of new) d ≡ centres_of line cs d) [
       | inl e ↦ rw (e.0) (same ∙ sym (centre_at line cs c k at) ∙ ap (centres_of line cs) (sym (e.1)))
       | inr e ↦ rw (e.0) refl
     ]
 
 beginning_by : (cs : List Centre) (line : Line) (c : ℕ) (o : Option Centre) → slice_get cs c ≡ o → ((d : ℕ) (k : Centre) → slice_get cs d ≡ Some k → AtBeginning line d k)
-    → option_map_or one.meaning o (centre.beginning line c) ≡ centre.beginning line c
-beginning_by cs line c (Some k) at each = (each c k at).meaning
+    → option_map_or one.state_of o (centre.beginning line c) ≡ centre.beginning line c
+beginning_by cs line c (Some k) at each = (each c k at).state_of
 beginning_by cs line c None at each = refl
 
 -- the world of centres at their beginning
@@ -82,22 +82,22 @@ each_pushed P (y ∷ ys) x each p (suc d) k found = each_pushed (λ e. P (suc e)
 -- ## No other centre has a part in their missions
 
 -- a centre of the line knows that of itself
-centre_alone : (line : Line) (c : ℕ) (k : Centre) → one.line_of k ≡ line → one.number_of k ≡ c → IsAloneAt line c (one.meaning k)
-centre_alone line c k of_line of_number = subst (λ (l : Line). IsAloneAt l c (one.meaning k)) of_line (subst (λ (n : ℕ). IsAloneAt (one.line_of k) n (one.meaning k)) of_number k.alone)
+centre_local : (line : Line) (c : ℕ) (k : Centre) → one.line_of k ≡ line → one.number_of k ≡ c → IsLocalAt line c (one.state_of k)
+centre_local line c k of_line of_number = subst (λ (l : Line). IsLocalAt l c (one.state_of k)) of_line (subst (λ (n : ℕ). IsLocalAt (one.line_of k) n (one.state_of k)) of_number k.local)
 
-pub world_alone : (line : Line) (cs : List Centre) (trains : List ℕ) → ((c : ℕ) (k : Centre) → slice_get cs c ≡ Some k → one.line_of k ≡ line)
-    → ((c : ℕ) (k : Centre) → slice_get cs c ≡ Some k → one.number_of k ≡ c) → IsAlone line (stands_for line cs trains)
+pub world_local : (line : Line) (cs : List Centre) (trains : List ℕ) → ((c : ℕ) (k : Centre) → slice_get cs c ≡ Some k → one.line_of k ≡ line)
+    → ((c : ℕ) (k : Centre) → slice_get cs c ≡ Some k → one.number_of k ≡ c) → IsLocal line (stands_for line cs trains)
 unfolding stands_for
-world_alone line cs trains one_line in_order = record { each = λ c. by_centre c (slice_get cs c) refl }
+world_local line cs trains one_line in_order = record { each = λ c. by_centre c (slice_get cs c) refl }
   where
-    by_centre : (c : ℕ) (o : Option Centre) → slice_get cs c ≡ o → IsAloneAt line c (option_map_or one.meaning o (centre.beginning line c))
-    by_centre c (Some k) at = centre_alone line c k (one_line c k at) (in_order c k at)
-    by_centre c None at = begins_alone line c
+    by_centre : (c : ℕ) (o : Option Centre) → slice_get cs c ≡ o → IsLocalAt line c (option_map_or one.state_of o (centre.beginning line c))
+    by_centre c (Some k) at = centre_local line c k (one_line c k at) (in_order c k at)
+    by_centre c None at = begins_local line c
 
 -- the state that is read off a world in memory stands for it
-pub world_stands : (w : World) → IsLine w.line → StandsFor w.line (meaning w) (read_off w.line (meaning w))
-world_stands w ok = read_stands w.line ok (meaning w) (world_alone w.line w.centres.items w.trains.keys w.one_line w.in_order)
+pub world_stands : (w : World) → IsLine w.line → StandsFor w.line (state_of w) (read_off w.line (state_of w))
+world_stands w ok = read_stands w.line ok (state_of w) (world_local w.line w.centres.items w.trains.keys w.one_line w.in_order)
 
 -- and each world in memory is sound
-pub world_sound : (w : World) → IsLine w.line → IsSound w.line (meaning w)
-world_sound w ok = world_is_sound w.line ok (meaning w) (world_alone w.line w.centres.items w.trains.keys w.one_line w.in_order)
+pub world_sound : (w : World) → IsLine w.line → IsSound w.line (state_of w)
+world_sound w ok = world_is_sound w.line ok (state_of w) (world_local w.line w.centres.items w.trains.keys w.one_line w.in_order)

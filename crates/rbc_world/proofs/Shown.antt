@@ -8,12 +8,12 @@ use Rattle.rbc_spec.specs.LineCentre.{IsHand}
 use Rattle.rbc_spec.specs.Centre as centre
 use Rattle.rbc_spec.specs.World.{World}
 use Rattle.rbc_spec.specs.ReadOff.{seen}
-use Rattle.rbc_alone.specs.Alone.{IsAlone, mark_alone, alone_off}
+use Rattle.rbc_local.specs.Local.{IsLocal, local_mark, local_read_off}
 use Rattle.rbc_pieces.proofs.Off.{given_is_hand}
 use Rattle.rbc_hand.specs.SectionRuns.{run_of}
-use Rattle.rbc_centre.specs.Meaning as one
+use Rattle.rbc_centre.specs.States as one
 use Rattle.rbc_centre.specs.declared.centre.Centre.{Centre}
-use Rattle.rbc_world.specs.Meaning.{stands_for}
+use Rattle.rbc_world.specs.States.{stands_for}
 use Rattle.rbc_world.specs.View.{mission_shown, mission_kept, EachOf}
 use Rattle.rbc_world.specs.declared.view.MissionView.{MissionView}
 use Rattle.rbc_world.proofs.Centres.{centre_at}
@@ -21,13 +21,13 @@ use Rattle.rbc_world.proofs.Centres.{centre_at}
 -- ## What is read of a centre
 
 module _ (line : Line) (cs : List Centre) (trains : List ℕ) (c : ℕ) where
-  pub seen_at : {X : Type 0} (part : centre.Centre → X) (k : Centre) → slice_get cs c ≡ Some k → part (one.meaning k) ≡ part ((stands_for line cs trains).at c)
+  pub seen_at : {X : Type 0} (part : centre.Centre → X) (k : Centre) → slice_get cs c ≡ Some k → part (one.state_of k) ≡ part ((stands_for line cs trains).at c)
   unfolding stands_for
   seen_at part k at = ap part (sym (centre_at line cs c k at))
 
   pub seen_past : {X : Type 0} (part : centre.Centre → X) → length cs ≤ c → part (centre.beginning line c) ≡ part ((stands_for line cs trains).at c)
   unfolding stands_for
-  seen_past part past = ap (λ (o : Option Centre). part (option_map_or one.meaning o (centre.beginning line c))) (sym (slice_get_past cs c past))
+  seen_past part past = ap (λ (o : Option Centre). part (option_map_or one.state_of o (centre.beginning line c))) (sym (slice_get_past cs c past))
 
   pub shut_past : (s : ℕ) → length cs ≤ c → centre.Shut ≡ ((stands_for line cs trains).at c).book s
   unfolding centre.beginning
@@ -47,7 +47,7 @@ pub at_no_home : {X : Type 0} (f : ℕ → X) (none : X) (o : Option Section) �
 at_no_home f none (Some p) e = cc
 at_no_home f none None e = refl
 
-pub marked : (f : Section → centre.Entry) (o : Option Section) → mark_alone (option_map_or f o centre.Shut) ≡ option_map_or (λ p. mark_alone (f p)) o line_centre.Shut
+pub marked : (f : Section → centre.Entry) (o : Option Section) → local_mark (option_map_or f o centre.Shut) ≡ option_map_or (λ p. local_mark (f p)) o line_centre.Shut
 marked f (Some p) = refl
 marked f None = refl
 
@@ -58,11 +58,11 @@ unfolding centre.beginning
 none_past line cs trains c t past = seen_past line cs trains c (λ k. k.mission t) past
 
 module _ (line : Line) (w : World) (t c : ℕ) (registered : registrar line t ≡ Some c) where
-  at_registrar : (alone_off line w).mission t ≡ option_map (seen c) ((w.at c).mission t)
+  at_registrar : (local_read_off line w).mission t ≡ option_map (seen c) ((w.at c).mission t)
   at_registrar = ap (λ (o : Option ℕ). option_and_then (λ r. option_map (seen r) ((w.at r).mission t)) o) registered
 
   -- what is shown of it
-  pub mission_is : (shown : Option MissionView) → option_map mission_kept shown ≡ (w.at c).mission t → IfSome shown (λ m. m.supervisor ≡ c) → option_map mission_shown shown ≡ (alone_off line w).mission t
+  pub mission_is : (shown : Option MissionView) → option_map mission_kept shown ≡ (w.at c).mission t → IfSome shown (λ m. m.supervisor ≡ c) → option_map mission_shown shown ≡ (local_read_off line w).mission t
   mission_is shown kept here = same shown here ∙ ap (option_map (seen c)) kept ∙ sym at_registrar
     where
       same : (o : Option MissionView) → IfSome o (λ m. m.supervisor ≡ c) → option_map mission_shown o ≡ option_map (seen c) (option_map mission_kept o)
@@ -70,12 +70,12 @@ module _ (line : Line) (w : World) (t c : ℕ) (registered : registrar line t �
       same None here = refl
 
   -- its hand has the sections that are given to the train
-  pub hand_is : IsAlone line w → (shown : Option MissionView) → option_map mission_kept shown ≡ (w.at c).mission t → IfSome shown (λ m. IsHand (alone_off line w) t (run_of m.hand))
-  hand_is alone (Some m) kept = record { each = λ s. given_is_hand line w c t (mission_kept m) alone (sym kept) s }
-  hand_is alone None kept = tt
+  pub hand_is : IsLocal line w → (shown : Option MissionView) → option_map mission_kept shown ≡ (w.at c).mission t → IfSome shown (λ m. IsHand (local_read_off line w) t (run_of m.hand))
+  hand_is local (Some m) kept = record { each = λ s. given_is_hand line w c t (mission_kept m) local (sym kept) s }
+  hand_is local None kept = tt
 
 -- a foreign engine has none
-pub mission_of_foreign : (line : Line) (w : World) (t : ℕ) → registrar line t ≡ None → None ≡ (alone_off line w).mission t
+pub mission_of_foreign : (line : Line) (w : World) (t : ℕ) → registrar line t ≡ None → None ≡ (local_read_off line w).mission t
 mission_of_foreign line w t none = sym (ap (λ (o : Option ℕ). option_and_then (λ r. option_map (seen r) ((w.at r).mission t)) o) none)
 
 -- ## Rows of what is shown

@@ -3,7 +3,7 @@ use Rattle.std.proofs.Common.{◌≡◌, ℕ, ◌<◌, ◌≤◌, ◌≢◌, tru
 use Rattle.std.specs.Result.{IfOk, IfErr}
 use Rattle.std.specs.Option.{option_map_or}
 use Rattle.std.proofs.lemmas.Bool.Decides.{nat_tests}
-use Rattle.rbc_spec.specs.Reach.{Alone, Whole}
+use Rattle.rbc_spec.specs.Reach.{Local, Whole}
 use Rattle.rbc_spec.specs.Line.{Line, IsLine, is_centre}
 use Rattle.rbc_spec.specs.Message.{TrainMessage}
 use Rattle.rbc_spec.specs.Frame.{Frame}
@@ -13,10 +13,10 @@ use Rattle.rbc_spec.specs.World.{World, Bytes, Set, Unset, Delivery, Answered, N
 use Rattle.rbc_spec.specs.Run.{Goes}
 use Rattle.rbc_spec.specs.ReadOff.{read_off}
 use Rattle.rbc_spec.specs.Promises.{KeepsPromises}
-use Rattle.rbc_spec.specs.Theorems.{IsOneCentreLine, GoesAlone}
-use Rattle.rbc_alone.specs.Alone.{IsAlone}
-use Rattle.rbc_alone.proofs.Worlds.{none_delivered}
-use Rattle.rbc_alone.proofs.Ordered.{is_ordered}
+use Rattle.rbc_spec.specs.Theorems.{IsOneCentreLine, GoesForced}
+use Rattle.rbc_local.specs.Local.{IsLocal}
+use Rattle.rbc_local.proofs.Worlds.{none_delivered}
+use Rattle.rbc_local.proofs.Ordered.{is_ordered}
 use Rattle.rbc_pieces.proofs.Whole.{step_read, promises_kept}
 use Rattle.rbc_single.proofs.Whole as single
 use Rattle.rbc_single.proofs.Borders.{same_world_step}
@@ -25,12 +25,12 @@ use Rattle.rbc_msgs.specs.StepMessage.{step_message}
 use Rattle.rbc_msgs.specs.Faults.{fault_number}
 use Rattle.rbc_msgs.specs.declared.fault.MsgFault.{MsgFault}
 use Rattle.rbc_msgs.specs.declared.fault.MsgFault.TheVariants as of_message
-use Rattle.rbc_centre.specs.Meaning as one
+use Rattle.rbc_centre.specs.States as one
 use Rattle.rbc_centre.specs.Answer as one_step
 use Rattle.rbc_centre.specs.declared.centre.Centre.{Centre}
 use Rattle.rbc_centre.specs.declared.fault.StepFault.{StepFault}
 use Rattle.rbc_centre.specs.declared.fault.StepFault.TheVariants.{Memory, LinkFull, ClockEnd}
-use Rattle.rbc_world.specs.Meaning.{centres_of, stands_for}
+use Rattle.rbc_world.specs.States.{centres_of, stands_for}
 use Rattle.rbc_world.specs.Answers.{Gives, IsRefusal}
 use Rattle.rbc_world.specs.Views.{event_of, answer_of, numbered, IsFaultOf}
 use Rattle.rbc_world.specs.declared.event.Answer.{Answer}
@@ -42,26 +42,26 @@ use Rattle.rbc_world.proofs.Centres.{centre_at, centres_of-set, centres_of-kept}
 module _ (line : Line) (cs : List Centre) (trains : List ℕ) (event : step.Event) (c : ℕ) (k new : Centre) (at : slice_get cs c ≡ Some k) (within : c < length cs)
     (of_line : one.line_of k ≡ line) (of_number : one.number_of k ≡ c) where
   -- the step of the definition is that of the centre
-  same_step : step.step Alone line c event ((stands_for line cs trains).at c) ≡ step.step Alone (one.line_of k) (one.number_of k) event (one.meaning k)
+  same_step : step.step Local line c event ((stands_for line cs trains).at c) ≡ step.step Local (one.line_of k) (one.number_of k) event (one.state_of k)
   unfolding stands_for
   same_step =
-      ap (λ l. step.step Alone l c event (centres_of line cs c)) (sym of_line) ∙ ap (λ n. step.step Alone (one.line_of k) n event (centres_of line cs c)) (sym of_number)
-      ∙ ap (step.step Alone (one.line_of k) (one.number_of k) event) (centre_at line cs c k at)
+      ap (λ l. step.step Local l c event (centres_of line cs c)) (sym of_line) ∙ ap (λ n. step.step Local (one.line_of k) n event (centres_of line cs c)) (sym of_number)
+      ∙ ap (step.step Local (one.line_of k) (one.number_of k) event) (centre_at line cs c k at)
 
-  pub step_ok : (outcome : Outcome) (named after : List ℕ) → step.step Alone (one.line_of k) (one.number_of k) event (one.meaning k) ≡ Ok (outcome, one.meaning new) → after ≡ named
-      → takes Alone line (stands_for line cs trains) c named event ≡ Ok (Answered outcome, stands_for line (set cs c new) after)
+  pub step_ok : (outcome : Outcome) (named after : List ℕ) → step.step Local (one.line_of k) (one.number_of k) event (one.state_of k) ≡ Ok (outcome, one.state_of new) → after ≡ named
+      → takes Local line (stands_for line cs trains) c named event ≡ Ok (Answered outcome, stands_for line (set cs c new) after)
   unfolding stands_for
   step_ok outcome named after s same =
       ap (stepped (stands_for line cs trains) c named) (same_step ∙ s)
       ∙ (λ i. Ok (Answered outcome, record { at = λ d. sym (centres_of-set line cs c new within d) i; trains = sym same i }))
 
-  pub step_err : (named : List ℕ) (fault : StepFault) → one_step.IsRefusal fault (step.step Alone (one.line_of k) (one.number_of k) event (one.meaning k))
-      → IsRefusal fault (takes Alone line (stands_for line cs trains) c named event)
+  pub step_err : (named : List ℕ) (fault : StepFault) → one_step.IsRefusal fault (step.step Local (one.line_of k) (one.number_of k) event (one.state_of k))
+      → IsRefusal fault (takes Local line (stands_for line cs trains) c named event)
   step_err named Memory never = tt
   step_err named LinkFull never = never
   step_err named ClockEnd s = ap (stepped (stands_for line cs trains) c named) (same_step ∙ s)
 
-pub world_kept : (line : Line) (cs : List Centre) (trains : List ℕ) (c : ℕ) (k new : Centre) → slice_get cs c ≡ Some k → c < length cs → one.meaning new ≡ one.meaning k → stands_for line (set cs c new) trains ≡ stands_for line cs trains
+pub world_kept : (line : Line) (cs : List Centre) (trains : List ℕ) (c : ℕ) (k new : Centre) → slice_get cs c ≡ Some k → c < length cs → one.state_of new ≡ one.state_of k → stands_for line (set cs c new) trains ≡ stands_for line cs trains
 unfolding stands_for
 world_kept line cs trains c k new at within same = λ i. record { at = λ d. centres_of-kept line cs c k new at within same d i; trains = trains }
 
@@ -73,89 +73,89 @@ is_centre_within line cs c each within = grind (arith, nat_tests)
 is_centre_past : (line : Line) (cs : List Centre) (c : ℕ) → length cs ≡ length line.centres → length cs ≤ c → is_centre line c ≡ false
 is_centre_past line cs c each past = grind (arith, nat_tests)
 
-pub no_centre : (line : Line) (w : World) (cs : List Centre) (c : ℕ) (read : Result TrainMessage ℕ) → length cs ≡ length line.centres → length cs ≤ c → world_step Alone line w (Bytes c read) ≡ Ok (NoCentre, w)
+pub no_centre : (line : Line) (w : World) (cs : List Centre) (c : ℕ) (read : Result TrainMessage ℕ) → length cs ≡ length line.centres → length cs ≤ c → world_step Local line w (Bytes c read) ≡ Ok (NoCentre, w)
 unfolding world_step
 no_centre line w cs c read each past = rw (is_centre_past line cs c each past) refl
 
-pub at_centre : (line : Line) (w : World) (cs : List Centre) (c : ℕ) (read : Result TrainMessage ℕ) → length cs ≡ length line.centres → c < length cs → world_step Alone line w (Bytes c read) ≡ reads Alone line w c read
+pub at_centre : (line : Line) (w : World) (cs : List Centre) (c : ℕ) (read : Result TrainMessage ℕ) → length cs ≡ length line.centres → c < length cs → world_step Local line w (Bytes c read) ≡ reads Local line w c read
 unfolding world_step
 at_centre line w cs c read each within = rw (is_centre_within line cs c each within) refl
 
 pub told_within : (line : Line) (w : World) (cs : List Centre) (c : ℕ) (event : step.Event) → length cs ≡ length line.centres → c < length cs
-    → told_at line w c (takes Alone line w c w.trains event) ≡ takes Alone line w c w.trains event
+    → told_at line w c (takes Local line w c w.trains event) ≡ takes Local line w c w.trains event
 told_within line w cs c event each within = rw (is_centre_within line cs c each within) refl
 
 pub told_ok : (line : Line) (cs : List Centre) (trains : List ℕ) (event : step.Event) (c : ℕ) (k new : Centre) → slice_get cs c ≡ Some k → c < length cs → one.line_of k ≡ line → one.number_of k ≡ c
-    → length cs ≡ length line.centres → (outcome : Outcome) → step.step Alone (one.line_of k) (one.number_of k) event (one.meaning k) ≡ Ok (outcome, one.meaning new)
-    → told_at line (stands_for line cs trains) c (takes Alone line (stands_for line cs trains) c (stands_for line cs trains).trains event) ≡ Ok (Answered outcome, stands_for line (set cs c new) trains)
+    → length cs ≡ length line.centres → (outcome : Outcome) → step.step Local (one.line_of k) (one.number_of k) event (one.state_of k) ≡ Ok (outcome, one.state_of new)
+    → told_at line (stands_for line cs trains) c (takes Local line (stands_for line cs trains) c (stands_for line cs trains).trains event) ≡ Ok (Answered outcome, stands_for line (set cs c new) trains)
 unfolding stands_for
 told_ok line cs trains event c k new at within of_line of_number each outcome s =
     told_within line (stands_for line cs trains) cs c event each within ∙ step_ok line cs trains event c k new at within of_line of_number outcome trains trains s refl
 
 pub told_err : (line : Line) (cs : List Centre) (trains : List ℕ) (event : step.Event) (c : ℕ) (k new : Centre) → slice_get cs c ≡ Some k → c < length cs → one.line_of k ≡ line → one.number_of k ≡ c
-    → length cs ≡ length line.centres → (fault : StepFault) → one_step.IsRefusal fault (step.step Alone (one.line_of k) (one.number_of k) event (one.meaning k))
-    → IsRefusal fault (told_at line (stands_for line cs trains) c (takes Alone line (stands_for line cs trains) c (stands_for line cs trains).trains event))
+    → length cs ≡ length line.centres → (fault : StepFault) → one_step.IsRefusal fault (step.step Local (one.line_of k) (one.number_of k) event (one.state_of k))
+    → IsRefusal fault (told_at line (stands_for line cs trains) c (takes Local line (stands_for line cs trains) c (stands_for line cs trains).trains event))
 told_err line cs trains event c k new at within of_line of_number each fault s =
     rw (told_within line (stands_for line cs trains) cs c event each within)
     (step_err line cs trains event c k new at within of_line of_number (stands_for line cs trains).trains fault s)
 
 pub told_past : (line : Line) (w : World) (cs : List Centre) (c : ℕ) (event : step.Event) → length cs ≡ length line.centres → length cs ≤ c
-    → told_at line w c (takes Alone line w c w.trains event) ≡ Ok (NoCentre, w)
+    → told_at line w c (takes Local line w c w.trains event) ≡ Ok (NoCentre, w)
 told_past line w cs c event each past = rw (is_centre_past line cs c each past) refl
 
-pub set_told : (line : Line) (w : World) (c s : ℕ) → world_step Alone line w (Set c s) ≡ told_at line w c (takes Alone line w c w.trains (step.Set s))
+pub set_told : (line : Line) (w : World) (c s : ℕ) → world_step Local line w (Set c s) ≡ told_at line w c (takes Local line w c w.trains (step.Set s))
 unfolding world_step
 set_told line w c s = refl
 
-pub unset_told : (line : Line) (w : World) (c s : ℕ) → world_step Alone line w (Unset c s) ≡ told_at line w c (takes Alone line w c w.trains (step.Unset s))
+pub unset_told : (line : Line) (w : World) (c s : ℕ) → world_step Local line w (Unset c s) ≡ told_at line w c (takes Local line w c w.trains (step.Unset s))
 unfolding world_step
 unset_told line w c s = refl
 
 -- ## Bytes that were read
 
 pub message_step : (line : Line) (w : World) (cs : List Centre) (c : ℕ) (read : Result TrainText MsgFault) (m : TrainText) → length cs ≡ length line.centres → c < length cs → read ≡ Ok m
-    → world_step Alone line w (Bytes c (numbered read)) ≡ takes Alone line w c (mention line m.nid_engine w.trains) (step.Train (step_message m))
-message_step line w cs c read m each within e = at_centre line w cs c (numbered read) each within ∙ ap (λ r. reads Alone line w c (numbered r)) e
+    → world_step Local line w (Bytes c (numbered read)) ≡ takes Local line w c (mention line m.nid_engine w.trains) (step.Train (step_message m))
+message_step line w cs c read m each within e = at_centre line w cs c (numbered read) each within ∙ ap (λ r. reads Local line w c (numbered r)) e
 
 pub fault_step : (line : Line) (w : World) (cs : List Centre) (c : ℕ) (read : Result TrainText MsgFault) (fault : MsgFault) → length cs ≡ length line.centres → c < length cs → read ≡ Err fault
-    → world_step Alone line w (Bytes c (numbered read)) ≡ Ok (Fault (fault_number fault), w)
-fault_step line w cs c read fault each within e = at_centre line w cs c (numbered read) each within ∙ ap (λ r. reads Alone line w c (numbered r)) e
+    → world_step Local line w (Bytes c (numbered read)) ≡ Ok (Fault (fault_number fault), w)
+fault_step line w cs c read fault each within e = at_centre line w cs c (numbered read) each within ∙ ap (λ r. reads Local line w c (numbered r)) e
 
 pub unread_gives : (line : Line) (w : World) (cs : List Centre) (c : ℕ) (read : Result TrainText MsgFault) (fault : MsgFault) (result : Result Answer StepFault) → length cs ≡ length line.centres → c < length cs
     → (fault ≢ of_message.Memory → read ≡ Err fault) → IfOk result (IsFaultOf fault) → IfErr result (λ e. e ≡ Memory)
-    → Gives (λ a. (answer_of a, w)) result (world_step Alone line w (Bytes c (numbered read)))
+    → Gives (λ a. (answer_of a, w)) result (world_step Local line w (Bytes c (numbered read)))
 unread_gives line w cs c read fault (Ok a) each within shows ok err = fault_step line w cs c read fault each within (shows ok.1) ∙ ap (λ x. Ok (x, w)) (sym ok.0)
 unread_gives line w cs c read fault (Err e) each within shows ok err = rw err tt
 
 -- ## Deliveries
 
--- a centre that is alone has sent nothing
-pub never_sent : (line : Line) (cs : List Centre) (trains : List ℕ) (from to number : ℕ) → IsAlone line (stands_for line cs trains) → world_step Alone line (stands_for line cs trains) (Delivery from to number) ≡ Ok (NotSent, stands_for line cs trains)
+-- a centre that is local has sent nothing
+pub never_sent : (line : Line) (cs : List Centre) (trains : List ℕ) (from to number : ℕ) → IsLocal line (stands_for line cs trains) → world_step Local line (stands_for line cs trains) (Delivery from to number) ≡ Ok (NotSent, stands_for line cs trains)
 unfolding world_step
-never_sent line cs trains from to number alone =
+never_sent line cs trains from to number local =
     let w : World = stands_for line cs trains in
-    ap (λ (o : Option Frame). option_map_or (λ f. takes Alone line w to w.trains (step.Deliver from f)) o (Ok (NotSent, w))) (none_delivered line w alone from to number)
+    ap (λ (o : Option Frame). option_map_or (λ f. takes Local line w to w.trains (step.Deliver from f)) o (Ok (NotSent, w))) (none_delivered line w local from to number)
 
 -- ## The piece
 
-pub step_piece : (line : Line) (w new : World) (e : WorldEvent) (result : Result Answer StepFault) → IsLine line → IsAlone line w
-    → Gives (λ a. (answer_of a, new)) result (world_step Alone line w (event_of e)) → IfOk result (λ a. Goes line (read_off line w) (event_of e) (answer_of a) (read_off line new))
-step_piece line w new e (Ok a) ok alone s = step_read line ok w new (event_of e) (answer_of a) alone s
-step_piece line w new e (Err fault) ok alone s = tt
+pub step_piece : (line : Line) (w new : World) (e : WorldEvent) (result : Result Answer StepFault) → IsLine line → IsLocal line w
+    → Gives (λ a. (answer_of a, new)) result (world_step Local line w (event_of e)) → IfOk result (λ a. Goes line (read_off line w) (event_of e) (answer_of a) (read_off line new))
+step_piece line w new e (Ok a) ok local s = step_read line ok w new (event_of e) (answer_of a) local s
+step_piece line w new e (Err fault) ok local s = tt
 
 -- the promises of the event are kept
-pub step_promises : (line : Line) (w new : World) (e : WorldEvent) (result : Result Answer StepFault) → IsLine line → IsAlone line w
-    → Gives (λ a. (answer_of a, new)) result (world_step Alone line w (event_of e)) → IfOk result (λ a. KeepsPromises line w (event_of e) (answer_of a) new)
-step_promises line w new e (Ok a) ok alone s = promises_kept line ok w new (event_of e) (answer_of a) alone s
-step_promises line w new e (Err fault) ok alone s = tt
+pub step_promises : (line : Line) (w new : World) (e : WorldEvent) (result : Result Answer StepFault) → IsLine line → IsLocal line w
+    → Gives (λ a. (answer_of a, new)) result (world_step Local line w (event_of e)) → IfOk result (λ a. KeepsPromises line w (event_of e) (answer_of a) new)
+step_promises line w new e (Ok a) ok local s = promises_kept line ok w new (event_of e) (answer_of a) local s
+step_promises line w new e (Err fault) ok local s = tt
 
--- on a line that one centre has alone it leaves no choice
-pub step_forced : (line : Line) (w new : World) (e : WorldEvent) (result : Result Answer StepFault) → IsLine line → (d : ℕ) → IsOneCentreLine line d → IsAlone line w
-    → Gives (λ a. (answer_of a, new)) result (world_step Alone line w (event_of e)) → IfOk result (λ a. GoesAlone line (read_off line w) (event_of e) (answer_of a) (read_off line new))
-step_forced line w new e (Ok a) ok d one alone s = single.step_read line ok d one w new (event_of e) (answer_of a) alone s
-step_forced line w new e (Err fault) ok d one alone s = tt
+-- on a one-centre line it leaves no choice
+pub step_forced : (line : Line) (w new : World) (e : WorldEvent) (result : Result Answer StepFault) → IsLine line → (d : ℕ) → IsOneCentreLine line d → IsLocal line w
+    → Gives (λ a. (answer_of a, new)) result (world_step Local line w (event_of e)) → IfOk result (λ a. GoesForced line (read_off line w) (event_of e) (answer_of a) (read_off line new))
+step_forced line w new e (Ok a) ok d one local s = single.step_read line ok d one w new (event_of e) (answer_of a) local s
+step_forced line w new e (Err fault) ok d one local s = tt
 
 -- and all rules come to the same
 pub step_by_all_rules : (line : Line) (w new : World) (e : WorldEvent) (result : Result Answer StepFault) → IsLine line → (d : ℕ) → IsOneCentreLine line d
-    → Gives (λ a. (answer_of a, new)) result (world_step Alone line w (event_of e)) → Gives (λ a. (answer_of a, new)) result (world_step Whole line w (event_of e))
+    → Gives (λ a. (answer_of a, new)) result (world_step Local line w (event_of e)) → Gives (λ a. (answer_of a, new)) result (world_step Whole line w (event_of e))
 step_by_all_rules line w new e result ok d one s = rw (same_world_step line (is_ordered line ok) d one w (event_of e)) s

@@ -1,6 +1,6 @@
 -- What the calls of a world answer, beside their definitions.
 use Rattle.std.specs.Prelude.{◌≡◌, List, Result, Ok, Err}
-use Rattle.rbc_spec.specs.Reach.{Alone}
+use Rattle.rbc_spec.specs.Reach.{Local}
 use Rattle.rbc_spec.specs.Line.{Line}
 use Rattle.rbc_spec.specs.World.{Event, Bytes, new_world, IsRefused}
 use Rattle.rbc_spec.specs.Step.{Refusal, ClockEnd as AtClockEnd}
@@ -31,4 +31,4 @@ IsWantedBy event result = Unit {0}
 abbrev pub IsRefusedRun : Line → List Event → StepFault → Type 0
 IsRefusedRun line events Memory = Unit {0}
 IsRefusedRun line events LinkFull = ⊥
-IsRefusedRun line events ClockEnd = IsRefused Alone line (new_world line) events AtClockEnd
+IsRefusedRun line events ClockEnd = IsRefused Local line (new_world line) events AtClockEnd

@@ -1,6 +1,6 @@
 pub mod Views
 pub mod Answers
-pub mod Meaning
+pub mod States
 pub mod Reached
 pub mod World
 pub mod View

@@ -6,9 +6,9 @@ use Rattle.rbc_spec.specs.LineCentre as line_centre
 use Rattle.rbc_spec.specs.LineCentre.{LineState, At, IsHand}
 use Rattle.rbc_hand.specs.SectionRuns.{run_of}
 use Rattle.rbc_place.specs.Places.{place_of}
-use Rattle.rbc_shorten.specs.Missions.{standing_of}
-use Rattle.rbc_mission.specs.Courses.{mission_of}
-use Rattle.rbc_session.specs.Standing.{phase_of}
+use Rattle.rbc_shorten.specs.Facts.{standing_of}
+use Rattle.rbc_mission.specs.Supervisions.{mission_of}
+use Rattle.rbc_session.specs.SessionStates.{phase_of}
 use Rattle.rbc_world.specs.declared.view.Mark.{Mark}
 use Rattle.rbc_world.specs.declared.view.Mark.TheVariants as mark
 use Rattle.rbc_world.specs.declared.view.SectionView.{SectionView}
@@ -24,7 +24,7 @@ mark_shown (mark.Kept t) = line_centre.Kept t
 mark_shown (mark.Given t) = line_centre.Given t
 
 -- a mission, and who supervises it
-abbrev pub mission_shown : MissionView → line_centre.Mission
+abbrev pub mission_shown : MissionView → line_centre.LineMission
 mission_shown m = record {
   place = place_of m.facts.place;
   has_data = m.facts.has_data;

@@ -1,12 +1,12 @@
 -- What a world in memory stands for.
 use Rattle.rbc_spec.specs.Line.{Line}
 use Rattle.rbc_spec.specs.World as spec
-use Rattle.rbc_world.specs.Meaning.{stands_for}
+use Rattle.rbc_world.specs.States.{stands_for}
 use Rattle.rbc_world.specs.declared.world.World.{World}
 
 -- the line of a world, and its centres and trains
 abbrev pub line_of : World → Line
 line_of w = w.line
 
-abbrev pub meaning : World → spec.World
-meaning w = stands_for w.line w.centres.items w.trains.keys
+abbrev pub state_of : World → spec.World
+state_of w = stands_for w.line w.centres.items w.trains.keys

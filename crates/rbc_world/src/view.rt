@@ -1,20 +1,20 @@
 ghost use Rattle.std.specs.Prelude.{◌≡◌, ◌<◌, length, slice_get, IfOk, IfSome, Some, option_map, false};
 ghost use Rattle.std.specs.Option.{option_map_or};
 ghost use Rattle.rbc_spec.specs.Centre.{Shut};
-ghost use Rattle.rbc_spec.specs.Reach.{Alone};
+ghost use Rattle.rbc_spec.specs.Reach.{Local};
 ghost use Rattle.rbc_spec.specs.Line.{IsLine, section};
 ghost use Rattle.rbc_spec.specs.LineCentre.{IsHand};
 ghost use Rattle.rbc_spec.specs.ReadOff.{StandsFor, read_off};
-ghost use Rattle.rbc_alone.specs.Alone.{mark_alone, alone_off};
+ghost use Rattle.rbc_local.specs.Local.{local_mark, local_read_off};
 ghost use Rattle.rbc_book.specs.Entries.{entry_of};
 ghost use Rattle.rbc_hand.specs.SectionRuns.{run_of};
 ghost use Rattle.rbc_world.specs.Reached.{WasReached};
-ghost use Rattle.rbc_world.specs.World.{line_of, meaning};
+ghost use Rattle.rbc_world.specs.World.{line_of, state_of};
 ghost use Rattle.rbc_world.specs.View.{mark_shown, mission_shown, mission_kept, EachOf, ShowsSection, ShowsSession, ShowsTrain, Shows};
 
 use crate::world::{World, known_line};
 use rbc_book::{Entry, Page};
-use rbc_centre::{Mission, Phase, SectionRun};
+use rbc_centre::{MissionFacts, Phase, SectionRun};
 use rbc_line::Line;
 use std::alloc::{AllocError, Global};
 
@@ -34,7 +34,7 @@ pub enum Mark {
 impl Mark {
     /// A section that is in use is in its train's movement authority: no train is handed over to another centre yet.
     fn of(entry: Entry) -> Mark
-        ensures { mark_shown result ≡ mark_alone (entry_of entry) }
+        ensures { mark_shown result ≡ local_mark (entry_of entry) }
     {
         match entry {
             Entry::Shut => Mark::Shut,
@@ -70,7 +70,7 @@ pub struct MissionView {
     /// The number of the centre that supervises the train.
     pub supervisor: u8,
     /// Its last place, its train data, its end, and the request to shorten that stands.
-    pub facts: Mission,
+    pub facts: MissionFacts,
     /// The sections of its movement authority.
     pub hand: SectionRun,
 }
@@ -97,11 +97,11 @@ pub struct LineView {
 impl World {
     /// The state of the line, read off the centres.
     pub fn view(&self, alloc: Global) -> Result<LineView, AllocError>
-        ensures shows { IfOk result (Shows (line_of self.now) (read_off (line_of self.now) (meaning self.now))) }
+        ensures shows { IfOk result (Shows (line_of self.now) (read_off (line_of self.now) (state_of self.now))) }
         // That state stands for the centres.
-        ensures stands { StandsFor (line_of self.now) (meaning self.now) (read_off (line_of self.now) (meaning self.now)) }
+        ensures stands { StandsFor (line_of self.now) (state_of self.now) (read_off (line_of self.now) (state_of self.now)) }
         // Some list of events led from the line's beginning to the centres as they are.
-        ensures reached { ∥ WasReached Alone (line_of self.now) (meaning self.now) ∥₁ }
+        ensures reached { ∥ WasReached Local (line_of self.now) (state_of self.now) ∥₁ }
     {
         known_line(&self.line);
         Ok(LineView {
@@ -112,7 +112,7 @@ impl World {
 
     fn section_views(&self, alloc: Global) -> Result<Vec<SectionView>, AllocError>
         ensures line { IsLine (line_of self.now) }
-        ensures each { IfOk result (λ views. EachOf (λ s p. ShowsSection (alone_off (line_of self.now) (meaning self.now)) s p) (length (line_of self.now).sections) views.items) }
+        ensures each { IfOk result (λ views. EachOf (λ s p. ShowsSection (local_read_off (line_of self.now) (state_of self.now)) s p) (length (line_of self.now).sections) views.items) }
     {
         let count = self.line.section_count();
         let mut views = Vec::with_capacity(alloc, count as usize)?;
@@ -123,7 +123,7 @@ impl World {
     }
 
     fn section_view(&self, s: u16) -> SectionView
-        ensures { ShowsSection (alone_off (line_of self.now) (meaning self.now)) s result }
+        ensures { ShowsSection (local_read_off (line_of self.now) (state_of self.now)) s result }
     {
         let page = self.home_page(s);
         SectionView {
@@ -134,8 +134,8 @@ impl World {
 
     // What the book of its home has of a section.
     fn home_page(&self, s: u16) -> Page
-        ensures entry { entry_of result.entry ≡ option_map_or (λ p. ((meaning self.now).at p.home).book s) (section (line_of self.now) s) Shut }
-        ensures wish { result.is_wished ≡ option_map_or (λ p. ((meaning self.now).at p.home).wish s) (section (line_of self.now) s) false }
+        ensures entry { entry_of result.entry ≡ option_map_or (λ p. ((state_of self.now).at p.home).book s) (section (line_of self.now) s) Shut }
+        ensures wish { result.is_wished ≡ option_map_or (λ p. ((state_of self.now).at p.home).wish s) (section (line_of self.now) s) false }
     {
         match home_of(&self.line, s) {
             Some(home) => self.page_at(home, s),
@@ -145,8 +145,8 @@ impl World {
 
     // What the book of centre c has of a section.
     fn page_at(&self, c: u8, s: u16) -> Page
-        ensures entry { entry_of result.entry ≡ ((meaning self.now).at c).book s }
-        ensures wish { result.is_wished ≡ ((meaning self.now).at c).wish s }
+        ensures entry { entry_of result.entry ≡ ((state_of self.now).at c).book s }
+        ensures wish { result.is_wished ≡ ((state_of self.now).at c).wish s }
     {
         if (c as usize) < self.centres.len() {
             self.centres[c as usize].page(s)
@@ -156,7 +156,7 @@ impl World {
     }
 
     fn train_views(&self, alloc: Global) -> Result<Vec<TrainView>, AllocError>
-        ensures { IfOk result (λ views. EachOf (λ i p. ShowsTrain (line_of self.now) (alone_off (line_of self.now) (meaning self.now)) i p) (length (line_of self.now).trains) views.items) }
+        ensures { IfOk result (λ views. EachOf (λ i p. ShowsTrain (line_of self.now) (local_read_off (line_of self.now) (state_of self.now)) i p) (length (line_of self.now).trains) views.items) }
     {
         let count = self.line.train_count();
         let mut views = Vec::with_capacity(alloc, count as usize)?;
@@ -173,7 +173,7 @@ impl World {
     }
 
     fn session_views(&self, alloc: Global, nid_engine: u32) -> Result<Vec<SessionView>, AllocError>
-        ensures { IfOk result (λ views. EachOf (λ c p. ShowsSession (alone_off (line_of self.now) (meaning self.now)) nid_engine c p) (length (line_of self.now).centres) views.items) }
+        ensures { IfOk result (λ views. EachOf (λ c p. ShowsSession (local_read_off (line_of self.now) (state_of self.now)) nid_engine c p) (length (line_of self.now).centres) views.items) }
     {
         let mut views = Vec::with_capacity(alloc, self.centres.len())?;
         for c in 0..self.centres.len() {
@@ -184,7 +184,7 @@ impl World {
 
     fn session_view(&self, c: usize, nid_engine: u32) -> SessionView
         requires { c < length self.now.centres.items }
-        ensures { ShowsSession (alone_off (line_of self.now) (meaning self.now)) nid_engine c result }
+        ensures { ShowsSession (local_read_off (line_of self.now) (state_of self.now)) nid_engine c result }
     {
         let state = self.centres[c].train(nid_engine);
         SessionView {
@@ -196,8 +196,8 @@ impl World {
 
     // The mission of a train, which no centre but its registrar can have.
     fn mission_view(&self, nid_engine: u32) -> Option<MissionView>
-        ensures mission { option_map mission_shown result ≡ (alone_off (line_of self.now) (meaning self.now)).mission nid_engine }
-        ensures hand { IfSome result (λ m. IsHand (alone_off (line_of self.now) (meaning self.now)) nid_engine (run_of m.hand)) }
+        ensures mission { option_map mission_shown result ≡ (local_read_off (line_of self.now) (state_of self.now)).mission nid_engine }
+        ensures hand { IfSome result (λ m. IsHand (local_read_off (line_of self.now) (state_of self.now)) nid_engine (run_of m.hand)) }
     {
         match self.line.registrar(nid_engine) {
             Some(registrar) => self.mission_at(registrar, nid_engine),
@@ -207,7 +207,7 @@ impl World {
 
     // The mission that centre c has of a train.
     fn mission_at(&self, c: u8, nid_engine: u32) -> Option<MissionView>
-        ensures mission { option_map mission_kept result ≡ ((meaning self.now).at c).mission nid_engine }
+        ensures mission { option_map mission_kept result ≡ ((state_of self.now).at c).mission nid_engine }
         ensures supervisor { IfSome result (λ m. m.supervisor ≡ c) }
     {
         if c as usize >= self.centres.len() {

@@ -2,20 +2,20 @@ ghost use Rattle.std.specs.Prelude.{◌≡◌, ◌<◌, ◌≤◌, ℕ, true, le
 ghost use Rattle.rbc_spec.specs.Line.{IsLine};
 ghost use Rattle.rbc_spec.specs.World.{new_world, world_step, at_centre, takes, mention, Bytes};
 ghost use Rattle.rbc_spec.specs.Step.{Train};
-ghost use Rattle.rbc_spec.specs.Reach.{Alone, Whole};
+ghost use Rattle.rbc_spec.specs.Reach.{Local, Whole};
 ghost use Rattle.rbc_msgs.specs.StepMessage.{step_message};
 ghost use Rattle.rbc_msgs.specs.TrainReading.{read_train};
 ghost use Rattle.indexmap.specs.IndexSet.{spare};
-ghost use Rattle.rbc_world.specs.Meaning.{AtBeginning, stands_for};
+ghost use Rattle.rbc_world.specs.States.{AtBeginning, stands_for};
 ghost use Rattle.rbc_world.specs.Reached.{WasReached, IsOfInterlocking};
 ghost use Rattle.rbc_world.specs.Views.{IsFaultOf};
 ghost use Rattle.rbc_centre.specs.declared.fault.StepFault.TheVariants.{Memory};
 ghost use Rattle.rbc_spec.specs.Run.{Goes};
 ghost use Rattle.rbc_spec.specs.ReadOff.{StandsFor, read_off};
 ghost use Rattle.rbc_spec.specs.Promises.{IsSound, KeepsPromises};
-ghost use Rattle.rbc_spec.specs.Theorems.{IsOneCentreLine, GoesAlone};
+ghost use Rattle.rbc_spec.specs.Theorems.{IsOneCentreLine, GoesForced};
 ghost use Rattle.rbc_centre.specs.declared.centre.Centre.{Centre};
-ghost use Rattle.rbc_centre.specs.Meaning as one;
+ghost use Rattle.rbc_centre.specs.States as one;
 ghost use Rattle.rbc_centre.specs.Answer as one_step;
 ghost use Rattle.rbc_centre.specs.Views.{event_of as one_event};
 
@@ -37,19 +37,19 @@ pub struct World {
     ghost each_centre: { length centres.items ≡ length line.centres },
     ghost one_line: { (c : ℕ) → (k : Centre) → slice_get centres.items c ≡ Some k → one.line_of k ≡ line },
     ghost in_order: { (c : ℕ) → (k : Centre) → slice_get centres.items c ≡ Some k → one.number_of k ≡ c },
-    ghost reached: { ∥ WasReached Alone line (stands_for line centres.items trains.keys) ∥₁ },
+    ghost reached: { ∥ WasReached Local line (stands_for line centres.items trains.keys) ∥₁ },
 }
 
 impl World {
-    ghost use Rattle.rbc_world.specs.World.{line_of, meaning};
+    ghost use Rattle.rbc_world.specs.World.{line_of, state_of};
     ghost use Rattle.rbc_world.specs.Views.{event_of, answer_of, numbered};
     ghost use Rattle.rbc_world.specs.Answers.{Gives, IsWantedBy};
 
     /// The centres of the line at their beginning. A copy of the line is kept.
     pub fn new(alloc: Global, line: &Line) -> Result<World, AllocError>
         ensures line { IfOk result (λ w. line_of w ≡ line.now) }
-        ensures beginning { IfOk result (λ w. meaning w ≡ new_world line.now) }
-        ensures reached { IfOk result (λ w. ∥ WasReached Alone (line_of w) (meaning w) ∥₁) }
+        ensures beginning { IfOk result (λ w. state_of w ≡ new_world line.now) }
+        ensures reached { IfOk result (λ w. ∥ WasReached Local (line_of w) (state_of w) ∥₁) }
     {
         Ok(World {
             alloc,
@@ -60,9 +60,9 @@ impl World {
     }
 
     /// The trains of the line that messages at its centres have named, in the order of first mention.
-    #[tactic(auto, unfolding(crate::specs::Meaning::stands_for))]
+    #[tactic(auto, unfolding(crate::specs::States::stands_for))]
     pub fn trains(&self) -> &IndexSet<u32>
-        ensures { result.now.keys ≡ (meaning self.now).trains }
+        ensures { result.now.keys ≡ (state_of self.now).trains }
     {
         &self.trains
     }
@@ -71,28 +71,28 @@ impl World {
     pub fn step(&mut self, event: &WorldEvent) -> Result<Answer, StepFault>
         ensures line { line_of self.new ≡ line_of self.old }
         // What is answered and left is what the definition of a world's step gives.
-        ensures exact { Gives (λ a. (answer_of a, meaning self.new)) result
-            (world_step Alone (line_of self.old) (meaning self.old) (event_of event.now)) }
+        ensures exact { Gives (λ a. (answer_of a, state_of self.new)) result
+            (world_step Local (line_of self.old) (state_of self.old) (event_of event.now)) }
         // It is one piece of the one line centre's run, or none.
-        ensures piece { IfOk result (λ a. Goes (line_of self.old) (read_off (line_of self.old) (meaning self.old))
-            (event_of event.now) (answer_of a) (read_off (line_of self.old) (meaning self.new))) }
+        ensures piece { IfOk result (λ a. Goes (line_of self.old) (read_off (line_of self.old) (state_of self.old))
+            (event_of event.now) (answer_of a) (read_off (line_of self.old) (state_of self.new))) }
         // Some list of events led from the line's beginning to the world that is left.
-        ensures reached { ∥ WasReached Alone (line_of self.new) (meaning self.new) ∥₁ }
+        ensures reached { ∥ WasReached Local (line_of self.new) (state_of self.new) ∥₁ }
         // The state that is read off the centres stands for them, whatever was refused before.
-        ensures stands { StandsFor (line_of self.new) (meaning self.new) (read_off (line_of self.new) (meaning self.new)) }
+        ensures stands { StandsFor (line_of self.new) (state_of self.new) (read_off (line_of self.new) (state_of self.new)) }
         // So each train has one supervisor at most, each section one train, and no section in use and no right is lost or in two places.
-        ensures sound { IsSound (line_of self.new) (meaning self.new) }
+        ensures sound { IsSound (line_of self.new) (state_of self.new) }
         // A section leaves an authority only by what its train said, and the interlocking is told what is so.
-        ensures promises { IfOk result (λ a. KeepsPromises (line_of self.old) (meaning self.old) (event_of event.now) (answer_of a) (meaning self.new)) }
-        // On a line that one centre has alone the piece leaves no choice, and the answer is that of the rules of the whole system.
+        ensures promises { IfOk result (λ a. KeepsPromises (line_of self.old) (state_of self.old) (event_of event.now) (answer_of a) (state_of self.new)) }
+        // On a one-centre line the piece leaves no choice, and the answer is that of the rules of the whole system.
         ensures one_centre { (c : ℕ) → IsOneCentreLine (line_of self.old) c
-            → IfOk result (λ a. GoesAlone (line_of self.old) (read_off (line_of self.old) (meaning self.old))
-            (event_of event.now) (answer_of a) (read_off (line_of self.old) (meaning self.new))) }
-        ensures one_centre_exact { (c : ℕ) → IsOneCentreLine (line_of self.old) c → Gives (λ a. (answer_of a, meaning self.new)) result
-            (world_step Whole (line_of self.old) (meaning self.old) (event_of event.now)) }
+            → IfOk result (λ a. GoesForced (line_of self.old) (read_off (line_of self.old) (state_of self.old))
+            (event_of event.now) (answer_of a) (read_off (line_of self.old) (state_of self.new))) }
+        ensures one_centre_exact { (c : ℕ) → IsOneCentreLine (line_of self.old) c → Gives (λ a. (answer_of a, state_of self.new)) result
+            (world_step Whole (line_of self.old) (state_of self.old) (event_of event.now)) }
         // Only a train's bytes want memory.
         ensures memory { IsWantedBy (event_of event.now) result }
-        ensures err { OnErr result (meaning self.new ≡ meaning self.old) }
+        ensures err { OnErr result (state_of self.new ≡ state_of self.old) }
     {
         known_line(&self.line);
         self.take(event)
@@ -100,10 +100,10 @@ impl World {
 
     fn take(&mut self, event: &WorldEvent) -> Result<Answer, StepFault>
         ensures line { line_of self.new ≡ line_of self.old }
-        ensures exact { Gives (λ a. (answer_of a, meaning self.new)) result
-            (world_step Alone (line_of self.old) (meaning self.old) (event_of event.now)) }
+        ensures exact { Gives (λ a. (answer_of a, state_of self.new)) result
+            (world_step Local (line_of self.old) (state_of self.old) (event_of event.now)) }
         ensures memory { IsWantedBy (event_of event.now) result }
-        ensures err { OnErr result (meaning self.new ≡ meaning self.old) }
+        ensures err { OnErr result (state_of self.new ≡ state_of self.old) }
     {
         match event {
             WorldEvent::Train { centre, bytes } => self.receive(*centre, bytes),
@@ -117,10 +117,10 @@ impl World {
     fn tell(&mut self, c: u8, event: &Event) -> Result<Answer, StepFault>
         requires { IsOfInterlocking event.now }
         ensures line { line_of self.new ≡ line_of self.old }
-        ensures exact { Gives (λ a. (answer_of a, meaning self.new)) result
-            (at_centre (line_of self.old) (meaning self.old) c (takes Alone (line_of self.old) (meaning self.old) c (meaning self.old).trains (one_event event.now))) }
+        ensures exact { Gives (λ a. (answer_of a, state_of self.new)) result
+            (at_centre (line_of self.old) (state_of self.old) c (takes Local (line_of self.old) (state_of self.old) c (state_of self.old).trains (one_event event.now))) }
         ensures memory { one_step.IsWantedBy (one_event event.now) result }
-        ensures err { OnErr result (meaning self.new ≡ meaning self.old) }
+        ensures err { OnErr result (state_of self.new ≡ state_of self.old) }
     {
         if c as usize >= self.centres.len() {
             return Ok(Answer::NoCentre);
@@ -132,9 +132,9 @@ impl World {
     // Bytes from a train come to a centre.
     fn receive(&mut self, c: u8, bytes: &[u8]) -> Result<Answer, StepFault>
         ensures line { line_of self.new ≡ line_of self.old }
-        ensures exact { Gives (λ a. (answer_of a, meaning self.new)) result
-            (world_step Alone (line_of self.old) (meaning self.old) (Bytes c (numbered (read_train bytes.now)))) }
-        ensures err { OnErr result (meaning self.new ≡ meaning self.old) }
+        ensures exact { Gives (λ a. (answer_of a, state_of self.new)) result
+            (world_step Local (line_of self.old) (state_of self.old) (Bytes c (numbered (read_train bytes.now)))) }
+        ensures err { OnErr result (state_of self.new ≡ state_of self.old) }
     {
         if c as usize >= self.centres.len() {
             return Ok(Answer::NoCentre);
@@ -149,9 +149,9 @@ impl World {
     fn hear(&mut self, c: usize, message: TrainMsg) -> Result<Answer, StepFault>
         requires { c < length self.old.centres.items }
         ensures line { line_of self.new ≡ line_of self.old }
-        ensures exact { Gives (λ a. (answer_of a, meaning self.new)) result
-            (takes Alone (line_of self.old) (meaning self.old) c (mention (line_of self.old) message.nid_engine (meaning self.old).trains) (Train (step_message message))) }
-        ensures err { OnErr result (meaning self.new ≡ meaning self.old) }
+        ensures exact { Gives (λ a. (answer_of a, state_of self.new)) result
+            (takes Local (line_of self.old) (state_of self.old) c (mention (line_of self.old) message.nid_engine (state_of self.old).trains) (Train (step_message message))) }
+        ensures err { OnErr result (state_of self.new ≡ state_of self.old) }
     {
         self.trains.reserve(1)?;
         let nid_engine = message.nid_engine();

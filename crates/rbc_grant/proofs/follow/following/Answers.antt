@@ -1,5 +1,5 @@
 use Rattle.std.proofs.Common.{◌+◌, sym, ap, ◌∙◌, arith}
-use Rattle.rbc_spec.specs.Runs.{behind, longest}
+use Rattle.rbc_spec.specs.SectionRuns.{behind, longest}
 use Rattle.rbc_hand.specs.SectionRuns.{run_of}
 use Rattle.rbc_place.specs.Places.{place_of}
 use Rattle.rbc_place.proofs.Longest.{stops, one_more, all_passed}

@@ -1,4 +1,4 @@
-use Rattle.rbc_spec.specs.Runs.{behind}
+use Rattle.rbc_spec.specs.SectionRuns.{behind}
 use Rattle.rbc_hand.specs.SectionRuns.{run_of}
 use Rattle.rbc_place.specs.Places.{place_of}
 use Rattle.rbc_place.proofs.Longest.{HasPassed}

@@ -1,6 +1,6 @@
 use Rattle.std.proofs.Common.{◌≡◌, ◌+◌, ◌-◌, ap, ◌∙◌, arith}
 use Rattle.rbc_spec.specs.Line.{end}
-use Rattle.rbc_spec.specs.Runs.{behind}
+use Rattle.rbc_spec.specs.SectionRuns.{behind}
 use Rattle.rbc_hand.specs.SectionRuns.{run_of}
 use Rattle.rbc_place.specs.Places.{place_of}
 use Rattle.rbc_grant.specs.Grants.{may_follow}

@@ -1,4 +1,4 @@
-use Rattle.rbc_spec.specs.Runs.{longest}
+use Rattle.rbc_spec.specs.SectionRuns.{longest}
 use Rattle.rbc_lemmas.proofs.Longest.{longest_is, longest_only}
 use Rattle.rbc_laws.proofs.sections.the_longest_run.Goals as goal
 

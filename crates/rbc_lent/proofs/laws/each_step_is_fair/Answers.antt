@@ -1,4 +1,4 @@
-use Rattle.rbc_alone.proofs.Ordered.{is_ordered}
+use Rattle.rbc_local.proofs.Ordered.{is_ordered}
 use Rattle.rbc_flow.proofs.Neighbours.{neighbours}
 use Rattle.rbc_tokens.proofs.Rights.{rights_tally, rights_counted, rights_ready}
 use Rattle.rbc_tokens.proofs.Tokens.{tokens_tally, tokens_counted, tokens_ready}

@@ -1,4 +1,4 @@
-use Rattle.rbc_alone.proofs.Ordered.{is_ordered}
+use Rattle.rbc_local.proofs.Ordered.{is_ordered}
 use Rattle.rbc_flow.proofs.Neighbours.{neighbours}
 use Rattle.rbc_tokens.proofs.Steps.{step_fair}
 use Rattle.rbc_lent.proofs.Lent.{lent_tally, lent_counted, lent_ready}

@@ -1,7 +1,7 @@
 use Rattle.std.proofs.Common.{◌∙◌, ap, sym}
 use Rattle.rbc_spec.specs.Line.{start}
 use Rattle.rbc_hand.specs.SectionRuns.{run_of}
-use Rattle.rbc_mission.specs.Courses.{mission_of}
+use Rattle.rbc_mission.specs.Supervisions.{mission_of}
 use Rattle.rbc_rules.specs.Desks.{mission_by}
 use Rattle.rbc_rules.proofs.Asks.{none_made, made, has_room}
 use Rattle.rbc_rules.proofs.asking.ask_back.Goals as goal

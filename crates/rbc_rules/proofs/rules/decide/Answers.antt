@@ -1,16 +1,16 @@
 use Rattle.std.proofs.Common.{◌≡◌, ◌∙◌, ap, refl, inl, inr}
 use Rattle.rbc_msgs.specs.StepMessage.{step_body}
-use Rattle.rbc_session.specs.Standing.{phase_of}
+use Rattle.rbc_session.specs.SessionStates.{phase_of}
 use Rattle.rbc_mission.specs.Deeds as deeds
 use Rattle.rbc_rules.specs.Desks.{mission_by}
 use Rattle.rbc_rules.proofs.rules.decide.Goals as goal
 
-pub returns-in-TrainData-clause-act : goal.returns-in-TrainData-clause-act
-returns-in-TrainData-clause-act c = λ k desk.
+pub returns-in-TrainData-clause-deed : goal.returns-in-TrainData-clause-deed
+returns-in-TrainData-clause-deed c = λ k desk.
     let phase = phase_of c.args.train.now.phase in
     let mission = mission_by c.args.train.now.mission c.args.train.now.hand in
     let t = c.args.train.now.nid_engine in
-    c.if_up-in-TrainData.ensures.act ∙ ap (deeds.if_up phase) (c.under_way.ensures.act k desk.has_book)
+    c.if_up-in-TrainData.ensures.deed ∙ ap (deeds.if_up phase) (c.under_way.ensures.deed k desk.has_book)
     ∙ elim c.in-TrainData.is as (λ _. deeds.if_up phase (deeds.supervised mission (deeds.rule_under_way c.args.line.now c.args.centre k (step_body c.args.body.now)))
     ≡ deeds.rule_of c.args.line.now c.args.centre k t phase mission (step_body c.args.body.now)) [
       | inl known ↦ rw (known.2) refl

@@ -1,11 +1,11 @@
 use Rattle.std.proofs.Common.{subst, ◌≡◌, ◌∙◌, ap, sym, refl, Some, option_map}
-use Rattle.rbc_spec.specs.Runs.{behind}
+use Rattle.rbc_spec.specs.SectionRuns.{behind}
 use Rattle.rbc_spec.specs.Place.{place_on}
 use Rattle.rbc_msgs.specs.StepMessage.{position_of}
 use Rattle.rbc_hand.specs.SectionRuns.{run_of}
 use Rattle.rbc_place.specs.Places.{place_of}
-use Rattle.rbc_shorten.specs.Missions.{proposal_of}
-use Rattle.rbc_mission.specs.Courses.{mission_of}
+use Rattle.rbc_shorten.specs.Facts.{proposal_of}
+use Rattle.rbc_mission.specs.Supervisions.{mission_of}
 use Rattle.rbc_rules.proofs.Runs.{follows_same}
 use Rattle.rbc_spec.specs.Centre as spec
 use Rattle.rbc_mission.specs.Changes.{MayGrow}
@@ -13,8 +13,8 @@ use Rattle.rbc_rules.proofs.Fits.{grows, hand_is}
 use Rattle.rbc_rules.proofs.Decisions.{some_mapped, request_granted}
 use Rattle.rbc_rules.proofs.rules.request.Goals as goal
 
-pub returns-clause-act : goal.returns-clause-act
-returns-clause-act c = λ k pages.
+pub returns-clause-deed : goal.returns-clause-deed
+returns-clause-deed c = λ k pages.
     let hand = run_of c.args.hand in
     let m = mission_of hand c.args.mission.now in
     let place = place_of c.in-Some.place in
@@ -27,7 +27,7 @@ pub returns-clause-fits : goal.returns-clause-fits
 returns-clause-fits c = λ rights i.
     let m = mission_of (run_of c.args.hand) c.args.mission.now in (
       λ x is. subst (λ (y : spec.Mission). MayGrow y c.answer_request.result.sections c.args.book.now) (hand_is c.args.mission.now c.args.hand x is)
-          (grows c.args.line.now c.args.book.now (place_of c.in-Some.place) m c.answer_request.result.sections c.answer_request.ensures.line c.requires.alone c.answer_request.ensures.room c.answer_request.ensures.each),
+          (grows c.args.line.now c.args.book.now (place_of c.in-Some.place) m c.answer_request.result.sections c.answer_request.ensures.line c.requires.local c.answer_request.ensures.room c.answer_request.ensures.each),
       c.answer_request.ensures.fits (sym c.may_request.ensures ∙ c.if-not-may_request.false),
       c.in-Some.ensures.group,
     )

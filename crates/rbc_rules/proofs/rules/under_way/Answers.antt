@@ -2,13 +2,13 @@ use Rattle.std.proofs.Common.{◌≡◌, ap, sym, subst, Some, Option}
 use Rattle.std.specs.Result.{IfOk}
 use Rattle.rbc_spec.specs.Centre as spec
 use Rattle.rbc_hand.specs.SectionRuns.{run_of}
-use Rattle.rbc_mission.specs.Courses.{mission_of}
+use Rattle.rbc_mission.specs.Supervisions.{mission_of}
 use Rattle.rbc_rules.specs.Desks.{mission_by}
 use Rattle.rbc_rules.specs.Decisions.{Fits}
 use Rattle.rbc_rules.proofs.rules.under_way.Goals as goal
 
-pub request-requires-clause-alone : goal.request-requires-clause-alone
-request-requires-clause-alone c = c.requires.alone (mission_of (run_of c.args.train.now.hand) c.in-Some.mission) (ap (λ m. mission_by m c.args.train.now.hand) c.in-Some.is)
+pub request-requires-clause-local : goal.request-requires-clause-local
+request-requires-clause-local c = c.requires.local (mission_of (run_of c.args.train.now.hand) c.in-Some.mission) (ap (λ m. mission_by m c.args.train.now.hand) c.in-Some.is)
 
 pub returns-in-Request-clause-fits : goal.returns-in-Request-clause-fits
 returns-in-Request-clause-fits c = λ rights i.

@@ -1,4 +1,4 @@
-use Rattle.rbc_alone.proofs.Ordered.{is_ordered}
+use Rattle.rbc_local.proofs.Ordered.{is_ordered}
 use Rattle.rbc_single.proofs.Borders.{same_world_step, same_run}
 use Rattle.rbc_single.proofs.laws.no_mission_goes_on_elsewhere.Goals as goal
 

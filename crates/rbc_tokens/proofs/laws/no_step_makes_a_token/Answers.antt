@@ -1,4 +1,4 @@
-use Rattle.rbc_alone.proofs.Ordered.{is_ordered}
+use Rattle.rbc_local.proofs.Ordered.{is_ordered}
 use Rattle.rbc_tokens.proofs.Tokens.{tokens_tally, tokens_counted, tokens_ready}
 use Rattle.rbc_tokens.proofs.Steps.{step_fair}
 use Rattle.rbc_tokens.proofs.laws.no_step_makes_a_token.Goals as goal

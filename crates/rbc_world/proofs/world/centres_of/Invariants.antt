@@ -1,6 +1,6 @@
 use Rattle.std.proofs.Common.{◌≡◌, ℕ, length, slice_get, Some}
 use Rattle.rbc_centre.specs.declared.centre.Centre.{Centre}
-use Rattle.rbc_world.specs.Meaning.{AtBeginning}
+use Rattle.rbc_world.specs.States.{AtBeginning}
 use Rattle.rbc_world.proofs.world.centres_of.Given as goal
 
 abbrev pub invariant-loop-c : goal.invariant-loop-c

@@ -1,12 +1,12 @@
 use Rattle.std.proofs.Common.{◌∙◌, ap, sym, arith, subst, length}
 use Rattle.rbc_spec.specs.Centre as centre
 use Rattle.rbc_spec.specs.Centre.{beginning}
-use Rattle.rbc_alone.specs.Alone.{IsAloneAt}
-use Rattle.rbc_alone.proofs.Ordered.{is_ordered, begins_alone}
+use Rattle.rbc_local.specs.Local.{IsLocalAt}
+use Rattle.rbc_local.proofs.Ordered.{is_ordered, begins_local}
 use Rattle.rbc_book.specs.Book.{Pages, is_own}
 use Rattle.rbc_session.specs.Sessions.{phase_at}
 use Rattle.rbc_centre.specs.State.{stands_for}
-use Rattle.rbc_centre.proofs.Begins.{stands_at_beginning, none_said, numbers, engines, no_groups, silent_everywhere}
+use Rattle.rbc_centre.proofs.Begins.{stands_at_beginning, none_said, numbers, engines, no_groups, closed_everywhere}
 use Rattle.rbc_centre.proofs.centre.Centre.new.Goals as goal
 
 pub returns-clause-beginning : goal.returns-clause-beginning
@@ -27,12 +27,12 @@ invariant_of-result c =
       ordered = is_ordered c.in_ok-line.line c.in_ok-line.ensures.line;
       in_time = omega arith;
       own_sections = λ s. ap (λ (b : Pages). is_own b s) c.in_ok-trains.ensures.book ∙ c.in_ok-book.ensures.homes s;
-      alone = subst (λ (x : centre.Centre). IsAloneAt c.in_ok-line.line c.args.number x) (sym begins) (begins_alone c.in_ok-line.line c.args.number);
+      local = subst (λ (x : centre.Centre). IsLocalAt c.in_ok-line.line c.args.number x) (sym begins) (begins_local c.in_ok-line.line c.args.number);
       each_right = ap length c.in_ok-trains.ensures.registrar ∙ c.in_ok-registrar.ensures.count;
       each_train = c.in_ok-trains.ensures.count;
       each_number = numbers c.in_ok-line.line c.in_ok-trains.trains.items c.in_ok-trains.ensures.each;
       each_engine = engines c.in_ok-line.line c.in_ok-trains.trains.items c.in_ok-trains.ensures.each;
       each_group = λ i p m at mission. let few = no_groups c.in_ok-line.line c.in_ok-trains.trains.items c.in_ok-trains.ensures.each i p m at mission in omega (arith, few);
-      each_stands = silent_everywhere c.in_ok-line.line c.in_ok-trains.trains.items c.in_ok-trains.ensures.each _ (λ u. ap (λ r. phase_at r u) c.in_ok-trains.ensures.sessions ∙ c.new-sessions.ensures.phases u);
+      each_stands = closed_everywhere c.in_ok-line.line c.in_ok-trains.trains.items c.in_ok-trains.ensures.each _ (λ u. ap (λ r. phase_at r u) c.in_ok-trains.ensures.sessions ∙ c.new-sessions.ensures.phases u);
       counted = none_said c.in_ok-line.line c.in_ok-trains.trains.items c.in_ok-trains.ensures.each;
     }

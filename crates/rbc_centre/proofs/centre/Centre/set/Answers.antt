@@ -2,8 +2,8 @@ use Rattle.std.proofs.Common.{◌∙◌, ◌+◌, arith, true, false, refl}
 use Rattle.rbc_spec.specs.Centre.{is_unused}
 use Rattle.rbc_book.specs.Book.{entry_at}
 use Rattle.rbc_centre.proofs.States.{counted_later}
-use Rattle.rbc_centre.proofs.Steps.{alone_later, set_stands}
-use Rattle.rbc_centre.proofs.Wishes.{set_turns, set_alone}
+use Rattle.rbc_centre.proofs.Steps.{local_later, set_stands}
+use Rattle.rbc_centre.proofs.Wishes.{set_turns, set_local}
 use Rattle.rbc_centre.proofs.centre.Centre.set.Goals as goal
 
 pub invariant_of-self : goal.invariant_of-self
@@ -14,8 +14,8 @@ invariant_of-self c =
       ordered = k.ordered;
       in_time = omega (arith, c.requires);
       own_sections = λ n. c.set.ensures.homes n ∙ k.own_sections n;
-      alone = set_alone k.line k.number (k.clock + 1) k.book c.set.new.self k.registrar k.trains.items s (k.own_sections s) c.set.ensures.entry c.set.ensures.wish
-          (alone_later k.line k.number k.clock (k.clock + 1) k.book k.registrar k.trains.items k.alone);
+      local = set_local k.line k.number (k.clock + 1) k.book c.set.new.self k.registrar k.trains.items s (k.own_sections s) c.set.ensures.entry c.set.ensures.wish
+          (local_later k.line k.number k.clock (k.clock + 1) k.book k.registrar k.trains.items k.local);
       each_right = k.each_right;
       each_train = k.each_train;
       each_number = k.each_number;

@@ -4,7 +4,7 @@ use Rattle.rbc_spec.specs.Centre as centre
 use Rattle.rbc_spec.specs.Step.{Refusal, Train}
 use Rattle.rbc_msgs.specs.StepMessage.{step_message}
 use Rattle.rbc_centre.specs.Answer.{Steps}
-use Rattle.rbc_centre.specs.Meaning.{meaning}
+use Rattle.rbc_centre.specs.States.{state_of}
 use Rattle.rbc_centre.specs.Views.{event_of, outcome_of}
 use Rattle.rbc_centre.proofs.Steps.{refused_step, taken_step, not_refused, frameless, of_train}
 use Rattle.rbc_centre.proofs.centre.Centre.step.Goals as goal
@@ -14,7 +14,7 @@ returns-then-self-ge-LAST_STAMP-clause-exact c = refused_step c.args.self.now.li
 
 pub returns-in-Train-clause-exact : goal.returns-in-Train-clause-exact
 returns-in-Train-clause-exact c =
-    rw c.in-Train.is (subst (λ (r : Result (Outcome × centre.Centre) Refusal). Steps (λ o. (outcome_of o, meaning c.take.new.self)) c.take.result r)
+    rw c.in-Train.is (subst (λ (r : Result (Outcome × centre.Centre) Refusal). Steps (λ o. (outcome_of o, state_of c.take.new.self)) c.take.result r)
     (sym (not_refused c.args.self.now.line (Train (step_message c.in-Train.message)) c.args.self.now.number c.args.self.now.clock c.args.self.now.book c.args.self.now.registrar c.args.self.now.trains.items
     (of_train (step_message c.in-Train.message)) (omega arith))) c.take.ensures.exact)
 

@@ -5,7 +5,7 @@ use Rattle.rbc_msgs.specs.StepMessage.{step_message}
 use Rattle.rbc_centre.specs.State.{stands_for}
 use Rattle.rbc_centre.proofs.States.{counted_later}
 use Rattle.rbc_centre.proofs.Silences.{ticked_is}
-use Rattle.rbc_centre.proofs.Steps.{alone_later, silent_stands}
+use Rattle.rbc_centre.proofs.Steps.{local_later, silent_stands}
 use Rattle.rbc_centre.proofs.centre.Centre.take.Goals as goal
 
 pub answer-requires-clause-heard : goal.answer-requires-clause-heard
@@ -21,7 +21,7 @@ invariant_of-self c =
       ordered = k.ordered;
       in_time = omega (arith, c.requires);
       own_sections = k.own_sections;
-      alone = alone_later k.line k.number k.clock (k.clock + 1) k.book k.registrar k.trains.items k.alone;
+      local = local_later k.line k.number k.clock (k.clock + 1) k.book k.registrar k.trains.items k.local;
       each_right = k.each_right;
       each_train = k.each_train;
       each_number = k.each_number;

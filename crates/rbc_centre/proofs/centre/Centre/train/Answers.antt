@@ -1,7 +1,7 @@
 use Rattle.std.proofs.Common.{◌∙◌, sym, refl, None}
 use Rattle.std.proofs.lemmas.Option.{slice_get_read}
-use Rattle.rbc_spec.specs.Centre.{Silent}
-use Rattle.rbc_session.specs.Standing.{standing_phase}
+use Rattle.rbc_spec.specs.Centre.{Closed}
+use Rattle.rbc_session.specs.SessionStates.{session_phase}
 use Rattle.rbc_centre.specs.State.{stands_for}
 use Rattle.rbc_centre.proofs.States.{part_of_train, part_of_foreign, number_within}
 use Rattle.rbc_centre.proofs.centre.Centre.train.Goals as goal
@@ -11,12 +11,12 @@ unfolding stands_for
 returns-in-Some-clause-phase c =
     let number = sym c.train_number.ensures.value ∙ c.in-Some.is in
     let within = number_within c.args.self.now.line c.args.self.now.trains.items c.args.nid_engine _ number c.args.self.now.each_train in
-    c.page.ensures.phase ∙ part_of_train (λ p. standing_phase p.standing) Silent c.args.self.now.line c.args.self.now.trains.items c.args.nid_engine _ c.index.result.now number (slice_get_read _ _ _ _ refl within c.index.ensures)
+    c.page.ensures.phase ∙ part_of_train (λ p. session_phase p.session_state) Closed c.args.self.now.line c.args.self.now.trains.items c.args.nid_engine _ c.index.result.now number (slice_get_read _ _ _ _ refl within c.index.ensures)
 
 pub returns-in-None-clause-phase : goal.returns-in-None-clause-phase
 unfolding stands_for
 returns-in-None-clause-phase c =
-    part_of_foreign (λ p. standing_phase p.standing) Silent c.args.self.now.line c.args.self.now.trains.items c.args.nid_engine (sym c.train_number.ensures.value ∙ c.in-None.is)
+    part_of_foreign (λ p. session_phase p.session_state) Closed c.args.self.now.line c.args.self.now.trains.items c.args.nid_engine (sym c.train_number.ensures.value ∙ c.in-None.is)
 
 pub returns-in-Some-clause-heard : goal.returns-in-Some-clause-heard
 unfolding stands_for
@@ -47,9 +47,9 @@ unfolding stands_for
 returns-in-Some-clause-mission c =
     let number = sym c.train_number.ensures.value ∙ c.in-Some.is in
     let within = number_within c.args.self.now.line c.args.self.now.trains.items c.args.nid_engine _ number c.args.self.now.each_train in
-    c.page.ensures.mission ∙ part_of_train (λ p. p.course.mission) None c.args.self.now.line c.args.self.now.trains.items c.args.nid_engine _ c.index.result.now number (slice_get_read _ _ _ _ refl within c.index.ensures)
+    c.page.ensures.mission ∙ part_of_train (λ p. p.supervision.mission) None c.args.self.now.line c.args.self.now.trains.items c.args.nid_engine _ c.index.result.now number (slice_get_read _ _ _ _ refl within c.index.ensures)
 
 pub returns-in-None-clause-mission : goal.returns-in-None-clause-mission
 unfolding stands_for
 returns-in-None-clause-mission c =
-    part_of_foreign (λ p. p.course.mission) None c.args.self.now.line c.args.self.now.trains.items c.args.nid_engine (sym c.train_number.ensures.value ∙ c.in-None.is)
+    part_of_foreign (λ p. p.supervision.mission) None c.args.self.now.line c.args.self.now.trains.items c.args.nid_engine (sym c.train_number.ensures.value ∙ c.in-None.is)

@@ -8,13 +8,13 @@ use Rattle.rbc_spec.specs.Acts.{propose_if_so}
 use Rattle.rbc_spec.specs.Outcome.{Asked}
 use Rattle.rbc_book.specs.Book.{entry_at}
 use Rattle.rbc_centre.specs.Answers.{asked}
-use Rattle.rbc_centre.specs.Standings.{Stands}
+use Rattle.rbc_centre.specs.SessionStates.{Stands}
 use Rattle.rbc_centre.specs.State.{HasTrain}
 use Rattle.rbc_centre.specs.Views.{outcome_of, sayings_of}
 use Rattle.rbc_centre.proofs.States.{number_within, counted_later, counted_after, each_after, each_train_after}
-use Rattle.rbc_centre.specs.Meaning.{meaning}
-use Rattle.rbc_centre.proofs.Steps.{alone_later, unset_stands, spoken}
-use Rattle.rbc_centre.proofs.Wishes.{unset_turns, unset_alone, asked_turns, asked_alone, user_stands, user_number, done_unused, asked_used}
+use Rattle.rbc_centre.specs.States.{state_of}
+use Rattle.rbc_centre.proofs.Steps.{local_later, unset_stands, spoken}
+use Rattle.rbc_centre.proofs.Wishes.{unset_turns, unset_local, asked_turns, asked_local, user_stands, user_number, done_unused, asked_used}
 use Rattle.rbc_centre.proofs.centre.Centre.unset.Goals.{in-Some, in-None}
 use Rattle.rbc_centre.proofs.centre.Centre.unset.Goals as goal
 
@@ -26,9 +26,9 @@ invariant_of-self c =
       ordered = k.ordered;
       in_time = omega (arith, c.requires);
       own_sections = λ n. c.unset.ensures.homes n ∙ k.own_sections n;
-      alone = unset_alone k.line k.number (k.clock + 1) k.book c.unset.new.self k.registrar k.trains.items s (k.own_sections s) c.unset.ensures.entry c.unset.ensures.wish
+      local = unset_local k.line k.number (k.clock + 1) k.book c.unset.new.self k.registrar k.trains.items s (k.own_sections s) c.unset.ensures.entry c.unset.ensures.wish
           true c.in-Ok-Done.ensures.own (λ _. done_unused (entry_at k.book s) (sym c.in-Ok-Done.field-0-is ∙ c.in-Ok-Done.ensures.answer))
-          (alone_later k.line k.number k.clock (k.clock + 1) k.book k.registrar k.trains.items k.alone);
+          (local_later k.line k.number k.clock (k.clock + 1) k.book k.registrar k.trains.items k.local);
       each_right = k.each_right;
       each_train = k.each_train;
       each_number = k.each_number;
@@ -46,9 +46,9 @@ invariant_of-self-in-Err c =
       ordered = k.ordered;
       in_time = omega (arith, c.requires);
       own_sections = λ n. c.unset.ensures.homes n ∙ k.own_sections n;
-      alone = unset_alone k.line k.number (k.clock + 1) k.book c.unset.new.self k.registrar k.trains.items s (k.own_sections s) c.unset.ensures.entry c.unset.ensures.wish
+      local = unset_local k.line k.number (k.clock + 1) k.book c.unset.new.self k.registrar k.trains.items s (k.own_sections s) c.unset.ensures.entry c.unset.ensures.wish
           false c.in-Err.ensures.own (λ e. cc)
-          (alone_later k.line k.number k.clock (k.clock + 1) k.book k.registrar k.trains.items k.alone);
+          (local_later k.line k.number k.clock (k.clock + 1) k.book k.registrar k.trains.items k.local);
       each_right = k.each_right;
       each_train = k.each_train;
       each_number = k.each_number;
@@ -81,7 +81,7 @@ ask_back-request-requires-clause-count c =
     let s = c.args.s in
     let states = k.trains.items in
     let used = asked_used (entry_at k.book s) (sym c.in-Ok-Asked.field-0-is ∙ c.in-Ok-Asked.ensures.answer) in
-    let user = user_stands k.line k.number k.clock k.book c.unset.new.self k.registrar states s (k.own_sections s) k.alone (entry_at k.book s) refl used in
+    let user = user_stands k.line k.number k.clock k.book c.unset.new.self k.registrar states s (k.own_sections s) k.local (entry_at k.book s) refl used in
     let t = user.0 in
     let taken : entry_at k.book s ≡ Taken t = user.1 in
     let number : train_number k.line t ≡ Some c.in-Some.i = sym (c.user_of-user.ensures.value t taken) ∙ c.in-Some.is in
@@ -97,7 +97,7 @@ ask_back-request-requires-clause-group c = λ m mission.
     let s = c.args.s in
     let states = k.trains.items in
     let used = asked_used (entry_at k.book s) (sym c.in-Ok-Asked.field-0-is ∙ c.in-Ok-Asked.ensures.answer) in
-    let user = user_stands k.line k.number k.clock k.book c.unset.new.self k.registrar states s (k.own_sections s) k.alone (entry_at k.book s) refl used in
+    let user = user_stands k.line k.number k.clock k.book c.unset.new.self k.registrar states s (k.own_sections s) k.local (entry_at k.book s) refl used in
     let t = user.0 in
     let taken : entry_at k.book s ≡ Taken t = user.1 in
     let number : train_number k.line t ≡ Some c.in-Some.i = sym (c.user_of-user.ensures.value t taken) ∙ c.in-Some.is in
@@ -112,7 +112,7 @@ invariant_of-self-in-Some c =
     let s = c.args.s in
     let states = k.trains.items in
     let used = asked_used (entry_at k.book s) (sym c.in-Ok-Asked.field-0-is ∙ c.in-Ok-Asked.ensures.answer) in
-    let user = user_stands k.line k.number k.clock k.book c.unset.new.self k.registrar states s (k.own_sections s) k.alone (entry_at k.book s) refl used in
+    let user = user_stands k.line k.number k.clock k.book c.unset.new.self k.registrar states s (k.own_sections s) k.local (entry_at k.book s) refl used in
     let t = user.0 in
     let taken : entry_at k.book s ≡ Taken t = user.1 in
     let number : train_number k.line t ≡ Some c.in-Some.i = sym (c.user_of-user.ensures.value t taken) ∙ c.in-Some.is in
@@ -120,7 +120,7 @@ invariant_of-self-in-Some c =
     let within = number_within k.line states t c.in-Some.i number k.each_train in
     let at : slice_get states c.in-Some.i ≡ Some before = slice_get_read _ _ _ _ refl within c.index_mut.ensures.value in
     let after = c.ask_back-request.new.self in
-    let engine : before.course.engine ≡ t = k.each_engine t c.in-Some.i before number at in
+    let engine : before.supervision.engine ≡ t = k.each_engine t c.in-Some.i before number at in
     let asks : (j : centre.Centre) → HasTrain j t before → propose_if_so k.line t s j ≡ asked t after (sayings_of c.ask_back-request.result) j =
     subst (λ (n : ℕ). (j : centre.Centre) → HasTrain j n before → propose_if_so k.line n s j ≡ asked n after (sayings_of c.ask_back-request.result) j) engine c.ask_back-request.ensures.exact
     in
@@ -130,16 +130,16 @@ invariant_of-self-in-Some c =
       ordered = k.ordered;
       in_time = omega (arith, c.requires);
       own_sections = λ n. c.unset.ensures.homes n ∙ k.own_sections n;
-      alone = asked_alone k.line k.number (k.clock + 1) k.book c.unset.new.self k.registrar states s (k.own_sections s) c.unset.ensures.entry c.unset.ensures.wish
-          t c.in-Some.i before after (sayings_of c.ask_back-request.result) c.in-Ok-Asked.ensures.own taken number at within c.ask_back-request.ensures.standing c.ask_back-request.ensures.heard asks
-          (alone_later k.line k.number k.clock (k.clock + 1) k.book k.registrar states k.alone);
+      local = asked_local k.line k.number (k.clock + 1) k.book c.unset.new.self k.registrar states s (k.own_sections s) c.unset.ensures.entry c.unset.ensures.wish
+          t c.in-Some.i before after (sayings_of c.ask_back-request.result) c.in-Ok-Asked.ensures.own taken number at within c.ask_back-request.ensures.session_state c.ask_back-request.ensures.heard asks
+          (local_later k.line k.number k.clock (k.clock + 1) k.book k.registrar states k.local);
       each_right = k.each_right;
       each_train = length-set states c.in-Some.i after ∙ k.each_train;
-      each_number = each_train_after (λ u j p. p.course.number ≡ j) k.line states t c.in-Some.i after within number (c.ask_back-request.ensures.number ∙ k.each_number t c.in-Some.i before number at) k.each_number;
-      each_engine = each_train_after (λ u j p. p.course.engine ≡ u) k.line states t c.in-Some.i after within number (c.ask_back-request.ensures.engine ∙ engine) k.each_engine;
-      each_group = λ j p m found. each_after (λ n q. (x : Mission) → q.course.mission ≡ Some x → x.place.group < 16777216) states c.in-Some.i after within c.ask_back-request.ensures.group (λ n q apart there x. k.each_group n q x there) j p found m;
-      each_stands = each_train_after (λ u j p. Stands k.sessions p.standing u) k.line states t c.in-Some.i after within number
-          (subst (λ x. Stands k.sessions x t) (sym c.ask_back-request.ensures.standing) (k.each_stands t c.in-Some.i before number at)) k.each_stands;
+      each_number = each_train_after (λ u j p. p.supervision.number ≡ j) k.line states t c.in-Some.i after within number (c.ask_back-request.ensures.number ∙ k.each_number t c.in-Some.i before number at) k.each_number;
+      each_engine = each_train_after (λ u j p. p.supervision.engine ≡ u) k.line states t c.in-Some.i after within number (c.ask_back-request.ensures.engine ∙ engine) k.each_engine;
+      each_group = λ j p m found. each_after (λ n q. (x : Mission) → q.supervision.mission ≡ Some x → x.place.group < 16777216) states c.in-Some.i after within c.ask_back-request.ensures.group (λ n q apart there x. k.each_group n q x there) j p found m;
+      each_stands = each_train_after (λ u j p. Stands k.sessions p.session_state u) k.line states t c.in-Some.i after within number
+          (subst (λ x. Stands k.sessions x t) (sym c.ask_back-request.ensures.session_state) (k.each_stands t c.in-Some.i before number at)) k.each_stands;
       counted = counted_after states c.in-Some.i k.clock (k.clock + 1) after within (omega (arith, few, said)) (omega arith) k.counted;
     }
 
@@ -149,10 +149,10 @@ invariant_of-self-in-None c = absurd (
     let s = c.args.s in
     let states = k.trains.items in
     let used = asked_used (entry_at k.book s) (sym c.in-Ok-Asked.field-0-is ∙ c.in-Ok-Asked.ensures.answer) in
-    let user = user_stands k.line k.number k.clock k.book c.unset.new.self k.registrar states s (k.own_sections s) k.alone (entry_at k.book s) refl used in
+    let user = user_stands k.line k.number k.clock k.book c.unset.new.self k.registrar states s (k.own_sections s) k.local (entry_at k.book s) refl used in
     let t = user.0 in
     let taken : entry_at k.book s ≡ Taken t = user.1 in
-    user_number k.line k.number k.clock k.book c.unset.new.self k.registrar states s (k.own_sections s) k.alone t taken (train_number k.line t) refl (sym (c.user_of-user.ensures.value t taken) ∙ c.in-None.is))
+    user_number k.line k.number k.clock k.book c.unset.new.self k.registrar states s (k.own_sections s) k.local t taken (train_number k.line t) refl (sym (c.user_of-user.ensures.value t taken) ∙ c.in-None.is))
 
 pub returns-after-user-clause-exact : goal.returns-after-user-clause-exact
 returns-after-user-clause-exact c = elim c.match-user.branch [
@@ -161,7 +161,7 @@ returns-after-user-clause-exact c = elim c.match-user.branch [
       let s = c.args.s in
       let states = k.trains.items in
       let used = asked_used (entry_at k.book s) (sym c.in-Ok-Asked.field-0-is ∙ c.in-Ok-Asked.ensures.answer) in
-      let user = user_stands k.line k.number k.clock k.book c.unset.new.self k.registrar states s (k.own_sections s) k.alone (entry_at k.book s) refl used in
+      let user = user_stands k.line k.number k.clock k.book c.unset.new.self k.registrar states s (k.own_sections s) k.local (entry_at k.book s) refl used in
       let t = user.0 in
       let taken : entry_at k.book s ≡ Taken t = user.1 in
       let number : train_number k.line t ≡ Some w.in-Some.i = sym (c.user_of-user.ensures.value t taken) ∙ w.in-Some.is in
@@ -169,22 +169,22 @@ returns-after-user-clause-exact c = elim c.match-user.branch [
       let within = number_within k.line states t w.in-Some.i number k.each_train in
       let at : slice_get states w.in-Some.i ≡ Some before = slice_get_read _ _ _ _ refl within w.index_mut.ensures.value in
       let after = w.ask_back-request.new.self in
-      let engine : before.course.engine ≡ t = k.each_engine t w.in-Some.i before number at in
+      let engine : before.supervision.engine ≡ t = k.each_engine t w.in-Some.i before number at in
       let asks : (j : centre.Centre) → HasTrain j t before → propose_if_so k.line t s j ≡ asked t after (sayings_of w.ask_back-request.result) j =
       subst (λ (n : ℕ). (j : centre.Centre) → HasTrain j n before → propose_if_so k.line n s j ≡ asked n after (sayings_of w.ask_back-request.result) j) engine w.ask_back-request.ensures.exact
       in
-      (λ i. (outcome_of c.told-in-Ok-Asked.result, meaning (w.self-is i)))
+      (λ i. (outcome_of c.told-in-Ok-Asked.result, state_of (w.self-is i)))
       ∙ unset_stands k.line k.number k.clock k.book c.unset.new.self k.registrar k.registrar states (set states w.in-Some.i after) (sayings_of w.ask_back-request.result) (Asked s ∷ []) _ s
       (c.told-in-Ok-Asked.ensures ∙ (λ i. spoken ((w.self-is i).clock) (sayings_of (w.request-is i)) (Asked s ∷ []) None))
       (asked_turns k.line k.number (k.clock + 1) k.book c.unset.new.self k.registrar states s (k.own_sections s) c.unset.ensures.entry c.unset.ensures.wish
-      t w.in-Some.i before after (sayings_of w.ask_back-request.result) c.in-Ok-Asked.ensures.own taken number at within w.ask_back-request.ensures.standing w.ask_back-request.ensures.heard asks)
+      t w.in-Some.i before after (sayings_of w.ask_back-request.result) c.in-Ok-Asked.ensures.own taken number at within w.ask_back-request.ensures.session_state w.ask_back-request.ensures.heard asks)
   | in-None w ↦ absurd (
       let k = c.args.self.now in
       let s = c.args.s in
       let states = k.trains.items in
       let used = asked_used (entry_at k.book s) (sym c.in-Ok-Asked.field-0-is ∙ c.in-Ok-Asked.ensures.answer) in
-      let user = user_stands k.line k.number k.clock k.book c.unset.new.self k.registrar states s (k.own_sections s) k.alone (entry_at k.book s) refl used in
+      let user = user_stands k.line k.number k.clock k.book c.unset.new.self k.registrar states s (k.own_sections s) k.local (entry_at k.book s) refl used in
       let t = user.0 in
       let taken : entry_at k.book s ≡ Taken t = user.1 in
-      user_number k.line k.number k.clock k.book c.unset.new.self k.registrar states s (k.own_sections s) k.alone t taken (train_number k.line t) refl (sym (c.user_of-user.ensures.value t taken) ∙ w.in-None.is))
+      user_number k.line k.number k.clock k.book c.unset.new.self k.registrar states s (k.own_sections s) k.local t taken (train_number k.line t) refl (sym (c.user_of-user.ensures.value t taken) ∙ w.in-None.is))
 ]

@@ -1,5 +1,5 @@
 use Rattle.std.proofs.Common.{◌≡◌, ◌∙◌, ◌++◌, ◌∷◌, [], List, ap, map}
-use Rattle.rbc_centre.specs.Meaning.{line_of, number_of, meaning}
+use Rattle.rbc_centre.specs.States.{line_of, number_of, state_of}
 use Rattle.rbc_centre.specs.Views.{event_of, outcome_of}
 use Rattle.rbc_log.specs.Replay.{LogEntry}
 use Rattle.rbc_log.specs.Entries.{entry_of}
@@ -14,7 +14,7 @@ invariant_of-self-2 c =
     ap (map entry_of) c.push_reserved.ensures.items ∙ map_push entry_of c.reserve.new.self.items _
     ∙ (λ i. map entry_of (c.in_ok-reserve.ensures.items i) ++ record { centre = (c.number.ensures ∙ c.in_ok-outcome.ensures.number) i; event = event_of c.args.event; outcome = c.copied.ensures i } ∷ [])
     in
-    grown (line_of old) (line_of c.step.new.self) (number_of old) (number_of c.step.new.self) (meaning old) (meaning c.step.new.self) front (map entry_of c.push_reserved.new.self.items)
+    grown (line_of old) (line_of c.step.new.self) (number_of old) (number_of c.step.new.self) (state_of old) (state_of c.step.new.self) front (map entry_of c.push_reserved.new.self.items)
     (event_of c.args.event) (outcome_of c.in_ok-outcome.outcome) c.self.invariant c.in_ok-outcome.ensures.exact grows c.in_ok-outcome.ensures.line c.in_ok-outcome.ensures.number
 
 pub returns-clause-replays : goal.returns-clause-replays
@@ -25,5 +25,5 @@ returns-clause-replays c =
     ap (map entry_of) c.push_reserved.ensures.items ∙ map_push entry_of c.reserve.new.self.items _
     ∙ (λ i. map entry_of (c.in_ok-reserve.ensures.items i) ++ record { centre = (c.number.ensures ∙ c.in_ok-outcome.ensures.number) i; event = event_of c.args.event; outcome = c.copied.ensures i } ∷ [])
     in
-    grown (line_of old) (line_of c.step.new.self) (number_of old) (number_of c.step.new.self) (meaning old) (meaning c.step.new.self) front (map entry_of c.push_reserved.new.self.items)
+    grown (line_of old) (line_of c.step.new.self) (number_of old) (number_of c.step.new.self) (state_of old) (state_of c.step.new.self) front (map entry_of c.push_reserved.new.self.items)
     (event_of c.args.event) (outcome_of c.in_ok-outcome.outcome) c.self.invariant c.in_ok-outcome.ensures.exact grows c.in_ok-outcome.ensures.line c.in_ok-outcome.ensures.number

@@ -7,10 +7,10 @@ unfolding HasRoom
 insert_reserved-key-requires c = rw c.self.view_is c.requires.room
 
 pub invariant_of-self : goal.invariant_of-self
-invariant_of-self c = one_opened c.self.inside.records c.insert_reserved-key.new.self c.insert_reserved-key.result _ c.insert_reserved-key.ensures.updates c.self.invariant c.insert_reserved-key.ensures.was_vacant (rw c.self.view_is c.requires.silent)
+invariant_of-self c = one_opened c.self.inside.records c.insert_reserved-key.new.self c.insert_reserved-key.result _ c.insert_reserved-key.ensures.updates c.self.invariant c.insert_reserved-key.ensures.was_vacant (rw c.self.view_is c.requires.closed)
 
 pub returns-clause-phases : goal.returns-clause-phases
-returns-clause-phases c = rw (← c.self.view_is) (phases_opened c.self.inside.records c.insert_reserved-key.new.self c.insert_reserved-key.result _ c.insert_reserved-key.ensures.updates c.self.invariant c.insert_reserved-key.ensures.was_vacant (rw c.self.view_is c.requires.silent))
+returns-clause-phases c = rw (← c.self.view_is) (phases_opened c.self.inside.records c.insert_reserved-key.new.self c.insert_reserved-key.result _ c.insert_reserved-key.ensures.updates c.self.invariant c.insert_reserved-key.ensures.was_vacant (rw c.self.view_is c.requires.closed))
 
 pub returns-clause-keys : goal.returns-clause-keys
 returns-clause-keys c = rw (← c.self.view_is) (keys_after c.self.inside.records c.insert_reserved-key.new.self c.insert_reserved-key.result _ c.insert_reserved-key.ensures.updates)

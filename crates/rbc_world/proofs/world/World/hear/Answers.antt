@@ -5,8 +5,8 @@ use Rattle.std.proofs.lemmas.Result.{err_from_is_err_and}
 use Rattle.rbc_spec.specs.Step.{Train}
 use Rattle.rbc_spec.specs.World.{mention}
 use Rattle.rbc_msgs.specs.StepMessage.{step_message}
-use Rattle.rbc_centre.specs.Meaning as one
-use Rattle.rbc_world.specs.Meaning.{stands_for}
+use Rattle.rbc_centre.specs.States as one
+use Rattle.rbc_world.specs.States.{stands_for}
 use Rattle.rbc_world.proofs.Centres.{each_kept}
 use Rattle.rbc_world.proofs.Steps.{step_ok, step_err, world_kept}
 use Rattle.rbc_world.proofs.Reached.{reached_still, reached_by_message}

@@ -3,7 +3,7 @@ use Rattle.rbc_spec.specs.World.{World, Answer}
 use Rattle.rbc_spec.specs.Step.{Refusal}
 use Rattle.rbc_world.specs.Views.{answer_of}
 use Rattle.rbc_world.specs.Answers.{Gives}
-use Rattle.rbc_world.specs.World.{meaning}
+use Rattle.rbc_world.specs.World.{state_of}
 use Rattle.rbc_world.proofs.Steps.{no_centre, message_step, unread_gives}
 use Rattle.rbc_world.proofs.world.World.receive.Goals as goal
 
@@ -15,8 +15,8 @@ returns-then-c-len-clause-exact c =
 pub returns-in-Ok-clause-exact : goal.returns-in-Ok-clause-exact
 returns-in-Ok-clause-exact c =
     let within : c.args.c < length c.args.self.now.centres.items = search rules in
-    let same = message_step c.args.self.now.line (meaning c.args.self.now) c.args.self.now.centres.items c.args.c _ c.in-Ok.message c.args.self.now.each_centre within c.in-Ok.ensures.exact in
-    subst (λ (step : Result (Answer × World) Refusal). Gives (λ a. (answer_of a, meaning c.hear.new.self)) c.hear.result step) (sym same) c.hear.ensures.exact
+    let same = message_step c.args.self.now.line (state_of c.args.self.now) c.args.self.now.centres.items c.args.c _ c.in-Ok.message c.args.self.now.each_centre within c.in-Ok.ensures.exact in
+    subst (λ (step : Result (Answer × World) Refusal). Gives (λ a. (answer_of a, state_of c.hear.new.self)) c.hear.result step) (sym same) c.hear.ensures.exact
 
 pub returns-in-Err-clause-exact : goal.returns-in-Err-clause-exact
 returns-in-Err-clause-exact c =

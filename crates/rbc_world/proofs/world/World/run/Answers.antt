@@ -1,30 +1,30 @@
 use Rattle.std.proofs.Common.{map}
-use Rattle.rbc_world.specs.World.{meaning}
+use Rattle.rbc_world.specs.World.{state_of}
 use Rattle.rbc_world.specs.Views.{event_of, answer_of}
-use Rattle.rbc_world.proofs.Loop.{names_trains, is_refused, is_line_run, is_sound, ends_read, is_one_centre_run, ends_alone, by_all_rules}
+use Rattle.rbc_world.proofs.Loop.{names_trains, is_refused, is_line_run, is_sound, ends_read, is_one_centre_run, ends_forced, by_all_rules}
 use Rattle.rbc_world.proofs.world.World.run.Goals as goal
 
 pub returns-clause-run : goal.returns-clause-run
-returns-clause-run c = is_line_run c.args.line.now (map event_of c.args.events.now) (λ o. map answer_of o.answers.items) (λ o. meaning o.world) c.known_line.ensures c.outputs.result c.outputs.ensures
+returns-clause-run c = is_line_run c.args.line.now (map event_of c.args.events.now) (λ o. map answer_of o.answers.items) (λ o. state_of o.world) c.known_line.ensures c.outputs.result c.outputs.ensures
 
 pub returns-clause-sound : goal.returns-clause-sound
-returns-clause-sound c = is_sound c.args.line.now (map event_of c.args.events.now) (λ o. map answer_of o.answers.items) (λ o. meaning o.world) c.known_line.ensures c.outputs.result c.outputs.ensures
+returns-clause-sound c = is_sound c.args.line.now (map event_of c.args.events.now) (λ o. map answer_of o.answers.items) (λ o. state_of o.world) c.known_line.ensures c.outputs.result c.outputs.ensures
 
 pub returns-clause-last : goal.returns-clause-last
-returns-clause-last c = ends_read c.args.line.now (map event_of c.args.events.now) (λ o. map answer_of o.answers.items) (λ o. meaning o.world) c.known_line.ensures c.outputs.result c.outputs.ensures
+returns-clause-last c = ends_read c.args.line.now (map event_of c.args.events.now) (λ o. map answer_of o.answers.items) (λ o. state_of o.world) c.known_line.ensures c.outputs.result c.outputs.ensures
 
 pub returns-clause-one_centre : goal.returns-clause-one_centre
 returns-clause-one_centre c d one =
-    is_one_centre_run c.args.line.now (map event_of c.args.events.now) (λ o. map answer_of o.answers.items) (λ o. meaning o.world) c.known_line.ensures d one c.outputs.result c.outputs.ensures
+    is_one_centre_run c.args.line.now (map event_of c.args.events.now) (λ o. map answer_of o.answers.items) (λ o. state_of o.world) c.known_line.ensures d one c.outputs.result c.outputs.ensures
 
 pub returns-clause-one_centre_last : goal.returns-clause-one_centre_last
-returns-clause-one_centre_last c d one = ends_alone c.args.line.now (map event_of c.args.events.now) (λ o. map answer_of o.answers.items) (λ o. meaning o.world) c.known_line.ensures d one c.outputs.result c.outputs.ensures
+returns-clause-one_centre_last c d one = ends_forced c.args.line.now (map event_of c.args.events.now) (λ o. map answer_of o.answers.items) (λ o. state_of o.world) c.known_line.ensures d one c.outputs.result c.outputs.ensures
 
 pub returns-clause-one_centre_exact : goal.returns-clause-one_centre_exact
-returns-clause-one_centre_exact c d one = by_all_rules c.args.line.now (map event_of c.args.events.now) (λ o. map answer_of o.answers.items) (λ o. meaning o.world) c.known_line.ensures d one c.outputs.result c.outputs.ensures
+returns-clause-one_centre_exact c d one = by_all_rules c.args.line.now (map event_of c.args.events.now) (λ o. map answer_of o.answers.items) (λ o. state_of o.world) c.known_line.ensures d one c.outputs.result c.outputs.ensures
 
 pub returns-clause-trains : goal.returns-clause-trains
-returns-clause-trains c = names_trains c.args.line.now (map event_of c.args.events.now) (λ o. map answer_of o.answers.items) (λ o. meaning o.world) c.outputs.result c.outputs.ensures
+returns-clause-trains c = names_trains c.args.line.now (map event_of c.args.events.now) (λ o. map answer_of o.answers.items) (λ o. state_of o.world) c.outputs.result c.outputs.ensures
 
 pub returns-clause-refused : goal.returns-clause-refused
-returns-clause-refused c = is_refused c.args.line.now (map event_of c.args.events.now) (λ o. map answer_of o.answers.items) (λ o. meaning o.world) c.outputs.result c.outputs.ensures
+returns-clause-refused c = is_refused c.args.line.now (map event_of c.args.events.now) (λ o. map answer_of o.answers.items) (λ o. state_of o.world) c.outputs.result c.outputs.ensures

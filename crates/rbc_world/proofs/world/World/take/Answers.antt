@@ -3,22 +3,22 @@ use Rattle.rbc_spec.specs.World.{World, Answer}
 use Rattle.rbc_spec.specs.Step.{Refusal}
 use Rattle.rbc_world.specs.Views.{answer_of}
 use Rattle.rbc_world.specs.Answers.{Gives}
-use Rattle.rbc_world.specs.World.{meaning}
-use Rattle.rbc_world.proofs.Centres.{world_alone}
+use Rattle.rbc_world.specs.World.{state_of}
+use Rattle.rbc_world.proofs.Centres.{world_local}
 use Rattle.rbc_world.proofs.Steps.{never_sent, set_told, unset_told}
 use Rattle.rbc_world.proofs.world.World.take.Goals as goal
 
 pub returns-in-Deliver-clause-exact : goal.returns-in-Deliver-clause-exact
 returns-in-Deliver-clause-exact c =
     let old = c.args.self.now in
-    rw c.in-Deliver.is (never_sent _ _ _ _ _ _ (world_alone old.line old.centres.items old.trains.keys old.one_line old.in_order))
+    rw c.in-Deliver.is (never_sent _ _ _ _ _ _ (world_local old.line old.centres.items old.trains.keys old.one_line old.in_order))
 
 pub returns-in-Set-clause-exact : goal.returns-in-Set-clause-exact
 returns-in-Set-clause-exact c =
-    rw c.in-Set.is (subst (λ (step : Result (Answer × World) Refusal). Gives (λ a. (answer_of a, meaning c.tell.new.self)) c.tell.result step)
+    rw c.in-Set.is (subst (λ (step : Result (Answer × World) Refusal). Gives (λ a. (answer_of a, state_of c.tell.new.self)) c.tell.result step)
     (sym (set_told _ _ _ _)) c.tell.ensures.exact)
 
 pub returns-in-Unset-clause-exact : goal.returns-in-Unset-clause-exact
 returns-in-Unset-clause-exact c =
-    rw c.in-Unset.is (subst (λ (step : Result (Answer × World) Refusal). Gives (λ a. (answer_of a, meaning c.tell-in-Unset.new.self)) c.tell-in-Unset.result step)
+    rw c.in-Unset.is (subst (λ (step : Result (Answer × World) Refusal). Gives (λ a. (answer_of a, state_of c.tell-in-Unset.new.self)) c.tell-in-Unset.result step)
     (sym (unset_told _ _ _ _)) c.tell-in-Unset.ensures.exact)

@@ -2,9 +2,9 @@ use Rattle.std.proofs.Common.{◌≡◌, ◌∙◌, ◌<◌, refl, rules, length
 use Rattle.std.proofs.Math.ListN.{length-set}
 use Rattle.std.proofs.lemmas.Option.{slice_get_read}
 use Rattle.std.proofs.lemmas.Result.{err_from_is_err_and}
-use Rattle.rbc_centre.specs.Meaning as one
+use Rattle.rbc_centre.specs.States as one
 use Rattle.rbc_centre.specs.Views.{event_of as one_event}
-use Rattle.rbc_world.specs.Meaning.{stands_for}
+use Rattle.rbc_world.specs.States.{stands_for}
 use Rattle.rbc_world.proofs.Centres.{each_kept}
 use Rattle.rbc_world.proofs.Steps.{told_ok, told_err, world_kept}
 use Rattle.rbc_world.proofs.Reached.{reached_by_word}

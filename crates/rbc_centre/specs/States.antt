@@ -1,0 +1,24 @@
+-- What a centre stands for: its line, its number, and its state.
+use Rattle.std.specs.Prelude.{◌≡◌, ℕ}
+use Rattle.rbc_spec.specs.Line.{Line}
+use Rattle.rbc_spec.specs.Centre as centre
+use Rattle.rbc_centre.specs.declared.centre.Centre.{Centre}
+use Rattle.rbc_centre.specs.State.{stands_for}
+
+abbrev pub line_of : Centre → Line
+line_of k = k.line
+
+abbrev pub number_of : Centre → ℕ
+number_of k = k.number
+
+abbrev pub state_of : Centre → centre.Centre
+state_of k = stands_for k.line k.number k.clock k.book k.registrar k.trains.items
+
+-- all but the room for sessions is the same
+pub record IsSame (old new : Centre) : Type 0 where
+  pub line : new.line ≡ old.line
+  pub number : new.number ≡ old.number
+  pub clock : new.clock ≡ old.clock
+  pub book : new.book ≡ old.book
+  pub registrar : new.registrar ≡ old.registrar
+  pub trains : new.trains ≡ old.trains

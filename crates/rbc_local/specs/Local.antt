@@ -1,0 +1,73 @@
+-- A local centre, in whose missions no other centre has a part, and what stays true of it.
+use Rattle.std.specs.Prelude.{◌≡◌, ℕ, ◌≤◌, Bool, true, false, ◌&&◌, [], Option, Some, None, option_map, is_none}
+use Rattle.std.specs.Option.{option_map_or, option_and_then}
+use Rattle.rbc_spec.specs.SectionRuns.{no_run, within}
+use Rattle.rbc_spec.specs.Line.{Line, is_home, section, end, registrar}
+use Rattle.rbc_spec.specs.Sections.{is_on, home_run}
+use Rattle.rbc_spec.specs.Place.{Place, covers, covered}
+use Rattle.rbc_spec.specs.Centre.{Centre, Entry, Mission, is_unused, is_taken_for, is_out_for, is_registrar_of}
+use Rattle.rbc_spec.specs.Centre as centre
+use Rattle.rbc_spec.specs.LineCentre as line_centre
+use Rattle.rbc_spec.specs.LineCentre.{LineState, Mark}
+use Rattle.rbc_spec.specs.World.{World}
+use Rattle.rbc_spec.specs.ReadOff.{seen}
+
+-- what the order of a line's sections gives: those that a place covers are a run, and so are those of one home on a track; on one track
+-- the ends rise
+pub record IsOrdered (line : Line) : Type 0 where
+  pub covers_run : (place : Place) (s : ℕ) → within (covered line place) s ≡ covers line place s
+  pub homes_run : (d track s : ℕ) → within (home_run line d track) s ≡ (is_home line d s && is_on line track s)
+  pub ends_rise : (track s e : ℕ) → s ≤ e → is_on line track s ≡ true → is_on line track e ≡ true → end line s ≤ end line e
+
+-- the section is in the hand of the mission, if there is one
+abbrev pub hand_has : Option Mission → ℕ → Bool
+hand_has mission s = option_map_or (λ m. within m.hand s) mission false
+
+-- a mission with a hand of 1 to 32 sections of its track, which no other centre has a part in
+pub record IsLocalMission (line : Line) (m : Mission) : Type 0 where
+  pub no_pool : m.pool ≡ no_run
+  pub no_handing : m.handing ≡ None
+  pub some : 1 ≤ m.hand.count
+  pub few : m.hand.count ≤ 32
+  pub on_track : (s : ℕ) → within m.hand s ≡ true → is_on line m.place.track s ≡ true
+
+-- centre c of the line: its sections are taken exactly as its missions' hands have them, no section of it is out, only used ones are wished
+-- back, a mission is of a train whose registrar it is, and then the right is in the mission; nothing stands with another centre
+pub record IsLocalAt (line : Line) (c : ℕ) (k : Centre) : Type 0 where
+  pub taken : (s t : ℕ) → is_taken_for t (k.book s) ≡ hand_has (k.mission t) s
+  pub not_out : (s t d : ℕ) → is_out_for t d (k.book s) ≡ false
+  pub foreign : (s : ℕ) → is_home line c s ≡ false → k.book s ≡ centre.Shut
+  pub unwished : (s : ℕ) → is_unused (k.book s) ≡ true → k.wish s ≡ false
+  pub right : (t : ℕ) → k.has_right t ≡ (is_registrar_of line c t && is_none (k.mission t))
+  pub at_registrar : (t : ℕ) → is_registrar_of line c t ≡ false → k.mission t ≡ None
+  pub mission : (t : ℕ) (m : Mission) → k.mission t ≡ Some m → IsLocalMission line m
+  pub no_wait : (t : ℕ) → k.wait t ≡ None
+  pub not_asked : (t : ℕ) → k.has_asked t ≡ false
+  pub no_route_ask : (t : ℕ) → k.route_ask t ≡ None
+  pub not_expected : (d t : ℕ) → k.expects d t ≡ None
+  pub none_sent : (d : ℕ) → k.sent d ≡ []
+
+-- each centre of the world is so
+pub record IsLocal (line : Line) (w : World) : Type 0 where
+  pub each : (c : ℕ) → IsLocalAt line c (w.at c)
+
+-- ## What is read off such a world
+
+-- a taken section is given, any other is as the book has it
+abbrev pub local_mark : Entry → Mark
+local_mark centre.Shut = line_centre.Shut
+local_mark centre.Open = line_centre.Open
+local_mark (centre.Taken t) = line_centre.Given t
+local_mark (centre.Out t d) = line_centre.Given t
+
+-- sections as their homes have them, and each train's mission as its registrar has it
+abbrev pub local_read_off : Line → World → LineState
+local_read_off line w = record {
+  mark = λ s. option_map_or (λ p. local_mark ((w.at p.home).book s)) (section line s) line_centre.Shut;
+  wish = λ s. option_map_or (λ p. (w.at p.home).wish s) (section line s) false;
+  phase = λ t c. (w.at c).phase t;
+  heard = λ t c. (w.at c).heard t;
+  said = λ t c. (w.at c).said t;
+  wait = λ t c. None;
+  mission = λ t. option_and_then (λ r. option_map (seen r) ((w.at r).mission t)) (registrar line t);
+}

@@ -1,0 +1,10 @@
+//! A local centre has its missions to itself: what stays true of it through all its steps. At the beginning it is so, and
+//! each step but the taking of a frame leaves it so and sends no frame. The functions do nothing: each contract is a law of
+//! the definitions.
+#![tactic(auto)]
+
+mod laws;
+
+pub use laws::{
+    a_centre_begins_local, a_centre_stays_local, a_line_stays_local, every_line_is_ordered,
+};
