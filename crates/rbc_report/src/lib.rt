@@ -11,4 +11,5 @@ mod in_words;
 mod picture;
 mod print;
 mod run;
+mod teller;
 mod words;

@@ -1,6 +1,8 @@
 use crate::files::Files;
-use crate::print::{print_answer, print_counts, print_event, print_line};
+use crate::print::print_counts;
+use crate::teller::Printer;
 use rbc_line::Line;
+use rbc_script::play::{PlayFault, play};
 use rbc_script::script::{Entry, script_of};
 use rbc_status::Fault;
 use rbc_world::World;
@@ -20,7 +22,7 @@ pub fn run<'a, F: Files, O: Write>(
     let Ok(mut out) = BufWriter::new(alloc, out) else {
         return Err(AllocError.into());
     };
-    let done = play(alloc, &line, &entries, &mut out);
+    let done = print_played(alloc, &line, &entries, &mut out);
     out.flush()?;
     done
 }
@@ -58,25 +60,17 @@ fn entries_in<'a, F: Files>(
     Ok(script_of(alloc, line, text.as_str())?)
 }
 
-fn play<W: Write>(
+fn print_played<W: Write>(
     alloc: Global,
     line: &Line,
     entries: &[Entry],
     out: &mut W,
 ) -> Result<(), Fault<'static>> {
     let mut world = World::new(alloc, line)?;
-    for entry in entries {
-        match entry {
-            Entry::Show => {
-                writeln!(out, "> show")?;
-                print_line(alloc, out, line, &world)?;
-            }
-            Entry::Event(event) => {
-                print_event(alloc, out, line, event)?;
-                let answer = world.step(event)?;
-                print_answer(alloc, out, line, event, &answer)?;
-            }
-        }
+    let mut printer = Printer { alloc, line, out };
+    match play(&mut world, entries, &mut printer) {
+        Ok(()) => printer.show_line(&world),
+        Err(PlayFault::Refused(fault)) => Err(fault.into()),
+        Err(PlayFault::Untold(fault)) => Err(fault),
     }
-    print_line(alloc, out, line, &world)
 }

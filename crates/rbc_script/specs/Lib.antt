@@ -1,2 +1,3 @@
 pub mod Script
 pub mod Entries
+pub mod Played
