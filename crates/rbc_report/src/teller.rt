@@ -24,8 +24,6 @@ impl<W: Write> Printer<'_, W> {
 }
 
 impl<W: Write> Teller for Printer<'_, W> {
-    ghost use Rattle.std.specs.Prelude.{Unit};
-
     type Fault = Fault<'static>;
 
     // What stands written is not said: `Write` has no list of bytes.
