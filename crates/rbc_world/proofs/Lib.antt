@@ -3,3 +3,4 @@ pub mod Steps
 pub mod Shown
 pub mod Loop
 pub mod Reached
+pub mod Mentions

@@ -1,8 +1,9 @@
 -- What the calls of a world answer, beside their definitions.
-use Rattle.std.specs.Prelude.{◌≡◌, List, Result, Ok, Err}
+use Rattle.std.specs.Prelude.{◌≡◌, ◌⊎◌, ℕ, List, [], ◌∷◌, ◌++◌, Result, Ok, Err}
 use Rattle.rbc_spec.specs.Reach.{Local}
 use Rattle.rbc_spec.specs.Line.{Line}
-use Rattle.rbc_spec.specs.World.{Event, Bytes, new_world, IsRefused}
+use Rattle.rbc_spec.specs.Message.{TrainMessage, InitiationOfSession}
+use Rattle.rbc_spec.specs.World.{Event, Bytes, new_world, mention, IsRefused}
 use Rattle.rbc_spec.specs.Step.{Refusal, ClockEnd as AtClockEnd}
 use Rattle.rbc_centre.specs.declared.fault.StepFault.{StepFault}
 use Rattle.rbc_centre.specs.declared.fault.StepFault.TheVariants.{Memory, LinkFull, ClockEnd}
@@ -26,6 +27,11 @@ TakesMemory event = ⊥
 abbrev pub IsWantedBy : {X : Type 0} → Event → Result X StepFault → Type 0
 IsWantedBy event (Err Memory) = TakesMemory event
 IsWantedBy event result = Unit {0}
+
+-- a message that is heard wants memory only where it opens a session, or is the first to name a train of the line
+abbrev pub IsHeardBy : {X : Type 0} → Line → List ℕ → TrainMessage → Result X StepFault → Type 0
+IsHeardBy line trains m (Err Memory) = (m.body ≡ InitiationOfSession) ⊎ (mention line m.nid_engine trains ≡ trains ++ m.nid_engine ∷ [])
+IsHeardBy line trains m result = Unit {0}
 
 -- a whole run is refused for want of memory, or as one of its steps is
 abbrev pub IsRefusedRun : Line → List Event → StepFault → Type 0

@@ -1,14 +1,16 @@
-ghost use Rattle.std.specs.Prelude.{◌≡◌, ◌<◌, ◌≤◌, ℕ, true, length, slice_get, IfOk, IfErr, OnErr, Some};
-ghost use Rattle.rbc_spec.specs.Line.{IsLine};
+ghost use Rattle.std.specs.Prelude.{◌≡◌, ◌<◌, ◌≤◌, ◌==◌, ◌&&◌, ℕ, true, not, if◌then◌else◌, nat_eq, is_none, length, slice_get, IfOk, IfErr, OnOk, OnErr, Some};
+ghost use Rattle.std.specs.List.{list_any};
+ghost use Rattle.rbc_spec.specs.Line.{IsLine, train_number};
 ghost use Rattle.rbc_spec.specs.World.{new_world, world_step, at_centre, takes, mention, Bytes};
 ghost use Rattle.rbc_spec.specs.Step.{Train};
 ghost use Rattle.rbc_spec.specs.Reach.{Local, Whole};
 ghost use Rattle.rbc_msgs.specs.StepMessage.{step_message};
 ghost use Rattle.rbc_msgs.specs.TrainReading.{read_train};
-ghost use Rattle.indexmap.specs.IndexSet.{spare};
+ghost use Rattle.indexmap.specs.IndexSet.{spare, insert_key};
 ghost use Rattle.rbc_world.specs.States.{AtBeginning, stands_for};
 ghost use Rattle.rbc_world.specs.Reached.{WasReached, IsOfInterlocking};
 ghost use Rattle.rbc_world.specs.Views.{IsFaultOf};
+ghost use Rattle.rbc_world.specs.Answers.{IsHeardBy};
 ghost use Rattle.rbc_centre.specs.declared.fault.StepFault.TheVariants.{Memory};
 ghost use Rattle.rbc_spec.specs.Run.{Goes};
 ghost use Rattle.rbc_spec.specs.ReadOff.{StandsFor, read_off};
@@ -145,18 +147,21 @@ impl World {
         }
     }
 
-    // A message comes to a centre of the line. Room for the first mention of its train is made first.
+    // A message comes to a centre of the line. Where it is the first mention of its train, room for that is made first.
     fn hear(&mut self, c: usize, message: TrainMsg) -> Result<Answer, StepFault>
         requires { c < length self.old.centres.items }
         ensures line { line_of self.new ≡ line_of self.old }
         ensures exact { Gives (λ a. (answer_of a, state_of self.new)) result
             (takes Local (line_of self.old) (state_of self.old) c (mention (line_of self.old) message.nid_engine (state_of self.old).trains) (Train (step_message message))) }
+        // Memory is wanted only for a session or a first mention.
+        ensures memory { IsHeardBy (line_of self.old) (state_of self.old).trains (step_message message) result }
         ensures err { OnErr result (state_of self.new ≡ state_of self.old) }
     {
-        self.trains.reserve(1)?;
         let nid_engine = message.nid_engine();
+        let is_first = is_first_mention(&self.line, &self.trains, nid_engine);
+        make_room(&mut self.trains, is_first)?;
         let outcome = self.centres[c].hear(&message)?;
-        add_mention(&self.line, &mut self.trains, nid_engine);
+        add_mention(&mut self.trains, nid_engine, is_first);
         Ok(Answer::Outcome(outcome))
     }
 }
@@ -198,11 +203,30 @@ fn unread(fault: MsgFault) -> Result<Answer, StepFault>
 }
 
 // A message of the train was heard.
-fn add_mention(line: &Line, trains: &mut IndexSet<u32>, nid_engine: u32)
-    requires { 0 < spare trains.old }
-    ensures { trains.new.keys ≡ mention line.now nid_engine trains.old.keys }
+// Whether the train is of the line, and no message named it before.
+fn is_first_mention(line: &Line, trains: &IndexSet<u32>, nid_engine: u32) -> bool
+    ensures { result ≡ not (is_none (train_number line.now nid_engine)) && not (list_any (λ u. nid_engine == u) trains.now.keys) }
 {
-    if line.train_number(nid_engine).is_some() {
+    line.train_number(nid_engine).is_some() && !trains.contains(&nid_engine)
+}
+
+// Room for a first mention.
+fn make_room(trains: &mut IndexSet<u32>, is_first: bool) -> Result<(), AllocError>
+    ensures keys { trains.new.keys ≡ trains.old.keys }
+    ensures room { OnOk result (is_first ≡ true → 0 < spare trains.new) }
+    ensures wanted { OnErr result (is_first ≡ true) }
+{
+    if is_first {
+        trains.reserve(1)?;
+    }
+    Ok(())
+}
+
+fn add_mention(trains: &mut IndexSet<u32>, nid_engine: u32, is_first: bool)
+    requires { is_first ≡ true → 0 < spare trains.old }
+    ensures { trains.new.keys ≡ (if is_first then insert_key nat_eq trains.old.keys nid_engine else trains.old.keys) }
+{
+    if is_first {
         let Ok(_) = trains.insert(nid_engine) else {
             unreachable!()
         };
