@@ -1,0 +1,9 @@
+pub mod Basics
+pub mod Places
+pub mod Sent
+pub mod Reports
+pub mod Requests
+pub mod Events
+pub mod Frames
+pub mod Steps
+pub mod Worlds

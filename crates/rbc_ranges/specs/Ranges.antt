@@ -1,0 +1,91 @@
+-- The ranges of what a centre keeps and hears, as far as the frames that it sends are made of it.
+use Rattle.std.specs.Prelude.{◌≡◌, ◌⊎◌, ℕ, ◌≤◌, ◌<◌, ◌==◌, ◌||◌, true, List, All, Option, Some}
+use Rattle.rbc_spec.specs.SectionRuns.{SectionRun, most_in_hand, within, behind}
+use Rattle.rbc_spec.specs.Line.{Line, is_centre, is_home, is_linked}
+use Rattle.rbc_spec.specs.Place.{Place, Position, covered}
+use Rattle.rbc_spec.specs.Message.{TrainMessage, TrainBody, TrainData, Request, Report, ShorteningGranted, ShorteningRejected, EndOfMission, StartOfMission, unknown_time}
+use Rattle.rbc_spec.specs.Frame.{Body, yielded_place, IsEngine, IsHandoverNumber, HasRunRange, HasPlaceRange, HasBodyRange}
+use Rattle.rbc_spec.specs.Centre.{Centre, Entry, Out, Mission, Handing, Expectation}
+use Rattle.rbc_spec.specs.Step.{Event, Train, Set, Unset, Deliver, last_stamp}
+
+-- ## What comes
+
+-- Q_SCALE is at most 10 m, and L_TRAININT has 15 bits (7.5). Nothing is wanted of other fields: a place has a group of the line and distances
+-- that are known
+pub record HasPositionRanges (p : Position) : Type 0 where
+  pub scale : p.scale ≤ 100
+  pub length : (l : ℕ) → p.l_trainint ≡ Some l → l ≤ 32767
+
+abbrev pub IsReportInRange : TrainBody → Type 0
+IsReportInRange (TrainData position) = HasPositionRanges position
+IsReportInRange (Request position) = HasPositionRanges position
+IsReportInRange (Report position) = HasPositionRanges position
+IsReportInRange (ShorteningGranted stamp position) = HasPositionRanges position
+IsReportInRange (ShorteningRejected stamp position) = HasPositionRanges position
+IsReportInRange (EndOfMission position) = HasPositionRanges position
+IsReportInRange (StartOfMission is_valid position) = HasPositionRanges position
+IsReportInRange body = Unit {0}
+
+-- T_TRAIN of a header is a time that is known, and its report lies in range
+pub record HasMessageRanges (m : TrainMessage) : Type 0 where
+  pub t_train : m.t_train < unknown_time
+  pub report : IsReportInRange m.body
+
+-- what comes to a centre: a train's message to one of the line, a frame's body; nothing is wanted of the interlocking
+abbrev pub HasEventRanges : Line → ℕ → Event → Type 0
+HasEventRanges line c (Train m) = (is_centre line c ≡ true) × HasMessageRanges m
+HasEventRanges line c (Set s) = Unit {0}
+HasEventRanges line c (Unset s) = Unit {0}
+HasEventRanges line c (Deliver d f) = HasBodyRange f.body
+
+-- ## What is kept
+
+-- each section of the run is of home c, or of a centre that c has a link with
+abbrev pub GoesHome : Line → ℕ → SectionRun → Type 0
+GoesHome line c r = (s d : ℕ) → within r s ≡ true → is_home line d s ≡ true → ((d == c) || is_linked line c d) ≡ true
+
+-- a place whose sections may be a hand at c
+pub record HasStartRanges (line : Line) (c : ℕ) (p : Place) : Type 0 where
+  pub place : HasPlaceRange (yielded_place p)
+  pub hand : HasRunRange 1 most_in_hand (covered line p)
+  pub home : GoesHome line c (covered line p)
+
+-- what a mission at c has: a hand, at most 31 sections behind it, and a handover to a linked centre
+pub record HasMissionParts (line : Line) (c : ℕ) (p : Place) (held lent : SectionRun) (handover : Option Handing) : Type 0 where
+  pub place : HasPlaceRange (yielded_place p)
+  pub hand : HasRunRange 1 most_in_hand held
+  pub hand_home : GoesHome line c held
+  pub pool : lent.count ≤ 31
+  pub pool_home : GoesHome line c lent
+  pub follows : (lent.count ≡ 0) ⊎ (lent.first ≡ behind held)
+  pub handing : (h : Handing) → handover ≡ Some h → IsHandoverNumber h.number × (is_linked line c h.to ≡ true)
+
+abbrev pub HasMissionRanges : Line → ℕ → Mission → Type 0
+HasMissionRanges line c m = HasMissionParts line c m.place m.hand m.pool m.handing
+
+-- what centre c keeps: no more handovers were announced than steps were made, each time that was heard is known, and each centre that has a
+-- section of it or announced a train has a link with it
+pub record HasStateParts (line : Line) (c stamp count : ℕ) (book : ℕ → Entry) (times : ℕ → Option ℕ) (missions : ℕ → Option Mission) (waits : ℕ → Option Place)
+    (expected : ℕ → ℕ → Option Expectation) : Type 0 where
+  pub clock : stamp ≤ last_stamp
+  pub announced : count ≤ stamp
+  pub out : (s t d : ℕ) → book s ≡ Out t d → IsEngine t × (is_linked line c d ≡ true)
+  pub heard : (t time : ℕ) → times t ≡ Some time → time < unknown_time
+  pub mission : (t : ℕ) (m : Mission) → missions t ≡ Some m → HasMissionRanges line c m
+  pub wait : (t : ℕ) (place : Place) → waits t ≡ Some place → HasStartRanges line c place
+  pub expects : (d t : ℕ) (e : Expectation) → expected d t ≡ Some e → IsHandoverNumber e.number × (is_linked line c d ≡ true)
+
+abbrev pub HasStateRanges : Line → ℕ → Centre → Type 0
+HasStateRanges line c k = HasStateParts line c k.clock k.announced k.book k.heard k.mission k.wait k.expects
+
+-- ## What is sent
+
+-- a body with each field in its range, to a centre that c has a link with
+pub record IsSentInRange (line : Line) (c d : ℕ) (f : Body) : Type 0 where
+  pub linked : is_linked line c d ≡ true
+  pub body : HasBodyRange f
+
+-- a centre is left in its ranges, and sends such bodies
+pub record LeavesInRange (line : Line) (c : ℕ) (y : Centre) (frames : ℕ → List Body) : Type 0 where
+  pub centre : HasStateRanges line c y
+  pub bodies : (d : ℕ) → All (IsSentInRange line c d) (frames d)
