@@ -92,25 +92,28 @@ module _ (line : Line) (w : World) (sound : IsFlowSound line (flow_of w)) where
     )),
   )
 
-  pub one_seat : (t : ℕ) → length (all_held line w t) ≤ 1
-  one_seat t = omega (
+  -- what is held is counted
+  pub held_le : (t : ℕ) → length (all_held line w t) ≤ placed (missions t) (centre_count line) (flow_of w)
+  held_le t = omega (
     arith,
     length-append (filter_map (held_at w t) (centres_of line)) (filter_map (λ (f : Frame). handed_over t f.body) (frames_on_way line w)),
     at_centres t,
     on_links t,
     placed_parts (missions t) (centre_count line) (flow_of w),
-    few_missions line (flow_of w) sound t,
   )
+
+  pub one_seat : (t : ℕ) → length (all_held line w t) ≤ 1
+  one_seat t = omega (arith, held_le t, few_missions line (flow_of w) sound t)
 
   -- ## What has a hand is held
 
   among : (c : ℕ) → is_centre line c ≡ true → Contains (centres_of line) c
   among c at = contains_range 0 (centre_count line) c (omega arith) (omega (arith, ltb-true c (centre_count line) at))
 
-  abbrev held_as : LineMission → SectionRun → Held
+  abbrev pub held_as : LineMission → SectionRun → Held
   held_as m hand = record { mission = m; hand = hand }
 
-  is_held : (t : ℕ) (hand : SectionRun) → IsHandOf w t hand → (m : LineMission) × Contains (all_held line w t) (held_as m hand)
+  pub is_held : (t : ℕ) (hand : SectionRun) → IsHandOf w t hand → (m : LineMission) × Contains (all_held line w t) (held_as m hand)
   is_held t hand (at_centre c m has same) = (seen c m, by_centre (is_centre line c) refl)
     where
       gives : held_at w t c ≡ Some (held_as (seen c m) hand)
