@@ -1,7 +1,7 @@
 -- A sound flow that loses nothing has each right, each mission and each section in use in one place.
-use Rattle.std.proofs.Common.{◌≡◌, ◌≢◌, ℕ, ◌+◌, ◌==◌, ◌&&◌, Bool, true, false, List, [], ◌∷◌, ◌++◌, length, map, slice_get, Option, Some, None, is_some, refl, sym, ap, ◌∙◌, subst, arith, ne_eqb, eqb-true, ltb-true}
+use Rattle.std.proofs.Common.{◌≡◌, ◌≢◌, ℕ, ◌+◌, ◌==◌, ◌&&◌, Bool, true, false, List, [], ◌∷◌, ◌++◌, map, slice_get, Option, Some, None, is_some, refl, sym, ap, ◌∙◌, subst, arith, ne_eqb, eqb-true, ltb-true}
 use Rattle.std.specs.Option.{option_map_or}
-use Rattle.std.specs.List.{flat_map, count_by, position_or_len}
+use Rattle.std.specs.List.{flat_map, count_by}
 use Rattle.std.proofs.lemmas.Bool.{lt-ltb}
 use Rattle.std.proofs.lemmas.List.Concat.{flat_map-append}
 use Rattle.rbc_ledger.specs.Sums.{one_if, sum_links}
@@ -11,7 +11,7 @@ use Rattle.rbc_ledger.proofs.Sums.{sum_same, sum_plus, sum_only}
 use Rattle.rbc_ledger.proofs.Places.{placed_parts}
 use Rattle.rbc_spec.specs.Maps.{has}
 use Rattle.rbc_spec.specs.SectionRuns.{within}
-use Rattle.rbc_spec.specs.Line.{Line, IsLine, Section, Train, section, is_home, is_centre, registrar, train_number}
+use Rattle.rbc_spec.specs.Line.{Line, IsLine, Section, Train, section, is_home, is_centre, registrar}
 use Rattle.rbc_spec.specs.Place.{Place, covered}
 use Rattle.rbc_spec.specs.Frame.{Body, Frame, RouteInfo, RouteReturn, Yield}
 use Rattle.rbc_spec.specs.Centre as centre

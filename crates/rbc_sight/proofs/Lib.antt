@@ -1,0 +1,5 @@
+pub mod Acts
+pub mod Hands
+pub mod Missions
+pub mod Shows
+pub mod ReadOff

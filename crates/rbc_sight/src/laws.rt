@@ -1,0 +1,101 @@
+//! Laws of what the one line centre shows.
+
+ghost use Rattle.std.specs.Prelude.{◌≡◌, ◌≢◌, ◌≤◌, ◌<◌, ℕ, ◌+◌, Bool, true, false, List, Option, Some, None};
+ghost use Rattle.rbc_ledger.specs.Network.{took, acted, TakesHead, IsCounted};
+ghost use Rattle.rbc_ledger.specs.Resource.{Resource, placed};
+ghost use Rattle.rbc_spec.specs.Line.{Line, IsLine, is_centre};
+ghost use Rattle.rbc_spec.specs.Place.{Place};
+ghost use Rattle.rbc_spec.specs.Frame.{Body};
+ghost use Rattle.rbc_spec.specs.Centre.{Centre, Phase, Mission};
+ghost use Rattle.rbc_spec.specs.LineCentre.{LineState, LineMission, Mark};
+ghost use Rattle.rbc_spec.specs.ReadOff.{read_off};
+ghost use Rattle.rbc_spec.specs.World.{World};
+ghost use Rattle.rbc_flow.specs.Flow.{Flow, flow_of, centre_count};
+ghost use Rattle.rbc_flow.specs.Counts.{hands, missions};
+ghost use Rattle.rbc_flow.specs.Keeping.{nothing_came, came_with};
+ghost use Rattle.rbc_flow.specs.Sound.{IsFlowSound};
+ghost use Rattle.rbc_flow.specs.Shows.{Shows, shown, is_in_hand};
+ghost use Rattle.rbc_sight.specs.Acts.{IsAct, IsMissionHere, hand_before, hand_behind, rights_alone};
+ghost use Rattle.rbc_sight.specs.After.{PartStays, PartChanges, MarkAfter, ShowsMission, MissionAfter, ShowsAfter};
+
+/// What one centre does by itself, and what it does at the head of a link, is an act of one centre.
+pub fn an_act_of_one_centre()
+    ensures by_itself { (line : Line) (w : Flow) (c : ℕ) (y : Centre) (frames : ℕ → List Body) → IsCounted w → is_centre line c ≡ true
+        → IsAct line w c nothing_came y frames (acted w c y frames) }
+    ensures at_head { (line : Line) (w : Flow) (a c : ℕ) (f : Body) (y : Centre) (frames : ℕ → List Body) → IsCounted w
+        → is_centre line a ≡ true → is_centre line c ≡ true → TakesHead w a c f
+        → IsAct line w c (came_with a c f) y frames (acted (took w a c) c y frames) }
+{}
+
+/// How often a section is in a hand of a train changes by an act as the centre's own hand does, with what came and what is sent. So it is in
+/// a hand as before where that is as much, it is where the centre has it behind or sends it, and it is in none where the centre had it and
+/// has it no more.
+pub fn hands_after()
+    ensures counted { (line : Line) (w : Flow) (c : ℕ) (came : Resource Centre Body → ℕ) (y : Centre) (frames : ℕ → List Body) (new : Flow) (t s : ℕ)
+        → IsAct line w c came y frames new
+        → placed (hands t s) (centre_count line) new + hand_before t s (w.at c) came ≡ placed (hands t s) (centre_count line) w + hand_behind line c t s y frames }
+    ensures same { (line : Line) (w : Flow) (c : ℕ) (came : Resource Centre Body → ℕ) (y : Centre) (frames : ℕ → List Body) (new : Flow) (t s : ℕ)
+        → IsAct line w c came y frames new → hand_behind line c t s y frames ≡ hand_before t s (w.at c) came
+        → is_in_hand line new s t ≡ is_in_hand line w s t }
+    ensures was { (line : Line) (w : Flow) (c : ℕ) (came : Resource Centre Body → ℕ) (y : Centre) (frames : ℕ → List Body) (new : Flow) (t s : ℕ)
+        → IsAct line w c came y frames new → 0 < hand_before t s (w.at c) came → is_in_hand line w s t ≡ true }
+    ensures given { (line : Line) (w : Flow) (c : ℕ) (came : Resource Centre Body → ℕ) (y : Centre) (frames : ℕ → List Body) (new : Flow) (t s : ℕ)
+        → IsAct line w c came y frames new → 0 < hand_behind line c t s y frames → is_in_hand line new s t ≡ true }
+    ensures left { (line : Line) (w : Flow) (c : ℕ) (came : Resource Centre Body → ℕ) (y : Centre) (frames : ℕ → List Body) (new : Flow) (t s : ℕ)
+        → IsFlowSound line w → IsAct line w c came y frames new → 0 < hand_before t s (w.at c) came → hand_behind line c t s y frames ≡ 0
+        → is_in_hand line new s t ≡ false }
+{}
+
+/// The mark of a section is what its home's book and the hands make of it, before and behind an act.
+pub fn mark_after()
+    ensures { (line : Line) (w new : Flow) (s d : ℕ) (old mark : Mark) → MarkAfter line w new s d old mark
+        → old ≡ shown ((w.at d).book s) (is_in_hand line w s) → mark ≡ shown ((new.at d).book s) (is_in_hand line new s) }
+{}
+
+/// Nowhere else is the mission of a train that the acting centre supervises, or whose Yield came to it; and there is none where the train's
+/// right is at the centre or came, in no mission.
+pub fn where_a_mission_is()
+    ensures supervised { (line : Line) (w : Flow) (c : ℕ) (came : Resource Centre Body → ℕ) (y : Centre) (frames : ℕ → List Body) (new : Flow) (t : ℕ) (m : Mission)
+        → IsFlowSound line w → IsAct line w c came y frames new → (w.at c).mission t ≡ Some m → IsMissionHere line w c came t }
+    ensures came { (line : Line) (w : Flow) (c : ℕ) (came : Resource Centre Body → ℕ) (y : Centre) (frames : ℕ → List Body) (new : Flow) (t : ℕ)
+        → IsFlowSound line w → IsAct line w c came y frames new → 0 < came (missions t) → IsMissionHere line w c came t × ((w.at c).mission t ≡ None) }
+    ensures none { (line : Line) (w : Flow) (c : ℕ) (came : Resource Centre Body → ℕ) (y : Centre) (frames : ℕ → List Body) (new : Flow) (t : ℕ)
+        → IsFlowSound line w → IsAct line w c came y frames new → 0 < (rights_alone t).held c (w.at c) + came (rights_alone t)
+        → IsMissionHere line w c came t × (placed (missions t) (centre_count line) w ≡ 0) }
+{}
+
+/// A train's mission is shown behind an act as it was before, where it stays so; as the centre has it, as the centre's Yield carries it, or
+/// as none.
+pub fn mission_after()
+    ensures { (line : Line) (w : Flow) (c : ℕ) (came : Resource Centre Body → ℕ) (y : Centre) (frames : ℕ → List Body) (new : Flow) (t : ℕ) (old mission : Option LineMission)
+        → IsFlowSound line w → is_centre line c ≡ true → IsAct line w c came y frames new → MissionAfter line w c came y frames t old mission
+        → ShowsMission line w t old → ShowsMission line new t mission }
+{}
+
+/// What is shown of each train at each centre stays, where the centre's own part is as before; and it changes at one pair, where the centre
+/// changed it for one train.
+pub fn one_part_after()
+    ensures phase { PartStays Phase × PartChanges Phase }
+    ensures heard { PartStays (Option ℕ) × PartChanges (Option ℕ) }
+    ensures said { PartStays ℕ × PartChanges ℕ }
+    ensures wait { PartStays (Option Place) × PartChanges (Option Place) }
+{}
+
+/// What shows a sound flow, with each field changed as the act of one centre changes it, shows the flow behind the act: by itself, and at
+/// the head of a link.
+pub fn what_an_act_shows()
+    ensures act { (line : Line) (w : Flow) (c : ℕ) (came : Resource Centre Body → ℕ) (y : Centre) (frames : ℕ → List Body) (new : Flow) (v after : LineState)
+        → IsFlowSound line w → Shows line w v → is_centre line c ≡ true → IsAct line w c came y frames new
+        → ShowsAfter line w c came y frames new v after → Shows line new after }
+    ensures by_itself { (line : Line) (w : Flow) (c : ℕ) (y : Centre) (frames : ℕ → List Body) (v after : LineState)
+        → IsFlowSound line w → Shows line w v → is_centre line c ≡ true
+        → ShowsAfter line w c nothing_came y frames (acted w c y frames) v after → Shows line (acted w c y frames) after }
+    ensures at_head { (line : Line) (w : Flow) (a c : ℕ) (f : Body) (y : Centre) (frames : ℕ → List Body) (v after : LineState)
+        → IsFlowSound line w → Shows line w v → is_centre line a ≡ true → is_centre line c ≡ true → TakesHead w a c f
+        → ShowsAfter line w c (came_with a c f) y frames (acted (took w a c) c y frames) v after → Shows line (acted (took w a c) c y frames) after }
+{}
+
+/// What shows the flow of a world is the state that is read off it: no other state shows it.
+pub fn what_is_shown_is_read_off()
+    ensures { (line : Line) (w : World) (v : LineState) → IsLine line → IsFlowSound line (flow_of w) → Shows line (flow_of w) v → v ≡ read_off line w }
+{}

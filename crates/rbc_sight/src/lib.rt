@@ -1,0 +1,10 @@
+//! Laws of what the one line centre shows of the centres of a line: how it changes by an act of one centre (`specs/After.antt`), field by
+//! field, and that it is the state that is read off. The functions do nothing: each contract is a law of the definitions.
+#![tactic(auto)]
+
+mod laws;
+
+pub use laws::{
+    an_act_of_one_centre, hands_after, mark_after, mission_after, one_part_after,
+    what_an_act_shows, what_is_shown_is_read_off, where_a_mission_is,
+};
