@@ -49,15 +49,15 @@ in_hand_tokens line w t s = omega (
       (λ a from. sum_le (centre_count line) _ _ (λ b to. hands_le line t s a b (way w a b))),
 )
 
-only : (e : Entry) (g : ℕ → Bool) (t : ℕ) → shown e g ≡ line_centre.Given t → g t ≡ true
-only Shut g t is = cc
-only Open g t is = cc
-only (Taken u) g t is = by_given (g u) refl is
+pub only_given_shown : (e : Entry) (g : ℕ → Bool) (t : ℕ) → shown e g ≡ line_centre.Given t → g t ≡ true
+only_given_shown Shut g t is = cc
+only_given_shown Open g t is = cc
+only_given_shown (Taken u) g t is = by_given (g u) refl is
   where
     by_given : (b : Bool) → g u ≡ b → (if b then line_centre.Given u else line_centre.Kept u) ≡ line_centre.Given t → g t ≡ true
     by_given true h is = let same : u ≡ t = cc in ap g (sym same) ∙ h
     by_given false h is = cc
-only (Out u d) g t is = by_given (g u) refl is
+only_given_shown (Out u d) g t is = by_given (g u) refl is
   where
     by_given : (b : Bool) → g u ≡ b → (if b then line_centre.Given u else line_centre.Kept u) ≡ line_centre.Given t → g t ≡ true
     by_given true h is = let same : u ≡ t = cc in ap g (sym same) ∙ h
@@ -79,7 +79,7 @@ used_shown Open g t used = cc
 used_shown (Taken u) g t used = either_shown (g u) u t (eqb-true u t used)
 used_shown (Out u d) g t used = either_shown (g u) u t (eqb-true u t used)
 
-given_mark : (t : ℕ) (m : Mark) → is_given_to t m ≡ true → m ≡ line_centre.Given t
+pub given_mark : (t : ℕ) (m : Mark) → is_given_to t m ≡ true → m ≡ line_centre.Given t
 given_mark t line_centre.Shut is = cc
 given_mark t line_centre.Open is = cc
 given_mark t (line_centre.Kept u) is = cc
@@ -91,13 +91,16 @@ one_user Open t u a b = cc
 one_user (Taken x) t u a b = sym (eqb-true x t a) ∙ eqb-true x u b
 one_user (Out x d) t u a b = sym (eqb-true x t a) ∙ eqb-true x u b
 
+-- where a section is in use for a train at its home, if it is in a hand
+pub used_in_hand : (line : Line) (w : Flow) → IsFlowSound line w → (t s : ℕ) → is_in_hand line w s t ≡ true → (h : ℕ) × (is_home line h s ≡ true) × (is_used_for t ((w.at h).book s) ≡ true)
+used_in_hand line w sound t s is =
+    let who = some_cap (tokens line t s) (centre_count line) w (omega (arith, ltb-true 0 (placed (hands t s) (centre_count line) w) is, in_hand_tokens line w t s, (sound.tokens t s).law)) in
+    let both = and_parts (is_home line who.0 s) (is_used_for t ((w.at who.0).book s)) (one_if_some _ who.2) in
+    (who.0, both.0, both.1)
+
 module _ (line : Line) (w : World) (sound : IsFlowSound line (flow_of w)) (v : LineState) (sees : Shows line (flow_of w) v) where
-  -- where a section is in use for a train at its home, if it is in a hand
-  pub used_at : (t s : ℕ) → is_in_hand line (flow_of w) s t ≡ true → (h : ℕ) × (is_home line h s ≡ true) × (is_used_for t ((w.at h).book s) ≡ true)
-  used_at t s is =
-      let who = some_cap (tokens line t s) (centre_count line) (flow_of w) (omega (arith, ltb-true 0 (placed (hands t s) (centre_count line) (flow_of w)) is, in_hand_tokens line (flow_of w) t s, (sound.tokens t s).law)) in
-      let both = and_parts (is_home line who.0 s) (is_used_for t ((w.at who.0).book s)) (one_if_some _ who.2) in
-      (who.0, both.0, both.1)
+  used_at : (t s : ℕ) → is_in_hand line (flow_of w) s t ≡ true → (h : ℕ) × (is_home line h s ≡ true) × (is_used_for t ((w.at h).book s) ≡ true)
+  used_at = used_in_hand line (flow_of w) sound
 
   -- each body on the way is sound
   on_its_way : (a b : ℕ) (f : Body) → Contains (way (flow_of w) a b) f → IsBodySound line a b f
@@ -175,7 +178,7 @@ module _ (line : Line) (w : World) (sound : IsFlowSound line (flow_of w)) (v : L
         let used_there = used_at t s in_hand in
         let used = subst (λ h. is_used_for t ((w.at h).book s) ≡ true) (one_home line used_there.0 c s used_there.1 home) used_there.2 in
         (sees.mark s c home ∙ given_shown ((w.at c).book s) (is_in_hand line (flow_of w) s) t used in_hand, used);
-    only_given = λ t is. found t s (only ((w.at c).book s) (is_in_hand line (flow_of w) s) t (sym (sees.mark s c home) ∙ is));
+    only_given = λ t is. found t s (only_given_shown ((w.at c).book s) (is_in_hand line (flow_of w) s) t (sym (sees.mark s c home) ∙ is));
     kept = λ t is. subst (λ x. (x ≡ line_centre.Given t) ⊎ (x ≡ line_centre.Kept t)) (sym (sees.mark s c home)) (used_shown ((w.at c).book s) (is_in_hand line (flow_of w) s) t is);
     opened = λ is. sees.mark s c home ∙ ap (λ e. shown e (is_in_hand line (flow_of w) s)) is;
     shut = λ is. sees.mark s c home ∙ ap (λ e. shown e (is_in_hand line (flow_of w) s)) is;

@@ -82,7 +82,7 @@ shown_as centre.Open g h same = refl
 shown_as (centre.Taken t) g h same = ap (λ b. if b then line_centre.Given t else line_centre.Kept t) (sym (same t (itself t)))
 shown_as (centre.Out t d) g h same = ap (λ b. if b then line_centre.Given t else line_centre.Kept t) (sym (same t (itself t)))
 
-kept_shown : (e : Entry) (g : ℕ → Bool) (t : ℕ) → is_used_for t e ≡ true → g t ≡ false → shown e g ≡ line_centre.Kept t
+pub kept_shown : (e : Entry) (g : ℕ → Bool) (t : ℕ) → is_used_for t e ≡ true → g t ≡ false → shown e g ≡ line_centre.Kept t
 kept_shown centre.Shut g t used is = cc
 kept_shown centre.Open g t used is = cc
 kept_shown (centre.Taken u) g t used is =

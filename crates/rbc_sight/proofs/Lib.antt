@@ -3,3 +3,5 @@ pub mod Hands
 pub mod Missions
 pub mod Shows
 pub mod ReadOff
+pub mod Splits
+pub mod Marks

@@ -25,40 +25,8 @@ use Rattle.rbc_flow.proofs.Frames.{nothing_sent}
 use Rattle.rbc_flow.proofs.Neighbours.{one_registrar}
 use Rattle.rbc_flow.proofs.Seats.{few_missions}
 use Rattle.rbc_sight.specs.Acts.{IsAct, IsMissionHere, SendsNone, rights_alone, right_alone_inside}
+use Rattle.rbc_sight.proofs.Splits.{rights_split}
 use Rattle.rbc_sight.specs.After.{ShowsMission, MissionAfter, stays, is_here, handed_over, ended}
-
--- ## A right is in a mission, or alone
-
-carried_split : (line : Line) (t a b : ℕ) (fs : List Body) → carried (rights line t) a b fs ≡ carried (rights_alone t) a b fs + carried (missions t) a b fs
-unfolding carried
-carried_split line t a b [] = refl
-carried_split line t a b (f ∷ fs) = omega (arith, carried_split line t a b fs, by_body f)
-  where
-    by_body : (g : Body) → right_inside t g ≡ right_alone_inside t g + yield_inside t g
-    by_body (Yield h u heard has_data is_ended place hand) = omega arith
-    by_body g = omega arith
-
-rights_split : (line : Line) (w : Flow) (t : ℕ) → placed (rights line t) (centre_count line) w ≡ placed (rights_alone t) (centre_count line) w + placed (missions t) (centre_count line) w
-unfolding placed sum_links
-rights_split line w t = omega (
-  arith,
-  sum_plus n (λ c. one_if ((w.at c).has_right t)) (λ c. one_if (is_some ((w.at c).mission t))),
-  sum_same n (λ a. sum_below n (all a)) (λ a. sum_below n (alone a) + sum_below n (yielded a))
-      (λ a from. sum_same n (all a) (λ b. alone a b + yielded a b) (λ b to. carried_split line t a b (way w a b)) ∙ sum_plus n (alone a) (yielded a)),
-  sum_plus n (λ a. sum_below n (alone a)) (λ a. sum_below n (yielded a)),
-)
-  where
-    n : ℕ
-    n = centre_count line
-
-    all : ℕ → ℕ → ℕ
-    all a b = carried (rights line t) a b (way w a b)
-
-    alone : ℕ → ℕ → ℕ
-    alone a b = carried (rights_alone t) a b (way w a b)
-
-    yielded : ℕ → ℕ → ℕ
-    yielded a b = carried (missions t) a b (way w a b)
 
 -- ## Where it is
 
@@ -93,7 +61,7 @@ module _ (line : Line) (w : Flow) (c : ℕ) (came : Resource Centre Body → ℕ
   none_here alone = (omega (arith, act.had (missions t), nowhere), nowhere)
     where
       nowhere : placed (missions t) (centre_count line) w ≡ 0
-      nowhere = omega (arith, alone, act.had (rights_alone t), rights_split line w t, (sound.rights t).law, one_registrar line t (centre_count line) w)
+      nowhere = omega (arith, alone, act.had (rights_alone t), rights_split line t (centre_count line) w, (sound.rights t).law, one_registrar line t (centre_count line) w)
 
   -- ## Behind the act
 

@@ -26,7 +26,7 @@ use Rattle.rbc_flow.specs.Shows.{Shows, shown, is_in_hand, parted}
 use Rattle.rbc_flow.proofs.Basics.{one_home, itself}
 use Rattle.rbc_flow.proofs.Frames.{on_link}
 use Rattle.rbc_flow.proofs.Seats.{held_le, held_there, held_on_way, one_seat}
-use Rattle.rbc_flow.proofs.Stands.{stands, used_at, found, counted, given_shown, some_mission}
+use Rattle.rbc_flow.proofs.Stands.{stands, used_in_hand, found, counted, given_shown, some_mission}
 use Rattle.rbc_flow.proofs.Trains.{known_there}
 
 -- ## Lists
@@ -146,7 +146,7 @@ module _ (line : Line) (w : World) (ok : IsLine line) (sound : IsFlowSound line 
       by_holder None is = rw is (unheld ((w.at d).book s) (is_in_hand line (flow_of w) s) (nobody s is))
       by_holder (Some t) is =
           let in_hand = held_in_hand s t (found_passes (holds s) (map (λ p. p.nid_engine) line.trains) t is) in
-          let used = used_at line w sound v sees t s in_hand in
+          let used = used_in_hand line (flow_of w) sound t s in_hand in
           rw is (given_shown ((w.at d).book s) (is_in_hand line (flow_of w) s) t (subst (λ h. is_used_for t ((w.at h).book s) ≡ true) (one_home line used.0 d s used.1 home) used.2) in_hand)
 
   pub is_read_off : v ≡ read_off line w

@@ -1,15 +1,16 @@
 -- The flow behind an act of one centre, by itself or at the head of a link.
-use Rattle.std.specs.Prelude.{◌≡◌, ◌⊎◌, ℕ, ◌+◌, ◌≤◌, ◌==◌, List, Contains, is_some}
+use Rattle.std.specs.Prelude.{◌≡◌, ◌⊎◌, ℕ, ◌+◌, ◌≤◌, ◌==◌, ◌&&◌, List, Contains, is_some}
 use Rattle.rbc_ledger.specs.Sums.{one_if}
 use Rattle.rbc_ledger.specs.Network.{way}
 use Rattle.rbc_ledger.specs.Resource.{Resource, carried, sent_by, placed}
 use Rattle.rbc_spec.specs.Maps.{put}
+use Rattle.rbc_spec.specs.SectionRuns.{within}
 use Rattle.rbc_spec.specs.Line.{Line}
-use Rattle.rbc_spec.specs.Frame.{Body, GiveRight, ReturnRight}
+use Rattle.rbc_spec.specs.Frame.{Body, GiveRight, ReturnRight, RouteInfo, RouteReturn}
 use Rattle.rbc_spec.specs.Centre.{Centre}
 use Rattle.rbc_local.specs.Local.{hand_has}
 use Rattle.rbc_flow.specs.Flow.{Flow, centre_count}
-use Rattle.rbc_flow.specs.Counts.{hands, missions}
+use Rattle.rbc_flow.specs.Counts.{wait_has, pool_has, hands, missions}
 
 -- the flow becomes new by an act of centre c, which leaves it as y and sends these frames; and so much came with it of each resource
 pub record IsAct (line : Line) (w : Flow) (c : ℕ) (came : Resource Centre Body → ℕ) (y : Centre) (frames : ℕ → List Body) (new : Flow) : Type 0 where
@@ -43,3 +44,16 @@ right_alone_inside t body = 0
 
 abbrev pub rights_alone : ℕ → Resource Centre Body
 rights_alone t = record { held = λ c k. one_if (k.has_right t); inside = λ a b body. right_alone_inside t body; cap = λ c k. 0 }
+
+-- the token of a section for a train that is in no hand: in a start that waits, in a pool, or in a frame that lends it or brings it home
+abbrev pub token_aside_inside : ℕ → ℕ → Body → ℕ
+token_aside_inside t s (RouteInfo u r) = one_if ((u == t) && within r s)
+token_aside_inside t s (RouteReturn u r) = one_if ((u == t) && within r s)
+token_aside_inside t s body = 0
+
+abbrev pub tokens_aside : Line → ℕ → ℕ → Resource Centre Body
+tokens_aside line t s = record {
+  held = λ c k. one_if (wait_has line (k.wait t) s) + one_if (pool_has (k.mission t) s);
+  inside = λ a b body. token_aside_inside t s body;
+  cap = λ c k. 0;
+}

@@ -1,13 +1,16 @@
 //! Laws of what the one line centre shows.
 
-ghost use Rattle.std.specs.Prelude.{◌≡◌, ◌≢◌, ◌≤◌, ◌<◌, ℕ, ◌+◌, Bool, true, false, List, Option, Some, None};
-ghost use Rattle.rbc_ledger.specs.Network.{took, acted, TakesHead, IsCounted};
+ghost use Rattle.std.specs.Prelude.{◌≡◌, ◌≢◌, ◌≤◌, ◌<◌, ℕ, ◌+◌, Bool, true, false, List, Option, Some, None, Contains};
+ghost use Rattle.rbc_ledger.specs.Network.{way, took, acted, TakesHead, IsCounted};
 ghost use Rattle.rbc_ledger.specs.Resource.{Resource, placed};
-ghost use Rattle.rbc_spec.specs.Line.{Line, IsLine, is_centre};
+ghost use Rattle.rbc_spec.specs.SectionRuns.{SectionRun};
+ghost use Rattle.rbc_spec.specs.Line.{Line, IsLine, is_centre, is_home};
 ghost use Rattle.rbc_spec.specs.Place.{Place};
-ghost use Rattle.rbc_spec.specs.Frame.{Body};
-ghost use Rattle.rbc_spec.specs.Centre.{Centre, Phase, Mission};
-ghost use Rattle.rbc_spec.specs.LineCentre.{LineState, LineMission, Mark};
+ghost use Rattle.rbc_spec.specs.Frame.{Body, YieldedPlace};
+ghost use Rattle.rbc_spec.specs.Frame.Body.{Yield};
+ghost use Rattle.rbc_spec.specs.Centre.{Centre, Phase, Mission, is_used_for};
+ghost use Rattle.rbc_spec.specs.LineCentre.{LineState, LineMission, Mark, is_given_to, IsHand};
+ghost use Rattle.rbc_spec.specs.LineCentre.Mark.{Given, Kept};
 ghost use Rattle.rbc_spec.specs.ReadOff.{read_off};
 ghost use Rattle.rbc_spec.specs.World.{World};
 ghost use Rattle.rbc_flow.specs.Flow.{Flow, flow_of, centre_count};
@@ -15,7 +18,7 @@ ghost use Rattle.rbc_flow.specs.Counts.{hands, missions};
 ghost use Rattle.rbc_flow.specs.Keeping.{nothing_came, came_with};
 ghost use Rattle.rbc_flow.specs.Sound.{IsFlowSound};
 ghost use Rattle.rbc_flow.specs.Shows.{Shows, shown, is_in_hand};
-ghost use Rattle.rbc_sight.specs.Acts.{IsAct, IsMissionHere, hand_before, hand_behind, rights_alone};
+ghost use Rattle.rbc_sight.specs.Acts.{IsAct, IsMissionHere, hand_before, hand_behind, rights_alone, tokens_aside};
 ghost use Rattle.rbc_sight.specs.After.{PartStays, PartChanges, MarkAfter, ShowsMission, MissionAfter, ShowsAfter};
 
 /// What one centre does by itself, and what it does at the head of a link, is an act of one centre.
@@ -98,4 +101,27 @@ pub fn what_an_act_shows()
 /// What shows the flow of a world is the state that is read off it: no other state shows it.
 pub fn what_is_shown_is_read_off()
     ensures { (line : Line) (w : World) (v : LineState) → IsLine line → IsFlowSound line (flow_of w) → Shows line (flow_of w) v → v ≡ read_off line w }
+{}
+
+/// What a mark tells of the flow that it shows. A section is given to a train exactly where it is in a hand of the train, and then it is in
+/// use for it at its home; else it is kept for the train that it is in use for. And a section is in no hand where its token is in a start
+/// that waits, in a pool, or in a frame that lends it or brings it home.
+pub fn what_a_mark_tells()
+    ensures given { (line : Line) (w : Flow) (v : LineState) (t s : ℕ) → IsFlowSound line w → Shows line w v → is_given_to t (v.mark s) ≡ is_in_hand line w s t }
+    ensures mark { (line : Line) (w : Flow) (v : LineState) (t s : ℕ) → IsFlowSound line w → Shows line w v → is_in_hand line w s t ≡ true → v.mark s ≡ Given t }
+    ensures kept { (line : Line) (w : Flow) (v : LineState) (t s d : ℕ) → IsFlowSound line w → Shows line w v → is_home line d s ≡ true
+        → is_used_for t ((w.at d).book s) ≡ true → is_in_hand line w s t ≡ false → v.mark s ≡ Kept t }
+    ensures used { (line : Line) (w : Flow) (t s d : ℕ) → IsFlowSound line w → is_in_hand line w s t ≡ true → is_home line d s ≡ true
+        → is_used_for t ((w.at d).book s) ≡ true }
+    ensures aside { (line : Line) (w : Flow) (c : ℕ) (came : Resource Centre Body → ℕ) (y : Centre) (frames : ℕ → List Body) (new : Flow) (t s : ℕ)
+        → IsFlowSound line w → IsAct line w c came y frames new → 0 < (tokens_aside line t s).held c (w.at c) + came (tokens_aside line t s)
+        → is_in_hand line w s t ≡ false }
+{}
+
+/// The hand of a mission, at a centre or in a Yield on the way, is the hand that is shown: all that is given to its train.
+pub fn a_hand_is_what_is_given()
+    ensures at_centre { (line : Line) (w : Flow) (v : LineState) (t c : ℕ) (m : Mission) → IsFlowSound line w → Shows line w v
+        → (w.at c).mission t ≡ Some m → IsHand v t m.hand }
+    ensures on_way { (line : Line) (w : Flow) (v : LineState) (t a b number heard : ℕ) (has_data is_ended : Bool) (place : YieldedPlace) (hand : SectionRun)
+        → IsFlowSound line w → Shows line w v → Contains (way w a b) (Yield number t heard has_data is_ended place hand) → IsHand v t hand }
 {}

@@ -5,6 +5,7 @@
 mod laws;
 
 pub use laws::{
-    an_act_of_one_centre, hands_after, mark_after, mission_after, one_part_after,
-    what_an_act_shows, what_is_shown_is_read_off, where_a_mission_is,
+    a_hand_is_what_is_given, an_act_of_one_centre, hands_after, mark_after, mission_after,
+    one_part_after, what_a_mark_tells, what_an_act_shows, what_is_shown_is_read_off,
+    where_a_mission_is,
 };
