@@ -4,6 +4,7 @@ use Rattle.std.proofs.lemmas.Bool.{lt-ltb, cond-false, eqb-true, cases_lt}
 use Rattle.rbc_ledger.specs.Sums.{one_if, sum_below}
 use Rattle.rbc_ledger.specs.Resource.{Resource, placed, allowed}
 use Rattle.rbc_ledger.proofs.Sums.{sum_only, sum_zero, one_if_le_one}
+use Rattle.rbc_lemmas.proofs.Puts.{put_here, put_other, put_keeps}
 use Rattle.rbc_spec.specs.Maps.{has}
 use Rattle.rbc_spec.specs.Line.{Line, Section, section, is_home}
 use Rattle.rbc_spec.specs.Frame.{Body}
@@ -11,13 +12,15 @@ use Rattle.rbc_spec.specs.Centre as centre
 use Rattle.rbc_spec.specs.Centre.{Centre, Entry, is_used_for}
 use Rattle.rbc_spec.specs.LineCentre as line_centre
 use Rattle.rbc_spec.specs.LineCentre.{Mark}
+use Rattle.rbc_local.specs.Local.{hand_has}
 use Rattle.rbc_flow.specs.Flow.{Flow, centre_count}
 use Rattle.rbc_flow.specs.Counts.{hands, tokens}
 use Rattle.rbc_flow.specs.Sound.{IsFlowSound}
 use Rattle.rbc_flow.specs.Shows.{shown, is_in_hand}
 use Rattle.rbc_flow.proofs.Basics.{one_home, itself}
 use Rattle.rbc_flow.proofs.Stands.{in_hand_tokens, given_shown}
-use Rattle.rbc_sight.specs.Acts.{IsAct, hand_before, hand_behind}
+use Rattle.rbc_sight.specs.Acts.{IsAct, SendsNone, hand_before, hand_behind}
+use Rattle.rbc_sight.proofs.Frames.{sends_none}
 use Rattle.rbc_sight.specs.After.{MarkAfter, stays, is_given, is_kept, is_opened, is_shut}
 
 -- ## A token of each section at most
@@ -55,6 +58,9 @@ module _ (line : Line) (w : Flow) (c : ℕ) (came : Resource Centre Body → ℕ
 
   pub same : hand_behind line c t s y frames ≡ hand_before t s (w.at c) came → is_in_hand line new s t ≡ is_in_hand line w s t
   same as_before = ap (nat_lt 0) (omega (arith, counted, as_before))
+
+  pub unchanged : hand_has (y.mission t) s ≡ hand_has ((w.at c).mission t) s → came (hands t s) ≡ 0 → SendsNone (hands t s) c frames → is_in_hand line new s t ≡ is_in_hand line w s t
+  unchanged hand none sends = same (omega (arith, ap one_if hand, none, sends_none (hands t s) (centre_count line) c frames sends))
 
   pub was : 0 < hand_before t s (w.at c) came → is_in_hand line w s t ≡ true
   was had = lt-ltb 0 (placed (hands t s) (centre_count line) w) (omega (arith, had, act.had (hands t s)))
@@ -98,3 +104,17 @@ mark_shown line w new s d old mark (is_given t is used hand) before = is ∙ sym
 mark_shown line w new s d old mark (is_kept t is used hand) before = is ∙ sym (kept_shown ((new.at d).book s) (is_in_hand line new s) t used hand)
 mark_shown line w new s d old mark (is_opened is book) before = is ∙ sym (ap (λ (e : Entry). shown e (is_in_hand line new s)) book)
 mark_shown line w new s d old mark (is_shut is book) before = is ∙ sym (ap (λ (e : Entry). shown e (is_in_hand line new s)) book)
+
+-- the states behind an act
+pub state_here : (line : Line) (w : Flow) (c : ℕ) (came : Resource Centre Body → ℕ) (y : Centre) (frames : ℕ → List Body) (new : Flow) → IsAct line w c came y frames new → new.at c ≡ y
+state_here line w c came y frames new act = ap (λ (g : ℕ → Centre). g c) act.at ∙ put_here w.at c c y refl
+
+pub state_elsewhere : (line : Line) (w : Flow) (c : ℕ) (came : Resource Centre Body → ℕ) (y : Centre) (frames : ℕ → List Body) (new : Flow) (d : ℕ) → IsAct line w c came y frames new
+    → d ≢ c → new.at d ≡ w.at d
+state_elsewhere line w c came y frames new d act apart = ap (λ (g : ℕ → Centre). g d) act.at ∙ put_other w.at c d y apart
+
+pub mark_stays : (line : Line) (w : Flow) (c : ℕ) (came : Resource Centre Body → ℕ) (y : Centre) (frames : ℕ → List Body) (new : Flow) (s d : ℕ) (old : Mark)
+    → IsAct line w c came y frames new → y.book s ≡ (w.at c).book s
+    → ((t : ℕ) → is_used_for t ((w.at d).book s) ≡ true → hand_behind line c t s y frames ≡ hand_before t s (w.at c) came) → MarkAfter line w new s d old old
+mark_stays line w c came y frames new s d old act book hand =
+    stays refl (ap (λ (g : ℕ → Centre). (g d).book s) act.at ∙ put_keeps (λ (z : Centre). z.book s) w.at c y book d) (λ t used. same line w c came y frames new t s act (hand t used))

@@ -5,3 +5,4 @@ pub mod Shows
 pub mod ReadOff
 pub mod Splits
 pub mod Marks
+pub mod Frames

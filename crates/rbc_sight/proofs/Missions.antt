@@ -1,11 +1,11 @@
 -- The mission of a train behind an act.
-use Rattle.std.proofs.Common.{◌≡◌, ◌≢◌, ℕ, ◌+◌, ◌<◌, ◌≤◌, ◌==◌, Bool, true, false, List, [], ◌∷◌, Option, Some, None, option_map, is_some, refl, sym, ap, ◌∙◌, inl, inr, arith, ⊎_elim, ltb-true}
+use Rattle.std.proofs.Common.{◌≡◌, ◌≢◌, ℕ, ◌+◌, ◌<◌, ◌≤◌, ◌==◌, Bool, true, false, List, Option, Some, None, option_map, is_some, refl, sym, ap, ◌∙◌, inl, inr, arith, ⊎_elim, ltb-true}
 use Rattle.std.specs.Prelude.{Contains}
 use Rattle.std.proofs.lemmas.Bool.{cases_eq}
-use Rattle.rbc_ledger.specs.Sums.{one_if, sum_below, sum_links}
+use Rattle.rbc_ledger.specs.Sums.{one_if}
 use Rattle.rbc_ledger.specs.Network.{way}
-use Rattle.rbc_ledger.specs.Resource.{Resource, carried, placed, sent_by}
-use Rattle.rbc_ledger.proofs.Sums.{sum_plus, sum_same, sum_zero, one_if_true}
+use Rattle.rbc_ledger.specs.Resource.{Resource, placed, sent_by}
+use Rattle.rbc_ledger.proofs.Sums.{one_if_true}
 use Rattle.rbc_ledger.proofs.Places.{two_held_le_placed, held_carried_le_placed}
 use Rattle.rbc_lemmas.proofs.Puts.{put_here, put_other}
 use Rattle.rbc_spec.specs.Line.{Line, is_centre}
@@ -17,30 +17,23 @@ use Rattle.rbc_spec.specs.Centre.{Centre}
 use Rattle.rbc_spec.specs.LineCentre.{LineMission}
 use Rattle.rbc_spec.specs.ReadOff.{seen}
 use Rattle.rbc_flow.specs.Flow.{Flow, centre_count}
-use Rattle.rbc_flow.specs.Counts.{rights, missions, right_inside, yield_inside}
+use Rattle.rbc_flow.specs.Counts.{missions}
 use Rattle.rbc_flow.specs.Sound.{IsFlowSound}
 use Rattle.rbc_flow.specs.Shows.{parted}
 use Rattle.rbc_flow.proofs.Basics.{itself, carried_contains}
 use Rattle.rbc_flow.proofs.Frames.{nothing_sent}
 use Rattle.rbc_flow.proofs.Neighbours.{one_registrar}
 use Rattle.rbc_flow.proofs.Seats.{few_missions}
-use Rattle.rbc_sight.specs.Acts.{IsAct, IsMissionHere, SendsNone, rights_alone, right_alone_inside}
+use Rattle.rbc_sight.specs.Acts.{IsAct, IsMissionHere, SendsNone, rights_alone}
+use Rattle.rbc_sight.proofs.Frames.{sends_none}
 use Rattle.rbc_sight.proofs.Splits.{rights_split}
 use Rattle.rbc_sight.specs.After.{ShowsMission, MissionAfter, stays, is_here, handed_over, ended}
 
 -- ## Where it is
 
-sent_none : (r : Resource Centre Body) (n c : ℕ) (frames : ℕ → List Body) → SendsNone r c frames → sent_by r n c frames ≡ 0
-unfolding sent_by
-sent_none r n c frames none = sum_zero n (λ d. carried r c d (frames d)) (λ d at. none d)
-
 some_seen : (c : ℕ) (o : Option centre.Mission) → is_some (option_map (seen c) o) ≡ is_some o
 some_seen c None = refl
 some_seen c (Some m) = refl
-
--- the train's mission as it is counted
-count : Option centre.Mission → ℕ
-count o = one_if (is_some o)
 
 module _ (line : Line) (w : Flow) (c : ℕ) (came : Resource Centre Body → ℕ) (y : Centre) (frames : ℕ → List Body) (new : Flow) (t : ℕ)
     (sound : IsFlowSound line w) (act : IsAct line w c came y frames new) where
@@ -140,7 +133,7 @@ module _ (line : Line) (w : Flow) (c : ℕ) (came : Resource Centre Body → ℕ
         nothing,
         none,
         act.changes (missions t),
-        sent_none (missions t) (centre_count line) c frames sends,
+        sends_none (missions t) (centre_count line) c frames sends,
         ap one_if (sym (some_seen c (y.mission t)) ∙ ap is_some same ∙ some_seen c ((w.at c).mission t)),
       ));
     }
@@ -165,7 +158,7 @@ module _ (line : Line) (w : Flow) (c : ℕ) (came : Resource Centre Body → ℕ
     }
       where
         total : placed (missions t) (centre_count line) new ≡ 1
-        total = omega (arith, act.changes (missions t), alone, sent_none (missions t) (centre_count line) c frames sends, ap (λ (o : Option centre.Mission). one_if (is_some o)) now)
+        total = omega (arith, act.changes (missions t), alone, sends_none (missions t) (centre_count line) c frames sends, ap (λ (o : Option centre.Mission). one_if (is_some o)) now)
 
         one : placed (missions t) (centre_count line) new ≤ 1
         one = omega (arith, total)

@@ -1,20 +1,25 @@
 -- What is shown behind an act, put together of its fields.
-use Rattle.std.proofs.Common.{◌≡◌, ◌≢◌, ℕ, ◌==◌, Bool, true, false, List, refl, sym, ap, ◌∙◌, ⊎_elim}
+use Rattle.std.proofs.Common.{◌≡◌, ◌≢◌, ℕ, ◌==◌, Bool, true, false, List, Option, arith, refl, sym, ap, ◌∙◌, ⊎_elim}
 use Rattle.std.proofs.lemmas.Bool.{cases_eq}
+use Rattle.rbc_ledger.specs.Sums.{one_if}
 use Rattle.rbc_ledger.specs.Resource.{Resource}
 use Rattle.rbc_lemmas.proofs.Puts.{put_here, put_other}
 use Rattle.rbc_spec.specs.Maps.{has, put}
 use Rattle.rbc_spec.specs.Line.{Line, is_centre, is_home}
+use Rattle.rbc_spec.specs.Place.{Place}
 use Rattle.rbc_spec.specs.Frame.{Body}
-use Rattle.rbc_spec.specs.Centre.{Centre}
+use Rattle.rbc_spec.specs.Centre.{Centre, Phase}
 use Rattle.rbc_spec.specs.LineCentre.{LineState}
-use Rattle.rbc_flow.specs.Flow.{Flow}
+use Rattle.rbc_flow.specs.Flow.{Flow, centre_count}
+use Rattle.rbc_flow.specs.Counts.{hands}
 use Rattle.rbc_flow.specs.Sound.{IsFlowSound}
 use Rattle.rbc_flow.specs.Shows.{Shows}
 use Rattle.rbc_flow.proofs.Basics.{one_home}
 use Rattle.rbc_sight.specs.Acts.{IsAct}
-use Rattle.rbc_sight.specs.After.{PartAfter, PartStays, PartChanges, ShowsMission, ShowsAfter}
-use Rattle.rbc_sight.proofs.Hands.{mark_shown}
+use Rattle.rbc_sight.specs.After.{PartAfter, PartStays, PartChanges, ShowsMission, ShowsAfter, IsUnseen}
+use Rattle.rbc_sight.specs.After.MissionAfter.{stays}
+use Rattle.rbc_sight.proofs.Frames.{sends_none}
+use Rattle.rbc_sight.proofs.Hands.{mark_shown, mark_stays}
 use Rattle.rbc_sight.proofs.Missions.{mission_shown}
 
 -- ## Of each train at each centre
@@ -74,3 +79,23 @@ shows_after line w c came y frames new v after sound sees at act owed = record {
 
     missions : (t : ℕ) → ShowsMission line new t (after.mission t)
     missions t = mission_shown line w c came y frames new t sound act at (v.mission t) (after.mission t) (before t) (owed.mission t)
+
+-- ## Unseen
+
+pub unseen_shown : (line : Line) (w : Flow) (c : ℕ) (came : Resource Centre Body → ℕ) (y : Centre) (frames : ℕ → List Body) (new : Flow) (v : LineState)
+    (phase : ℕ → ℕ → Phase) (heard : ℕ → ℕ → Option ℕ) (said : ℕ → ℕ → ℕ) → IsFlowSound line w → Shows line w v → is_centre line c ≡ true → IsAct line w c came y frames new
+    → IsUnseen c (w.at c) came y frames → PartAfter c v.phase y.phase phase → PartAfter c v.heard y.heard heard → PartAfter c v.said y.said said
+    → Shows line new (record v { phase = phase; heard = heard; said = said })
+unseen_shown line w c came y frames new v phase heard said sound sees at act same phases hears says =
+    shows_after line w c came y frames new v (record v { phase = phase; heard = heard; said = said }) sound sees at act (record {
+      phase = phases;
+      heard = hears;
+      said = says;
+      wait = part_stays (Option Place) c v.wait y.wait (λ t. sees.wait t c ∙ sym (same.wait t));
+      wish = λ s home. sees.wish s c home ∙ sym (same.wish s);
+      other_wish = λ s other. refl;
+      mark = λ s d home. mark_stays line w c came y frames new s d (v.mark s) act (same.book s)
+          (λ t used. omega (arith, sends_none (hands t s) (centre_count line) c frames (same.no_hand_sent t s), same.no_hand_came t s, ap one_if (same.hand t s)));
+      no_section = λ s none. refl;
+      mission = λ t. stays refl (same.mission t) (same.no_mission_came t) (same.no_mission_sent t);
+    })

@@ -6,7 +6,7 @@ use Rattle.rbc_ledger.specs.Resource.{Resource, carried, placed}
 use Rattle.rbc_ledger.proofs.Sums.{sum_plus, sum_same}
 use Rattle.rbc_spec.specs.SectionRuns.{within}
 use Rattle.rbc_spec.specs.Line.{Line}
-use Rattle.rbc_spec.specs.Frame.{Body, RouteInfo, RouteReturn, Yield}
+use Rattle.rbc_spec.specs.Frame.{Body, Yield}
 use Rattle.rbc_spec.specs.Centre.{Centre, Mission}
 use Rattle.rbc_local.specs.Local.{hand_has}
 use Rattle.rbc_flow.specs.Flow.{Flow}

@@ -11,8 +11,9 @@ use Rattle.rbc_spec.specs.Centre as centre
 use Rattle.rbc_spec.specs.Centre.{Centre, is_used_for}
 use Rattle.rbc_spec.specs.LineCentre.{LineState, Mark, Shut, Open, Kept, Given, LineMission}
 use Rattle.rbc_spec.specs.ReadOff.{seen}
+use Rattle.rbc_local.specs.Local.{hand_has}
 use Rattle.rbc_flow.specs.Flow.{Flow, centre_count}
-use Rattle.rbc_flow.specs.Counts.{missions}
+use Rattle.rbc_flow.specs.Counts.{hands, missions}
 use Rattle.rbc_flow.specs.Shows.{is_in_hand, parted}
 use Rattle.rbc_sight.specs.Acts.{SendsNone, IsMissionHere}
 
@@ -72,3 +73,16 @@ pub record ShowsAfter (line : Line) (w : Flow) (c : ℕ) (came : Resource Centre
   pub mark : (s d : ℕ) → is_home line d s ≡ true → MarkAfter line w new s d (v.mark s) (after.mark s)
   pub no_section : (s : ℕ) → section line s ≡ None → after.mark s ≡ v.mark s
   pub mission : (t : ℕ) → MissionAfter line w c came y frames t (v.mission t) (after.mission t)
+
+-- An act of c that changes nothing of what is shown but sessions and what is heard and said: the book, wishes, waiting starts, what the line
+-- sees of missions and their hands stay, and no hand and no mission comes or is sent
+pub record IsUnseen (c : ℕ) (k : Centre) (came : Resource Centre Body → ℕ) (y : Centre) (frames : ℕ → List Body) : Type 0 where
+  pub book : (s : ℕ) → y.book s ≡ k.book s
+  pub wish : (s : ℕ) → y.wish s ≡ k.wish s
+  pub wait : (t : ℕ) → y.wait t ≡ k.wait t
+  pub mission : (t : ℕ) → option_map (seen c) (y.mission t) ≡ option_map (seen c) (k.mission t)
+  pub hand : (t s : ℕ) → hand_has (y.mission t) s ≡ hand_has (k.mission t) s
+  pub no_mission_came : (t : ℕ) → came (missions t) ≡ 0
+  pub no_hand_came : (t s : ℕ) → came (hands t s) ≡ 0
+  pub no_mission_sent : (t : ℕ) → SendsNone (missions t) c frames
+  pub no_hand_sent : (t s : ℕ) → SendsNone (hands t s) c frames

@@ -1,4 +1,4 @@
-use Rattle.rbc_sight.proofs.Hands.{counted, same, was, given, left}
+use Rattle.rbc_sight.proofs.Hands.{counted, same, unchanged, was, given, left}
 use Rattle.rbc_sight.proofs.laws.hands_after.Goals as goal
 
 pub returns-clause-counted : goal.returns-clause-counted
@@ -15,3 +15,6 @@ returns-clause-given ctx = given
 
 pub returns-clause-left : goal.returns-clause-left
 returns-clause-left ctx line w c came y frames new t s sound act = left line w c came y frames new t s act sound
+
+pub returns-clause-unchanged : goal.returns-clause-unchanged
+returns-clause-unchanged ctx = unchanged
