@@ -6,3 +6,4 @@ pub mod ReadOff
 pub mod Splits
 pub mod Marks
 pub mod Frames
+pub mod Entering

@@ -8,15 +8,17 @@ ghost use Rattle.rbc_spec.specs.Line.{Line, IsLine, is_centre, is_home};
 ghost use Rattle.rbc_spec.specs.Place.{Place};
 ghost use Rattle.rbc_spec.specs.Frame.{Body, YieldedPlace, yielded_place};
 ghost use Rattle.rbc_spec.specs.Frame.Body.{Yield};
+ghost use Rattle.rbc_spec.specs.Centre as centre;
 ghost use Rattle.rbc_spec.specs.Centre.{Centre, Phase, Mission, is_used_for};
 ghost use Rattle.rbc_spec.specs.Acts.{returned};
+ghost use Rattle.rbc_spec.specs.LineCentre as line_centre;
 ghost use Rattle.rbc_spec.specs.LineCentre.{LineState, LineMission, Mark, is_given_to, IsHand};
 ghost use Rattle.rbc_spec.specs.LineCentre.Mark.{Given, Kept};
 ghost use Rattle.rbc_spec.specs.ReadOff.{read_off};
 ghost use Rattle.rbc_spec.specs.World.{World};
 ghost use Rattle.rbc_local.specs.Local.{hand_has};
 ghost use Rattle.rbc_flow.specs.Flow.{Flow, flow_of, centre_count};
-ghost use Rattle.rbc_flow.specs.Counts.{hands, missions};
+ghost use Rattle.rbc_flow.specs.Counts.{tokens, hands, missions};
 ghost use Rattle.rbc_flow.specs.Keeping.{nothing_came, came_with};
 ghost use Rattle.rbc_flow.specs.Sound.{IsFlowSound};
 ghost use Rattle.rbc_flow.specs.Shows.{Shows, shown, is_in_hand, parted};
@@ -38,6 +40,12 @@ pub fn where_an_act_is()
         → IsAct line w c came y frames new → new.at c ≡ y }
     ensures elsewhere { (line : Line) (w : Flow) (c : ℕ) (came : Resource Centre Body → ℕ) (y : Centre) (frames : ℕ → List Body) (new : Flow) (d : ℕ)
         → IsAct line w c came y frames new → d ≢ c → new.at d ≡ w.at d }
+    ensures entry { (line : Line) (w : Flow) (c : ℕ) (came : Resource Centre Body → ℕ) (y : Centre) (frames : ℕ → List Body) (new : Flow) (s d : ℕ)
+        → IsAct line w c came y frames new → is_home line d s ≡ true → is_home line c s ≡ true → (new.at d).book s ≡ y.book s }
+    ensures other_entry { (line : Line) (w : Flow) (c : ℕ) (came : Resource Centre Body → ℕ) (y : Centre) (frames : ℕ → List Body) (new : Flow) (s d : ℕ)
+        → IsAct line w c came y frames new → is_home line d s ≡ true → is_home line c s ≡ false → (new.at d).book s ≡ (w.at d).book s }
+    ensures kept_entry { (line : Line) (w : Flow) (c : ℕ) (came : Resource Centre Body → ℕ) (y : Centre) (frames : ℕ → List Body) (new : Flow) (s d : ℕ)
+        → IsAct line w c came y frames new → is_home line d s ≡ true → y.book s ≡ (w.at c).book s → (new.at d).book s ≡ (w.at d).book s }
 {}
 
 /// What frames carry of a resource: where each carries nothing, nothing is sent; a frame among them is counted. Sections that go home carry
@@ -83,6 +91,29 @@ pub fn mark_after()
         → IsAct line w c came y frames new → y.book s ≡ (w.at c).book s
         → ((t : ℕ) → is_used_for t ((w.at d).book s) ≡ true → hand_behind line c t s y frames ≡ hand_before t s (w.at c) came)
         → MarkAfter line w new s d old old }
+{}
+
+/// A section enters a hand of the acting centre: it is given, if it is in use for the train at its home, as each section is whose token the
+/// centre has. It leaves the hand: a section of the centre's own is as its book has it, and another is kept for the train.
+pub fn a_section_enters_or_leaves_a_hand()
+    ensures enters { (line : Line) (w : Flow) (c : ℕ) (came : Resource Centre Body → ℕ) (y : Centre) (frames : ℕ → List Body) (new : Flow) (s d t : ℕ) (old : Mark)
+        → IsAct line w c came y frames new → is_home line d s ≡ true → is_home line c s ≡ true
+        → is_used_for t (y.book s) ≡ true → 0 < hand_behind line c t s y frames → MarkAfter line w new s d old (Given t) }
+    ensures enters_lent { (line : Line) (w : Flow) (c : ℕ) (came : Resource Centre Body → ℕ) (y : Centre) (frames : ℕ → List Body) (new : Flow) (s d t : ℕ) (old : Mark)
+        → IsAct line w c came y frames new → is_home line d s ≡ true → IsFlowSound line w → is_home line c s ≡ false
+        → 0 < (tokens line t s).held c (w.at c) + came (tokens line t s) → 0 < hand_behind line c t s y frames → MarkAfter line w new s d old (Given t) }
+    ensures token { (line : Line) (w : Flow) (c : ℕ) (came : Resource Centre Body → ℕ) (y : Centre) (frames : ℕ → List Body) (new : Flow) (s d t : ℕ)
+        → IsAct line w c came y frames new → is_home line d s ≡ true → IsFlowSound line w
+        → 0 < (tokens line t s).held c (w.at c) + came (tokens line t s) → is_used_for t ((w.at d).book s) ≡ true }
+    ensures opened { (line : Line) (w : Flow) (c : ℕ) (came : Resource Centre Body → ℕ) (y : Centre) (frames : ℕ → List Body) (new : Flow) (s d : ℕ) (old : Mark)
+        → IsAct line w c came y frames new → is_home line d s ≡ true → is_home line c s ≡ true → y.book s ≡ centre.Open
+        → MarkAfter line w new s d old line_centre.Open }
+    ensures shut { (line : Line) (w : Flow) (c : ℕ) (came : Resource Centre Body → ℕ) (y : Centre) (frames : ℕ → List Body) (new : Flow) (s d : ℕ) (old : Mark)
+        → IsAct line w c came y frames new → is_home line d s ≡ true → is_home line c s ≡ true → y.book s ≡ centre.Shut
+        → MarkAfter line w new s d old line_centre.Shut }
+    ensures leaves_lent { (line : Line) (w : Flow) (c : ℕ) (came : Resource Centre Body → ℕ) (y : Centre) (frames : ℕ → List Body) (new : Flow) (s d t : ℕ) (old : Mark)
+        → IsAct line w c came y frames new → is_home line d s ≡ true → IsFlowSound line w → is_home line c s ≡ false
+        → 0 < hand_before t s (w.at c) came → hand_behind line c t s y frames ≡ 0 → MarkAfter line w new s d old (Kept t) }
 {}
 
 /// Nowhere else is the mission of a train that the acting centre supervises, or whose Yield came to it; and there is none where the train's
