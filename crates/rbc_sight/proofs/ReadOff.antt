@@ -10,7 +10,7 @@ use Rattle.rbc_ledger.specs.Network.{way}
 use Rattle.rbc_ledger.specs.Resource.{placed}
 use Rattle.rbc_spec.specs.Maps.{has}
 use Rattle.rbc_spec.specs.SectionRuns.{SectionRun, within}
-use Rattle.rbc_spec.specs.Line.{Line, IsLine, Section, Train, section, is_home, is_centre, train_number}
+use Rattle.rbc_spec.specs.Line.{Line, Section, Train, section, is_home, is_centre, train_number}
 use Rattle.rbc_spec.specs.Frame.{Yield, yielded_place}
 use Rattle.rbc_spec.specs.Centre as centre
 use Rattle.rbc_spec.specs.Centre.{Entry, is_used_for}
@@ -60,7 +60,7 @@ none_found test (q ∷ qs) none i p at = by_test (test q.nid_engine) refl none i
     by_test false fails e zero there later = ap (λ (r : Train). test r.nid_engine) (sym (same_Some q p there)) ∙ fails
     by_test false fails e (suc j) there later = later e j there
 
-module _ (line : Line) (w : World) (ok : IsLine line) (sound : IsFlowSound line (flow_of w)) (v : LineState) (sees : Shows line (flow_of w) v) where
+module _ (line : Line) (w : World) (sound : IsFlowSound line (flow_of w)) (v : LineState) (sees : Shows line (flow_of w) v) where
   stand : StandsFor line w v
   stand = stands line w sound v sees
 

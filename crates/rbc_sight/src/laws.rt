@@ -4,7 +4,7 @@ ghost use Rattle.std.specs.Prelude.{◌≡◌, ◌≢◌, ◌≤◌, ◌<◌, �
 ghost use Rattle.rbc_ledger.specs.Network.{way, took, acted, to_one, TakesHead, IsCounted};
 ghost use Rattle.rbc_ledger.specs.Resource.{Resource, placed, sent_by};
 ghost use Rattle.rbc_spec.specs.SectionRuns.{SectionRun};
-ghost use Rattle.rbc_spec.specs.Line.{Line, IsLine, is_centre, is_home};
+ghost use Rattle.rbc_spec.specs.Line.{Line, is_centre, is_home};
 ghost use Rattle.rbc_spec.specs.Place.{Place};
 ghost use Rattle.rbc_spec.specs.Frame.{Body, YieldedPlace, yielded_place};
 ghost use Rattle.rbc_spec.specs.Frame.Body.{Yield};
@@ -14,7 +14,7 @@ ghost use Rattle.rbc_spec.specs.Acts.{returned};
 ghost use Rattle.rbc_spec.specs.LineCentre as line_centre;
 ghost use Rattle.rbc_spec.specs.LineCentre.{LineState, LineMission, Mark, is_given_to, IsHand};
 ghost use Rattle.rbc_spec.specs.LineCentre.Mark.{Given, Kept};
-ghost use Rattle.rbc_spec.specs.ReadOff.{read_off};
+ghost use Rattle.rbc_spec.specs.ReadOff.{StandsFor, read_off};
 ghost use Rattle.rbc_spec.specs.World.{World};
 ghost use Rattle.rbc_local.specs.Local.{hand_has};
 ghost use Rattle.rbc_flow.specs.Flow.{Flow, flow_of, centre_count};
@@ -168,9 +168,10 @@ pub fn what_an_act_shows()
         → ShowsAfter line w c (came_with a c f) y frames (acted (took w a c) c y frames) v after → Shows line (acted (took w a c) c y frames) after }
 {}
 
-/// What shows the flow of a world is the state that is read off it: no other state shows it.
+/// What shows the flow of a world is the state that is read off it: no other state shows it. So that state stands for the world.
 pub fn what_is_shown_is_read_off()
-    ensures { (line : Line) (w : World) (v : LineState) → IsLine line → IsFlowSound line (flow_of w) → Shows line (flow_of w) v → v ≡ read_off line w }
+    ensures stands { (line : Line) (w : World) (v : LineState) → IsFlowSound line (flow_of w) → Shows line (flow_of w) v → StandsFor line w (read_off line w) }
+    ensures same { (line : Line) (w : World) (v : LineState) → IsFlowSound line (flow_of w) → Shows line (flow_of w) v → v ≡ read_off line w }
 {}
 
 /// What a mark tells of the flow that it shows. A section is given to a train exactly where it is in a hand of the train, and then it is in
