@@ -1,7 +1,7 @@
 -- A sound flow that loses nothing has each right, each mission and each section in use in one place.
-use Rattle.std.proofs.Common.{◌≡◌, ◌≢◌, ℕ, ◌+◌, ◌==◌, ◌&&◌, Bool, true, false, List, [], ◌∷◌, ◌++◌, length, map, slice_get, Option, Some, None, is_some, refl, sym, ap, ◌∙◌, subst, arith, ne_eqb, eqb-true, ltb-true}
+use Rattle.std.proofs.Common.{◌≡◌, ◌≢◌, ℕ, ◌+◌, ◌==◌, ◌&&◌, Bool, true, false, List, [], ◌∷◌, ◌++◌, map, slice_get, Option, Some, None, is_some, refl, sym, ap, ◌∙◌, subst, arith, ne_eqb, eqb-true, ltb-true}
 use Rattle.std.specs.Option.{option_map_or}
-use Rattle.std.specs.List.{flat_map, count_by, position_or_len}
+use Rattle.std.specs.List.{flat_map, count_by}
 use Rattle.std.proofs.lemmas.Bool.{lt-ltb}
 use Rattle.std.proofs.lemmas.List.Concat.{flat_map-append}
 use Rattle.rbc_ledger.specs.Sums.{one_if, sum_links}
@@ -11,7 +11,7 @@ use Rattle.rbc_ledger.proofs.Sums.{sum_same, sum_plus, sum_only}
 use Rattle.rbc_ledger.proofs.Places.{placed_parts}
 use Rattle.rbc_spec.specs.Maps.{has}
 use Rattle.rbc_spec.specs.SectionRuns.{within}
-use Rattle.rbc_spec.specs.Line.{Line, IsLine, Section, Train, section, is_home, is_centre, registrar, train_number}
+use Rattle.rbc_spec.specs.Line.{Line, IsLine, Section, Train, section, is_home, is_centre, registrar}
 use Rattle.rbc_spec.specs.Place.{Place, covered}
 use Rattle.rbc_spec.specs.Frame.{Body, Frame, RouteInfo, RouteReturn, Yield}
 use Rattle.rbc_spec.specs.Centre as centre
@@ -30,7 +30,7 @@ use Rattle.rbc_flow.proofs.Frames.{way_is}
 use Rattle.rbc_flow.proofs.Lists.{IsAdded, flat_sum}
 use Rattle.rbc_flow.proofs.Neighbours.{home_below}
 use Rattle.rbc_flow.proofs.Seats.{one_seat}
-use Rattle.rbc_flow.proofs.Trains.{count_more, count_both, count_added, count_sum, times, is_user, times_once, no_position, is_there, over_trains, registrar_below}
+use Rattle.rbc_flow.proofs.Trains.{count_more, count_both, count_added, count_sum, times, is_user, times_once, known_there, over_trains, registrar_below}
 
 -- ## A world
 
@@ -99,21 +99,14 @@ module _ (line : Line) (ok : IsLine line) (w : World) (sound : IsFlowSound line 
   held_as b s t u k is = held_times s t u k
       ∙ ap (λ x. (one_if (x && wait_has line (k.wait u) s) + one_if (x && hand_has (k.mission u) s)) + one_if (x && pool_has (k.mission u) s)) is
 
-  known_there : (t : ℕ) → is_some (train_number line t) ≡ true → ((i : ℕ) (p : Train) → slice_get line.trains i ≡ Some p → p.nid_engine ≢ t) → ⊥
-  known_there t known apart = omega (
-    arith,
-    is_there (position_or_len (λ p. p.nid_engine == t) line.trains) (length line.trains) known,
-    no_position (λ p. p.nid_engine == t) line.trains (λ i p at. ne_eqb p.nid_engine t (apart i p at)),
-  )
-
   centre_times : (s t c : ℕ) → is_centre line c ≡ true → times t (flat_map (held_for line s (w.at c)) (map (λ p. p.nid_engine) line.trains)) ≡ held_tokens t s (w.at c)
   centre_times s t c at = over_trains t (held_tokens t s (w.at c)) (held_for line s (w.at c)) (λ u apart. held_as false s t u (w.at c) (ne_eqb u t apart)) (held_as true s t t (w.at c) (itself t))
       line.trains ok.distinct.engines (λ apart. absent apart ((w.at c).mission t) refl ((w.at c).wait t) refl)
     where
       absent : ((i : ℕ) (p : Train) → slice_get line.trains i ≡ Some p → p.nid_engine ≢ t) → (o : Option centre.Mission) → (w.at c).mission t ≡ o → (x : Option Place) → (w.at c).wait t ≡ x → held_tokens t s (w.at c) ≡ 0
       absent apart None none None waits = rw (none, waits) refl
-      absent apart (Some m) is x waits = absurd (known_there t ((sound.centres c at).mission_known t m is).0 apart)
-      absent apart None none (Some place) waits = absurd (known_there t ((sound.centres c at).wait_known t place waits).0 apart)
+      absent apart (Some m) is x waits = absurd (known_there line t ((sound.centres c at).mission_known t m is).0 apart)
+      absent apart None none (Some place) waits = absurd (known_there line t ((sound.centres c at).wait_known t place waits).0 apart)
 
   token_counted : (s t a b : ℕ) (fs : List Frame) → times t (flat_map (λ (f : Frame). carried_for s f.body) fs) ≡ carried (tokens line t s) a b (map (λ (f : Frame). f.body) fs)
   unfolding carried

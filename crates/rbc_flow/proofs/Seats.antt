@@ -1,5 +1,5 @@
 -- A train has one seat at most: its mission is at one centre, or in one frame on the way.
-use Rattle.std.proofs.Common.{◌≡◌, ℕ, ◌+◌, ◌≤◌, ◌==◌, if◌then◌else◌, Bool, true, false, List, [], ◌∷◌, length, length-append, map, Option, Some, None, option_map, is_some, refl, sym, ap, ◌∙◌, inl, inr, arith}
+use Rattle.std.proofs.Common.{◌≡◌, ℕ, ◌+◌, ◌≤◌, ◌==◌, if◌then◌else◌, Bool, true, false, List, [], ◌∷◌, length, length-append, map, Option, Some, None, option_map, is_some, refl, sym, ap, ◌∙◌, subst, inl, inr, arith}
 use Rattle.std.specs.Prelude.{Contains}
 use Rattle.std.specs.List.{filter_map, flat_map}
 use Rattle.std.proofs.lemmas.Bool.{cond-true, ltb-true}
@@ -11,12 +11,13 @@ use Rattle.rbc_ledger.proofs.Sums.{sum_le}
 use Rattle.rbc_ledger.proofs.Places.{placed_parts}
 use Rattle.rbc_spec.specs.SectionRuns.{SectionRun}
 use Rattle.rbc_spec.specs.Line.{Line, is_centre}
+use Rattle.rbc_spec.specs.Place.{Place}
 use Rattle.rbc_spec.specs.Frame.{Body, Frame, Yield, yielded_place}
 use Rattle.rbc_spec.specs.Centre as centre
 use Rattle.rbc_spec.specs.LineCentre.{LineMission}
 use Rattle.rbc_spec.specs.World.{World}
 use Rattle.rbc_spec.specs.World as world
-use Rattle.rbc_spec.specs.ReadOff.{at_centre, on_the_way, IsHandOf, Held, held_at, handed_over, centres_of, frames_on_way, all_held, seen}
+use Rattle.rbc_spec.specs.ReadOff.{at_centre, on_the_way, IsHandOf, IsOnTheWay, Carries, Held, held_at, handed_over, centres_of, frames_on_way, all_held, seen}
 use Rattle.rbc_flow.specs.Flow.{Flow, flow_of, centre_count}
 use Rattle.rbc_flow.specs.Counts.{rights, missions, yield_inside}
 use Rattle.rbc_flow.specs.Sound.{IsFlowSound}
@@ -92,35 +93,40 @@ module _ (line : Line) (w : World) (sound : IsFlowSound line (flow_of w)) where
     )),
   )
 
-  pub one_seat : (t : ℕ) → length (all_held line w t) ≤ 1
-  one_seat t = omega (
+  -- what is held is counted
+  pub held_le : (t : ℕ) → length (all_held line w t) ≤ placed (missions t) (centre_count line) (flow_of w)
+  held_le t = omega (
     arith,
     length-append (filter_map (held_at w t) (centres_of line)) (filter_map (λ (f : Frame). handed_over t f.body) (frames_on_way line w)),
     at_centres t,
     on_links t,
     placed_parts (missions t) (centre_count line) (flow_of w),
-    few_missions line (flow_of w) sound t,
   )
+
+  pub one_seat : (t : ℕ) → length (all_held line w t) ≤ 1
+  one_seat t = omega (arith, held_le t, few_missions line (flow_of w) sound t)
 
   -- ## What has a hand is held
 
   among : (c : ℕ) → is_centre line c ≡ true → Contains (centres_of line) c
   among c at = contains_range 0 (centre_count line) c (omega arith) (omega (arith, ltb-true c (centre_count line) at))
 
-  abbrev held_as : LineMission → SectionRun → Held
+  abbrev pub held_as : LineMission → SectionRun → Held
   held_as m hand = record { mission = m; hand = hand }
 
-  is_held : (t : ℕ) (hand : SectionRun) → IsHandOf w t hand → (m : LineMission) × Contains (all_held line w t) (held_as m hand)
-  is_held t hand (at_centre c m has same) = (seen c m, by_centre (is_centre line c) refl)
+  -- the mission of a centre, with its hand
+  pub held_there : (t c : ℕ) (m : centre.Mission) → (w.at c).mission t ≡ Some m → Contains (all_held line w t) (held_as (seen c m) m.hand)
+  held_there t c m has = by_centre (is_centre line c) refl
     where
-      gives : held_at w t c ≡ Some (held_as (seen c m) hand)
-      gives = ap (option_map (λ (x : centre.Mission). held_as (seen c x) x.hand)) has.at_centre ∙ ap (λ (r : SectionRun). Some (held_as (seen c m) r)) same
+      by_centre : (b : Bool) → is_centre line c ≡ b → Contains (all_held line w t) (held_as (seen c m) m.hand)
+      by_centre true at = Contains-append_left (filter_map (held_at w t) (centres_of line)) (filter_map (λ (f : Frame). handed_over t f.body) (frames_on_way line w)) (held_as (seen c m) m.hand)
+          (contains_filter_map (held_at w t) (centres_of line) c (held_as (seen c m) m.hand) (among c at) (ap (option_map (λ (x : centre.Mission). held_as (seen c x) x.hand)) has))
+      by_centre false at = absurd (let wrong : ◌≡◌ {A = Option centre.Mission} None (Some m) = sym (sound.no_mission c t at) ∙ has in cc)
 
-      by_centre : (b : Bool) → is_centre line c ≡ b → Contains (all_held line w t) (held_as (seen c m) hand)
-      by_centre true at = Contains-append_left (filter_map (held_at w t) (centres_of line)) (filter_map (λ (f : Frame). handed_over t f.body) (frames_on_way line w)) (held_as (seen c m) hand)
-          (contains_filter_map (held_at w t) (centres_of line) c (held_as (seen c m) hand) (among c at) gives)
-      by_centre false at = absurd (let wrong : ◌≡◌ {A = Option centre.Mission} None (Some m) = sym (sound.no_mission c t at) ∙ has.at_centre in cc)
-  is_held t hand (on_the_way a b f heard has_data is_ended place on carries) = (parted heard has_data is_ended place, by_centres (is_centre line a) (is_centre line b) refl refl)
+  -- and of a Yield on the way
+  pub held_on_way : (t a b : ℕ) (f : Frame) (heard : ℕ) (has_data is_ended : Bool) (place : Place) (hand : SectionRun) → IsOnTheWay w a b f → Carries f t heard has_data is_ended place hand
+      → Contains (all_held line w t) (held_as (parted heard has_data is_ended place) hand)
+  held_on_way t a b f heard has_data is_ended place hand on carries = by_centres (is_centre line a) (is_centre line b) refl refl
     where
       gives : handed_over t f.body ≡ Some (held_as (parted heard has_data is_ended place) hand)
       gives = ap (handed_over t) carries.is_yield ∙ cond-true (t == t) (Some (held_as (parted heard has_data is_ended place) hand)) None (itself t)
@@ -135,6 +141,10 @@ module _ (line : Line) (w : World) (sound : IsFlowSound line (flow_of w)) where
           (contains_flat_map (λ j. world.way w a j) (centres_of line) b f (among b to) on.on_way)) gives)
       by_centres false z from to = absurd (nothing_sent (flow_of w) a b (sound.no_sent a b (inl from)) _ there)
       by_centres true false from to = absurd (nothing_sent (flow_of w) a b (sound.no_sent a b (inr to)) _ there)
+
+  is_held : (t : ℕ) (hand : SectionRun) → IsHandOf w t hand → (m : LineMission) × Contains (all_held line w t) (held_as m hand)
+  is_held t hand (at_centre c m has same) = (seen c m, subst (λ (r : SectionRun). Contains (all_held line w t) (held_as (seen c m) r)) same (held_there t c m has.at_centre))
+  is_held t hand (on_the_way a b f heard has_data is_ended place on carries) = (parted heard has_data is_ended place, held_on_way t a b f heard has_data is_ended place hand on carries)
 
   -- all hands of a train are one
   pub one_hand : (t : ℕ) (one two : SectionRun) → IsHandOf w t one → IsHandOf w t two → one ≡ two

@@ -40,7 +40,7 @@ hands_le line t s i j (f ∷ fs) = omega (arith, hands_le line t s i j fs, by_bo
     by_body (Yield h u heard has_data is_ended place hand) = omega arith
     by_body g = omega arith
 
-in_hand_tokens : (line : Line) (w : Flow) (t s : ℕ) → placed (hands t s) (centre_count line) w ≤ placed (tokens line t s) (centre_count line) w
+pub in_hand_tokens : (line : Line) (w : Flow) (t s : ℕ) → placed (hands t s) (centre_count line) w ≤ placed (tokens line t s) (centre_count line) w
 unfolding placed sum_links
 in_hand_tokens line w t s = omega (
   arith,
@@ -49,21 +49,21 @@ in_hand_tokens line w t s = omega (
       (λ a from. sum_le (centre_count line) _ _ (λ b to. hands_le line t s a b (way w a b))),
 )
 
-only : (e : Entry) (g : ℕ → Bool) (t : ℕ) → shown e g ≡ line_centre.Given t → g t ≡ true
-only Shut g t is = cc
-only Open g t is = cc
-only (Taken u) g t is = by_given (g u) refl is
+pub only_given_shown : (e : Entry) (g : ℕ → Bool) (t : ℕ) → shown e g ≡ line_centre.Given t → g t ≡ true
+only_given_shown Shut g t is = cc
+only_given_shown Open g t is = cc
+only_given_shown (Taken u) g t is = by_given (g u) refl is
   where
     by_given : (b : Bool) → g u ≡ b → (if b then line_centre.Given u else line_centre.Kept u) ≡ line_centre.Given t → g t ≡ true
     by_given true h is = let same : u ≡ t = cc in ap g (sym same) ∙ h
     by_given false h is = cc
-only (Out u d) g t is = by_given (g u) refl is
+only_given_shown (Out u d) g t is = by_given (g u) refl is
   where
     by_given : (b : Bool) → g u ≡ b → (if b then line_centre.Given u else line_centre.Kept u) ≡ line_centre.Given t → g t ≡ true
     by_given true h is = let same : u ≡ t = cc in ap g (sym same) ∙ h
     by_given false h is = cc
 
-given_shown : (e : Entry) (g : ℕ → Bool) (t : ℕ) → is_used_for t e ≡ true → g t ≡ true → shown e g ≡ line_centre.Given t
+pub given_shown : (e : Entry) (g : ℕ → Bool) (t : ℕ) → is_used_for t e ≡ true → g t ≡ true → shown e g ≡ line_centre.Given t
 given_shown Shut g t used is = cc
 given_shown Open g t used is = cc
 given_shown (Taken u) g t used is = let same = eqb-true u t used in cond-true (g u) (line_centre.Given u) (line_centre.Kept u) (ap g same ∙ is) ∙ ap (λ x. line_centre.Given x) same
@@ -79,7 +79,7 @@ used_shown Open g t used = cc
 used_shown (Taken u) g t used = either_shown (g u) u t (eqb-true u t used)
 used_shown (Out u d) g t used = either_shown (g u) u t (eqb-true u t used)
 
-given_mark : (t : ℕ) (m : Mark) → is_given_to t m ≡ true → m ≡ line_centre.Given t
+pub given_mark : (t : ℕ) (m : Mark) → is_given_to t m ≡ true → m ≡ line_centre.Given t
 given_mark t line_centre.Shut is = cc
 given_mark t line_centre.Open is = cc
 given_mark t (line_centre.Kept u) is = cc
@@ -91,20 +91,23 @@ one_user Open t u a b = cc
 one_user (Taken x) t u a b = sym (eqb-true x t a) ∙ eqb-true x u b
 one_user (Out x d) t u a b = sym (eqb-true x t a) ∙ eqb-true x u b
 
+-- where a section is in use for a train at its home, if it is in a hand
+pub used_in_hand : (line : Line) (w : Flow) → IsFlowSound line w → (t s : ℕ) → is_in_hand line w s t ≡ true → (h : ℕ) × (is_home line h s ≡ true) × (is_used_for t ((w.at h).book s) ≡ true)
+used_in_hand line w sound t s is =
+    let who = some_cap (tokens line t s) (centre_count line) w (omega (arith, ltb-true 0 (placed (hands t s) (centre_count line) w) is, in_hand_tokens line w t s, (sound.tokens t s).law)) in
+    let both = and_parts (is_home line who.0 s) (is_used_for t ((w.at who.0).book s)) (one_if_some _ who.2) in
+    (who.0, both.0, both.1)
+
 module _ (line : Line) (w : World) (sound : IsFlowSound line (flow_of w)) (v : LineState) (sees : Shows line (flow_of w) v) where
-  -- where a section is in use for a train at its home, if it is in a hand
-  pub used_at : (t s : ℕ) → is_in_hand line (flow_of w) s t ≡ true → (h : ℕ) × (is_home line h s ≡ true) × (is_used_for t ((w.at h).book s) ≡ true)
-  used_at t s is =
-      let who = some_cap (tokens line t s) (centre_count line) (flow_of w) (omega (arith, ltb-true 0 (placed (hands t s) (centre_count line) (flow_of w)) is, in_hand_tokens line (flow_of w) t s, (sound.tokens t s).law)) in
-      let both = and_parts (is_home line who.0 s) (is_used_for t ((w.at who.0).book s)) (one_if_some _ who.2) in
-      (who.0, both.0, both.1)
+  used_at : (t s : ℕ) → is_in_hand line (flow_of w) s t ≡ true → (h : ℕ) × (is_home line h s ≡ true) × (is_used_for t ((w.at h).book s) ≡ true)
+  used_at = used_in_hand line (flow_of w) sound
 
   -- each body on the way is sound
   on_its_way : (a b : ℕ) (f : Body) → Contains (way (flow_of w) a b) f → IsBodySound line a b f
   on_its_way a b f is = All-contains (IsBodySound line a b) (way (flow_of w) a b) f (sound.bodies.each a b) is
 
   -- what is counted is found
-  found : (t s : ℕ) → is_in_hand line (flow_of w) s t ≡ true → IsGiven w t s
+  pub found : (t s : ℕ) → is_in_hand line (flow_of w) s t ≡ true → IsGiven w t s
   found t s is = by_centres (sum_below (centre_count line) (λ c. (hands t s).held c (w.at c))) refl
     where
       some : 0 < placed (hands t s) (centre_count line) (flow_of w)
@@ -137,7 +140,7 @@ module _ (line : Line) (w : World) (sound : IsFlowSound line (flow_of w)) (v : L
           at who.0 ((w.at who.0).mission t) refl (one_if_some _ who.2)
 
   -- what is found is counted
-  counted : (t s : ℕ) → IsGiven w t s → is_in_hand line (flow_of w) s t ≡ true
+  pub counted : (t s : ℕ) → IsGiven w t s → is_in_hand line (flow_of w) s t ≡ true
   counted t s given = by_hand given.hand given.in_hand given.of_train
     where
       more : (m : ℕ) → 0 < placed (hands t s) (centre_count line) (flow_of w) → is_in_hand line (flow_of w) s t ≡ true
@@ -175,7 +178,7 @@ module _ (line : Line) (w : World) (sound : IsFlowSound line (flow_of w)) (v : L
         let used_there = used_at t s in_hand in
         let used = subst (λ h. is_used_for t ((w.at h).book s) ≡ true) (one_home line used_there.0 c s used_there.1 home) used_there.2 in
         (sees.mark s c home ∙ given_shown ((w.at c).book s) (is_in_hand line (flow_of w) s) t used in_hand, used);
-    only_given = λ t is. found t s (only ((w.at c).book s) (is_in_hand line (flow_of w) s) t (sym (sees.mark s c home) ∙ is));
+    only_given = λ t is. found t s (only_given_shown ((w.at c).book s) (is_in_hand line (flow_of w) s) t (sym (sees.mark s c home) ∙ is));
     kept = λ t is. subst (λ x. (x ≡ line_centre.Given t) ⊎ (x ≡ line_centre.Kept t)) (sym (sees.mark s c home)) (used_shown ((w.at c).book s) (is_in_hand line (flow_of w) s) t is);
     opened = λ is. sees.mark s c home ∙ ap (λ e. shown e (is_in_hand line (flow_of w) s)) is;
     shut = λ is. sees.mark s c home ∙ ap (λ e. shown e (is_in_hand line (flow_of w) s)) is;
@@ -186,42 +189,45 @@ module _ (line : Line) (w : World) (sound : IsFlowSound line (flow_of w)) (v : L
   shown_so t m (off.parted a b f heard has_data is_ended place hand on carries) =
       sees.on_way a b carries.number t heard has_data is_ended place hand (on_link w a b f _ on.on_way carries.is_yield)
 
-  found_mission : (t : ℕ) (m : LineMission) → v.mission t ≡ Some m → IsMissionOf w t m
-  found_mission t m is = by_count (placed (missions t) (centre_count line) (flow_of w)) refl
+  -- where missions of a train are counted, one is found
+  pub some_mission : (t : ℕ) → 0 < placed (missions t) (centre_count line) (flow_of w) → (m : LineMission) × IsMissionOf w t m
+  some_mission t some = by_centres (sum_below (centre_count line) (λ c. (missions t).held c (w.at c))) refl
     where
-      seen_same : (x : LineMission) → v.mission t ≡ Some x → IsMissionOf w t x → IsMissionOf w t m
-      seen_same x same has = let e : ◌≡◌ {A = Option LineMission} (Some x) (Some m) = sym same ∙ is in subst (IsMissionOf w t) (some_is x e) has
-        where
-          some_is : (y : LineMission) → ◌≡◌ {A = Option LineMission} (Some y) (Some m) → y ≡ m
-          some_is y e = cc
-
-      at : (c : ℕ) (o : Option centre.Mission) → (w.at c).mission t ≡ o → is_some o ≡ true → IsMissionOf w t m
+      at : (c : ℕ) (o : Option centre.Mission) → (w.at c).mission t ≡ o → is_some o ≡ true → (m : LineMission) × IsMissionOf w t m
       at c None here has = cc
-      at c (Some x) here has = seen_same (seen c x) (sees.mission t c x here) (supervised c x (record { at_centre = here }))
+      at c (Some x) here has = (seen c x, supervised c x (record { at_centre = here }))
 
-      on : (a b : ℕ) (f : Body) → Contains (way (flow_of w) a b) f → 0 < yield_inside t f → IsMissionOf w t m
+      on : (a b : ℕ) (f : Body) → Contains (way (flow_of w) a b) f → 0 < yield_inside t f → (m : LineMission) × IsMissionOf w t m
       on a b (Yield h u heard has_data is_ended place hand) there has =
           let same = eqb-true u t (one_if_some (u == t) has) in
           let frame = frame_of w a b (Yield h u heard has_data is_ended place hand) there in
           let fits : IsYieldSound line a b u place hand = on_its_way a b (Yield h u heard has_data is_ended place hand) there in
           let of_t : Yield h u heard has_data is_ended place hand ≡ Yield h t heard has_data is_ended (yielded_place fits.place) hand =
           ap (λ x. Yield h x heard has_data is_ended place hand) same ∙ ap (λ p. Yield h t heard has_data is_ended p hand) fits.is_carried in
-          seen_same (parted heard has_data is_ended fits.place) (sees.on_way a b h t heard has_data is_ended fits.place hand (subst (λ x. Contains (way (flow_of w) a b) x) of_t there))
-          (off.parted a b frame.0 heard has_data is_ended fits.place hand (record { on_way = frame.1 }) (record { number = h; is_yield = frame.2 ∙ of_t }))
+          (parted heard has_data is_ended fits.place, off.parted a b frame.0 heard has_data is_ended fits.place hand (record { on_way = frame.1 }) (record { number = h; is_yield = frame.2 ∙ of_t }))
       on a b f there has = absurd (let no : ⊥ = omega (arith, has) in no)
+
+      by_centres : (n : ℕ) → sum_below (centre_count line) (λ c. (missions t).held c (w.at c)) ≡ n → (m : LineMission) × IsMissionOf w t m
+      by_centres zero none =
+          let link = links_some (centre_count line) (λ a b. carried (missions t) a b (way (flow_of w) a b)) (omega (arith, none, some, placed_parts (missions t) (centre_count line) (flow_of w))) in
+          let body = carried_some (missions t) link.0 link.1 (way (flow_of w) link.0 link.1) link.4 in
+          on link.0 link.1 body.0 body.1 body.2
+      by_centres (suc n) has =
+          let who = sum_some (centre_count line) (λ c. (missions t).held c (w.at c)) (omega (arith, has)) in
+          at who.0 ((w.at who.0).mission t) refl (one_if_some _ who.2)
+
+  found_mission : (t : ℕ) (m : LineMission) → v.mission t ≡ Some m → IsMissionOf w t m
+  found_mission t m is = by_count (placed (missions t) (centre_count line) (flow_of w)) refl
+    where
+      some_is : (x : LineMission) → ◌≡◌ {A = Option LineMission} (Some x) (Some m) → x ≡ m
+      some_is x e = cc
 
       by_count : (k : ℕ) → placed (missions t) (centre_count line) (flow_of w) ≡ k → IsMissionOf w t m
       by_count zero none = absurd (let wrong : ◌≡◌ {A = Option LineMission} None (Some m) = sym (sees.no_mission t none) ∙ is in cc)
-      by_count (suc k) some = by_centres (sum_below (centre_count line) (λ c. (missions t).held c (w.at c))) refl
-        where
-          by_centres : (n : ℕ) → sum_below (centre_count line) (λ c. (missions t).held c (w.at c)) ≡ n → IsMissionOf w t m
-          by_centres zero none =
-              let link = links_some (centre_count line) (λ a b. carried (missions t) a b (way (flow_of w) a b)) (omega (arith, none, some, placed_parts (missions t) (centre_count line) (flow_of w))) in
-              let body = carried_some (missions t) link.0 link.1 (way (flow_of w) link.0 link.1) link.4 in
-              on link.0 link.1 body.0 body.1 body.2
-          by_centres (suc n) has =
-              let who = sum_some (centre_count line) (λ c. (missions t).held c (w.at c)) (omega (arith, has)) in
-              at who.0 ((w.at who.0).mission t) refl (one_if_some _ who.2)
+      by_count (suc k) some =
+          let x = some_mission t (omega (arith, some)) in
+          let same : ◌≡◌ {A = Option LineMission} (Some x.0) (Some m) = sym (shown_so t x.0 x.1) ∙ is in
+          subst (IsMissionOf w t) (some_is x.0 same) x.1
 
   -- a train's hand is all that is given to it
   hand_is : (t : ℕ) (hand : SectionRun) → IsHandOf w t hand → (s : ℕ) → is_given_to t (v.mark s) ≡ within hand s

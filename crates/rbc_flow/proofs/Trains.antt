@@ -1,11 +1,11 @@
 -- Lists of trains: how often each stands in them.
-use Rattle.std.proofs.Common.{◌≡◌, ◌≢◌, ℕ, zero, suc, ◌+◌, ◌<◌, ◌==◌, ◌&&◌, cond, nat_lt, Bool, true, false, List, [], ◌∷◌, ◌++◌, length, map, slice_get, Some, None, is_some, refl, sym, ap, ◌∙◌, inl, inr, arith, ltb-true}
+use Rattle.std.proofs.Common.{◌≡◌, ◌≢◌, ℕ, zero, suc, ◌+◌, ◌<◌, ◌==◌, ◌&&◌, cond, nat_lt, Bool, true, false, List, [], ◌∷◌, ◌++◌, length, map, slice_get, Some, None, is_some, refl, sym, ap, ◌∙◌, inl, inr, arith, ltb-true, ne_eqb}
 use Rattle.std.specs.List.{flat_map, count_by, range_with_len, position_or_len}
 use Rattle.std.proofs.lemmas.Bool.Decides.{eqb_tells}
 use Rattle.std.proofs.lemmas.Option.{same_Some}
 use Rattle.std.proofs.lemmas.List.Sums.{sum_by-cons, sum_by-append}
 use Rattle.rbc_ledger.specs.Sums.{one_if, sum_below}
-use Rattle.rbc_spec.specs.Line.{Train, AreDistinct}
+use Rattle.rbc_spec.specs.Line.{Line, Train, AreDistinct, train_number}
 use Rattle.rbc_spec.specs.Centre as centre
 use Rattle.rbc_spec.specs.Centre.{Entry, is_used_for}
 use Rattle.rbc_spec.specs.Promises.{once, user}
@@ -72,16 +72,24 @@ times_once false u t = none (u == t)
 
 -- ## Trains of the line
 
-pub no_position : (test : Train → Bool) (ps : List Train) → ((i : ℕ) (p : Train) → slice_get ps i ≡ Some p → test p ≡ false) → position_or_len test ps ≡ length ps
+no_position : (test : Train → Bool) (ps : List Train) → ((i : ℕ) (p : Train) → slice_get ps i ≡ Some p → test p ≡ false) → position_or_len test ps ≡ length ps
 no_position test [] none = refl
 no_position test (p ∷ ps) none = rw (none 0 p refl) (omega (arith, no_position test ps (λ i q at. none (suc i) q at)))
 
-pub is_there : (n m : ℕ) → is_some (cond (nat_lt n m) (Some n) None) ≡ true → n < m
+is_there : (n m : ℕ) → is_some (cond (nat_lt n m) (Some n) None) ≡ true → n < m
 is_there n m is = by_test (nat_lt n m) refl is
   where
     by_test : (b : Bool) → nat_lt n m ≡ b → is_some (cond b (Some n) None) ≡ true → n < m
     by_test true e h = ltb-true n m e
     by_test false e h = cc
+
+-- a train that the line numbers is one of the line's
+pub known_there : (line : Line) (t : ℕ) → is_some (train_number line t) ≡ true → ((i : ℕ) (p : Train) → slice_get line.trains i ≡ Some p → p.nid_engine ≢ t) → ⊥
+known_there line t known apart = omega (
+  arith,
+  is_there (position_or_len (λ p. p.nid_engine == t) line.trains) (length line.trains) known,
+  no_position (λ p. p.nid_engine == t) line.trains (λ i p at. ne_eqb p.nid_engine t (apart i p at)),
+)
 
 module _ (t h : ℕ) (list : ℕ → List ℕ) (others : (u : ℕ) → u ≢ t → times t (list u) ≡ 0) (here : times t (list t) ≡ h) where
   none_there : (ps : List Train) → ((i : ℕ) (p : Train) → slice_get ps i ≡ Some p → p.nid_engine ≢ t) → times t (flat_map list (map (λ p. p.nid_engine) ps)) ≡ 0
