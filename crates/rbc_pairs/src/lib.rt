@@ -1,0 +1,7 @@
+//! Laws of handovers between the centres of a line: what any two centres know of a handover stays true with each step of a
+//! centre. The functions do nothing: each contract is a law of the definitions.
+#![tactic(auto)]
+
+mod laws;
+
+pub use laws::{an_orderly_act_keeps_all_paired};
