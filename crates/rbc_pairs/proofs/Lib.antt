@@ -1,2 +1,5 @@
 pub mod Kept
 pub mod Orderly
+pub mod Handing
+pub mod Taking
+pub mod Messages

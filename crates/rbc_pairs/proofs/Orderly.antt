@@ -1,12 +1,12 @@
 -- Orderly acts one after another, and the smallest of them.
-use Rattle.std.proofs.Common.{◌≡◌, ◌≢◌, ◌⊎◌, ℕ, ◌+◌, ◌<◌, ◌≤◌, ◌==◌, ◌&&◌, not, Bool, true, false, if◌then◌else◌, List, [], ◌∷◌, ◌++◌, Option, Some, None, option_map, is_some, refl, sym, ap, ◌∙◌, subst, subst₂, inl, inr, arith, ⊎_elim, All}
+use Rattle.std.proofs.Common.{◌≡◌, ◌≢◌, ◌⊎◌, ℕ, ◌+◌, ◌<◌, ◌≤◌, ◌==◌, ◌&&◌, ◌||◌, not, Bool, true, false, if◌then◌else◌, List, [], ◌∷◌, ◌++◌, Option, Some, None, option_map, is_some, refl, sym, ap, ◌∙◌, subst, subst₂, inl, inr, arith, ⊎_elim, All}
 use Rattle.std.specs.Option.{option_map_or}
 use Rattle.std.proofs.lemmas.Bool.{cases_eq}
-use Rattle.std.proofs.lemmas.List.Elements.{All-nil, All-cons, All-append, All-weaker}
+use Rattle.std.proofs.lemmas.List.Elements.{All-nil, All-cons, All-head, All-tail, All-append, All-weaker}
 use Rattle.rbc_ledger.specs.Sums.{one_if}
 use Rattle.rbc_ledger.specs.Network.{to_one}
 use Rattle.rbc_ledger.specs.Chain.{Chain}
-use Rattle.rbc_ledger.proofs.Sums.{put_same, put_other}
+use Rattle.rbc_ledger.proofs.Sums.{put_same, put_other, one_if_le_one}
 use Rattle.rbc_ledger.proofs.Network.{to_one_same, to_one_other}
 use Rattle.rbc_ledger.proofs.Chain.{chain_none, chain_one, chain_sent, chain_still}
 use Rattle.rbc_spec.specs.Maps.{put}
@@ -26,7 +26,7 @@ use Rattle.rbc_pairs.proofs.Kept.{count_append}
 
 pub count_none : (test : Body → Bool) (fs : List Body) → All (λ f. test f ≡ false) fs → count_if test fs ≡ 0
 count_none test [] all = refl
-count_none test (f ∷ fs) all = ?none
+count_none test (f ∷ fs) all = omega (arith, ap one_if (All-head (λ g. test g ≡ false) f fs all), count_none test fs (All-tail (λ g. test g ≡ false) f fs all))
 
 -- a body without a part in a handover is of none
 neutral_of_none : (f : Body) → IsNeutral f → is_of_handing f ≡ false
@@ -52,32 +52,34 @@ module _ (reach : Reach) where
   pub apart : (k y : Centre) (frames : ℕ → List Body) → IsApart k y → ((d : ℕ) → All IsNeutral (frames d)) → IsOrderly reach k y frames
   apart k y frames is sends = record {
     leads = λ d t. subst (λ o. Chain (follows t) (frames d) (number_announced (handing_to d (k.mission t))) (number_announced o)) (sym (is.handing d t))
-        (chain_still (follows t) (frames d) _ (All-weaker IsNeutral (λ f. follows t f _ ≡ Some _) (λ f no. no.follows t _) (frames d) (sends d)));
+        (chain_still (follows t) (frames d) (number_announced (handing_to d (k.mission t)))
+        (All-weaker IsNeutral (λ f. follows t f (number_announced (handing_to d (k.mission t))) ≡ Some (number_announced (handing_to d (k.mission t)))) (λ f none. none.follows t (number_announced (handing_to d (k.mission t)))) (frames d) (sends d)));
     expected = λ a t. ap number_expected (is.expects a t);
     announced = omega (arith, is.announced);
-    claimed = λ d t h. omega (arith, ap (claimed_as h) (is.handing d t), count_none (yields t h) (frames d) (All-weaker IsNeutral (λ f. yields t h f ≡ false) (λ f no. no.yields t h) (frames d) (sends d)));
-    anew = λ d t h. inl (count_none (announces t h) (frames d) (All-weaker IsNeutral (λ f. announces t h f ≡ false) (λ f no. no.announces t h) (frames d) (sends d)));
-    takes = λ a t h. omega (arith, ap (waiting h) (is.expects a t), count_none (takes_over t h) (frames a) (All-weaker IsNeutral (λ f. takes_over t h f ≡ false) (λ f no. no.takes_over t h) (frames a) (sends a)));
+    claimed = λ d t h. omega (arith, ap (claimed_as h) (is.handing d t), count_none (yields t h) (frames d) (All-weaker IsNeutral (λ f. yields t h f ≡ false) (λ f none. none.yields t h) (frames d) (sends d)));
+    anew = λ d t h. inl (count_none (announces t h) (frames d) (All-weaker IsNeutral (λ f. announces t h f ≡ false) (λ f none. none.announces t h) (frames d) (sends d)));
+    takes = λ a t h. omega (arith, ap (waiting h) (is.expects a t), count_none (takes_over t h) (frames a) (All-weaker IsNeutral (λ f. takes_over t h f ≡ false) (λ f none. none.takes_over t h) (frames a) (sends a)));
     within = λ old d t some. old d t (ap is_some (sym (is.handing d t)) ∙ some);
-    bodies = λ old d. All-weaker IsNeutral (IsHandedWithin reach) (λ f no of. absurd (let wrong : false ≡ true = sym (neutral_of_none f no) ∙ of in cc)) (frames d) (sends d);
+    bodies = λ old d. All-weaker IsNeutral (IsHandedWithin reach) (λ f none of. absurd (let wrong : false ≡ true = sym (neutral_of_none f none) ∙ of in cc)) (frames d) (sends d);
   }
 
-  pub still : (k : Centre) (q : Reply) → q.frames ≡ (λ d. []) → q.state.expects ≡ k.expects → q.state.announced ≡ k.announced → q.state.mission ≡ k.mission → Goes k q
-  still k q none expects announced mission = apart k q.state q.frames
+  -- what a centre has announced and expects stays, and it sends nothing
+  pub still : (k y : Centre) → y.expects ≡ k.expects → y.announced ≡ k.announced → y.mission ≡ k.mission → IsOrderly reach k y (λ d. [])
+  still k y expects announced mission = apart k y (λ d. [])
       (record { expects = λ a t. ap (λ (f : ℕ → ℕ → Option Expectation). f a t) expects; announced = announced; handing = λ b t. ap (λ (f : ℕ → Option Mission). handing_to b (f t)) mission })
-      (λ d. subst (λ (fs : ℕ → List Body). All IsNeutral (fs d)) (sym none) (All-nil IsNeutral))
+      (λ d. All-nil IsNeutral)
 
   pub goes_rest : (k : Centre) → Goes k (rest k)
-  goes_rest k = still k (rest k) refl refl refl refl
+  goes_rest k = still k k refl refl refl
 
   pub goes_say : (t group : ℕ) (body : TrackBody) (k : Centre) → Goes k (say t group body k)
-  goes_say t group body k = still k (say t group body k) refl refl refl refl
+  goes_say t group body k = still k (say t group body k).state refl refl refl
 
   pub goes_send : (d : ℕ) (body : Body) (k : Centre) → IsNeutral body → Goes k (send d body k)
-  goes_send d body k no = apart k k (send d body k).frames (record { expects = λ a t. refl; announced = refl; handing = λ b t. refl }) (λ e. by_one (e == d))
+  goes_send d body k neutral = apart k k (send d body k).frames (record { expects = λ a t. refl; announced = refl; handing = λ b t. refl }) (λ e. by_one (e == d))
     where
       by_one : (b : Bool) → All IsNeutral (if b then body ∷ [] else [])
-      by_one true = All-cons IsNeutral body [] no (All-nil IsNeutral)
+      by_one true = All-cons IsNeutral body [] neutral (All-nil IsNeutral)
       by_one false = All-nil IsNeutral
 
   pub goes_returned : (line : Line) (c t track : ℕ) (r : SectionRun) (k : Centre) → Goes k (returned line c t track r k)
@@ -151,6 +153,14 @@ module _ (reach : Reach) where
   goes_or None f k q some none = none refl
   goes_or (Some x) f k q some none = some x refl
 
+  pub goes_if_act : (b : Bool) (f g : Act) (k : Centre) → (b ≡ true → Goes k (f k)) → (b ≡ false → Goes k (g k)) → Goes k ((if b then f else g) k)
+  goes_if_act true f g k one two = one refl
+  goes_if_act false f g k one two = two refl
+
+  pub goes_or_act : {X : Type 0} (o : Option X) (f : X → Act) (g : Act) (k : Centre) → ((x : X) → o ≡ Some x → Goes k (f x k)) → (o ≡ None → Goes k (g k)) → Goes k (option_map_or f o g k)
+  goes_or_act None f g k some none = none refl
+  goes_or_act (Some x) f g k some none = some x refl
+
   -- ## A frame about one handover
 
   -- the act sends body to centre d alone, about the handover of train t to d
@@ -170,17 +180,22 @@ module _ (reach : Reach) where
 
   pub goes_sent : (d t : ℕ) (body : Body) (k y : Centre) (frames : ℕ → List Body) → IsSent d t body k y → ((e : ℕ) → frames e ≡ to_one d (body ∷ []) e) → IsOrderly reach k y frames
   goes_sent d t body k y frames is same = record {
-    leads = λ e u. by_link e u (λ f x z. Chain (follows u) f (number_announced x) (number_announced z)) (chain_one (follows t) body _ _ is.leads)
+    leads = λ e u. by_link e u (λ v f x z. Chain (follows v) f (number_announced x) (number_announced z)) (chain_one (follows t) body _ _ is.leads)
         (λ other. subst (λ (o : Option Mission). Chain (follows u) (body ∷ []) (number_announced (handing_to d (k.mission u))) (number_announced (handing_to d o))) (sym (is.other_train u other))
         (chain_one (follows u) body _ _ (is.follows_other u _ other)))
-        (λ apart_from. subst (λ o. Chain (follows u) [] (number_announced (handing_to e (k.mission u))) (number_announced o)) (sym (elsewhere e u apart_from)) (chain_none (follows u) _));
+        (λ away. subst (λ o. Chain (follows u) [] (number_announced (handing_to e (k.mission u))) (number_announced o)) (sym (elsewhere e u away)) (chain_none (follows u) _));
     expected = λ a u. ap (λ (f : ℕ → ℕ → Option Expectation). number_expected (f a u)) is.expects;
     announced = is.announced;
-    claimed = λ e u h. by_link e u (λ f x z. claimed_as h z + count_if (yields u h) f ≤ claimed_as h x) (omega (arith, is.claimed h))
+    claimed = λ e u h. by_link e u (λ v f x z. claimed_as h z + count_if (yields v h) f ≤ claimed_as h x) (omega (arith, is.claimed h))
         (λ other. omega (arith, ap (λ (o : Option Mission). claimed_as h (handing_to d o)) (is.other_train u other), ap one_if (is.yields_other u h other)))
-        (λ apart_from. omega (arith, ap (claimed_as h) (elsewhere e u apart_from)));
-    anew = λ e u h. ?anew;
-    takes = λ e u h. ?takes;
+        (λ away. omega (arith, ap (claimed_as h) (elsewhere e u away)));
+    anew = λ e u h. by_link e u (λ v f x z. (count_if (announces v h) f ≡ 0) ⊎ ((k.announced < h) × (h ≤ y.announced) × (count_if (announces v h) f ≤ 1)))
+        (⊎_elim (λ (none : announces t h body ≡ false). inl (omega (arith, ap one_if none)))
+        (λ (some : (k.announced < h) × (h ≤ y.announced)). inr (some.0, some.1, omega (arith, one_if_le_one (announces t h body)))) (is.anew h))
+        (λ other. inl (omega (arith, ap one_if (is.announces_other u h other))))
+        (λ away. inl refl);
+    takes = λ e u h. by_link e u (λ v f x z. waiting h (y.expects e u) + count_if (takes_over u h) f ≤ waiting h (k.expects e u)) (one_body e u h) (λ other. one_body e u h)
+        (λ away. omega (arith, ap (λ (f : ℕ → ℕ → Option Expectation). waiting h (f e u)) is.expects));
     within = λ old e u some. is.hands old;
     bodies = λ old e. subst (All (IsHandedWithin reach)) (sym (same e)) (by_one (e == d) (is.hands old));
   }
@@ -191,10 +206,18 @@ module _ (reach : Reach) where
           (λ (apart_from : u ≢ t). ap (handing_to e) (is.other_train u apart_from))
           (cases_eq u t)
 
-      by_link : (e u : ℕ) (P : List Body → Option Handing → Option Handing → Type 0) → P (body ∷ []) (handing_to d (k.mission t)) (handing_to d (y.mission t))
-          → (u ≢ t → P (body ∷ []) (handing_to d (k.mission u)) (handing_to d (y.mission u))) → (e ≢ d → P [] (handing_to e (k.mission u)) (handing_to e (y.mission u)))
-          → P (frames e) (handing_to e (k.mission u)) (handing_to e (y.mission u))
-      by_link e u P at other apart_from = ?by
+      by_link : (e u : ℕ) (P : ℕ → List Body → Option Handing → Option Handing → Type 0) → P t (body ∷ []) (handing_to d (k.mission t)) (handing_to d (y.mission t))
+          → (u ≢ t → P u (body ∷ []) (handing_to d (k.mission u)) (handing_to d (y.mission u))) → (e ≢ d → P u [] (handing_to e (k.mission u)) (handing_to e (y.mission u)))
+          → P u (frames e) (handing_to e (k.mission u)) (handing_to e (y.mission u))
+      by_link e u P at other away = ⊎_elim
+          (λ (here : e ≡ d). subst (λ x. P u (frames x) (handing_to x (k.mission u)) (handing_to x (y.mission u))) (sym here)
+          (subst (λ f. P u f (handing_to d (k.mission u)) (handing_to d (y.mission u))) (sym (same d ∙ to_one_same d (body ∷ [])))
+          (⊎_elim (λ (train : u ≡ t). subst (λ v. P v (body ∷ []) (handing_to d (k.mission v)) (handing_to d (y.mission v))) (sym train) at) (λ (apart_from : u ≢ t). other apart_from) (cases_eq u t))))
+          (λ (there : e ≢ d). subst (λ f. P u f (handing_to e (k.mission u)) (handing_to e (y.mission u))) (sym (same e ∙ to_one_other d (body ∷ []) e there)) (away there))
+          (cases_eq e d)
+
+      one_body : (e u h : ℕ) → waiting h (y.expects e u) + count_if (takes_over u h) (body ∷ []) ≤ waiting h (k.expects e u)
+      one_body e u h = omega (arith, ap (λ (f : ℕ → ℕ → Option Expectation). waiting h (f e u)) is.expects, ap one_if (is.takes_none u h))
 
       by_one : (b : Bool) → hands_over reach ≡ true → All (IsHandedWithin reach) (if b then body ∷ [] else [])
       by_one true hands = All-cons (IsHandedWithin reach) body [] (λ of. hands) (All-nil (IsHandedWithin reach))
