@@ -3,3 +3,4 @@ pub mod Orderly
 pub mod Handing
 pub mod Taking
 pub mod Messages
+pub mod Frames

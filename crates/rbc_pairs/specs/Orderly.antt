@@ -75,3 +75,9 @@ pub record IsTaking (a : ℕ) (f : Body) (k y : Centre) : Type 0 where
   pub number : (t : ℕ) → number_announced (handing_to a (y.mission t)) ≡ number_announced (handing_to a (k.mission t))
   pub claimed : (t h : ℕ) → claimed_as h (handing_to a (y.mission t)) ≤ claimed_as h (handing_to a (k.mission t)) + one_if (takes_over t h f)
   pub handing : (b t : ℕ) → b ≢ a → handing_to b (y.mission t) ≡ handing_to b (k.mission t)
+
+-- with what the frame comes to behind that: an orderly act of y
+pub record IsTakenWith (reach : Reach) (a : ℕ) (f : Body) (k new : Centre) (frames : ℕ → List Body) : Type 0 where
+  pub y : Centre
+  pub taking : IsTaking a f k y
+  pub behind : IsOrderly reach y new frames
