@@ -112,7 +112,7 @@ module _ (reach : Reach) (line : Line) (c : ℕ) where
   Comes a f k q = IsTakenWith reach a f k q.state q.frames
 
   -- a frame that says nothing of what is expected here is taken, whatever it comes to
-  passes : {new : Centre} {frames : ℕ → List Body} (a : ℕ) (f : Body) (k : Centre) → ((t : ℕ) (n : Option ℕ) → follows t f n ≡ Some n) → IsOrderly reach k new frames → IsTakenWith reach a f k new frames
+  pub passes : {new : Centre} {frames : ℕ → List Body} (a : ℕ) (f : Body) (k : Centre) → ((t : ℕ) (n : Option ℕ) → follows t f n ≡ Some n) → IsOrderly reach k new frames → IsTakenWith reach a f k new frames
   passes a f k none goes = record {
     y = k;
     taking = record {

@@ -4,3 +4,4 @@ pub mod Handing
 pub mod Taking
 pub mod Messages
 pub mod Frames
+pub mod Steps

@@ -4,4 +4,6 @@
 
 mod laws;
 
-pub use laws::{an_orderly_act_keeps_all_paired};
+pub use laws::{
+    an_orderly_act_keeps_all_paired, each_step_is_orderly, each_step_keeps_all_paired,
+};
