@@ -5,3 +5,4 @@ pub mod Taking
 pub mod Messages
 pub mod Frames
 pub mod Steps
+pub mod Worlds

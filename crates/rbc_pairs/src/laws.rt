@@ -1,6 +1,6 @@
 //! Laws of handovers, for each step of a centre.
 
-ghost use Rattle.std.specs.Prelude.{◌≡◌, ℕ, true, List, []};
+ghost use Rattle.std.specs.Prelude.{◌≡◌, ℕ, true, List, [], Ok};
 ghost use Rattle.rbc_ledger.specs.Network.{took, acted, TakesHead, IsCounted};
 ghost use Rattle.rbc_spec.specs.Reach.{Reach, Whole};
 ghost use Rattle.rbc_spec.specs.Line.{Line, IsLine, is_centre};
@@ -8,11 +8,14 @@ ghost use Rattle.rbc_spec.specs.Frame.{Frame, Body};
 ghost use Rattle.rbc_spec.specs.Outcome.{Next};
 ghost use Rattle.rbc_spec.specs.Centre.{Centre};
 ghost use Rattle.rbc_spec.specs.Step.{Event, Deliver, link_answer};
+ghost use Rattle.rbc_spec.specs.World as world;
+ghost use Rattle.rbc_spec.specs.World.{World, Answer, new_world, world_step, world_run};
 ghost use Rattle.rbc_flow.specs.Flow.{Flow};
 ghost use Rattle.rbc_flow.specs.Pairs.{IsPaired};
 ghost use Rattle.rbc_flow.specs.Sound.{IsFlowSound, ArePaired};
 ghost use Rattle.rbc_pairs.specs.Orderly.{IsHandedWithin, IsHandingWithin, IsOrderly, IsTaking, IsTakenWith};
 ghost use Rattle.rbc_pairs.specs.Steps.{IsByItself, left_by, sent_by};
+ghost use Rattle.rbc_pairs.specs.Worlds.{IsWorldSound};
 
 /// An orderly act of a centre keeps what any two centres know of the handover of a train, and so does a frame that is the next of its
 /// link and is taken as it says.
@@ -48,4 +51,16 @@ pub fn each_step_keeps_all_paired()
         → is_centre line a ≡ true → is_centre line c ≡ true → TakesHead w a c f.body → link_answer line c (w.at c) a f ≡ Next
         → IsHandingWithin reach (acted (took w a c) c (left_by reach line c (w.at c) (Deliver a f)) (sent_by reach line c (w.at c) (Deliver a f))) }
     ensures at_whole { (w : Flow) → IsHandingWithin Whole w }
+{}
+
+/// With the laws of each centre by itself and of fair steps: each event of a world keeps its whole flow sound, at every reach.
+pub fn each_step_keeps_all_sound()
+    ensures { (reach : Reach) (line : Line) (w : World) (event : world.Event) (answer : Answer) (new : World) → IsLine line
+        → IsWorldSound reach line w → world_step reach line w event ≡ Ok (answer, new) → IsWorldSound reach line new }
+{}
+
+/// So behind any list of events the flow of a line is sound, at every reach.
+pub fn each_world_flow_is_sound()
+    ensures { (reach : Reach) (line : Line) (events : List world.Event) (answers : List Answer) (w : World) → IsLine line
+        → world_run reach line (new_world line) events ≡ Ok (answers, w) → IsWorldSound reach line w }
 {}

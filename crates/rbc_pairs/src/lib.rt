@@ -6,4 +6,5 @@ mod laws;
 
 pub use laws::{
     an_orderly_act_keeps_all_paired, each_step_is_orderly, each_step_keeps_all_paired,
+    each_step_keeps_all_sound, each_world_flow_is_sound,
 };
