@@ -1,11 +1,12 @@
 -- What the next frame of a link comes to, and what a set and an unset come to.
-use Rattle.std.proofs.Common.{◌≡◌, ◌≢◌, ℕ, ◌+◌, ◌*◌, ◌≤◌, ◌==◌, ◌&&◌, not, Bool, true, false, if◌then◌else◌, nat_lt, nat_le, length, max, is_none, is_some, List, [], Option, Some, None, option_map, refl, sym, ap, ◌∙◌, subst, arith, ⊎_elim}
+use Rattle.std.proofs.Common.{◌≡◌, ◌≢◌, ℕ, ◌+◌, ◌*◌, ◌≤◌, ◌==◌, ◌&&◌, not, Bool, true, false, if◌then◌else◌, nat_lt, nat_le, length, max, is_none, is_some, List, Option, Some, None, refl, sym, ap, ◌∙◌, subst, arith, ⊎_elim}
 use Rattle.std.specs.Option.{option_map_or}
 use Rattle.std.specs.List.{find, range_with_len}
-use Rattle.std.proofs.lemmas.Bool.{cases_eq, ne_eqb, and_parts, eqb-true}
+use Rattle.std.proofs.lemmas.Bool.{cases_eq, ne_eqb, and_parts}
+use Rattle.std.proofs.Math.Bool.{and-true}
 use Rattle.rbc_ledger.specs.Sums.{one_if}
 use Rattle.rbc_ledger.proofs.Sums.{put_same, put_other}
-use Rattle.rbc_spec.specs.Maps.{put, put_pair, has}
+use Rattle.rbc_spec.specs.Maps.{put, has}
 use Rattle.rbc_spec.specs.Reach.{Reach}
 use Rattle.rbc_spec.specs.SectionRuns.{SectionRun, no_run, within, is_empty, part_before, part_from, all_of}
 use Rattle.rbc_spec.specs.Line.{Line, is_home, section, section_of_group}
@@ -14,16 +15,15 @@ use Rattle.rbc_spec.specs.Place.{Place, group_start}
 use Rattle.rbc_spec.specs.Frame.{Body, YieldedPlace, carried_place, AskRight, GiveRight, RefuseRight, ReturnRight, RouteAsk, RouteInfo, RouteWithdraw, RouteReturn, Announce, Cancel, TakingOver, Yield}
 use Rattle.rbc_spec.specs.Outcome.{Done, Asked, NotHome}
 use Rattle.rbc_spec.specs.Centre.{Centre, Entry, Shut, Open, Taken, Out, Mission, Expectation, is_open, is_unused, is_out_for, is_registrar_of, uses_some, is_expected}
-use Rattle.rbc_spec.specs.Acts.{Act, Reply, rest, become, ◌>>◌, where_so, with_some, send, booked, freed, returned, set_mission, change_mission, return_right, propose_if_so, end_order, yield_if_due}
+use Rattle.rbc_spec.specs.Acts.{Act, Reply, rest, become, ◌>>◌, where_so, with_some, send, booked, freed, returned, set_mission, change_mission, return_right, propose_if_so, end_order}
 use Rattle.rbc_spec.specs.Rules.{tell, choose, begin, drop_wait, reject}
 use Rattle.rbc_spec.specs.Links.{answered_ask, right_asked, right_given, right_refused, right_returned, lendable, route_asked, is_wanted, route_told, route_withdrawn, route_returned, expect, announced, cancelled, is_under, claimed, taking_over, may_arrive, may_take, take_mission, yielded, is_train, of_train, is_of_line, received}
 use Rattle.rbc_spec.specs.Step.{wished, make, set, unset}
 use Rattle.rbc_lemmas.proofs.Puts.{itself}
 use Rattle.rbc_lemmas.proofs.Lists.{none_is}
-use Rattle.rbc_flow.specs.Pairs.{follows, handing_to, announces, is_number}
-use Rattle.rbc_flow.specs.Keeping.{IsNeutral}
-use Rattle.rbc_pairs.specs.Orderly.{number_expected, waiting, IsOrderly, IsTaking, IsTakenWith}
-use Rattle.rbc_pairs.proofs.Orderly.{Goes, still, goes_rest, goes_say, goes_send, goes_returned, goes_change, goes_then, goes_if, goes_or, goes_if_act, goes_or_act}
+use Rattle.rbc_flow.specs.Pairs.{follows, handing_to, is_number}
+use Rattle.rbc_pairs.specs.Orderly.{number_expected, waiting, IsOrderly, IsTakenWith}
+use Rattle.rbc_pairs.proofs.Orderly.{Goes, still, goes_rest, goes_send, goes_returned, goes_change, goes_then, goes_if, goes_or, goes_if_act}
 use Rattle.rbc_pairs.proofs.Handing.{goes_return_right, goes_end_order, goes_yield_if_due}
 use Rattle.rbc_pairs.proofs.Taking.{expect_taking, claim_taking}
 use Rattle.rbc_pairs.proofs.Messages.{goes_propose_if, goes_drop_wait, goes_begin, goes_reject}
@@ -159,11 +159,7 @@ module _ (reach : Reach) (line : Line) (c : ℕ) where
       leads = ap (λ o. follows t (Announce number t track) (number_expected o)) (none_is (k.expects a t) fits.2) ∙ ap (λ b. if b then Some (Some number) else Some None) (itself t)
 
       waits : (h : ℕ) → one_if ((number == h) && not false) ≤ waiting h (k.expects a t) + one_if ((t == t) && (number == h))
-      waits h = omega (arith, and_true (number == h), ap (λ b. one_if (b && (number == h))) (itself t))
-        where
-          and_true : (b : Bool) → one_if (b && true) ≡ one_if b
-          and_true true = refl
-          and_true false = refl
+      waits h = omega (arith, ap one_if (and-true (number == h)), ap (λ b. one_if (b && (number == h))) (itself t))
 
   -- what is expected under a number ends by a frame under it
   ends : (h t : ℕ) (e : Option Expectation) → is_under h e ≡ true → (if t == t then (if is_number h (number_expected e) then Some None else None) else Some (number_expected e)) ≡ Some None

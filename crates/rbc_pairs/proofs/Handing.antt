@@ -1,7 +1,8 @@
 -- Acts of the centre that hands a train over: an announcement, its cancellation and a Yield are orderly.
-use Rattle.std.proofs.Common.{◌≡◌, ◌≢◌, ◌⊎◌, ℕ, ◌+◌, ◌-◌, ◌<◌, ◌≤◌, ◌==◌, ◌&&◌, not, Bool, true, false, if◌then◌else◌, List, [], ◌∷◌, ◌++◌, Option, Some, None, option_map, is_some, is_none, refl, sym, ap, ◌∙◌, inl, inr, arith, ⊎_elim}
+use Rattle.std.proofs.Common.{◌≡◌, ◌≢◌, ℕ, ◌+◌, ◌-◌, ◌==◌, ◌&&◌, Bool, true, false, if◌then◌else◌, [], ◌∷◌, ◌++◌, Option, Some, None, option_map, is_some, is_none, refl, sym, ap, ◌∙◌, inl, inr, arith, ⊎_elim}
 use Rattle.std.specs.Option.{option_map_or}
 use Rattle.std.proofs.lemmas.Bool.{cases_eq, ne_eqb, and_parts}
+use Rattle.std.proofs.Math.Bool.{and-true, and-false}
 use Rattle.rbc_ledger.specs.Sums.{one_if}
 use Rattle.rbc_ledger.proofs.Sums.{put_same, put_other}
 use Rattle.rbc_spec.specs.Maps.{put}
@@ -16,7 +17,7 @@ use Rattle.rbc_spec.specs.Frame.{Body, YieldedPlace, ReturnRight, Announce, Canc
 use Rattle.rbc_spec.specs.Centre.{Centre, Out, Mission, Handing, is_taken_for, is_registrar_of, is_up}
 use Rattle.rbc_spec.specs.Acts.{Act, rest, become, ◌>>◌, send, say, booked, freed, returned, leave, set_mission, change_mission, cancel, return_right, close, announce, end_order, part_at, yield, is_of_two, yield_if_due}
 use Rattle.rbc_lemmas.proofs.Puts.{itself}
-use Rattle.rbc_flow.specs.Pairs.{follows, is_number, handing_to, announces, takes_over, yields}
+use Rattle.rbc_flow.specs.Pairs.{follows, is_number, handing_to}
 use Rattle.rbc_pairs.specs.Orderly.{number_announced, claimed_as}
 use Rattle.rbc_pairs.proofs.Orderly.{Goes, IsSent, still, goes_rest, goes_say, goes_send, goes_returned, goes_set, goes_then, goes_if, goes_or, goes_if_act, goes_or_act, goes_sent}
 
@@ -30,14 +31,6 @@ handed_other e m h stands other = ap (λ (o : Option Handing). option_map_or (λ
 
 pub none_handed : (e : ℕ) (m : Mission) → m.handing ≡ None → handing_to e (Some m) ≡ None
 none_handed e m none = ap (λ (o : Option Handing). option_map_or (λ x. if x.to == e then Some x else None) o None) none
-
-and_false : (b : Bool) → one_if (b && false) ≡ 0
-and_false true = refl
-and_false false = refl
-
-and_true : (b : Bool) → one_if (b && true) ≡ one_if b
-and_true true = refl
-and_true false = refl
 
 module _ (reach : Reach) (line : Line) where
   -- ## An announcement
@@ -86,7 +79,7 @@ module _ (reach : Reach) (line : Line) where
         other_train = λ u other. put_other k.mission t (option_map stands (k.mission t)) u other;
         other_centre = λ e other. ap (handing_to e) now ∙ handed_other e (stands m) (record { number = number; to = d; is_claimed = false }) refl other ∙ sym (to_none e);
         leads = ap (λ o. follows t body (number_announced o)) (to_none d) ∙ ap (λ b. if b then Some (Some number) else Some None) (itself t) ∙ ap (λ o. Some (number_announced o)) (sym to_d);
-        claimed = λ h. omega (arith, ap (claimed_as h) to_d, and_false (number == h));
+        claimed = λ h. omega (arith, ap (claimed_as h) to_d, ap one_if (and-false (number == h)));
         announced = omega arith;
         anew = λ h. ⊎_elim
             (λ (same : number ≡ h). inr (omega (arith, same), omega (arith, same)))
@@ -133,7 +126,7 @@ module _ (reach : Reach) (line : Line) where
       other_train = other;
       other_centre = λ e apart. ended e ∙ sym (ap (handing_to e) at ∙ handed_other e m h stands apart);
       leads = ap (λ o. follows t (Yield h.number t heard has_data is_ended place hand) (number_announced o)) to_h ∙ ends;
-      claimed = λ x. omega (arith, ap (claimed_as x) (ended h.to), ap (claimed_as x) to_h, ap (λ b. one_if ((h.number == x) && b)) claimed, and_true (h.number == x), ap (λ b. one_if (b && (h.number == x))) (itself t));
+      claimed = λ x. omega (arith, ap (claimed_as x) (ended h.to), ap (claimed_as x) to_h, ap (λ b. one_if ((h.number == x) && b)) claimed, ap one_if (and-true (h.number == x)), ap (λ b. one_if (b && (h.number == x))) (itself t));
       announced = omega (arith, announced);
       anew = λ x. inl refl;
       expects = expects;

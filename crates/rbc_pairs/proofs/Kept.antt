@@ -1,7 +1,7 @@
 -- An orderly act keeps what pairs of centres know of handovers, and so does a frame that is taken as it says.
-use Rattle.std.proofs.Common.{◌≡◌, ◌≢◌, ◌⊎◌, ℕ, zero, suc, ◌+◌, ◌<◌, ◌≤◌, ◌==◌, ◌&&◌, not, Bool, true, false, List, [], ◌∷◌, ◌++◌, Option, Some, None, option_map, refl, sym, ap, ◌∙◌, subst, subst₂, inl, inr, arith, ⊎_elim, All}
+use Rattle.std.proofs.Common.{◌≡◌, ◌≢◌, ◌⊎◌, ℕ, zero, suc, ◌+◌, ◌<◌, ◌≤◌, Bool, List, [], Option, Some, refl, sym, ap, ◌∙◌, subst, subst₂, inl, inr, arith, ⊎_elim}
 use Rattle.std.proofs.lemmas.Bool.{cases_eq}
-use Rattle.rbc_ledger.specs.Sums.{one_if, put}
+use Rattle.rbc_ledger.specs.Sums.{one_if}
 use Rattle.rbc_ledger.specs.Network.{way, took, acted, TakesHead, IsCounted}
 use Rattle.rbc_ledger.specs.Chain.{Chain}
 use Rattle.rbc_ledger.proofs.Sums.{put_same, put_other, cases_link}
@@ -9,14 +9,11 @@ use Rattle.rbc_ledger.proofs.Network.{way_acted, way_acted_other, way_acted_none
 use Rattle.rbc_ledger.proofs.Chain.{chain_took, chain_took_other, chain_acted, chain_acted_other}
 use Rattle.rbc_spec.specs.Reach.{Reach}
 use Rattle.rbc_spec.specs.Frame.{Body}
-use Rattle.rbc_spec.specs.Centre.{Centre, Handing, Expectation}
+use Rattle.rbc_spec.specs.Centre.{Centre}
 use Rattle.rbc_flow.specs.Flow.{Flow}
+use Rattle.rbc_flow.proofs.Kept.{count_append}
 use Rattle.rbc_flow.specs.Pairs.{IsPaired, follows, handing_to, count_if, announces, takes_over, yields, before, after}
 use Rattle.rbc_pairs.specs.Orderly.{number_expected, number_announced, waiting, claimed_as, IsOrderly, IsTaking}
-
-pub count_append : (test : Body → Bool) (fs gs : List Body) → count_if test (fs ++ gs) ≡ count_if test fs + count_if test gs
-count_append test [] gs = omega arith
-count_append test (f ∷ fs) gs = omega (arith, count_append test fs gs)
 
 -- ## An act
 
@@ -105,14 +102,14 @@ module _ (reach : Reach) (u : Flow) (counted : IsCounted u) (c : ℕ) (y : Centr
       → Chain (follows t) (way new i j) start (number_announced (handing_to j ((new.at i).mission t)))
   chain_goes i j t start chain = ⊎_elim
       (λ (here : i ≡ c). subst (λ x. Chain (follows t) (way u x j) start (number_announced (handing_to j ((u.at x).mission t)))
-          → Chain (follows t) (way new x j) start (number_announced (handing_to j ((new.at x).mission t)))) (sym here)
+      → Chain (follows t) (way new x j) start (number_announced (handing_to j ((new.at x).mission t)))) (sym here)
       (λ led. subst (Chain (follows t) (way new c j) start) (ap (λ (z : Centre). number_announced (handing_to j (z.mission t))) (sym (put_same u.at c y)))
       (chain_acted (follows t) u c y frames j start _ _ counted led (is.leads j t))) chain)
       (λ (other : i ≢ c). subst (Chain (follows t) (way new i j) start) (ap (λ (z : Centre). number_announced (handing_to j (z.mission t))) (sym (put_other u.at c y i other)))
       (chain_acted_other (follows t) u c y frames i j start _ other chain))
       (cases_eq i c)
 
-  -- two numbers of which one is none, and each of which goes over or goes
+  -- what a centre waits for goes over to what is claimed, and both go
   pub orderly_pairs : (i j t : ℕ) → IsPaired u i j t → IsPaired new i j t
   orderly_pairs i j t p = record {
     chain = subst (λ s. Chain (follows t) (way new i j) s (number_announced (handing_to j ((new.at i).mission t)))) (sym (expected_same i j t)) (chain_goes i j t _ p.chain);

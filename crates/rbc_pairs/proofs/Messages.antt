@@ -1,5 +1,5 @@
 -- What a train's message comes to is orderly.
-use Rattle.std.proofs.Common.{◌≡◌, ℕ, ◌+◌, ◌-◌, ◌*◌, ◌==◌, ◌&&◌, not, Bool, true, false, if◌then◌else◌, min, nat_lt, nat_le, is_none, Option, Some, None, option_map, refl, sym, ap, ◌∙◌}
+use Rattle.std.proofs.Common.{◌≡◌, ℕ, ◌+◌, ◌-◌, ◌*◌, ◌==◌, ◌&&◌, not, Bool, true, false, if◌then◌else◌, min, nat_lt, nat_le, is_none, Some, None, option_map, refl, sym, ap, ◌∙◌}
 use Rattle.std.specs.Option.{option_map_or}
 use Rattle.std.proofs.lemmas.Bool.{and_parts}
 use Rattle.rbc_ledger.proofs.Sums.{put_same}
@@ -10,15 +10,14 @@ use Rattle.rbc_spec.specs.Line.{Line, is_home, start, end, next_centre, registra
 use Rattle.rbc_spec.specs.Sections.{is_on}
 use Rattle.rbc_spec.specs.Place.{Place, Position, covered, group_start, place_on, fit_place}
 use Rattle.rbc_spec.specs.Message.{TrainMessage, TrainBody, TrainData, Request, Report, ShorteningGranted, ShorteningRejected, EndOfMission, InitiationOfSession, TerminationOfSession, StartOfMission, SessionEstablished, Authority, ShorteningRequest, DataAcknowledged, SystemVersion, TerminationAcknowledged, TrainAccepted, TrainRejected, unknown_group}
-use Rattle.rbc_spec.specs.Frame.{Body, AskRight, RouteAsk}
-use Rattle.rbc_spec.specs.Centre.{Centre, Taken, Opened, Up, Closed, Mission, Proposal, is_open, is_taken_for, is_free, is_registrar_of}
+use Rattle.rbc_spec.specs.Frame.{AskRight, RouteAsk}
+use Rattle.rbc_spec.specs.Centre.{Centre, Taken, Opened, Closed, Mission, Proposal, is_open, is_taken_for, is_free, is_registrar_of}
 use Rattle.rbc_spec.specs.Acts.{Act, rest, become, ◌>>◌, where_so, with_mission, send, say, booked, freed, returned, leave, set_mission, change_mission, return_pool, cancel, close, begun, part_at, announce, ask_route, yield_if_due, may_propose, propose, propose_if_so}
-use Rattle.rbc_spec.specs.Rules.{choose, drop_wait, set_phase, close_session, accept, reject, restart, begin, start_here, start_waiting, start_new, start_mission, authority, extension, extended_by, announce_if_due, ask_route_if_due, at_border, grant, request, cleared, clear, report_here, report, end_mission, cut, granted, answered}
+use Rattle.rbc_spec.specs.Rules.{drop_wait, set_phase, close_session, accept, reject, restart, begin, start_here, start_waiting, start_new, start_mission, authority, extension, extended_by, announce_if_due, ask_route_if_due, at_border, grant, request, cleared, clear, report_here, report, end_mission, cut, granted, answered}
 use Rattle.rbc_lemmas.proofs.Lists.{none_is}
 use Rattle.rbc_flow.specs.Pairs.{handing_to}
-use Rattle.rbc_flow.specs.Keeping.{IsNeutral}
 use Rattle.rbc_pairs.proofs.Orderly.{Goes, still, goes_rest, goes_say, goes_send, goes_returned, goes_set, goes_set_some, goes_change, goes_then, goes_if, goes_or, goes_if_act, goes_or_act}
-use Rattle.rbc_pairs.proofs.Handing.{none_handed, goes_announce, goes_cancel, goes_close, goes_leave, goes_yield_if_due}
+use Rattle.rbc_pairs.proofs.Handing.{goes_announce, goes_cancel, goes_close, goes_leave, goes_yield_if_due}
 use Rattle.rbc_pairs.proofs.Taking.{goes_take_over}
 
 module _ (reach : Reach) (line : Line) where

@@ -1,8 +1,8 @@
 -- Orderly acts one after another, and the smallest of them.
-use Rattle.std.proofs.Common.{◌≡◌, ◌≢◌, ◌⊎◌, ℕ, ◌+◌, ◌<◌, ◌≤◌, ◌==◌, ◌&&◌, ◌||◌, not, Bool, true, false, if◌then◌else◌, List, [], ◌∷◌, ◌++◌, Option, Some, None, option_map, is_some, refl, sym, ap, ◌∙◌, subst, subst₂, inl, inr, arith, ⊎_elim, All}
+use Rattle.std.proofs.Common.{◌≡◌, ◌≢◌, ◌⊎◌, ℕ, ◌+◌, ◌<◌, ◌≤◌, ◌==◌, ◌&&◌, ◌||◌, Bool, true, false, if◌then◌else◌, List, [], ◌∷◌, Option, Some, None, option_map, is_some, refl, sym, ap, ◌∙◌, subst, inl, inr, arith, ⊎_elim, All}
 use Rattle.std.specs.Option.{option_map_or}
 use Rattle.std.proofs.lemmas.Bool.{cases_eq}
-use Rattle.std.proofs.lemmas.List.Elements.{All-nil, All-cons, All-head, All-tail, All-append, All-weaker}
+use Rattle.std.proofs.lemmas.List.Elements.{All-nil, All-cons, All-append, All-weaker}
 use Rattle.rbc_ledger.specs.Sums.{one_if}
 use Rattle.rbc_ledger.specs.Network.{to_one}
 use Rattle.rbc_ledger.specs.Chain.{Chain}
@@ -21,12 +21,8 @@ use Rattle.rbc_spec.specs.Acts.{Act, Reply, rest, ◌>>◌, send, say, returned,
 use Rattle.rbc_lemmas.proofs.Puts.{itself}
 use Rattle.rbc_flow.specs.Pairs.{follows, handing_to, count_if, announces, takes_over, yields}
 use Rattle.rbc_flow.specs.Keeping.{IsNeutral, IsApart}
+use Rattle.rbc_flow.proofs.Kept.{count_append, count_none}
 use Rattle.rbc_pairs.specs.Orderly.{number_expected, number_announced, waiting, claimed_as, is_of_handing, IsHandedWithin, HandsWithin, IsOrderly}
-use Rattle.rbc_pairs.proofs.Kept.{count_append}
-
-pub count_none : (test : Body → Bool) (fs : List Body) → All (λ f. test f ≡ false) fs → count_if test fs ≡ 0
-count_none test [] all = refl
-count_none test (f ∷ fs) all = omega (arith, ap one_if (All-head (λ g. test g ≡ false) f fs all), count_none test fs (All-tail (λ g. test g ≡ false) f fs all))
 
 -- a body without a part in a handover is of none
 neutral_of_none : (f : Body) → IsNeutral f → is_of_handing f ≡ false

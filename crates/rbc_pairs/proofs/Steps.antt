@@ -1,18 +1,17 @@
 -- Each step of a centre keeps what any two centres know of a handover.
-use Rattle.std.proofs.Common.{◌≡◌, ◌≢◌, ℕ, ◌==◌, ◌&&◌, Bool, true, false, if◌then◌else◌, List, [], ◌∷◌, ◌++◌, All, length, nat_lt, is_none, is_some, Option, Some, None, refl, sym, ap, ◌∙◌, subst, ⊎_elim}
+use Rattle.std.proofs.Common.{◌≡◌, ◌≢◌, ℕ, ◌==◌, Bool, true, false, if◌then◌else◌, List, [], ◌∷◌, All, is_none, is_some, Option, Some, None, refl, sym, ap, ◌∙◌, subst, ⊎_elim}
 use Rattle.std.specs.Option.{option_map_or}
 use Rattle.std.proofs.lemmas.Bool.{cases_eq, ltb-true}
-use Rattle.std.proofs.lemmas.List.Elements.{All-nil, All-cons}
+use Rattle.std.proofs.lemmas.List.Elements.{All-nil, All-cons, All-weaker}
 use Rattle.rbc_ledger.specs.Network.{way, took, acted, TakesHead, IsCounted}
 use Rattle.rbc_ledger.proofs.Sums.{put_same, put_other}
 use Rattle.rbc_ledger.proofs.Network.{counted_took, counted_acted, each_acted, each_took, each_head}
 use Rattle.rbc_ledger.proofs.Chain.{chain_took}
 use Rattle.rbc_spec.specs.Maps.{put}
 use Rattle.rbc_spec.specs.Reach.{Reach, Local, Rights, Routes, Whole, hands_over, follows_rule}
-use Rattle.rbc_spec.specs.SectionRuns.{SectionRun}
 use Rattle.rbc_spec.specs.Line.{Line, IsLine, is_centre}
 use Rattle.rbc_spec.specs.Message.{TrainMessage}
-use Rattle.rbc_spec.specs.Frame.{Frame, Body, YieldedPlace, AskRight, GiveRight, RefuseRight, ReturnRight, RouteAsk, RouteInfo, RouteWithdraw, RouteReturn, Announce, Cancel, TakingOver, Yield}
+use Rattle.rbc_spec.specs.Frame.{Frame, Body, AskRight, GiveRight, RefuseRight, ReturnRight, RouteAsk, RouteInfo, RouteWithdraw, RouteReturn, Announce, Cancel, TakingOver, Yield}
 use Rattle.rbc_spec.specs.Outcome.{Reason, Next, Old, Early, NoLink}
 use Rattle.rbc_spec.specs.Outcome as outcome
 use Rattle.rbc_spec.specs.Centre.{Centre, Handing, Expectation}
@@ -23,16 +22,16 @@ use Rattle.rbc_spec.specs.Step as step
 use Rattle.rbc_spec.specs.Step.{Event, Train, Set, Unset, Deliver, Effect, effect, hear_and_answer, taken_by, body_taken, link_answer, stamp_of, ticked, state_after}
 use Rattle.rbc_lemmas.proofs.Puts.{itself}
 use Rattle.rbc_flow.specs.Flow.{Flow, centre_count}
-use Rattle.rbc_flow.specs.Pairs.{IsPaired, follows, is_number, handing_to}
-use Rattle.rbc_flow.specs.Sound.{IsFlowSound, IsBodySound, ArePaired}
+use Rattle.rbc_flow.specs.Pairs.{IsPaired, follows, is_number, handing_to, yields}
+use Rattle.rbc_flow.specs.Sound.{IsFlowSound, IsBodySound, ArePaired, IsWithinReach}
 use Rattle.rbc_flow.proofs.Compose.{acted_twice}
 use Rattle.rbc_flow.proofs.Neighbours.{neighbours}
 use Rattle.rbc_flow.proofs.Taken as taken
-use Rattle.rbc_tokens.specs.Steps.{done}
-use Rattle.rbc_pairs.specs.Orderly.{number_expected, number_announced, is_of_handing, IsHandedWithin, HandsWithin, IsHandingWithin, IsOrderly, IsTaking, IsTakenWith}
+use Rattle.rbc_pairs.specs.Orderly.{number_expected, number_announced, is_of_handing, IsHandedWithin, HandsWithin, IsHandingWithin, IsOrderly, IsTakenWith}
 use Rattle.rbc_pairs.specs.Steps.{IsByItself, left_by, sent_by}
 use Rattle.rbc_pairs.proofs.Kept.{orderly_pairs, taking_pairs}
 use Rattle.rbc_pairs.proofs.Orderly.{Goes, still, goes_rest, goes_then}
+use Rattle.rbc_pairs.proofs.Handing.{handed}
 use Rattle.rbc_pairs.proofs.Messages.{goes_answered}
 use Rattle.rbc_pairs.proofs.Frames.{Fits, passes, goes_received, goes_section_set, goes_section_unset}
 
@@ -138,23 +137,30 @@ module _ (reach : Reach) (line : Line) (ok : IsLine line) (w : Flow) (sound : Is
   fits_head (RouteReturn t r) head = record {}
   fits_head (Announce h t track) head =
       let next = chain_took (follows t) w a c (Announce h t track) _ _ head (sound.pairs a c t from to).chain in
-      let known = each_head (IsBodySound line) w a c (Announce h t track) head sound.bodies in
-      (known.0, known.1, none_expected h ((w.at c).expects a t) next.0
-      (sym (ap (λ b. if b then (if is_none (number_expected ((w.at c).expects a t)) then Some (Some h) else None) else Some (number_expected ((w.at c).expects a t))) (itself t)) ∙ next.1))
+      let known = each_head (IsBodySound line) w a c (Announce h t track) head sound.bodies in (
+        known.0,
+        known.1,
+        none_expected h ((w.at c).expects a t) next.0
+            (sym (ap (λ b. if b then (if is_none (number_expected ((w.at c).expects a t)) then Some (Some h) else None) else Some (number_expected ((w.at c).expects a t))) (itself t)) ∙ next.1),
+      )
   fits_head (Cancel h t) head =
       let next = chain_took (follows t) w a c (Cancel h t) _ _ head (sound.pairs a c t from to).chain in
-      let known = each_head (IsBodySound line) w a c (Cancel h t) head sound.bodies in
-      (known, under_expected h ((w.at c).expects a t) next.0
-      (sym (ap (λ b. if b then (if is_number h (number_expected ((w.at c).expects a t)) then Some None else None) else Some (number_expected ((w.at c).expects a t))) (itself t)) ∙ next.1))
+      let known = each_head (IsBodySound line) w a c (Cancel h t) head sound.bodies in (
+        known,
+        under_expected h ((w.at c).expects a t) next.0
+            (sym (ap (λ b. if b then (if is_number h (number_expected ((w.at c).expects a t)) then Some None else None) else Some (number_expected ((w.at c).expects a t))) (itself t)) ∙ next.1),
+      )
   fits_head (TakingOver h t) head = record {}
   fits_head (Yield h t heard has_data is_ended carried hand) head =
       let small = ltb-true a (centre_count line) from in
       let below = ltb-true c (centre_count line) to in
       let near = neighbours line ok in (
         (each_head (IsBodySound line) w a c (Yield h t heard has_data is_ended carried hand) head sound.bodies).known,
-        (taken.place line near w sound a c h t heard has_data is_ended carried hand from to small below head,
-        taken.is_carried line near w sound a c h t heard has_data is_ended carried hand from to small below head,
-        taken.is_taken line near w sound a c h t heard has_data is_ended carried hand from to small below head),
+        (
+          taken.place line near w sound a c h t heard has_data is_ended carried hand from to small below head,
+          taken.is_carried line near w sound a c h t heard has_data is_ended carried hand from to small below head,
+          taken.is_taken line near w sound a c h t heard has_data is_ended carried hand from to small below head,
+        ),
       )
 
   pub step_taken : (f : Frame) → TakesHead w a c f.body → IsHandedWithin reach f.body → link_answer line c (w.at c) a f ≡ Next
@@ -262,3 +268,26 @@ within_whole w = record { centres = λ c d t some. refl; bodies = record { each 
     all : (fs : List Body) → All (IsHandedWithin Whole) fs
     all [] = All-nil (IsHandedWithin Whole)
     all (f ∷ fs) = All-cons (IsHandedWithin Whole) f fs (λ of. refl) (all fs)
+
+-- and what is within a reach so has no handover and no Yield beyond it
+yield_of : (f : Body) (t h : ℕ) → yields t h f ≡ true → is_of_handing f ≡ true
+yield_of (AskRight u) t h is = cc
+yield_of (GiveRight u) t h is = cc
+yield_of (RefuseRight u) t h is = cc
+yield_of (ReturnRight u) t h is = cc
+yield_of (RouteAsk u first most) t h is = cc
+yield_of (RouteInfo u r) t h is = cc
+yield_of (RouteWithdraw u s) t h is = cc
+yield_of (RouteReturn u r) t h is = cc
+yield_of (Announce n u track) t h is = cc
+yield_of (Cancel n u) t h is = cc
+yield_of (TakingOver n u) t h is = cc
+yield_of (Yield n u heard has_data is_ended place hand) t h is = refl
+
+pub within_reach : (reach : Reach) (w : Flow) → IsHandingWithin reach w → IsWithinReach reach w
+within_reach reach w old = record {
+  handing = λ c t m h at stands. old.centres c h.to t (ap is_some (ap (handing_to h.to) at ∙ handed m h stands));
+  yields = record {
+    each = λ a b. All-weaker (IsHandedWithin reach) (λ f. (t h : ℕ) → yields t h f ≡ true → hands_over reach ≡ true) (λ f is t h yes. is (yield_of f t h yes)) (way w a b) (old.bodies.each a b);
+  };
+}

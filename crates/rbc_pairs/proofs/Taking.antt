@@ -1,23 +1,23 @@
 -- What the centre that is handed a train does: it expects the train, takes over, and takes the mission.
-use Rattle.std.proofs.Common.{◌≡◌, ◌≢◌, ℕ, ◌+◌, ◌≤◌, ◌==◌, ◌&&◌, not, Bool, true, false, if◌then◌else◌, List, [], ◌∷◌, Option, Some, None, option_map, is_none, refl, sym, ap, ◌∙◌, subst, inl, arith, ⊎_elim, All}
+use Rattle.std.proofs.Common.{◌≡◌, ◌≢◌, ℕ, ◌+◌, ◌≤◌, ◌==◌, ◌&&◌, not, Bool, true, false, if◌then◌else◌, List, [], ◌∷◌, Option, Some, None, option_map, refl, sym, ap, ◌∙◌, subst, inl, arith, ⊎_elim, All}
 use Rattle.std.specs.Option.{option_map_or}
 use Rattle.std.proofs.lemmas.Bool.{cases_eq, ne_eqb, and_parts, eqb-true}
 use Rattle.std.proofs.lemmas.List.Elements.{All-nil, All-cons}
+use Rattle.std.proofs.Math.Bool.{and-true}
 use Rattle.rbc_ledger.specs.Sums.{one_if}
-use Rattle.rbc_ledger.specs.Chain.{Chain}
 use Rattle.rbc_ledger.proofs.Chain.{chain_still}
 use Rattle.rbc_ledger.proofs.Sums.{put_same, put_other}
 use Rattle.rbc_spec.specs.Maps.{put, put_pair, has}
 use Rattle.rbc_spec.specs.Reach.{Reach}
 use Rattle.rbc_spec.specs.Line.{Line, is_centre}
-use Rattle.rbc_spec.specs.Frame.{Body, Announce, Cancel, TakingOver, Yield}
+use Rattle.rbc_spec.specs.Frame.{Body, TakingOver}
 use Rattle.rbc_spec.specs.Centre.{Centre, Mission, Handing, Expectation}
 use Rattle.rbc_spec.specs.Acts.{change_mission}
 use Rattle.rbc_spec.specs.Rules.{taking, take_over}
 use Rattle.rbc_spec.specs.Links.{claimed}
 use Rattle.rbc_lemmas.proofs.Puts.{itself, put_pair_there}
 use Rattle.rbc_flow.specs.Pairs.{follows, handing_to, count_if, announces, takes_over, yields}
-use Rattle.rbc_pairs.specs.Orderly.{number_expected, number_announced, waiting, claimed_as, IsHandedWithin, IsOrderly, IsTaking}
+use Rattle.rbc_pairs.specs.Orderly.{number_expected, number_announced, waiting, claimed_as, IsHandedWithin, IsTaking}
 use Rattle.rbc_pairs.proofs.Orderly.{Goes}
 
 -- ## It takes over
@@ -66,8 +66,11 @@ module _ (reach : Reach) (line : Line) (t : ℕ) (k : Centre) where
   waits_less true row u h so = ⊎_elim
       (λ (here : u ≡ t). subst (λ v. waiting h (put row t (option_map taking (row t)) v) + count_if (takes_over v h) (sent true (row t)) ≤ waiting h (row v)) (sym here)
       (omega (arith, ap (waiting h) (put_same row t (option_map taking (row t))), by_one (row t) (so refl))))
-      (λ (other : u ≢ t). omega (arith, ap (waiting h) (put_other row t (option_map taking (row t)) u other),
-      sent_none (takes_over u h) (λ n. ap (λ b. b && (n == h)) (ne_eqb t u (λ same. other (sym same)))) true (row t)))
+      (λ (other : u ≢ t). omega (
+        arith,
+        ap (waiting h) (put_other row t (option_map taking (row t)) u other),
+        sent_none (takes_over u h) (λ n. ap (λ b. b && (n == h)) (ne_eqb t u (λ same. other (sym same)))) true (row t),
+      ))
       (cases_eq u t)
     where
       by_tests : (same taking_so own : Bool) → not taking_so ≡ true → own ≡ true → one_if (same && not true) + one_if (own && same) ≤ one_if (same && not taking_so)
@@ -163,11 +166,7 @@ module _ (a number t : ℕ) (k : Centre) where
   one_more n h = by_test ((h.number == number) && (h.to == a)) refl
     where
       by_to : (x : Bool) → h.number ≡ number → claimed_as n (if x then Some (record h { is_claimed = true }) else None) ≤ claimed_as n (if x then Some h else None) + one_if ((t == t) && (number == n))
-      by_to true same = omega (arith, and_true (h.number == n), ap (λ v. one_if (v == n)) same, ap (λ b. one_if (b && (number == n))) (itself t))
-        where
-          and_true : (b : Bool) → one_if (b && true) ≡ one_if b
-          and_true true = refl
-          and_true false = refl
+      by_to true same = omega (arith, ap one_if (and-true (h.number == n)), ap (λ v. one_if (v == n)) same, ap (λ b. one_if (b && (number == n))) (itself t))
       by_to false same = omega arith
 
       by_test : (x : Bool) → ((h.number == number) && (h.to == a)) ≡ x → claimed_as n (if (if x then record h { is_claimed = true } else h).to == a then Some (if x then record h { is_claimed = true } else h) else None)

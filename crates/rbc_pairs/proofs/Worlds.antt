@@ -1,15 +1,12 @@
 -- Each step of a world keeps all of it sound.
-use Rattle.std.proofs.Common.{◌≡◌, ◌≢◌, ℕ, zero, suc, ◌+◌, ◌-◌, ◌==◌, ◌&&◌, ◌||◌, not, Bool, true, false, if◌then◌else◌, List, [], ◌∷◌, map, nat_le, slice_get, is_some, Option, Some, None, Result, Ok, Err, refl, sym, ap, ◌∙◌, subst, inl, inr}
+use Rattle.std.proofs.Common.{◌≡◌, ◌≢◌, ℕ, ◌+◌, ◌-◌, ◌==◌, Bool, true, false, if◌then◌else◌, List, [], ◌∷◌, map, slice_get, Option, Some, None, Result, Ok, Err, refl, sym, ap, ◌∙◌, subst, inl, inr}
 use Rattle.std.specs.Option.{option_map_or}
-use Rattle.std.proofs.lemmas.Bool.{and_parts}
-use Rattle.std.proofs.lemmas.Bool.Decides.{eqb_tells}
-use Rattle.std.proofs.lemmas.List.Elements.{All-nil}
-use Rattle.rbc_ledger.specs.Network.{way, took, acted, TakesHead}
+use Rattle.rbc_ledger.specs.Network.{took, acted, TakesHead}
 use Rattle.rbc_ledger.specs.Resource.{Resource, IsFair}
 use Rattle.rbc_ledger.proofs.Network.{each_start, each_head}
 use Rattle.rbc_spec.specs.Maps.{put}
-use Rattle.rbc_spec.specs.Reach.{Reach, hands_over}
-use Rattle.rbc_spec.specs.Line.{Line, IsLine, is_centre, is_linked, is_border, is_registrar}
+use Rattle.rbc_spec.specs.Reach.{Reach}
+use Rattle.rbc_spec.specs.Line.{Line, IsLine, is_centre, is_linked}
 use Rattle.rbc_spec.specs.Frame.{Frame, Body}
 use Rattle.rbc_spec.specs.Outcome.{Outcome, Next, Old, Early, NoLink}
 use Rattle.rbc_spec.specs.Outcome as outcome
@@ -20,12 +17,12 @@ use Rattle.rbc_spec.specs.World.{World, Event, Bytes, Set, Unset, Delivery, Answ
 use Rattle.rbc_local.proofs.Worlds.{world_of, bind_ok}
 use Rattle.rbc_flow.specs.Flow.{Flow, flow_of, in_world, centre_count}
 use Rattle.rbc_flow.specs.Counts.{rights, tokens, lent}
-use Rattle.rbc_flow.specs.Numbers.{IsNumbered, taken_after}
+use Rattle.rbc_flow.specs.Numbers.{taken_after}
 use Rattle.rbc_flow.specs.Keeping.{nothing_came, came_with, IsFairAct}
 use Rattle.rbc_flow.specs.Sound.{IsFlowSound, IsBodySound}
 use Rattle.rbc_flow.proofs.Begins.{line_begins, line_begins_numbered}
 use Rattle.rbc_flow.proofs.Kept.{acted_sound, delivered_sound, aside_sound}
-use Rattle.rbc_flow.proofs.Numbers.{numbers_taken, sent_number, next_sent, world_step_numbered}
+use Rattle.rbc_flow.proofs.Numbers.{is_next, next_sent, world_step_numbered}
 use Rattle.rbc_flow.proofs.Steps.{by_itself, at_head}
 use Rattle.rbc_flow.proofs.Takes.{train_keeps, set_keeps, unset_keeps, deliver_taken}
 use Rattle.rbc_sound.specs.Stays.{IsInRange}
@@ -40,18 +37,7 @@ use Rattle.rbc_pairs.proofs.Steps.{paired_by_itself, paired_at_head, within_by_i
 
 -- ## Frames that were sent
 
--- the link says so of the frame after the last that was taken
-next_number : (count n : ℕ) → offered count n ≡ Next → n ≡ count + 1
-next_number count n is = elim (eqb_tells n (count + 1)) [
-  | inl e ↦ e.1
-  | inr e ↦ absurd (not_next (nat_le n count) (sym (ap (λ (b : Bool). if b then Next else (if nat_le n count then Old else Early)) e.0) ∙ is))
-]
-  where
-    not_next : (b : Bool) → (if b then Old else Early) ≡ Next → ⊥
-    not_next true h = cc
-    not_next false h = cc
-
--- and of no frame that comes without a link
+-- only a link says that a frame is the next
 linked_next : (b : Bool) (count n : ℕ) → (if b then offered count n else NoLink) ≡ Next → (b ≡ true) × (offered count n ≡ Next)
 linked_next true count n is = (refl, is)
 linked_next false count n is = cc
@@ -119,7 +105,7 @@ module _ (reach : Reach) (line : Line) (ok : IsLine line) (w : World) (old : IsW
         came r = ap (λ answer. came_by c a f answer r) next
 
     number_is : f.number ≡ (w.at c).taken a + 1
-    number_is = next_number ((w.at c).taken a) f.number (linked_next (is_linked line c a) ((w.at c).taken a) f.number next).1
+    number_is = is_next ((w.at c).taken a) f.number (linked_next (is_linked line c a) ((w.at c).taken a) f.number next).1
 
     one_more : (x : ℕ) → (done reach line c (w.at c) event).reply.state.taken x ≡ put (w.at c).taken a ((w.at c).taken a + 1) x
     one_more x = ap (λ (g : ℕ → ℕ). g x) (deliver_taken line c reach a (stamp_of (w.at c) event) f (w.at c)) ∙ ap (λ answer. taken_after a f answer (w.at c) x) next

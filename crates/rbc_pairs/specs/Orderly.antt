@@ -1,5 +1,5 @@
 -- What an act of a centre does to handovers: those that it announces, those that it expects, and the frames between.
-use Rattle.std.specs.Prelude.{◌≡◌, ◌≢◌, ◌⊎◌, ℕ, ◌+◌, ◌==◌, ◌<◌, ◌≤◌, Bool, true, false, ◌&&◌, not, List, [], All, Option, Some, None, option_map, is_some}
+use Rattle.std.specs.Prelude.{◌≡◌, ◌≢◌, ◌⊎◌, ℕ, ◌+◌, ◌==◌, ◌<◌, ◌≤◌, Bool, true, false, ◌&&◌, not, List, All, Option, Some, option_map, is_some}
 use Rattle.rbc_ledger.specs.Sums.{one_if}
 use Rattle.rbc_ledger.specs.Network.{EachOnTheWay}
 use Rattle.rbc_ledger.specs.Chain.{Chain}

@@ -12,7 +12,7 @@ ghost use Rattle.rbc_spec.specs.World as world;
 ghost use Rattle.rbc_spec.specs.World.{World, Answer, new_world, world_step, world_run};
 ghost use Rattle.rbc_flow.specs.Flow.{Flow};
 ghost use Rattle.rbc_flow.specs.Pairs.{IsPaired};
-ghost use Rattle.rbc_flow.specs.Sound.{IsFlowSound, ArePaired};
+ghost use Rattle.rbc_flow.specs.Sound.{IsFlowSound, ArePaired, IsWithinReach};
 ghost use Rattle.rbc_pairs.specs.Orderly.{IsHandedWithin, IsHandingWithin, IsOrderly, IsTaking, IsTakenWith};
 ghost use Rattle.rbc_pairs.specs.Steps.{IsByItself, left_by, sent_by};
 ghost use Rattle.rbc_pairs.specs.Worlds.{IsWorldSound};
@@ -51,6 +51,7 @@ pub fn each_step_keeps_all_paired()
         → is_centre line a ≡ true → is_centre line c ≡ true → TakesHead w a c f.body → link_answer line c (w.at c) a f ≡ Next
         → IsHandingWithin reach (acted (took w a c) c (left_by reach line c (w.at c) (Deliver a f)) (sent_by reach line c (w.at c) (Deliver a f))) }
     ensures at_whole { (w : Flow) → IsHandingWithin Whole w }
+    ensures reached { (reach : Reach) (w : Flow) → IsHandingWithin reach w → IsWithinReach reach w }
 {}
 
 /// With the laws of each centre by itself and of fair steps: each event of a world keeps its whole flow sound, at every reach.

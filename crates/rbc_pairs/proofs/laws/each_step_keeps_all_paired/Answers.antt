@@ -1,4 +1,4 @@
-use Rattle.rbc_pairs.proofs.Steps.{paired_by_itself, paired_at_head, within_by_itself, within_at_head, within_whole}
+use Rattle.rbc_pairs.proofs.Steps.{paired_by_itself, paired_at_head, within_by_itself, within_at_head, within_whole, within_reach}
 use Rattle.rbc_pairs.proofs.laws.each_step_keeps_all_paired.Goals as goal
 
 pub returns-clause-by_itself : goal.returns-clause-by_itself
@@ -15,3 +15,6 @@ returns-clause-within_at_head o reach line w a c f ok sound within from to head 
 
 pub returns-clause-at_whole : goal.returns-clause-at_whole
 returns-clause-at_whole o w = within_whole w
+
+pub returns-clause-reached : goal.returns-clause-reached
+returns-clause-reached o reach w old = within_reach reach w old
