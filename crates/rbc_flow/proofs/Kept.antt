@@ -21,11 +21,11 @@ use Rattle.rbc_flow.specs.Pairs.{IsPaired, follows, handing_to, count_if, announ
 use Rattle.rbc_flow.specs.Sound.{IsMissionAt, IsCentreSound, IsFlowSound, IsBodySound}
 use Rattle.rbc_flow.specs.Keeping.{nothing_came, came_with, IsFairAct, LeavesSound, IsNeutral, IsApart, IsAside}
 
-count_append : (test : Body → Bool) (fs gs : List Body) → count_if test (fs ++ gs) ≡ count_if test fs + count_if test gs
+pub count_append : (test : Body → Bool) (fs gs : List Body) → count_if test (fs ++ gs) ≡ count_if test fs + count_if test gs
 count_append test [] gs = omega arith
 count_append test (f ∷ fs) gs = omega (arith, count_append test fs gs)
 
-count_none : (test : Body → Bool) (fs : List Body) → All (λ f. test f ≡ false) fs → count_if test fs ≡ 0
+pub count_none : (test : Body → Bool) (fs : List Body) → All (λ f. test f ≡ false) fs → count_if test fs ≡ 0
 count_none test [] all = refl
 count_none test (f ∷ fs) all = omega (arith, ap one_if (All-head (λ g. test g ≡ false) f fs all), count_none test fs (All-tail (λ g. test g ≡ false) f fs all))
 

@@ -112,7 +112,7 @@ get_map [] i f is = cc
 get_map (g ∷ fs) zero f is = ap (λ (h : Frame). Some h.body) (same_Some g f is)
 get_map (g ∷ fs) (suc i) f is = get_map fs i f is
 
-is_next : (count n : ℕ) → offered count n ≡ Next → n ≡ count + 1
+pub is_next : (count n : ℕ) → offered count n ≡ Next → n ≡ count + 1
 is_next count n is = elim (eqb_tells n (count + 1)) [
   | inl e ↦ e.1
   | inr e ↦ absurd (not_next (nat_le n count) (sym (ap (λ (b : Bool). if b then Next else (if nat_le n count then Old else Early)) e.0) ∙ is))

@@ -1,0 +1,8 @@
+pub mod Kept
+pub mod Orderly
+pub mod Handing
+pub mod Taking
+pub mod Messages
+pub mod Frames
+pub mod Steps
+pub mod Worlds

@@ -1,0 +1,3 @@
+pub mod Orderly
+pub mod Steps
+pub mod Worlds

@@ -1,0 +1,21 @@
+-- Steps of a centre, of which one that takes the next frame of a link is at its head, and any other is by itself.
+use Rattle.std.specs.Prelude.{◌≢◌, ℕ, List}
+use Rattle.rbc_spec.specs.Reach.{Reach}
+use Rattle.rbc_spec.specs.Line.{Line}
+use Rattle.rbc_spec.specs.Frame.{Body}
+use Rattle.rbc_spec.specs.Outcome.{Next}
+use Rattle.rbc_spec.specs.Centre.{Centre}
+use Rattle.rbc_spec.specs.Step.{Event, Deliver, link_answer, stamp_of, state_after}
+use Rattle.rbc_tokens.specs.Steps.{done}
+
+-- the event takes no frame off a link to centre c, which was k
+abbrev pub IsByItself : Line → ℕ → Centre → Event → Type 0
+IsByItself line c k (Deliver d f) = link_answer line c k d f ≢ Next
+IsByItself line c k event = Unit {0}
+
+-- what the step of an event leaves of centre c, which was k, and what it sends
+abbrev pub left_by : Reach → Line → ℕ → Centre → Event → Centre
+left_by reach line c k event = state_after (stamp_of k event) k (done reach line c k event)
+
+abbrev pub sent_by : Reach → Line → ℕ → Centre → Event → ℕ → List Body
+sent_by reach line c k event = (done reach line c k event).reply.frames

@@ -1,0 +1,10 @@
+//! Laws of handovers between the centres of a line: what any two centres know of a handover stays true with each step of a
+//! centre. The functions do nothing: each contract is a law of the definitions.
+#![tactic(auto)]
+
+mod laws;
+
+pub use laws::{
+    an_orderly_act_keeps_all_paired, each_step_is_orderly, each_step_keeps_all_paired,
+    each_step_keeps_all_sound, each_world_flow_is_sound,
+};
