@@ -25,6 +25,21 @@ use Rattle.rbc_tokens.proofs.Leaving.{Makes}
 use Rattle.rbc_tokens.proofs.Messages.{AllFollow, fair_answered}
 use Rattle.rbc_tokens.proofs.Frames.{AllWaitHome, fair_received, fair_section_set, fair_section_unset}
 
+-- the clock, and how many frames were taken, say nothing of what has its place at a centre
+pub same_place : (line : Line) (c d stamp : ℕ) (taken : ℕ → ℕ) (k : Centre) (body : Body) → has_place_for line c d k body ≡ has_place_for line c d (record k { clock = stamp; taken = taken }) body
+same_place line c d stamp taken k (AskRight t) = refl
+same_place line c d stamp taken k (GiveRight t) = refl
+same_place line c d stamp taken k (RefuseRight t) = refl
+same_place line c d stamp taken k (ReturnRight t) = refl
+same_place line c d stamp taken k (RouteAsk t first most) = refl
+same_place line c d stamp taken k (RouteInfo t r) = refl
+same_place line c d stamp taken k (RouteWithdraw t s) = refl
+same_place line c d stamp taken k (RouteReturn t r) = refl
+same_place line c d stamp taken k (Announce number t track) = refl
+same_place line c d stamp taken k (Cancel number t) = refl
+same_place line c d stamp taken k (TakingOver number t) = refl
+same_place line c d stamp taken k (Yield number t heard has_data is_ended place hand) = refl
+
 module _ (line : Line) (c : ℕ) (y : Tally) (is : IsTally line c y) where
   message_fair : (reach : Reach) (m : TrainMessage) (k : Centre) → AllFollow line c y is k → Ready line c y k → (o : Option Reason)
       → Makes line c y is k (option_map_or {U = Effect} (λ why. record { reply = rest k; link = None; silence = Some why }) o (record { reply = hear_and_answer reach line c m k; link = None; silence = None })).reply
@@ -55,23 +70,9 @@ module _ (line : Line) (c : ℕ) (y : Tally) (is : IsTally line c y) where
       plain_so false true rest_of h passed = cc
       plain_so false false rest_of h passed = cc
 
-      same_place : (body : Body) → has_place_for line c d k body ≡ has_place_for line c d next body
-      same_place (AskRight t) = refl
-      same_place (GiveRight t) = refl
-      same_place (RefuseRight t) = refl
-      same_place (ReturnRight t) = refl
-      same_place (RouteAsk t first most) = refl
-      same_place (RouteInfo t r) = refl
-      same_place (RouteWithdraw t s) = refl
-      same_place (RouteReturn t r) = refl
-      same_place (Announce number t track) = refl
-      same_place (Cancel number t) = refl
-      same_place (TakingOver number t) = refl
-      same_place (Yield number t heard has_data is_ended place hand) = refl
-
       by_rule : (b : Bool) → follows_rule reach f.body ≡ b → Fair line c y next (y.res.inside d c f.body) 0 ((if b then received line c d f.body else rest) next)
       by_rule true is_so = fair_received line c y is d f.body next home (ready_again line c y k next refl refl refl ready) (λ so. (due so refl).0)
-          (λ so here. ap (λ b. is_plain f.body || (is_train line (train_of f.body) && b)) (sym (same_place f.body)) ∙ followed (is_plain f.body) (follows_rule reach f.body) _ (due so refl).1)
+          (λ so here. ap (λ b. is_plain f.body || (is_train line (train_of f.body) && b)) (sym (same_place line c d k.clock (put k.taken d f.number) k f.body)) ∙ followed (is_plain f.body) (follows_rule reach f.body) _ (due so refl).1)
       by_rule false passed = eased line c y (y.res.inside d c f.body) 0 next (rest next) (omega arith)
           (λ so. omega (arith, is.plain d c f.body (plain_so (is_plain f.body) (follows_rule reach f.body) _ (due so refl).1 passed))) (fair_rest line c y next)
   frame_fair reach d f k home ready Old due = fair_rest line c y k
