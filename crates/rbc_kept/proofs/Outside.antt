@@ -1,22 +1,22 @@
 -- Tokens of a section are counted where they are not at home: in a hand, a pool or a frame; the section's home has it out for the train.
-use Rattle.std.proofs.Common.{◌≡◌, ◌≢◌, ◌⊎◌, inl, inr, ℕ, ◌+◌, ◌<◌, ◌≤◌, ◌==◌, ◌&&◌, ◌||◌, not, if◌then◌else◌, Bool, true, false, [], ◌∷◌, Option, Some, None, length, refl, sym, ap, ◌∙◌, subst, arith, ⊎_elim, ne_eqb, eqb-true, ltb-true}
-use Rattle.std.proofs.lemmas.Bool.{and_parts, and_from, cases_eq}
+use Rattle.std.proofs.Common.{◌≡◌, ℕ, ◌+◌, ◌≤◌, ◌==◌, ◌&&◌, ◌||◌, not, if◌then◌else◌, Bool, true, false, [], ◌∷◌, Option, Some, None, refl, sym, ap, ◌∙◌, subst, arith, eqb-true, ltb-true}
+use Rattle.std.proofs.lemmas.Bool.{and_parts, and_from}
 use Rattle.rbc_ledger.specs.Sums.{one_if}
 use Rattle.rbc_ledger.specs.Resource.{Resource, carried, sent_by}
 use Rattle.rbc_ledger.proofs.Sums.{one_if_true, one_if_le_one, term_le_sum}
-use Rattle.rbc_ledger.proofs.Resource.{carried_none, carried_more}
+use Rattle.rbc_ledger.proofs.Resource.{carried_more}
 use Rattle.rbc_spec.specs.Maps.{has}
 use Rattle.rbc_spec.specs.SectionRuns.{SectionRun, within, shared, is_empty}
 use Rattle.rbc_spec.specs.Line.{Line, IsLine, Section, section, is_home}
 use Rattle.rbc_spec.specs.Sections.{home_run, is_on}
 use Rattle.rbc_spec.specs.Place.{Place, covered}
 use Rattle.rbc_spec.specs.Frame.{Body, RouteReturn}
-use Rattle.rbc_spec.specs.Centre.{Centre, Entry, Shut, Open, Taken, Out, Mission, is_open, is_unused, is_taken_for, is_out_for, is_used_for}
+use Rattle.rbc_spec.specs.Centre.{Centre, Entry, Shut, Open, Taken, Out, Mission, is_taken_for, is_out_for, is_used_for}
 use Rattle.rbc_spec.specs.Acts.{returned}
-use Rattle.rbc_local.specs.Local.{IsOrdered, hand_has}
+use Rattle.rbc_local.specs.Local.{hand_has}
 use Rattle.rbc_local.proofs.Ordered.{is_ordered}
 use Rattle.rbc_flow.specs.Flow.{centre_count}
-use Rattle.rbc_flow.specs.Counts.{tokens, token_inside, pool_has}
+use Rattle.rbc_flow.specs.Counts.{token_inside, pool_has}
 use Rattle.rbc_flow.proofs.Begins.{no_use}
 use Rattle.rbc_flow.proofs.Neighbours.{home_below}
 use Rattle.rbc_lemmas.proofs.Puts.{itself}

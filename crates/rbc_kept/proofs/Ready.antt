@@ -1,35 +1,28 @@
 -- A centre that is sound and in order is ready for the walk that counts what is lost.
-use Rattle.std.proofs.Common.{◌≡◌, ◌≢◌, ℕ, ◌<◌, ◌&&◌, ◌||◌, ◌==◌, not, if◌then◌else◌, length, slice_get, Bool, true, false, Option, Some, None, is_some, option_map, refl, sym, ap, ◌∙◌, arith, ltb-true, eq-eqb, eqb-true}
+use Rattle.std.proofs.Common.{◌≡◌, ◌≢◌, ℕ, ◌<◌, ◌&&◌, ◌||◌, ◌==◌, if◌then◌else◌, length, slice_get, Bool, true, false, Option, Some, None, is_some, option_map, refl, sym, ap, ◌∙◌, arith, ltb-true}
 use Rattle.std.specs.List.{find, position_or_len}
 use Rattle.std.proofs.lemmas.List.Folds.{find_at}
 use Rattle.std.proofs.lemmas.Option.{slice_get-get_or}
 use Rattle.rbc_flow.proofs.Trains.{is_there}
-use Rattle.std.proofs.lemmas.Bool.{and_parts, and_from, both_ways}
-use Rattle.rbc_ledger.specs.Sums.{one_if}
 use Rattle.rbc_ledger.proofs.Sums.{one_if_true, one_if_some}
 use Rattle.rbc_spec.specs.Maps.{has}
 use Rattle.rbc_spec.specs.Reach.{Reach, follows_rule}
-use Rattle.rbc_spec.specs.SectionRuns.{within}
-use Rattle.rbc_spec.specs.Line.{Line, IsLine, Train, is_home, is_centre, is_linked, next_centre, registrar, train_number}
-use Rattle.rbc_spec.specs.Outcome as outcome
-use Rattle.rbc_spec.specs.Outcome.{Next, Old, Early, NoLink}
-use Rattle.rbc_spec.specs.Frame.{Frame}
+use Rattle.rbc_spec.specs.Line.{Line, IsLine, Train, is_linked, next_centre, registrar}
+use Rattle.rbc_spec.specs.Outcome.{Next, NoLink}
 use Rattle.rbc_spec.specs.Links.{is_train}
-use Rattle.rbc_spec.specs.Centre.{Centre, Mission, Handing, is_taken_for}
-use Rattle.rbc_spec.specs.Step as step
-use Rattle.rbc_spec.specs.Step.{Event, Train as FromTrain, Set, Unset, Deliver, link_answer, offered, ticked}
+use Rattle.rbc_spec.specs.Centre.{Centre, is_taken_for}
+use Rattle.rbc_spec.specs.Step.{Event, Train as FromTrain, Set, Unset, Deliver, offered, ticked}
 use Rattle.rbc_local.specs.Local.{hand_has}
 use Rattle.rbc_lemmas.proofs.Lines.{registrar_below}
 use Rattle.rbc_lemmas.proofs.Puts.{itself}
 use Rattle.rbc_flow.specs.Flow.{centre_count}
-use Rattle.rbc_flow.specs.Neighbours.{AreNeighbours}
 use Rattle.rbc_flow.specs.Sound.{IsCentreSound}
 use Rattle.rbc_flow.proofs.Neighbours.{neighbours}
 use Rattle.rbc_sound.proofs.Leaving.{next_is_centre}
 use Rattle.rbc_sound.proofs.Events.{linked_apart}
-use Rattle.rbc_tokens.specs.Stray.{is_plain, train_of, is_looked_for}
+use Rattle.rbc_tokens.specs.Stray.{is_plain, train_of}
 use Rattle.rbc_tokens.proofs.Tally.{Tally, IsTally, HasRegistrar}
-use Rattle.rbc_tokens.proofs.Ready.{Ready, Stands}
+use Rattle.rbc_tokens.proofs.Ready.{Ready}
 use Rattle.rbc_tokens.proofs.Steps as steps
 use Rattle.rbc_tokens.proofs.Steps.{same_place}
 use Rattle.rbc_kept.specs.Keeps.{IsInOrder, BringsNoStray}

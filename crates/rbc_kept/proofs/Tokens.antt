@@ -1,14 +1,13 @@
 -- What is counted outside a section's home, with what is taken at home, is what tokens count.
-use Rattle.std.proofs.Common.{◌≡◌, ℕ, ◌+◌, ◌<◌, ◌==◌, ◌&&◌, not, Bool, true, false, List, [], ◌∷◌, Option, Some, None, refl, sym, ap, ◌∙◌, arith}
+use Rattle.std.proofs.Common.{◌≡◌, ℕ, ◌+◌, ◌&&◌, not, Bool, true, false, List, [], ◌∷◌, Option, Some, None, refl, sym, ◌∙◌, arith}
 use Rattle.rbc_ledger.specs.Sums.{one_if}
-use Rattle.rbc_ledger.specs.Resource.{Resource, IsExact, carried, sent_by}
+use Rattle.rbc_ledger.specs.Resource.{carried, sent_by}
 use Rattle.rbc_ledger.proofs.Sums.{sum_same}
 use Rattle.rbc_ledger.proofs.Resource.{carried_none, carried_more}
 use Rattle.rbc_spec.specs.Reach.{Reach}
 use Rattle.rbc_spec.specs.SectionRuns.{within}
 use Rattle.rbc_spec.specs.Line.{Line, IsLine, is_home}
-use Rattle.rbc_spec.specs.Place.{Place, covered}
-use Rattle.rbc_spec.specs.Frame.{Frame, Body}
+use Rattle.rbc_spec.specs.Frame.{Body}
 use Rattle.rbc_spec.specs.Outcome as outcome
 use Rattle.rbc_spec.specs.Outcome.{Next, Old, Early, NoLink}
 use Rattle.rbc_spec.specs.Centre.{Centre, Entry, Shut, Open, Taken, Out, Mission, is_taken_for, is_used_for}
@@ -17,7 +16,6 @@ use Rattle.rbc_local.specs.Local.{hand_has}
 use Rattle.rbc_flow.specs.Flow.{centre_count}
 use Rattle.rbc_flow.specs.Counts.{tokens, wait_has, pool_has}
 use Rattle.rbc_flow.specs.Sound.{IsCentreSound}
-use Rattle.rbc_flow.proofs.Begins.{no_use}
 use Rattle.rbc_sound.specs.Stays.{IsInRange}
 use Rattle.rbc_sound.proofs.Events.{stays_sound}
 use Rattle.rbc_tokens.specs.Steps.{came_by, came_to, done, IsExactStep}

@@ -17,9 +17,9 @@ use Rattle.rbc_spec.specs.Rules.{authority, may_follow, extension, extended_by, 
 use Rattle.rbc_lemmas.proofs.Runs.{within_true, within_from, within_part_from}
 use Rattle.rbc_lemmas.proofs.Longest.{longest_is}
 use Rattle.rbc_tokens.proofs.Tally.{Tally, IsTally, part, whole, mission_of, fair_rest, fair_then, fair_both, eased, fair_if, fair_or, fair_set, fair_change, fair_booked, fair_say, fair_plain, mission_put, mission_back}
-use Rattle.rbc_tokens.proofs.Parts.{Follows, from_part, joined_part, joined_back, covered_parts}
+use Rattle.rbc_tokens.proofs.Parts.{Follows, open_unused, from_part, joined_part, joined_back, covered_parts}
 use Rattle.rbc_tokens.proofs.Leaving.{Makes, sends_plain}
-use Rattle.rbc_tokens.proofs.Starts.{open_unused, booked_open, booked_back}
+use Rattle.rbc_tokens.proofs.Starts.{booked_open, booked_back}
 
 module _ (line : Line) (c : ℕ) (y : Tally) (is : IsTally line c y) where
   -- ## Proposals

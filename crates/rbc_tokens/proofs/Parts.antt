@@ -3,7 +3,7 @@ use Rattle.std.proofs.Common.{◌≡◌, ◌≢◌, ◌⊎◌, inl, inr, ℕ, �
 use Rattle.std.proofs.lemmas.Bool.{cases_eq, cases_lt, and_parts, and_from, ne_eqb, eqb-false, lt-ltb, le-leb}
 use Rattle.rbc_spec.specs.SectionRuns.{SectionRun, no_run, within, behind, is_empty, part_before, part_from, joined}
 use Rattle.rbc_spec.specs.Line.{Line, is_home}
-use Rattle.rbc_spec.specs.Centre.{Centre, Entry, Shut, Open, Taken, Out, Mission, is_taken_for, is_used_for}
+use Rattle.rbc_spec.specs.Centre.{Centre, Entry, Shut, Open, Taken, Out, Mission, is_open, is_unused, is_taken_for, is_used_for}
 use Rattle.rbc_spec.specs.Acts.{freed}
 use Rattle.rbc_lemmas.proofs.Runs.{within_true, within_part_before, within_part_from, within_none, within_joined, joined_empty}
 use Rattle.rbc_tokens.proofs.Tally.{Tally, IsTally, is_away, part, part_away, gone}
@@ -11,6 +11,19 @@ use Rattle.rbc_tokens.proofs.Tally.{Tally, IsTally, is_away, part, part_away, go
 -- the pool follows the hand at once, if there is one
 abbrev pub Follows : Mission → Type 0
 Follows m = is_empty m.pool ≡ false → m.pool.first ≡ behind m.hand
+
+-- an entry that is open is in no use
+pub open_unused : (e : Entry) → is_open e ≡ true → is_unused e ≡ true
+open_unused Shut h = refl
+open_unused Open h = refl
+open_unused (Taken t) h = cc
+open_unused (Out t d) h = cc
+
+pub open_here : (u : ℕ) (e : Entry) → is_open e ≡ true → is_away u e ≡ false
+open_here u Shut h = refl
+open_here u Open h = refl
+open_here u (Taken t) h = refl
+open_here u (Out t d) h = cc
 
 module _ (y : Tally) where
   -- two parts of the run that share nothing

@@ -11,7 +11,7 @@ use Rattle.rbc_spec.specs.Line.{Line, is_home, registrar}
 use Rattle.rbc_spec.specs.Place.{Place, Position, covered, fit_place}
 use Rattle.rbc_spec.specs.Message.{unknown_group, TrainAccepted, TrainRejected}
 use Rattle.rbc_spec.specs.Frame.{AskRight}
-use Rattle.rbc_spec.specs.Centre.{Centre, Entry, Shut, Open, Taken, Out, Mission, Closed, is_open, is_unused, is_taken_for, is_free, is_registrar_of}
+use Rattle.rbc_spec.specs.Centre.{Centre, Entry, Shut, Open, Taken, Mission, Closed, is_open, is_taken_for, is_free, is_registrar_of}
 use Rattle.rbc_spec.specs.Acts.{Reply, rest, become, ◌>>◌, where_so, with_some, send, booked, freed, set_mission, change_mission, return_right, begun}
 use Rattle.rbc_spec.specs.Rules.{choose, drop_wait, set_phase, close_session, accept, reject, restart, begin, start_here, start_waiting, start_new, start_mission}
 use Rattle.rbc_spec.specs.Links.{answered_ask, right_given, right_refused}
@@ -19,21 +19,8 @@ use Rattle.rbc_lemmas.proofs.Lists.{none_is}
 use Rattle.rbc_lemmas.proofs.Runs.{each_within}
 use Rattle.rbc_flow.specs.Flow.{centre_count}
 use Rattle.rbc_tokens.proofs.Tally.{Tally, IsTally, HasRegistrar, Fair, right_of, wait_of, start_of, part, mission_of, back, is_away, alike, fair_rest, fair_then, fair_both, eased, fair_if, fair_or, fair_set, fair_change, fair_booked, fair_freed, fair_say, fair_plain, mission_put, mission_back}
-use Rattle.rbc_tokens.proofs.Parts.{none_part, freed_other, freed_back}
+use Rattle.rbc_tokens.proofs.Parts.{open_unused, open_here, none_part, freed_other, freed_back}
 use Rattle.rbc_tokens.proofs.Leaving.{Makes, back_own, back_other, back_le, sends_plain, fair_return_right}
-
--- an entry that is open is in no use
-pub open_unused : (e : Entry) → is_open e ≡ true → is_unused e ≡ true
-open_unused Shut h = refl
-open_unused Open h = refl
-open_unused (Taken t) h = cc
-open_unused (Out t d) h = cc
-
-pub open_here : (u : ℕ) (e : Entry) → is_open e ≡ true → is_away u e ≡ false
-open_here u Shut h = refl
-open_here u Open h = refl
-open_here u (Taken t) h = refl
-open_here u (Out t d) h = cc
 
 module _ (line : Line) (c : ℕ) (y : Tally) (is : IsTally line c y) where
   -- open sections come into use for some train

@@ -23,7 +23,8 @@ use Rattle.rbc_tokens.proofs.Tally.{Tally, IsTally, Fair, fair_rest, fair_then, 
 use Rattle.rbc_tokens.proofs.Ready.{Ready, ready_again}
 use Rattle.rbc_tokens.proofs.Leaving.{Makes}
 use Rattle.rbc_tokens.proofs.Messages.{AllFollow, fair_answered}
-use Rattle.rbc_tokens.proofs.Frames.{AllWaitHome, fair_received, fair_section_set, fair_section_unset}
+use Rattle.rbc_tokens.proofs.Frames.{AllWaitHome, fair_received}
+use Rattle.rbc_tokens.proofs.Interlocking.{fair_section_set, fair_section_unset}
 
 -- the clock, and how many frames were taken, say nothing of what has its place at a centre
 pub same_place : (line : Line) (c d stamp : ℕ) (taken : ℕ → ℕ) (k : Centre) (body : Body) → has_place_for line c d k body ≡ has_place_for line c d (record k { clock = stamp; taken = taken }) body
