@@ -18,7 +18,8 @@ use Rattle.rbc_flow.specs.Counts.{lent, pool_has}
 use Rattle.rbc_flow.specs.Sound.{IsCentreSound}
 use Rattle.rbc_lemmas.proofs.Puts.{itself}
 use Rattle.rbc_flow.proofs.Begins.{no_use}
-use Rattle.rbc_tokens.proofs.Tally.{Tally, IsTally, MayYield, is_plain, train_of, wait_of, mission_of, part, gone}
+use Rattle.rbc_tokens.specs.Stray.{is_plain, train_of}
+use Rattle.rbc_tokens.proofs.Tally.{Tally, IsTally, MayYield, wait_of, mission_of, part, gone}
 use Rattle.rbc_tokens.proofs.Ready.{Ready}
 use Rattle.rbc_tokens.proofs.Rights.{no_number}
 use Rattle.rbc_tokens.proofs.Tokens.{used_once}
@@ -66,6 +67,7 @@ lent_tally line c t s d = record {
   away = one_if ((c == d) && not (is_home line c s));
   entry = λ e. one_if (is_home line c s && is_out_for t d e);
   names = true;
+  exact = false;
 }
 
 module _ (line : Line) (ordered : IsOrdered line) (c t s d : ℕ) where
@@ -245,6 +247,7 @@ module _ (line : Line) (ordered : IsOrdered line) (c t s d : ℕ) where
     comes_home = λ a r e g home is out. omega (arith, named r (a == d) is, out_less a e out);
     yields = λ to number heard has_data is_ended place hand e may. yields to hand e may;
     takes = λ a number heard has_data is_ended place hand e. takes a hand e;
+    back = λ so. cc;
   }
 
   -- a sound centre may yield
@@ -254,4 +257,5 @@ module _ (line : Line) (ordered : IsOrdered line) (c t s d : ℕ) where
     apart = λ so m h is stands same.
         let next : next_centre line c m.place.track ≡ Some c = (sound.mission t m is).handing_to h stands ∙ ap (λ (x : ℕ). Some x) same in
         let wrong : true ≡ false = sym (itself c) ∙ sym (ap (has (λ n. n == c)) next) ∙ near.onward c c m.place.track next in cc;
+    stands = λ so m is. cc;
   }

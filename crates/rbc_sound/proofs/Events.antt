@@ -39,7 +39,7 @@ none_from (Some x) is = cc
 none_from None is = refl
 
 -- linked centres are two
-linked_apart : (line : Line) (c d : ℕ) → is_linked line c d ≡ true → (is_centre line d ≡ true) × (c ≢ d)
+pub linked_apart : (line : Line) (c d : ℕ) → is_linked line c d ≡ true → (is_centre line d ≡ true) × (c ≢ d)
 linked_apart line c d linked =
     let ends = and_parts (is_centre line c && is_centre line d) (not (c == d)) (and_parts ((is_centre line c && is_centre line d) && not (c == d)) _ linked).0 in
     ((and_parts (is_centre line c) (is_centre line d) ends.0).1, λ same. both_ways (c == d) (not-true (c == d) ends.1) (eq-eqb c d same))

@@ -12,20 +12,31 @@ use Rattle.rbc_spec.specs.Acts.{rest, ◌>>◌, leave, set_mission, change_missi
 use Rattle.rbc_spec.specs.Rules.{cleared, clear, report_here, cut}
 use Rattle.rbc_spec.specs.Links.{claimed}
 use Rattle.rbc_local.specs.Local.{hand_has}
-use Rattle.rbc_lemmas.proofs.Runs.{within_true, within_behind, within_part_before, within_part_from}
+use Rattle.rbc_laws.proofs.Places.{placed_on}
+use Rattle.rbc_lemmas.proofs.Runs.{none_within, within_true, within_behind, within_part_before, within_part_from}
 use Rattle.rbc_tokens.proofs.Tally.{Tally}
 use Rattle.rbc_tokens.proofs.Ready.{Ready, Leaves, ready_changed, ready_left, ready_cancel, ready_closed}
 use Rattle.rbc_tokens.proofs.Parts.{Follows, out_of_joined, tail_follows}
 
 module _ (line : Line) (c : ℕ) (y : Tally) where
-  ready_clear : (t : ℕ) (m : Mission) (place : Place) (k : Centre) → k.mission t ≡ Some m → Ready line c y k → Ready line c y (clear line c t m place k).state
-  ready_clear t m place k has ready = by_count ((cleared line place m).count == m.hand.count)
+  ready_clear : (t : ℕ) (m : Mission) (place : Place) (k : Centre) → k.mission t ≡ Some m → place.track ≡ m.place.track → Ready line c y k → Ready line c y (clear line c t m place k).state
+  ready_clear t m place k has same ready = by_count ((cleared line place m).count == m.hand.count)
     where
       left : Leaves line c y k t (cleared line place m) (record m { place = place; hand = part_from (behind (cleared line place m)) m.hand })
       left = record {
         hand = λ in_rest home. let both = and_parts (within m.hand y.section) (nat_le (behind (cleared line place m)) y.section) (sym (within_part_from m.hand (behind (cleared line place m)) y.section) ∙ in_rest) in
             (ap (λ o. hand_has o y.section) has ∙ both.0, within_behind (cleared line place m) y.section (leb-true (behind (cleared line place m)) y.section both.1));
         way = λ h stands. (m, has, stands);
+        less = (
+          m,
+          has,
+          record {
+            track = same;
+            hand = λ in_rest. (and_parts (within m.hand y.section) (nat_le (behind (cleared line place m)) y.section) (sym (within_part_from m.hand (behind (cleared line place m)) y.section) ∙ in_rest)).0;
+            pool = λ is. is;
+          },
+          (λ h is. (h, is, refl)),
+        );
       }
 
       some_left : (o n : Mission) → ◌≡◌ {A = Option Mission} (Some o) (Some n) → o ≡ n
@@ -38,13 +49,13 @@ module _ (line : Line) (c : ℕ) (y : Tally) where
           (λ n same. subst (Leaves line c y k t (cleared line place m)) (some_left _ n same) left) ready
 
   pub ready_report_here : (t : ℕ) (position : Position) (m : Mission) (k : Centre) → k.mission t ≡ Some m → Ready line c y k → Ready line c y (report_here line c t position m k).state
-  ready_report_here t position m k has ready = by_place (place_on line m.place.track position)
+  ready_report_here t position m k has ready = by_place (place_on line m.place.track position) refl
     where
-      by_place : (o : Option Place) → Ready line c y (option_map_or (clear line c t m) o rest k).state
-      by_place None = ready
-      by_place (Some place) = ready_clear t m place k has ready
+      by_place : (o : Option Place) → place_on line m.place.track position ≡ o → Ready line c y (option_map_or (clear line c t m) o rest k).state
+      by_place None at = ready
+      by_place (Some place) at = ready_clear t m place k has (placed_on line m.place.track position place at).track_is ready
 
-  ready_reported : (t : ℕ) (position : Position) (k : Centre) → Ready line c y k → Ready line c y (with_mission t (report_here line c t position) k).state
+  pub ready_reported : (t : ℕ) (position : Position) (k : Centre) → Ready line c y k → Ready line c y (with_mission t (report_here line c t position) k).state
   ready_reported t position k ready = by_mission (k.mission t) refl
     where
       by_mission : (o : Option Mission) → k.mission t ≡ o → Ready line c y (option_map_or (λ m. report_here line c t position m k) o (rest k)).state
@@ -57,8 +68,8 @@ module _ (line : Line) (c : ℕ) (y : Tally) where
     where
       by_mission : (o : Option Mission) → Ready line c y (option_map_or (λ m. (return_pool line c t m >> change_mission t (λ n. record n { is_ended = true; proposal = None })) k) o (rest k)).state
       by_mission None = ready
-      by_mission (Some m) = ready_changed line c y t (λ n. record n { is_ended = true; proposal = None }) (change_mission t (λ n. record n { pool = no_run }) k).state (λ n. refl) (λ n h is. (h, is, refl))
-          (ready_changed line c y t (λ n. record n { pool = no_run }) k (λ n. refl) (λ n h is. (h, is, refl)) ready)
+      by_mission (Some m) = ready_changed line c y t (λ n. record n { is_ended = true; proposal = None }) (change_mission t (λ n. record n { pool = no_run }) k).state (λ n. refl) (λ n h is. (h, is, refl)) (λ n. record { track = refl; hand = λ is. is; pool = λ is. is })
+          (ready_changed line c y t (λ n. record n { pool = no_run }) k (λ n. refl) (λ n h is. (h, is, refl)) (λ n. record { track = refl; hand = λ is. is; pool = λ is. absurd (let wrong : false ≡ true = sym (none_within y.section) ∙ is in cc) }) ready)
 
   pub ready_end : (t : ℕ) (position : Position) (k : Centre) → Ready line c y k
       → Ready line c y ((with_mission t (report_here line c t position) >> with_mission t (λ m. return_pool line c t m >> change_mission t (λ n. record n { is_ended = true; proposal = None }))) k).state
@@ -99,6 +110,12 @@ module _ (line : Line) (c : ℕ) (y : Tally) where
       left = record {
         hand = λ kept home. let both = kept_apart last_kept m follows kept in (ap (λ o. hand_has o y.section) has ∙ both.0, both.1);
         way = λ h stands. (record m { proposal = None }, has, stands);
+        less = (
+          record m { proposal = None },
+          has,
+          record { track = refl; hand = λ kept. (kept_apart last_kept m follows kept).0; pool = λ is. absurd (let wrong : false ≡ true = sym (none_within y.section) ∙ is in cc) },
+          (λ h is. (h, is, refl)),
+        );
       }
 
       some_left : (o n : Mission) → ◌≡◌ {A = Option Mission} (Some o) (Some n) → o ≡ n
@@ -132,7 +149,7 @@ module _ (line : Line) (c : ℕ) (y : Tally) where
       middle = (change_mission t (λ n. record n { proposal = None }) k).state
 
       now : Ready line c y middle
-      now = ready_changed line c y t (λ n. record n { proposal = None }) k (λ n. refl) (λ n h is. (h, is, refl)) ready
+      now = ready_changed line c y t (λ n. record n { proposal = None }) k (λ n. refl) (λ n h is. (h, is, refl)) (λ n. record { track = refl; hand = λ is. is; pool = λ is. is }) ready
 
       still : middle.mission t ≡ Some (record m { proposal = None })
       still = put_same k.mission t (option_map {T = Mission} {U = Mission} (λ n. record n { proposal = None }) (k.mission t)) ∙ ap (option_map {T = Mission} {U = Mission} (λ n. record n { proposal = None })) has
@@ -148,7 +165,7 @@ module _ (line : Line) (c : ℕ) (y : Tally) where
   -- ## A claim
 
   pub ready_claimed : (t d number : ℕ) (k : Centre) → Ready line c y k → Ready line c y (change_mission t (claimed d number) k).state
-  ready_claimed t d number k ready = ready_changed line c y t (claimed d number) k (λ m. refl) (λ m h is. by_handing m.handing refl h is) ready
+  ready_claimed t d number k ready = ready_changed line c y t (claimed d number) k (λ m. refl) (λ m h is. by_handing m.handing refl h is) (λ m. record { track = refl; hand = λ is. is; pool = λ is. is }) ready
     where
       to_same : (b : Bool) (g h : Handing) → ◌≡◌ {A = Option Handing} (Some (if b then record g { is_claimed = true } else g)) (Some h) → g.to ≡ h.to
       to_same true g h is = let same : record g { is_claimed = true } ≡ h = cc in ap (λ x. x.to) same

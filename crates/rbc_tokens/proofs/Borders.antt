@@ -1,7 +1,7 @@
 -- Hands that are extended, and what follows at a border.
-use Rattle.std.proofs.Common.{◌≡◌, ℕ, ◌+◌, ◌-◌, ◌≤◌, ◌&&◌, ◌||◌, not, Bool, true, false, if◌then◌else◌, min, nat_lt, nat_le, is_none, Option, Some, None, refl, sym, ap, ◌∙◌, subst, arith}
+use Rattle.std.proofs.Common.{◌≡◌, ⊎_elim, inl, inr, ◌<◌, ℕ, ◌+◌, ◌-◌, ◌≤◌, ◌&&◌, ◌||◌, not, Bool, true, false, if◌then◌else◌, min, nat_lt, nat_le, is_none, Option, Some, None, refl, sym, ap, ◌∙◌, subst, arith}
 use Rattle.std.specs.Option.{option_map_or}
-use Rattle.std.proofs.lemmas.Bool.{and_parts, leb-true, eqb-true}
+use Rattle.std.proofs.lemmas.Bool.{and_parts, and_from, cases_lt, le-leb, leb-true, eqb-true}
 use Rattle.rbc_spec.specs.Maps.{put}
 use Rattle.rbc_spec.specs.Reach.{Reach, lends_routes, hands_over}
 use Rattle.rbc_spec.specs.SectionRuns.{SectionRun, most_in_hand, within, behind, is_empty, part_from}
@@ -14,12 +14,12 @@ use Rattle.rbc_spec.specs.Frame.{Announce, RouteAsk}
 use Rattle.rbc_spec.specs.Centre.{Centre, Entry, Taken, Mission, is_open, is_free}
 use Rattle.rbc_spec.specs.Acts.{rest, become, ◌>>◌, send, say, booked, set_mission, change_mission, part_at, announce, ask_route, may_propose, propose, propose_if_so}
 use Rattle.rbc_spec.specs.Rules.{authority, may_follow, extension, extended_by, announce_if_due, ask_route_if_due, at_border, grant, request}
-use Rattle.rbc_lemmas.proofs.Runs.{within_true, within_part_from}
+use Rattle.rbc_lemmas.proofs.Runs.{within_true, within_from, within_part_from}
 use Rattle.rbc_lemmas.proofs.Longest.{longest_is}
-use Rattle.rbc_tokens.proofs.Tally.{Tally, IsTally, part, whole, mission_of, fair_rest, fair_then, fair_both, eased, fair_if, fair_or, fair_set, fair_change, fair_booked, fair_say, fair_plain, mission_put}
-use Rattle.rbc_tokens.proofs.Parts.{from_part, joined_part}
+use Rattle.rbc_tokens.proofs.Tally.{Tally, IsTally, part, whole, mission_of, fair_rest, fair_then, fair_both, eased, fair_if, fair_or, fair_set, fair_change, fair_booked, fair_say, fair_plain, mission_put, mission_back}
+use Rattle.rbc_tokens.proofs.Parts.{Follows, open_unused, from_part, joined_part, joined_back, covered_parts}
 use Rattle.rbc_tokens.proofs.Leaving.{Makes, sends_plain}
-use Rattle.rbc_tokens.proofs.Starts.{open_unused, booked_open}
+use Rattle.rbc_tokens.proofs.Starts.{booked_open, booked_back}
 
 module _ (line : Line) (c : ℕ) (y : Tally) (is : IsTally line c y) where
   -- ## Proposals
@@ -128,14 +128,30 @@ module _ (line : Line) (c : ℕ) (y : Tally) (is : IsTally line c y) where
         by_tests true in_hand true home false opened false in_pool = absurd (let wrong : false ≡ true = sym (ap (λ z. (z && is_open (k.book y.section)) || within m.pool y.section) home ∙ ap (λ z. z || within m.pool y.section) opened ∙ in_pool) ∙ follows in_hand in cc)
         by_tests true in_hand false home o opened false in_pool = absurd (let wrong : false ≡ true = sym (ap (λ z. (z && is_open (k.book y.section)) || within m.pool y.section) home ∙ in_pool) ∙ follows in_hand in cc)
 
+    -- what was in the pool is in the hand's extension, or is left in the pool
+    pool_back : Follows m → part y m.pool ≤ part y r + part y pool_left
+    pool_back behind_hand = by_empty (is_empty m.pool) refl
+      where
+        by_empty : (b : Bool) → is_empty m.pool ≡ b → part y m.pool ≤ part y r + part y (if b then m.pool else part_from (behind r) m.pool)
+        by_empty true none = omega arith
+        by_empty false some = covered_parts y r (part_from (behind r) m.pool) m.pool (λ in_pool. ⊎_elim
+            (λ (low : y.section < behind r). inl (within_from r y.section (omega (arith, (within_true m.pool y.section in_pool).0, behind_hand some)) low))
+            (λ (high : behind r ≤ y.section). inr (within_part_from m.pool (behind r) y.section ∙ and_from (within m.pool y.section) (nat_le (behind r) y.section) in_pool (le-leb (behind r) y.section high)))
+            (cases_lt y.section (behind r)))
+
+    granted_back : y.exact ≡ true → Follows m → mission_of y (k.mission t) ≡ whole y m.hand m.pool
+        → y.entry (if within r y.section && is_open e then Taken t else e) + mission_of y (k.mission y.train) ≤ y.entry e + mission_of y (put k.mission t (Some (extended_by r m)) y.train)
+    granted_back so behind_hand has = mission_back line c y k t (Some (extended_by r m)) (y.entry e) (y.entry (if within r y.section && is_open e then Taken t else e))
+        (λ here. omega (arith, has, pool_back behind_hand, booked_back line c y is so (Taken t) r e refl, joined_back y m.hand r (λ some more. refl))) (λ other. booked_back line c y is so (Taken t) r e refl)
+
     granted_law : mission_of y (k.mission t) ≡ whole y m.hand m.pool
         → y.entry e + mission_of y (put k.mission t (Some (extended_by r m)) y.train) ≤ y.entry (if within r y.section && is_open e then Taken t else e) + mission_of y (k.mission y.train)
     granted_law has = mission_put line c y k t (Some (extended_by r m)) (y.entry e) (y.entry (if within r y.section && is_open e then Taken t else e))
         (λ here. omega (arith, has, extended here, joined_part y m.hand r (λ some more. refl))) (λ other. booked_open line c y is (Taken t) r e)
 
-  pub fair_grant : (reach : Reach) (t : ℕ) (m : Mission) (k : Centre) → mission_of y (k.mission t) ≡ whole y m.hand m.pool → Makes line c y is k (grant reach line c t m k)
+  pub fair_grant : (reach : Reach) (t : ℕ) (m : Mission) (k : Centre) → mission_of y (k.mission t) ≡ whole y m.hand m.pool → Follows m → Makes line c y is k (grant reach line c t m k)
   unfolding ◌>>◌
-  fair_grant reach t m k has = eased line c y 0 0 k (grant reach line c t m k) (omega (arith, granted_law t m k has))
+  fair_grant reach t m k has behind_hand = eased line c y 0 0 k (grant reach line c t m k) (omega (arith, granted_law t m k has)) (λ so. omega (arith, granted_back t m k so behind_hand has))
       (fair_then line c y ((booked is_open (Taken t) more >> set_mission t (Some (extended_by more m))) >> say t m.place.group (Authority (authority line (extended_by more m))))
       (if lends_routes reach then option_map_or (at_border reach line c t) (next_centre line c m.place.track) rest else rest) k
       (fair_then line c y (booked is_open (Taken t) more >> set_mission t (Some (extended_by more m))) (say t m.place.group (Authority (authority line (extended_by more m)))) k
@@ -151,9 +167,9 @@ module _ (line : Line) (c : ℕ) (y : Tally) (is : IsTally line c y) where
       by_reach true (Some d) j = fair_border reach t d j
       by_reach false o j = fair_rest line c y j
 
-  pub fair_request : (reach : Reach) (t : ℕ) (position : Position) (k : Centre) → Makes line c y is k (request reach line c t position k)
-  fair_request reach t position k = fair_or line c y (k.mission t) _ k (rest k) (λ m has. at_place m has (place_on line m.place.track position)) (λ none. fair_rest line c y k)
+  pub fair_request : (reach : Reach) (t : ℕ) (position : Position) (k : Centre) → ((m : Mission) → k.mission t ≡ Some m → Follows m) → Makes line c y is k (request reach line c t position k)
+  fair_request reach t position k all = fair_or line c y (k.mission t) _ k (rest k) (λ m has. at_place m has (place_on line m.place.track position)) (λ none. fair_rest line c y k)
     where
       at_place : (m : Mission) → k.mission t ≡ Some m → (o : Option Place) → Makes line c y is k (option_map_or (λ place. grant reach line c t (record m { place = place })) o rest k)
       at_place m has None = fair_rest line c y k
-      at_place m has (Some place) = fair_grant reach t (record m { place = place }) k (ap (mission_of y) has)
+      at_place m has (Some place) = fair_grant reach t (record m { place = place }) k (ap (mission_of y) has) (all m has)

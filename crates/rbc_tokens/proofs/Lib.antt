@@ -6,7 +6,10 @@ pub mod Leaving
 pub mod Starts
 pub mod Borders
 pub mod Messages
+pub mod Comes
+pub mod Routes
 pub mod Frames
+pub mod Interlocking
 pub mod Steps
 pub mod Homes
 pub mod Rights

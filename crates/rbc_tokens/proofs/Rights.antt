@@ -16,14 +16,15 @@ use Rattle.rbc_flow.specs.Flow.{centre_count}
 use Rattle.rbc_flow.specs.Counts.{rights}
 use Rattle.rbc_lemmas.proofs.Puts.{itself}
 use Rattle.rbc_tokens.proofs.Ready.{Ready}
-use Rattle.rbc_tokens.proofs.Tally.{Tally, IsTally, is_plain, train_of, wait_of, mission_of}
+use Rattle.rbc_tokens.specs.Stray.{is_plain, train_of}
+use Rattle.rbc_tokens.proofs.Tally.{Tally, IsTally, wait_of, mission_of}
 
 pub no_number : (b : Bool) → ◌≡◌ {A = ℕ} (if b then 0 else 0) 0
 no_number true = refl
 no_number false = refl
 
 abbrev pub rights_tally : Line → ℕ → ℕ → Tally
-rights_tally line c t = record { res = rights line t; train = t; section = 0; one = 1; weight = 0; waiting = 0; away = 0; entry = λ e. one_if (is_registrar_of line c t); names = false }
+rights_tally line c t = record { res = rights line t; train = t; section = 0; one = 1; weight = 0; waiting = 0; away = 0; entry = λ e. one_if (is_registrar_of line c t); names = false; exact = false }
 
 module _ (line : Line) (c t : ℕ) where
   no_wait : (o : Option Place) → wait_of line (rights_tally line c t) o ≡ 0
@@ -92,8 +93,9 @@ module _ (line : Line) (c t : ℕ) where
     comes_home = λ a r e g home in_run out. omega arith;
     yields = λ to number heard has_data is_ended place hand e may. omega (arith, one_if_le_one (t == t));
     takes = λ a number heard has_data is_ended place hand e. omega (arith, one_if_true (t == t) (itself t), no_number (within hand 0));
+    back = λ so. cc;
   }
 
   -- no name is counted
   pub rights_ready : (k : Centre) → Ready line c (rights_tally line c t) k
-  rights_ready k = record { claims = λ so has home. cc; apart = λ so m h is stands. cc }
+  rights_ready k = record { claims = λ so has home. cc; apart = λ so m h is stands. cc; stands = λ so m is. cc }

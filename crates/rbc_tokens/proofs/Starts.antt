@@ -11,22 +11,16 @@ use Rattle.rbc_spec.specs.Line.{Line, is_home, registrar}
 use Rattle.rbc_spec.specs.Place.{Place, Position, covered, fit_place}
 use Rattle.rbc_spec.specs.Message.{unknown_group, TrainAccepted, TrainRejected}
 use Rattle.rbc_spec.specs.Frame.{AskRight}
-use Rattle.rbc_spec.specs.Centre.{Centre, Entry, Shut, Open, Taken, Out, Mission, Closed, is_open, is_unused, is_taken_for, is_free, is_registrar_of}
+use Rattle.rbc_spec.specs.Centre.{Centre, Entry, Shut, Open, Taken, Mission, Closed, is_open, is_taken_for, is_free, is_registrar_of}
 use Rattle.rbc_spec.specs.Acts.{Reply, rest, become, ◌>>◌, where_so, with_some, send, booked, freed, set_mission, change_mission, return_right, begun}
 use Rattle.rbc_spec.specs.Rules.{choose, drop_wait, set_phase, close_session, accept, reject, restart, begin, start_here, start_waiting, start_new, start_mission}
 use Rattle.rbc_spec.specs.Links.{answered_ask, right_given, right_refused}
+use Rattle.rbc_lemmas.proofs.Lists.{none_is}
 use Rattle.rbc_lemmas.proofs.Runs.{each_within}
 use Rattle.rbc_flow.specs.Flow.{centre_count}
-use Rattle.rbc_tokens.proofs.Tally.{Tally, IsTally, Fair, right_of, wait_of, start_of, part, mission_of, back, fair_rest, fair_then, fair_both, eased, fair_if, fair_or, fair_set, fair_change, fair_booked, fair_freed, fair_say, fair_plain, mission_put}
-use Rattle.rbc_tokens.proofs.Parts.{none_part, freed_other}
-use Rattle.rbc_tokens.proofs.Leaving.{Makes, back_own, back_other, sends_plain, fair_return_right}
-
--- an entry that is open is in no use
-pub open_unused : (e : Entry) → is_open e ≡ true → is_unused e ≡ true
-open_unused Shut h = refl
-open_unused Open h = refl
-open_unused (Taken t) h = cc
-open_unused (Out t d) h = cc
+use Rattle.rbc_tokens.proofs.Tally.{Tally, IsTally, HasRegistrar, Fair, right_of, wait_of, start_of, part, mission_of, back, is_away, alike, fair_rest, fair_then, fair_both, eased, fair_if, fair_or, fair_set, fair_change, fair_booked, fair_freed, fair_say, fair_plain, mission_put, mission_back}
+use Rattle.rbc_tokens.proofs.Parts.{open_unused, open_here, none_part, freed_other, freed_back}
+use Rattle.rbc_tokens.proofs.Leaving.{Makes, back_own, back_other, back_le, sends_plain, fair_return_right}
 
 module _ (line : Line) (c : ℕ) (y : Tally) (is : IsTally line c y) where
   -- open sections come into use for some train
@@ -37,6 +31,23 @@ module _ (line : Line) (c : ℕ) (y : Tally) (is : IsTally line c y) where
       by_tests false o opened = omega arith
       by_tests true false opened = omega arith
       by_tests true true opened = is.unused e g (open_unused e opened)
+
+  pub booked_back : y.exact ≡ true → (g : Entry) (r : SectionRun) (e : Entry) → is_away y.train g ≡ false → y.entry (if within r y.section && is_open e then g else e) ≤ y.entry e
+  booked_back so g r e is_here = by_tests (within r y.section) (is_open e) refl
+    where
+      by_tests : (w o : Bool) → is_open e ≡ o → y.entry (if w && o then g else e) ≤ y.entry e
+      by_tests false o opened = omega arith
+      by_tests true false opened = omega arith
+      by_tests true true opened = (is.back so).here g e is_here (open_here y.train e opened)
+
+  -- where what is lost is counted, a start that waits counts nothing: its sections are counted at home
+  no_waits : y.exact ≡ true → (o : Option Place) → wait_of line y o ≡ 0
+  no_waits so None = refl
+  no_waits so (Some place) = by_within (within (covered line place) y.section)
+    where
+      by_within : (b : Bool) → (if b then y.waiting else 0) ≡ 0
+      by_within true = (is.back so).waiting
+      by_within false = refl
 
   -- the sections that a start may begin in: all of home, and open
   abbrev AllOpen : SectionRun → Entry → Type 0
@@ -64,7 +75,7 @@ module _ (line : Line) (c : ℕ) (y : Tally) (is : IsTally line c y) where
 
   -- ## At the registrar
 
-  right_taken : (t : ℕ) (k : Centre) → k.has_right t ≡ true → right_of y (put k.has_right t false y.train) + back y t ≤ right_of y (k.has_right y.train)
+  right_taken : (t : ℕ) (k : Centre) → k.has_right t ≡ true → right_of y (put k.has_right t false y.train) + back y t ≡ right_of y (k.has_right y.train)
   right_taken t k has = ⊎_elim
       (λ (here : y.train ≡ t). omega (
         arith,
@@ -75,7 +86,7 @@ module _ (line : Line) (c : ℕ) (y : Tally) (is : IsTally line c y) where
       (λ (other : y.train ≢ t). omega (arith, ap (right_of y) (put_other k.has_right t false y.train other), back_other line c y is t (λ e. other (sym e)))) (cases_eq y.train t)
 
   pub fair_right_taken : (t : ℕ) (k : Centre) → k.has_right t ≡ true → Fair line c y k 0 (back y t) (become (λ j. record j { has_right = put j.has_right t false }) k)
-  fair_right_taken t k has = record { law = omega (arith, right_taken t k has, sent_none y.res (centre_count line) c) }
+  fair_right_taken t k has = alike line c y k 0 (back y t) _ (omega (arith, right_taken t k has, sent_none y.res (centre_count line) c))
 
   begun_law : (t : ℕ) (place : Place) (k : Centre) → AllOpen (covered line place) (k.book y.section)
       → y.entry (k.book y.section) + mission_of y (put k.mission t (Some (begun line place)) y.train)
@@ -85,16 +96,24 @@ module _ (line : Line) (c : ℕ) (y : Tally) (is : IsTally line c y) where
       (λ here. omega (arith, (booked_start t (covered line place) (k.book y.section) here free).0, none_part y, ap (back y) here ∙ back_own line c y is))
       (λ other. omega (arith, booked_open (Taken t) (covered line place) (k.book y.section)))
 
-  pub fair_start_here : (t : ℕ) (place : Place) (k : Centre) → AllOpen (covered line place) (k.book y.section) → Makes line c y is k (start_here line t place k)
+  begun_back : y.exact ≡ true → (t : ℕ) (place : Place) (k : Centre) → k.mission t ≡ None
+      → (y.entry (if within (covered line place) y.section && is_open (k.book y.section) then Taken t else k.book y.section) + back y t) + mission_of y (k.mission y.train)
+      ≤ y.entry (k.book y.section) + mission_of y (put k.mission t (Some (begun line place)) y.train)
+  begun_back so t place k none = mission_back line c y k t (Some (begun line place)) (y.entry (k.book y.section))
+      (y.entry (if within (covered line place) y.section && is_open (k.book y.section) then Taken t else k.book y.section) + back y t)
+      (λ here. omega (arith, booked_back so (Taken t) (covered line place) (k.book y.section) refl, back_le line c y is t, ap (mission_of y) none))
+      (λ other. omega (arith, booked_back so (Taken t) (covered line place) (k.book y.section) refl, back_other line c y is t other))
+
+  pub fair_start_here : (t : ℕ) (place : Place) (k : Centre) → AllOpen (covered line place) (k.book y.section) → k.mission t ≡ None → Makes line c y is k (start_here line t place k)
   unfolding ◌>>◌
-  fair_start_here t place k free = by_right (k.has_right t) refl
+  fair_start_here t place k free none = by_right (k.has_right t) refl
     where
       middle : Centre
       middle = (booked is_open (Taken t) (covered line place) k).state
 
       by_right : (b : Bool) → k.has_right t ≡ b
           → Makes line c y is k (if b then ((booked is_open (Taken t) (covered line place) >> become (λ j. record j { has_right = put j.has_right t false })) >> begin line t place) k else reject t k)
-      by_right true has = eased line c y 0 0 k _ (omega (arith, begun_law t place k free))
+      by_right true has = eased line c y 0 0 k _ (omega (arith, begun_law t place k free)) (λ so. omega (arith, begun_back so t place k none))
           (fair_then line c y (booked is_open (Taken t) (covered line place) >> become (λ j. record j { has_right = put j.has_right t false })) (begin line t place) k
           (fair_then line c y (booked is_open (Taken t) (covered line place)) (become (λ j. record j { has_right = put j.has_right t false })) k
           (fair_booked line c y is_open (Taken t) (covered line place) k) (fair_right_taken t middle has))
@@ -104,7 +123,7 @@ module _ (line : Line) (c : ℕ) (y : Tally) (is : IsTally line c y) where
   -- ## Elsewhere
 
   pub fair_wait : (t : ℕ) (o : Option Place) (k : Centre) → Fair line c y k (wait_of line y (put k.wait t o y.train)) (wait_of line y (k.wait y.train)) (become (λ j. record j { wait = put j.wait t o }) k)
-  fair_wait t o k = record { law = omega (arith, sent_none y.res (centre_count line) c) }
+  fair_wait t o k = alike line c y k _ _ (become (λ j. record j { wait = put j.wait t o }) k) (omega (arith, sent_none y.res (centre_count line) c))
 
   wait_put : (k : Centre) (t : ℕ) (o : Option Place) (x z : ℕ) → (t ≡ y.train → x + wait_of line y o ≤ z + wait_of line y (k.wait t)) → (t ≢ y.train → x ≤ z)
       → x + wait_of line y (put k.wait t o y.train) ≤ z + wait_of line y (k.wait y.train)
@@ -127,6 +146,7 @@ module _ (line : Line) (c : ℕ) (y : Tally) (is : IsTally line c y) where
             (λ here. omega (arith, (booked_start t (covered line place) (k.book y.section) here free).1))
             (λ other. omega (arith, booked_open (Taken t) (covered line place) (k.book y.section))),
       ))
+      (λ so. omega (arith, no_waits so (put k.wait t (Some place) y.train), no_waits so (k.wait y.train), booked_back so (Taken t) (covered line place) (k.book y.section) refl))
       (fair_then line c y (booked is_open (Taken t) (covered line place) >> become (λ j. record j { wait = put j.wait t (Some place) })) (where_so (λ j. not (j.has_asked t)) asks) k
       (fair_then line c y (booked is_open (Taken t) (covered line place)) (become (λ j. record j { wait = put j.wait t (Some place) })) k
       (fair_booked line c y is_open (Taken t) (covered line place) k) (fair_wait t (Some place) (booked is_open (Taken t) (covered line place) k).state))
@@ -167,6 +187,7 @@ module _ (line : Line) (c : ℕ) (y : Tally) (is : IsTally line c y) where
             wait_put k t None (y.entry (k.book y.section)) (y.entry ((freed line c (is_taken_for t) (covered line place) k).state.book y.section))
                 (λ here. omega (arith, here_law place here, ap (wait_of line y) waits)) (λ other. omega (arith, freed_other line c y is t (covered line place) k other)),
           ))
+          (λ so. omega (arith, no_waits so (put k.wait t None y.train), no_waits so (k.wait y.train), freed_back line c y is so t (covered line place) k))
           (fair_then line c y (freed line c (is_taken_for t) (covered line place)) (become (λ j. record j { wait = put j.wait t None })) k
           (fair_freed line c y (is_taken_for t) (covered line place) k) (fair_wait t None (freed line c (is_taken_for t) (covered line place) k).state))
 
@@ -196,12 +217,25 @@ module _ (line : Line) (c : ℕ) (y : Tally) (is : IsTally line c y) where
       in_start true at = is.waits (at refl)
       in_start false at = omega arith
 
-  pub fair_given : (t : ℕ) (k : Centre) → WaitsHome t k → Fair line c y k (back y t) 0 (right_given line c t k)
+  admitted_back : y.exact ≡ true → (t : ℕ) (place : Place) (k : Centre) → k.mission t ≡ None
+      → (wait_of line y (k.wait y.train) + back y t) + mission_of y (k.mission y.train) ≤ wait_of line y (put k.wait t None y.train) + mission_of y (put k.mission t (Some (begun line place)) y.train)
+  admitted_back so t place k none = mission_back line c y k t (Some (begun line place)) (wait_of line y (put k.wait t None y.train)) (wait_of line y (k.wait y.train) + back y t)
+      (λ here. omega (arith, no_waits so (k.wait y.train), back_le line c y is t, ap (mission_of y) none)) (λ other. omega (arith, no_waits so (k.wait y.train), back_other line c y is t other))
+
+  -- where what is lost is counted, a right that comes was asked for; and it is not here already, and has a registrar
+  abbrev pub IsAskedFor : ℕ → Centre → Type 0
+  IsAskedFor t k = y.exact ≡ true → t ≡ y.train → (k.has_asked t ≡ true) × (k.has_right y.train ≡ false) × HasRegistrar line y.train
+
+  pub fair_given : (t : ℕ) (k : Centre) → WaitsHome t k → IsAskedFor t k → Fair line c y k (back y t) 0 (right_given line c t k)
   unfolding ◌>>◌
-  fair_given t k home = fair_if line c y (k.has_asked t) k _ (rest k)
-      (λ so. eased line c y (back y t) 0 k _ (omega arith) (fair_then line c y (answered_ask t) answers k (fair_plain line c y k _ refl refl refl) (chosen (is_some (k.wait t) && is_none (k.mission t)))))
-      (λ so. eased line c y (back y t) 0 k (rest k) (omega arith) (fair_rest line c y k))
+  fair_given t k home asked = fair_if line c y (k.has_asked t) k _ (rest k)
+      (λ so. eased line c y (back y t) 0 k _ (omega arith) (λ exact. omega arith)
+      (fair_then line c y (answered_ask t) answers k (fair_plain line c y k _ refl refl refl) (chosen (is_some (k.wait t)) refl (is_none (k.mission t)) refl)))
+      (λ so. eased line c y (back y t) 0 k (rest k) (omega arith) (λ exact. omega (arith, not_asked exact so)) (fair_rest line c y k))
     where
+      not_asked : y.exact ≡ true → k.has_asked t ≡ false → back y t ≡ 0
+      not_asked exact so = ⊎_elim (λ (here : t ≡ y.train). absurd (let wrong : true ≡ false = sym (asked exact here).0 ∙ so in cc)) (back_other line c y is t) (cases_eq t y.train)
+
       begins : Centre → Reply
       begins = with_some (λ j. j.wait t) (λ place. become (λ j. record j { wait = put j.wait t None }) >> begin line t place)
 
@@ -211,15 +245,19 @@ module _ (line : Line) (c : ℕ) (y : Tally) (is : IsTally line c y) where
       middle : Centre
       middle = (answered_ask t k).state
 
-      begins_fair : Fair line c y middle (back y t) 0 (begins middle)
-      begins_fair = fair_or line c y (middle.wait t) _ middle (rest middle)
-          (λ place waits. eased line c y (back y t) 0 middle _ (omega (arith, admitted_law t place middle waits home))
+      begins_fair : is_some (k.wait t) ≡ true → k.mission t ≡ None → Fair line c y middle (back y t) 0 (begins middle)
+      begins_fair waiting none = fair_or line c y (middle.wait t) _ middle (rest middle)
+          (λ place waits. eased line c y (back y t) 0 middle _ (omega (arith, admitted_law t place middle waits home)) (λ exact. omega (arith, admitted_back exact t place middle none))
           (fair_then line c y (become (λ j. record j { wait = put j.wait t None })) (begin line t place) middle (fair_wait t None middle) (fair_begin t place (become (λ j. record j { wait = put j.wait t None }) middle).state)))
-          (λ none. eased line c y (back y t) 0 middle (rest middle) (omega arith) (fair_rest line c y middle))
+          (λ missing. absurd (let wrong : true ≡ false = sym waiting ∙ ap is_some missing in cc))
 
-      chosen : (b : Bool) → Fair line c y middle (back y t) 0 (if b then begins middle else return_right line c t middle)
-      chosen true = begins_fair
-      chosen false = fair_return_right line c y is t middle
+      returns : Fair line c y middle (back y t) 0 (return_right line c t middle)
+      returns = fair_return_right line c y is t middle (λ exact here. let may = asked exact here in (may.1, may.2))
+
+      chosen : (b : Bool) → is_some (k.wait t) ≡ b → (n : Bool) → is_none (k.mission t) ≡ n → Fair line c y middle (back y t) 0 (if b && n then begins middle else return_right line c t middle)
+      chosen true waiting true none = begins_fair waiting (none_is (k.mission t) none)
+      chosen true waiting false some = returns
+      chosen false waiting n is_so = returns
 
   pub fair_refused : (t : ℕ) (k : Centre) → Makes line c y is k (right_refused line c t k)
   fair_refused t k = fair_if line c y (k.has_asked t) k _ (rest k)
@@ -238,18 +276,18 @@ module _ (line : Line) (c : ℕ) (y : Tally) (is : IsTally line c y) where
           (fair_change line c y t (λ n. record n { place = place; has_data = false; is_ended = false; proposal = None }) k (λ n. (refl, refl))) (fair_accept t _)
       by_test false = fair_reject t k
 
-  fair_start_new : (reach : Reach) (t : ℕ) (place : Place) (k : Centre) → Makes line c y is k (start_new reach line c t place k)
-  fair_start_new reach t place k = fair_if line c y (all_of (is_free line c k) (covered line place)) k _ (reject t k)
+  fair_start_new : (reach : Reach) (t : ℕ) (place : Place) (k : Centre) → k.mission t ≡ None → Makes line c y is k (start_new reach line c t place k)
+  fair_start_new reach t place k none = fair_if line c y (all_of (is_free line c k) (covered line place)) k _ (reject t k)
       (λ free. at_home (is_registrar_of line c t) (asks_rights reach)
       (λ in_place. and_parts (is_home line c y.section) (is_open (k.book y.section)) (each_within (is_free line c k) (covered line place) free y.section in_place)))
       (λ so. fair_reject t k)
     where
       at_home : (b z : Bool) → AllOpen (covered line place) (k.book y.section) → Makes line c y is k ((if b then start_here line t place else (if z then start_waiting line t place else reject t)) k)
-      at_home true z free = fair_start_here t place k free
+      at_home true z free = fair_start_here t place k free none
       at_home false true free = fair_start_waiting t place k free
       at_home false false free = fair_reject t k
 
   pub fair_start : (reach : Reach) (t : ℕ) (is_valid : Bool) (position : Position) (k : Centre) → Makes line c y is k (start_mission reach line c t is_valid position k)
   fair_start reach t is_valid position k = fair_or line c y (fit_place line is_valid position) _ k (reject t k)
-      (λ place at. fair_or line c y (k.mission t) _ k (start_new reach line c t place k) (λ m has. fair_restart t place m k) (λ none. fair_start_new reach t place k))
+      (λ place at. fair_or line c y (k.mission t) _ k (start_new reach line c t place k) (λ m has. fair_restart t place m k) (λ none. fair_start_new reach t place k none))
       (λ none. fair_reject t k)

@@ -16,7 +16,8 @@ use Rattle.rbc_flow.specs.Counts.{tokens, wait_has, pool_has}
 use Rattle.rbc_lemmas.proofs.Puts.{itself}
 use Rattle.rbc_flow.proofs.Begins.{no_use}
 use Rattle.rbc_tokens.proofs.Ready.{Ready}
-use Rattle.rbc_tokens.proofs.Tally.{Tally, IsTally, is_plain, train_of, wait_of, mission_of, part, gone}
+use Rattle.rbc_tokens.specs.Stray.{is_plain, train_of}
+use Rattle.rbc_tokens.proofs.Tally.{Tally, IsTally, wait_of, mission_of, part, gone}
 use Rattle.rbc_tokens.proofs.Rights.{no_number}
 use Rattle.rbc_tokens.proofs.Homes.{home_goes_once}
 
@@ -56,6 +57,7 @@ tokens_tally line c t s = record {
   away = one_if (not (is_home line c s));
   entry = λ e. one_if (is_home line c s && is_used_for t e);
   names = false;
+  exact = false;
 }
 
 module _ (line : Line) (ordered : IsOrdered line) (c t s : ℕ) where
@@ -151,8 +153,9 @@ module _ (line : Line) (ordered : IsOrdered line) (c t s : ℕ) where
     comes_home = λ a r e g home is out. omega (arith, in_run r is, one_if_le_one (is_home line c s && is_used_for t e));
     yields = λ to number heard has_data is_ended place hand e may. omega (arith, as_part hand, still_used (within hand s && is_taken_for t e) e (Out t to) (λ h. itself t));
     takes = λ a number heard has_data is_ended place hand e. omega (arith, as_part hand, still_used (within hand s && is_out_for t a e) e (Taken t) (λ h. itself t));
+    back = λ so. cc;
   }
 
   -- no name is counted
   pub tokens_ready : (k : Centre) → Ready line c (tokens_tally line c t s) k
-  tokens_ready k = record { claims = λ so has home. cc; apart = λ so m h is stands. cc }
+  tokens_ready k = record { claims = λ so has home. cc; apart = λ so m h is stands. cc; stands = λ so m is. cc }

@@ -1,6 +1,6 @@
 -- What a step of a centre takes in and what it makes, counted.
 use Rattle.std.specs.Prelude.{ℕ}
-use Rattle.rbc_ledger.specs.Resource.{Resource, IsFair}
+use Rattle.rbc_ledger.specs.Resource.{Resource, IsFair, IsExact}
 use Rattle.rbc_spec.specs.Reach.{Reach}
 use Rattle.rbc_spec.specs.Line.{Line}
 use Rattle.rbc_spec.specs.Frame.{Frame, Body}
@@ -27,3 +27,8 @@ done reach line c k event = effect reach line c (ticked (stamp_of k event) k) ev
 abbrev pub IsFairStep : Resource Centre Body → Reach → Line → ℕ → Centre → Event → Type 0
 IsFairStep r reach line c k event =
     IsFair r (centre_count line) c k (came_to line c k event r) (state_after (stamp_of k event) k (done reach line c k event)) (done reach line c k event).reply.frames
+
+-- nor less: what the centre had and what came, it then has or sends, as far as the cap is as it was
+abbrev pub IsExactStep : Resource Centre Body → Reach → Line → ℕ → Centre → Event → Type 0
+IsExactStep r reach line c k event =
+    IsExact r (centre_count line) c k (came_to line c k event r) (state_after (stamp_of k event) k (done reach line c k event)) (done reach line c k event).reply.frames

@@ -1,3 +1,4 @@
+use Rattle.std.proofs.Common.{refl}
 use Rattle.rbc_local.proofs.Ordered.{is_ordered}
 use Rattle.rbc_flow.proofs.Neighbours.{neighbours}
 use Rattle.rbc_tokens.proofs.Steps.{step_fair}
@@ -6,4 +7,4 @@ use Rattle.rbc_lent.proofs.laws.no_step_makes_a_lent_name.Goals as goal
 
 pub returns : goal.returns
 returns ctx reach line c t s d k event ok sound =
-    step_fair line c (lent_tally line c t s d) (lent_counted line (is_ordered line ok) c t s d) reach k event sound (lent_ready line (is_ordered line ok) c t s d (neighbours line ok) k sound)
+    step_fair line c (lent_tally line c t s d) (lent_counted line (is_ordered line ok) c t s d) reach k event sound (lent_ready line (is_ordered line ok) c t s d (neighbours line ok) k sound) refl

@@ -1,0 +1,4 @@
+pub mod Ready
+pub mod Rights
+pub mod Outside
+pub mod Tokens

@@ -1,0 +1,29 @@
+-- What a centre keeps in order, and what has to come to it, so that it loses nothing.
+use Rattle.std.specs.Prelude.{◌≡◌, ℕ, true, false, List, Some}
+use Rattle.rbc_ledger.specs.Resource.{Resource, IsExact}
+use Rattle.rbc_spec.specs.Reach.{Reach}
+use Rattle.rbc_spec.specs.SectionRuns.{within}
+use Rattle.rbc_spec.specs.Line.{Line}
+use Rattle.rbc_spec.specs.Sections.{is_on}
+use Rattle.rbc_spec.specs.Frame.{Body}
+use Rattle.rbc_spec.specs.Outcome.{Next}
+use Rattle.rbc_spec.specs.Centre.{Centre, Mission}
+use Rattle.rbc_spec.specs.Step.{Event, Deliver, link_answer}
+use Rattle.rbc_flow.specs.Flow.{centre_count}
+use Rattle.rbc_flow.specs.Counts.{rights, tokens}
+use Rattle.rbc_tokens.specs.Stray.{is_looked_for}
+
+-- a train has its right or its mission here, not both, and each section of a pool is on the track of its mission
+pub record IsInOrder (line : Line) (k : Centre) : Type 0 where
+  pub alone : (t : ℕ) (m : Mission) → k.mission t ≡ Some m → k.has_right t ≡ false
+  pub pool_on : (t s : ℕ) (m : Mission) → k.mission t ≡ Some m → within m.pool s ≡ true → is_on line m.place.track s ≡ true
+
+-- the event brings no stray frame to centre c, which is k: one that is the next of its link is looked for
+abbrev pub BringsNoStray : Reach → Line → ℕ → Centre → Event → Type 0
+BringsNoStray reach line c k (Deliver d f) = link_answer line c k d f ≡ Next → is_looked_for reach line c d k f.body ≡ true
+BringsNoStray reach line c k event = Unit {0}
+
+-- an act of centre c, which was k, leaves it as y and sends these frames: it makes no right and no token beyond what came, and loses none
+pub record IsExactAct (line : Line) (c : ℕ) (k : Centre) (came : Resource Centre Body → ℕ) (y : Centre) (frames : ℕ → List Body) : Type 0 where
+  pub rights : (t : ℕ) → IsExact (rights line t) (centre_count line) c k (came (rights line t)) y frames
+  pub tokens : (t s : ℕ) → IsExact (tokens line t s) (centre_count line) c k (came (tokens line t s)) y frames

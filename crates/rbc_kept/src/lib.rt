@@ -1,0 +1,7 @@
+//! Laws of rights and of the tokens of sections: no step of a centre loses one, where no stray frame comes, at every reach. So what flows
+//! between the centres of a line loses nothing. The functions do nothing: each contract is a law of the definitions.
+#![tactic(auto)]
+
+mod laws;
+
+pub use laws::{an_exact_act_loses_nothing, each_step_is_exact, no_step_loses_a_right, no_step_loses_a_token};
