@@ -76,7 +76,7 @@ no_position : (test : Train → Bool) (ps : List Train) → ((i : ℕ) (p : Trai
 no_position test [] none = refl
 no_position test (p ∷ ps) none = rw (none 0 p refl) (omega (arith, no_position test ps (λ i q at. none (suc i) q at)))
 
-is_there : (n m : ℕ) → is_some (cond (nat_lt n m) (Some n) None) ≡ true → n < m
+pub is_there : (n m : ℕ) → is_some (cond (nat_lt n m) (Some n) None) ≡ true → n < m
 is_there n m is = by_test (nat_lt n m) refl is
   where
     by_test : (b : Bool) → nat_lt n m ≡ b → is_some (cond b (Some n) None) ≡ true → n < m
