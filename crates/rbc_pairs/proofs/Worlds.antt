@@ -68,9 +68,6 @@ module _ (reach : Reach) (line : Line) (ok : IsLine line) (w : World) (old : IsW
 
   module _ (c : ℕ) (to : is_centre line c ≡ true) (event : centre.Event) (trains : List ℕ) (alone : IsByItself line c (w.at c) event) (range : IsInRange event)
       (none : (r : Resource Centre Body) → came_to line c (w.at c) event r ≡ 0) (still : (done reach line c (w.at c) event).reply.state.taken ≡ (w.at c).taken) where
-    k : Centre
-    k = w.at c
-
     fair : IsFairAct line c (w.at c) nothing_came (left_by reach line c (w.at c) event) (sent_by reach line c (w.at c) event)
     fair = let is = step_is_fair reach line c (w.at c) event ok (old.flow.centres c to) in record {
       rights = λ t. subst (λ n. IsFair (rights line t) (centre_count line) c (w.at c) n (left_by reach line c (w.at c) event) (sent_by reach line c (w.at c) event)) (none (rights line t)) (is.rights t);
