@@ -1,7 +1,7 @@
 -- What the one line centre shows of it: the start is admitted.
 use Rattle.std.proofs.Common.{◌≡◌, ◌≢◌, ℕ, ◌+◌, ◌<◌, ◌==◌, if◌then◌else◌, Bool, true, false, [], ◌∷◌, Option, Some, None, refl, sym, ap, ◌∙◌, subst, inl, inr, arith, ⊎_elim, is_some, nat_lt, eq-eqb}
 use Rattle.std.specs.Prelude.{Contains}
-use Rattle.std.proofs.lemmas.Bool.{cases_eq, cond-true, lt-ltb, ltb-true}
+use Rattle.std.proofs.lemmas.Bool.{cases_eq, and_from, cond-true, lt-ltb, ltb-true}
 use Rattle.rbc_ledger.specs.Sums.{one_if, put}
 use Rattle.rbc_ledger.specs.Network.{way, took, acted, TakesHead}
 use Rattle.rbc_ledger.specs.Resource.{carried, placed}
@@ -214,6 +214,7 @@ module _ (line : Line) (w : Flow) (sound : IsFlowSound line w) (v : LineState) (
         quiets = Admit t c ∷ [];
         new = after;
         takes = subst (λ (said : Said). TakesAll line v (Admit t c ∷ []) said after) said_so admits;
+        own_centre = and_from (c == c) true (eq-eqb c c refl) refl;
         shows = shows;
         sound = kept.keeps line w sound a c t number place from to takes waits;
       })

@@ -1,6 +1,8 @@
 -- Acts one after another, and the quiet steps that they come to.
 use Rattle.std.proofs.Common.{◌≡◌, ℕ, ◌==◌, Bool, true, false, if◌then◌else◌, List, [], ◌∷◌, ◌++◌, refl, sym, ap, ◌∙◌, subst, append_assoc, ⊎_elim, ◌≢◌}
-use Rattle.std.proofs.lemmas.Bool.{cases_eq}
+use Rattle.std.specs.List.{list_all}
+use Rattle.std.proofs.lemmas.Bool.{cases_eq, and_from}
+use Rattle.std.proofs.lemmas.List.Folds.{list_all-append}
 use Rattle.rbc_ledger.proofs.Sums.{put_same, put_other}
 use Rattle.rbc_ledger.specs.Sums.{put}
 use Rattle.rbc_ledger.specs.Network.{Net, acted}
@@ -8,7 +10,7 @@ use Rattle.rbc_spec.specs.Line.{Line}
 use Rattle.rbc_spec.specs.Centre.{Centre}
 use Rattle.rbc_spec.specs.Acts.{Act, ◌>>◌, rest}
 use Rattle.rbc_spec.specs.LineCentre.{LineState, Said}
-use Rattle.rbc_spec.specs.Quiet.{Quiet, TakesAll, both}
+use Rattle.rbc_spec.specs.Quiet.{Quiet, is_of_centre, TakesAll, both}
 use Rattle.rbc_flow.specs.Flow.{Flow}
 use Rattle.rbc_flow.specs.Sound.{IsFlowSound}
 use Rattle.rbc_flow.specs.Shows.{Shows}
@@ -59,7 +61,7 @@ acted_twice {F = F} w c x y fs gs = λ i. record { at = λ j. ats j i; sent = λ
 
 module _ (line : Line) (w : Flow) (c : ℕ) (k : Centre) (v : LineState) where
   pub leads_rest : IsFlowSound line (replied w c (rest k)) → Shows line (replied w c (rest k)) v → Leads line w c (rest k) v
-  leads_rest sound shows = record { quiets = []; new = v; takes = (refl, refl); shows = shows; sound = sound }
+  leads_rest sound shows = record { quiets = []; new = v; takes = (refl, refl); own_centre = refl; shows = shows; sound = sound }
 
   pub leads_then : (a b : Act) (one : Leads line w c (a k) v) → Leads line (replied w c (a k)) c (b (a k).state) one.new → Leads line w c ((a >> b) k) v
   unfolding ◌>>◌
@@ -67,6 +69,7 @@ module _ (line : Line) (w : Flow) (c : ℕ) (k : Centre) (v : LineState) where
     quiets = one.quiets ++ two.quiets;
     new = two.new;
     takes = takes_append line v one.new two.new one.quiets two.quiets (said_by (a k)) (said_by (b (a k).state)) one.takes two.takes;
+    own_centre = list_all-append (is_of_centre line c) one.quiets two.quiets ∙ and_from (list_all (is_of_centre line c) one.quiets) (list_all (is_of_centre line c) two.quiets) one.own_centre two.own_centre;
     shows = subst (λ u. Shows line u two.new) (acted_twice w c (a k).state (b (a k).state).state (a k).frames (b (a k).state).frames) two.shows;
     sound = subst (IsFlowSound line) (acted_twice w c (a k).state (b (a k).state).state (a k).frames (b (a k).state).frames) two.sound;
   }

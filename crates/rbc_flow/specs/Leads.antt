@@ -1,11 +1,12 @@
 -- What an act of a centre comes to for the one line centre: quiet steps that say the same.
-use Rattle.std.specs.Prelude.{ℕ, List}
+use Rattle.std.specs.Prelude.{◌≡◌, ℕ, true, List}
+use Rattle.std.specs.List.{list_all}
 use Rattle.rbc_ledger.specs.Network.{acted}
 use Rattle.rbc_spec.specs.Line.{Line}
 use Rattle.rbc_spec.specs.Centre.{Centre}
 use Rattle.rbc_spec.specs.Acts.{Act, ◌>>◌, Reply}
 use Rattle.rbc_spec.specs.LineCentre.{LineState, Said}
-use Rattle.rbc_spec.specs.Quiet.{Quiet, TakesAll}
+use Rattle.rbc_spec.specs.Quiet.{Quiet, is_of_centre, TakesAll}
 use Rattle.rbc_flow.specs.Flow.{Flow}
 use Rattle.rbc_flow.specs.Sound.{IsFlowSound}
 use Rattle.rbc_flow.specs.Shows.{Shows}
@@ -17,11 +18,12 @@ said_by r = record { sayings = r.sayings; words = r.words }
 abbrev pub replied : Flow → ℕ → Reply → Flow
 replied w c r = acted w c r.state r.frames
 
--- the one line centre, which showed v, may go on by quiet steps to what it shows then
+-- the one line centre, which showed v, may go on by quiet steps of that centre to what it shows then
 pub record Leads (line : Line) (w : Flow) (c : ℕ) (r : Reply) (v : LineState) : Type 0 where
   pub quiets : List Quiet
   pub new : LineState
   pub takes : TakesAll line v quiets (said_by r) new
+  pub own_centre : list_all (is_of_centre line c) quiets ≡ true
   pub shows : Shows line (replied w c r) new
   pub sound : IsFlowSound line (replied w c r)
 
