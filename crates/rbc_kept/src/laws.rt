@@ -1,17 +1,20 @@
 //! Laws of rights and of the tokens of sections, which are not lost.
 
-ghost use Rattle.std.specs.Prelude.{◌≡◌, ℕ, true, List};
+ghost use Rattle.std.specs.Prelude.{◌≡◌, ℕ, Bool, true, List};
 ghost use Rattle.rbc_ledger.specs.Network.{took, acted, TakesHead, IsCounted};
 ghost use Rattle.rbc_spec.specs.Line.{Line, IsLine, is_centre};
 ghost use Rattle.rbc_spec.specs.Reach.{Reach};
-ghost use Rattle.rbc_spec.specs.Centre.{Centre};
-ghost use Rattle.rbc_spec.specs.Frame.{Body};
+ghost use Rattle.rbc_spec.specs.Centre.{Centre, is_registrar_of};
+ghost use Rattle.rbc_spec.specs.SectionRuns.{SectionRun};
+ghost use Rattle.rbc_spec.specs.Frame.{Body, YieldedPlace};
+ghost use Rattle.rbc_spec.specs.Frame.Body.{GiveRight, ReturnRight, Yield};
 ghost use Rattle.rbc_spec.specs.Step.{Event, stamp_of, state_after};
 ghost use Rattle.rbc_flow.specs.Counts.{rights, tokens};
 ghost use Rattle.rbc_flow.specs.Flow.{Flow};
 ghost use Rattle.rbc_flow.specs.Keeping.{nothing_came, came_with};
-ghost use Rattle.rbc_flow.specs.Sound.{IsCentreSound, IsFlowSound, LosesNothing};
+ghost use Rattle.rbc_flow.specs.Sound.{IsCentreSound, IsFlowSound, IsWithinReach, LosesNothing};
 ghost use Rattle.rbc_sound.specs.Stays.{IsInRange};
+ghost use Rattle.rbc_tokens.specs.Stray.{is_looked_for};
 ghost use Rattle.rbc_tokens.specs.Steps.{came_to, done, IsExactStep};
 ghost use Rattle.rbc_kept.specs.Keeps.{HasRightOnce, BringsNoStray, IsExactAct};
 
@@ -48,4 +51,17 @@ pub fn an_exact_act_loses_nothing()
 /// In a sound flow no centre has a right beside its mission.
 pub fn a_sound_flow_has_each_right_once()
     ensures { (line : Line) (w : Flow) (c : ℕ) → IsFlowSound line w → is_centre line c ≡ true → HasRightOnce (w.at c) }
+{}
+
+/// In a sound flow, as far as a reach goes, what comes at the head of a link is looked for: each Yield, each right that was asked for, and
+/// each that comes back to its registrar.
+pub fn what_a_sound_flow_brings()
+    ensures yields { (reach : Reach) (line : Line) (w : Flow) (a c number t heard : ℕ) (has_data is_ended : Bool) (carried : YieldedPlace) (hand : SectionRun)
+        → IsLine line → IsFlowSound line w → IsWithinReach reach w → is_centre line a ≡ true → is_centre line c ≡ true
+        → TakesHead w a c (Yield number t heard has_data is_ended carried hand)
+        → is_looked_for reach line c a (w.at c) (Yield number t heard has_data is_ended carried hand) ≡ true }
+    ensures gives { (reach : Reach) (line : Line) (w : Flow) (a c t : ℕ) → IsFlowSound line w → is_centre line a ≡ true → is_centre line c ≡ true
+        → TakesHead w a c (GiveRight t) → (w.at c).has_asked t ≡ true → is_looked_for reach line c a (w.at c) (GiveRight t) ≡ true }
+    ensures returns_it { (reach : Reach) (line : Line) (w : Flow) (a c t : ℕ) → IsFlowSound line w → is_centre line a ≡ true → is_centre line c ≡ true
+        → TakesHead w a c (ReturnRight t) → is_registrar_of line c t ≡ true → is_looked_for reach line c a (w.at c) (ReturnRight t) ≡ true }
 {}

@@ -1,4 +1,4 @@
-use Rattle.std.proofs.Common.{◌≡◌, ◌≤◌, ◌+◌, ℕ, Bool, true, false, is_some, refl, ap, arith, ltb-true}
+use Rattle.std.proofs.Common.{◌≡◌, ◌≤◌, ◌+◌, Bool, true, false, is_some, refl, ap, arith, ltb-true}
 use Rattle.rbc_ledger.specs.Sums.{one_if}
 use Rattle.rbc_ledger.proofs.Places.{held_le_placed}
 use Rattle.rbc_flow.specs.Flow.{centre_count}
