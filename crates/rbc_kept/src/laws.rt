@@ -2,12 +2,13 @@
 
 ghost use Rattle.std.specs.Prelude.{◌≡◌, ℕ, Bool, true, List};
 ghost use Rattle.rbc_ledger.specs.Network.{took, acted, TakesHead, IsCounted};
-ghost use Rattle.rbc_spec.specs.Line.{Line, IsLine, is_centre};
-ghost use Rattle.rbc_spec.specs.Reach.{Reach};
+ghost use Rattle.rbc_spec.specs.Line.{Line, IsLine, is_centre, is_home};
+ghost use Rattle.rbc_spec.specs.Reach.{Reach, follows_rule};
 ghost use Rattle.rbc_spec.specs.Centre.{Centre, is_registrar_of};
-ghost use Rattle.rbc_spec.specs.SectionRuns.{SectionRun};
+ghost use Rattle.rbc_spec.specs.SectionRuns.{SectionRun, all_of};
 ghost use Rattle.rbc_spec.specs.Frame.{Body, YieldedPlace};
-ghost use Rattle.rbc_spec.specs.Frame.Body.{GiveRight, ReturnRight, Yield};
+ghost use Rattle.rbc_spec.specs.Frame.Body.{GiveRight, ReturnRight, RouteReturn, Yield};
+ghost use Rattle.rbc_spec.specs.Links.{is_train};
 ghost use Rattle.rbc_spec.specs.Step.{Event, stamp_of, state_after};
 ghost use Rattle.rbc_flow.specs.Counts.{rights, tokens};
 ghost use Rattle.rbc_flow.specs.Flow.{Flow};
@@ -54,7 +55,7 @@ pub fn a_sound_flow_has_each_right_once()
 {}
 
 /// In a sound flow, as far as a reach goes, what comes at the head of a link is looked for: each Yield, each right that was asked for, and
-/// each that comes back to its registrar.
+/// each that comes back to its registrar; and so are sections of a train of the line that come home, where the reach follows that.
 pub fn what_a_sound_flow_brings()
     ensures yields { (reach : Reach) (line : Line) (w : Flow) (a c number t heard : ℕ) (has_data is_ended : Bool) (carried : YieldedPlace) (hand : SectionRun)
         → IsLine line → IsFlowSound line w → IsWithinReach reach w → is_centre line a ≡ true → is_centre line c ≡ true
@@ -64,4 +65,7 @@ pub fn what_a_sound_flow_brings()
         → TakesHead w a c (GiveRight t) → (w.at c).has_asked t ≡ true → is_looked_for reach line c a (w.at c) (GiveRight t) ≡ true }
     ensures returns_it { (reach : Reach) (line : Line) (w : Flow) (a c t : ℕ) → IsFlowSound line w → is_centre line a ≡ true → is_centre line c ≡ true
         → TakesHead w a c (ReturnRight t) → is_registrar_of line c t ≡ true → is_looked_for reach line c a (w.at c) (ReturnRight t) ≡ true }
+    ensures comes_home { (reach : Reach) (line : Line) (w : Flow) (a c t : ℕ) (r : SectionRun) → IsFlowSound line w → is_centre line a ≡ true → is_centre line c ≡ true
+        → TakesHead w a c (RouteReturn t r) → follows_rule reach (RouteReturn t r) ≡ true → is_train line t ≡ true → all_of (is_home line c) r ≡ true
+        → is_looked_for reach line c a (w.at c) (RouteReturn t r) ≡ true }
 {}

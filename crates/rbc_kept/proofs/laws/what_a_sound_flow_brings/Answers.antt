@@ -5,8 +5,11 @@ use Rattle.rbc_ledger.specs.Sums.{one_if}
 use Rattle.rbc_spec.specs.Maps.{has}
 use Rattle.rbc_ledger.specs.Network.{way, took}
 use Rattle.rbc_spec.specs.Reach.{follows_rule, hands_over}
-use Rattle.rbc_spec.specs.Frame.{Body, GiveRight, ReturnRight, Yield, carried_place}
-use Rattle.rbc_spec.specs.Centre.{is_registrar_of}
+use Rattle.rbc_spec.specs.Frame.{Body, GiveRight, ReturnRight, RouteReturn, Yield, carried_place}
+use Rattle.rbc_spec.specs.Centre.{is_registrar_of, is_out_for}
+use Rattle.rbc_spec.specs.SectionRuns.{all_of}
+use Rattle.rbc_spec.specs.Line.{is_home}
+use Rattle.rbc_lemmas.proofs.Runs.{each_within, all_within}
 use Rattle.rbc_spec.specs.Links.{is_train, may_take}
 use Rattle.rbc_lemmas.proofs.Puts.{itself}
 use Rattle.rbc_flow.specs.Flow.{centre_count}
@@ -14,7 +17,7 @@ use Rattle.rbc_flow.specs.Pairs.{yields as sent_over}
 use Rattle.rbc_flow.specs.Sound.{IsBodySound}
 use Rattle.rbc_flow.proofs.Neighbours.{neighbours}
 use Rattle.rbc_flow.proofs.Taken.{is_carried, is_taken}
-use Rattle.rbc_kept.proofs.Brings.{right_comes, handed_over, gives_follow, returns_follow}
+use Rattle.rbc_kept.proofs.Brings.{right_comes, out_there, handed_over, gives_follow, returns_follow}
 use Rattle.rbc_kept.proofs.laws.what_a_sound_flow_brings.Goals as goal
 
 pub returns-clause-yields : goal.returns-clause-yields
@@ -45,3 +48,10 @@ returns-clause-returns_it ctx reach line w a c t sound from to takes registered 
     (and_from (is_train line t) (is_registrar_of line c t && (not ((w.at c).has_right t) && is_none ((w.at c).mission t))) free.known
     (and_from (is_registrar_of line c t) (not ((w.at c).has_right t) && is_none ((w.at c).mission t)) registered
     (and_from (not ((w.at c).has_right t)) (is_none ((w.at c).mission t)) free.no_right free.no_mission)))
+
+pub returns-clause-comes_home : goal.returns-clause-comes_home
+returns-clause-comes_home ctx reach line w a c t r sound from to takes follows known home =
+    and_from (follows_rule reach (RouteReturn t r)) (is_train line t && all_of (λ s. is_home line c s && is_out_for t a ((w.at c).book s)) r) follows
+    (and_from (is_train line t) (all_of (λ s. is_home line c s && is_out_for t a ((w.at c).book s)) r) known
+    (all_within (λ s. is_home line c s && is_out_for t a ((w.at c).book s)) r (λ s in_run.
+    let own = each_within (is_home line c) r home s in_run in and_from (is_home line c s) (is_out_for t a ((w.at c).book s)) own (out_there line w a c t s r sound from to takes in_run own))))
