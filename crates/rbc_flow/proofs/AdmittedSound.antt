@@ -134,10 +134,10 @@ module _ (line : Line) (w : Flow) (sound : IsFlowSound line w) (a c t number : �
       (λ (other : u ≢ t). sym (put_other k.wait t None u other) ∙ is) (cases_eq u t)
 
   begun_sound : IsMissionAt line c y (begun line place)
-  begun_sound = record { hand = (sound.centres c to).wait_fits t place waits; pool_follows = λ some. cc; pool_away = λ s has. absurd (none_within s has); handing_to = λ h is. cc; handing_number = λ h is. cc }
+  begun_sound = record { hand = (sound.centres c to).wait_fits t place waits; pool_follows = λ some. cc; pool_away = λ s has. absurd (none_within s has); pool_on = λ s has. absurd (none_within s has); handing_to = λ h is. cc; handing_number = λ h is. cc }
 
   at_centre : (m : centre.Mission) → IsMissionAt line c k m → IsMissionAt line c y m
-  at_centre m is = record { hand = is.hand; pool_follows = is.pool_follows; pool_away = is.pool_away; handing_to = is.handing_to; handing_number = is.handing_number }
+  at_centre m is = record { hand = is.hand; pool_follows = is.pool_follows; pool_away = is.pool_away; pool_on = is.pool_on; handing_to = is.handing_to; handing_number = is.handing_number }
 
   is_mission : (u : ℕ) (m : centre.Mission) → y.mission u ≡ Some m → ((u ≡ t) × (begun line place ≡ m)) ⊎ (k.mission u ≡ Some m)
   is_mission u m is = ⊎_elim

@@ -217,6 +217,7 @@ module _ (line : Line) (c : ℕ) (k y : Centre) (aside : IsAside k y) where
         hand = is.hand;
         pool_follows = is.pool_follows;
         pool_away = is.pool_away;
+        pool_on = is.pool_on;
         handing_to = is.handing_to;
         handing_number = λ h some. let counted = is.handing_number h some in (counted.0, omega (arith, counted.1, aside.announced));
       }

@@ -26,11 +26,12 @@ pub record IsHandAt (line : Line) (place : Place) (hand : SectionRun) : Type 0 w
   pub group : has (is_on line place.track) (section_of_group line place.group) ≡ true
   pub front : 10 * group_start line place ≤ place.front
 
--- a mission at centre c: its pool follows the hand at once and has no section of home c; a handover that it announced is to the next centre
+-- a mission at centre c: its pool follows the hand at once, on its track, and has no section of home c; a handover that it announced is to the next centre
 pub record IsMissionAt (line : Line) (c : ℕ) (k : Centre) (m : Mission) : Type 0 where
   pub hand : IsHandAt line m.place m.hand
   pub pool_follows : is_empty m.pool ≡ false → m.pool.first ≡ behind m.hand
   pub pool_away : (s : ℕ) → within m.pool s ≡ true → is_home line c s ≡ false
+  pub pool_on : (s : ℕ) → within m.pool s ≡ true → is_on line m.place.track s ≡ true
   pub handing_to : (h : Handing) → m.handing ≡ Some h → next_centre line c m.place.track ≡ Some h.to
   pub handing_number : (h : Handing) → m.handing ≡ Some h → (1 ≤ h.number) × (h.number ≤ k.announced)
 

@@ -2,3 +2,4 @@ pub mod Ready
 pub mod Rights
 pub mod Outside
 pub mod Tokens
+pub mod Brings

@@ -1,4 +1,4 @@
--- A centre that is sound and in order is ready for the walk that counts what is lost.
+-- A centre that is sound and in once is ready for the walk that counts what is lost.
 use Rattle.std.proofs.Common.{◌≡◌, ◌≢◌, ℕ, ◌<◌, ◌&&◌, ◌||◌, ◌==◌, if◌then◌else◌, length, slice_get, Bool, true, false, Option, Some, None, is_some, option_map, refl, sym, ap, ◌∙◌, arith, ltb-true}
 use Rattle.std.specs.List.{find, position_or_len}
 use Rattle.std.proofs.lemmas.List.Folds.{find_at}
@@ -25,7 +25,7 @@ use Rattle.rbc_tokens.proofs.Tally.{Tally, IsTally, HasRegistrar}
 use Rattle.rbc_tokens.proofs.Ready.{Ready}
 use Rattle.rbc_tokens.proofs.Steps as steps
 use Rattle.rbc_tokens.proofs.Steps.{same_place}
-use Rattle.rbc_kept.specs.Keeps.{IsInOrder, BringsNoStray}
+use Rattle.rbc_kept.specs.Keeps.{HasRightOnce, BringsNoStray}
 
 -- a train of the line has a registrar
 has_registrar : (line : Line) → IsLine line → (t : ℕ) → is_train line t ≡ true → HasRegistrar line t
@@ -48,16 +48,16 @@ module _ (line : Line) (ok : IsLine line) (c : ℕ) (y : Tally) where
   pub registrar_known : is_train line y.train ≡ true → HasRegistrar line y.train
   registrar_known known = has_registrar line ok y.train known
 
-  pub ready_in_order : (k : Centre) → IsCentreSound line c k → IsInOrder line k → Ready line c y k
-  ready_in_order k sound order = record {
+  pub ready_to_count : (k : Centre) → IsCentreSound line c k → HasRightOnce k → Ready line c y k
+  ready_to_count k sound once = record {
     claims = λ so in_hand home. one_if_some (is_taken_for y.train (k.book y.section)) (omega (arith, sound.claims y.section y.train home, one_if_true (hand_has (k.mission y.train) y.section) in_hand));
     apart = λ so m h is stands same.
         let next : next_centre line c m.place.track ≡ Some c = (sound.mission y.train m is).handing_to h stands ∙ ap (λ (x : ℕ). Some x) same in
         let wrong : true ≡ false = sym (itself c) ∙ sym (ap (has (λ n. n == c)) next) ∙ (neighbours line ok).onward c c m.place.track next in cc;
     stands = λ so m is. record {
       hand_on = (sound.mission y.train m is).hand.on_track y.section;
-      pool_on = order.pool_on y.train y.section m is;
-      alone = order.alone y.train m is;
+      pool_on = (sound.mission y.train m is).pool_on y.section;
+      alone = once.alone y.train m is;
       to_registrar = registrar_known (sound.mission_known y.train m is).0;
       to_centre = λ h stands. ltb-true h.to (centre_count line) (next_is_centre line ok c h.to m.place.track ((sound.mission y.train m is).handing_to h stands));
     };

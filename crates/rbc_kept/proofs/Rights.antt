@@ -14,8 +14,8 @@ use Rattle.rbc_tokens.proofs.Tally.{Tally, IsTally, IsExactTally}
 use Rattle.rbc_tokens.proofs.Rights.{rights_counted, no_number}
 use Rattle.rbc_tokens.specs.Steps.{IsExactStep}
 use Rattle.rbc_tokens.proofs.Steps.{step_exact}
-use Rattle.rbc_kept.specs.Keeps.{IsInOrder, BringsNoStray}
-use Rattle.rbc_kept.proofs.Ready.{registrar_known, ready_in_order, none_stray}
+use Rattle.rbc_kept.specs.Keeps.{HasRightOnce, BringsNoStray}
+use Rattle.rbc_kept.proofs.Ready.{registrar_known, ready_to_count, none_stray}
 
 abbrev pub rights_kept : Line → ℕ → ℕ → Tally
 rights_kept line c t = record { res = rights line t; train = t; section = 0; one = 1; weight = 0; waiting = 0; away = 0; entry = λ e. one_if (is_registrar_of line c t); names = true; exact = true }
@@ -69,8 +69,8 @@ module _ (line : Line) (ok : IsLine line) (c t : ℕ) where
     back = λ so. exact;
   }
 
-pub no_right_lost : (line : Line) → IsLine line → (reach : Reach) (c t : ℕ) (k : Centre) (event : Event) → IsCentreSound line c k → IsInOrder line k → BringsNoStray reach line c k event
+pub no_right_lost : (line : Line) → IsLine line → (reach : Reach) (c t : ℕ) (k : Centre) (event : Event) → IsCentreSound line c k → HasRightOnce k → BringsNoStray reach line c k event
     → IsExactStep (rights line t) reach line c k event
-no_right_lost line ok reach c t k event sound order due =
-    step_exact line c (rights_kept line c t) (rights_exact line ok c t) reach k event sound (ready_in_order line ok c (rights_kept line c t) k sound order) refl
+no_right_lost line ok reach c t k event sound once due =
+    step_exact line c (rights_kept line c t) (rights_exact line ok c t) reach k event sound (ready_to_count line ok c (rights_kept line c t) k sound once) refl
     (none_stray line ok c (rights_kept line c t) (rights_exact line ok c t) reach (stamp_of k event) k event due)

@@ -21,8 +21,8 @@ use Rattle.rbc_sound.proofs.Events.{stays_sound}
 use Rattle.rbc_tokens.specs.Steps.{came_by, came_to, done, IsExactStep}
 use Rattle.rbc_tokens.proofs.Tally.{is_away}
 use Rattle.rbc_tokens.proofs.Steps.{step_exact}
-use Rattle.rbc_kept.specs.Keeps.{IsInOrder, BringsNoStray}
-use Rattle.rbc_kept.proofs.Ready.{ready_in_order, none_stray}
+use Rattle.rbc_kept.specs.Keeps.{HasRightOnce, BringsNoStray}
+use Rattle.rbc_kept.proofs.Ready.{ready_to_count, none_stray}
 use Rattle.rbc_kept.proofs.Outside.{outside, outside_kept, outside_exact}
 
 -- frames have the same inside
@@ -85,12 +85,12 @@ held_parts line c t s k sound = by_home (is_home line c s) refl
     by_home true home = omega (arith, sound.claims s t home, away (k.mission t) refl home)
     by_home false foreign = omega (arith, not_there (wait_has line (k.wait t) s) (is_home line c s) (sound.wait_home t s) foreign)
 
-pub no_token_lost : (line : Line) → IsLine line → (reach : Reach) (c t s : ℕ) (k : Centre) (event : Event) → IsInRange event → IsCentreSound line c k → IsInOrder line k → BringsNoStray reach line c k event
+pub no_token_lost : (line : Line) → IsLine line → (reach : Reach) (c t s : ℕ) (k : Centre) (event : Event) → IsInRange event → IsCentreSound line c k → HasRightOnce k → BringsNoStray reach line c k event
     → IsExactStep (tokens line t s) reach line c k event
-no_token_lost line ok reach c t s k event range sound order due = record {
+no_token_lost line ok reach c t s k event range sound once due = record {
   law = omega (
     arith,
-    (step_exact line c (outside_kept line c t s) (outside_exact line ok c t s) reach k event sound (ready_in_order line ok c (outside_kept line c t s) k sound order) refl
+    (step_exact line c (outside_kept line c t s) (outside_exact line ok c t s) reach k event sound (ready_to_count line ok c (outside_kept line c t s) k sound once) refl
         (none_stray line ok c (outside_kept line c t s) (outside_exact line ok c t s) reach (stamp_of k event) k event due)).law,
     same_came line t s c k event,
     same_sent line t s c (done reach line c k event).reply.frames,

@@ -1,10 +1,8 @@
--- What a centre keeps in order, and what has to come to it, so that it loses nothing.
+-- What a centre has, and what has to come to it, so that it loses nothing.
 use Rattle.std.specs.Prelude.{◌≡◌, ℕ, true, false, List, Some}
 use Rattle.rbc_ledger.specs.Resource.{Resource, IsExact}
 use Rattle.rbc_spec.specs.Reach.{Reach}
-use Rattle.rbc_spec.specs.SectionRuns.{within}
 use Rattle.rbc_spec.specs.Line.{Line}
-use Rattle.rbc_spec.specs.Sections.{is_on}
 use Rattle.rbc_spec.specs.Frame.{Body}
 use Rattle.rbc_spec.specs.Outcome.{Next}
 use Rattle.rbc_spec.specs.Centre.{Centre, Mission}
@@ -13,10 +11,9 @@ use Rattle.rbc_flow.specs.Flow.{centre_count}
 use Rattle.rbc_flow.specs.Counts.{rights, tokens}
 use Rattle.rbc_tokens.specs.Stray.{is_looked_for}
 
--- a train has its right or its mission here, not both, and each section of a pool is on the track of its mission
-pub record IsInOrder (line : Line) (k : Centre) : Type 0 where
+-- the right of a train is not here beside its mission
+pub record HasRightOnce (k : Centre) : Type 0 where
   pub alone : (t : ℕ) (m : Mission) → k.mission t ≡ Some m → k.has_right t ≡ false
-  pub pool_on : (t s : ℕ) (m : Mission) → k.mission t ≡ Some m → within m.pool s ≡ true → is_on line m.place.track s ≡ true
 
 -- the event brings no stray frame to centre c, which is k: one that is the next of its link is looked for
 abbrev pub BringsNoStray : Reach → Line → ℕ → Centre → Event → Type 0

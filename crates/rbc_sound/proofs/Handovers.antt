@@ -89,6 +89,7 @@ module _ (line : Line) (ok : IsLine line) (c : ℕ) where
         hand = is.hand;
         pool_follows = is.pool_follows;
         pool_away = is.pool_away;
+        pool_on = is.pool_on;
         handing_to = λ h handed. let old_one = was m.handing h handed in same_next h old_one.0 m.place.track old_one.2 (is.handing_to old_one.0 old_one.1);
         handing_number = λ h handed. let old_one = was m.handing h handed in let counted = is.handing_number old_one.0 old_one.1 in (omega (arith, counted, old_one.3), omega (arith, counted, old_one.3));
       }
@@ -155,6 +156,7 @@ module _ (line : Line) (ok : IsLine line) (c : ℕ) where
       hand = record { some = range.0; few = range.1; on_track = λ s has. each_within (λ x. is_on line place.track x) hand tracks.0 s has; group = tracks.1; front = leb-true _ _ ends.0 };
       pool_follows = λ some. cc;
       pool_away = λ s has. absurd (none_within s has);
+      pool_on = λ s has. absurd (none_within s has);
       handing_to = λ h is. cc;
       handing_number = λ h is. cc;
     }

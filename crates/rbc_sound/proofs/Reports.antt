@@ -68,6 +68,7 @@ module _ (line : Line) (ok : IsLine line) (c : ℕ) where
     };
     pool_follows = λ some. is.pool_follows some ∙ (omega (arith, few, other));
     pool_away = is.pool_away;
+    pool_on = λ s has. subst (λ t. is_on line t s ≡ true) (sym same) (is.pool_on s has);
     handing_to = λ h handed. ap (next_centre line c) same ∙ is.handing_to h handed;
     handing_number = is.handing_number;
   }
@@ -116,11 +117,11 @@ module _ (line : Line) (ok : IsLine line) (c : ℕ) where
   -- ## End of mission
 
   pub without_pool : (k : Centre) (m : Mission) → IsMissionAt line c k m → IsMissionAt line c k (record m { pool = no_run })
-  without_pool k m is = record { hand = is.hand; pool_follows = λ some. cc; pool_away = λ s has. absurd (none_within s has); handing_to = is.handing_to; handing_number = is.handing_number }
+  without_pool k m is = record { hand = is.hand; pool_follows = λ some. cc; pool_away = λ s has. absurd (none_within s has); pool_on = λ s has. absurd (none_within s has); handing_to = is.handing_to; handing_number = is.handing_number }
 
   pub other_words : (k : Centre) (m : Mission) (has_data is_ended : Bool) (proposal : Option Proposal) → IsMissionAt line c k m
       → IsMissionAt line c k (record m { has_data = has_data; is_ended = is_ended; proposal = proposal })
-  other_words k m has_data is_ended proposal is = record { hand = is.hand; pool_follows = is.pool_follows; pool_away = is.pool_away; handing_to = is.handing_to; handing_number = is.handing_number }
+  other_words k m has_data is_ended proposal is = record { hand = is.hand; pool_follows = is.pool_follows; pool_away = is.pool_away; pool_on = is.pool_on; handing_to = is.handing_to; handing_number = is.handing_number }
 
   pool_returned : (t : ℕ) (m : Mission) (k : Centre) → IsCentreSound line c k → Sound line c (return_pool line c t m k)
   pool_returned t m k old = then_sound line c (returned line c t m.place.track m.pool) (change_mission t (λ n. record n { pool = no_run })) k
@@ -151,7 +152,7 @@ module _ (line : Line) (ok : IsLine line) (c : ℕ) where
       (λ none. rest_sound line c k old)
     where
       unhanded : (j : Centre) (n : Mission) → IsMissionAt line c j n → IsMissionAt line c j (record n { handing = None })
-      unhanded j n is = record { hand = is.hand; pool_follows = is.pool_follows; pool_away = is.pool_away; handing_to = λ h some. cc; handing_number = λ h some. cc }
+      unhanded j n is = record { hand = is.hand; pool_follows = is.pool_follows; pool_away = is.pool_away; pool_on = is.pool_on; handing_to = λ h some. cc; handing_number = λ h some. cc }
 
   kept_sound : (k : Centre) (m : Mission) (n : ℕ) → IsMissionAt line c k m → (part_from n m.hand).count ≢ m.hand.count
       → IsMissionAt line c k (record m { hand = part_before n m.hand; pool = no_run; proposal = None })
@@ -165,6 +166,7 @@ module _ (line : Line) (ok : IsLine line) (c : ℕ) where
     };
     pool_follows = λ some. cc;
     pool_away = λ s has. absurd (none_within s has);
+    pool_on = λ s has. absurd (none_within s has);
     handing_to = is.handing_to;
     handing_number = is.handing_number;
   }

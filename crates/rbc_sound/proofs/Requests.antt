@@ -78,6 +78,7 @@ module _ (line : Line) (ok : IsLine line) (c : ℕ) where
         hand = is.hand;
         pool_follows = is.pool_follows;
         pool_away = is.pool_away;
+        pool_on = is.pool_on;
         handing_to = λ h handed. next ∙ ap (λ (x : Handing). Some x.to) (same_Some _ h handed);
         handing_number = λ h handed. let number : k.announced + 1 ≡ h.number = ap (λ (x : Handing). x.number) (same_Some _ h handed) in (omega (arith, number), omega (arith, number));
       }))
@@ -151,10 +152,13 @@ module _ (line : Line) (ok : IsLine line) (c : ℕ) where
 
     pool_is : (b : Bool) → is_empty m.pool ≡ b → let p : SectionRun = if b then m.pool else part_from (behind more) m.pool in
         (is_empty p ≡ false → p.first ≡ behind (joined m.hand more)) × ((s : ℕ) → within p s ≡ true → is_home line c s ≡ false)
-    pool_is true empty = (λ some. absurd (both_ways (is_empty m.pool) some empty), is.pool_away)
+        × ((s : ℕ) → within p s ≡ true → is_on line place.track s ≡ true)
+    pool_is true empty = (λ some. absurd (both_ways (is_empty m.pool) some empty), is.pool_away, λ s has. subst (λ track. is_on line track s ≡ true) (sym same) (is.pool_on s has))
     pool_is false some = (
       λ left. omega (arith, ends, is.pool_follows some),
       λ s has. let at_s = within_true (part_from (behind more) m.pool) s has in is.pool_away s (within_from m.pool s (omega (arith, at_s)) (omega (arith, at_s))),
+      λ s has. let at_s = within_true (part_from (behind more) m.pool) s has in
+          subst (λ track. is_on line track s ≡ true) (sym same) (is.pool_on s (within_from m.pool s (omega (arith, at_s)) (omega (arith, at_s)))),
     )
 
     extended_is : IsMissionAt line c k (extended_by more here)
@@ -162,6 +166,7 @@ module _ (line : Line) (ok : IsLine line) (c : ℕ) where
       hand = hand_is;
       pool_follows = pool.0;
       pool_away = pool.1;
+      pool_on = pool.2;
       handing_to = λ h handed. ap (next_centre line c) same ∙ is.handing_to h handed;
       handing_number = is.handing_number;
     }

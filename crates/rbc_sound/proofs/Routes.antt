@@ -1,11 +1,11 @@
 -- A sound centre stays so as sections are lent over a border, and come home.
-use Rattle.std.proofs.Common.{◌≡◌, ◌≢◌, ℕ, ◌==◌, ◌&&◌, not, Bool, true, false, None, is_some, is_none, refl, sym, ap, ◌∙◌, arith, eqb-true}
+use Rattle.std.proofs.Common.{◌≡◌, ◌≢◌, ℕ, ◌==◌, ◌&&◌, not, Bool, true, false, Option, Some, None, subst, is_some, is_none, refl, sym, ap, ◌∙◌, arith, eqb-true}
 use Rattle.std.specs.Option.{option_map_or}
 use Rattle.std.proofs.lemmas.Bool.{and_parts, and_right, eqb-false, ne_eqb, false_from_ne_true}
 use Rattle.rbc_spec.specs.Maps.{has, put}
 use Rattle.rbc_spec.specs.SectionRuns.{SectionRun, within, behind, is_empty, part_before, part_from, all_of}
-use Rattle.rbc_spec.specs.Line.{Line, IsLine, is_centre, is_home, section}
-use Rattle.rbc_spec.specs.Sections.{is_on}
+use Rattle.rbc_spec.specs.Line.{Line, Section, IsLine, is_centre, is_home, section}
+use Rattle.rbc_spec.specs.Sections.{is_on, is_on_track}
 use Rattle.rbc_spec.specs.Frame.{RouteInfo, RouteReturn}
 use Rattle.rbc_spec.specs.Centre.{Centre, Entry, Shut, Open, Taken, Out, Mission, is_open, is_taken_for, is_out_for, uses_some, is_expected}
 use Rattle.rbc_spec.specs.Acts.{become, rest, ◌>>◌, where_so, send, booked, freed, returned, change_mission, propose_if_so, end_order}
@@ -57,14 +57,25 @@ module _ (line : Line) (ok : IsLine line) (c d : ℕ) (to : is_centre line d ≡
       (leaves line c (free_sound line c k old (record k { route_ask = put k.route_ask t None }) refl refl refl refl (λ u is. is) (omega arith)) (none_sent line c))
       (λ j is sound. if_reply line c (has (is_wanted line r) (j.mission t)) _ _
       (λ wanted. changed_sound line c j sound t (λ m. record m { pool = r }) (λ n at. refl)
-      (λ n at. pooled j n (ap (λ o. option_map_or (is_wanted line r) o false) (sym at) ∙ wanted) (and_parts _ (all_of (is_home line d) r) mine).1 (sound.mission t n at)))
+      (λ n at. pooled j n (ap (λ o. option_map_or (is_wanted line r) o false) (sym at) ∙ wanted)
+      (and_parts (is_of_line line r) (is_home line d r.first) (and_parts (has (λ first. first == r.first) (k.route_ask t)) (is_of_line line r && is_home line d r.first) (and_parts _ (all_of (is_home line d) r) mine).0).1).0
+      (and_parts _ (all_of (is_home line d) r) mine).1 (sound.mission t n at)))
       (λ no. if_sound line c (is_empty r) rest (send d (RouteReturn t r)) j (λ none. rest_sound line c j sound) (λ some. leaves line c sound (one_sent line c d (RouteReturn t r) j to (record {}))))))
       (λ not_mine. rest_sound line c k old)
     where
-      pooled : (j : Centre) (n : Mission) → is_wanted line r n ≡ true → all_of (is_home line d) r ≡ true → IsMissionAt line c j n → IsMissionAt line c j (record n { pool = r })
-      pooled j n wanted homes is = record {
+      -- a run of one track that begins on this one is on it
+      on_track : (track : ℕ) → is_of_line line r ≡ true → is_on line track r.first ≡ true → (s : ℕ) → within r s ≡ true → is_on line track s ≡ true
+      on_track track of_line first s has = by_section (section line r.first) of_line first
+        where
+          by_section : (o : Option Section) → option_map_or (λ p. is_on_track line p.track r) o false ≡ true → option_map_or (λ p. p.track == track) o false ≡ true → is_on line track s ≡ true
+          by_section None all at = cc
+          by_section (Some p) all at = subst (λ x. is_on line x s ≡ true) (eqb-true p.track track at) (each_within (λ x. is_on line p.track x) r all s has)
+
+      pooled : (j : Centre) (n : Mission) → is_wanted line r n ≡ true → is_of_line line r ≡ true → all_of (is_home line d) r ≡ true → IsMissionAt line c j n → IsMissionAt line c j (record n { pool = r })
+      pooled j n wanted of_line homes is = record {
         hand = is.hand;
         pool_follows = λ some. eqb-true r.first (behind n.hand) (and_parts (r.first == behind n.hand) (is_on line n.place.track r.first) (and_parts ((r.first == behind n.hand) && is_on line n.place.track r.first) _ wanted).0).0;
+        pool_on = on_track n.place.track of_line (and_parts (r.first == behind n.hand) (is_on line n.place.track r.first) (and_parts ((r.first == behind n.hand) && is_on line n.place.track r.first) _ wanted).0).1;
         pool_away = λ s has. false_from_ne_true (is_home line c s) (λ home. apart (one_home line c d s home (each_within (is_home line d) r homes s has)));
         handing_to = is.handing_to;
         handing_number = is.handing_number;
@@ -84,6 +95,7 @@ module _ (line : Line) (ok : IsLine line) (c d : ℕ) (to : is_centre line d ≡
         hand = is.hand;
         pool_follows = λ some. is.pool_follows (ne_eqb n.pool.count 0 (λ none. eqb-false (part_before s n.pool).count 0 some (omega (arith, none))));
         pool_away = λ x has. let ends = within_true (part_before s n.pool) x has in is.pool_away x (within_from n.pool x (omega (arith, ends)) (omega (arith, ends)));
+        pool_on = λ x has. let ends = within_true (part_before s n.pool) x has in is.pool_on x (within_from n.pool x (omega (arith, ends)) (omega (arith, ends)));
         handing_to = is.handing_to;
         handing_number = is.handing_number;
       }

@@ -8,6 +8,7 @@ use Rattle.rbc_spec.specs.Maps.{put}
 use Rattle.rbc_spec.specs.Reach.{Reach, asks_rights}
 use Rattle.rbc_spec.specs.SectionRuns.{within, all_of}
 use Rattle.rbc_spec.specs.Line.{Line, IsLine, is_home, next_centre, registrar}
+use Rattle.rbc_spec.specs.Sections.{is_on}
 use Rattle.rbc_spec.specs.Place.{Place, Position, covered, fit_place}
 use Rattle.rbc_spec.specs.Frame.{AskRight}
 use Rattle.rbc_spec.specs.Centre.{Centre, Taken, Mission, is_open, is_taken_for, is_free, is_registrar_of}
@@ -28,7 +29,7 @@ use Rattle.rbc_sound.proofs.Requests.{open_untaken}
 
 -- a mission that begins is sound
 pub begun_is : (line : Line) (c : ℕ) (k : Centre) (place : Place) → IsHandAt line place (covered line place) → IsMissionAt line c k (begun line place)
-begun_is line c k place hand = record { hand = hand; pool_follows = λ some. cc; pool_away = λ s has. absurd (none_within s has); handing_to = λ h is. cc; handing_number = λ h is. cc }
+begun_is line c k place hand = record { hand = hand; pool_follows = λ some. cc; pool_away = λ s has. absurd (none_within s has); pool_on = λ s has. absurd (none_within s has); handing_to = λ h is. cc; handing_number = λ h is. cc }
 
 module _ (line : Line) (ok : IsLine line) (c : ℕ) (k : Centre) (old : IsCentreSound line c k) (t : ℕ) where
   restart_sound : (place : Place) (m : Mission) → k.mission t ≡ Some m → IsHandAt line place (covered line place) → IsReported line place → Sound line c (restart line t place m k)
@@ -49,6 +50,7 @@ module _ (line : Line) (ok : IsLine line) (c : ℕ) (k : Centre) (old : IsCentre
             hand = moved line n.place place n.hand is.hand same there;
             pool_follows = is.pool_follows;
             pool_away = is.pool_away;
+            pool_on = λ s has. subst (λ track. is_on line track s ≡ true) (sym same) (is.pool_on s has);
             handing_to = λ h handed. ap (next_centre line c) same ∙ is.handing_to h handed;
             handing_number = is.handing_number;
           }

@@ -1,4 +1,4 @@
--- A frame that comes makes nothing beyond what came, and loses nothing where it is looked for.
+-- A frame that comes makes nothing beyond what came, and loses nothing of it where it is looked for.
 use Rattle.std.proofs.Common.{◌≡◌, ◌≢◌, ℕ, ◌+◌, ◌≤◌, ◌*◌, ◌==◌, ◌&&◌, ◌||◌, not, nat_le, Bool, true, false, if◌then◌else◌, nat_lt, length, max, is_none, is_some, Option, Some, None, refl, sym, ap, ◌∙◌, subst, arith}
 use Rattle.std.specs.Option.{option_map_or}
 use Rattle.std.specs.List.{find, range_with_len}

@@ -21,7 +21,7 @@ use Rattle.rbc_flow.specs.Flow.{centre_count}
 use Rattle.rbc_tokens.proofs.Tally.{Tally, IsTally, Fair, part, whole, mission_of, gone, alike, fair_rest, fair_then, fair_both, eased, fair_or, fair_set, fair_change, fair_say, fair_plain, mission_put, mission_back}
 use Rattle.rbc_tokens.proofs.Parts.{Follows, two_parts, covered_parts, cut_parts, cut_back, joined_part, joined_back, in_joined, none_part, empty_part, tail_follows, gone_here, gone_other, away_part, part_gone}
 use Rattle.rbc_tokens.proofs.Leaving.{Makes, IsOnTrack, fair_returned, fair_cancel, fair_leave, left_law, left_back, leave_close, leave_set, fair_yield_if}
-use Rattle.rbc_tokens.proofs.Ready.{Ready, Stands}
+use Rattle.rbc_tokens.proofs.Ready.{Ready, Stands, stands_again}
 use Rattle.rbc_tokens.proofs.Behind.{ready_report_here, ready_reported, ready_end, ready_shortened}
 use Rattle.rbc_tokens.proofs.Starts.{fair_close_session, fair_start}
 use Rattle.rbc_tokens.proofs.Borders.{fair_request}
@@ -218,8 +218,7 @@ module _ (line : Line) (c : ℕ) (y : Tally) (is : IsTally line c y) where
       by_place (Some place) = by_front (nat_le place.front (10 * end line p.last_kept))
         where
           by_front : (b : Bool) → Makes line c y is middle ((if b then cut line c t p.last_kept m else rest) middle)
-          by_front true = fair_cut t p.last_kept m middle still follows (λ so here. let at = standing t m k stands ready so here in
-              record { hand_on = at.hand_on; pool_on = at.pool_on; alone = at.alone; to_registrar = at.to_registrar; to_centre = at.to_centre })
+          by_front true = fair_cut t p.last_kept m middle still follows (λ so here. stands_again line c y k middle m refl (standing t m k stands ready so here))
           by_front false = fair_rest line c y middle
 
   -- ## A message

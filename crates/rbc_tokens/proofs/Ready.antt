@@ -52,13 +52,16 @@ module _ (line : Line) (c : ℕ) (y : Tally) where
   abbrev pub SameWay : Mission → Mission → Type 0
   SameWay m n = (h : Handing) → n.handing ≡ Some h → (g : Handing) × (m.handing ≡ Some g) × (g.to ≡ h.to)
 
+  -- it hangs on the right of the train alone, beside the mission
+  pub stands_again : (k j : Centre) (m : Mission) → j.has_right y.train ≡ k.has_right y.train → Stands k m → Stands j m
+  stands_again k j m right at = record { hand_on = at.hand_on; pool_on = at.pool_on; alone = right ∙ at.alone; to_registrar = at.to_registrar; to_centre = at.to_centre }
+
   -- what a yield and a mission want of a centre hangs on the mission, the section's entry and the right alone
   pub ready_again : (k j : Centre) → j.mission y.train ≡ k.mission y.train → j.book y.section ≡ k.book y.section → j.has_right y.train ≡ k.has_right y.train → Ready k → Ready j
   ready_again k j mission book right ready = record {
     claims = λ so has home. ap (is_taken_for y.train) book ∙ ready.claims so (ap (λ o. hand_has o y.section) (sym mission) ∙ has) home;
     apart = λ so m h is. ready.apart so m h (sym mission ∙ is);
-    stands = λ so m is. let at = ready.stands so m (sym mission ∙ is) in
-        record { hand_on = at.hand_on; pool_on = at.pool_on; alone = right ∙ at.alone; to_registrar = at.to_registrar; to_centre = at.to_centre };
+    stands = λ so m is. stands_again k j m right (ready.stands so m (sym mission ∙ is));
   }
 
   pub part_stands : (k j : Centre) (m n : Mission) → j.has_right ≡ k.has_right → IsPart m n → SameWay m n → Stands k m → Stands j n
@@ -77,8 +80,7 @@ module _ (line : Line) (c : ℕ) (y : Tally) where
       (λ (other : y.train ≢ t). let same : put k.mission t (option_map f (k.mission t)) y.train ≡ k.mission y.train = put_other k.mission t (option_map f (k.mission t)) y.train other in record {
         claims = λ so has home. ready.claims so (ap (λ o. hand_has o y.section) (sym same) ∙ has) home;
         apart = λ so m h is. ready.apart so m h (sym same ∙ is);
-        stands = λ so m is. let at = ready.stands so m (sym same ∙ is) in
-            record { hand_on = at.hand_on; pool_on = at.pool_on; alone = at.alone; to_registrar = at.to_registrar; to_centre = at.to_centre };
+        stands = λ so m is. stands_again k (change_mission t f k).state m refl (ready.stands so m (sym same ∙ is));
       })
       (cases_eq y.train t)
     where
@@ -138,8 +140,7 @@ module _ (line : Line) (c : ℕ) (y : Tally) where
       by_train (inr other) = let now : put k.mission t o y.train ≡ k.mission y.train = put_other k.mission t o y.train other in record {
         claims = λ so has home. still_taken t r k (λ e. absurd (other (sym e))) home (ready.claims so (ap (λ z. hand_has z y.section) (sym now) ∙ has) home);
         apart = λ so n h is stands. ready.apart so n h (sym now ∙ is) stands;
-        stands = λ so n is. let at = ready.stands so n (sym now ∙ is) in
-            record { hand_on = at.hand_on; pool_on = at.pool_on; alone = at.alone; to_registrar = at.to_registrar; to_centre = at.to_centre };
+        stands = λ so n is. stands_again k ((leave line c t track r >> set_mission t o) k).state n refl (ready.stands so n (sym now ∙ is));
       }
 
   -- a handover that is claimed may be yielded
@@ -187,8 +188,7 @@ module _ (line : Line) (c : ℕ) (y : Tally) where
       stands_still : y.exact ≡ true → (m : Mission) → k.mission y.train ≡ Some m → Stands (record k { has_right = put k.has_right t true }) m
       stands_still so m is = ⊎_elim
           (λ (here : y.train ≡ t). absurd (let wrong : ◌≡◌ {A = Option Mission} None (Some m) = sym none ∙ ap (λ v. k.mission v) (sym here) ∙ is in cc))
-          (λ (other : y.train ≢ t). let at = ready.stands so m is in
-          record { hand_on = at.hand_on; pool_on = at.pool_on; alone = put_other k.has_right t true y.train other ∙ at.alone; to_registrar = at.to_registrar; to_centre = at.to_centre })
+          (λ (other : y.train ≢ t). stands_again k (record k { has_right = put k.has_right t true }) m (put_other k.has_right t true y.train other) (ready.stands so m is))
           (cases_eq y.train t)
 
       by_registrar : (b : Bool) (o : Option ℕ) → Ready ((if b then become (λ j. record j { has_right = put j.has_right t true }) else option_map_or (λ r. send r (ReturnRight t)) o rest) k).state

@@ -36,7 +36,7 @@ pub record Tally : Type 0 where
   pub away : ℕ  -- and in a frame by which it goes home
   pub entry : Entry → ℕ  -- what its home lets be out
   pub names : Bool  -- the names of lent sections are counted
-  pub exact : Bool  -- it is counted what is lost, too: then what leaves a mission is counted alike in frames, and a use alike at home
+  pub exact : Bool  -- what is lost is counted too
 
 abbrev pub right_of : Tally → Bool → ℕ
 right_of y b = if b then y.one else 0
