@@ -3,6 +3,7 @@ mod Steps
 pub mod TrainLaws
 pub mod TrackLaws
 mod Further
+mod Kept
 mod Lengths
 mod SameBits
 pub mod Needed

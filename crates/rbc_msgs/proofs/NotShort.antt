@@ -55,7 +55,7 @@ ltb-by : (m n : ℕ) (b : Bool) → ltb m n ≡ b → (ltb m n ≡ true) ⊎ (lt
 ltb-by m n true e = inl e
 ltb-by m n false e = inr e
 
-ltb-cases : (m n : ℕ) → (ltb m n ≡ true) ⊎ (ltb m n ≡ false)
+pub ltb-cases : (m n : ℕ) → (ltb m n ≡ true) ⊎ (ltb m n ≡ false)
 ltb-cases m n = ltb-by m n (ltb m n) refl
 
 -- a field that lies whole in the bits

@@ -9,6 +9,7 @@ pub mod Faults
 pub mod Numbers
 pub mod Reading
 pub mod TrainReading
+pub mod Kept
 pub mod TrackReading
 pub mod StepMessage
 pub mod Streams

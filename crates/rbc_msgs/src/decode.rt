@@ -1,9 +1,10 @@
-ghost use Rattle.std.specs.Prelude.{◌≡◌, Ok, IfOk};
+ghost use Rattle.std.specs.Prelude.{◌≡◌, Ok, IfOk, IfErr};
 ghost use Rattle.rbc_spec.specs.Message.{TrackMessage};
 ghost use Rattle.rbc_msgs.specs.TrainText.{TrainText};
 ghost use Rattle.rbc_msgs.specs.Reading.{Gives};
 ghost use Rattle.rbc_msgs.specs.TrainSpelling.{SpellsTrain};
 ghost use Rattle.rbc_msgs.specs.TrainReading.{read_train};
+ghost use Rattle.rbc_msgs.specs.Kept.{kept_packets, MayKeep};
 ghost use Rattle.rbc_msgs.specs.TrackSpelling.{SpellsTrack};
 ghost use Rattle.rbc_msgs.specs.TrackReading.{read_track};
 
@@ -25,6 +26,8 @@ pub fn decode_train(alloc: Global, bytes: &[u8]) -> Result<TrainMsg, MsgFault>
     ensures only { (m : TrainText) → SpellsTrain bytes.now m → Gives (λ x. x) result (Ok m) }
     // Which fault it is.
     ensures exact { Gives (λ x. x) result (read_train bytes.now) }
+    // Memory is wanted only where a packet is kept, or where the fault can be found behind one.
+    ensures memory { IfErr result (λ e. e ≡ MsgFault.Memory → MayKeep kept_packets (read_train bytes.now)) }
 {
     train_from(alloc, bytes)
 }
@@ -45,6 +48,7 @@ pub fn decode_track(bytes: &[u8]) -> Result<TrackMsg, MsgFault>
 fn train_from(alloc: Global, bytes: &[u8]) -> Result<TrainMsg, MsgFault>
     ensures exact { Gives (λ x. x) result (read_train bytes.now) }
     ensures found { IfOk result (λ m. SpellsTrain bytes.now m) }
+    ensures memory { IfErr result (λ e. e ≡ MsgFault.Memory → MayKeep kept_packets (read_train bytes.now)) }
 {
     let (number, l_message) = start_of(bytes)?;
     let number = TrainNumber::of(number)?;

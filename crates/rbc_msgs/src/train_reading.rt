@@ -1,6 +1,6 @@
 //! What stands behind the header of a train's message, in the order of the tests.
 
-ghost use Rattle.std.specs.Prelude.{◌≡◌, ◌^◌, ◌<◌, ◌++◌, ◌∷◌, length, IfOk};
+ghost use Rattle.std.specs.Prelude.{◌≡◌, ◌^◌, ◌<◌, ◌++◌, [], ◌∷◌, length, IfOk, IfErr};
 ghost use Rattle.std.specs.List.{flat_map, AllByRecursion};
 ghost use Rattle.rbc_packets.specs.Layout.{joined};
 ghost use Rattle.rbc_packets.specs.Packet.{PacketFits};
@@ -8,6 +8,7 @@ ghost use Rattle.rbc_packets.specs.PositionSpelling.{PositionFits};
 ghost use Rattle.rbc_packets.specs.Steps.{Takes, TakesUnless};
 ghost use Rattle.rbc_msgs.specs.Numbers.{train_number_value};
 ghost use Rattle.rbc_msgs.specs.TrainSpelling.{train_number, train_body_bits, position_packet, packet_bits, TrainBodyFits, IsFurther};
+ghost use Rattle.rbc_msgs.specs.Kept.{data_packets, MayKeep};
 ghost use Rattle.rbc_msgs.specs.TrainReading.{position_packet_at, data_packet_at, train_data_at, request_at, answered_at, start_of_mission_at, train_body_at, further_packet_at, further_at};
 
 use crate::fault::MsgFault;
@@ -32,6 +33,8 @@ pub(crate) fn read_body(
     ensures taken { IfOk result (λ body. reader.old ≡ train_body_bits body ++ reader.new) }
     ensures number { IfOk result (λ body. train_number body ≡ train_number_value number) }
     ensures fits { IfOk result TrainBodyFits }
+    // Memory is wanted only for the train data.
+    ensures memory { IfErr result (λ e. e ≡ MsgFault.Memory → MayKeep (λ x. data_packets x.0) (train_body_at number reader.old)) }
 {
     match number {
         TrainNumber::TrainData => train_data(alloc, reader),
@@ -65,6 +68,7 @@ fn train_data(alloc: Global, reader: &mut BitReader) -> Result<TrainBody, MsgFau
     ensures taken { IfOk result (λ body. reader.old ≡ train_body_bits body ++ reader.new) }
     ensures number { IfOk result (λ body. train_number body ≡ 129) }
     ensures fits { IfOk result TrainBodyFits }
+    ensures memory { IfErr result (λ e. e ≡ MsgFault.Memory → MayKeep (λ x. data_packets x.0) (train_data_at reader.old)) }
 {
     let position = position(reader)?;
     let packet = data_packet(alloc, reader)?;
@@ -131,6 +135,7 @@ fn data_packet(alloc: Global, reader: &mut BitReader) -> Result<Opaque, MsgFault
     ensures taken { IfOk result (λ p. reader.old ≡ packet_bits p ++ reader.new) }
     ensures number { IfOk result (λ p. p.nid_packet ≡ 11) }
     ensures fits { IfOk result PacketFits }
+    ensures memory { IfErr result (λ e. e ≡ MsgFault.Memory → MayKeep (λ x. x.0 ∷ []) (data_packet_at reader.old)) }
 {
     required(reader, TRAIN_DATA.into())?;
     Ok(Opaque::read_packet(alloc, TRAIN_DATA, reader)?)
@@ -141,6 +146,8 @@ pub(crate) fn read_further(alloc: Global, reader: &mut BitReader) -> Result<Vec<
     ensures exact { TakesUnless MsgFault.Memory (λ v. v.items) result reader.new (further_at (length reader.old) reader.old) }
     ensures taken { IfOk result (λ v. reader.old ≡ flat_map packet_bits v.items ++ reader.new) }
     ensures fits { IfOk result (λ v. AllByRecursion IsFurther v.items) }
+    // Memory is wanted only for a further packet.
+    ensures memory { IfErr result (λ e. e ≡ MsgFault.Memory → MayKeep (λ x. x.0) (further_at (length reader.old) reader.old)) }
 {
     let mut further = Vec::new(alloc);
     while reader.remaining() >= 8 {

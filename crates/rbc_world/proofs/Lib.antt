@@ -4,3 +4,4 @@ pub mod Shown
 pub mod Loop
 pub mod Reached
 pub mod Mentions
+pub mod Wanted

@@ -67,7 +67,7 @@ world_kept line cs trains c k new at within same = λ i. record { at = λ d. cen
 
 -- ## Bytes, sets and unsets
 
-is_centre_within : (line : Line) (cs : List Centre) (c : ℕ) → length cs ≡ length line.centres → c < length cs → is_centre line c ≡ true
+pub is_centre_within : (line : Line) (cs : List Centre) (c : ℕ) → length cs ≡ length line.centres → c < length cs → is_centre line c ≡ true
 is_centre_within line cs c each within = grind (arith, nat_tests)
 
 is_centre_past : (line : Line) (cs : List Centre) (c : ℕ) → length cs ≡ length line.centres → length cs ≤ c → is_centre line c ≡ false

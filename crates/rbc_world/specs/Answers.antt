@@ -1,10 +1,17 @@
 -- What the calls of a world answer, beside their definitions.
-use Rattle.std.specs.Prelude.{◌≡◌, ◌⊎◌, ℕ, List, [], ◌∷◌, ◌++◌, Result, Ok, Err}
+use Rattle.std.specs.Prelude.{◌≡◌, ◌≢◌, ◌⊎◌, ℕ, true, List, [], ◌∷◌, ◌++◌, Result, Ok, Err}
 use Rattle.rbc_spec.specs.Reach.{Local}
-use Rattle.rbc_spec.specs.Line.{Line}
+use Rattle.rbc_spec.specs.Line.{Line, is_centre}
 use Rattle.rbc_spec.specs.Message.{TrainMessage, InitiationOfSession}
-use Rattle.rbc_spec.specs.World.{Event, Bytes, new_world, mention, IsRefused}
+use Rattle.rbc_spec.specs.World.{Event, World, new_world, mention, IsRefused}
 use Rattle.rbc_spec.specs.Step.{Refusal, ClockEnd as AtClockEnd}
+use Rattle.rbc_msgs.specs.TrainText.{TrainText}
+use Rattle.rbc_msgs.specs.TrainReading.{read_train}
+use Rattle.rbc_msgs.specs.Kept.{kept_packets, IsBehindPackets}
+use Rattle.rbc_msgs.specs.StepMessage.{step_message}
+use Rattle.rbc_msgs.specs.declared.fault.MsgFault.{MsgFault}
+use Rattle.rbc_world.specs.declared.event.WorldEvent.{WorldEvent}
+use Rattle.rbc_world.specs.declared.event.WorldEvent.TheVariants as event
 use Rattle.rbc_centre.specs.declared.fault.StepFault.{StepFault}
 use Rattle.rbc_centre.specs.declared.fault.StepFault.TheVariants.{Memory, LinkFull, ClockEnd}
 
@@ -19,19 +26,24 @@ abbrev pub Gives : {X Y : Type 0} → (X → Y) → Result X StepFault → Resul
 Gives view (Ok x) step = step ≡ Ok (view x)
 Gives view (Err fault) step = IsRefusal fault step
 
--- memory is wanted only where bytes of a train are read: for the message, its session, or its first mention
-abbrev pub TakesMemory : Event → Type 0
-TakesMemory (Bytes c read) = Unit {0}
-TakesMemory event = ⊥
+-- a message makes room where it opens a session, or is the first to name a train of the line
+abbrev pub MakesRoom : Line → List ℕ → TrainMessage → Type 0
+MakesRoom line trains m = (m.body ≡ InitiationOfSession) ⊎ (mention line m.nid_engine trains ≡ trains ++ m.nid_engine ∷ [])
 
-abbrev pub IsWantedBy : {X : Type 0} → Event → Result X StepFault → Type 0
-IsWantedBy event (Err Memory) = TakesMemory event
-IsWantedBy event result = Unit {0}
+-- bytes of a train want memory only where their message keeps a packet or makes room, or where their fault can be found behind a packet
+abbrev pub BytesTakeMemory : Line → List ℕ → Result TrainText MsgFault → Type 0
+BytesTakeMemory line trains (Ok m) = (kept_packets m ≢ []) ⊎ MakesRoom line trains (step_message m)
+BytesTakeMemory line trains (Err fault) = IsBehindPackets fault
 
--- a message that is heard wants memory only where it opens a session, or is the first to name a train of the line
-abbrev pub IsHeardBy : {X : Type 0} → Line → List ℕ → TrainMessage → Result X StepFault → Type 0
-IsHeardBy line trains m (Err Memory) = (m.body ≡ InitiationOfSession) ⊎ (mention line m.nid_engine trains ≡ trains ++ m.nid_engine ∷ [])
-IsHeardBy line trains m result = Unit {0}
+-- an event wants memory only where it is such bytes, at a centre of the line
+abbrev pub TakesMemory : Line → World → WorldEvent → Type 0
+TakesMemory line w (event.Train c bytes) = (is_centre line c ≡ true) × BytesTakeMemory line w.trains (read_train bytes.items)
+TakesMemory line w other = ⊥
+
+-- where memory was wanted, this holds
+abbrev pub IfWanted : {X : Type 0} → Result X StepFault → Type 0 → Type 0
+IfWanted (Err Memory) so = so
+IfWanted result so = Unit {0}
 
 -- a whole run is refused for want of memory, or as one of its steps is
 abbrev pub IsRefusedRun : Line → List Event → StepFault → Type 0

@@ -1,6 +1,6 @@
 ghost use Rattle.std.specs.Prelude.{◌≡◌, ◌<◌, ◌≤◌, ◌==◌, ◌&&◌, ℕ, true, not, if◌then◌else◌, nat_eq, is_none, length, slice_get, IfOk, IfErr, OnOk, OnErr, Some};
 ghost use Rattle.std.specs.List.{list_any};
-ghost use Rattle.rbc_spec.specs.Line.{IsLine, train_number};
+ghost use Rattle.rbc_spec.specs.Line.{IsLine, is_centre, train_number};
 ghost use Rattle.rbc_spec.specs.World.{new_world, world_step, at_centre, takes, mention, Bytes};
 ghost use Rattle.rbc_spec.specs.Step.{Train};
 ghost use Rattle.rbc_spec.specs.Reach.{Local, Whole};
@@ -10,7 +10,6 @@ ghost use Rattle.indexmap.specs.IndexSet.{spare, insert_key};
 ghost use Rattle.rbc_world.specs.States.{AtBeginning, stands_for};
 ghost use Rattle.rbc_world.specs.Reached.{WasReached, IsOfInterlocking};
 ghost use Rattle.rbc_world.specs.Views.{IsFaultOf};
-ghost use Rattle.rbc_world.specs.Answers.{IsHeardBy};
 ghost use Rattle.rbc_centre.specs.declared.fault.StepFault.TheVariants.{Memory};
 ghost use Rattle.rbc_spec.specs.Run.{Goes};
 ghost use Rattle.rbc_spec.specs.ReadOff.{StandsFor, read_off};
@@ -45,7 +44,7 @@ pub struct World {
 impl World {
     ghost use Rattle.rbc_world.specs.World.{line_of, state_of};
     ghost use Rattle.rbc_world.specs.Views.{event_of, answer_of, numbered};
-    ghost use Rattle.rbc_world.specs.Answers.{Gives, IsWantedBy};
+    ghost use Rattle.rbc_world.specs.Answers.{Gives, TakesMemory, BytesTakeMemory, MakesRoom, IfWanted};
 
     /// The centres of the line at their beginning. A copy of the line is kept.
     pub fn new(alloc: Global, line: &Line) -> Result<World, AllocError>
@@ -92,8 +91,8 @@ impl World {
             (event_of event.now) (answer_of a) (read_off (line_of self.old) (state_of self.new))) }
         ensures one_centre_exact { (c : ℕ) → IsOneCentreLine (line_of self.old) c → Gives (λ a. (answer_of a, state_of self.new)) result
             (world_step Whole (line_of self.old) (state_of self.old) (event_of event.now)) }
-        // Only a train's bytes want memory.
-        ensures memory { IsWantedBy (event_of event.now) result }
+        // Memory is wanted only by a train's bytes at a centre of the line: for packets that are kept, a session or a first mention.
+        ensures memory { IfWanted result (TakesMemory (line_of self.old) (state_of self.old) event.now) }
         ensures err { OnErr result (state_of self.new ≡ state_of self.old) }
     {
         known_line(&self.line);
@@ -104,7 +103,7 @@ impl World {
         ensures line { line_of self.new ≡ line_of self.old }
         ensures exact { Gives (λ a. (answer_of a, state_of self.new)) result
             (world_step Local (line_of self.old) (state_of self.old) (event_of event.now)) }
-        ensures memory { IsWantedBy (event_of event.now) result }
+        ensures memory { IfWanted result (TakesMemory (line_of self.old) (state_of self.old) event.now) }
         ensures err { OnErr result (state_of self.new ≡ state_of self.old) }
     {
         match event {
@@ -136,6 +135,7 @@ impl World {
         ensures line { line_of self.new ≡ line_of self.old }
         ensures exact { Gives (λ a. (answer_of a, state_of self.new)) result
             (world_step Local (line_of self.old) (state_of self.old) (Bytes c (numbered (read_train bytes.now)))) }
+        ensures memory { IfWanted result ((is_centre (line_of self.old) c ≡ true) × BytesTakeMemory (line_of self.old) (state_of self.old).trains (read_train bytes.now)) }
         ensures err { OnErr result (state_of self.new ≡ state_of self.old) }
     {
         if c as usize >= self.centres.len() {
@@ -154,7 +154,7 @@ impl World {
         ensures exact { Gives (λ a. (answer_of a, state_of self.new)) result
             (takes Local (line_of self.old) (state_of self.old) c (mention (line_of self.old) message.nid_engine (state_of self.old).trains) (Train (step_message message))) }
         // Memory is wanted only for a session or a first mention.
-        ensures memory { IsHeardBy (line_of self.old) (state_of self.old).trains (step_message message) result }
+        ensures memory { IfWanted result (MakesRoom (line_of self.old) (state_of self.old).trains (step_message message)) }
         ensures err { OnErr result (state_of self.new ≡ state_of self.old) }
     {
         let nid_engine = message.nid_engine();
@@ -189,6 +189,7 @@ fn centres_of(alloc: Global, line: &Line) -> Result<Vec<Centre>, AllocError>
 fn unread(fault: MsgFault) -> Result<Answer, StepFault>
     ensures ok { IfOk result (IsFaultOf fault) }
     ensures err { IfErr result (λ e. e ≡ Memory) }
+    ensures wanted { OnErr result (fault ≡ MsgFault.Memory) }
 {
     match fault {
         MsgFault::Memory => Err(StepFault::Memory),
@@ -202,7 +203,6 @@ fn unread(fault: MsgFault) -> Result<Answer, StepFault>
     }
 }
 
-// A message of the train was heard.
 // Whether the train is of the line, and no message named it before.
 fn is_first_mention(line: &Line, trains: &IndexSet<u32>, nid_engine: u32) -> bool
     ensures { result ≡ not (is_none (train_number line.now nid_engine)) && not (list_any (λ u. nid_engine == u) trains.now.keys) }
@@ -222,6 +222,7 @@ fn make_room(trains: &mut IndexSet<u32>, is_first: bool) -> Result<(), AllocErro
     Ok(())
 }
 
+// A message of the train was heard, perhaps the first.
 fn add_mention(trains: &mut IndexSet<u32>, nid_engine: u32, is_first: bool)
     requires { is_first ≡ true → 0 < spare trains.old }
     ensures { trains.new.keys ≡ (if is_first then insert_key nat_eq trains.old.keys nid_engine else trains.old.keys) }

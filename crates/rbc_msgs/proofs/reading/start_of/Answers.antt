@@ -1,4 +1,4 @@
-use Rattle.std.proofs.Common.{◌≡◌, ◌+◌, ◌*◌, ◌/◌, ◌<◌, ◌++◌, length, take, get_or, sym, ◌∙◌, append_assoc, arith}
+use Rattle.std.proofs.Common.{◌≡◌, ◌+◌, ◌*◌, ◌/◌, ◌++◌, take, sym, ◌∙◌, append_assoc, arith}
 use Rattle.rbc_bits.specs.Bits.{field, bits_of}
 use Rattle.rbc_msgs.proofs.Start.{start_fields, start_read}
 use Rattle.rbc_msgs.proofs.reading.start_of.Goals as goal

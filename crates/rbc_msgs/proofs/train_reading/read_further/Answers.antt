@@ -3,6 +3,7 @@ use Rattle.std.proofs.lemmas.Result.{err_from_is_err_and}
 use Rattle.rbc_msgs.specs.TrainSpelling.{packet_bits}
 use Rattle.rbc_msgs.proofs.TrainLaws.{length-packet}
 use Rattle.rbc_msgs.proofs.Further.{none-read, one-more, all-read, none-more}
+use Rattle.rbc_msgs.proofs.Kept.{further-kept}
 use Rattle.rbc_msgs.proofs.train_reading.read_further.Goals as goal
 
 pub loop-alloc-init : goal.loop-alloc-init
@@ -25,3 +26,13 @@ returns-in_err-further_packet-clause-exact c =
 pub returns-clause-exact : goal.returns-clause-exact
 returns-clause-exact c =
     all-read c.args.reader.now c.loop-alloc.reader c.loop-alloc.further.items c.loop-alloc.invariant (omega (arith, c.remaining.ensures))
+
+pub returns-in_err-further_packet-clause-memory : goal.returns-in_err-further_packet-clause-memory
+returns-in_err-further_packet-clause-memory c =
+    let p = err_from_is_err_and c.from_residual.result c.from_residual.ensures.1 in
+    rw p.1 (λ e. further-kept c.args.reader.now c.loop-alloc.reader c.loop-alloc.further.items c.loop-alloc.invariant (omega (arith, c.remaining.ensures)))
+
+pub returns-in_err-push-clause-memory : goal.returns-in_err-push-clause-memory
+returns-in_err-push-clause-memory c =
+    let p = err_from_is_err_and c.from_residual-in_err-push.result c.from_residual-in_err-push.ensures.1 in
+    rw p.1 (λ e. further-kept c.args.reader.now c.loop-alloc.reader c.loop-alloc.further.items c.loop-alloc.invariant (omega (arith, c.remaining.ensures)))

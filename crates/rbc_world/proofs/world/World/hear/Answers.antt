@@ -62,8 +62,8 @@ returns-clause-exact c =
     step_ok c.args.self.now.line c.args.self.now.centres.items c.args.self.now.trains.keys (Train (step_message c.args.message)) c.args.c c.index_mut.result.now c.hear.new.self at c.requires
     (c.args.self.now.one_line _ _ at) (c.args.self.now.in_order _ _ at) _ _ c.add_mention.new.trains.keys c.in_ok-outcome.ensures.exact
     (c.add_mention.ensures ∙ ap (λ (us : List ℕ). if c.is_first_mention-is_first.result then insert_key nat_eq us c.nid_engine-nid_engine.result else us) c.in_ok-make_room.ensures.keys
-          ∙ named c.args.self.now.line c.nid_engine-nid_engine.result c.args.self.now.trains.keys c.is_first_mention-is_first.result c.is_first_mention-is_first.ensures
-          ∙ ap (λ t. mention c.args.self.now.line t c.args.self.now.trains.keys) c.nid_engine-nid_engine.ensures.value)
+    ∙ named c.args.self.now.line c.nid_engine-nid_engine.result c.args.self.now.trains.keys c.is_first_mention-is_first.result c.is_first_mention-is_first.ensures
+    ∙ ap (λ t. mention c.args.self.now.line t c.args.self.now.trains.keys) c.nid_engine-nid_engine.ensures.value)
 
 pub returns-in_err-make_room-clause-memory : goal.returns-in_err-make_room-clause-memory
 unfolding stands_for

@@ -5,6 +5,7 @@ use Rattle.rbc_world.specs.Views.{answer_of}
 use Rattle.rbc_world.specs.Answers.{Gives}
 use Rattle.rbc_world.specs.World.{state_of}
 use Rattle.rbc_world.proofs.Steps.{no_centre, message_step, unread_gives}
+use Rattle.rbc_world.proofs.Wanted.{heard_wants, unread_wants}
 use Rattle.rbc_world.proofs.world.World.receive.Goals as goal
 
 pub returns-then-c-len-clause-exact : goal.returns-then-c-len-clause-exact
@@ -22,3 +23,13 @@ pub returns-in-Err-clause-exact : goal.returns-in-Err-clause-exact
 returns-in-Err-clause-exact c =
     let within : c.args.c < length c.args.self.now.centres.items = search rules in
     unread_gives c.args.self.now.line _ c.args.self.now.centres.items c.args.c _ c.in-Err.fault c.unread.result c.args.self.now.each_centre within c.in-Err.ensures.exact c.unread.ensures.ok c.unread.ensures.err
+
+pub returns-in-Ok-clause-memory : goal.returns-in-Ok-clause-memory
+returns-in-Ok-clause-memory c =
+    let within : c.args.c < length c.args.self.now.centres.items = search rules in
+    heard_wants c.args.self.now.line c.args.self.now.centres.items (state_of c.args.self.now).trains c.args.c _ c.args.self.now.each_centre within _ c.hear.result c.in-Ok.ensures.exact c.hear.ensures.memory
+
+pub returns-in-Err-clause-memory : goal.returns-in-Err-clause-memory
+returns-in-Err-clause-memory c =
+    let within : c.args.c < length c.args.self.now.centres.items = search rules in
+    unread_wants c.args.self.now.line c.args.self.now.centres.items (state_of c.args.self.now).trains c.args.c _ c.args.self.now.each_centre within c.in-Err.fault c.unread.result c.in-Err.ensures.memory c.unread.ensures.wanted

@@ -1,0 +1,123 @@
+-- What can stand behind a packet that is kept.
+use Rattle.std.proofs.Common.{◌≡◌, ◌≢◌, inl, inr, ℕ, zero, suc, ◌≤◌, Bool, true, false, ltb, leb, eqb, not, List, [], ◌∷◌, ◌++◌, length, Result, Ok, Err, refl, ap, length-append, arith}
+use borrow.Author.Tests.{ltb-false}
+use Rattle.std.specs.Result.{IfErr}
+use Rattle.std.specs.List.{flat_map}
+use Rattle.std.proofs.lemmas.Bool.{le-ltb}
+use Rattle.rbc_bits.specs.Reading.{field_at}
+use Rattle.rbc_packets.specs.Steps.{◌>>=◌, refuse}
+use Rattle.rbc_packets.specs.Packet.{Packet}
+use Rattle.rbc_packets.specs.OpaqueReading.{opaque_at}
+use Rattle.rbc_packets.specs.declared.fault.PacketFault.{PacketFault}
+use Rattle.rbc_packets.specs.declared.fault.PacketFault.TheVariants as packet
+use Rattle.rbc_msgs.specs.declared.fault.MsgFault.{MsgFault}
+use Rattle.rbc_msgs.specs.declared.fault.MsgFault.TheVariants as faults
+use Rattle.rbc_msgs.specs.declared.train_body.TrainBody.{TrainBody}
+use Rattle.rbc_msgs.specs.TrainText.{TrainText}
+use Rattle.rbc_msgs.specs.Reading.{packet_read, end_at}
+use Rattle.rbc_msgs.specs.TrainReading.{further_packet_at, further_at}
+use Rattle.rbc_msgs.specs.TrainSpelling.{packet_bits}
+use Rattle.rbc_msgs.specs.Kept.{data_packets, kept_packets, IsBehindPackets, MayKeep}
+use Rattle.rbc_msgs.proofs.Further.{IsRead}
+use Rattle.rbc_msgs.proofs.NotShort.{ltb-cases}
+
+-- ---- steps
+
+abbrev IsBehind : {A : Type 0} → Result A MsgFault → Type 0
+IsBehind r = IfErr r IsBehindPackets
+
+behind-then : {A B : Type 0} (r : Result A MsgFault) (f : A → Result B MsgFault) → IsBehind r → ((x : A) → IsBehind (f x)) → IsBehind (r >>= f)
+behind-then (Ok x) f p q = q x
+behind-then (Err fault) f p q = p
+
+-- a step behind such a packet
+keeps-then : {A B : Type 0} (packets : B → List Packet) (r : Result A MsgFault) (f : A → Result B MsgFault) → IsBehind r → ((x : A) → MayKeep packets (f x)) → MayKeep packets (r >>= f)
+keeps-then packets (Ok x) f p q = q x
+keeps-then packets (Err fault) f p q = p
+
+-- the step that met it, and what stands behind
+met-then : {A B : Type 0} (first : A → List Packet) (packets : B → List Packet) (r : Result A MsgFault) (f : A → Result B MsgFault) → MayKeep first r → ((x : A) → first x ≢ [] → MayKeep packets (f x)) → MayKeep packets (r >>= f)
+met-then first packets (Ok x) f p q = q x p
+met-then first packets (Err fault) f p q = p
+
+-- ---- packets
+
+behind-packet : {A : Type 0} (r : Result A PacketFault) → IsBehind (packet_read r)
+behind-packet (Ok x) = tt
+behind-packet (Err packet.Short) = tt
+behind-packet (Err packet.Length) = tt
+behind-packet (Err packet.Value) = tt
+behind-packet (Err packet.Memory) = tt
+
+some-packet : (p : Packet) (ps : List Packet) → p ∷ ps ≢ []
+some-packet p ps e = cc
+
+behind-refuse : (b : Bool) (fault : MsgFault) → IsBehindPackets fault → IsBehind (refuse b fault)
+behind-refuse true fault h = h
+behind-refuse false fault h = tt
+
+behind-field : (n : ℕ) (bits : List Bool) → n ≤ length bits → IsBehind (field_at faults.Short n bits)
+unfolding field_at
+behind-field n bits le = let t : ltb (length bits) n ≡ false = le-ltb _ _ le in rw t tt
+
+behind-further_packet : (bits : List Bool) → 8 ≤ length bits → IsBehind (further_packet_at bits)
+unfolding further_packet_at
+behind-further_packet bits le =
+    behind-then (field_at faults.Short 8 bits) _ (behind-field 8 bits le) (λ n. behind-then (refuse (eqb n.0 0) faults.Value) _ (behind-refuse (eqb n.0 0) faults.Value tt) (λ _. behind-packet (opaque_at n.0 n.1)))
+
+behind-further : (n : ℕ) (bits : List Bool) → IsBehind (further_at n bits)
+unfolding further_at
+behind-further zero bits = tt
+behind-further (suc n) bits =
+    elim (ltb-cases (length bits) 8) [
+      | inl t ↦ rw t tt
+      | inr t ↦
+          rw t (behind-then (further_packet_at bits) _ (behind-further_packet bits (ltb-false _ _ t)) (λ first. behind-then (further_at n first.1) _ (behind-further n first.1) (λ others. tt)))
+    ]
+
+-- where 8 or more bits are left, a further packet is kept, or has a fault
+keeps-further : (n : ℕ) (bits : List Bool) → 8 ≤ length bits → length bits ≤ n → MayKeep (λ x. x.0) (further_at n bits)
+unfolding further_at
+keeps-further zero bits long enough = absurd (omega arith)
+keeps-further (suc n) bits long enough =
+    let t : ltb (length bits) 8 ≡ false = le-ltb _ _ long in
+    rw t (keeps-then (λ x. x.0) (further_packet_at bits) _ (behind-further_packet bits long) (λ first. keeps-then (λ x. x.0) (further_at n first.1) _ (behind-further n first.1) (λ others. some-packet first.0 others.0)))
+
+pub further-kept : (all left : List Bool) (ps : List Packet) → IsRead all left ps → 8 ≤ length left → MayKeep (λ x. x.0) (further_at (length all) all)
+further-kept all left ps h long =
+    keeps-further (length all) all (omega (arith, ap length h.taken, length-append (flat_map packet_bits ps) left)) (omega arith)
+
+-- ---- a whole message
+
+behind-end : (bits : List Bool) → IsBehind (end_at faults.Packet bits)
+unfolding end_at
+behind-end bits =
+    behind-then (refuse (leb 8 (length bits)) faults.Packet) _ (behind-refuse (leb 8 (length bits)) faults.Packet tt)
+    (λ _. behind-then (field_at faults.Short (length bits) bits) _ (behind-field (length bits) bits (omega arith)) (λ x. behind-refuse (not (eqb x.0 0)) faults.Padding tt))
+
+one-of : (front back : List Packet) → front ≢ [] → front ++ back ≢ []
+one-of [] back ne = absurd (ne refl)
+one-of (p ∷ front) back ne = some-packet p (front ++ back)
+
+one-behind : (front back : List Packet) → back ≢ [] → front ++ back ≢ []
+one-behind [] back ne = ne
+one-behind (p ∷ front) back ne = some-packet p (front ++ back)
+
+module _ (t_train nid_engine : ℕ) where
+  -- what is tested behind the body
+  abbrev ended : TrainBody → List Packet × List Bool → Result TrainText MsgFault
+  ended body further = end_at faults.Packet further.1 >>= λ _. Ok (record { t_train = t_train; nid_engine = nid_engine; body = body; further = further.0 })
+
+  -- the further packets were wanted
+  pub keeps-behind : (body : TrainBody) (bits : List Bool) → MayKeep (λ x. x.0) (further_at (length bits) bits)
+      → MayKeep kept_packets (further_at (length bits) bits >>= λ further. ended body further)
+  keeps-behind body bits h =
+      met-then (λ x. x.0) kept_packets (further_at (length bits) bits) _ h (λ further ne. keeps-then kept_packets (end_at faults.Packet further.1) _ (behind-end further.1) (λ _. one-behind (data_packets body) further.0 ne))
+
+  -- the train data were wanted
+  pub keeps-data : (read : Result (TrainBody × List Bool) MsgFault) → MayKeep (λ x. data_packets x.0) read
+      → MayKeep kept_packets (read >>= λ body. further_at (length body.1) body.1 >>= λ further. ended body.0 further)
+  keeps-data read h =
+      met-then (λ x. data_packets x.0) kept_packets read _ h
+      (λ body ne. keeps-then kept_packets (further_at (length body.1) body.1) _ (behind-further (length body.1) body.1)
+      (λ further. keeps-then kept_packets (end_at faults.Packet further.1) _ (behind-end further.1) (λ _. one-of (data_packets body.0) further.0 ne)))

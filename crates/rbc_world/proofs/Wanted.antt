@@ -1,0 +1,36 @@
+-- What wants memory where bytes of a train come to a centre of the line.
+use Rattle.std.proofs.Common.{◌≡◌, inl, inr, ℕ, ◌<◌, true, List, length, Result, Ok, Err}
+use Rattle.std.specs.Result.{OnErr}
+use Rattle.rbc_spec.specs.Line.{Line, is_centre}
+use Rattle.rbc_msgs.specs.TrainText.{TrainText}
+use Rattle.rbc_msgs.specs.StepMessage.{step_message}
+use Rattle.rbc_msgs.specs.Kept.{kept_packets, MayKeep}
+use Rattle.rbc_msgs.specs.declared.fault.MsgFault.{MsgFault}
+use Rattle.rbc_msgs.specs.declared.fault.MsgFault.TheVariants as of_message
+use Rattle.rbc_centre.specs.declared.centre.Centre.{Centre}
+use Rattle.rbc_centre.specs.declared.fault.StepFault.{StepFault}
+use Rattle.rbc_centre.specs.declared.fault.StepFault.TheVariants.{Memory, LinkFull, ClockEnd}
+use Rattle.rbc_world.specs.Answers.{IfWanted, MakesRoom, BytesTakeMemory}
+use Rattle.rbc_world.specs.declared.event.Answer.{Answer}
+use Rattle.rbc_world.proofs.Steps.{is_centre_within}
+
+kept_wants : (line : Line) (trains : List ℕ) (read : Result TrainText MsgFault) → MayKeep kept_packets read → BytesTakeMemory line trains read
+kept_wants line trains (Ok m) h = inl h
+kept_wants line trains (Err fault) h = h
+
+module _ (line : Line) (cs : List Centre) (trains : List ℕ) (c : ℕ) (read : Result TrainText MsgFault) (each : length cs ≡ length line.centres) (within : c < length cs) where
+  -- by the message that they spell
+  pub heard_wants : (m : TrainText) (result : Result Answer StepFault) → read ≡ Ok m → IfWanted result (MakesRoom line trains (step_message m))
+      → IfWanted result ((is_centre line c ≡ true) × BytesTakeMemory line trains read)
+  heard_wants m (Ok a) is h = tt
+  heard_wants m (Err Memory) is h = (is_centre_within line cs c each within, rw is (inr h))
+  heard_wants m (Err LinkFull) is h = tt
+  heard_wants m (Err ClockEnd) is h = tt
+
+  -- or for a packet that is kept of them
+  pub unread_wants : (fault : MsgFault) (result : Result Answer StepFault) → (fault ≡ of_message.Memory → MayKeep kept_packets read) → OnErr result (fault ≡ of_message.Memory)
+      → IfWanted result ((is_centre line c ≡ true) × BytesTakeMemory line trains read)
+  unread_wants fault (Ok a) kept is = tt
+  unread_wants fault (Err Memory) kept is = (is_centre_within line cs c each within, kept_wants line trains read (kept is))
+  unread_wants fault (Err LinkFull) kept is = tt
+  unread_wants fault (Err ClockEnd) kept is = tt
