@@ -226,8 +226,11 @@ module _ (line : Line) (ok : IsLine line) (c t s : ℕ) where
           by_run : u ≡ t → (w : Bool) → within r s ≡ w → (h : Bool) → is_home line c s ≡ h → (if w then one_if (not (is_home line c s)) else 0) ≤ sent_by (outside line t s) (centre_count line) c (returned line c u track r k).frames
           by_run here false is h home = omega arith
           by_run here true is true home = omega (arith, own_weight home)
-          by_run here true is false home = omega (arith, foreign_weight home,
-              subst (λ v. 1 ≤ sent_by (outside line t s) (centre_count line) c (returned line c v track r k).frames) (sym here) (all_go track r k is (on here is) home))
+          by_run here true is false home = omega (
+            arith,
+            foreign_weight home,
+            subst (λ v. 1 ≤ sent_by (outside line t s) (centre_count line) c (returned line c v track r k).frames) (sym here) (all_go track r k is (on here is) home),
+          )
 
           by_train : (b : Bool) → (u == t) ≡ b → (if b then (if within r s then one_if (not (is_home line c s)) else 0) else 0) ≤ sent_by (outside line t s) (centre_count line) c (returned line c u track r k).frames
           by_train false other = omega arith

@@ -4,4 +4,7 @@
 
 mod laws;
 
-pub use laws::{a_sound_flow_has_each_right_once, an_exact_act_loses_nothing, each_step_is_exact, no_step_loses_a_right, no_step_loses_a_token, what_a_sound_flow_brings};
+pub use laws::{
+    a_sound_flow_has_each_right_once, an_exact_act_loses_nothing, each_step_is_exact,
+    no_step_loses_a_right, no_step_loses_a_token, what_a_sound_flow_brings,
+};

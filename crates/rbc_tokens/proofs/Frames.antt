@@ -161,7 +161,7 @@ module _ (line : Line) (c : ℕ) (y : Tally) (is : IsTally line c y) where
       can : (at : Place) → may_take line c k d number t at hand ≡ true → CanTake d t hand k
       can at so exact =
           let parts = and_parts (has (λ e. (e.number == number) && e.is_taking) (k.expects d t) && (is_none (k.mission t) && not (k.has_right t)))
-              ((is_on_track line at.track hand && has (is_on line at.track) (section_of_group line at.group)) && (nat_le (10 * group_start line at) at.front && all_of (may_arrive line c k d t at.track) hand)) so in
+          ((is_on_track line at.track hand && has (is_on line at.track) (section_of_group line at.group)) && (nat_le (10 * group_start line at) at.front && all_of (may_arrive line c k d t at.track) hand)) so in
           let none = and_parts (has (λ e. (e.number == number) && e.is_taking) (k.expects d t)) (is_none (k.mission t) && not (k.has_right t)) parts.0 in
           let fits = and_parts (is_on_track line at.track hand && has (is_on line at.track) (section_of_group line at.group)) (nat_le (10 * group_start line at) at.front && all_of (may_arrive line c k d t at.track) hand) parts.1 in
           let arrives = and_parts (nat_le (10 * group_start line at) at.front) (all_of (may_arrive line c k d t at.track) hand) fits.1 in

@@ -27,11 +27,11 @@ returns-clause-yields ctx reach line w a c number t heard has_data is_ended carr
     let near = neighbours line ok in
     let body : Body = Yield number t heard has_data is_ended carried hand in
     let over : hands_over reach ≡ true = All-head (λ f. (u h : ℕ) → sent_over u h f ≡ true → hands_over reach ≡ true) body (way (took w a c) a c)
-        (subst (All (λ f. (u h : ℕ) → sent_over u h f ≡ true → hands_over reach ≡ true)) takes.head (within.yields.each a c)) t number (and_from (t == t) (number == number) (itself t) (itself number)) in
+    (subst (All (λ f. (u h : ℕ) → sent_over u h f ≡ true → hands_over reach ≡ true)) takes.head (within.yields.each a c)) t number (and_from (t == t) (number == number) (itself t) (itself number)) in
     let whole = All-head (IsBodySound line a c) body (way (took w a c) a c) (subst (All (IsBodySound line a c)) takes.head (sound.bodies.each a c)) in
     let placed : has (λ at. may_take line c (w.at c) a number t at hand) (carried_place carried) ≡ true =
-        ap (has (λ at. may_take line c (w.at c) a number t at hand)) (is_carried line near w sound a c number t heard has_data is_ended carried hand from to small below takes)
-        ∙ is_taken line near w sound a c number t heard has_data is_ended carried hand from to small below takes in
+    ap (has (λ at. may_take line c (w.at c) a number t at hand)) (is_carried line near w sound a c number t heard has_data is_ended carried hand from to small below takes)
+    ∙ is_taken line near w sound a c number t heard has_data is_ended carried hand from to small below takes in
     and_from (follows_rule reach body) (is_train line t && has (λ at. may_take line c (w.at c) a number t at hand) (carried_place carried)) (handed_over reach body over)
     (and_from (is_train line t) (has (λ at. may_take line c (w.at c) a number t at hand) (carried_place carried)) whole.known placed)
 
