@@ -13,9 +13,10 @@ use Rattle.rbc_book.specs.Book.{Pages, entry_at, wish_at}
 use Rattle.rbc_right.specs.Rights.{Rights, is_here}
 use Rattle.rbc_session.specs.Sessions.{Records, phase_at}
 use Rattle.rbc_session.specs.SessionStates.{session_phase}
-use Rattle.rbc_centre.specs.SessionStates.{Stands}
-use Rattle.rbc_centre.specs.State.{stands_for, of_trains, right_at, unknown_state, IsUnknown}
-use Rattle.rbc_centre.specs.declared.train.TrainState.{TrainState}
+use Rattle.rbc_rules.specs.SessionStates.{Stands}
+use Rattle.rbc_rules.specs.Trains.{unknown_state}
+use Rattle.rbc_centre.specs.State.{stands_for, of_trains, right_at, IsUnknown}
+use Rattle.rbc_rules.specs.declared.train.TrainState.{TrainState}
 
 slice_get-last : {X : Type 0} (xs : List X) (x : X) → slice_get (xs ++ x ∷ []) (length xs) ≡ Some x
 slice_get-last [] x = refl

@@ -1,11 +1,6 @@
-pub mod Puts
-pub mod Rules
-pub mod SessionStates
 pub mod States
+pub mod Trains
 pub mod Begins
-pub mod Turns
-pub mod Silences
-pub mod Groups
 pub mod Steps
 pub mod Wishes
 pub mod Alike

@@ -8,10 +8,10 @@ use Rattle.rbc_spec.specs.Line.{Line, Train, train_number}
 use Rattle.rbc_right.specs.Rights.{Rights, is_here}
 use Rattle.rbc_session.specs.Sessions.{Records}
 use Rattle.rbc_spec.specs.Centre.{Phase}
-use Rattle.rbc_centre.specs.SessionStates.{Enters, Stands}
+use Rattle.rbc_rules.specs.SessionStates.{Enters, Stands}
 use Rattle.rbc_centre.specs.State.{of_trains, right_at}
-use Rattle.rbc_centre.proofs.SessionStates.{stands_for_train, stands_with_train}
-use Rattle.rbc_centre.specs.declared.train.TrainState.{TrainState}
+use Rattle.rbc_rules.proofs.SessionStates.{stands_for_train, stands_with_train}
+use Rattle.rbc_rules.specs.declared.train.TrainState.{TrainState}
 
 -- ## Lists
 

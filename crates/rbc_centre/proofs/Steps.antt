@@ -1,5 +1,5 @@
 -- The whole step of a centre.
-use Rattle.std.proofs.Common.{◌≡◌, ℕ, ◌+◌, ◌<◌, ◌≤◌, ◌&&◌, Bool, true, false, List, [], length, Option, Some, None, refl, sym, ap, ◌∙◌, arith, Ok, Err, nat_lt}
+use Rattle.std.proofs.Common.{◌≡◌, ℕ, ◌+◌, ◌<◌, ◌≤◌, ◌&&◌, Bool, true, false, List, [], length, Option, Some, None, refl, sym, ap, ◌∙◌, arith, Result, Ok, Err, nat_lt}
 use Rattle.std.specs.List.{list_any, range_with_len}
 use Rattle.std.proofs.lemmas.Bool.Decides.{nat_tests}
 use Rattle.rbc_spec.specs.Line.{Line, is_linked}
@@ -15,14 +15,21 @@ use Rattle.rbc_msgs.specs.StepMessage.{step_message}
 use Rattle.rbc_book.specs.Book.{Pages}
 use Rattle.rbc_right.specs.Rights.{Rights}
 use Rattle.rbc_centre.specs.State.{stands_for}
-use Rattle.rbc_centre.specs.Views.{event_of}
+use Rattle.rbc_rules.specs.Desk.{effect_left}
+use Rattle.rbc_rules.specs.declared.heard.Heard.{Heard}
+use Rattle.rbc_rules.specs.declared.reason.Reason.{Reason as ReasonCode}
+use Rattle.rbc_centre.specs.Views.{event_of, outcome_heard}
 use Rattle.rbc_centre.specs.declared.event.Event.{Event as EventOfCode}
 use Rattle.rbc_centre.specs.declared.event.Event.TheVariants as code
-use Rattle.rbc_centre.specs.declared.train.TrainState.{TrainState}
-use Rattle.rbc_mission.proofs.Silences.{none_of}
-use Rattle.rbc_centre.proofs.Silences.{ticked_is}
+use Rattle.rbc_rules.specs.declared.train.TrainState.{TrainState}
+use Rattle.rbc_lemmas.proofs.Lists.{any-range_none}
 
--- a clock that ticks leaves a centre local
+-- a clock that ticks changes nothing else
+pub ticked_is : (line : Line) (c old clock : ℕ) (pages : Pages) (rights : Rights) (states : List TrainState) → step.ticked clock (stands_for line c old pages rights states) ≡ stands_for line c clock pages rights states
+unfolding stands_for
+ticked_is line c old clock pages rights states = refl
+
+-- and leaves a centre local
 pub local_later : (line : Line) (c old clock : ℕ) (pages : Pages) (rights : Rights) (states : List TrainState) → IsLocalAt line c (stands_for line c old pages rights states) → IsLocalAt line c (stands_for line c clock pages rights states)
 unfolding stands_for
 local_later line c old clock pages rights states a = record {
@@ -74,24 +81,6 @@ module _ (line : Line) (c clock : ℕ) (old_book new_book : Pages) (old_rights n
   is_later : step.ticked (clock + 1) k ≡ later
   is_later = ticked_is line c clock (clock + 1) old_book old_rights old
 
-  -- a message that is answered
-  pub answer_stands : (m : TrainMessage) → outcome ≡ spoken (clock + 1) sayings words None → replied left sayings words ≡ step.hear_and_answer Local line c m later
-      → step.silence line c later m ≡ None → (outcome, left) ≡ step.taken Local line c (Train m) k
-  unfolding stands_for
-  answer_stands m o r h =
-      let silent : step.silence line c (step.ticked (clock + 1) k) m ≡ None = ap (λ (x : centre.Centre). step.silence line c x m) is_later ∙ h in
-      let reply : step.hear_and_answer Local line c m (step.ticked (clock + 1) k) ≡ replied left sayings words = ap (λ (x : centre.Centre). step.hear_and_answer Local line c m x) is_later ∙ sym r in
-      stands_behind (Train m) refl None (rw silent (ap (effect_of None) reply)) o
-
-  -- a message that is silent
-  pub silent_stands : (m : TrainMessage) (why : Reason) → outcome ≡ spoken (clock + 1) sayings words (Some why) → replied left sayings words ≡ replied later [] []
-      → step.silence line c later m ≡ Some why → (outcome, left) ≡ step.taken Local line c (Train m) k
-  unfolding stands_for
-  silent_stands m why o r h =
-      let silent : step.silence line c (step.ticked (clock + 1) k) m ≡ Some why = ap (λ (x : centre.Centre). step.silence line c x m) is_later ∙ h in
-      let reply : replied (step.ticked (clock + 1) k) [] [] ≡ replied left sayings words = ap (λ (x : centre.Centre). replied x [] []) is_later ∙ sym r in
-      stands_behind (Train m) refl (Some why) (rw silent (ap (effect_of (Some why)) reply)) o
-
   -- what the interlocking says
   pub set_stands : (s : ℕ) → outcome ≡ spoken (clock + 1) sayings words None → replied left sayings words ≡ step.set line c s later → (outcome, left) ≡ step.taken Local line c (Set s) k
   unfolding stands_for
@@ -100,6 +89,16 @@ module _ (line : Line) (c clock : ℕ) (old_book new_book : Pages) (old_rights n
   pub unset_stands : (s : ℕ) → outcome ≡ spoken (clock + 1) sayings words None → replied left sayings words ≡ step.unset line c s later → (outcome, left) ≡ step.taken Local line c (Unset s) k
   unfolding stands_for
   unset_stands s o r = stands_behind (Unset s) refl None (ap (effect_of None) (ap (step.unset line c s) is_later ∙ sym r)) o
+
+-- what a message came to, as a step
+pub heard_stands : (line line' : Line) (c c' clock clock' : ℕ) (book book' : Pages) (rights rights' : Rights) (trains trains' : List TrainState) (m : TrainMessage) (r : Result Heard ReasonCode)
+    → step.effect Local line c (step.ticked (clock + 1) (stands_for line c clock book rights trains)) (Train m) ≡ effect_left (stands_for line' c' clock' book' rights' trains') r
+    → (outcome_heard (clock + 1) r, stands_for line' c' clock' book' rights' trains') ≡ step.taken Local line c (Train m) (stands_for line c clock book rights trains)
+unfolding stands_for centre.beginning
+heard_stands line line' c c' clock clock' book book' rights rights' trains trains' m (Ok h) is =
+    ap (λ (e : Effect). (step.outcome_of (clock + 1) (stands_for line c clock book rights trains) e, step.state_after (clock + 1) (stands_for line c clock book rights trains) e)) (sym is)
+heard_stands line line' c c' clock clock' book book' rights rights' trains trains' m (Err why) is =
+    ap (λ (e : Effect). (step.outcome_of (clock + 1) (stands_for line c clock book rights trains) e, step.state_after (clock + 1) (stands_for line c clock book rights trains) e)) (sym is)
 
 -- ## The whole step
 
@@ -124,8 +123,8 @@ and_false : (b : Bool) → (b && false) ≡ false
 and_false true = refl
 and_false false = refl
 
-none_full : (line : Line) (c : ℕ) (ds : List ℕ) → list_any (λ d. is_linked line c d && false) ds ≡ false
-none_full line c ds = ap (λ (f : ℕ → Bool). list_any f ds) (λ i d. and_false (is_linked line c d) i) ∙ none_of ds
+none_full : (line : Line) (c first count : ℕ) → list_any (λ d. is_linked line c d && false) (range_with_len first count) ≡ false
+none_full line c first count = any-range_none (λ d. is_linked line c d && false) first count (λ d low high. and_false (is_linked line c d))
 
 refusal_at_end : (line : Line) (event : Event) (c : ℕ) (k : centre.Centre) → BringsNoFrame event → 1073741823 ≤ k.clock → step.refusal line c k event ≡ Some step.ClockEnd
 refusal_at_end line event c k brings late =
@@ -140,7 +139,7 @@ module _ (line : Line) (event : Event) (c clock : ℕ) (pages : Pages) (rights :
   unfolding stands_for centre.beginning
   no_refusal early =
       let e : nat_lt step.last_stamp (clock + 1) ≡ false = grind (arith, nat_tests) in
-      rw (next_stamp at event brings) (rw (e, none_full line c (range_with_len 0 (length line.centres))) refl)
+      rw (next_stamp at event brings) (rw (e, none_full line c 0 (length line.centres)) refl)
 
   clock_of : at.clock ≡ clock
   unfolding stands_for

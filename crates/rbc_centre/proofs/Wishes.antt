@@ -16,10 +16,11 @@ use Rattle.rbc_right.specs.Rights.{Rights}
 use Rattle.rbc_session.specs.SessionStates.{session_phase}
 use Rattle.rbc_rules.specs.Tellings.{wishing}
 use Rattle.rbc_rules.proofs.Tellings.{shut_at_once, asked_of_taken, left_at_unset, opened_at_once, kept_in_use, left_at_set}
-use Rattle.rbc_centre.specs.Answers.{asked}
-use Rattle.rbc_centre.specs.State.{stands_for, of_trains, HasTrain}
-use Rattle.rbc_centre.specs.declared.train.TrainState.{TrainState}
-use Rattle.rbc_centre.proofs.Puts.{put_same}
+use Rattle.rbc_rules.specs.Answers.{asked}
+use Rattle.rbc_rules.specs.Trains.{HasTrain}
+use Rattle.rbc_centre.specs.State.{stands_for, of_trains}
+use Rattle.rbc_rules.specs.declared.train.TrainState.{TrainState}
+use Rattle.rbc_lemmas.proofs.Puts.{put_same}
 use Rattle.rbc_centre.proofs.States.{of_trains-set, part_of_train, part_of_foreign}
 
 abbrev replied : centre.Centre → List Saying → List Word → Reply

@@ -6,8 +6,8 @@ use Rattle.rbc_spec.specs.Centre as centre
 use Rattle.rbc_book.specs.Book.{Pages, entry_at, wish_at}
 use Rattle.rbc_right.specs.Rights.{Rights, is_here}
 use Rattle.rbc_session.specs.SessionStates.{session_phase}
-use Rattle.rbc_session.specs.declared.session.SessionState.TheVariants as session_state
-use Rattle.rbc_centre.specs.declared.train.TrainState.{TrainState}
+use Rattle.rbc_rules.specs.declared.train.TrainState.{TrainState}
+use Rattle.rbc_rules.specs.Trains.{unknown_state}
 
 -- what is kept of a train of the line
 abbrev pub state_at : Line → List TrainState → ℕ → Option TrainState
@@ -35,17 +35,7 @@ stands_for line number clock pages rights trains = record (centre.beginning line
   has_right = right_at line rights;
 }
 
--- what is kept of a train that was never heard, by its place in the line file and its NID_ENGINE
-abbrev pub unknown_state : ℕ → ℕ → TrainState
-unknown_state i t = record { session_state = session_state.Closed; heard = None; said = 0; supervision = record { number = i; engine = t; mission = None } }
-
 -- the state is of the train at place i of the line file, which was never heard
 pub record IsUnknown (line : Line) (i : ℕ) (p : TrainState) : Type 0 where
   pub state : p ≡ unknown_state i p.supervision.engine
   pub engine : option_map (λ q. q.nid_engine) (slice_get line.trains i) ≡ Some p.supervision.engine
-
--- centre k has this session and this mission of train t, and has said so many messages to it
-pub record HasTrain (k : centre.Centre) (t : ℕ) (p : TrainState) : Type 0 where
-  pub phase_is : k.phase t ≡ session_phase p.session_state
-  pub mission_is : k.mission t ≡ p.supervision.mission
-  pub said_is : k.said t ≡ p.said

@@ -10,26 +10,36 @@ ghost use Rattle.rbc_rules.specs.Desks.{mission_by};
 ghost use Rattle.rbc_msgs.specs.StepMessage.{step_message};
 ghost use Rattle.rbc_session.specs.SessionStates.{phase_of};
 ghost use Rattle.rbc_centre.specs.Answer.{Steps, IsWantedBy};
-ghost use Rattle.rbc_centre.specs.SessionStates.{Stands};
+ghost use Rattle.rbc_rules.specs.SessionStates.{Stands};
 ghost use Rattle.rbc_centre.specs.State.{stands_for, IsUnknown};
 ghost use Rattle.rbc_centre.specs.Views.{event_of, outcome_of};
-ghost use Rattle.rbc_centre.specs.declared.train.TrainState.{TrainState};
+ghost use Rattle.rbc_rules.specs.declared.train.TrainState.{TrainState};
 ghost use Rattle.rbc_centre.specs.declared.event.Event.{Event as EventInMemory};
 ghost use Rattle.rbc_centre.specs.declared.fault.StepFault.TheVariants.{ClockEnd};
 
 use crate::event::Event;
 use crate::fault::StepFault;
 use crate::outcome::Outcome;
-use crate::train::{TrainPage, TrainState};
 use rbc_book::{Book, Page};
+use rbc_hand::SectionRun;
 use rbc_line::Line;
 use rbc_msgs::TrainMsg;
 use rbc_right::Registrar;
-use rbc_session::Sessions;
+use rbc_rules::{TrainPage, TrainState};
+use rbc_session::{Phase, Sessions};
 use std::alloc::{AllocError, Global};
 
 /// The greatest stamp of a step.
 pub const LAST_STAMP: u32 = 1_073_741_823;
+
+// What is known of a train that was never heard.
+const UNKNOWN: TrainPage = TrainPage {
+    phase: Phase::Closed,
+    heard: None,
+    said: 0,
+    mission: None,
+    hand: SectionRun { first: 0, count: 0 },
+};
 
 /// A radio block centre.
 pub struct Centre {
@@ -124,7 +134,7 @@ impl Centre {
     {
         match self.line.train_number(nid_engine) {
             Some(i) => self.trains[i as usize].page(),
-            None => TrainPage::UNKNOWN,
+            None => UNKNOWN,
         }
     }
 

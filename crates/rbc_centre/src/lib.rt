@@ -2,7 +2,6 @@
 //! `rbc_spec.specs.Centre`; the contract of `Centre::step` is one equation with the step defined there.
 #![tactic(auto)]
 
-mod answer;
 mod centre;
 mod event;
 mod fault;
@@ -10,16 +9,12 @@ mod hearing;
 mod interlocking;
 mod outcome;
 mod same;
-mod session_deed;
-mod session_state;
-mod train;
 
 pub use centre::{Centre, LAST_STAMP};
 pub use event::Event;
 pub use fault::StepFault;
-pub use outcome::{Outcome, Saying, Word};
+pub use outcome::{Outcome, Word};
 pub use rbc_hand::SectionRun;
 pub use rbc_mission::{MissionFacts, Told};
-pub use rbc_rules::Reason;
+pub use rbc_rules::{Reason, Saying, TrainPage};
 pub use rbc_session::Phase;
-pub use train::TrainPage;

@@ -1,43 +1,11 @@
-ghost use Rattle.std.specs.Prelude.{◌≡◌, ◌<◌, ◌≤◌, [], ◌∷◌, Some, None, map, length};
+ghost use Rattle.std.specs.Prelude.{◌≡◌, [], ◌∷◌, Some, None, map};
 ghost use Rattle.rbc_spec.specs.Outcome as spec;
-ghost use Rattle.rbc_msgs.specs.Bodies.{track_body};
-ghost use Rattle.rbc_centre.specs.Views.{saying_of, sayings_of, word_of};
+ghost use Rattle.rbc_rules.specs.Sayings.{saying_of, sayings_of};
+ghost use Rattle.rbc_centre.specs.Views.{word_of};
 
 use arrayvec::ArrayVec;
 use rbc_mission::Told;
-use rbc_msgs::{NID_LRBG_UNKNOWN, TrackBody, TrackMsg};
-use rbc_rules::Reason;
-
-/// A message to a train.
-#[derive(Clone, Copy, Debug, PartialEq, Eq)]
-pub struct Saying {
-    pub nid_engine: u32,
-    pub message: TrackMsg,
-}
-
-impl Saying {
-    /// A message that counts so many to the train, from this balise group or `NID_LRBG_UNKNOWN`.
-    pub(crate) fn of_count(nid_engine: u32, count: u32, nid_lrbg: u32, body: TrackBody) -> Saying
-        requires count { count < 4294967295 }
-        requires group { nid_lrbg < 16777216 }
-        ensures { saying_of result ≡ record { nid_engine = nid_engine; message = record { t_train = count; nid_lrbg = nid_lrbg; body = track_body body } } }
-    {
-        Saying {
-            nid_engine,
-            message: TrackMsg::new(count, nid_lrbg, body),
-        }
-    }
-}
-
-impl Default for Saying {
-    /// What fills the places of a row of messages that are not in use.
-    fn default() -> Saying {
-        Saying {
-            nid_engine: 0,
-            message: TrackMsg::new(0, NID_LRBG_UNKNOWN, TrackBody::SystemVersion),
-        }
-    }
-}
+use rbc_rules::{Heard, Reason, Saying};
 
 /// A word to the interlocking of a section, by its number over the whole line.
 #[derive(Clone, Copy, Debug, PartialEq, Eq)]
@@ -75,8 +43,18 @@ pub struct Outcome {
 }
 
 impl Outcome {
-    ghost use Rattle.rbc_centre.specs.Views.{outcome_of};
+    ghost use Rattle.rbc_centre.specs.Views.{outcome_of, outcome_heard};
     ghost use Rattle.rbc_rules.specs.Reasons.{reason_of};
+
+    /// The step of a train's message that came to this.
+    pub(crate) fn of(stamp: u32, heard: Result<Heard, Reason>) -> Outcome
+        ensures { outcome_of result ≡ outcome_heard stamp heard }
+    {
+        match heard {
+            Ok(Heard { saying, told }) => Outcome::said(stamp, saying, told),
+            Err(why) => Outcome::silent(stamp, why),
+        }
+    }
 
     /// A step that does not answer.
     pub(crate) fn silent(stamp: u32, why: Reason) -> Outcome

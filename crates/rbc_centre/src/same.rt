@@ -1,9 +1,11 @@
 ghost use Rattle.std.specs.Prelude.{◌≡◌, ◌↔◌, map, IsTrue, IfOk};
-ghost use Rattle.rbc_centre.specs.Views.{saying_of, word_of, outcome_of};
+ghost use Rattle.rbc_rules.specs.Sayings.{saying_of};
+ghost use Rattle.rbc_centre.specs.Views.{word_of, outcome_of};
 
 use crate::event::Event;
-use crate::outcome::{Outcome, Saying, Word};
+use crate::outcome::{Outcome, Word};
 use arrayvec::ArrayVec;
+use rbc_rules::Saying;
 use std::alloc::{AllocError, Global};
 
 impl Event {

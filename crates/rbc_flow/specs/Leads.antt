@@ -5,8 +5,10 @@ use Rattle.rbc_ledger.specs.Network.{acted}
 use Rattle.rbc_spec.specs.Line.{Line}
 use Rattle.rbc_spec.specs.Centre.{Centre}
 use Rattle.rbc_spec.specs.Acts.{Act, ◌>>◌, Reply}
-use Rattle.rbc_spec.specs.LineCentre.{LineState, Said}
-use Rattle.rbc_spec.specs.Quiet.{Quiet, is_of_centre, TakesAll}
+use Rattle.rbc_spec.specs.Message.{TrainMessage}
+use Rattle.rbc_spec.specs.LineCentre.{LineState, Said, hears}
+use Rattle.rbc_spec.specs.OwnSteps.{Own}
+use Rattle.rbc_spec.specs.Quiet.{Quiet, is_of_centre, TakesAll, both}
 use Rattle.rbc_flow.specs.Flow.{Flow}
 use Rattle.rbc_flow.specs.Sound.{IsFlowSound}
 use Rattle.rbc_flow.specs.Shows.{Shows}
@@ -31,3 +33,25 @@ pub record Leads (line : Line) (w : Flow) (c : ℕ) (r : Reply) (v : LineState) 
 abbrev pub LeadsOn : Line → Flow → ℕ → Centre → LineState → Act → Act → Type 0
 LeadsOn line w c k v first second =
     (one : Leads line w c (first k) v) → Leads line (replied w c (first k)) c (second (first k).state) one.new → Leads line w c ((first >> second) k) v
+
+-- ## Of a message that is heard
+
+-- the part of the answer that is the own step of the one line centre, which showed v
+pub record LeadsOwn (line : Line) (w : Flow) (c : ℕ) (m : TrainMessage) (r : Reply) (v : LineState) : Type 0 where
+  pub mid : LineState
+  pub own : Own line (hears c m v) c m m.body (said_by r) mid
+  pub shows : Shows line (replied w c r) mid
+  pub sound : IsFlowSound line (replied w c r)
+
+-- the whole answer: the own step, and then quiet steps of the centre, which say the same together
+pub record LeadsHeard (line : Line) (w : Flow) (c : ℕ) (m : TrainMessage) (r : Reply) (v : LineState) : Type 0 where
+  pub said : Said
+  pub mid : LineState
+  pub own : Own line (hears c m v) c m m.body said mid
+  pub quiets : List Quiet
+  pub later : Said
+  pub new : LineState
+  pub takes : TakesAll line mid quiets later new
+  pub own_centre : list_all (is_of_centre line c) quiets ≡ true
+  pub says : said_by r ≡ both said later
+  pub shows : Shows line (replied w c r) new

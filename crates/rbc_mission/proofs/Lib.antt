@@ -1,6 +1,3 @@
 pub mod Runs
 pub mod Marks
-pub mod Supervisions
-pub mod Deeds
-pub mod Silences
-pub mod Replies
+pub mod Missions

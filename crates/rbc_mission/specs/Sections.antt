@@ -1,8 +1,8 @@
 -- Sections that are taken into use for a train, and given back.
-use Rattle.std.specs.Prelude.{◌≡◌, ℕ, Bool, ◌&&◌, not, List, if◌then◌else◌}
+use Rattle.std.specs.Prelude.{◌≡◌, ℕ, ◌+◌, ◌-◌, ◌≤◌, Bool, true, ◌&&◌, not, List, if◌then◌else◌}
 use Rattle.std.specs.List.{filter, range_with_len}
-use Rattle.rbc_spec.specs.SectionRuns.{SectionRun, within}
-use Rattle.rbc_spec.specs.Centre.{Shut, Open, Taken, is_open, is_taken_for}
+use Rattle.rbc_spec.specs.SectionRuns.{SectionRun, within, behind}
+use Rattle.rbc_spec.specs.Centre.{Mission, Shut, Open, Taken, is_open, is_taken_for}
 use Rattle.rbc_book.specs.Book.{Pages, is_own, entry_at, wish_at}
 
 -- the open sections of the run are in use for the train, and nothing else changed
@@ -24,3 +24,24 @@ pub record FreesRun (t : ℕ) (r : SectionRun) (old new : Pages) : Type 0 where
 -- those of the run that are in use for the train and wished back, rising
 abbrev pub wished : ℕ → SectionRun → Pages → List ℕ
 wished t r book = filter (λ s. is_taken_for t (entry_at book s) && wish_at book s) (range_with_len r.first r.count)
+
+-- so many of the first sections of a run, and all but so many of them
+abbrev pub front_of : ℕ → SectionRun → SectionRun
+front_of count r = record { first = r.first; count = count }
+
+abbrev pub rest_of : ℕ → SectionRun → SectionRun
+rest_of count r = record { first = r.first + count; count = r.count - count }
+
+-- so many sections behind a run
+abbrev pub next_of : ℕ → SectionRun → SectionRun
+next_of count r = record { first = behind r; count = count }
+
+-- each section of the run is open
+abbrev pub IsAllOpen : SectionRun → Pages → Type 0
+IsAllOpen r book = (s : ℕ) → within r s ≡ true → is_open (entry_at book s) ≡ true
+
+-- so many sections behind the hand of the mission, where one stands, may be added to it
+pub record MayGrow (m : Mission) (count : ℕ) (book : Pages) : Type 0 where
+  pub most : m.hand.count + count ≤ 32
+  pub numbers : behind m.hand + count ≤ 65535
+  pub free : IsAllOpen (next_of count m.hand) book

@@ -1,12 +1,16 @@
 -- What a centre has of a train's mission, in memory and by the rules.
-use Rattle.std.specs.Prelude.{◌≡◌, ℕ, ◌+◌, ◌≤◌, length, Option, Some, None, option_map, is_none}
+use Rattle.std.specs.Prelude.{◌≡◌, ℕ, ◌+◌, ◌==◌, ◌≤◌, ◌&&◌, true, false, if◌then◌else◌, length, Option, Some, None, option_map, is_some, is_none}
 use Rattle.std.specs.Option.{option_map_or}
+use Rattle.rbc_spec.specs.Maps.{put}
+use Rattle.rbc_spec.specs.Place.{Place}
 use Rattle.rbc_spec.specs.SectionRuns.{SectionRun, no_run, behind, is_empty}
 use Rattle.rbc_spec.specs.Centre as spec
+use Rattle.rbc_spec.specs.Rules.{extended_by}
 use Rattle.rbc_hand.specs.Hands.{Holding, run, IsAllOwn}
-use Rattle.rbc_right.specs.Rights.{right_of}
+use Rattle.rbc_right.specs.Rights.{Rights, is_here, right_of}
 use Rattle.rbc_place.specs.Places.{place_of}
 use Rattle.rbc_shorten.specs.Facts.{standing_of}
+use Rattle.rbc_mission.specs.Sections.{front_of, rest_of, next_of}
 use Rattle.rbc_mission.specs.declared.facts.MissionFacts.{MissionFacts}
 use Rattle.rbc_mission.specs.declared.held.HeldRight.{HeldRight}
 use Rattle.rbc_mission.specs.declared.held.HeldRight.TheVariants.{Nothing, Held}
@@ -40,6 +44,32 @@ pub record HasLocalForm (m : spec.Mission) : Type 0 where
   pub numbers : behind m.hand ≤ 65535
   pub pool : m.pool ≡ no_run
   pub handing : m.handing ≡ None
+
+-- ## What is done to it
+
+-- a mission that begins at this place, with these sections
+abbrev pub mission_at : Place → SectionRun → spec.Mission
+mission_at place hand = record { place = place; hand = hand; pool = no_run; has_data = false; is_ended = false; proposal = None; handing = None }
+
+-- the mission without so many of its first sections, at this place; none where no section is left
+abbrev pub without_front : Place → ℕ → spec.Mission → Option spec.Mission
+without_front place count m = if count == m.hand.count then None else Some (record m { place = place; hand = rest_of count m.hand })
+
+-- the mission with so many of its first sections alone, and no request; none where no section is left
+abbrev pub with_front : ℕ → spec.Mission → Option spec.Mission
+with_front count m = if count == 0 then None else Some (record m { hand = front_of count m.hand; proposal = None })
+
+-- the mission at this place, with so many sections behind its hand
+abbrev pub with_next : Place → ℕ → spec.Mission → spec.Mission
+with_next place count m = extended_by (next_of count m.hand) (record m { place = place })
+
+-- so many sections behind the hand of the mission; none where no mission stands
+abbrev pub next_sections : ℕ → SupervisionState → SectionRun
+next_sections count c = option_map_or (λ m. next_of count m.hand) c.mission no_run
+
+-- the right of the train is here again where its mission has closed; nothing else of the rights changed
+abbrev pub GoesHome : SupervisionState → SupervisionState → Rights → Rights → Type 0
+GoesHome old new from to = (j : ℕ) → is_here to j ≡ put (is_here from) old.number (if is_some old.mission && is_none new.mission then true else is_here from old.number) j
 
 -- ## In memory
 

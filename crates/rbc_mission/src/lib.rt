@@ -5,6 +5,7 @@
 
 mod facts;
 mod held;
+mod mission;
 mod sections;
 mod supervision;
 mod told;

@@ -97,13 +97,13 @@ module _ (reach : Reach) (line : Line) where
 
   -- ## Requests
 
-  goes_announce_if : (t d : ℕ) (k : Centre) → hands_over reach ≡ true → Goes reach k (announce_if_due line t d k)
+  pub goes_announce_if : (t d : ℕ) (k : Centre) → hands_over reach ≡ true → Goes reach k (announce_if_due line t d k)
   goes_announce_if t d k hands = goes_or reach (k.mission t) _ k (rest k)
       (λ m at. goes_if reach (is_none m.handing && not (is_empty (part_at line d m.place.track m.hand))) k (announce line t m.place.group d m k) (rest k)
       (λ due. goes_announce reach line t m.place.group d m k hands at (none_is m.handing (and_parts (is_none m.handing) (not (is_empty (part_at line d m.place.track m.hand))) due).0)) (λ due_not. goes_rest reach k))
       (λ none. goes_rest reach k)
 
-  goes_ask_if : (t d : ℕ) (k : Centre) → Goes reach k (ask_route_if_due line t d k)
+  pub goes_ask_if : (t d : ℕ) (k : Centre) → Goes reach k (ask_route_if_due line t d k)
   goes_ask_if t d k = goes_or reach (k.mission t) _ k (rest k)
       (λ m at. goes_if reach (((is_home line d (behind m.hand) && is_on line m.place.track (behind m.hand)) && nat_lt m.hand.count most_in_hand) && (is_empty m.pool && is_none (k.route_ask t))) k
       (ask_route t d m k) (rest k) (λ due. asks m) (λ due_not. goes_rest reach k))
@@ -117,7 +117,7 @@ module _ (reach : Reach) (line : Line) where
   goes_border c t d k = goes_then reach (if hands_over reach then announce_if_due line t d else rest) (ask_route_if_due line t d) k
       (goes_if_act reach (hands_over reach) (announce_if_due line t d) rest k (λ hands. goes_announce_if t d k hands) (λ hands_not. goes_rest reach k)) (goes_ask_if t d _)
 
-  goes_grant : (c t : ℕ) (m n : Mission) (k : Centre) → k.mission t ≡ Some n → m.handing ≡ n.handing → Goes reach k (grant reach line c t m k)
+  pub goes_grant : (c t : ℕ) (m n : Mission) (k : Centre) → k.mission t ≡ Some n → m.handing ≡ n.handing → Goes reach k (grant reach line c t m k)
   unfolding ◌>>◌
   goes_grant c t m n k at same = goes_then reach ((booked is_open (Taken t) more >> set_mission t (Some longer)) >> say t m.place.group (Authority (authority line longer)))
       (if lends_routes reach then option_map_or (at_border reach line c t) (next_centre line c m.place.track) rest else rest) k
@@ -151,7 +151,7 @@ module _ (reach : Reach) (line : Line) where
       shorter : Mission
       shorter = record m { place = place; hand = part_from (behind (cleared line place m)) m.hand }
 
-  goes_report_here : (c t : ℕ) (position : Position) (m : Mission) (k : Centre) → k.mission t ≡ Some m → Goes reach k (report_here line c t position m k)
+  pub goes_report_here : (c t : ℕ) (position : Position) (m : Mission) (k : Centre) → k.mission t ≡ Some m → Goes reach k (report_here line c t position m k)
   goes_report_here c t position m k at = goes_or_act reach (place_on line m.place.track position) (clear line c t m) rest k (λ place is. goes_clear c t m place k at) (λ none. goes_rest reach k)
 
   goes_report : (c t : ℕ) (position : Position) (k : Centre) → Goes reach k (report line c t position k)
@@ -179,7 +179,7 @@ module _ (reach : Reach) (line : Line) where
 
   -- ## Shortening
 
-  goes_cut : (c t last_kept : ℕ) (m n : Mission) (k : Centre) → k.mission t ≡ Some n → n.handing ≡ m.handing → Goes reach k (cut line c t last_kept m k)
+  pub goes_cut : (c t last_kept : ℕ) (m n : Mission) (k : Centre) → k.mission t ≡ Some n → n.handing ≡ m.handing → Goes reach k (cut line c t last_kept m k)
   unfolding ◌>>◌
   goes_cut c t last_kept m n k at same = goes_then reach (leave line c t m.place.track (joined tail m.pool)) (if tail.count == m.hand.count then close line c t m else (set_mission t (Some kept) >> cancels)) k
       (goes_leave reach line c t m.place.track (joined tail m.pool) k)

@@ -68,7 +68,7 @@ module _ (reach : Reach) (line : Line) (c : ℕ) where
   -- ## At the head of a link
 
   -- a body of a handover is followed where centres hand missions over
-  unfollowed : (f : Body) → IsHandedWithin reach f → follows_rule reach f ≡ false → is_of_handing f ≡ false
+  pub unfollowed : (f : Body) → IsHandedWithin reach f → follows_rule reach f ≡ false → is_of_handing f ≡ false
   unfollowed f within is = by_handing (is_of_handing f) refl
     where
       by_reach : (r : Reach) → hands_over r ≡ true → follows_rule r f ≡ true
@@ -126,7 +126,7 @@ none_expected h None mid is = refl
 none_expected h (Some e) mid is = cc
 
 module _ (reach : Reach) (line : Line) (ok : IsLine line) (w : Flow) (sound : IsFlowSound line w) (a c : ℕ) (from : is_centre line a ≡ true) (to : is_centre line c ≡ true) where
-  fits_head : (f : Body) → TakesHead w a c f → Fits reach line c a f (w.at c)
+  pub fits_head : (f : Body) → TakesHead w a c f → Fits reach line c a f (w.at c)
   fits_head (AskRight t) head = record {}
   fits_head (GiveRight t) head = record {}
   fits_head (RefuseRight t) head = record {}

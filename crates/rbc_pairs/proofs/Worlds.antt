@@ -38,12 +38,12 @@ use Rattle.rbc_pairs.proofs.Steps.{paired_by_itself, paired_at_head, within_by_i
 -- ## Frames that were sent
 
 -- only a link says that a frame is the next
-linked_next : (b : Bool) (count n : ℕ) → (if b then offered count n else NoLink) ≡ Next → (b ≡ true) × (offered count n ≡ Next)
+pub linked_next : (b : Bool) (count n : ℕ) → (if b then offered count n else NoLink) ≡ Next → (b ≡ true) × (offered count n ≡ Next)
 linked_next true count n is = (refl, is)
 linked_next false count n is = cc
 
 -- the centres of a frame that was sent are of the line
-sent_between : (line : Line) (w : World) → IsFlowSound line (flow_of w) → (a b number : ℕ) (f : Frame) → frame_sent w a b number ≡ Some f → (is_centre line a ≡ true) × (is_centre line b ≡ true)
+pub sent_between : (line : Line) (w : World) → IsFlowSound line (flow_of w) → (a b number : ℕ) (f : Frame) → frame_sent w a b number ≡ Some f → (is_centre line a ≡ true) × (is_centre line b ≡ true)
 sent_between line w sound a b number f is = (by_centre a (is_centre line a) refl (λ no. sound.no_sent a b (inl no)), by_centre b (is_centre line b) refl (λ no. sound.no_sent a b (inr no)))
   where
     nothing : (fs : List Frame) → map (λ (g : Frame). g.body) fs ≡ [] → (if number == 0 then None else slice_get fs (number - 1)) ≡ Some f → ⊥

@@ -25,7 +25,7 @@ same_told a b h = cc
 pub none_in_order : TellsInOrder []
 none_in_order i j s e less first second = cc
 
-one_in_order : (word : Word) → TellsInOrder (word ∷ [])
+pub one_in_order : (word : Word) → TellsInOrder (word ∷ [])
 one_in_order word i zero s e less first second = absurd (let wrong : ⊥ = omega (arith, less) in wrong)
 one_in_order word i (suc j) s e less first second = cc
 
@@ -40,7 +40,7 @@ told_from test a (suc n) i e is = by_test (λ j so. told_from test (a + 1) n j e
     by_test others true (suc i) h = omega (arith, others i h)
     by_test others false i h = omega (arith, others i h)
 
-range_in_order : (test : ℕ → Bool) (a n : ℕ) → TellsInOrder (map (λ s. Told s) (filter test (range_with_len a n)))
+pub range_in_order : (test : ℕ → Bool) (a n : ℕ) → TellsInOrder (map (λ s. Told s) (filter test (range_with_len a n)))
 range_in_order test a zero = none_in_order
 range_in_order test a (suc n) = by_test (range_in_order test (a + 1) n) (test a)
   where

@@ -1,29 +1,18 @@
 -- What decisions find out of the mission, the book and the line.
-use Rattle.std.proofs.Common.{◌≡◌, ℕ, zero, suc, ◌+◌, ◌-◌, ◌<◌, ◌≤◌, ◌&&◌, Bool, true, false, nat_lt, length, Option, Some, None, refl, sym, ap, ◌∙◌, arith}
+use Rattle.std.proofs.Common.{◌≡◌, ℕ, zero, suc, ◌+◌, ◌-◌, ◌<◌, ◌≤◌, ◌&&◌, Bool, true, false, refl, sym, ap, ◌∙◌, arith}
 use Rattle.std.proofs.lemmas.Bool.Decides.{nat_tests}
 use Rattle.rbc_spec.specs.SectionRuns.{SectionRun, within, behind, all_of}
 use Rattle.rbc_spec.specs.Line.{Line, IsLine}
-use Rattle.rbc_spec.specs.Sections.{is_on}
 use Rattle.rbc_spec.specs.Place as place
 use Rattle.rbc_spec.specs.Centre as spec
 use Rattle.rbc_spec.specs.Centre.{is_open, is_free}
 use Rattle.rbc_lemmas.proofs.Lines.{on_line}
 use Rattle.rbc_lemmas.proofs.Runs.{each_within}
 use Rattle.rbc_book.specs.Book.{Pages, entry_at}
-use Rattle.rbc_right.specs.Rights.{Rights, is_here}
 use Rattle.rbc_grant.specs.Grants as grants
-use Rattle.rbc_local.proofs.Ordered.{is_ordered}
-use Rattle.rbc_local.proofs.Fits.{begun_local, fit_parts}
-use Rattle.rbc_place.specs.Places.{place_of}
-use Rattle.rbc_place.specs.declared.place.Place.{Place}
-use Rattle.rbc_hand.specs.SectionRuns.{run_of}
-use Rattle.rbc_hand.specs.declared.section_run.SectionRun.{SectionRun as SectionRunCode}
-use Rattle.rbc_mission.specs.Supervisions.{mission_of, HasLocalForm}
-use Rattle.rbc_mission.specs.Changes.{MayGrow, IsAllOpen}
-use Rattle.rbc_mission.specs.declared.facts.MissionFacts.{MissionFacts as Facts}
+use Rattle.rbc_mission.specs.Supervisions.{HasLocalForm}
+use Rattle.rbc_mission.specs.Sections.{MayGrow, IsAllOpen}
 use Rattle.rbc_rules.specs.Desks.{HasBook}
-use Rattle.rbc_rules.specs.Decisions.{Fits, IsGroup}
-use Rattle.rbc_rules.specs.declared.deed.Deed.TheVariants as deed
 
 pub and_left : (a b : Bool) → (a && b) ≡ true → a ≡ true
 and_left true b h = refl
@@ -60,25 +49,9 @@ grows line book p m count of_line local room each = record {
         let most = of_line.limits.sections in
         omega (arith, few, most, e)
 
--- the hand of a mission by its facts
-pub hand_is : (facts : Facts) (hand : SectionRunCode) (m : spec.Mission) → ◌≡◌ {A = Option spec.Mission} (Some (mission_of (run_of hand) facts)) (Some m) → mission_of (run_of hand) facts ≡ m
-hand_is facts hand m e = cc
-
 -- each section of a run of free ones is open
 pub all_open : (line : Line) (c : ℕ) (k : spec.Centre) (book : Pages) (run : SectionRun) → HasBook k book → all_of (is_free line c k) run ≡ true → IsAllOpen run book
 all_open line c k book run pages h s w = ap is_open (sym (pages s)) ∙ and_right _ _ (each_within (is_free line c k) run h s w)
-
--- a start that is fit, of sections that are released, with the right here
-pub start_fits : (line : Line) (book : Pages) (rights : Rights) (i : ℕ) (mission : Option spec.Mission) (p : Place) (run : SectionRunCode) → IsLine line → mission ≡ None → place.is_fit line (place_of p) ≡ true
-    → run_of run ≡ place.covered line (place_of p) → behind (run_of run) ≤ length line.sections → IsAllOpen (run_of run) book → is_here rights i ≡ true → IsGroup p.group
-    → Fits book rights i mission (deed.Start p run)
-start_fits line book rights i mission p run of_line none fit covers bound opened here group =
-    let begun = begun_local line (is_ordered line of_line) (place_of p) (fit_parts line (place_of p) fit) in
-    let count : run.count ≡ (place.covered line (place_of p)).count = ap (λ (r : SectionRun). r.count) covers in
-    let some = begun.some in
-    let few = begun.few in
-    let most = of_line.limits.sections in
-    (none, omega (arith, some, count), omega (arith, few, count), omega (arith, bound, most), opened, here, group)
 
 -- some centre with this book
 abbrev pub a_centre_of : Line → ℕ → Pages → spec.Centre

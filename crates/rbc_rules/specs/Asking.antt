@@ -7,7 +7,7 @@ use Rattle.rbc_spec.specs.Acts.{Reply}
 use Rattle.rbc_session.specs.SessionStates.{phase_of}
 use Rattle.rbc_shorten.specs.Facts.{proposal_of}
 use Rattle.rbc_rules.specs.Desks.{mission_by}
-use Rattle.rbc_rules.specs.declared.rules.Train.{Train}
+use Rattle.rbc_rules.specs.declared.known.Train.{Train}
 use Rattle.rbc_rules.specs.declared.asking.Asking.{Asking}
 
 -- centre k has this session and this mission of the train, and its next message to it has this T_TRAIN

@@ -3,7 +3,6 @@ use Rattle.std.specs.Prelude.{◌≡◌, ℕ, Option, option_map}
 use Rattle.rbc_spec.specs.Line.{Line, is_home}
 use Rattle.rbc_spec.specs.Centre.{Centre, Mission}
 use Rattle.rbc_book.specs.Book.{Pages, is_own, entry_at}
-use Rattle.rbc_right.specs.Rights.{Rights, is_here}
 use Rattle.rbc_hand.specs.SectionRuns.{run_of}
 use Rattle.rbc_hand.specs.declared.section_run.SectionRun.{SectionRun}
 use Rattle.rbc_mission.specs.Supervisions.{mission_of}
@@ -16,11 +15,6 @@ IsBookOf line c book = (s : ℕ) → is_own book s ≡ is_home line c s
 -- centre k has this book
 abbrev pub HasBook : Centre → Pages → Type 0
 HasBook k book = (s : ℕ) → k.book s ≡ entry_at book s
-
--- centre k has this book, and the right of train t, number i of the line, as these rights have it
-pub record IsDesk (k : Centre) (t i : ℕ) (book : Pages) (rights : Rights) : Type 0 where
-  pub has_book : HasBook k book
-  pub has_right : k.has_right t ≡ is_here rights i
 
 -- the mission by its facts and its hand, if there is one
 abbrev pub mission_by : Option Facts → SectionRun → Option Mission

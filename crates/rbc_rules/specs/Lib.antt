@@ -1,6 +1,9 @@
 pub mod Reasons
-pub mod Deeds
-pub mod Decisions
 pub mod Desks
 pub mod Asking
 pub mod Tellings
+pub mod SessionStates
+pub mod Sayings
+pub mod Answers
+pub mod Trains
+pub mod Desk

@@ -1,17 +1,16 @@
 //! A request to shorten that a train's supervisor makes where the interlocking wishes a section of the hand back (3.8.6).
 
-ghost use Rattle.std.specs.Prelude.{◌≡◌, ◌≤◌, Some, IfSome};
+ghost use Rattle.std.specs.Prelude.{◌≡◌, ◌<◌, ◌≤◌, Some, IfSome};
 ghost use Rattle.rbc_spec.specs.Acts.{propose_if_so};
 ghost use Rattle.rbc_spec.specs.Centre as spec;
 ghost use Rattle.rbc_session.specs.SessionStates.{phase_of};
 ghost use Rattle.rbc_hand.specs.SectionRuns.{run_of};
 ghost use Rattle.rbc_shorten.specs.Facts.{AreFactsOf};
 ghost use Rattle.rbc_mission.specs.Supervisions.{mission_of};
-ghost use Rattle.rbc_rules.specs.Decisions.{IsGroup};
 ghost use Rattle.rbc_rules.specs.Desks.{mission_by};
 ghost use Rattle.rbc_rules.specs.Asking.{IsTrain, asked_back};
 
-use crate::rules::Train;
+use crate::known::Train;
 use rbc_line::Line;
 use rbc_mission::MissionFacts;
 use rbc_place::group_start;
@@ -34,7 +33,7 @@ pub struct Asking {
 pub fn ask_back(line: &Line, train: &Train, s: u16, stamp: u32) -> Option<Asking>
     ensures exact { (k : spec.Centre) → IsTrain k train.now stamp → propose_if_so line.now train.now.nid_engine s k ≡ asked_back train.now.nid_engine k result }
     ensures room { IfSome result (λ a. a.l_endsection ≤ 32767) }
-    ensures group { ((m : spec.Mission) → mission_by train.now.mission train.now.hand ≡ Some m → IsGroup m.place.group) → IfSome result (λ a. IsGroup a.nid_lrbg) }
+    ensures group { ((m : spec.Mission) → mission_by train.now.mission train.now.hand ≡ Some m → m.place.group < 16777216) → IfSome result (λ a. a.nid_lrbg < 16777216) }
 {
     let Some(mission) = train.mission else {
         return None;

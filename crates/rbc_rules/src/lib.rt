@@ -1,20 +1,35 @@
-//! What a train's message comes to at a radio block centre whose missions no other centre has a part in: a deed, or the reason
-//! for which it is left without an answer (SUBSET-026 3.5, 3.6, 3.8, 5.4, 5.5); and what a section comes to that the interlocking
-//! takes back: a request to shorten, where it is in use and one may be made (3.8.6). Deciding changes nothing and takes no memory.
+//! What a train's message comes to at a radio block centre whose missions no other centre has a part in (SUBSET-026 3.5, 3.6, 3.8,
+//! 5.4, 5.5): each message is one call of what the centre keeps of the train, and its clause is one equation with `rbc_spec`'s own
+//! effect. And what a section comes to that the interlocking takes back: a request to shorten, where it is in use and one may be
+//! made (3.8.6). Nothing here takes memory.
 #![tactic(auto)]
 
 mod asking;
-mod carrying;
-mod deciding;
-mod deed;
+mod clearing;
+mod end_of_mission;
+mod heard;
+mod hearing;
+mod initiation_of_session;
+mod known;
 mod laws;
 mod reason;
-mod rules;
+mod report;
+mod request;
+mod saying;
+mod session_established;
+mod session_state;
+mod shortening_granted;
+mod shortening_rejected;
+mod start_of_mission;
+mod starting;
+mod termination_of_session;
+mod train;
+mod train_data;
 
 pub use asking::{Asking, ask_back};
-pub use carrying::carry_out;
-pub use deciding::Decision;
-pub use deed::Deed;
+pub use heard::Heard;
+pub use known::Train;
 pub use laws::{a_section_is_released, a_section_is_taken_back};
 pub use reason::Reason;
-pub use rules::{Train, decide};
+pub use saying::Saying;
+pub use train::{TrainPage, TrainState};

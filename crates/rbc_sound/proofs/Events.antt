@@ -113,12 +113,12 @@ module _ (line : Line) (ok : IsLine line) (c : ℕ) where
     frame_sound (GiveRight t) k range old = trained t _ k old (λ known. given_sound line ok c t k old)
     frame_sound (RefuseRight t) k range old = trained t _ k old (λ known. refused_sound line ok c t k old)
     frame_sound (ReturnRight t) k range old = trained t _ k old (λ known. returned_sound line ok c t k old)
-    frame_sound (RouteAsk t first most) k range old = trained t _ k old (λ known. asked_route line ok c d to apart t first most k old)
+    frame_sound (RouteAsk t first most) k range old = trained t _ k old (λ known. asked_route line ok c d to t first most k old)
     frame_sound (RouteInfo t r) k range old = trained t _ k old (λ known. told_route line ok c d to apart t r k old)
     frame_sound (RouteWithdraw t s) k range old = trained t _ k old (λ known. if_sound line c (is_some (section line s)) (route_withdrawn line c t s) rest k
-        (λ there. withdrawn_route line ok c d to apart t s k old) (λ none. rest_sound line c k old))
+        (λ there. withdrawn_route line ok c d to t s k old) (λ none. rest_sound line c k old))
     frame_sound (RouteReturn t r) k range old = trained t _ k old (λ known. if_sound line c (all_of (λ s. is_some (section line s)) r) (route_returned line c d t r) rest k
-        (λ there. returned_route line ok c d to apart t r k old) (λ none. rest_sound line c k old))
+        (λ there. returned_route line ok c d to t r k old) (λ none. rest_sound line c k old))
     frame_sound (Announce number t track) k range old = trained t _ k old (λ known. if_sound line c (nat_lt track (length line.tracks)) (announced d number t) rest k
         (λ there. announced_sound line ok c d number t k old) (λ none. rest_sound line c k old))
     frame_sound (Cancel number t) k range old = trained t _ k old (λ known. cancelled_sound line ok c d number t k old)

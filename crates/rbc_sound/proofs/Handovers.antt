@@ -48,7 +48,7 @@ back_others t d u true (Out v f) apart = by_test (is_out_for t d (Out v f))
     by_test false = refl
 back_others t d u false e apart = refl
 
-out_untaken : (t d u : ℕ) (e : Entry) → is_out_for t d e ≡ true → is_taken_for u e ≡ false
+pub out_untaken : (t d u : ℕ) (e : Entry) → is_out_for t d e ≡ true → is_taken_for u e ≡ false
 out_untaken t d u Shut is = cc
 out_untaken t d u Open is = cc
 out_untaken t d u (Taken v) is = cc
@@ -64,10 +64,9 @@ module _ (line : Line) (ok : IsLine line) (c : ℕ) where
   pub cancelled_sound : (d number t : ℕ) (k : Centre) → IsCentreSound line c k → Sound line c (cancelled d number t k)
   cancelled_sound d number t k old = if_reply line c (is_under number (k.expects d t)) _ (rest k) (λ under. expects_sound d t None k old) (λ no. rest_sound line c k old)
 
-  pub claimed_sound : (d number t : ℕ) (k : Centre) → IsCentreSound line c k → Sound line c (taking_over line c d number t k)
-  claimed_sound d number t k old = then_sound line c (change_mission t (claimed d number)) (yield_if_due line c t) k
-      (changed_sound line c k old t (claimed d number) (λ m at. refl) (λ m at. as_claimed m (old.mission t m at)))
-      (λ j is sound. yielded_if_due line ok c t j sound)
+  -- the handover is claimed, and may then be due
+  pub claim_sound : (d number t : ℕ) (k : Centre) → IsCentreSound line c k → Sound line c (change_mission t (claimed d number) k)
+  claim_sound d number t k old = changed_sound line c k old t (claimed d number) (λ m at. refl) (λ m at. as_claimed m (old.mission t m at))
     where
       same_to : (h : Handing) (b : Bool) → let x : Handing = if b then record h { is_claimed = true } else h in (x.to ≡ h.to) × (x.number ≡ h.number)
       same_to h true = (refl, refl)
@@ -93,6 +92,10 @@ module _ (line : Line) (ok : IsLine line) (c : ℕ) where
         handing_to = λ h handed. let old_one = was m.handing h handed in same_next h old_one.0 m.place.track old_one.2 (is.handing_to old_one.0 old_one.1);
         handing_number = λ h handed. let old_one = was m.handing h handed in let counted = is.handing_number old_one.0 old_one.1 in (omega (arith, counted, old_one.3), omega (arith, counted, old_one.3));
       }
+
+  pub claimed_sound : (d number t : ℕ) (k : Centre) → IsCentreSound line c k → Sound line c (taking_over line c d number t k)
+  claimed_sound d number t k old = then_sound line c (change_mission t (claimed d number)) (yield_if_due line c t) k
+      (claim_sound d number t k old) (λ j is sound. yielded_if_due line ok c t j sound)
 
   -- ## A mission is taken
 

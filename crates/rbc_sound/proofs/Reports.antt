@@ -25,7 +25,7 @@ use Rattle.rbc_sound.proofs.Places.{IsReported, reported}
 use Rattle.rbc_sound.proofs.Leaving.{to_centre, whole_leaves, part_leaves, part_then, yielded_if_due}
 
 -- a run and one behind it, which does not have the section
-joined_without : (a b : SectionRun) (s : ℕ) → (a.count ≢ 0 → is_empty b ≡ false → b.first ≡ behind a) → within b s ≡ false → within (joined a b) s ≡ within a s
+pub joined_without : (a b : SectionRun) (s : ℕ) → (a.count ≢ 0 → is_empty b ≡ false → b.first ≡ behind a) → within b s ≡ false → within (joined a b) s ≡ within a s
 joined_without a b s follows none = ⊎_elim
     (λ (empty : a.count ≡ 0). ap (λ r. within r s) (cond-true (is_empty a) b (record { first = a.first; count = a.count + b.count }) (eq-eqb a.count 0 empty)) ∙ none ∙ sym (within_none a s empty))
     (λ (some : a.count ≢ 0). ⊎_elim (λ (empty : is_empty b ≡ true). joined_empty a b s empty)
@@ -37,20 +37,20 @@ joined_without a b s follows none = ⊎_elim
     or_none true = refl
     or_none false = refl
 
-not_away : (b : Bool) (home : Bool) → home ≡ true → (b ≡ true → home ≡ false) → b ≡ false
+pub not_away : (b : Bool) (home : Bool) → home ≡ true → (b ≡ true → home ≡ false) → b ≡ false
 not_away true home is out = absurd (both_ways home (out refl) is)
 not_away false home is out = refl
 
 -- behind a cut, the tail of the hand is followed as the hand is
-tail_behind : (n : ℕ) (hand : SectionRun) → (part_from n hand).count ≢ 0 → behind (part_from n hand) ≡ behind hand
+pub tail_behind : (n : ℕ) (hand : SectionRun) → (part_from n hand).count ≢ 0 → behind (part_from n hand) ≡ behind hand
 tail_behind n hand some = omega (arith, some)
 
-whole_tail : (n : ℕ) (hand : SectionRun) (s : ℕ) → (part_from n hand).count ≡ hand.count → within (part_from n hand) s ≡ within hand s
+pub whole_tail : (n : ℕ) (hand : SectionRun) (s : ℕ) → (part_from n hand).count ≡ hand.count → within (part_from n hand) s ≡ within hand s
 whole_tail n hand s all = same_tests _ _
     (λ is. let at = within_true (part_from n hand) s is in within_from hand s (omega (arith, at)) (omega (arith, at)))
     (λ is. let at = within_true hand s is in within_from (part_from n hand) s (omega (arith, at, all)) (omega (arith, at, all)))
 
-tail_part : (n : ℕ) (hand : SectionRun) (s : ℕ) → within (part_from n hand) s ≡ true → within hand s ≡ true
+pub tail_part : (n : ℕ) (hand : SectionRun) (s : ℕ) → within (part_from n hand) s ≡ true → within hand s ≡ true
 tail_part n hand s is = let at = within_true (part_from n hand) s is in within_from hand s (omega (arith, at)) (omega (arith, at))
 
 module _ (line : Line) (ok : IsLine line) (c : ℕ) where
@@ -88,12 +88,12 @@ module _ (line : Line) (ok : IsLine line) (c : ℕ) where
       (λ s home. within_rest m.hand r.count s few)
       (front_left k m place r.count is same there few (eqb-false r.count m.hand.count some)))
 
-  report_here_sound : (t : ℕ) (position : Position) (m : Mission) (k : Centre) → IsCentreSound line c k → k.mission t ≡ Some m → Sound line c (report_here line c t position m k)
+  pub report_here_sound : (t : ℕ) (position : Position) (m : Mission) (k : Centre) → IsCentreSound line c k → k.mission t ≡ Some m → Sound line c (report_here line c t position m k)
   report_here_sound t position m k old at = or_sound line c (place_on line m.place.track position) (clear line c t m) rest k
       (λ place is. let there = placed_on line m.place.track position place is in clear_sound t m place k old at there.track_is (reported line position place there.extent_is))
       (λ none. rest_sound line c k old)
 
-  take_over_sound : (t : ℕ) (k : Centre) → IsCentreSound line c k → Sound line c (take_over line t k)
+  pub take_over_sound : (t : ℕ) (k : Centre) → IsCentreSound line c k → Sound line c (take_over line t k)
   take_over_sound t k old = leaves line c (free_sound line c k old (take_over line t k).state refl refl refl refl (λ u is. is) (omega arith)) (record {
     inside = λ d out. none_outside (is_centre line d) _ (k.expects d t) d out;
     bodies = λ d. each d _ (k.expects d t);
@@ -123,7 +123,7 @@ module _ (line : Line) (ok : IsLine line) (c : ℕ) where
       → IsMissionAt line c k (record m { has_data = has_data; is_ended = is_ended; proposal = proposal })
   other_words k m has_data is_ended proposal is = record { hand = is.hand; pool_follows = is.pool_follows; pool_away = is.pool_away; pool_on = is.pool_on; handing_to = is.handing_to; handing_number = is.handing_number }
 
-  pool_returned : (t : ℕ) (m : Mission) (k : Centre) → IsCentreSound line c k → Sound line c (return_pool line c t m k)
+  pub pool_returned : (t : ℕ) (m : Mission) (k : Centre) → IsCentreSound line c k → Sound line c (return_pool line c t m k)
   pool_returned t m k old = then_sound line c (returned line c t m.place.track m.pool) (change_mission t (λ n. record n { pool = no_run })) k
       (leaves line c old (returned_sent line c ok t m.place.track m.pool k))
       (λ j is sound. changed_sound line c j sound t (λ n. record n { pool = no_run }) (λ n at. refl) (λ n at. without_pool j n (sound.mission t n at)))
@@ -175,7 +175,7 @@ module _ (line : Line) (ok : IsLine line) (c : ℕ) where
   then_if a f g true k one two = one refl
   then_if a f g false k one two = two refl
 
-  cut_sound : (t last_kept : ℕ) (m n : Mission) (k : Centre) → IsCentreSound line c k → k.mission t ≡ Some n → n.hand ≡ m.hand → IsMissionAt line c k m
+  pub cut_sound : (t last_kept : ℕ) (m n : Mission) (k : Centre) → IsCentreSound line c k → k.mission t ≡ Some n → n.hand ≡ m.hand → IsMissionAt line c k m
       → Sound line c (cut line c t last_kept m k)
   cut_sound t last_kept m n k old at same is =
       let tail : SectionRun = part_from (last_kept + 1) m.hand in

@@ -62,7 +62,7 @@ module _ (line : Line) (ok : IsLine line) (c : ℕ) where
       let p = section_on line place.track hand.first (is.on_track hand.first (within_from hand hand.first (omega arith) (omega (arith, is.some)))) in
       ap (λ x. nat_lt x (length line.tracks)) (sym p.1.on) ∙ track_of_section line ok hand.first p.0 p.1.at
 
-  announce_sound : (t group d : ℕ) (m : Mission) (k : Centre) → IsCentreSound line c k → k.mission t ≡ Some m → m.handing ≡ None → next_centre line c m.place.track ≡ Some d
+  pub announce_sound : (t group d : ℕ) (m : Mission) (k : Centre) → IsCentreSound line c k → k.mission t ≡ Some m → m.handing ≡ None → next_centre line c m.place.track ≡ Some d
       → Sound line c (announce line t group d m k)
   unfolding ◌>>◌
   announce_sound t group d m k old at none next =
@@ -86,7 +86,7 @@ module _ (line : Line) (ok : IsLine line) (c : ℕ) where
       (one_sent line c d _ k (next_is_centre line ok c d m.place.track next) ((old.mission_known t m at).0, track_below m.place m.hand is.hand))
       (none_sent line c)) (none_sent line c)) (none_sent line c))
 
-  ask_sound : (t d : ℕ) (m : Mission) (k : Centre) → IsCentreSound line c k → is_centre line d ≡ true → Sound line c (ask_route t d m k)
+  pub ask_sound : (t d : ℕ) (m : Mission) (k : Centre) → IsCentreSound line c k → is_centre line d ≡ true → Sound line c (ask_route t d m k)
   unfolding ◌>>◌
   ask_sound t d m k old to = leaves line c (free_sound line c k old (ask_route t d m k).state refl refl refl refl (λ u is. is) (omega arith))
       (then_sent line c _ (λ e. []) (one_sent line c d _ k to (record {})) (none_sent line c))

@@ -37,7 +37,7 @@ out_home t d u true Open = refl
 out_home t d u true (Out v f) = and_right (not (is_out_for t d (Out v f))) false refl
 out_home t d u false e = refl
 
-module _ (line : Line) (ok : IsLine line) (c d : ℕ) (to : is_centre line d ≡ true) (apart : c ≢ d) where
+module _ (line : Line) (ok : IsLine line) (c d : ℕ) (to : is_centre line d ≡ true) where
   pub asked_route : (t first most : ℕ) (k : Centre) → IsCentreSound line c k → Sound line c (route_asked line c d t first most k)
   asked_route t first most k old =
       let r : SectionRun = lendable line c k first most in
@@ -51,8 +51,9 @@ module _ (line : Line) (ok : IsLine line) (c d : ℕ) (to : is_centre line d ≡
       (λ j is sound. leaves line c sound (one_sent line c d (RouteInfo t r) j to (record {}))))
       (λ none. rest_sound line c k old)
 
-  pub told_route : (t : ℕ) (r : SectionRun) (k : Centre) → IsCentreSound line c k → Sound line c (route_told line c d t r k)
-  told_route t r k old = if_reply line c ((has (λ first. first == r.first) (k.route_ask t) && (is_of_line line r && is_home line d r.first)) && all_of (is_home line d) r) _ (rest k)
+  -- from another centre
+  pub told_route : c ≢ d → (t : ℕ) (r : SectionRun) (k : Centre) → IsCentreSound line c k → Sound line c (route_told line c d t r k)
+  told_route apart t r k old = if_reply line c ((has (λ first. first == r.first) (k.route_ask t) && (is_of_line line r && is_home line d r.first)) && all_of (is_home line d) r) _ (rest k)
       (λ mine. then_sound line c (become (λ j. record j { route_ask = put j.route_ask t None })) _ k
       (leaves line c (free_sound line c k old (record k { route_ask = put k.route_ask t None }) refl refl refl refl (λ u is. is) (omega arith)) (none_sent line c))
       (λ j is sound. if_reply line c (has (is_wanted line r) (j.mission t)) _ _

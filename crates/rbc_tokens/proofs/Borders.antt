@@ -52,7 +52,7 @@ module _ (line : Line) (c : ℕ) (y : Tally) (is : IsTally line c y) where
       tells : message.TrackBody
       tells = Transition (start line (part_at line d m.place.track m.hand).first - group_start line m.place) line.nid_c (nid_rbc line d)
 
-  fair_announce_if : (t d : ℕ) (k : Centre) → Makes line c y is k (announce_if_due line t d k)
+  pub fair_announce_if : (t d : ℕ) (k : Centre) → Makes line c y is k (announce_if_due line t d k)
   fair_announce_if t d k = fair_or line c y (k.mission t) _ k (rest k)
       (λ m has. fair_if line c y (is_none m.handing && not (is_empty (part_at line d m.place.track m.hand))) k (announce line t m.place.group d m k) (rest k)
       (λ so. fair_announce t m.place.group d m k) (λ so. fair_rest line c y k)) (λ none. fair_rest line c y k)
@@ -61,7 +61,7 @@ module _ (line : Line) (c : ℕ) (y : Tally) (is : IsTally line c y) where
   fair_ask t d m k = fair_both line c y (send d (RouteAsk t (behind m.hand) (min (most_in_hand - m.hand.count) (512 - behind m.hand)))) (become (λ j. record j { route_ask = put j.route_ask t (Some (behind m.hand)) })) k
       (sends_plain line c y is d (RouteAsk t (behind m.hand) (min (most_in_hand - m.hand.count) (512 - behind m.hand))) k refl) (fair_plain line c y _ _ refl refl refl)
 
-  fair_ask_if : (t d : ℕ) (k : Centre) → Makes line c y is k (ask_route_if_due line t d k)
+  pub fair_ask_if : (t d : ℕ) (k : Centre) → Makes line c y is k (ask_route_if_due line t d k)
   fair_ask_if t d k = fair_or line c y (k.mission t) _ k (rest k)
       (λ m has. fair_if line c y (((is_home line d (behind m.hand) && is_on line m.place.track (behind m.hand)) && nat_lt m.hand.count most_in_hand) && (is_empty m.pool && is_none (k.route_ask t))) k
       (ask_route t d m k) (rest k) (λ so. fair_ask t d m k) (λ so. fair_rest line c y k)) (λ none. fair_rest line c y k)

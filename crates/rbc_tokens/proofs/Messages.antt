@@ -74,7 +74,7 @@ module _ (line : Line) (c : ℕ) (y : Tally) (is : IsTally line c y) where
       by_count false = leave_set line c y is t m.place.track (cleared line place m) (Some (record m { place = place; hand = part_from (behind (cleared line place m)) m.hand })) k
           (omega (arith, has, cleared_parts place m)) (λ so. omega (arith, has, cleared_back place m)) (λ so here in_r. (stands so here).hand_on (in_hand in_r))
 
-  fair_report_here : (t : ℕ) (position : Position) (m : Mission) (k : Centre) → Has t m k → Follows m → IsStanding t m k → Makes line c y is k (report_here line c t position m k)
+  pub fair_report_here : (t : ℕ) (position : Position) (m : Mission) (k : Centre) → Has t m k → Follows m → IsStanding t m k → Makes line c y is k (report_here line c t position m k)
   fair_report_here t position m k has follows stands = by_place (place_on line m.place.track position)
     where
       by_place : (o : Option Place) → Makes line c y is k (option_map_or (clear line c t m) o rest k)
@@ -86,7 +86,7 @@ module _ (line : Line) (c : ℕ) (y : Tally) (is : IsTally line c y) where
   none_inside d false t (Some e) = carried_none y.res c d
   none_inside d true t (Some e) = omega (arith, carried_more y.res c d (TakingOver e.number t) [], carried_none y.res c d, is.plain c d (TakingOver e.number t) refl)
 
-  fair_take_over : (t : ℕ) (k : Centre) → Makes line c y is k (take_over line t k)
+  pub fair_take_over : (t : ℕ) (k : Centre) → Makes line c y is k (take_over line t k)
   unfolding sent_by
   fair_take_over t k = alike line c y k 0 0 (take_over line t k) (omega (
     arith,
@@ -128,7 +128,7 @@ module _ (line : Line) (c : ℕ) (y : Tally) (is : IsTally line c y) where
       ))
       (fair_then line c y (returned line c t track r) (change_mission t f) k (fair_returned line c y is t track r k on) (fair_changed t f k))
 
-  fair_return_pool : (t : ℕ) (m : Mission) (k : Centre) → k.mission t ≡ Some m → IsStanding t m k → Makes line c y is k (return_pool line c t m k)
+  pub fair_return_pool : (t : ℕ) (m : Mission) (k : Centre) → k.mission t ≡ Some m → IsStanding t m k → Makes line c y is k (return_pool line c t m k)
   fair_return_pool t m k has stands = pool_goes t m.place.track m.pool (λ n. record n { pool = no_run }) m k has (omega (arith, none_part y)) (λ so. omega (arith, none_part y)) (λ so here. (stands so here).pool_on)
 
   fair_end_mission : (t : ℕ) (position : Position) (k : Centre) → AllFollow k → Ready line c y k → Makes line c y is k (end_mission line c t position k)
@@ -154,7 +154,7 @@ module _ (line : Line) (c : ℕ) (y : Tally) (is : IsTally line c y) where
   tail_le : (last_kept : ℕ) (m : Mission) → Follows m → part y (joined (part_from (last_kept + 1) m.hand) m.pool) ≤ part y (part_from (last_kept + 1) m.hand) + part y m.pool
   tail_le last_kept m follows = joined_part y (part_from (last_kept + 1) m.hand) m.pool (λ some more. tail_follows y (last_kept + 1) m follows some more)
 
-  fair_cut : (t last_kept : ℕ) (m : Mission) (k : Centre) → Has t m k → Follows m → IsStanding t m k → Makes line c y is k (cut line c t last_kept m k)
+  pub fair_cut : (t last_kept : ℕ) (m : Mission) (k : Centre) → Has t m k → Follows m → IsStanding t m k → Makes line c y is k (cut line c t last_kept m k)
   unfolding ◌>>◌
   fair_cut t last_kept m k stands follows standing = by_count ((part_from (last_kept + 1) m.hand).count == m.hand.count) refl
     where

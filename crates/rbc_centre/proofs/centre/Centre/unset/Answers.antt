@@ -7,10 +7,11 @@ use Rattle.rbc_spec.specs.Centre.{Mission, Taken, is_unused}
 use Rattle.rbc_spec.specs.Acts.{propose_if_so}
 use Rattle.rbc_spec.specs.Outcome.{Asked}
 use Rattle.rbc_book.specs.Book.{entry_at}
-use Rattle.rbc_centre.specs.Answers.{asked}
-use Rattle.rbc_centre.specs.SessionStates.{Stands}
-use Rattle.rbc_centre.specs.State.{HasTrain}
-use Rattle.rbc_centre.specs.Views.{outcome_of, sayings_of}
+use Rattle.rbc_rules.specs.Answers.{asked}
+use Rattle.rbc_rules.specs.SessionStates.{Stands}
+use Rattle.rbc_rules.specs.Trains.{HasTrain}
+use Rattle.rbc_rules.specs.Sayings.{sayings_of}
+use Rattle.rbc_centre.specs.Views.{outcome_of}
 use Rattle.rbc_centre.proofs.States.{number_within, counted_later, counted_after, each_after, each_train_after}
 use Rattle.rbc_centre.specs.States.{state_of}
 use Rattle.rbc_centre.proofs.Steps.{local_later, unset_stands, spoken}

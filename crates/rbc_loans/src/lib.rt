@@ -1,0 +1,10 @@
+//! Laws of rights and of sections that are lent between centres, and of what the interlocking says: what the frames of them, a set and an
+//! unset lead to at the one line centre. The functions do nothing: each contract is a law of the definitions.
+#![tactic(auto)]
+
+mod laws;
+
+pub use laws::{
+    a_frame_without_a_rule_leads_nowhere_else, what_a_frame_of_rights_leads_to,
+    what_a_frame_of_routes_leads_to, what_the_interlocking_leads_to,
+};

@@ -1,0 +1,11 @@
+use Rattle.std.proofs.Common.{◌-◌, ◌∙◌, Option, ap, arith}
+use Rattle.std.specs.Option.{option_map_or}
+use Rattle.rbc_spec.specs.SectionRuns.{no_run}
+use Rattle.rbc_spec.specs.Centre.{Mission}
+use Rattle.rbc_mission.proofs.Missions.{none_stands, frees_nothing}
+use Rattle.rbc_mission.proofs.supervision.Supervision.shorten.Goals as goal
+
+pub returns-in_default-clause-book : goal.returns-in_default-clause-book
+returns-in_default-clause-book c =
+    let none = none_stands _ _ _ _ _ c.self.view_is c.in_default.is in
+    frees_nothing _ _ _ (ap (λ (o : Option Mission). (option_map_or (λ m. m.hand) o no_run).count - c.args.keep) none ∙ omega arith)

@@ -1,0 +1,174 @@
+ghost use Rattle.std.specs.Prelude.{◌≡◌, ◌≤◌, ◌<◌, ◌+◌, ℕ, Some, None, option_map, option_and_then, true, false, length};
+ghost use Rattle.rbc_spec.specs.Maps.{put};
+ghost use Rattle.rbc_spec.specs.Centre as spec;
+ghost use Rattle.rbc_right.specs.Rights.{is_here};
+ghost use Rattle.rbc_hand.specs.SectionRuns.{run_of};
+ghost use Rattle.rbc_place.specs.Places.{place_of};
+ghost use Rattle.rbc_shorten.specs.Facts.{proposal_of};
+
+use crate::facts::MissionFacts;
+use crate::supervision::Supervision;
+use crate::told::Told;
+use crate::{held, sections};
+use rbc_book::Book;
+use rbc_hand::SectionRun;
+use rbc_place::Place;
+use rbc_right::{Asked, Registrar};
+use rbc_shorten::Proposal;
+
+impl Supervision {
+    ghost use Rattle.rbc_mission.specs.Supervisions.{hand_of, mission_at, with_next, next_sections, without_front, with_front, GoesHome};
+    ghost use Rattle.rbc_mission.specs.Sections.{TakesRun, FreesRun, wished, front_of, rest_of, IsAllOpen, MayGrow};
+
+    /// A mission begins at this place, with these sections, which are open, and with the right, which is here.
+    pub fn begin(
+        &mut self,
+        place: Place,
+        sections: SectionRun,
+        book: &mut Book,
+        registrar: &mut Registrar,
+    )
+        requires none { self.old.mission ≡ None }
+        requires some { 1 ≤ sections.count }
+        requires most { sections.count ≤ 32 }
+        requires numbers { sections.first + sections.count ≤ 65535 }
+        requires open { IsAllOpen (run_of sections) book.old }
+        requires here { is_here registrar.old self.old.number ≡ true }
+        ensures supervision { self.new ≡ record self.old { mission = Some (mission_at (place_of place) (run_of sections)) } }
+        ensures book { TakesRun self.old.engine (run_of sections) book.old book.new }
+        ensures right { (j : ℕ) → is_here registrar.new j ≡ put (is_here registrar.old) self.old.number false j }
+        ensures rights { length registrar.new ≡ length registrar.old }
+    {
+        match registrar.ask(self.number) {
+            Asked::Given(right) => {
+                sections::take_run(&mut self.hand, sections, self.nid_engine, book);
+                held::hold(&mut self.right, right);
+                self.mission = Some(MissionFacts::at(place));
+            }
+            Asked::NotHere => {}
+        }
+    }
+
+    /// The mission goes on from this place as a new one: its train data are not known, it is not ended, and no request stands.
+    pub fn begin_again(&mut self, place: Place)
+        ensures { self.new ≡ record self.old { mission = option_map (λ (m : spec.Mission). record m { place = place_of place; has_data = false; is_ended = false; proposal = None }) self.old.mission } }
+    {
+        if self.mission.is_some() {
+            self.mission = Some(MissionFacts::at(place));
+        }
+    }
+
+    /// The train data are known.
+    pub fn note_data(&mut self)
+        ensures { self.new ≡ record self.old { mission = option_map (λ (m : spec.Mission). record m { has_data = true }) self.old.mission } }
+    {
+        if let Some(mission) = self.mission {
+            self.mission = Some(MissionFacts {
+                has_data: true,
+                ..mission
+            });
+        }
+    }
+
+    /// This request to shorten stands (3.8.6).
+    pub fn propose(&mut self, proposal: Proposal)
+        ensures { self.new ≡ record self.old { mission = option_map (λ (m : spec.Mission). record m { proposal = Some (proposal_of proposal) }) self.old.mission } }
+    {
+        if let Some(mission) = self.mission {
+            self.mission = Some(MissionFacts {
+                proposal: Some(proposal),
+                ..mission
+            });
+        }
+    }
+
+    /// No request to shorten stands (3.8.6).
+    pub fn forget_proposal(&mut self)
+        ensures { self.new ≡ record self.old { mission = option_map (λ (m : spec.Mission). record m { proposal = None }) self.old.mission } }
+    {
+        if let Some(facts) = self.mission {
+            self.mission = Some(MissionFacts {
+                proposal: None,
+                ..facts
+            });
+        }
+    }
+
+    /// The train has ended the mission. It keeps its sections, and no request to shorten stands.
+    pub fn end_mission(&mut self)
+        ensures { self.new ≡ record self.old { mission = option_map (λ (m : spec.Mission). record m { is_ended = true; proposal = None }) self.old.mission } }
+    {
+        if let Some(mission) = self.mission {
+            self.mission = Some(MissionFacts {
+                is_ended: true,
+                proposal: None,
+                ..mission
+            });
+        }
+    }
+
+    /// The train is at this place, and so many sections behind its last are added, which are open.
+    pub fn lengthen(&mut self, place: Place, count: u16, book: &mut Book)
+        requires { (m : spec.Mission) → self.old.mission ≡ Some m → MayGrow m count book.old }
+        ensures supervision { self.new ≡ record self.old { mission = option_map (with_next (place_of place) count) self.old.mission } }
+        ensures book { TakesRun self.old.engine (next_sections count self.old) book.old book.new }
+    {
+        if let Some(mission) = self.mission {
+            let sections = sections::behind(self.hand.run(), count);
+            sections::take_run(&mut self.hand, sections, self.nid_engine, book);
+            self.mission = Some(MissionFacts { place, ..mission });
+        }
+    }
+
+    /// The train is at this place, and so many of its first sections are given back: those that were wished back, of which the
+    /// interlocking is to be told, in rising order. Where no section is left the mission closes, and the right goes home.
+    pub fn clear_front(
+        &mut self,
+        place: Place,
+        count: u16,
+        book: &mut Book,
+        registrar: &mut Registrar,
+    ) -> Told
+        requires some { count ≤ (hand_of self.old).count }
+        requires number { self.old.number < length registrar.old }
+        ensures supervision { self.new ≡ record self.old { mission = option_and_then (without_front (place_of place) count) self.old.mission } }
+        ensures book { FreesRun self.old.engine (front_of count (hand_of self.old)) book.old book.new }
+        ensures told { result ≡ wished self.old.engine (front_of count (hand_of self.old)) book.old }
+        ensures right { GoesHome self.old self.new registrar.old registrar.new }
+        ensures rights { length registrar.new ≡ length registrar.old }
+    {
+        let Some(mission) = self.mission else {
+            return Told::nothing();
+        };
+        let told = sections::clear(&mut self.hand, count, self.nid_engine, book);
+        let is_left = !self.hand.is_empty();
+        let facts = MissionFacts { place, ..mission };
+        self.mission = held::stay(is_left, facts, &mut self.right, registrar);
+        told
+    }
+
+    /// All but so many of the first sections are given back (3.8.6): those that were wished back, of which the interlocking is
+    /// to be told, in rising order. No request to shorten stands. Where no section is left the mission closes, and the right
+    /// goes home.
+    pub fn shorten(&mut self, keep: u16, book: &mut Book, registrar: &mut Registrar) -> Told
+        requires some { keep ≤ (hand_of self.old).count }
+        requires number { self.old.number < length registrar.old }
+        ensures supervision { self.new ≡ record self.old { mission = option_and_then (with_front keep) self.old.mission } }
+        ensures book { FreesRun self.old.engine (rest_of keep (hand_of self.old)) book.old book.new }
+        ensures told { result ≡ wished self.old.engine (rest_of keep (hand_of self.old)) book.old }
+        ensures right { GoesHome self.old self.new registrar.old registrar.new }
+        ensures rights { length registrar.new ≡ length registrar.old }
+    {
+        let Some(mission) = self.mission else {
+            return Told::nothing();
+        };
+        let told = sections::cut(&mut self.hand, keep, self.nid_engine, book);
+        let is_left = !self.hand.is_empty();
+        let facts = MissionFacts {
+            proposal: None,
+            ..mission
+        };
+        self.mission = held::stay(is_left, facts, &mut self.right, registrar);
+        told
+    }
+}

@@ -1,0 +1,12 @@
+pub mod Keeps
+pub mod Heard
+pub mod Sets
+pub mod Leaves
+pub mod Clears
+pub mod Reports
+pub mod Ends
+pub mod Cuts
+pub mod Extending
+pub mod Grants
+pub mod Asked
+pub mod Listens

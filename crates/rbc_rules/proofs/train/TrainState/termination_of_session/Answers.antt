@@ -1,0 +1,24 @@
+use Rattle.std.proofs.Common.{◌≡◌, ◌+◌, ◌∙◌, false, inl, inr, [], ◌∷◌, ap, sym, Some}
+use Rattle.rbc_spec.specs.Message.{TerminationAcknowledged, unknown_group}
+use Rattle.rbc_spec.specs.Centre.{Closed, is_closed}
+use Rattle.rbc_session.specs.SessionStates.{phase_of, session_phase}
+use Rattle.rbc_mission.specs.Supervisions.{SupervisionState}
+use Rattle.rbc_rules.proofs.Desk.{left_as, answer_to}
+use Rattle.rbc_rules.proofs.SessionMessages.{closed}
+use Rattle.rbc_rules.proofs.SessionStates.{phase_entered}
+use Rattle.rbc_rules.proofs.train.TrainState.termination_of_session.Goals as goal
+
+pub returns-clause-exact : goal.returns-clause-exact
+returns-clause-exact c = λ line n book rights k h.
+    let old = c.args.self.now in
+    let session = c.close.new.session_state in
+    closed line n k c.args.t_train old book rights h session
+    (elim c.in-Opened.is as (λ _. is_closed (session_phase old.session_state) ≡ false) [
+      | inl e ↦ ap is_closed (sym c.known-known.ensures.phase ∙ ap phase_of e)
+      | inr e ↦ ap is_closed (sym c.known-known.ensures.phase ∙ ap phase_of e)
+    ])
+    (phase_entered c.args.sessions.now c.close.new.sessions session c.known-known.result.nid_engine Closed c.close.ensures)
+    ∙ sym (left_as k c.answer-saying.new.self _ book rights _ (answer_to old.supervision.engine (old.said + 1) TerminationAcknowledged) c.nothing.result []
+    (c.answer-saying.ensures.counted ∙ ap (λ (x : SupervisionState). record { session_state = session; heard = Some c.args.t_train; said = old.said + 1; supervision = x }) c.forget_proposal.ensures)
+    (ap (λ x. x ∷ []) (c.answer-saying.ensures.saying ∙ ap (λ (x : SupervisionState). record { nid_engine = x.engine; message = record { t_train = old.said + 1; nid_lrbg = unknown_group; body = TerminationAcknowledged } }) c.forget_proposal.ensures))
+    c.nothing.ensures)

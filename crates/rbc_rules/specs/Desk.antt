@@ -1,0 +1,85 @@
+-- A centre seen from one of its trains: the parts of its state that a message of the train finds, and those that it leaves.
+use Rattle.std.specs.Prelude.{◌≡◌, ◌+◌, ◌<◌, ◌≤◌, ℕ, List, [], Some, None, Result, Ok, Err, map, is_none, false, length}
+use Rattle.rbc_spec.specs.Maps.{put}
+use Rattle.rbc_spec.specs.Line.{Line, train_number}
+use Rattle.rbc_spec.specs.Message.{is_stale}
+use Rattle.rbc_spec.specs.Outcome.{Saying, Told}
+use Rattle.rbc_spec.specs.Centre.{Centre, Mission}
+use Rattle.rbc_spec.specs.Acts.{Act, Reply}
+use Rattle.rbc_spec.specs.Step.{Effect}
+use Rattle.rbc_local.specs.Local.{IsOrdered, IsLocalAt}
+use Rattle.rbc_book.specs.Book.{Pages, is_own, entry_at, wish_at}
+use Rattle.rbc_right.specs.Rights.{Rights, is_here}
+use Rattle.rbc_session.specs.SessionStates.{session_phase}
+use Rattle.rbc_rules.specs.Desks.{IsBookOf, HasBook}
+use Rattle.rbc_rules.specs.Reasons.{reason_of}
+use Rattle.rbc_rules.specs.Sayings.{sayings_of}
+use Rattle.rbc_rules.specs.declared.heard.Heard.{Heard}
+use Rattle.rbc_rules.specs.declared.reason.Reason.{Reason}
+use Rattle.rbc_rules.specs.declared.train.TrainState.{TrainState}
+
+-- centre c, in whose missions no other has a part, has this of the train, this book and these rights
+pub record HasParts (line : Line) (c : ℕ) (k : Centre) (p : TrainState) (book : Pages) (rights : Rights) : Type 0 where
+  pub ordered : IsOrdered line
+  pub local : IsLocalAt line c k
+  pub homes : IsBookOf line c book
+  pub has_book : HasBook k book
+  pub has_wish : (s : ℕ) → k.wish s ≡ wish_at book s
+  pub has_phase : k.phase p.supervision.engine ≡ session_phase p.session_state
+  pub has_heard : k.heard p.supervision.engine ≡ p.heard
+  pub has_said : k.said p.supervision.engine ≡ p.said
+  pub has_mission : k.mission p.supervision.engine ≡ p.supervision.mission
+  pub has_right : k.has_right p.supervision.engine ≡ is_here rights p.supervision.number
+
+-- and it hears the train, of the line, with a T_TRAIN above the last
+pub record HearsTrain (line : Line) (c : ℕ) (k : Centre) (stamp : ℕ) (p : TrainState) (book : Pages) (rights : Rights) : Type 0 where
+  pub parts : HasParts line c k p book rights
+  pub known : is_none (train_number line p.supervision.engine) ≡ false
+  pub timely : is_stale stamp p.heard ≡ false
+
+-- the centre with this of the train, this book and these rights
+abbrev pub with_parts : TrainState → Pages → Rights → Centre → Centre
+with_parts p book rights k = record k {
+  book = entry_at book;
+  wish = wish_at book;
+  phase = put k.phase p.supervision.engine (session_phase p.session_state);
+  heard = put k.heard p.supervision.engine p.heard;
+  said = put k.said p.supervision.engine p.said;
+  mission = put k.mission p.supervision.engine p.supervision.mission;
+  has_right = put k.has_right p.supervision.engine (is_here rights p.supervision.number);
+}
+
+-- ## What an act and a message come to
+
+-- a reply that leaves this, and says and tells this. No other centre has a part, so none is sent a frame
+abbrev pub replied : Centre → List Saying → List ℕ → Reply
+replied k sayings told = record { state = k; frames = λ d. []; sayings = sayings; words = map (λ s. Told s) told }
+
+-- wherever centre c has the old parts, the act leaves the new ones, and says and tells this
+abbrev pub Does : Line → (ℕ → Act) → TrainState → Pages → Rights → TrainState → Pages → Rights → List Saying → List ℕ → Type 0
+Does line act old book rights new book' rights' sayings told =
+    (c : ℕ) (k : Centre) → HasParts line c k old book rights → act c k ≡ replied (with_parts new book' rights' k) sayings told
+
+-- what a message came to at a centre that is left so
+abbrev pub effect_left : Centre → Result Heard Reason → Effect
+effect_left k (Ok h) = record { reply = replied k (sayings_of h.saying) h.told; link = None; silence = None }
+effect_left k (Err why) = record { reply = replied k [] []; link = None; silence = Some (reason_of why) }
+
+-- ## What stays
+
+-- NID_LRBG of the mission's place, where one stands, is in its 24 bits
+abbrev pub HasGroup : TrainState → Type 0
+HasGroup p = (m : Mission) → p.supervision.mission ≡ Some m → m.place.group < 16777216
+
+-- it is the same train, and at most one message more was said to it
+pub record KeepsTrain (old new : TrainState) : Type 0 where
+  pub number : new.supervision.number ≡ old.supervision.number
+  pub engine : new.supervision.engine ≡ old.supervision.engine
+  pub group : HasGroup old → HasGroup new
+  pub said : new.said ≤ old.said + 1
+
+-- the book has the same homes, and of the rights none but that of this train has changed
+pub record KeepsDesk (i : ℕ) (book book' : Pages) (rights rights' : Rights) : Type 0 where
+  pub homes : (s : ℕ) → is_own book' s ≡ is_own book s
+  pub others : (j : ℕ) → is_here rights' j ≡ put (is_here rights) i (is_here rights' i) j
+  pub count : length rights' ≡ length rights

@@ -1,0 +1,12 @@
+-- Messages to trains, as the rules have them.
+use Rattle.std.specs.Prelude.{List, [], ◌∷◌, Option, Some, None}
+use Rattle.rbc_spec.specs.Outcome.{Saying}
+use Rattle.rbc_rules.specs.declared.saying.Saying.{Saying as SayingCode}
+
+abbrev pub saying_of : SayingCode → Saying
+saying_of p = record { nid_engine = p.nid_engine; message = p.message }
+
+-- one message or none
+abbrev pub sayings_of : Option SayingCode → List Saying
+sayings_of (Some p) = saying_of p ∷ []
+sayings_of None = []

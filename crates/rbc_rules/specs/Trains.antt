@@ -1,0 +1,16 @@
+-- What a centre keeps of a train.
+use Rattle.std.specs.Prelude.{◌≡◌, ℕ, None}
+use Rattle.rbc_spec.specs.Centre as centre
+use Rattle.rbc_session.specs.SessionStates.{session_phase}
+use Rattle.rbc_session.specs.declared.session.SessionState.TheVariants as session_state
+use Rattle.rbc_rules.specs.declared.train.TrainState.{TrainState}
+
+-- what is kept of a train that was never heard, by its place in the line file and its NID_ENGINE
+abbrev pub unknown_state : ℕ → ℕ → TrainState
+unknown_state i t = record { session_state = session_state.Closed; heard = None; said = 0; supervision = record { number = i; engine = t; mission = None } }
+
+-- centre k has this session and this mission of train t, and has said so many messages to it
+pub record HasTrain (k : centre.Centre) (t : ℕ) (p : TrainState) : Type 0 where
+  pub phase_is : k.phase t ≡ session_phase p.session_state
+  pub mission_is : k.mission t ≡ p.supervision.mission
+  pub said_is : k.said t ≡ p.said

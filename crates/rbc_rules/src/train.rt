@@ -1,0 +1,159 @@
+ghost use Rattle.std.specs.Prelude.{◌≡◌, ◌+◌, ◌<◌, ◌≤◌, ℕ, IfOk, IfSome, None, Some, option_map};
+ghost use Rattle.rbc_spec.specs.Message.{is_stale};
+ghost use Rattle.rbc_spec.specs.Centre as spec;
+ghost use Rattle.rbc_spec.specs.Acts.{propose_if_so};
+ghost use Rattle.rbc_hand.specs.SectionRuns.{run_of};
+ghost use Rattle.rbc_session.specs.SessionStates.{phase_of, session_phase};
+ghost use Rattle.rbc_mission.specs.Supervisions.{HasLocalForm, hand_of};
+ghost use Rattle.rbc_rules.specs.Desks.{mission_by};
+ghost use Rattle.rbc_rules.specs.Answers.{asked};
+ghost use Rattle.rbc_rules.specs.Trains.{unknown_state, HasTrain};
+ghost use Rattle.rbc_rules.specs.Sayings.{sayings_of};
+
+use crate::asking::ask_back;
+use crate::known::Train;
+use crate::saying::Saying;
+use rbc_book::Book;
+use rbc_hand::SectionRun;
+use rbc_line::Line;
+use rbc_mission::{MissionFacts, Supervision};
+use rbc_msgs::TrackBody;
+use rbc_packets::Authority;
+use rbc_right::Registrar;
+use rbc_session::{Phase, SessionState, Sessions};
+use rbc_vars::LEndsection;
+use std::alloc::{AllocError, Global};
+
+/// What is known of a train at a centre.
+#[derive(Clone, Copy, Debug, PartialEq, Eq)]
+pub struct TrainPage {
+    /// How far the communication session with it has come (3.5.3).
+    pub phase: Phase,
+    /// The last T_TRAIN heard.
+    pub heard: Option<u32>,
+    /// How many messages were said to the train.
+    pub said: u32,
+    /// The mission that the centre supervises.
+    pub mission: Option<MissionFacts>,
+    /// The sections of its movement authority, none where there is no mission.
+    pub hand: SectionRun,
+}
+
+/// What a centre keeps of a train of the line.
+#[derive(Debug)]
+pub struct TrainState {
+    /// The session that stands with it.
+    pub session_state: SessionState,
+    /// The last T_TRAIN heard.
+    pub heard: Option<u32>,
+    /// How many messages were said to it.
+    pub said: u32,
+    /// Its mission, where one stands at this centre.
+    pub supervision: Supervision,
+}
+
+impl TrainState {
+    /// What is kept of a train that was never heard, with this place in the line file.
+    pub fn unknown(alloc: Global, number: u8, nid_engine: u32) -> Result<TrainState, AllocError>
+        ensures { IfOk result (λ p. p ≡ unknown_state number nid_engine) }
+    {
+        let supervision = Supervision::new(alloc, number, nid_engine)?;
+        Ok(TrainState {
+            session_state: SessionState::Closed,
+            heard: None,
+            said: 0,
+            supervision,
+        })
+    }
+
+    /// The train's NID_ENGINE.
+    pub(crate) fn nid_engine(&self) -> u32
+        ensures { result ≡ self.now.supervision.engine }
+    {
+        self.supervision.nid_engine()
+    }
+
+    /// The sections of its movement authority; none where no mission stands.
+    pub(crate) fn hand(&self) -> SectionRun
+        ensures { run_of result ≡ hand_of self.now.supervision }
+    {
+        self.supervision.hand()
+    }
+
+    /// What is known of it.
+    pub fn page(&self) -> TrainPage
+        ensures phase { phase_of result.phase ≡ session_phase self.now.session_state }
+        ensures heard { result.heard ≡ self.now.heard }
+        ensures said { result.said ≡ self.now.said }
+        ensures mission { mission_by result.mission result.hand ≡ self.now.supervision.mission }
+    {
+        TrainPage {
+            phase: self.session_state.phase(),
+            heard: self.heard,
+            said: self.said,
+            mission: self.supervision.mission(),
+            hand: self.supervision.hand(),
+        }
+    }
+
+    /// What a message of it is decided by.
+    pub fn known(&self) -> Train
+        ensures number { result.number ≡ self.now.supervision.number }
+        ensures engine { result.nid_engine ≡ self.now.supervision.engine }
+        ensures phase { phase_of result.phase ≡ session_phase self.now.session_state }
+        ensures mission { mission_by result.mission result.hand ≡ self.now.supervision.mission }
+        ensures local { (m : spec.Mission) → mission_by result.mission result.hand ≡ Some m → HasLocalForm m }
+    {
+        Train {
+            number: self.supervision.number(),
+            nid_engine: self.supervision.nid_engine(),
+            phase: self.session_state.phase(),
+            mission: self.supervision.mission(),
+            hand: self.supervision.hand(),
+        }
+    }
+
+    /// Ends it with its centre: its session ends, and what its mission holds goes back.
+    pub fn end(self, sessions: &mut Sessions, book: &mut Book, registrar: &mut Registrar) {
+        let TrainState {
+            session_state,
+            heard: _,
+            said: _,
+            supervision,
+        } = self;
+        sessions.end(session_state);
+        supervision.give_up(book, registrar);
+    }
+
+    /// Whether a message came late or again (3.16.3).
+    pub fn is_stale(&self, t_train: u32) -> bool
+        ensures { result ≡ is_stale t_train self.now.heard }
+    {
+        match self.heard {
+            Some(last) => t_train <= last,
+            None => false,
+        }
+    }
+
+    /// Asks the train to end its movement authority before a section (3.8.6), where that may be asked.
+    pub fn ask_back(&mut self, line: &Line, s: u16) -> Option<Saying>
+        requires count { self.old.said < 4294967294 }
+        requires group { (m : spec.Mission) → self.old.supervision.mission ≡ Some m → m.place.group < 16777216 }
+        ensures exact { (k : spec.Centre) → HasTrain k self.old.supervision.engine self.old
+            → propose_if_so line.now self.old.supervision.engine s k ≡ asked self.old.supervision.engine self.new (sayings_of result) k }
+        ensures session_state { self.new.session_state ≡ self.old.session_state }
+        ensures heard { self.new.heard ≡ self.old.heard }
+        ensures number { self.new.supervision.number ≡ self.old.supervision.number }
+        ensures engine { self.new.supervision.engine ≡ self.old.supervision.engine }
+        ensures said { self.new.said ≤ self.old.said + 1 }
+        ensures group { (m : spec.Mission) → self.new.supervision.mission ≡ Some m → m.place.group < 16777216 }
+    {
+        let known = self.known();
+        let asking = ask_back(line, &known, s, self.said + 1)?;
+        self.supervision.propose(asking.proposal);
+        let request = TrackBody::ShorteningRequest(Authority {
+            l_endsection: LEndsection::new(u64::from(asking.l_endsection)),
+        });
+        Some(self.answer(asking.nid_lrbg, request))
+    }
+}

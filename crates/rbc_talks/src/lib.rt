@@ -1,0 +1,10 @@
+//! Laws of the messages of sessions, of train data, of rejected requests to shorten, and of starts of mission: the one line centre takes its own
+//! step of each, at every reach, and shows what the answer leaves. The functions do nothing: each contract is a law of the definitions.
+#![tactic(auto)]
+
+mod laws;
+
+pub use laws::{
+    a_rejection_is_heard, a_session_begins_and_ends, a_session_is_established, a_start_is_answered,
+    train_data_are_heard,
+};

@@ -1,0 +1,17 @@
+pub mod Words
+pub mod InOrder
+pub mod Work
+pub mod Clocks
+pub mod Bordering
+pub mod BorderMessages
+pub mod BorderFrames
+pub mod Announcing
+pub mod Requests
+pub mod Cited
+pub mod Silence
+pub mod Still
+pub mod Pieces
+pub mod Events
+pub mod Waits
+pub mod Lines
+pub mod Promises

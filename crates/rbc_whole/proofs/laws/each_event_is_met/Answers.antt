@@ -1,0 +1,17 @@
+use Rattle.rbc_spec.specs.ReadOff.{read_off}
+use Rattle.rbc_spec.proofs.Safe.{safe}
+use Rattle.rbc_whole.proofs.Promises.{goes, promises, ends, sound_behind}
+use Rattle.rbc_whole.proofs.laws.each_event_is_met.Goals as goal
+
+pub returns-clause-goes : goal.returns-clause-goes
+returns-clause-goes ctx reach line w new events answers event answer ok before is = goes reach line ok w new events answers event answer before is
+
+pub returns-clause-promises : goal.returns-clause-promises
+returns-clause-promises ctx reach line w new events answers event answer ok before is = promises reach line ok w new events answers event answer before is
+
+pub returns-clause-stands : goal.returns-clause-stands
+returns-clause-stands ctx reach line w new events answers event answer ok before is =
+    let stands = ends reach line ok w new events answers event answer before is in (stands, safe line new (read_off line new) stands)
+
+pub returns-clause-sound : goal.returns-clause-sound
+returns-clause-sound ctx reach line w new events answers event answer ok before is whole = sound_behind reach line ok w new events answers event answer before is whole

@@ -1,0 +1,8 @@
+use Rattle.rbc_whole.proofs.Lines.{the_run, run_read}
+use Rattle.rbc_whole.proofs.laws.each_run_is_the_line_centres.Goals as goal
+
+pub returns-clause-run : goal.returns-clause-run
+returns-clause-run ctx reach line events answers w ok is = the_run reach line ok events answers w is
+
+pub returns-clause-last : goal.returns-clause-last
+returns-clause-last ctx reach line events answers w ok is = (run_read reach line ok events answers w is).0
