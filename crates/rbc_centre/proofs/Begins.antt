@@ -88,9 +88,6 @@ module _ (line : Line) (states : List TrainState) (each : (i : ℕ) (p : TrainSt
   pub engines : (t i : ℕ) (p : TrainState) → train_number line t ≡ Some i → slice_get states i ≡ Some p → p.supervision.engine ≡ t
   engines t i p number at = engine_at t i p.supervision.engine (slice_get line.trains i) number refl ((each i p at).engine)
 
-  pub no_groups : (i : ℕ) (p : TrainState) (m : Mission) → slice_get states i ≡ Some p → p.supervision.mission ≡ Some m → m.place.group ≤ 16777215
-  no_groups i p m at mission = let e : None ≡ Some m = sym (ap (λ (q : TrainState). q.supervision.mission) ((each i p at).state)) ∙ mission in cc
-
   -- no session stands with a train that was never heard
   pub closed_everywhere : (sessions : Records) → ((u : ℕ) → phase_at sessions u ≡ centre.Closed)
       → (t i : ℕ) (p : TrainState) → train_number line t ≡ Some i → slice_get states i ≡ Some p → Stands sessions p.session_state t

@@ -16,12 +16,12 @@ use Rattle.rbc_right.specs.Rights.{Rights}
 use Rattle.rbc_session.specs.SessionStates.{session_phase}
 use Rattle.rbc_rules.specs.Tellings.{wishing}
 use Rattle.rbc_rules.proofs.Tellings.{shut_at_once, asked_of_taken, left_at_unset, opened_at_once, kept_in_use, left_at_set}
-use Rattle.rbc_rules.specs.Answers.{asked}
-use Rattle.rbc_rules.specs.Trains.{HasTrain}
+use Rattle.rbc_rules.specs.Trains.{asked, HasTrain}
 use Rattle.rbc_centre.specs.State.{stands_for, of_trains}
 use Rattle.rbc_rules.specs.declared.train.TrainState.{TrainState}
 use Rattle.rbc_lemmas.proofs.Puts.{put_same}
-use Rattle.rbc_centre.proofs.States.{of_trains-set, part_of_train, part_of_foreign}
+use Rattle.rbc_centre.specs.declared.centre.Centre.{Centre as CentreCode}
+use Rattle.rbc_centre.proofs.States.{of_trains-set, part_of_train, part_of_foreign, number_within}
 
 abbrev replied : centre.Centre → List Saying → List Word → Reply
 replied k sayings words = record { state = k; frames = λ d. []; sayings = sayings; words = words }
@@ -147,3 +147,27 @@ asked_used e h = by_test (is_unused e) h
     by_test : (b : Bool) → Unset.Asked ≡ (if b then Unset.Done else Unset.Asked) → b ≡ false
     by_test true h = cc
     by_test false h = refl
+
+-- the train that a section is in use for, with this number in the line file and this of it
+pub record IsUser (k : CentreCode) (s i : ℕ) (before : TrainState) (t : ℕ) : Type 0 where
+  pub taken : entry_at k.book s ≡ Taken t
+  pub number : train_number k.line t ≡ Some i
+  pub within : i < length k.trains.items
+  pub at : slice_get k.trains.items i ≡ Some before
+  pub engine : before.supervision.engine ≡ t
+
+pub user_of : (k : CentreCode) (s : ℕ) → Unset.Asked ≡ unset_answer (entry_at k.book s) → (t : ℕ) × (entry_at k.book s ≡ Taken t)
+user_of k s asked = user_stands k.line k.number k.clock k.book k.book k.registrar k.trains.items s (k.own_sections s) k.local (entry_at k.book s) refl (asked_used (entry_at k.book s) asked)
+
+pub user_at : (k : CentreCode) (s i : ℕ) (before : TrainState) (asked : Unset.Asked ≡ unset_answer (entry_at k.book s)) → ((t : ℕ) → entry_at k.book s ≡ Taken t → train_number k.line t ≡ Some i)
+    → (i < length k.trains.items → slice_get k.trains.items i ≡ Some before) → IsUser k s i before (user_of k s asked).0
+user_at k s i before asked found read =
+    let u = user_of k s asked in
+    let number = found u.0 u.1 in
+    let within = number_within k.line k.trains.items u.0 i number k.each_train in
+    record { taken = u.1; number = number; within = within; at = read within; engine = k.each_engine u.0 i before number (read within) }
+
+pub no_user : (k : CentreCode) (s : ℕ) (asked : Unset.Asked ≡ unset_answer (entry_at k.book s)) → ((t : ℕ) → entry_at k.book s ≡ Taken t → train_number k.line t ≡ None) → ⊥
+no_user k s asked none =
+    let u = user_of k s asked in
+    user_number k.line k.number k.clock k.book k.book k.registrar k.trains.items s (k.own_sections s) k.local u.0 u.1 (train_number k.line u.0) refl (none u.0 u.1)

@@ -1,6 +1,6 @@
 ghost use Rattle.std.specs.Prelude.{◌≡◌, ◌≤◌, ◌<◌, ℕ, slice_get, true, length, IfOk, IfErr, OnOk, OnErr, IsOk, Some, None, Err, option_map};
 ghost use Rattle.rbc_spec.specs.Line.{is_centre, is_home, train_number};
-ghost use Rattle.rbc_spec.specs.Centre.{Mission, beginning};
+ghost use Rattle.rbc_spec.specs.Centre.{beginning};
 ghost use Rattle.rbc_spec.specs.Step as spec;
 ghost use Rattle.rbc_spec.specs.Reach as reach;
 ghost use Rattle.rbc_local.specs.Local.{IsOrdered, IsLocalAt};
@@ -63,7 +63,6 @@ pub struct Centre {
     ghost each_train: { length trains.items ≡ length line.trains },
     ghost each_number: { (t i : ℕ) → (p : TrainState) → train_number line t ≡ Some i → slice_get trains.items i ≡ Some p → p.supervision.number ≡ i },
     ghost each_engine: { (t i : ℕ) → (p : TrainState) → train_number line t ≡ Some i → slice_get trains.items i ≡ Some p → p.supervision.engine ≡ t },
-    ghost each_group: { (i : ℕ) → (p : TrainState) → (m : Mission) → slice_get trains.items i ≡ Some p → p.supervision.mission ≡ Some m → m.place.group < 16777216 },
     ghost each_stands: { (t i : ℕ) → (p : TrainState) → train_number line t ≡ Some i → slice_get trains.items i ≡ Some p → Stands sessions p.session_state t },
     ghost counted: { (i : ℕ) → (p : TrainState) → slice_get trains.items i ≡ Some p → p.said ≤ clock },
 }

@@ -1,22 +1,23 @@
 //! Laws of rights and of the tokens of sections, which are not lost.
 
-ghost use Rattle.std.specs.Prelude.{◌≡◌, ℕ, Bool, true, List};
+ghost use Rattle.std.specs.Prelude.{◌≡◌, ℕ, true, List, Ok};
 ghost use Rattle.rbc_ledger.specs.Network.{took, acted, TakesHead, IsCounted};
-ghost use Rattle.rbc_spec.specs.Line.{Line, IsLine, is_centre, is_home};
-ghost use Rattle.rbc_spec.specs.Reach.{Reach, follows_rule};
-ghost use Rattle.rbc_spec.specs.Centre.{Centre, is_registrar_of};
-ghost use Rattle.rbc_spec.specs.SectionRuns.{SectionRun, all_of};
-ghost use Rattle.rbc_spec.specs.Frame.{Body, YieldedPlace};
-ghost use Rattle.rbc_spec.specs.Frame.Body.{GiveRight, ReturnRight, RouteReturn, Yield};
-ghost use Rattle.rbc_spec.specs.Links.{is_train};
+ghost use Rattle.rbc_spec.specs.Line.{Line, IsLine, is_centre};
+ghost use Rattle.rbc_spec.specs.Reach.{Reach};
+ghost use Rattle.rbc_spec.specs.Centre.{Centre};
+ghost use Rattle.rbc_spec.specs.Frame.{Body};
 ghost use Rattle.rbc_spec.specs.Step.{Event, stamp_of, state_after};
+ghost use Rattle.rbc_spec.specs.World as world;
+ghost use Rattle.rbc_spec.specs.World.{World, Answer, new_world, world_step, world_run};
 ghost use Rattle.rbc_flow.specs.Counts.{rights, tokens};
-ghost use Rattle.rbc_flow.specs.Flow.{Flow};
+ghost use Rattle.rbc_flow.specs.Flow.{Flow, flow_of};
 ghost use Rattle.rbc_flow.specs.Keeping.{nothing_came, came_with};
 ghost use Rattle.rbc_flow.specs.Sound.{IsCentreSound, IsFlowSound, IsWithinReach, LosesNothing};
 ghost use Rattle.rbc_sound.specs.Stays.{IsInRange};
 ghost use Rattle.rbc_tokens.specs.Stray.{is_looked_for};
 ghost use Rattle.rbc_tokens.specs.Steps.{came_to, done, IsExactStep};
+ghost use Rattle.rbc_pairs.specs.Worlds.{IsWorldSound};
+ghost use Rattle.rbc_asked.specs.Asked.{IsAsked};
 ghost use Rattle.rbc_kept.specs.Keeps.{HasRightOnce, BringsNoStray, IsExactAct};
 
 /// Whatever event comes to a sound centre that has no right beside its mission, at every reach, but a stray frame: its step loses no right to supervise a
@@ -54,18 +55,18 @@ pub fn a_sound_flow_has_each_right_once()
     ensures { (line : Line) (w : Flow) (c : ℕ) → IsFlowSound line w → is_centre line c ≡ true → HasRightOnce (w.at c) }
 {}
 
-/// In a sound flow, as far as a reach goes, what comes at the head of a link is looked for: each Yield, each right that was asked for, and
-/// each that comes back to its registrar; and so are sections of a train of the line that come home, where the reach follows that.
+/// In a sound flow, as far as a reach goes and where all that is asked for is as it has to be, whatever comes at the head of a link is looked for: a
+/// right was asked for or comes back to its registrar, sections that are lent were asked for, sections come home where they are out, and each
+/// Yield may be taken.
 pub fn what_a_sound_flow_brings()
-    ensures yields { (reach : Reach) (line : Line) (w : Flow) (a c number t heard : ℕ) (has_data is_ended : Bool) (carried : YieldedPlace) (hand : SectionRun)
-        → IsLine line → IsFlowSound line w → IsWithinReach reach w → is_centre line a ≡ true → is_centre line c ≡ true
-        → TakesHead w a c (Yield number t heard has_data is_ended carried hand)
-        → is_looked_for reach line c a (w.at c) (Yield number t heard has_data is_ended carried hand) ≡ true }
-    ensures gives { (reach : Reach) (line : Line) (w : Flow) (a c t : ℕ) → IsFlowSound line w → is_centre line a ≡ true → is_centre line c ≡ true
-        → TakesHead w a c (GiveRight t) → (w.at c).has_asked t ≡ true → is_looked_for reach line c a (w.at c) (GiveRight t) ≡ true }
-    ensures returns_it { (reach : Reach) (line : Line) (w : Flow) (a c t : ℕ) → IsFlowSound line w → is_centre line a ≡ true → is_centre line c ≡ true
-        → TakesHead w a c (ReturnRight t) → is_registrar_of line c t ≡ true → is_looked_for reach line c a (w.at c) (ReturnRight t) ≡ true }
-    ensures comes_home { (reach : Reach) (line : Line) (w : Flow) (a c t : ℕ) (r : SectionRun) → IsFlowSound line w → is_centre line a ≡ true → is_centre line c ≡ true
-        → TakesHead w a c (RouteReturn t r) → follows_rule reach (RouteReturn t r) ≡ true → is_train line t ≡ true → all_of (is_home line c) r ≡ true
-        → is_looked_for reach line c a (w.at c) (RouteReturn t r) ≡ true }
+    ensures { (reach : Reach) (line : Line) (w : Flow) (a c : ℕ) (f : Body) → IsLine line → IsFlowSound line w → IsWithinReach reach w → IsAsked reach line w
+        → is_centre line a ≡ true → is_centre line c ≡ true → TakesHead w a c f → is_looked_for reach line c a (w.at c) f ≡ true }
+{}
+
+/// So no event of a world loses a right or a token of a section, and behind any list of events none is lost, at every reach.
+pub fn nothing_is_ever_lost()
+    ensures step { (reach : Reach) (line : Line) (w : World) (event : world.Event) (answer : Answer) (new : World) → IsLine line → IsWorldSound reach line w
+        → IsAsked reach line (flow_of w) → LosesNothing line (flow_of w) → world_step reach line w event ≡ Ok (answer, new) → LosesNothing line (flow_of new) }
+    ensures run { (reach : Reach) (line : Line) (events : List world.Event) (answers : List Answer) (w : World) → IsLine line
+        → world_run reach line (new_world line) events ≡ Ok (answers, w) → LosesNothing line (flow_of w) }
 {}

@@ -4,9 +4,9 @@ use Rattle.rbc_spec.specs.SectionRuns.{SectionRun}
 use Rattle.rbc_book.specs.Book.{Pages}
 use Rattle.rbc_hand.specs.Hands.{Holding, run}
 use Rattle.rbc_mission.specs.declared.facts.MissionFacts.{MissionFacts}
-use Rattle.rbc_mission.specs.Sections.{TakesRun, FreesRun}
+use Rattle.rbc_claims.specs.Sections.{TakesRun, FreesRun}
 use Rattle.rbc_mission.specs.Supervisions.{SupervisionState, supervision_state, mission_of, next_sections}
-use Rattle.rbc_mission.proofs.Runs.{takes_none, frees_none}
+use Rattle.rbc_claims.proofs.Runs.{takes_none, frees_none}
 
 pub none_stands : (number engine : ℕ) (facts : Option MissionFacts) (hand : Holding) (c : SupervisionState) → supervision_state number engine facts hand ≡ c → facts ≡ None → c.mission ≡ None
 none_stands number engine facts hand c view none = ap (λ (x : SupervisionState). x.mission) (sym view) ∙ ap (option_map (mission_of (run hand))) none

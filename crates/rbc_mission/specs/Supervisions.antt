@@ -10,7 +10,8 @@ use Rattle.rbc_hand.specs.Hands.{Holding, run, IsAllOwn}
 use Rattle.rbc_right.specs.Rights.{Rights, is_here, right_of}
 use Rattle.rbc_place.specs.Places.{place_of}
 use Rattle.rbc_shorten.specs.Facts.{standing_of}
-use Rattle.rbc_mission.specs.Sections.{front_of, rest_of, next_of}
+use Rattle.rbc_book.specs.Book.{Pages}
+use Rattle.rbc_claims.specs.Sections.{front_of, rest_of, next_of, IsAllOpen}
 use Rattle.rbc_mission.specs.declared.facts.MissionFacts.{MissionFacts}
 use Rattle.rbc_mission.specs.declared.held.HeldRight.{HeldRight}
 use Rattle.rbc_mission.specs.declared.held.HeldRight.TheVariants.{Nothing, Held}
@@ -88,3 +89,9 @@ pub record IsSupervision (number engine : ℕ) (mission : Option MissionFacts) (
   pub some : is_empty (run hand) ≡ is_none mission
   pub most : length hand.holds ≤ 32
   pub numbers : hand.first + length hand.holds ≤ 65535
+
+-- so many sections behind the hand of the mission, where one stands, may be added to it
+pub record MayGrow (m : spec.Mission) (count : ℕ) (book : Pages) : Type 0 where
+  pub most : m.hand.count + count ≤ 32
+  pub numbers : behind m.hand + count ≤ 65535
+  pub free : IsAllOpen (next_of count m.hand) book

@@ -6,10 +6,8 @@
 mod facts;
 mod held;
 mod mission;
-mod sections;
 mod supervision;
-mod told;
 
 pub use facts::MissionFacts;
+pub use rbc_claims::Told;
 pub use supervision::Supervision;
-pub use told::Told;

@@ -7,18 +7,18 @@ ghost use Rattle.rbc_place.specs.Places.{place_of};
 ghost use Rattle.rbc_shorten.specs.Facts.{proposal_of};
 
 use crate::facts::MissionFacts;
+use crate::held;
 use crate::supervision::Supervision;
-use crate::told::Told;
-use crate::{held, sections};
 use rbc_book::Book;
+use rbc_claims::Told;
 use rbc_hand::SectionRun;
 use rbc_place::Place;
 use rbc_right::{Asked, Registrar};
 use rbc_shorten::Proposal;
 
 impl Supervision {
-    ghost use Rattle.rbc_mission.specs.Supervisions.{hand_of, mission_at, with_next, next_sections, without_front, with_front, GoesHome};
-    ghost use Rattle.rbc_mission.specs.Sections.{TakesRun, FreesRun, wished, front_of, rest_of, IsAllOpen, MayGrow};
+    ghost use Rattle.rbc_mission.specs.Supervisions.{hand_of, mission_at, with_next, next_sections, without_front, with_front, GoesHome, MayGrow};
+    ghost use Rattle.rbc_claims.specs.Sections.{TakesRun, FreesRun, wished, front_of, rest_of, IsAllOpen};
 
     /// A mission begins at this place, with these sections, which are open, and with the right, which is here.
     pub fn begin(
@@ -41,7 +41,7 @@ impl Supervision {
     {
         match registrar.ask(self.number) {
             Asked::Given(right) => {
-                sections::take_run(&mut self.hand, sections, self.nid_engine, book);
+                rbc_claims::take_run(&mut self.hand, sections, self.nid_engine, book);
                 held::hold(&mut self.right, right);
                 self.mission = Some(MissionFacts::at(place));
             }
@@ -114,8 +114,8 @@ impl Supervision {
         ensures book { TakesRun self.old.engine (next_sections count self.old) book.old book.new }
     {
         if let Some(mission) = self.mission {
-            let sections = sections::behind(self.hand.run(), count);
-            sections::take_run(&mut self.hand, sections, self.nid_engine, book);
+            let sections = rbc_claims::behind(self.hand.run(), count);
+            rbc_claims::take_run(&mut self.hand, sections, self.nid_engine, book);
             self.mission = Some(MissionFacts { place, ..mission });
         }
     }
@@ -140,7 +140,7 @@ impl Supervision {
         let Some(mission) = self.mission else {
             return Told::nothing();
         };
-        let told = sections::clear(&mut self.hand, count, self.nid_engine, book);
+        let told = rbc_claims::clear(&mut self.hand, count, self.nid_engine, book);
         let is_left = !self.hand.is_empty();
         let facts = MissionFacts { place, ..mission };
         self.mission = held::stay(is_left, facts, &mut self.right, registrar);
@@ -162,7 +162,7 @@ impl Supervision {
         let Some(mission) = self.mission else {
             return Told::nothing();
         };
-        let told = sections::cut(&mut self.hand, keep, self.nid_engine, book);
+        let told = rbc_claims::cut(&mut self.hand, keep, self.nid_engine, book);
         let is_left = !self.hand.is_empty();
         let facts = MissionFacts {
             proposal: None,

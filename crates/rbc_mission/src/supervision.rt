@@ -4,7 +4,6 @@ ghost use Rattle.rbc_hand.specs.SectionRuns.{run_of};
 
 use crate::facts::MissionFacts;
 use crate::held::{self, HeldRight};
-use crate::sections;
 use rbc_book::Book;
 use rbc_hand::{Hand, SectionRun};
 use rbc_right::Registrar;
@@ -93,7 +92,7 @@ impl Supervision {
             hand,
             mut right,
         } = self;
-        sections::end_hand(hand, book);
+        rbc_claims::end_hand(hand, book);
         held::release(&mut right, registrar);
         right.end();
     }

@@ -12,7 +12,7 @@ use Rattle.rbc_local.specs.Local.{IsLocalMission}
 use Rattle.rbc_local.proofs.Simple.{joined_none}
 use Rattle.rbc_book.specs.Book.{Pages}
 use Rattle.rbc_right.specs.Rights.{Rights}
-use Rattle.rbc_mission.specs.Sections.{FreesRun, front_of, rest_of, wished}
+use Rattle.rbc_claims.specs.Sections.{FreesRun, front_of, rest_of, wished}
 use Rattle.rbc_mission.specs.Supervisions.{SupervisionState, hand_of, without_front, GoesHome}
 use Rattle.rbc_rules.specs.Desk.{HasParts, with_parts, replied}
 use Rattle.rbc_rules.specs.declared.train.TrainState.{TrainState}

@@ -13,7 +13,7 @@ use Rattle.rbc_lemmas.proofs.Runs.{within_true, within_from, within_none, same_t
 use Rattle.rbc_local.specs.Local.{IsLocalMission}
 use Rattle.rbc_book.specs.Book.{Pages, entry_at, wish_at}
 use Rattle.rbc_right.specs.Rights.{Rights}
-use Rattle.rbc_mission.specs.Sections.{FreesRun, rest_of, front_of, wished}
+use Rattle.rbc_claims.specs.Sections.{FreesRun, rest_of, front_of, wished}
 use Rattle.rbc_mission.specs.Supervisions.{SupervisionState, with_front, GoesHome}
 use Rattle.rbc_rules.specs.Desk.{HasParts, with_parts, replied}
 use Rattle.rbc_rules.specs.declared.train.TrainState.{TrainState}

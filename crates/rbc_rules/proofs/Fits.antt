@@ -10,8 +10,8 @@ use Rattle.rbc_lemmas.proofs.Lines.{on_line}
 use Rattle.rbc_lemmas.proofs.Runs.{each_within}
 use Rattle.rbc_book.specs.Book.{Pages, entry_at}
 use Rattle.rbc_grant.specs.Grants as grants
-use Rattle.rbc_mission.specs.Supervisions.{HasLocalForm}
-use Rattle.rbc_mission.specs.Sections.{MayGrow, IsAllOpen}
+use Rattle.rbc_mission.specs.Supervisions.{HasLocalForm, MayGrow}
+use Rattle.rbc_claims.specs.Sections.{IsAllOpen}
 use Rattle.rbc_rules.specs.Desks.{HasBook}
 
 pub and_left : (a b : Bool) → (a && b) ≡ true → a ≡ true

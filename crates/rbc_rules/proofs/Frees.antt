@@ -18,7 +18,7 @@ use Rattle.rbc_book.specs.Book.{Pages, entry_at, wish_at}
 use Rattle.rbc_book.proofs.Pages.{foreign_is_shut}
 use Rattle.rbc_right.specs.Rights.{Rights, is_here}
 use Rattle.rbc_session.specs.SessionStates.{session_phase}
-use Rattle.rbc_mission.specs.Sections.{FreesRun, is_held, wished}
+use Rattle.rbc_claims.specs.Sections.{FreesRun, is_held, wished}
 use Rattle.rbc_mission.specs.Supervisions.{SupervisionState, GoesHome}
 use Rattle.rbc_rules.specs.Desks.{IsBookOf}
 use Rattle.rbc_rules.specs.Desk.{HasParts, with_parts, replied}

@@ -15,7 +15,7 @@ use Rattle.rbc_book.specs.Book.{Pages}
 use Rattle.rbc_right.specs.Rights.{Rights, is_here}
 use Rattle.rbc_session.specs.SessionStates.{session_phase}
 use Rattle.rbc_grant.specs.Grants as grants
-use Rattle.rbc_mission.specs.Sections.{TakesRun, next_of}
+use Rattle.rbc_claims.specs.Sections.{TakesRun, next_of}
 use Rattle.rbc_mission.specs.Supervisions.{SupervisionState, with_next}
 use Rattle.rbc_rules.specs.Desk.{HearsTrain, with_parts, replied}
 use Rattle.rbc_rules.specs.declared.train.TrainState.{TrainState}

@@ -23,7 +23,7 @@ use Rattle.rbc_shorten.specs.declared.answer.Cut.{Cut}
 use Rattle.rbc_shorten.specs.declared.answer.Cut.TheVariants.{Nothing, Keep}
 use Rattle.rbc_shorten.specs.declared.answer.Unasked.{Unasked}
 use Rattle.rbc_shorten.specs.declared.facts.Proposal.{Proposal as ProposalCode}
-use Rattle.rbc_mission.specs.Sections.{FreesRun, rest_of, wished}
+use Rattle.rbc_claims.specs.Sections.{FreesRun, rest_of, wished}
 use Rattle.rbc_mission.specs.Supervisions.{SupervisionState, hand_of, with_front, GoesHome}
 use Rattle.rbc_rules.specs.Desk.{HasParts, HearsTrain, KeepsDesk, with_parts, replied}
 use Rattle.rbc_rules.specs.declared.train.TrainState.{TrainState}

@@ -17,7 +17,7 @@ use Rattle.rbc_local.proofs.Fits.{begun_local, fit_parts}
 use Rattle.rbc_book.specs.Book.{Pages}
 use Rattle.rbc_right.specs.Rights.{Rights, is_here}
 use Rattle.rbc_session.specs.SessionStates.{session_phase}
-use Rattle.rbc_mission.specs.Sections.{TakesRun}
+use Rattle.rbc_claims.specs.Sections.{TakesRun}
 use Rattle.rbc_mission.specs.Supervisions.{SupervisionState, mission_at}
 use Rattle.rbc_rules.specs.Desk.{HasParts, HearsTrain, with_parts, replied}
 use Rattle.rbc_rules.specs.declared.train.TrainState.{TrainState}

@@ -4,7 +4,7 @@ use Rattle.rbc_spec.specs.Maps.{put}
 use Rattle.rbc_spec.specs.Line.{Line, train_number}
 use Rattle.rbc_spec.specs.Message.{is_stale}
 use Rattle.rbc_spec.specs.Outcome.{Saying, Told}
-use Rattle.rbc_spec.specs.Centre.{Centre, Mission}
+use Rattle.rbc_spec.specs.Centre.{Centre}
 use Rattle.rbc_spec.specs.Acts.{Act, Reply}
 use Rattle.rbc_spec.specs.Step.{Effect}
 use Rattle.rbc_local.specs.Local.{IsOrdered, IsLocalAt}
@@ -67,15 +67,10 @@ effect_left k (Err why) = record { reply = replied k [] []; link = None; silence
 
 -- ## What stays
 
--- NID_LRBG of the mission's place, where one stands, is in its 24 bits
-abbrev pub HasGroup : TrainState → Type 0
-HasGroup p = (m : Mission) → p.supervision.mission ≡ Some m → m.place.group < 16777216
-
 -- it is the same train, and at most one message more was said to it
 pub record KeepsTrain (old new : TrainState) : Type 0 where
   pub number : new.supervision.number ≡ old.supervision.number
   pub engine : new.supervision.engine ≡ old.supervision.engine
-  pub group : HasGroup old → HasGroup new
   pub said : new.said ≤ old.said + 1
 
 -- the book has the same homes, and of the rights none but that of this train has changed

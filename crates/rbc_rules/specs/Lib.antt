@@ -4,6 +4,5 @@ pub mod Asking
 pub mod Tellings
 pub mod SessionStates
 pub mod Sayings
-pub mod Answers
 pub mod Trains
 pub mod Desk

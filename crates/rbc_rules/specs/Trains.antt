@@ -1,6 +1,9 @@
 -- What a centre keeps of a train.
-use Rattle.std.specs.Prelude.{◌≡◌, ℕ, None}
+use Rattle.std.specs.Prelude.{◌≡◌, ℕ, List, [], None}
+use Rattle.rbc_spec.specs.Maps.{put}
+use Rattle.rbc_spec.specs.Outcome.{Saying}
 use Rattle.rbc_spec.specs.Centre as centre
+use Rattle.rbc_spec.specs.Acts.{Reply}
 use Rattle.rbc_session.specs.SessionStates.{session_phase}
 use Rattle.rbc_session.specs.declared.session.SessionState.TheVariants as session_state
 use Rattle.rbc_rules.specs.declared.train.TrainState.{TrainState}
@@ -14,3 +17,12 @@ pub record HasTrain (k : centre.Centre) (t : ℕ) (p : TrainState) : Type 0 wher
   pub phase_is : k.phase t ≡ session_phase p.session_state
   pub mission_is : k.mission t ≡ p.supervision.mission
   pub said_is : k.said t ≡ p.said
+
+-- a request to train t, which leaves this state of it
+abbrev pub asked : ℕ → TrainState → List Saying → centre.Centre → Reply
+asked t new sayings k = record {
+  state = record k { said = put k.said t new.said; mission = put k.mission t new.supervision.mission };
+  frames = λ d. [];
+  sayings = sayings;
+  words = [];
+}

@@ -7,7 +7,6 @@ ghost use Rattle.rbc_session.specs.SessionStates.{phase_of};
 ghost use Rattle.rbc_hand.specs.SectionRuns.{run_of};
 ghost use Rattle.rbc_shorten.specs.Facts.{AreFactsOf};
 ghost use Rattle.rbc_mission.specs.Supervisions.{mission_of};
-ghost use Rattle.rbc_rules.specs.Desks.{mission_by};
 ghost use Rattle.rbc_rules.specs.Asking.{IsTrain, asked_back};
 
 use crate::known::Train;
@@ -33,7 +32,7 @@ pub struct Asking {
 pub fn ask_back(line: &Line, train: &Train, s: u16, stamp: u32) -> Option<Asking>
     ensures exact { (k : spec.Centre) → IsTrain k train.now stamp → propose_if_so line.now train.now.nid_engine s k ≡ asked_back train.now.nid_engine k result }
     ensures room { IfSome result (λ a. a.l_endsection ≤ 32767) }
-    ensures group { ((m : spec.Mission) → mission_by train.now.mission train.now.hand ≡ Some m → m.place.group < 16777216) → IfSome result (λ a. a.nid_lrbg < 16777216) }
+    ensures group { IfSome result (λ a. a.nid_lrbg < 16777216) }
 {
     let Some(mission) = train.mission else {
         return None;

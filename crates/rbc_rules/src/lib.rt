@@ -5,26 +5,20 @@
 #![tactic(auto)]
 
 mod asking;
-mod clearing;
-mod end_of_mission;
+mod authority;
 mod heard;
 mod hearing;
-mod initiation_of_session;
 mod known;
 mod laws;
 mod reason;
-mod report;
-mod request;
+mod reporting;
 mod saying;
-mod session_established;
 mod session_state;
-mod shortening_granted;
-mod shortening_rejected;
+mod sessions;
+mod shortening;
 mod start_of_mission;
 mod starting;
-mod termination_of_session;
 mod train;
-mod train_data;
 
 pub use asking::{Asking, ask_back};
 pub use heard::Heard;

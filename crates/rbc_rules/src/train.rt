@@ -6,8 +6,7 @@ ghost use Rattle.rbc_hand.specs.SectionRuns.{run_of};
 ghost use Rattle.rbc_session.specs.SessionStates.{phase_of, session_phase};
 ghost use Rattle.rbc_mission.specs.Supervisions.{HasLocalForm, hand_of};
 ghost use Rattle.rbc_rules.specs.Desks.{mission_by};
-ghost use Rattle.rbc_rules.specs.Answers.{asked};
-ghost use Rattle.rbc_rules.specs.Trains.{unknown_state, HasTrain};
+ghost use Rattle.rbc_rules.specs.Trains.{asked, unknown_state, HasTrain};
 ghost use Rattle.rbc_rules.specs.Sayings.{sayings_of};
 
 use crate::asking::ask_back;
@@ -138,7 +137,6 @@ impl TrainState {
     /// Asks the train to end its movement authority before a section (3.8.6), where that may be asked.
     pub fn ask_back(&mut self, line: &Line, s: u16) -> Option<Saying>
         requires count { self.old.said < 4294967294 }
-        requires group { (m : spec.Mission) → self.old.supervision.mission ≡ Some m → m.place.group < 16777216 }
         ensures exact { (k : spec.Centre) → HasTrain k self.old.supervision.engine self.old
             → propose_if_so line.now self.old.supervision.engine s k ≡ asked self.old.supervision.engine self.new (sayings_of result) k }
         ensures session_state { self.new.session_state ≡ self.old.session_state }
@@ -146,7 +144,6 @@ impl TrainState {
         ensures number { self.new.supervision.number ≡ self.old.supervision.number }
         ensures engine { self.new.supervision.engine ≡ self.old.supervision.engine }
         ensures said { self.new.said ≤ self.old.said + 1 }
-        ensures group { (m : spec.Mission) → self.new.supervision.mission ≡ Some m → m.place.group < 16777216 }
     {
         let known = self.known();
         let asking = ask_back(line, &known, s, self.said + 1)?;

@@ -1,7 +1,9 @@
-//! Tests of what no clause says and no row of `rbc_rows` reaches: threads at a node, streams, a whole list of events, and how calls end where
+//! Tests of what no clause says and no row of `rbc_rows` reaches: threads at a node, streams, frames, a whole list of events, and how calls end where
 //! an allocation fails. What the program prints is data of `rbc_rows`.
 #![tactic(auto)]
 
+#[cfg(test)]
+mod frame;
 #[cfg(test)]
 mod line;
 #[cfg(test)]

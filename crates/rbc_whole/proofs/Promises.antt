@@ -11,11 +11,10 @@ use Rattle.rbc_spec.specs.Promises.{KeepsPromises, IsSound}
 use Rattle.rbc_spec.specs.Theorems.{WholeLineTheorem, EachEventTheorem}
 use Rattle.rbc_spec.proofs.Safe.{safe}
 use Rattle.rbc_local.proofs.Worlds.{bind_ok}
-use Rattle.rbc_flow.specs.Flow.{flow_of}
-use Rattle.rbc_flow.specs.Sound.{LosesNothing}
 use Rattle.rbc_flow.proofs.OnePlace.{has_one_place}
 use Rattle.rbc_pairs.specs.Worlds.{IsWorldSound}
 use Rattle.rbc_pairs.proofs.Worlds.{world_begins, world_step_sound}
+use Rattle.rbc_kept.proofs.Worlds.{never_lost}
 use Rattle.rbc_pieces.proofs.Promised.{keeps_promises}
 use Rattle.rbc_pieces.proofs.Runs.{run_of_none, whole_run}
 use Rattle.rbc_whole.specs.Meets.{Meets}
@@ -23,10 +22,6 @@ use Rattle.rbc_whole.proofs.Events.{each_event_goes}
 use Rattle.rbc_whole.proofs.Lines.{is_read, stands_read, run_read, the_run}
 use Rattle.rbc_whole.proofs.Silence.{heard_alike}
 use Rattle.rbc_whole.proofs.Waits.{WaitsAtCentres, begins_so, event_so, waits_keep}
-
--- no world that events lead to has lost a right or a token
-abbrev pub LosesNothingEver : Reach → Line → Type 0
-LosesNothingEver reach line = (events : List Event) (answers : List Answer) (w : World) → world_run reach line (new_world line) events ≡ Ok (answers, w) → LosesNothing line (flow_of w)
 
 same_ok : (p q : List Answer × World) → ◌≡◌ {A = Result (List Answer × World) Refusal} (Ok p) (Ok q) → p ≡ q
 same_ok p q e = cc
@@ -85,20 +80,23 @@ module _ (reach : Reach) (line : Line) (ok : IsLine line) (w new : World) (event
       (λ c m. heard_alike line w (read_off line w) meets.sound.flow meets.shows c m)
       (stands_read reach line w (read_off line w) meets) ends goes
 
-  -- where nothing is lost
-  pub sound_behind : LosesNothing line (flow_of new) → IsSound line new
-  sound_behind whole = record { stands = ends; safe = safe line new (read_off line new) ends; one_place = has_one_place line ok new behind.sound.flow whole }
+  -- no right and no token is ever lost
+  pub sound_behind : IsSound line new
+  sound_behind = record {
+    stands = ends;
+    safe = safe line new (read_off line new) ends;
+    one_place = has_one_place line ok new behind.sound.flow
+        (never_lost reach line ok (events ++ event ∷ []) (answers ++ answer ∷ []) new (run_further reach line event answer new events (new_world line) answers w before is));
+  }
 
 -- ## The theorems
 
 pub whole_line : WholeLineTheorem
 whole_line line events answers w ok is = the_run Whole line ok events answers w is
 
--- where no right and no token is ever lost
-pub every_event : (reach : Reach) → ((line : Line) → IsLine line → LosesNothingEver reach line) → EachEventTheorem reach
-every_event reach whole line w new events answers event answer ok before is = (
+pub every_event : (reach : Reach) → EachEventTheorem reach
+every_event reach line w new events answers event answer ok before is = (
   goes reach line ok w new events answers event answer before is,
   promises reach line ok w new events answers event answer before is,
-  sound_behind reach line ok w new events answers event answer before is
-      (whole line ok (events ++ event ∷ []) (answers ++ answer ∷ []) new (run_further reach line event answer new events (new_world line) answers w before is)),
+  sound_behind reach line ok w new events answers event answer before is,
 )

@@ -16,9 +16,7 @@ ghost use Rattle.rbc_spec.specs.Run as run;
 ghost use Rattle.rbc_spec.specs.Run.{TellsInOrder};
 ghost use Rattle.rbc_spec.specs.ReadOff.{StandsFor, IsLineRun, read_off};
 ghost use Rattle.rbc_spec.specs.Promises.{KeepsPromises, IsSafe, IsSound};
-ghost use Rattle.rbc_spec.specs.Theorems.{WholeLineTheorem};
-ghost use Rattle.rbc_flow.specs.Flow.{flow_of};
-ghost use Rattle.rbc_flow.specs.Sound.{LosesNothing};
+ghost use Rattle.rbc_spec.specs.Theorems.{WholeLineTheorem, EachEventTheorem};
 ghost use Rattle.rbc_whole.specs.Meets.{Meets, StaysWith};
 
 /// What a step tells the interlocking it tells by the order of sections, at every reach and in every state of a centre.
@@ -74,8 +72,8 @@ pub fn each_run_is_the_line_centres()
 {}
 
 /// Behind any list of events, at every reach, the one line centre may meet each further event with the same answer, between the states that
-/// are read off the centres. The event keeps its promises, the state that is read off stands for the new world, and that is safe; it is sound
-/// where it has lost no right and no token of a section.
+/// are read off the centres. The event keeps its promises, the state that is read off stands for the new world, and that is safe and sound: no
+/// right and no token of a section is lost.
 pub fn each_event_is_met()
     ensures goes { (reach : Reach) (line : Line) (w new : World) (events : List world.Event) (answers : List Answer) (event : world.Event) (answer : Answer) → IsLine line
         → world_run reach line (new_world line) events ≡ Ok (answers, w) → world_step reach line w event ≡ Ok (answer, new)
@@ -88,5 +86,10 @@ pub fn each_event_is_met()
         → StandsFor line new (read_off line new) × IsSafe line new }
     ensures sound { (reach : Reach) (line : Line) (w new : World) (events : List world.Event) (answers : List Answer) (event : world.Event) (answer : Answer) → IsLine line
         → world_run reach line (new_world line) events ≡ Ok (answers, w) → world_step reach line w event ≡ Ok (answer, new)
-        → LosesNothing line (flow_of new) → IsSound line new }
+        → IsSound line new }
+{}
+
+/// So the law of each event of a line holds at every reach, without a premise.
+pub fn each_event_of_the_line()
+    ensures { (reach : Reach) → EachEventTheorem reach }
 {}

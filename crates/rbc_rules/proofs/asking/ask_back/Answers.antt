@@ -24,7 +24,3 @@ returns-clause-exact c = λ k is.
 
 pub returns-clause-room : goal.returns-clause-room
 returns-clause-room c = has_room (start c.args.line.now c.args.s) c.args.s c.facts.result c.in-Some-propose.shortening (sym c.propose.ensures.exact ∙ c.in-Some-propose.is)
-
-pub returns-clause-group : goal.returns-clause-group
-returns-clause-group c = λ groups.
-    groups (mission_of (run_of c.args.train.now.hand) c.in-Some.mission) (ap (λ o. mission_by o c.args.train.now.hand) c.in-Some.is)

@@ -1,4 +1,4 @@
-use Rattle.rbc_rules.proofs.Tellings.{shut_at_once, asked_of_taken, left_at_unset}
+use Rattle.rbc_rules.proofs.Tellings.{shut_at_once, asked_of_taken}
 use Rattle.rbc_rules.proofs.laws.a_section_is_taken_back.Goals as goal
 
 pub returns-clause-unused : goal.returns-clause-unused
@@ -6,6 +6,3 @@ returns-clause-unused o line c s k home unused = shut_at_once line c s k home un
 
 pub returns-clause-taken : goal.returns-clause-taken
 returns-clause-taken o line c s t k reply home taken is = asked_of_taken line c s t k reply home taken is
-
-pub returns-clause-elsewhere : goal.returns-clause-elsewhere
-returns-clause-elsewhere o line c s k home = left_at_unset line c s k home

@@ -14,4 +14,4 @@ returns-clause-stands ctx reach line w new events answers event answer ok before
     let stands = ends reach line ok w new events answers event answer before is in (stands, safe line new (read_off line new) stands)
 
 pub returns-clause-sound : goal.returns-clause-sound
-returns-clause-sound ctx reach line w new events answers event answer ok before is whole = sound_behind reach line ok w new events answers event answer before is whole
+returns-clause-sound ctx reach line w new events answers event answer ok before is = sound_behind reach line ok w new events answers event answer before is

@@ -11,86 +11,48 @@ use Rattle.rbc_local.specs.Local.{IsLocalAt}
 use Rattle.rbc_local.proofs.Steps.{train_stays}
 use Rattle.rbc_msgs.specs.StepMessage.{step_message}
 use Rattle.rbc_session.specs.SessionStates.{StandsFor, session_phase}
-use Rattle.rbc_rules.specs.Desk.{HasGroup, effect_left}
+use Rattle.rbc_rules.specs.Desk.{effect_left}
 use Rattle.rbc_rules.specs.SessionStates.{Enters}
 use Rattle.rbc_rules.proofs.SessionStates.{stands_for_train}
 use Rattle.rbc_centre.specs.State.{stands_for}
 use Rattle.rbc_centre.specs.States.{state_of}
-use Rattle.rbc_centre.proofs.States.{number_within, counted_after, each_after, each_train_after, each_stands_after}
+use Rattle.rbc_centre.proofs.States.{number_within, counted_after, each_train_after, each_stands_after}
 use Rattle.rbc_centre.proofs.Steps.{ticked_is, local_later, heard_stands}
 use Rattle.rbc_centre.proofs.Trains.{heard_of, has_train, train_left}
 use Rattle.rbc_centre.proofs.centre.Centre.hear_train.Goals as goal
 
+-- the train that the message is from, in the list of trains
 pub take-requires-clause-engine : goal.take-requires-clause-engine
 take-requires-clause-engine c =
     let k = c.args.self.now in
-    let states = k.trains.items in
-    let m = step_message c.args.message.now in
-    let t = m.nid_engine in
-    let i = c.args.i in
-    let within = number_within k.line states t i c.requires.number k.each_train in
-    let old = c.index_mut.result.now in
-    let at : slice_get states i ≡ Some old = slice_get_read _ _ _ _ refl within c.index_mut.ensures.value in
-    let engine : old.supervision.engine ≡ t = k.each_engine t i old c.requires.number at in
-    let place : old.supervision.number ≡ i = k.each_number t i old c.requires.number at in
-    sym engine
+    sym (k.each_engine _ c.args.i _ c.requires.number (slice_get_read _ _ _ _ refl (number_within k.line k.trains.items _ c.args.i c.requires.number k.each_train) c.index_mut.ensures.value))
 
 pub take-requires-clause-number : goal.take-requires-clause-number
 take-requires-clause-number c =
     let k = c.args.self.now in
-    let states = k.trains.items in
-    let m = step_message c.args.message.now in
-    let t = m.nid_engine in
-    let i = c.args.i in
-    let within = number_within k.line states t i c.requires.number k.each_train in
-    let old = c.index_mut.result.now in
-    let at : slice_get states i ≡ Some old = slice_get_read _ _ _ _ refl within c.index_mut.ensures.value in
-    let engine : old.supervision.engine ≡ t = k.each_engine t i old c.requires.number at in
-    let place : old.supervision.number ≡ i = k.each_number t i old c.requires.number at in
+    let within = number_within k.line k.trains.items _ c.args.i c.requires.number k.each_train in
+    let place = k.each_number _ c.args.i _ c.requires.number (slice_get_read _ _ _ _ refl within c.index_mut.ensures.value) in
     omega (arith, place, within, k.each_train, k.each_right)
 
 pub take-requires-clause-stands : goal.take-requires-clause-stands
 take-requires-clause-stands c =
     let k = c.args.self.now in
-    let states = k.trains.items in
-    let m = step_message c.args.message.now in
-    let t = m.nid_engine in
-    let i = c.args.i in
-    let within = number_within k.line states t i c.requires.number k.each_train in
     let old = c.index_mut.result.now in
-    let at : slice_get states i ≡ Some old = slice_get_read _ _ _ _ refl within c.index_mut.ensures.value in
-    let engine : old.supervision.engine ≡ t = k.each_engine t i old c.requires.number at in
-    let place : old.supervision.number ≡ i = k.each_number t i old c.requires.number at in
-    let stood : StandsFor k.sessions old.session_state t = stands_for_train k.sessions old.session_state t (k.each_stands t i old c.requires.number at) in
-    subst (λ (n : ℕ). StandsFor k.sessions old.session_state n) (sym engine) stood
+    let at : slice_get k.trains.items c.args.i ≡ Some old = slice_get_read _ _ _ _ refl (number_within k.line k.trains.items _ c.args.i c.requires.number k.each_train) c.index_mut.ensures.value in
+    subst (λ (n : ℕ). StandsFor k.sessions old.session_state n) (sym (k.each_engine _ c.args.i old c.requires.number at))
+    (stands_for_train k.sessions old.session_state _ (k.each_stands _ c.args.i old c.requires.number at))
 
 pub take-requires-clause-room : goal.take-requires-clause-room
 take-requires-clause-room c = λ opens timely.
     let k = c.args.self.now in
-    let states = k.trains.items in
     let m = step_message c.args.message.now in
-    let t = m.nid_engine in
-    let i = c.args.i in
-    let within = number_within k.line states t i c.requires.number k.each_train in
-    let old = c.index_mut.result.now in
-    let at : slice_get states i ≡ Some old = slice_get_read _ _ _ _ refl within c.index_mut.ensures.value in
-    let engine : old.supervision.engine ≡ t = k.each_engine t i old c.requires.number at in
-    let place : old.supervision.number ≡ i = k.each_number t i old c.requires.number at in
-    c.requires.room opens (ap (is_stale m.t_train) (heard_of k.line k.number k.clock t i k.book k.registrar states old c.requires.number at) ∙ timely)
+    c.requires.room opens (ap (is_stale m.t_train) (heard_of k.line k.number k.clock m.nid_engine c.args.i k.book k.registrar k.trains.items c.index_mut.result.now c.requires.number
+    (slice_get_read _ _ _ _ refl (number_within k.line k.trains.items _ c.args.i c.requires.number k.each_train) c.index_mut.ensures.value)) ∙ timely)
 
 pub take-requires-clause-count : goal.take-requires-clause-count
 take-requires-clause-count c =
     let k = c.args.self.now in
-    let states = k.trains.items in
-    let m = step_message c.args.message.now in
-    let t = m.nid_engine in
-    let i = c.args.i in
-    let within = number_within k.line states t i c.requires.number k.each_train in
-    let old = c.index_mut.result.now in
-    let at : slice_get states i ≡ Some old = slice_get_read _ _ _ _ refl within c.index_mut.ensures.value in
-    let engine : old.supervision.engine ≡ t = k.each_engine t i old c.requires.number at in
-    let place : old.supervision.number ≡ i = k.each_number t i old c.requires.number at in
-    let few : old.said ≤ k.clock = k.counted i old at in
+    let few = k.counted c.args.i c.index_mut.result.now (slice_get_read _ _ _ _ refl (number_within k.line k.trains.items _ c.args.i c.requires.number k.each_train) c.index_mut.ensures.value) in
     let time = c.requires.time in
     omega (arith, few, time)
 
@@ -157,7 +119,6 @@ invariant_of-self c =
       each_train = length-set states i new ∙ k.each_train;
       each_number = each_train_after (λ u j p. p.supervision.number ≡ j) k.line states t i new within c.requires.number (kept.number ∙ place) k.each_number;
       each_engine = each_train_after (λ u j p. p.supervision.engine ≡ u) k.line states t i new within c.requires.number (kept.engine ∙ engine) k.each_engine;
-      each_group = λ j p x found. each_after (λ n q. HasGroup q) states i new within (kept.group (λ y. k.each_group i old y at)) (λ n q apart there y. k.each_group n q y there) j p found x;
       each_stands = each_stands_after k.line k.sessions c.take.new.sessions states t i new (session_phase new.session_state) within c.requires.number enters k.each_stands;
       counted = counted_after states i k.clock now new within (omega (arith, few, more)) (omega arith) k.counted;
     }

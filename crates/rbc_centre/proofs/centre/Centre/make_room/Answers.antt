@@ -19,7 +19,6 @@ invariant_of-self c =
       each_train = k.each_train;
       each_number = k.each_number;
       each_engine = k.each_engine;
-      each_group = k.each_group;
       each_stands = λ t i p number at. (c.reserve.ensures.phases t ∙ (k.each_stands t i p number at).0, λ key e. c.reserve.ensures.keys key ∙ (k.each_stands t i p number at).1 key e);
       counted = k.counted;
     }

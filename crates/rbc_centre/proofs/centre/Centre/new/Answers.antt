@@ -6,7 +6,7 @@ use Rattle.rbc_local.proofs.Ordered.{is_ordered, begins_local}
 use Rattle.rbc_book.specs.Book.{Pages, is_own}
 use Rattle.rbc_session.specs.Sessions.{phase_at}
 use Rattle.rbc_centre.specs.State.{stands_for}
-use Rattle.rbc_centre.proofs.Begins.{stands_at_beginning, none_said, numbers, engines, no_groups, closed_everywhere}
+use Rattle.rbc_centre.proofs.Begins.{stands_at_beginning, none_said, numbers, engines, closed_everywhere}
 use Rattle.rbc_centre.proofs.centre.Centre.new.Goals as goal
 
 pub returns-clause-beginning : goal.returns-clause-beginning
@@ -32,7 +32,6 @@ invariant_of-result c =
       each_train = c.in_ok-trains.ensures.count;
       each_number = numbers c.in_ok-line.line c.in_ok-trains.trains.items c.in_ok-trains.ensures.each;
       each_engine = engines c.in_ok-line.line c.in_ok-trains.trains.items c.in_ok-trains.ensures.each;
-      each_group = λ i p m at mission. let few = no_groups c.in_ok-line.line c.in_ok-trains.trains.items c.in_ok-trains.ensures.each i p m at mission in omega (arith, few);
       each_stands = closed_everywhere c.in_ok-line.line c.in_ok-trains.trains.items c.in_ok-trains.ensures.each _ (λ u. ap (λ r. phase_at r u) c.in_ok-trains.ensures.sessions ∙ c.new-sessions.ensures.phases u);
       counted = none_said c.in_ok-line.line c.in_ok-trains.trains.items c.in_ok-trains.ensures.each;
     }

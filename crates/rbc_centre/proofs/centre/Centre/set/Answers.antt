@@ -20,7 +20,6 @@ invariant_of-self c =
       each_train = k.each_train;
       each_number = k.each_number;
       each_engine = k.each_engine;
-      each_group = k.each_group;
       each_stands = k.each_stands;
       counted = counted_later k.trains.items k.clock (k.clock + 1) (omega arith) k.counted;
     }

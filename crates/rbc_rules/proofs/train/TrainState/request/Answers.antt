@@ -9,8 +9,8 @@ use Rattle.rbc_session.specs.SessionStates.{phase_of}
 use Rattle.rbc_hand.specs.SectionRuns.{run_of}
 use Rattle.rbc_place.specs.Places.{place_of}
 use Rattle.rbc_shorten.specs.Facts.{proposal_of}
-use Rattle.rbc_mission.specs.Sections.{TakesRun, MayGrow, next_of}
-use Rattle.rbc_mission.specs.Supervisions.{mission_of, with_next}
+use Rattle.rbc_claims.specs.Sections.{TakesRun, next_of}
+use Rattle.rbc_mission.specs.Supervisions.{mission_of, with_next, MayGrow}
 use Rattle.rbc_rules.specs.Desks.{mission_by}
 use Rattle.rbc_rules.proofs.Runs.{follows_same}
 use Rattle.rbc_rules.proofs.Fits.{grows}

@@ -1,0 +1,9 @@
+pub mod Asking
+pub mod Handing
+pub mod Messages
+pub mod Answers
+pub mod Rights
+pub mod Frames
+pub mod Steps
+pub mod Split
+pub mod Worlds

@@ -1,0 +1,9 @@
+//! Boards that carry frames from one centre to another, in the order of their numbers. Who knows a frame of a link under a number
+//! agrees with all who know one under it.
+#![tactic(auto)]
+
+mod carrier;
+mod cells;
+
+pub use carrier::Carrier;
+pub use cells::{CellBoard, CellSeen};

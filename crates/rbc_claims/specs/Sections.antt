@@ -1,0 +1,46 @@
+-- Sections that are taken into use for a train, and given back.
+use Rattle.std.specs.Prelude.{◌≡◌, ℕ, ◌+◌, ◌-◌, Bool, true, ◌&&◌, not, List, if◌then◌else◌}
+use Rattle.std.specs.List.{filter, range_with_len}
+use Rattle.rbc_spec.specs.SectionRuns.{SectionRun, within, behind}
+use Rattle.rbc_spec.specs.Centre.{Shut, Open, Taken, is_open, is_taken_for}
+use Rattle.rbc_book.specs.Book.{Pages, is_own, entry_at, wish_at}
+
+-- the open sections of the run are in use for the train, and nothing else changed
+pub record TakesRun (t : ℕ) (r : SectionRun) (old new : Pages) : Type 0 where
+  pub homes : (s : ℕ) → is_own new s ≡ is_own old s
+  pub entry : (s : ℕ) → entry_at new s ≡ (if within r s && is_open (entry_at old s) then Taken t else entry_at old s)
+  pub wish : (s : ℕ) → wish_at new s ≡ wish_at old s
+
+-- the section is of the run, and in use for the train
+abbrev pub is_held : ℕ → SectionRun → Pages → ℕ → Bool
+is_held t r book s = within r s && is_taken_for t (entry_at book s)
+
+-- the sections of the run that were in use for the train are open, or shut where they were wished back; nothing else changed
+pub record FreesRun (t : ℕ) (r : SectionRun) (old new : Pages) : Type 0 where
+  pub homes : (s : ℕ) → is_own new s ≡ is_own old s
+  pub entry : (s : ℕ) → entry_at new s ≡ (if is_held t r old s then (if wish_at old s then Shut else Open) else entry_at old s)
+  pub wish : (s : ℕ) → wish_at new s ≡ (not (is_held t r old s) && wish_at old s)
+
+-- those of the run that are in use for the train and wished back, rising
+abbrev pub wished : ℕ → SectionRun → Pages → List ℕ
+wished t r book = filter (λ s. is_taken_for t (entry_at book s) && wish_at book s) (range_with_len r.first r.count)
+
+-- so many of the first sections of a run, and all but so many of them
+abbrev pub front_of : ℕ → SectionRun → SectionRun
+front_of count r = record { first = r.first; count = count }
+
+abbrev pub rest_of : ℕ → SectionRun → SectionRun
+rest_of count r = record { first = r.first + count; count = r.count - count }
+
+-- so many sections behind a run
+abbrev pub next_of : ℕ → SectionRun → SectionRun
+next_of count r = record { first = behind r; count = count }
+
+-- each section of the run is open
+abbrev pub IsAllOpen : SectionRun → Pages → Type 0
+IsAllOpen r book = (s : ℕ) → within r s ≡ true → is_open (entry_at book s) ≡ true
+
+-- each section of the run is of the book's home, and in use for the train
+pub record IsAllTaken (t : ℕ) (r : SectionRun) (book : Pages) : Type 0 where
+  pub taken : (s : ℕ) → within r s ≡ true → is_taken_for t (entry_at book s) ≡ true
+  pub home : (s : ℕ) → within r s ≡ true → is_own book s ≡ true

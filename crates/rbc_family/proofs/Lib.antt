@@ -1,0 +1,8 @@
+pub mod Clocks
+pub mod Answers
+pub mod Received
+pub mod Effects
+pub mod Stamps
+pub mod Parts
+pub mod Merged
+pub mod Sorted

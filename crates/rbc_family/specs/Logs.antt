@@ -1,0 +1,116 @@
+-- The logs of centres that ran side by side, and what it is to merge them into one list.
+use Rattle.std.specs.Prelude.{◌≡◌, ℕ, ◌+◌, ◌≤◌, ◌<◌, ◌==◌, List, [], ◌∷◌, ◌++◌, map, filter, length, true, false, Some, Ok, slice_get, All, AllPairs, Contains}
+use Rattle.std.specs.List.Sorted.{IsPermutation}
+use Rattle.rbc_spec.specs.Reach.{Reach}
+use Rattle.rbc_spec.specs.Line.{Line, is_centre}
+use Rattle.rbc_spec.specs.Frame.{Frame}
+use Rattle.rbc_spec.specs.Outcome.{Outcome}
+use Rattle.rbc_spec.specs.Centre.{Centre, beginning}
+use Rattle.rbc_spec.specs.Step.{Event, Train, Set, Unset, Deliver, step}
+use Rattle.rbc_spec.specs.World as world
+use Rattle.rbc_spec.specs.World.{World, Answer, Answered, new_world, world_run}
+
+-- ## One log
+
+-- an event that a centre took, and what its step answered
+pub record LogEntry : Type 0 where
+  pub centre : ℕ
+  pub event : Event
+  pub outcome : Outcome
+
+-- the entries, one after another, are the steps that lead centre c from a state to its last
+abbrev pub Replays : Reach → Line → ℕ → Centre → List LogEntry → Centre → Type 0
+Replays reach line c k [] last = last ≡ k
+Replays reach line c k (e ∷ entries) last =
+    (mid : Centre) × (e.centre ≡ c) × (step reach line c e.event k ≡ Ok (e.outcome, mid)) × Replays reach line c mid entries last
+
+-- the frames that the entries sent to centre d, in order
+abbrev pub sent_to : ℕ → List LogEntry → List Frame
+sent_to d [] = []
+sent_to d (e ∷ entries) = e.outcome.frames d ++ sent_to d entries
+
+-- a frame that the event brings has a stamp below this one
+abbrev pub IsAboveItsFrame : Event → ℕ → Type 0
+IsAboveItsFrame (Deliver from f) stamp = f.stamp < stamp
+IsAboveItsFrame event stamp = Unit {0}
+
+-- a step by its stamp: it is what the clock then shows, above what it showed and above the stamp of a frame that came; and what the step
+-- sends on a link stands behind what was sent before, with that stamp, and numbered on from there
+pub record IsStamped (k : Centre) (event : Event) (outcome : Outcome) (new : Centre) : Type 0 where
+  pub clock : new.clock ≡ outcome.stamp
+  pub above_clock : k.clock < outcome.stamp
+  pub above_frame : IsAboveItsFrame event outcome.stamp
+  pub sent : (d : ℕ) → new.sent d ≡ k.sent d ++ outcome.frames d
+  pub frames : (d : ℕ) → All (λ f. f.stamp ≡ outcome.stamp) (outcome.frames d)
+  pub numbers : (d i : ℕ) (f : Frame) → slice_get (outcome.frames d) i ≡ Some f → f.number ≡ length (k.sent d) + i + 1
+
+-- ## The logs of a line
+
+-- a log for each centre of the line: its entries lead the centre from the beginning to where it ends
+pub record AreLogs (reach : Reach) (line : Line) (logs : ℕ → List LogEntry) (ends : ℕ → Centre) : Type 0 where
+  pub replays : (c : ℕ) → is_centre line c ≡ true → Replays reach line c (beginning line c) (logs c) (ends c)
+  pub no_other : (c : ℕ) → is_centre line c ≡ false → logs c ≡ []
+
+-- a frame that the event brings to centre c stands in the log of the centre that is named as its sender, as sent to c: under its number,
+-- with its stamp and its body
+abbrev pub IsFromLog : (ℕ → List LogEntry) → ℕ → Event → Type 0
+IsFromLog logs c (Deliver from f) = Contains (sent_to c (logs from)) f
+IsFromLog logs c event = Unit {0}
+
+-- each frame that was delivered stands in its sender's log
+abbrev pub IsLegal : (ℕ → List LogEntry) → Type 0
+IsLegal logs = (c : ℕ) → All (λ e. IsFromLog logs c e.event) (logs c)
+
+-- ## Merging
+
+-- the entries of centre c, in the order that they have in the list
+abbrev pub entries_of : ℕ → List LogEntry → List LogEntry
+entries_of c entries = filter (λ e. e.centre == c) entries
+
+-- by stamp, and of one stamp by centre
+abbrev pub ComesBefore : LogEntry → LogEntry → Type 0
+ComesBefore a b = (a.outcome.stamp ≤ b.outcome.stamp) × (a.outcome.stamp ≡ b.outcome.stamp → a.centre ≤ b.centre)
+
+abbrev pub IsInOrder : List LogEntry → Type 0
+IsInOrder entries = AllPairs ComesBefore entries
+
+-- the list has each entry of each log once, each log's in its order, and no other; and it is in the order of stamps
+pub record IsMerge (logs : ℕ → List LogEntry) (merged : List LogEntry) : Type 0 where
+  pub each : (c : ℕ) → entries_of c merged ≡ logs c
+  pub in_order : IsInOrder merged
+
+-- ## The run of the world
+
+-- what happens in the world where centre c takes the event
+abbrev pub happening : ℕ → Event → world.Event
+happening c (Train m) = world.Bytes c (Ok m)
+happening c (Set s) = world.Set c s
+happening c (Unset s) = world.Unset c s
+happening c (Deliver from f) = world.Delivery from c f.number
+
+abbrev pub happened : LogEntry → world.Event
+happened e = happening e.centre e.event
+
+-- and what was answered
+abbrev pub answered : LogEntry → Answer
+answered e = Answered e.outcome
+
+-- from the beginning, the world answers the events of the entries as they have it, and its centres end as they did
+pub record IsWorldRun (reach : Reach) (line : Line) (entries : List LogEntry) (ends : ℕ → Centre) : Type 0 where
+  pub last : World
+  pub runs : world_run reach line (new_world line) (map happened entries) ≡ Ok (map answered entries, last)
+  pub ends_so : (c : ℕ) → is_centre line c ≡ true → last.at c ≡ ends c
+
+-- ## What is claimed
+
+-- Whatever the centres of a line did side by side: where each log replays its centre from the beginning, and each frame that was delivered
+-- stands in its sender's log, every merge of the logs is one run of the world
+abbrev pub FamilyTheorem : Type 0
+FamilyTheorem = (reach : Reach) (line : Line) (logs : ℕ → List LogEntry) (ends : ℕ → Centre) (merged : List LogEntry)
+    → AreLogs reach line logs ends → IsLegal logs → IsMerge logs merged → IsWorldRun reach line merged ends
+
+-- a list that has each entry of each log once is a merge of the logs as soon as it is in the order of stamps
+abbrev pub SortedTheorem : Type 0
+SortedTheorem = (reach : Reach) (line : Line) (logs : ℕ → List LogEntry) (ends : ℕ → Centre) (together sorted : List LogEntry)
+    → AreLogs reach line logs ends → ((c : ℕ) → entries_of c together ≡ logs c) → IsPermutation together sorted → IsInOrder sorted
+    → IsMerge logs sorted

@@ -1,0 +1,6 @@
+pub mod Frames
+pub mod Changes
+pub mod Begins
+pub mod Full
+pub mod Rooms
+pub mod Posted

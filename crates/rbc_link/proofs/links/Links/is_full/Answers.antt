@@ -1,0 +1,6 @@
+use Rattle.std.proofs.Common.{◌∙◌}
+use Rattle.rbc_link.proofs.Full.{is_full_at}
+use Rattle.rbc_link.proofs.links.Links.is_full.Goals as goal
+
+pub returns : goal.returns
+returns g c = rw (← c.self.view_is) (c.is_some_full.ensures ∙ rw (c.as_slice.ensures.value) (is_full_at c.self.inside.links.items))

@@ -1,0 +1,9 @@
+use Rattle.std.proofs.Common.{◌≡◌, ℕ, ◌<◌, ◌≤◌, true}
+use Rattle.rbc_link.specs.Links.{KeepsLinks, has_link, room_to}
+use Rattle.rbc_link.proofs.links.reserve_each.Given as goal
+
+abbrev pub invariant-loop-i : goal.invariant-loop-i
+invariant-loop-i g l = record {
+  keeps : KeepsLinks l.fn.links.items l.links.items;
+  room : (d : ℕ) → d < l.i → has_link l.links.items d ≡ true → l.count ≤ room_to l.links.items d;
+}

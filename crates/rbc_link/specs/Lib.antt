@@ -1,0 +1,4 @@
+pub mod Inbox
+pub mod Outgoing
+pub mod Links
+pub mod Posted

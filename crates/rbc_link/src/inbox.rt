@@ -1,0 +1,69 @@
+ghost use Rattle.std.specs.Prelude.{◌≡◌, ◌≤◌};
+ghost use Rattle.rbc_spec.specs.Step.{offered};
+
+use std::marker::Model;
+
+/// What an inbox says to a frame.
+#[derive(Clone, Copy, Debug, PartialEq, Eq)]
+pub enum Taken {
+    /// It is the one after the last that was taken, and is taken.
+    Next,
+    /// One with its number was taken before.
+    Old,
+    /// One before it has not come yet.
+    Early,
+}
+
+/// What has come on a link from another centre: how many of its frames were taken, which are those numbered from 1 on. A link carries
+/// at most 65 536 frames, so no more are ever taken.
+#[derive(Debug, Drop)]
+pub struct Inbox {
+    taken: u32,
+}
+
+impl Model for Inbox {
+    ghost use Rattle.std.specs.Prelude.{ℕ, ◌≤◌};
+
+    ghost Value = { ℕ };
+
+    ghost view = { λ i. i.taken };
+
+    ghost invariant = { λ i. i.taken ≤ 65536 };
+}
+
+impl Inbox {
+    ghost use Rattle.rbc_link.specs.Inbox.{answer_of, taken_after};
+
+    /// No frame was taken.
+    pub fn new() -> Inbox
+        ensures { result ≡ 0 }
+    {
+        Inbox { taken: 0 }
+    }
+
+    /// How many frames were taken, at most 65 536. It is the number of the last.
+    pub fn taken(&self) -> u32
+        ensures value { result ≡ self.now }
+        ensures most { self.now ≤ 65536 }
+    {
+        self.taken
+    }
+
+    /// Offers it a frame by its number, which is at most 65 536. Only the next is taken; one that is old or early changes nothing.
+    pub fn offer(&mut self, number: u32) -> Taken
+        requires { number ≤ 65536 }
+        ensures answer { answer_of result ≡ offered self.old number }
+        ensures taken { self.new ≡ taken_after (offered self.old number) self.old number }
+        ensures most { self.new ≤ 65536 }
+    {
+        if number == self.taken + 1 {
+            self.taken = number;
+            return Taken::Next;
+        }
+        if number <= self.taken {
+            Taken::Old
+        } else {
+            Taken::Early
+        }
+    }
+}

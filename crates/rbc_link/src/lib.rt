@@ -1,0 +1,15 @@
+//! The links of a radio block centre with other centres: of each the frames that were sent on it, numbered from 1, and how many of
+//! the frames that come on it were taken, each after the one before and each once.
+#![tactic(auto)]
+
+mod inbox;
+mod link;
+mod links;
+mod outbox;
+mod sent;
+
+pub use inbox::{Inbox, Taken};
+pub use link::Link;
+pub use links::Links;
+pub use outbox::{MOST_FRAMES, Outbox};
+pub use sent::Sent;

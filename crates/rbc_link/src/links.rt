@@ -1,0 +1,161 @@
+ghost use Rattle.std.specs.Prelude.{◌≡◌, ℕ, ◌+◌, ◌≤◌, ◌<◌, ◌==◌, ◌&&◌, true, if◌then◌else◌, [], ◌∷◌, ◌++◌, length, nat_lt, option_copied, IfOk, OnOk, IsOk};
+ghost use Rattle.std.specs.List.{list_any, range_with_len};
+ghost use Rattle.rbc_spec.specs.Frame as spec;
+ghost use Rattle.rbc_spec.specs.Line.{is_linked};
+ghost use Rattle.rbc_spec.specs.Maps.{put};
+ghost use Rattle.rbc_spec.specs.Step.{offered, numbered};
+ghost use Rattle.rbc_spec.specs.Outcome.{NoLink};
+ghost use Rattle.rbc_link.specs.Inbox.{link_answer_of, taken_after};
+ghost use Rattle.rbc_link.specs.Outgoing.{frame_number, frames_by};
+ghost use Rattle.rbc_link.specs.Links as listed;
+
+use crate::inbox::Taken;
+use crate::link::Link;
+use crate::sent::Sent;
+use rbc_line::Line;
+use std::alloc::{AllocError, Global};
+use std::marker::Model;
+
+/// The links of one centre with the others of its line, which go by their numbers. `B` is the type of a frame's body.
+#[derive(Drop)]
+pub struct Links<B> {
+    /// Of each centre of the line, itself too.
+    links: Vec<Link<B>>,
+}
+
+impl<B> Model for Links<B> {
+    ghost use Rattle.std.specs.Prelude.{List};
+    ghost use Rattle.rbc_link.specs.declared.link.Link.{Link};
+
+    ghost Value = { List (Link B) };
+
+    ghost view = { λ l. l.links.items };
+}
+
+impl<B> Links<B> {
+    ghost use Rattle.rbc_link.specs.Links.{has_link, taken_from, sent_to, room_to, KeepsLinks, HasRoom};
+
+    /// The links of a centre of the line at the beginning: no frame was taken or sent.
+    pub fn new(alloc: Global, line: &Line, centre: u8) -> Result<Links<B>, AllocError>
+        ensures count { IfOk result (λ l. length l ≡ length line.now.centres) }
+        ensures linked { IfOk result (λ l. (d : ℕ) → has_link l d ≡ is_linked line.now centre d) }
+        ensures taken { IfOk result (λ l. (d : ℕ) → taken_from l d ≡ 0) }
+        ensures sent { IfOk result (λ l. (d : ℕ) → sent_to l d ≡ []) }
+    {
+        let count = line.centre_count();
+        let mut links = Vec::with_capacity(alloc, count as usize)?;
+        for d in 0..count {
+            links.push_reserved(Link::new(alloc, line.linked(centre, d)));
+        }
+        Ok(Links { links })
+    }
+
+    /// Whether there is a link with this centre.
+    #[tactic(auto, unfolding(crate::specs::Links::has_link))]
+    pub fn has(&self, centre: u8) -> bool
+        ensures { result ≡ has_link self.now centre }
+    {
+        match self.links.get(centre as usize) {
+            Some(link) => link.is_linked,
+            None => false,
+        }
+    }
+
+    /// How many frames of this centre were taken.
+    #[tactic(auto, unfolding(crate::specs::Links::taken_from))]
+    pub fn taken(&self, from: u8) -> u32
+        ensures { result ≡ taken_from self.now from }
+    {
+        match self.links.get(from as usize) {
+            Some(link) => link.inbox.taken(),
+            None => 0,
+        }
+    }
+
+    /// The frame of this number that was sent to a centre. None exactly for 0 and for a number that was not sent yet.
+    #[tactic(auto, unfolding(crate::specs::Links::sent_to))]
+    pub fn get(&self, to: u8, number: u32) -> Option<&Sent<B>>
+        ensures { option_copied result ≡ frame_number (sent_to self.now to) number }
+    {
+        match self.links.get(to as usize) {
+            Some(link) => link.outbox.get(number),
+            None => None,
+        }
+    }
+
+    /// Offers the link from a centre a frame by its number, which is at most 65 536. None where there is no such link. Only the next
+    /// frame is taken; nothing changes else.
+    pub fn offer(&mut self, from: u8, number: u32) -> Option<Taken>
+        requires { number ≤ 65536 }
+        ensures answer { link_answer_of result ≡ (if has_link self.old from then offered (taken_from self.old from) number else NoLink) }
+        ensures count { length self.new ≡ length self.old }
+        ensures linked { (d : ℕ) → has_link self.new d ≡ has_link self.old d }
+        ensures taken { (d : ℕ) → taken_from self.new d ≡ put (taken_from self.old) from
+            (taken_after (link_answer_of result) (taken_from self.old from) number) d }
+        ensures sent { (d : ℕ) → sent_to self.new d ≡ sent_to self.old d }
+        ensures room { (d : ℕ) → room_to self.new d ≡ room_to self.old d }
+    {
+        if !self.has(from) {
+            return None;
+        }
+        Some(self.links[from as usize].offer(number))
+    }
+
+    /// Whether some link has fewer than four numbers left. Then no step is taken.
+    pub fn is_full(&self) -> bool
+        ensures { result ≡ list_any (λ d. has_link self.now d && nat_lt 65532 (length (sent_to self.now d))) (range_with_len 0 (length self.now)) }
+    {
+        is_some_full(self.links.as_slice())
+    }
+
+    /// Makes room for so many frames more on each link, so that sending them takes no memory. A refusal changes nothing but the room.
+    pub fn reserve(&mut self, count: usize) -> Result<(), AllocError>
+        ensures keeps { KeepsLinks self.old self.new }
+        ensures room { OnOk result (HasRoom self.new count) }
+        ensures succeeds { HasRoom self.old count → IsOk result }
+    {
+        reserve_each(&mut self.links, count)
+    }
+
+    /// Sends a centre a frame with this body and the stamp of the step: its number is the next of the link. There is room for it, and
+    /// a number.
+    pub fn post(&mut self, to: u8, stamp: u32, body: B) -> u32
+        requires linked { has_link self.old to ≡ true }
+        requires room { 0 < room_to self.old to }
+        requires numbers { length (sent_to self.old to) < 65536 }
+        requires stamped { (1 ≤ stamp) × (stamp ≤ 1073741823) }
+        ensures number { result ≡ length (sent_to self.old to) + 1 }
+        ensures count { length self.new ≡ length self.old }
+        ensures linked { (d : ℕ) → has_link self.new d ≡ has_link self.old d }
+        ensures taken { (d : ℕ) → taken_from self.new d ≡ taken_from self.old d }
+        ensures sent { (meaning : B → spec.Body) (d : ℕ) → frames_by meaning (sent_to self.new d)
+            ≡ frames_by meaning (sent_to self.old d) ++ numbered stamp (length (sent_to self.old d)) (if d == to then meaning body ∷ [] else []) }
+        ensures room { (d : ℕ) → room_to self.old d ≡ room_to self.new d + (if d == to then 1 else 0) }
+    {
+        self.links[to as usize].send(stamp, body)
+    }
+}
+
+// How many numbers a link has left, at the least, where a step is taken.
+const NUMBERS_LEFT: u32 = 4;
+
+// Whether some link has fewer numbers left than that.
+fn is_some_full<B>(links: &[Link<B>]) -> bool
+    ensures { result ≡ list_any (λ l. l.is_linked && nat_lt 65536 (length l.outbox.frames + 4)) links.now }
+{
+    links
+        .iter()
+        .any(|link| link.is_linked && link.outbox.is_full(NUMBERS_LEFT))
+}
+
+// Makes room on each link.
+fn reserve_each<B>(links: &mut Vec<Link<B>>, count: usize) -> Result<(), AllocError>
+    ensures keeps { listed.KeepsLinks links.old.items links.new.items }
+    ensures room { OnOk result (listed.HasRoom links.new.items count) }
+    ensures succeeds { listed.HasRoom links.old.items count → IsOk result }
+{
+    for i in 0..links.len() {
+        links[i].reserve(count)?;
+    }
+    Ok(())
+}

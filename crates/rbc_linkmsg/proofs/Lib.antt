@@ -1,0 +1,5 @@
+pub mod Fields
+pub mod Bodies
+pub mod Frames
+pub mod Readings
+pub mod Headers

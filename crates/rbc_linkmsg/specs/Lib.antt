@@ -1,0 +1,6 @@
+pub mod Bodies
+pub mod FrameView
+pub mod Kinds
+pub mod Spelling
+pub mod Faults
+pub mod Raw

@@ -1,0 +1,82 @@
+use rbc_hand::SectionRun;
+
+/// The place that is yielded with a train.
+#[derive(Clone, Copy, Debug, PartialEq, Eq)]
+pub struct YieldedPlace {
+    /// Number of the track in the line file, from 0.
+    pub track: u8,
+    /// NID_LRBG of the balise group that the place names.
+    pub group: u32,
+    /// The safe front end, in decimetres from the start of the track.
+    pub front: i32,
+    /// The safe rear end, in decimetres from the start of the track, where it is known.
+    pub rear: Option<i32>,
+}
+
+/// What a centre says to another (profile; the words for a handover are those of SUBSET-039).
+#[derive(Clone, Copy, Debug, PartialEq, Eq)]
+pub enum Body {
+    /// The registrar is asked for the supervision right of the train.
+    AskRight {
+        engine: u32,
+    },
+    /// The right is given.
+    GiveRight {
+        engine: u32,
+    },
+    /// The right is not there to be given.
+    RefuseRight {
+        engine: u32,
+    },
+    /// The right goes back to the registrar.
+    ReturnRight {
+        engine: u32,
+    },
+    /// Sections are asked for, from the first on, at most so many.
+    RouteAsk {
+        engine: u32,
+        first: u16,
+        most: u16,
+    },
+    /// These sections are lent.
+    RouteInfo {
+        engine: u32,
+        run: SectionRun,
+    },
+    /// The interlocking wishes a lent section back.
+    RouteWithdraw {
+        engine: u32,
+        section: u16,
+    },
+    /// Lent sections come home.
+    RouteReturn {
+        engine: u32,
+        run: SectionRun,
+    },
+    /// A handover of this number is announced, on this track.
+    Announce {
+        handover: u32,
+        engine: u32,
+        track: u8,
+    },
+    /// The handover of this number is cancelled.
+    Cancel {
+        handover: u32,
+        engine: u32,
+    },
+    /// The train of this handover has reported in the accepting centre's area.
+    TakingOver {
+        handover: u32,
+        engine: u32,
+    },
+    /// The supervision is handed over, with T_TRAIN of the message that was heard last.
+    Yield {
+        handover: u32,
+        engine: u32,
+        heard: u32,
+        has_data: bool,
+        is_ended: bool,
+        place: YieldedPlace,
+        hand: SectionRun,
+    },
+}

@@ -1,0 +1,24 @@
+//! The frames that centres exchange: a numbered and stamped body as a value and as bytes (profile).
+//! Each frame has one spelling, and no two frames share one.
+#![tactic(auto)]
+
+mod body;
+mod body_reading;
+mod body_writing;
+mod decode;
+mod encode;
+mod fault;
+mod frame;
+mod kind;
+mod laws;
+mod ranges;
+mod reading;
+mod writing;
+mod yield_reading;
+
+pub use body::{Body, YieldedPlace};
+pub use decode::decode_frame;
+pub use encode::encode_frame;
+pub use fault::FrameFault;
+pub use frame::Frame;
+pub use laws::{one_frame, one_spelling};

@@ -1,0 +1,124 @@
+//! The train answers the request to shorten its movement authority (3.8.6).
+
+ghost use Rattle.std.specs.Prelude.{◌≡◌, ◌<◌, ℕ, option_map, length};
+ghost use Rattle.rbc_spec.specs.Centre as spec;
+ghost use Rattle.rbc_spec.specs.Message.{ShorteningGranted, ShorteningRejected};
+ghost use Rattle.rbc_spec.specs.Place as place;
+ghost use Rattle.rbc_spec.specs.Reach as reach;
+ghost use Rattle.rbc_spec.specs.Step as step;
+ghost use Rattle.rbc_msgs.specs.StepMessage.{position_of};
+ghost use Rattle.rbc_rules.specs.Desk.{HearsTrain, KeepsTrain, KeepsDesk, with_parts, effect_left};
+ghost use Rattle.rbc_spec.specs.Line as track;
+ghost use Rattle.rbc_book.specs.Book.{Pages};
+ghost use Rattle.rbc_right.specs.Rights.{Rights};
+
+use crate::heard::Heard;
+use crate::reason::Reason;
+use crate::train::TrainState;
+use rbc_book::Book;
+use rbc_line::Line;
+use rbc_mission::Told;
+use rbc_packets::Position;
+use rbc_place::place_on;
+use rbc_right::Registrar;
+use rbc_session::Phase;
+use rbc_shorten::{Cut, granted, rejected};
+use rbc_vars::TTrain;
+
+impl TrainState {
+    /// Message 137: the request that is answered stands no more. A train that has not run past the proposed end gives back what
+    /// is behind it, and a mission without a section closes.
+    pub(crate) fn shortening_granted(
+        &mut self,
+        line: &Line,
+        book: &mut Book,
+        registrar: &mut Registrar,
+        t_train: u32,
+        request: TTrain,
+        position: &Position,
+    ) -> Result<Heard, Reason>
+        requires number { self.old.supervision.number < length registrar.old }
+        ensures exact { (c : ℕ) (k : spec.Centre) → HearsTrain line.now c k t_train self.old book.old registrar.old
+            → step.effect reach.Local line.now c k (step.Train (record { t_train = t_train; nid_engine = self.old.supervision.engine; body = ShorteningGranted request (position_of position.now) }))
+            ≡ effect_left (with_parts self.new book.new registrar.new k) result }
+        ensures kept { KeepsTrain self.old self.new }
+        ensures session { self.new.session_state ≡ self.old.session_state }
+        ensures desk { KeepsDesk self.old.supervision.number book.old book.new registrar.old registrar.new }
+    {
+        let known = self.known();
+        match known.phase {
+            Phase::Closed => return Err(Reason::NoSession),
+            Phase::Opened => return Err(Reason::WrongPhase),
+            Phase::Up => {}
+        }
+        let Some(mission) = known.mission else {
+            return Err(Reason::NotSupervised);
+        };
+        let front = front_on(line, mission.place.track, position);
+        match granted(
+            line,
+            mission.proposal,
+            request.value() as u32,
+            known.hand,
+            front,
+        ) {
+            Ok(Cut::Keep(keep)) => {
+                self.heard = Some(t_train);
+                let told = self.supervision.shorten(keep, book, registrar);
+                Ok(Heard { saying: None, told })
+            }
+            Ok(Cut::Nothing) => {
+                self.heard = Some(t_train);
+                self.supervision.forget_proposal();
+                Ok(Heard {
+                    saying: None,
+                    told: Told::nothing(),
+                })
+            }
+            Err(_) => Err(Reason::Unasked),
+        }
+    }
+
+    /// Message 138: the request that is answered, if it stands, stands no more.
+    pub(crate) fn shortening_rejected(
+        &mut self,
+        t_train: u32,
+        request: TTrain,
+    ) -> Result<Heard, Reason>
+        ensures exact { (line : track.Line) (c : ℕ) (book : Pages) (rights : Rights) (k : spec.Centre) (position : place.Position)
+            → HearsTrain line c k t_train self.old book rights
+            → step.effect reach.Local line c k (step.Train (record { t_train = t_train; nid_engine = self.old.supervision.engine; body = ShorteningRejected request position }))
+            ≡ effect_left (with_parts self.new book rights k) result }
+        ensures kept { KeepsTrain self.old self.new }
+        ensures session { self.new.session_state ≡ self.old.session_state }
+    {
+        let known = self.known();
+        match known.phase {
+            Phase::Closed => return Err(Reason::NoSession),
+            Phase::Opened => return Err(Reason::WrongPhase),
+            Phase::Up => {}
+        }
+        let Some(mission) = known.mission else {
+            return Err(Reason::NotSupervised);
+        };
+        if rejected(mission.proposal, request.value() as u32).is_err() {
+            return Err(Reason::Unasked);
+        }
+        self.heard = Some(t_train);
+        self.supervision.forget_proposal();
+        Ok(Heard {
+            saying: None,
+            told: Told::nothing(),
+        })
+    }
+}
+
+// The safe front end in decimetres, where the report has a place on this track.
+fn front_on(line: &Line, track: u8, position: &Position) -> Option<u32>
+    ensures { result ≡ option_map (λ p. p.front) (place.place_on line.now track (position_of position.now)) }
+{
+    match place_on(line, track, position) {
+        Some(place) => Some(place.front),
+        None => None,
+    }
+}
