@@ -58,9 +58,9 @@ HasLinks-more line c n links more link pushed linked taken sent so_far = record 
   linked = λ d within. rw pushed (linked_more links link d ∙ (elim (eqb_tells d (length links)) as (λ _. put (has_link links) (length links) link.is_linked d ≡ is_linked line c d) [
     | inl e ↦ let is_n : d ≡ n = e.1 ∙ so_far.count in rw (e.0) (linked ∙ ap (is_linked line c) (sym is_n))
     | inr e ↦ rw (e.0) (elim (cases_lt d n) [
-        | inl before ↦ so_far.linked d before
-        | inr past ↦ absurd (e.1 (omega (arith, so_far.count)))
-      ])
+      | inl before ↦ so_far.linked d before
+      | inr past ↦ absurd (e.1 (omega (arith, so_far.count)))
+    ])
   ]));
   taken = λ d. rw pushed (taken_more links link d ∙ put_is (taken_from links) (length links) link.inbox 0 d taken (so_far.taken d));
   sent = λ d. rw pushed (sent_more links link d ∙ put_is (sent_to links) (length links) link.outbox.frames [] d sent (so_far.sent d));

@@ -119,7 +119,7 @@ module _ {B : Type 0} (links : List (Link B)) (i : ℕ) (old new : Link B) (with
       → (d : ℕ) → frames_by meaning (sent_to (set links i new) d) ≡ frames_by meaning (sent_to links d) ++ numbered stamp (length (sent_to links d)) (if d == i then meaning body ∷ [] else [])
   sent_more meaning stamp body more d =
       elim (eqb_tells d i) as (λ _. frames_by meaning (sent_to (set links i new) d)
-          ≡ frames_by meaning (sent_to links d) ++ numbered stamp (length (sent_to links d)) (if d == i then meaning body ∷ [] else [])) [
+      ≡ frames_by meaning (sent_to links d) ++ numbered stamp (length (sent_to links d)) (if d == i then meaning body ∷ [] else [])) [
         | inl e ↦ let after : sent_to (set links i new) d ≡ new.outbox.frames = sent_put d ∙ rw (e.0) refl in
             let before : sent_to links d ≡ old.outbox.frames = ap (sent_to links) e.1 ∙ sent_is in
             rw (e.0, after, before) more

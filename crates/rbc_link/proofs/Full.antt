@@ -60,6 +60,6 @@ pub is_full_link : {B : Type 0} (meaning : B → Body) (line : Line) (c : ℕ) (
     → list_any (λ d. has_link links d && nat_lt 65532 (length (sent_to links d))) (range_with_len 0 (length links)) ≡ has_full_link line c k
 is_full_link meaning line c k links count linked sent =
     any_same _ (λ d. is_linked line c d && nat_lt 65532 (length (k.sent d))) (range_with_len 0 (length links)) (λ d.
-      let same : length (sent_to links d) ≡ length (k.sent d) = sym (length-map (sent_to links d) (frame_by meaning)) ∙ ap length (sym (sent d)) in
-      rw (linked d) (ap (λ n. is_linked line c d && nat_lt 65532 n) same))
+    let same : length (sent_to links d) ≡ length (k.sent d) = sym (length-map (sent_to links d) (frame_by meaning)) ∙ ap length (sym (sent d)) in
+    rw (linked d) (ap (λ n. is_linked line c d && nat_lt 65532 n) same))
     ∙ ap (λ n. list_any (λ d. is_linked line c d && nat_lt 65532 (length (k.sent d))) (range_with_len 0 n)) count

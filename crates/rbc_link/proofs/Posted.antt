@@ -35,7 +35,7 @@ module _ {B : Type 0} (meaning : B → Body) (stamp : ℕ) where
   pub posted_one : (to : ℕ) (body : B) (old new : List (Link B)) → length new ≡ length old → ((d : ℕ) → has_link new d ≡ has_link old d)
       → ((d : ℕ) → taken_from new d ≡ taken_from old d)
       → ((d : ℕ) → frames_by meaning (sent_to new d)
-          ≡ frames_by meaning (sent_to old d) ++ numbered stamp (length (sent_to old d)) (if d == to then meaning body ∷ [] else []))
+      ≡ frames_by meaning (sent_to old d) ++ numbered stamp (length (sent_to old d)) (if d == to then meaning body ∷ [] else []))
       → ((d : ℕ) → room_to old d ≡ room_to new d + (if d == to then 1 else 0))
       → HasPosted meaning stamp (λ d. if d == to then meaning body ∷ [] else []) old new
   posted_one to body old new count linked taken sent room = record {
@@ -57,8 +57,8 @@ module _ {B : Type 0} (meaning : B → Body) (stamp : ℕ) where
       let before : length (frames_by meaning (sent_to old d)) ≡ length (sent_to old d) = length-map (sent_to old d) (frame_by meaning) in
       let more : length (numbered stamp (length (sent_to old d)) (xs d)) ≡ length (xs d) = length_numbered stamp (length (sent_to old d)) (xs d) in
       let all : length (frames_by meaning (sent_to new d))
-          ≡ length (frames_by meaning (sent_to old d)) + length (numbered stamp (length (sent_to old d)) (xs d))
-          = ap length (posted.sent d) ∙ length-append (frames_by meaning (sent_to old d)) (numbered stamp (length (sent_to old d)) (xs d)) in
+      ≡ length (frames_by meaning (sent_to old d)) + length (numbered stamp (length (sent_to old d)) (xs d))
+      = ap length (posted.sent d) ∙ length-append (frames_by meaning (sent_to old d)) (numbered stamp (length (sent_to old d)) (xs d)) in
       omega (arith, after, before, more, all)
 
   -- where there was room for more frames than were posted, there is room for one more
@@ -76,13 +76,13 @@ module _ {B : Type 0} (meaning : B → Body) (stamp : ℕ) where
     linked = λ d. second.linked d ∙ first.linked d;
     taken = λ d. second.taken d ∙ first.taken d;
     sent = λ d.
-      let front = frames_by meaning (sent_to old d) in
-      let here = numbered stamp (length (sent_to old d)) (xs d) in
-      let later = numbered stamp (length (sent_to old d) + length (xs d)) (ys d) in
-      let from : frames_by meaning (sent_to new d) ≡ frames_by meaning (sent_to mid d) ++ later
-          = second.sent d ∙ ap (λ n. frames_by meaning (sent_to mid d) ++ numbered stamp n (ys d)) (posted_count xs old mid first d) in
-      from ∙ ap (λ fs. fs ++ later) (first.sent d) ∙ append_assoc front here later
-          ∙ ap (λ fs. front ++ fs) (sym (numbered_append stamp (length (sent_to old d)) (xs d) (ys d)));
+        let front = frames_by meaning (sent_to old d) in
+        let here = numbered stamp (length (sent_to old d)) (xs d) in
+        let later = numbered stamp (length (sent_to old d) + length (xs d)) (ys d) in
+        let from : frames_by meaning (sent_to new d) ≡ frames_by meaning (sent_to mid d) ++ later
+        = second.sent d ∙ ap (λ n. frames_by meaning (sent_to mid d) ++ numbered stamp n (ys d)) (posted_count xs old mid first d) in
+        from ∙ ap (λ fs. fs ++ later) (first.sent d) ∙ append_assoc front here later
+        ∙ ap (λ fs. front ++ fs) (sym (numbered_append stamp (length (sent_to old d)) (xs d) (ys d)));
     room = λ d. let sum : length (xs d ++ ys d) ≡ length (xs d) + length (ys d) = length-append (xs d) (ys d) in
         omega (arith, first.room d, second.room d, sum);
   }

@@ -41,9 +41,9 @@ module _ {B : Type 0} (old now : List (Link B)) (i : ℕ) (before after : Link B
             let room : count ≤ after.outbox.room = here is in
             omega (arith, new, room)
         | inr e ↦ elim (cases_lt d i) [
-            | inl less ↦ let had : count ≤ room_to now d = earlier d less was in omega (arith, had, room_after d)
-            | inr more ↦ absurd (e.1 (omega arith))
-          ]
+          | inl less ↦ let had : count ≤ room_to now d = earlier d less was in omega (arith, had, room_after d)
+          | inr more ↦ absurd (e.1 (omega arith))
+        ]
       ]
 
   -- a link that had the room at first has it still

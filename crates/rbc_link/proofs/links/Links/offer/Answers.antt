@@ -19,7 +19,7 @@ returns-clause-answer g c =
     let at : slice_get c.self.inside.links.items c.args.from ≡ Some c.index_mut.result.now = slice_get_read _ _ _ _ refl within c.index_mut.ensures.value in
     let linked : has_link c.args.self.now c.args.from ≡ true = sym c.has.ensures ∙ c.if-not-has.false in
     let taken : taken_from c.args.self.now c.args.from ≡ c.index_mut.result.now.inbox
-        = rw (← c.self.view_is) (taken_is c.self.inside.links.items c.args.from c.index_mut.result.now c.index_mut.result.now within at) in
+    = rw (← c.self.view_is) (taken_is c.self.inside.links.items c.args.from c.index_mut.result.now c.index_mut.result.now within at) in
     rw (linked, taken) c.offer.ensures.answer
 
 pub returns-clause-linked : goal.returns-clause-linked
@@ -33,7 +33,7 @@ returns-clause-taken g c =
     let within : c.args.from < length c.self.inside.links.items = linked_within c.self.inside.links.items c.args.from (rw c.self.view_is (sym c.has.ensures ∙ c.if-not-has.false)) in
     let at : slice_get c.self.inside.links.items c.args.from ≡ Some c.index_mut.result.now = slice_get_read _ _ _ _ refl within c.index_mut.ensures.value in
     let taken : taken_from c.args.self.now c.args.from ≡ c.index_mut.result.now.inbox
-        = rw (← c.self.view_is) (taken_is c.self.inside.links.items c.args.from c.index_mut.result.now c.index_mut.result.now within at) in
+    = rw (← c.self.view_is) (taken_is c.self.inside.links.items c.args.from c.index_mut.result.now c.index_mut.result.now within at) in
     rw (taken, c.offer.ensures.answer, ← c.self.view_is) (taken_put c.self.inside.links.items c.args.from c.index_mut.result.now c.offer.new.self within at
     (taken_after (offered c.index_mut.result.now.inbox c.args.number) c.index_mut.result.now.inbox c.args.number)
     (ap (λ (l : Link g.row.B.Denot). l.inbox) c.offer.ensures.link))

@@ -29,9 +29,12 @@ pub send-requires-clause-numbers : goal.send-requires-clause-numbers
 send-requires-clause-numbers g c = rw (← sent_now g c) c.requires.numbers
 
 pub returns-clause-number : goal.returns-clause-number
-returns-clause-number g c = rw (← c.self.view_is, sent_is c.self.inside.links.items c.args.to c.index_mut.result.now c.index_mut.result.now
-    (linked_within c.self.inside.links.items c.args.to (rw c.self.view_is c.requires.linked))
-    (slice_get_read _ _ _ _ refl (linked_within c.self.inside.links.items c.args.to (rw c.self.view_is c.requires.linked)) c.index_mut.ensures.value)) c.send.ensures.number
+returns-clause-number g c = rw (
+  ← c.self.view_is,
+  sent_is c.self.inside.links.items c.args.to c.index_mut.result.now c.index_mut.result.now
+      (linked_within c.self.inside.links.items c.args.to (rw c.self.view_is c.requires.linked))
+      (slice_get_read _ _ _ _ refl (linked_within c.self.inside.links.items c.args.to (rw c.self.view_is c.requires.linked)) c.index_mut.ensures.value),
+) c.send.ensures.number
 
 pub returns-clause-linked : goal.returns-clause-linked
 returns-clause-linked g c =

@@ -64,4 +64,3 @@ pub returns-in-EndOfMission-clause-exact : goal.returns-in-EndOfMission-clause-e
 returns-in-EndOfMission-clause-exact c = λ k has known.
     heard_as c.args.line.now c.args.centre k (step_message c.args.message.now) _ _ (c.end_of_mission.ensures.exact c.args.centre k (record { parts = has; known = known; timely = sym c.is_stale.ensures ∙ c.if-is_stale.false }))
     (λ i. record { t_train = sym c.t_train-t_train.ensures.value i; nid_engine = c.requires.engine i; body = step_body ((sym c.body.ensures.value ∙ c.in-EndOfMission.is) i) })
-
