@@ -89,6 +89,13 @@ module _ (reach : Reach) (line : Line) (ok : IsLine line) (w new : World) (event
         (never_lost reach line ok (events ++ event ∷ []) (answers ++ answer ∷ []) new (run_further reach line event answer new events (new_world line) answers w before is));
   }
 
+-- so is each world that events led to
+pub run_sound : (reach : Reach) (line : Line) → IsLine line → (events : List Event) (answers : List Answer) (w : World) → world_run reach line (new_world line) events ≡ Ok (answers, w) → IsSound line w
+run_sound reach line ok events answers w is =
+    let meets = (run_read reach line ok events answers w is).1 in
+    let stands = stands_read reach line w (read_off line w) meets in
+    record { stands = stands; safe = safe line w (read_off line w) stands; one_place = has_one_place line ok w meets.sound.flow (never_lost reach line ok events answers w is) }
+
 -- ## The theorems
 
 pub whole_line : WholeLineTheorem

@@ -63,12 +63,14 @@ pub fn the_whole_line_theorem()
     ensures { WholeLineTheorem }
 {}
 
-/// So it is at every reach. The run ends in the state that is read off the centres.
+/// So it is at every reach. The run ends in the state that is read off the centres, and the world that they are is sound.
 pub fn each_run_is_the_line_centres()
     ensures run { (reach : Reach) (line : Line) (events : List world.Event) (answers : List Answer) (w : World) → IsLine line
         → world_run reach line (new_world line) events ≡ Ok (answers, w) → IsLineRun line events answers w }
     ensures last { (reach : Reach) (line : Line) (events : List world.Event) (answers : List Answer) (w : World) → IsLine line
         → world_run reach line (new_world line) events ≡ Ok (answers, w) → run.Run line line_beginning events answers (read_off line w) }
+    ensures sound { (reach : Reach) (line : Line) (events : List world.Event) (answers : List Answer) (w : World) → IsLine line
+        → world_run reach line (new_world line) events ≡ Ok (answers, w) → IsSound line w }
 {}
 
 /// Behind any list of events, at every reach, the one line centre may meet each further event with the same answer, between the states that

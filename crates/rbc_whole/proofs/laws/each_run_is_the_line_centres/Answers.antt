@@ -1,4 +1,5 @@
 use Rattle.rbc_whole.proofs.Lines.{the_run, run_read}
+use Rattle.rbc_whole.proofs.Promises.{run_sound}
 use Rattle.rbc_whole.proofs.laws.each_run_is_the_line_centres.Goals as goal
 
 pub returns-clause-run : goal.returns-clause-run
@@ -6,3 +7,6 @@ returns-clause-run ctx reach line events answers w ok is = the_run reach line ok
 
 pub returns-clause-last : goal.returns-clause-last
 returns-clause-last ctx reach line events answers w ok is = (run_read reach line ok events answers w is).0
+
+pub returns-clause-sound : goal.returns-clause-sound
+returns-clause-sound ctx reach line events answers w ok is = run_sound reach line ok events answers w is

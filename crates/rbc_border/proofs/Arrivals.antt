@@ -1,0 +1,29 @@
+-- Sections that come with a train.
+use Rattle.std.proofs.Common.{◌≡◌, ℕ, ◌+◌, ◌<◌, ◌≤◌, ◌==◌, ◌&&◌, if◌then◌else◌, inl, inr, Bool, false, cond, not, Option, Some, sym, ap, ◌∙◌}
+use Rattle.std.specs.Option.{option_map_or}
+use Rattle.std.proofs.lemmas.Bool.{cases_Bool, false≢true}
+use Rattle.rbc_spec.specs.Maps.{has}
+use Rattle.rbc_spec.specs.SectionRuns.{SectionRun, all_of}
+use Rattle.rbc_spec.specs.Line.{Line, Section, section, is_linked, next_centre}
+use Rattle.rbc_spec.specs.Centre.{Centre, is_out_for}
+use Rattle.rbc_spec.specs.Links.{may_arrive}
+use Rattle.rbc_lemmas.proofs.Lists.{each_of}
+
+-- one section that fails a test is enough
+pub one_fails : (test : ℕ → Bool) (r : SectionRun) (s : ℕ) → r.first ≤ s → s < r.first + r.count → test s ≡ false → all_of test r ≡ false
+one_fails test r s low high fails = elim (cases_Bool (all_of test r)) [
+  | inl all ↦ absurd (false≢true (sym fails ∙ each_of test r.first r.count all s low high))
+  | inr fail ↦ fail
+]
+
+-- a section of another centre comes from a linked one, and not from the next
+module _ (line : Line) (c d t track s : ℕ) (k : Centre) where
+  abbrev by_section : Option Section → Bool
+  by_section o = if option_map_or (λ p. p.home == c) o false then is_out_for t d (k.book s)
+      else has (λ p. is_linked line c p.home && not (has (λ n. n == p.home) (next_centre line c track))) o
+
+  pub elsewhere : (p : Section) (home : ℕ) → section line s ≡ Some p → p.home ≡ home → (home == c) ≡ false
+      → may_arrive line c k d t track s ≡ (is_linked line c home && not (has (λ n. n == home) (next_centre line c track)))
+  elsewhere p home is of other = ap by_section is
+      ∙ ap (λ h. cond (h == c) (is_out_for t d (k.book s)) (is_linked line c h && not (has (λ n. n == h) (next_centre line c track)))) of
+      ∙ ap (λ b. cond b (is_out_for t d (k.book s)) (is_linked line c home && not (has (λ n. n == home) (next_centre line c track)))) other

@@ -1,0 +1,60 @@
+-- The longest run under a test, section by section.
+use Rattle.std.proofs.Common.{◌≡◌, ℕ, zero, suc, ◌+◌, ◌<◌, ◌≤◌, ◌==◌, ◌&&◌, Bool, true, false, cond, refl, sym, ap, ◌∙◌, inl, inr, arith}
+use Rattle.std.specs.List.{list_all, range_with_len}
+use Rattle.std.proofs.lemmas.Bool.{cases_Bool, ne_eqb, eqb-true, eq-eqb}
+use Rattle.rbc_spec.specs.SectionRuns.{longest}
+use Rattle.rbc_lemmas.proofs.Runs.{within_true, same_tests}
+use Rattle.rbc_lemmas.proofs.Longest.{longest_is, longest_only}
+
+-- so many sections from the first on pass
+pub record HasPassed (test : ℕ → Bool) (from k : ℕ) : Type 0 where
+  pub each : (s : ℕ) → from ≤ s → s < from + k → test s ≡ true
+
+-- the next one fails
+pub stops : (test : ℕ → Bool) (from most k s : ℕ) → s ≡ from + k → k < most → test s ≡ false → HasPassed test from k → k ≡ longest test from most
+stops test from most k s is lt fails so_far =
+    longest_only test from most k (longest test from most)
+    (record {
+      fits = omega arith;
+      each = λ j in_run. let ends = within_true (record { first = from; count = k }) j in_run in so_far.each j ends.0 ends.1;
+      ends = λ more. ap test (sym is) ∙ fails;
+    })
+    (longest_is test from most)
+
+-- all pass
+pub all_passed : (test : ℕ → Bool) (from most k : ℕ) → k ≤ most → most ≤ k → HasPassed test from k → most ≡ longest test from most
+all_passed test from most k few lt so_far =
+    longest_only test from most most (longest test from most)
+    (record {
+      fits = omega arith;
+      each = λ j in_run. let ends = within_true (record { first = from; count = most }) j in_run in so_far.each j ends.0 (omega arith);
+      ends = λ more. absurd (let no : ⊥ = omega arith in no);
+    })
+    (longest_is test from most)
+
+-- all of them pass exactly where the longest run is as long
+pub full : (test : ℕ → Bool) (from n : ℕ) → (longest test from n == n) ≡ list_all test (range_with_len from n)
+unfolding longest
+full test from zero = refl
+full test from (suc n) = elim (cases_Bool (test from)) [
+  | inl passes ↦ rw passes (one_more (longest test (from + 1) n) n ∙ full test (from + 1) n)
+  | inr fails ↦ rw fails (ne_eqb 0 (suc n) (λ e. let no : ⊥ = omega (arith, e) in no))
+]
+  where
+    one_more : (a b : ℕ) → (suc a == suc b) ≡ (a == b)
+    one_more a b = same_tests (suc a == suc b) (a == b)
+        (λ h. let e : suc a ≡ suc b = eqb-true (suc a) (suc b) h in eq-eqb a b (omega (arith, e)))
+        (λ h. let e : a ≡ b = eqb-true a b h in eq-eqb (suc a) (suc b) (omega (arith, e)))
+
+-- of two tests, one after the other
+pub longest_both : (a b : ℕ → Bool) (from most : ℕ) → longest (λ s. a s && b s) from most ≡ longest b from (longest a from most)
+unfolding longest
+longest_both a b from zero = refl
+longest_both a b from (suc most) = elim (cases_Bool (a from)) [
+  | inl passes ↦ rw passes (ap (λ n. cond (b from) (suc n) 0) (longest_both a b (from + 1) most))
+  | inr fails ↦ rw fails refl
+]
+
+-- tests that agree have the same longest run
+pub longest_same : (a b : ℕ → Bool) (from most : ℕ) → ((s : ℕ) → a s ≡ b s) → longest a from most ≡ longest b from most
+longest_same a b from most same = ap (λ (test : ℕ → Bool). longest test from most) (λ i s. same s i)

@@ -1,0 +1,24 @@
+-- Sections of home in use for a train.
+use Rattle.std.proofs.Common.{◌≡◌, ℕ, ◌<◌, ◌&&◌, inl, inr, true, false, refl, ap, ◌∙◌, arith}
+use Rattle.std.proofs.lemmas.Bool.{cases_Bool}
+use Rattle.rbc_spec.specs.Line.{Line, is_home}
+use Rattle.rbc_spec.specs.Sections.{section_count}
+use Rattle.rbc_spec.specs.Centre.{Centre, is_used_for, uses_some}
+use Rattle.rbc_lemmas.proofs.Lists.{any-range, any-range_none}
+use Rattle.rbc_book.specs.Book.{Pages, entry_at}
+use Rattle.rbc_book.proofs.Pages.{foreign_is_shut}
+use Rattle.rbc_border.specs.Lending.{HasBook}
+
+module _ (line : Line) (c t : ℕ) (k : Centre) (book : Pages) (has : HasBook line c k book) where
+  -- what is in use is of home
+  used_is : (s : ℕ) → (is_home line c s && is_used_for t (k.book s)) ≡ is_used_for t (entry_at book s)
+  used_is s = ap (λ e. is_home line c s && is_used_for t e) (has.has_book s) ∙ elim (cases_Bool (is_home line c s)) [
+    | inl home ↦ rw home refl
+    | inr home ↦ let shut = foreign_is_shut book s (has.homes s ∙ home) in rw (home, shut) refl
+  ]
+
+  pub one_used : (s : ℕ) → s < section_count line → is_used_for t (entry_at book s) ≡ true → uses_some line c k t ≡ true
+  one_used s below is = any-range (λ j. is_home line c j && is_used_for t (k.book j)) 0 (section_count line) s (omega arith) (omega (arith, below)) (used_is s ∙ is)
+
+  pub none_used : ((s : ℕ) → s < section_count line → is_used_for t (entry_at book s) ≡ false) → uses_some line c k t ≡ false
+  none_used none = any-range_none (λ j. is_home line c j && is_used_for t (k.book j)) 0 (section_count line) (λ s low high. used_is s ∙ none s (omega (arith, high)))

@@ -1,0 +1,15 @@
+use Rattle.std.proofs.Common.{◌-◌, min, Some, sym, ap, ◌∙◌}
+use Rattle.rbc_spec.specs.Frame.{RouteAsk}
+use Rattle.rbc_spec.specs.Acts.{send}
+use Rattle.rbc_border.specs.Border.{BorderState, with_border}
+use Rattle.rbc_border.proofs.Borders.{not_due, due}
+use Rattle.rbc_border.proofs.border.Border.ask.Goals as goal
+
+pub returns-then-not-is_due-clause-exact : goal.returns-then-not-is_due-clause-exact
+returns-then-not-is_due-clause-exact c k m border is of = not_due c.args.line.now c.args.next c.args.way k c.args.self.now m border is of (sym c.is_due.ensures.value ∙ c.if-not-is_due.true)
+
+pub returns-clause-exact : goal.returns-clause-exact
+returns-clause-exact c k m border is of =
+    due c.args.line.now c.args.next c.args.way k c.args.self.now m border is of c.behind-behind.result c.min.result (sym c.is_due.ensures.value ∙ c.if-not-is_due.false) c.behind-behind.ensures
+    (c.min.ensures ∙ ap (λ n. min (32 - c.args.way.hand.count) (512 - n)) c.behind-behind.ensures)
+    ∙ ap (λ (b : BorderState). send c.args.next (RouteAsk c.args.self.now.engine c.behind-behind.result c.min.result) (with_border (record b { asked = Some c.behind-behind.result }) k)) (sym c.self.view_is)

@@ -1,0 +1,80 @@
+-- A train at the border to the next centre: the lent sections that follow its hand, and the question for more.
+use Rattle.std.specs.Prelude.{◌≡◌, ℕ, ◌+◌, ◌<◌, ◌≤◌, ◌==◌, Bool, true, false, ◌&&◌, length, replicate, Option, Some, None, option_map, is_none, nat_lt}
+use Rattle.rbc_spec.specs.Maps.{has, put}
+use Rattle.rbc_spec.specs.SectionRuns.{SectionRun, no_run, most_in_hand, behind, is_empty, all_of}
+use Rattle.rbc_spec.specs.Line.{Line, is_home}
+use Rattle.rbc_spec.specs.Sections.{is_on}
+use Rattle.rbc_spec.specs.Centre.{Centre, Mission}
+use Rattle.rbc_spec.specs.Links.{is_of_line}
+use Rattle.rbc_hand.specs.Tokens.{Name}
+use Rattle.rbc_hand.specs.Hands.{Holding}
+use Rattle.rbc_hand.specs.SectionRuns.{run_of}
+use Rattle.rbc_border.specs.declared.way.Way.{Way}
+
+-- what a centre has of a train by its NID_ENGINE: the centre that lent its pool, the pool, and the first section that was asked for, of a
+-- question without an answer
+pub record BorderState : Type 0 where
+  pub engine : ℕ
+  pub lender : ℕ
+  pub pool : SectionRun
+  pub asked : Option ℕ
+
+-- nothing is lent to the train, and nothing is asked for
+abbrev pub nothing_lent : ℕ → BorderState
+nothing_lent t = record { engine = t; lender = 0; pool = no_run; asked = None }
+
+-- ## A centre that has it
+
+-- the centre has this of the train
+pub record HasBorder (k : Centre) (b : BorderState) : Type 0 where
+  pub has_pool : (m : Mission) → k.mission b.engine ≡ Some m → m.pool ≡ b.pool
+  pub has_ask : k.route_ask b.engine ≡ b.asked
+
+-- the centre with this of the train
+abbrev pub with_border : BorderState → Centre → Centre
+with_border b k = record k {
+  mission = put k.mission b.engine (option_map (λ (m : Mission). record m { pool = b.pool }) (k.mission b.engine));
+  route_ask = put k.route_ask b.engine b.asked;
+}
+
+-- the way is that of the mission
+pub record IsWayOf (way : Way) (m : Mission) : Type 0 where
+  pub on : m.place.track ≡ way.track
+  pub sections : m.hand ≡ run_of way.hand
+
+-- the way is that of the mission that goes on, and there is none where none goes on
+abbrev pub GoesOn : Option Way → Option Mission → Type 0
+GoesOn None None = Unit {0}
+GoesOn None (Some m) = m.is_ended ≡ true
+GoesOn (Some way) None = ⊥
+GoesOn (Some way) (Some m) = (m.is_ended ≡ false) × IsWayOf way m
+
+-- ## What is asked for, and what is told
+
+-- the next section behind the hand is of the next centre's home and on the track, the hand has room, the pool is empty, and no question
+-- stands
+abbrev pub is_due : Line → ℕ → Way → BorderState → Bool
+is_due line next way b =
+    ((is_home line next (behind (run_of way.hand)) && is_on line way.track (behind (run_of way.hand))) && nat_lt way.hand.count most_in_hand)
+    && (is_empty b.pool && is_none b.asked)
+
+-- the sections were asked for from their first on, and are of the line, on one track, and of that centre's home
+abbrev pub answers : Line → ℕ → SectionRun → BorderState → Bool
+answers line from r b = (has (λ first. first == r.first) b.asked && (is_of_line line r && is_home line from r.first)) && all_of (is_home line from) r
+
+-- they follow the hand of the mission that goes on, on its track, and the pool is empty
+abbrev pub wants : Line → SectionRun → Option Way → BorderState → Bool
+wants line r way b = has (λ w. (r.first == behind (run_of w.hand)) && is_on line w.track r.first) way && is_empty b.pool
+
+-- ## In memory
+
+abbrev pub border_state : ℕ → ℕ → ℕ → Holding → Option ℕ → BorderState
+border_state t lender first names asked =
+    record { engine = t; lender = lender; pool = record { first = first; count = length names.holds }; asked = asked }
+
+-- the pool is held by names of sections that one home has lent to the train. Its sections are of a line
+pub record IsBorder (t lender first : ℕ) (names : Holding) : Type 0 where
+  pub lent : names.holds ≡ replicate (length names.holds) (Name t lender)
+  pub begins : 0 < length names.holds → names.first ≡ first
+  pub most : length names.holds ≤ 31
+  pub last : 0 < length names.holds → first + length names.holds ≤ 512

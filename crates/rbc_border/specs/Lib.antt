@@ -1,0 +1,4 @@
+pub mod Names
+pub mod Homes
+pub mod Lending
+pub mod Border

@@ -1,0 +1,71 @@
+ghost use Rattle.std.specs.Prelude.{◌≡◌, ◌==◌, ℕ};
+ghost use Rattle.rbc_spec.specs.Maps.{has};
+ghost use Rattle.rbc_spec.specs.Centre.{Centre};
+ghost use Rattle.rbc_spec.specs.Line.{next_centre};
+ghost use Rattle.rbc_spec.specs.Links as links;
+ghost use Rattle.rbc_spec.specs.SectionRuns.{all_of};
+ghost use Rattle.rbc_hand.specs.SectionRuns.{run_of};
+ghost use Rattle.rbc_border.specs.Lending.{HasBook};
+
+use rbc_book::Book;
+use rbc_hand::SectionRun;
+use rbc_line::Line;
+
+/// Whether each section of a hand may come to this centre with a train that another centre hands over to it (3.15.1): one of its home
+/// is in use for the train at that centre; any other is of a centre that it has a link with, and not of the next one on the track.
+pub fn may_arrive(
+    line: &Line,
+    centre: u8,
+    book: &Book,
+    nid_engine: u32,
+    from: u8,
+    track: u8,
+    hand: SectionRun,
+) -> bool
+    ensures { (k : Centre) → HasBook line.now centre k book.now → result ≡ all_of (links.may_arrive line.now centre k from nid_engine track) (run_of hand) }
+{
+    for k in 0..hand.count {
+        let s = u32::from(hand.first) + u32::from(k);
+        if !arrives(line, centre, book, nid_engine, from, track, s) {
+            return false;
+        }
+    }
+    true
+}
+
+// Whether the section may come so.
+fn arrives(
+    line: &Line,
+    centre: u8,
+    book: &Book,
+    nid_engine: u32,
+    from: u8,
+    track: u8,
+    s: u32,
+) -> bool
+    ensures { (k : Centre) → HasBook line.now centre k book.now → result ≡ links.may_arrive line.now centre k from nid_engine track s }
+{
+    if s >= u32::from(line.section_count()) {
+        return false;
+    }
+    match line.section(s as u16) {
+        Some(section) => {
+            if section.home == centre {
+                book.page(s as u16).entry.is_out_for(nid_engine, from)
+            } else {
+                line.linked(centre, section.home) && !is_next(line, centre, track, section.home)
+            }
+        }
+        None => false,
+    }
+}
+
+// Whether it is the next centre on the track.
+fn is_next(line: &Line, centre: u8, track: u8, other: u8) -> bool
+    ensures { result ≡ has (λ n. n == other) (next_centre line.now centre track) }
+{
+    match line.next_centre(centre, track) {
+        Some(next) => next == other,
+        None => false,
+    }
+}

@@ -1,0 +1,72 @@
+ghost use Rattle.std.specs.Prelude.{◌≡◌, ◌+◌, ◌≤◌, ℕ, None, option_map, IfSome};
+ghost use Rattle.rbc_spec.specs.SectionRuns.{longest};
+ghost use Rattle.rbc_spec.specs.Centre.{Centre, is_open};
+ghost use Rattle.rbc_spec.specs.Frame.{RouteInfo, HasRunRange};
+ghost use Rattle.rbc_spec.specs.Links.{route_asked};
+ghost use Rattle.rbc_book.specs.Book.{entry_at};
+ghost use Rattle.rbc_hand.specs.Hands.{one};
+ghost use Rattle.rbc_hand.specs.SectionRuns.{run_of};
+ghost use Rattle.rbc_border.specs.Lending.{HasBook, with_book, LendsRun, sending};
+
+use crate::homes::stretch;
+use rbc_book::Book;
+use rbc_hand::SectionRun;
+use rbc_line::Line;
+
+// How many sections from the first on are released and in no use, one after another, at most so many.
+fn open_run(book: &Book, first: u16, most: u16) -> u16
+    requires { first + most ≤ 65535 }
+    ensures { result ≡ longest (λ s. is_open (entry_at book.now s)) first most }
+{
+    for k in 0..most {
+        if !book.page(first + k).entry.is_open() {
+            return k;
+        }
+    }
+    most
+}
+
+// Lends a section, where it is open.
+fn lend_one(book: &mut Book, nid_engine: u32, s: u16, to: u8)
+    ensures { LendsRun nid_engine to (one s) book.old book.new }
+{
+    if let Some(claim) = book.take(s, nid_engine) {
+        book.lend(claim, to);
+    }
+}
+
+// Lends those of the sections that are open.
+fn lend_run(book: &mut Book, nid_engine: u32, run: SectionRun, to: u8)
+    requires { run.first + run.count ≤ 65535 }
+    ensures { LendsRun nid_engine to (run_of run) book.old book.new }
+{
+    for k in 0..run.count {
+        lend_one(book, nid_engine, run.first + k, to);
+    }
+}
+
+/// The centre is asked for sections for a train at another centre (profile): the longest run of released home sections from the first on, on one
+/// track, at most so many, is in use for the train there from now on. None exactly where the first is no section of the line, and then
+/// nothing changes and there is no answer.
+pub fn lend(
+    line: &Line,
+    centre: u8,
+    book: &mut Book,
+    nid_engine: u32,
+    first: u16,
+    most: u16,
+    to: u8,
+) -> Option<SectionRun>
+    ensures book { IfSome result (λ run. LendsRun nid_engine to (run_of run) book.old book.new) }
+    ensures none { result ≡ None → book.new ≡ book.old }
+    ensures range { IfSome result (λ run. HasRunRange 0 most (run_of run)) }
+    ensures exact { (k : Centre) → HasBook line.now centre k book.old → route_asked line.now centre to nid_engine first most k
+        ≡ sending to (option_map (λ run. RouteInfo nid_engine (run_of run)) result) (with_book book.new k) }
+{
+    let section = line.section(first)?;
+    let on_track = stretch(line, centre, section.track, first, most);
+    let count = open_run(book, first, on_track);
+    let run = SectionRun { first, count };
+    lend_run(book, nid_engine, run, to);
+    Some(run)
+}

@@ -1,0 +1,45 @@
+ghost use Rattle.std.specs.Prelude.{◌≡◌, ◌+◌, ◌≤◌, ◌&&◌, ℕ};
+ghost use Rattle.rbc_spec.specs.Line.{Line as LineData};
+ghost use Rattle.rbc_spec.specs.Centre.{Centre, is_out_for};
+ghost use Rattle.rbc_spec.specs.Acts.{freed};
+ghost use Rattle.rbc_book.specs.Book.{entry_at, wish_at};
+ghost use Rattle.rbc_hand.specs.Hands.{one};
+ghost use Rattle.rbc_hand.specs.SectionRuns.{run_of};
+ghost use Rattle.rbc_border.specs.Lending.{HasBook, with_book, BringsBack, told_back, telling};
+
+use crate::told_back::ToldBack;
+use rbc_book::{Back, Book};
+use rbc_hand::SectionRun;
+
+// Brings a section back, where it is out so. Whether the interlocking is to be told.
+fn bring_one(book: &mut Book, nid_engine: u32, from: u8, s: u16) -> bool
+    ensures told { result ≡ (is_out_for nid_engine from (entry_at book.old s) && wish_at book.old s) }
+    ensures book { BringsBack nid_engine from (one s) book.old book.new }
+{
+    match book.reclaim(s, nid_engine, from) {
+        Some(claim) => matches!(book.give_back(claim), Back::Told),
+        None => false,
+    }
+}
+
+/// Sections come home that were in use for the train at another centre (profile): each of them that is out so is given back. Those that were
+/// wished back, of which the interlocking is to be told, in rising order.
+pub fn bring_back(book: &mut Book, nid_engine: u32, from: u8, run: SectionRun) -> ToldBack
+    requires most { run.count ≤ 64 }
+    requires numbers { run.first + run.count ≤ 65535 }
+    ensures told { result ≡ told_back nid_engine from (run_of run) book.old }
+    ensures book { BringsBack nid_engine from (run_of run) book.old book.new }
+    ensures exact { (line : LineData) (c : ℕ) (k : Centre) → HasBook line c k book.old
+        → freed line c (is_out_for nid_engine from) (run_of run) k ≡ telling result (with_book book.new k) }
+{
+    let mut marks = 0;
+    for k in 0..run.count {
+        let mark = if bring_one(book, nid_engine, from, run.first + k) {
+            1
+        } else {
+            0
+        };
+        marks = marks * 2 + mark;
+    }
+    ToldBack::of(run.first, run.count, marks)
+}

@@ -1,0 +1,55 @@
+ghost use Rattle.std.specs.Prelude.{◌≡◌, ◌+◌, ◌^◌, ◌<◌, ◌≤◌};
+ghost use Rattle.rbc_claims.specs.Marks.{marked};
+
+use arrayvec::ArrayVec;
+use std::marker::Model;
+
+/// Sections that came home and are shut now, of which the interlocking is to be told, in rising order: some of at most 64 that follow
+/// one another, each by one bit.
+#[derive(Debug, Drop)]
+pub struct ToldBack {
+    first: u16,
+    count: u16,
+    marks: u64,
+}
+
+impl Model for ToldBack {
+    ghost use Rattle.std.specs.Prelude.{ℕ, ◌+◌, ◌^◌, ◌<◌, ◌≤◌, List};
+    ghost use Rattle.rbc_claims.specs.Marks.{marked};
+
+    ghost Value = { List ℕ };
+
+    ghost view = { λ t. marked t.first t.count t.marks };
+
+    ghost invariant = { λ t. (t.count ≤ 64) × (t.first + t.count ≤ 65535) × (t.marks < 2 ^ t.count) };
+}
+
+impl ToldBack {
+    /// The marked ones of so many sections from the first on.
+    pub(crate) fn of(first: u16, count: u16, marks: u64) -> ToldBack
+        requires few { count ≤ 64 }
+        requires numbers { first + count ≤ 65535 }
+        requires fits { marks < 2 ^ count }
+        ensures { result ≡ marked first count marks }
+    {
+        ToldBack {
+            first,
+            count,
+            marks,
+        }
+    }
+
+    /// The sections.
+    pub fn sections(&self) -> ArrayVec<u16, 64>
+        ensures { result.items ≡ self.now }
+    {
+        let (first, count, marks) = (self.first, self.count, self.marks);
+        let mut sections = ArrayVec::new();
+        for k in 0..count {
+            if (marks >> (count - 1 - k)) % 2 == 1 {
+                sections.push(first + k);
+            }
+        }
+        sections
+    }
+}

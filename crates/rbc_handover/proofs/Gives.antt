@@ -1,0 +1,132 @@
+-- The handover of a train that a centre supervises, by the acts of the rules.
+use Rattle.std.proofs.Common.{◌≡◌, ℕ, ◌+◌, ◌<◌, ◌≤◌, ◌==◌, ◌&&◌, inl, inr, Bool, true, false, cond, not, if◌then◌else◌, List, [], ◌∷◌, ◌++◌, Option, Some, None, is_none, is_some, option_map, refl, sym, ap, ◌∙◌}
+use Rattle.std.specs.Option.{option_map_or, option_and_then}
+use Rattle.std.specs.List.{list_all, range_with_len}
+use Rattle.std.proofs.lemmas.Bool.{cases_Bool, false≢true}
+use Rattle.rbc_lemmas.proofs.Lists.{each_of}
+use Rattle.std.proofs.lemmas.List.{append-nil}
+use Rattle.rbc_spec.specs.Maps.{has, put}
+use Rattle.rbc_spec.specs.SectionRuns.{SectionRun, is_empty}
+use Rattle.rbc_spec.specs.Line.{Line}
+use Rattle.rbc_spec.specs.Frame.{Body, Announce, Cancel}
+use Rattle.rbc_spec.specs.Centre.{Centre, Mission, Handing}
+use Rattle.rbc_spec.specs.Acts.{Reply, rest, send, part_at, announce, cancel, change_mission, yield, yield_if_due, ◌>>◌}
+use Rattle.rbc_spec.specs.Rules.{announce_if_due}
+use Rattle.rbc_spec.specs.Links.{claimed}
+use Rattle.rbc_lemmas.proofs.Puts.{put_same}
+use Rattle.rbc_handover.specs.declared.handing.HandoverName.{HandoverName}
+use Rattle.rbc_handover.specs.declared.handing.Handing.{Handing as HandingCode}
+use Rattle.rbc_handover.specs.declared.handing.Claimed.{Claimed as ClaimedCode}
+use Rattle.rbc_handover.specs.Handings.{kept_as, handover_name}
+use Rattle.rbc_handover.specs.Giving.{begun, claimed_by, is_due, HasHandover, HasMission, with_handover, with_count, announcing, cancelling}
+
+-- a centre that has a handover is the same with it
+pub same_handover : (t : ℕ) (k : Centre) (h : Option Handing) → HasHandover t k h → with_handover t h k ≡ k
+same_handover t k h has = λ i. record k { mission = λ u. put_same t (option_map (λ (m : Mission). record m { handing = h }) (k.mission t)) k.mission (kept (k.mission t) has.has) u i }
+  where
+    kept : (o : Option Mission) → option_and_then (λ (m : Mission). m.handing) o ≡ h → o ≡ option_map (λ (m : Mission). record m { handing = h }) o
+    kept None is = refl
+    kept (Some m) is = λ i. Some (record m { handing = is i })
+
+-- ## Announced
+
+module _ (line : Line) (t d : ℕ) (m : Mission) (k : Centre) where
+  abbrev announcing_if : Option Handing → Reply
+  announcing_if h = cond (is_none h && not (is_empty (part_at line d m.place.track m.hand))) (announce line t m.place.group d m k) (rest k)
+
+  at_mission : (h : Option Handing) → HasMission t k m h → announce_if_due line t d k ≡ announcing_if h
+  at_mission h is =
+      ap (λ o. option_map_or (λ n. cond (is_none n.handing && not (is_empty (part_at line d n.place.track n.hand))) (announce line t n.place.group d n k) (rest k)) o (rest k)) is.mission
+      ∙ ap announcing_if is.handing
+
+  -- where one stands, no other is announced
+  pub stands_already : (h : Handing) → HasMission t k m (Some h) → announce_if_due line t d k ≡ rest k
+  stands_already h is = at_mission (Some h) is
+
+  three_times : (xs : List Body) → ((xs ++ []) ++ []) ++ [] ≡ xs
+  three_times xs = append-nil ((xs ++ []) ++ []) ∙ append-nil (xs ++ []) ∙ append-nil xs
+
+  pub announces : HasMission t k m None → is_empty (part_at line d m.place.track m.hand) ≡ false
+      → announce_if_due line t d k ≡ announcing line t d m (Some (k.announced + 1)) (with_handover t (Some (begun d (k.announced + 1))) (with_count (k.announced + 1) k))
+  unfolding ◌>>◌
+  announces is some =
+      at_mission None is
+      ∙ ap (λ b. cond (not b) (announce line t m.place.group d m k) (rest k)) some
+      ∙ (λ i. record (announcing line t d m (Some (k.announced + 1)) (with_handover t (Some (begun d (k.announced + 1))) (with_count (k.announced + 1) k))) {
+        frames = λ e. three_times (if e == d then Announce (k.announced + 1) t m.place.track ∷ [] else []) i;
+      })
+
+  -- where one stands, nothing changes
+  pub announces_no_more : (h : Option Handing) (n : ℕ) → is_some h ≡ true → HasMission t k m h → k.announced ≡ n
+      → announce_if_due line t d k ≡ rest (with_handover t h (with_count n k))
+  announces_no_more None n stands is counted = absurd (false≢true stands)
+  announces_no_more (Some h) n stands is counted =
+      stands_already h is
+      ∙ ap rest ((λ i. record k { announced = counted i })
+      ∙ sym (same_handover t (with_count n k) (Some h) (record { has = ap (option_and_then (λ (x : Mission). x.handing)) is.mission ∙ is.handing })))
+
+  -- where none stands, the next number is announced
+  pub announces_next : (h now : Option Handing) (n number count : ℕ) → is_some h ≡ false → HasMission t k m h → k.announced ≡ n
+      → is_empty (part_at line d m.place.track m.hand) ≡ false → number ≡ n + 1 → now ≡ Some (begun d (n + 1)) → count ≡ n + 1
+      → announce_if_due line t d k ≡ announcing line t d m (Some number) (with_handover t now (with_count count k))
+  announces_next (Some h) now n number count none is counted some numbered begins counts = absurd (false≢true (sym none))
+  announces_next None now n number count none is counted some numbered begins counts =
+      let next : k.announced + 1 ≡ n + 1 = ap (λ x. x + 1) counted in
+      announces is some
+      ∙ (λ i. announcing line t d m (Some ((next ∙ sym numbered) i)) (with_handover t ((ap (λ x. Some (begun d x)) next ∙ sym begins) i) (with_count ((next ∙ sym counts) i) k)))
+
+-- ## Claimed
+
+pub claims : (t d number : ℕ) (k : Centre) (old new : Option Handing) → HasHandover t k old → new ≡ option_map (claimed_by d number) old
+    → change_mission t (claimed d number) k ≡ rest (with_handover t new k)
+claims t d number k old new has is = λ i. rest (record k { mission = put k.mission t (by (k.mission t) has.has i) })
+  where
+    by : (o : Option Mission) → option_and_then (λ (m : Mission). m.handing) o ≡ old → option_map (claimed d number) o ≡ option_map (λ (m : Mission). record m { handing = new }) o
+    by None at = refl
+    by (Some m) at = λ i. Some (record m { handing = (ap (option_map (claimed_by d number)) at ∙ sym is) i })
+
+-- ## Yielded
+
+-- one section that fails a test is enough
+pub one_fails : (test : ℕ → Bool) (first count s : ℕ) → first ≤ s → s < first + count → test s ≡ false → list_all test (range_with_len first count) ≡ false
+one_fails test first count s low high fails = elim (cases_Bool (list_all test (range_with_len first count))) [
+  | inl all ↦ absurd (false≢true (sym fails ∙ each_of test first count all s low high))
+  | inr fail ↦ fail
+]
+
+pub yields : (line : Line) (c t : ℕ) (m : Mission) (k : Centre) (old : Option Handing) (r : SectionRun) (result : Option (HandingCode ClaimedCode))
+    → HasMission t k m old → m.hand ≡ r → option_map (kept_as true) result ≡ (if has (is_due line c r) old then old else None)
+    → yield_if_due line c t k ≡ option_map_or (λ handing. yield line c t m (kept_as true handing) k) result (rest k)
+yields line c t m k old r result is hand due =
+    ap (λ o. option_map_or (λ n. option_map_or (λ h. cond (is_due line c n.hand h) (yield line c t n h k) (rest k)) n.handing (rest k)) o (rest k)) is.mission
+    ∙ (λ i. option_map_or (λ h. cond (is_due line c (hand i) h) (yield line c t m h k) (rest k)) (is.handing i) (rest k))
+    ∙ same old
+    ∙ ap (λ o. option_map_or (λ h. yield line c t m h k) o (rest k)) (sym due)
+    ∙ of_code result
+  where
+    same : (o : Option Handing) → option_map_or (λ h. cond (is_due line c r h) (yield line c t m h k) (rest k)) o (rest k)
+        ≡ option_map_or (λ h. yield line c t m h k) (cond (has (is_due line c r) o) o None) (rest k)
+    same None = refl
+    same (Some h) = elim (is_due line c r h) as (λ b. cond b (yield line c t m h k) (rest k) ≡ option_map_or (λ h. yield line c t m h k) (cond b (Some h) None) (rest k)) [ true ↦ refl | false ↦ refl ]
+
+    of_code : (o : Option (HandingCode ClaimedCode)) → option_map_or (λ h. yield line c t m h k) (option_map (kept_as true) o) (rest k)
+        ≡ option_map_or (λ handing. yield line c t m (kept_as true handing) k) o (rest k)
+    of_code None = refl
+    of_code (Some handing) = refl
+
+-- ## Cancelled
+
+abbrev cancelling_of : ℕ → Centre → Option Handing → Reply
+cancelling_of t k o = option_map_or (λ h. send h.to (Cancel h.number t) >> change_mission t (λ (n : Mission). record n { handing = None })) o rest k
+
+cancels_one : (t : ℕ) (k : Centre) (h : Handing) → cancelling_of t k (Some h) ≡ cancelling t (Some (handover_name h)) k
+unfolding ◌>>◌
+cancels_one t k h = λ i. record (cancelling t (Some (handover_name h)) k) { frames = λ e. append-nil (if e == h.to then Cancel h.number t ∷ [] else []) i }
+
+pub cancels : (t : ℕ) (m : Mission) (k : Centre) (old : Option Handing) (result : Option HandoverName) → m.handing ≡ old → result ≡ option_map handover_name old
+    → cancel t m k ≡ cancelling t result k
+cancels t m k old result is named = ap (cancelling_of t k) is ∙ by old ∙ ap (λ o. cancelling t o k) (sym named)
+  where
+    by : (o : Option Handing) → cancelling_of t k o ≡ cancelling t (option_map handover_name o) k
+    by None = refl
+    by (Some h) = cancels_one t k h

@@ -1,0 +1,3 @@
+pub mod Gives
+pub mod Expects
+pub mod TakesOver

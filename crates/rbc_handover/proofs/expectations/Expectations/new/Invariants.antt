@@ -1,0 +1,12 @@
+use Rattle.std.proofs.Common.{◌≡◌, ℕ, None}
+use Rattle.std.specs.Vec.{vec_len, vec_capacity}
+use Rattle.rbc_handover.specs.Expectations.{expected_from}
+use Rattle.rbc_handover.proofs.Expects.{by_states}
+use Rattle.rbc_handover.proofs.expectations.Expectations.new.Given as goal
+
+abbrev pub invariant-loop : goal.invariant-loop
+invariant-loop l = record {
+  len : vec_len l.states ≡ l.counter;
+  room : vec_capacity l.states ≡ l.count;
+  none : (d : ℕ) → expected_from (by_states l.states.items) d ≡ None;
+}

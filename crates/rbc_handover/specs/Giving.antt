@@ -1,0 +1,65 @@
+-- What the centre that hands over does with the handover of a train.
+use Rattle.std.specs.Prelude.{◌≡◌, ℕ, ◌-◌, ◌==◌, Bool, true, false, ◌&&◌, if◌then◌else◌, [], ◌∷◌, Option, Some, None, option_map, option_and_then}
+use Rattle.rbc_spec.specs.Maps.{put}
+use Rattle.rbc_spec.specs.SectionRuns.{SectionRun}
+use Rattle.rbc_spec.specs.Line.{Line, start}
+use Rattle.rbc_spec.specs.Sections.{nid_rbc}
+use Rattle.rbc_spec.specs.Place.{group_start}
+use Rattle.rbc_spec.specs.Message.{Transition}
+use Rattle.rbc_spec.specs.Frame.{Announce, Cancel}
+use Rattle.rbc_spec.specs.Centre.{Centre, Mission, Handing}
+use Rattle.rbc_spec.specs.Acts.{Reply, rest, say, part_at, is_of_two}
+use Rattle.rbc_handover.specs.declared.handing.HandoverName.{HandoverName}
+
+-- the handover to centre d that is announced under this number
+abbrev pub begun : ℕ → ℕ → Handing
+begun d number = record { number = number; to = d; is_claimed = false }
+
+-- the handover with this number to centre d is claimed; another stays as it is
+abbrev pub claimed_by : ℕ → ℕ → Handing → Handing
+claimed_by d number h = if (h.number == number) && (h.to == d) then record h { is_claimed = true } else h
+
+-- it is claimed, and each section of the hand is of home c or of the accepting centre
+abbrev pub is_due : Line → ℕ → SectionRun → Handing → Bool
+is_due line c hand h = h.is_claimed && is_of_two line c h.to hand
+
+-- ## A centre that has it
+
+-- the centre has this handover of the train; of a train without a mission it has none
+pub record HasHandover (t : ℕ) (k : Centre) (h : Option Handing) : Type 0 where
+  pub has : option_and_then (λ (m : Mission). m.handing) (k.mission t) ≡ h
+
+-- the centre has this mission of the train, with this handover
+pub record HasMission (t : ℕ) (k : Centre) (m : Mission) (h : Option Handing) : Type 0 where
+  pub mission : k.mission t ≡ Some m
+  pub handing : m.handing ≡ h
+
+-- the centre with this handover of the train, where it has a mission of it
+abbrev pub with_handover : ℕ → Option Handing → Centre → Centre
+with_handover t h k = record k { mission = put k.mission t (option_map (λ (m : Mission). record m { handing = h }) (k.mission t)) }
+
+-- the centre with so many handovers announced
+abbrev pub with_count : ℕ → Centre → Centre
+with_count n k = record k { announced = n }
+
+-- ## What it replies
+
+-- a handover of the mission to centre d is announced under this number, if there is one: a frame goes there, and the train is told
+-- where the border is
+abbrev pub announcing : Line → ℕ → ℕ → Mission → Option ℕ → Centre → Reply
+announcing line t d m None k = rest k
+announcing line t d m (Some number) k =
+    let border = (part_at line d m.place.track m.hand).first in
+    record (say t m.place.group (Transition (start line border - group_start line m.place) line.nid_c (nid_rbc line d)) k) {
+      frames = λ e. if e == d then Announce number t m.place.track ∷ [] else [];
+    }
+
+-- the handover of this name is cancelled, if there is one: a frame goes to the accepting centre
+abbrev pub cancelling : ℕ → Option HandoverName → Centre → Reply
+cancelling t None k = rest k
+cancelling t (Some name) k = record {
+  state = with_handover t None k;
+  frames = λ e. if e == name.to then Cancel name.number t ∷ [] else [];
+  sayings = [];
+  words = [];
+}

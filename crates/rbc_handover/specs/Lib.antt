@@ -1,0 +1,4 @@
+pub mod Handings
+pub mod Giving
+pub mod Acceptings
+pub mod Expectations

@@ -1,0 +1,176 @@
+ghost use Rattle.std.specs.Prelude.{◌≡◌, None, is_some, option_map, option_and_then};
+ghost use Rattle.rbc_spec.specs.Rules.{taking};
+ghost use Rattle.rbc_spec.specs.Links.{is_under};
+ghost use Rattle.rbc_handover.specs.Acceptings.{accepted_number, expectation_of};
+ghost use Rattle.rbc_handover.specs.Expectations.{announced_as, ended_under, to_be_told, is_taking_under};
+
+use std::mem;
+
+/// The handover was announced, and this centre has not said that it is taking over.
+#[derive(Clone, Copy, Debug, PartialEq, Eq)]
+pub struct Expected;
+
+/// This centre has said that it is taking over.
+#[derive(Clone, Copy, Debug, PartialEq, Eq)]
+pub struct Taking;
+
+/// A handover of a train that another centre has announced to this one, which one holder has. It can't be copied, and not be
+/// dropped: it ends where it is cancelled or taken, also where its centre is dropped. Its phase is `Expected` or `Taking`.
+#[must_use]
+#[derive(Debug)]
+pub struct Accepting<S> {
+    number: u32,
+    phase: S,
+}
+
+/// What a centre has of a train's handover from one other centre.
+#[must_use]
+#[derive(Debug)]
+pub enum AcceptingState {
+    /// None was announced, or it was cancelled or taken.
+    Nothing,
+    Expected(Accepting<Expected>),
+    Taking(Accepting<Taking>),
+}
+
+impl<S: Drop> Accepting<S> {
+    /// Its number at the centre that announced it.
+    pub fn number(&self) -> u32
+        ensures { result ≡ accepted_number self.now }
+    {
+        self.number
+    }
+
+    /// Ends it: its number.
+    pub fn end(self) -> u32
+        ensures { result ≡ accepted_number self }
+    {
+        let Accepting { number, phase: _ } = self;
+        number
+    }
+}
+
+impl Accepting<Expected> {
+    // The handover that was announced under this number.
+    fn begin(number: u32) -> Accepting<Expected>
+        ensures { accepted_number result ≡ number }
+    {
+        Accepting {
+            number,
+            phase: Expected,
+        }
+    }
+
+    // This centre says that it is taking over.
+    fn take_over(self) -> Accepting<Taking>
+        ensures { accepted_number result ≡ accepted_number self }
+    {
+        let Accepting {
+            number,
+            phase: Expected,
+        } = self;
+        Accepting {
+            number,
+            phase: Taking,
+        }
+    }
+}
+
+impl AcceptingState {
+    // Whether a handover is expected.
+    pub(crate) fn stands(&self) -> bool
+        ensures { result ≡ is_some (expectation_of self.now) }
+    {
+        match self {
+            AcceptingState::Nothing => false,
+            AcceptingState::Expected(_) => true,
+            AcceptingState::Taking(_) => true,
+        }
+    }
+
+    // Whether it is expected under this number.
+    pub(crate) fn is_under(&self, number: u32) -> bool
+        ensures { result ≡ is_under number (expectation_of self.now) }
+    {
+        match self {
+            AcceptingState::Nothing => false,
+            AcceptingState::Expected(accepting) => accepting.number() == number,
+            AcceptingState::Taking(accepting) => accepting.number() == number,
+        }
+    }
+
+    // Whether it is expected under this number, and this centre has said that it is taking over.
+    pub(crate) fn may_take(&self, number: u32) -> bool
+        ensures { result ≡ is_taking_under number (expectation_of self.now) }
+    {
+        match self {
+            AcceptingState::Taking(accepting) => accepting.number() == number,
+            AcceptingState::Expected(_) => false,
+            AcceptingState::Nothing => false,
+        }
+    }
+
+    // A handover is announced under this number. One that stands stays.
+    pub(crate) fn announced(&mut self, number: u32)
+        ensures { expectation_of self.new ≡ announced_as number (expectation_of self.old) }
+    {
+        if !self.stands() {
+            hold(self, AcceptingState::Expected(Accepting::begin(number)));
+        }
+    }
+
+    // This centre says that it is taking over: the number under which it does. None where nothing is expected, and where it has said so.
+    pub(crate) fn take_over(&mut self) -> Option<u32>
+        ensures number { result ≡ option_and_then to_be_told (expectation_of self.old) }
+        ensures state { expectation_of self.new ≡ option_map taking (expectation_of self.old) }
+    {
+        match mem::replace(self, AcceptingState::Nothing) {
+            AcceptingState::Expected(accepting) => {
+                let number = accepting.number();
+                hold(self, AcceptingState::Taking(accepting.take_over()));
+                Some(number)
+            }
+            other => {
+                hold(self, other);
+                None
+            }
+        }
+    }
+
+    // The handover of this number is cancelled. One under another number stays.
+    pub(crate) fn cancelled(&mut self, number: u32)
+        ensures { expectation_of self.new ≡ ended_under number (expectation_of self.old) }
+    {
+        if self.is_under(number) {
+            self.forget();
+        }
+    }
+
+    // Nothing is expected from now on.
+    pub(crate) fn forget(&mut self)
+        ensures { expectation_of self.new ≡ None }
+    {
+        hold(self, AcceptingState::Nothing);
+    }
+
+    /// Ends it, where its centre does.
+    pub fn end(self) {
+        match self {
+            AcceptingState::Nothing => {}
+            AcceptingState::Expected(accepting) => {
+                accepting.end();
+            }
+            AcceptingState::Taking(accepting) => {
+                accepting.end();
+            }
+        }
+    }
+}
+
+// Holds what is expected. What was held ends.
+fn hold(held: &mut AcceptingState, state: AcceptingState)
+    ensures { held.new ≡ state }
+{
+    let before = mem::replace(held, state);
+    before.end();
+}

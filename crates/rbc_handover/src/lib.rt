@@ -1,0 +1,17 @@
+//! The two sides of a handover of one train between radio block centres (SUBSET-026 3.15.1), as values that can't be copied or dropped.
+//! The centre that hands over has announced it, and then the accepting centre has claimed it: only one that is claimed is yielded. The
+//! accepting centre expects the train of the centre that announced it, and then says once that it is taking over. A handover goes by
+//! its number, so what belongs to an older one does nothing.
+#![tactic(auto)]
+
+mod accepting;
+mod count;
+mod expectations;
+mod handing;
+mod handover;
+
+pub use accepting::{Accepting, AcceptingState, Expected, Taking};
+pub use count::HandoverCount;
+pub use expectations::{Announcer, Expectations};
+pub use handing::{Announced, Claimed, Handing, HandoverName};
+pub use handover::Handover;

@@ -1,0 +1,10 @@
+pub mod Bodies
+pub mod Missions
+pub mod Marks
+pub mod Off
+pub mod Reached
+pub mod Forced
+pub mod Named
+pub mod NamedEvents
+pub mod Sent
+pub mod Known
