@@ -1,21 +1,29 @@
 -- A centre at its beginning.
-use Rattle.std.proofs.Common.{◌≡◌, ℕ, zero, suc, ◌==◌, ◌≤◌, true, false, List, [], ◌∷◌, get_or, ◌<◌, eqb-true, ◌++◌, length, length-append, inl, inr, Option, Some, None, option_and_then, option_map, slice_get, refl, sym, ap, ◌∙◌, subst, arith}
+use Rattle.std.proofs.Common.{◌≡◌, ℕ, zero, suc, ◌==◌, ◌≤◌, true, false, List, [], ◌∷◌, get_or, ◌<◌, eqb-true, ◌++◌, length, length-append, inl, inr, Option, Some, None, option_and_then, option_map, slice_get, refl, sym, ap, ◌∙◌, subst, arith, All}
 use Rattle.std.specs.Option.{option_map_or}
 use Rattle.std.proofs.lemmas.Bool.{cases_lt}
 use Rattle.std.proofs.lemmas.Bool.Decides.{eqb_tells}
 use Rattle.std.proofs.lemmas.Option.{slice_get_past}
+use Rattle.std.proofs.lemmas.List.Elements.{All-nil}
 use Rattle.std.proofs.lemmas.List.Quantifiers.{position-Some}
 use Rattle.rbc_spec.specs.Line.{Line, Train, train_number}
+use Rattle.rbc_spec.specs.Frame.{HasFrameRanges}
 use Rattle.rbc_spec.specs.Centre as centre
-use Rattle.rbc_spec.specs.Centre.{Mission, is_registrar_of}
+use Rattle.rbc_spec.specs.Centre.{is_registrar_of}
 use Rattle.rbc_line.proofs.Lists.{find-position_none}
 use Rattle.rbc_book.specs.Book.{Pages, entry_at, wish_at}
+use Rattle.rbc_link.specs.declared.link.Link.{Link}
+use Rattle.rbc_link.specs.declared.sent.Sent.{Sent}
+use Rattle.rbc_link.specs.Links.{sent_to, taken_from}
+use Rattle.rbc_link.specs.Outgoing.{frames_by}
+use Rattle.rbc_linkmsg.specs.Bodies.{body_of}
+use Rattle.rbc_linkmsg.specs.declared.body.Body.{Body}
 use Rattle.rbc_right.specs.Rights.{Rights, is_here}
 use Rattle.rbc_session.specs.Sessions.{Records, phase_at}
 use Rattle.rbc_session.specs.SessionStates.{session_phase}
 use Rattle.rbc_rules.specs.SessionStates.{Stands}
 use Rattle.rbc_rules.specs.Trains.{unknown_state}
-use Rattle.rbc_centre.specs.State.{stands_for, of_trains, right_at, IsUnknown}
+use Rattle.rbc_centre.specs.State.{stands_for, of_trains, right_at, IsOfTrain, IsUnknown}
 use Rattle.rbc_rules.specs.declared.train.TrainState.{TrainState}
 
 slice_get-last : {X : Type 0} (xs : List X) (x : X) → slice_get (xs ++ x ∷ []) (length xs) ≡ Some x
@@ -52,11 +60,11 @@ module _ (line : Line) (states : List TrainState) (each : (i : ℕ) (p : TrainSt
       by_number (Some i) at = here t i at
       by_number None none = sym (ap (λ o. option_map_or (λ r. r == c) (option_map (λ (p : Train). p.registrar) o) false) (find-position_none (λ (p : Train). p.nid_engine == t) line.trains none))
 
-  pub stands_at_beginning : (c : ℕ) (pages : Pages) (rights : Rights) → ((s : ℕ) → entry_at pages s ≡ centre.Shut) → ((s : ℕ) → wish_at pages s ≡ false)
-      → ((u j : ℕ) → train_number line u ≡ Some j → is_here rights j ≡ is_registrar_of line c u)
-      → stands_for line c 0 pages rights states ≡ centre.beginning line c
+  pub stands_at_beginning : (c : ℕ) (pages : Pages) (rights : Rights) (links : List (Link Body)) → ((s : ℕ) → entry_at pages s ≡ centre.Shut) → ((s : ℕ) → wish_at pages s ≡ false)
+      → ((u j : ℕ) → train_number line u ≡ Some j → is_here rights j ≡ is_registrar_of line c u) → ((d : ℕ) → taken_from links d ≡ 0) → ((d : ℕ) → sent_to links d ≡ [])
+      → stands_for line c 0 pages rights links states ≡ centre.beginning line c
   unfolding stands_for centre.beginning
-  stands_at_beginning c pages rights shut unwished here = λ i. record (centre.beginning line c) {
+  stands_at_beginning c pages rights links shut unwished here taken sent = λ i. record (centre.beginning line c) {
     clock = 0;
     book = λ s. shut s i;
     wish = λ s. unwished s i;
@@ -64,16 +72,17 @@ module _ (line : Line) (states : List TrainState) (each : (i : ℕ) (p : TrainSt
     heard = λ t. of_all (λ p. p.heard) None (λ j u. refl) t i;
     said = λ t. of_all (λ p. p.said) 0 (λ j u. refl) t i;
     mission = λ t. of_all (λ p. p.supervision.mission) None (λ j u. refl) t i;
+    wait = λ t. of_all (λ p. p.waiting.wait) None (λ j u. refl) t i;
+    has_asked = λ t. of_all (λ p. p.waiting.has_asked) false (λ j u. refl) t i;
     has_right = λ t. right_at_home c t rights here i;
+    sent = λ d. ap (frames_by body_of) (sent d) i;
+    taken = λ d. taken d i;
   }
 
   -- ## What holds of each train
 
   pub none_said : (i : ℕ) (p : TrainState) → slice_get states i ≡ Some p → p.said ≤ 0
   none_said i p at = let said : p.said ≡ 0 = ap (λ (q : TrainState). q.said) ((each i p at).state) in omega (arith, said)
-
-  pub numbers : (t i : ℕ) (p : TrainState) → train_number line t ≡ Some i → slice_get states i ≡ Some p → p.supervision.number ≡ i
-  numbers t i p number at = ap (λ (q : TrainState). q.supervision.number) ((each i p at).state)
 
   no_train : Train
   no_train = record { nid_engine = 0; registrar = 0 }
@@ -85,14 +94,23 @@ module _ (line : Line) (states : List TrainState) (each : (i : ℕ) (p : TrainSt
       let same : q.nid_engine ≡ e = cc in
       sym same ∙ eqb-true q.nid_engine t passes
 
-  pub engines : (t i : ℕ) (p : TrainState) → train_number line t ≡ Some i → slice_get states i ≡ Some p → p.supervision.engine ≡ t
-  engines t i p number at = engine_at t i p.supervision.engine (slice_get line.trains i) number refl ((each i p at).engine)
+  -- no session stands with a train that was never heard, and no start of it waits
+  pub each_begins : (sessions : Records) → ((u : ℕ) → phase_at sessions u ≡ centre.Closed)
+      → (t i : ℕ) (p : TrainState) → train_number line t ≡ Some i → slice_get states i ≡ Some p → IsOfTrain line sessions t i p
+  each_begins sessions closed t i p number at =
+      let is = (each i p at).state in
+      let engine : p.supervision.engine ≡ t = engine_at t i p.supervision.engine (slice_get line.trains i) number refl ((each i p at).engine) in
+      record {
+        number = ap (λ (q : TrainState). q.supervision.number) is;
+        engine = engine;
+        waiting = ap (λ (q : TrainState). q.waiting.engine) is ∙ engine;
+        covers = λ place waits. let no : None ≡ Some place = sym (ap (λ (q : TrainState). q.waiting.wait) is) ∙ waits in cc;
+        session = subst (λ (q : TrainState). Stands sessions q.session_state t) (sym is) (closed t, λ key absent. cc);
+      }
 
-  -- no session stands with a train that was never heard
-  pub closed_everywhere : (sessions : Records) → ((u : ℕ) → phase_at sessions u ≡ centre.Closed)
-      → (t i : ℕ) (p : TrainState) → train_number line t ≡ Some i → slice_get states i ≡ Some p → Stands sessions p.session_state t
-  closed_everywhere sessions closed t i p number at =
-      subst (λ (q : TrainState). Stands sessions q.session_state t) (sym ((each i p at).state)) (closed t, λ key absent. cc)
+-- no frame was sent
+pub none_in_range : (links : List (Link Body)) → ((d : ℕ) → sent_to links d ≡ []) → (d : ℕ) → All HasFrameRanges (frames_by body_of (sent_to links d))
+none_in_range links sent d = subst (λ (fs : List (Sent Body)). All HasFrameRanges (frames_by body_of fs)) (sym (sent d)) (All-nil HasFrameRanges)
 
 -- one more train
 pub each_more : (line : Line) (states more : List TrainState) (train : TrainState) (e : ℕ) → more ≡ states ++ train ∷ [] → train ≡ unknown_state (length states) e

@@ -1,6 +1,11 @@
 pub mod States
+pub mod Kept
 pub mod Trains
 pub mod Begins
+pub mod Posts
 pub mod Steps
+pub mod Turns
+pub mod Deliveries
 pub mod Wishes
+pub mod Frames
 pub mod Alike

@@ -8,8 +8,10 @@ use Rattle.rbc_spec.specs.Line.{Line, Train, train_number}
 use Rattle.rbc_right.specs.Rights.{Rights, is_here}
 use Rattle.rbc_session.specs.Sessions.{Records}
 use Rattle.rbc_spec.specs.Centre.{Phase}
+use Rattle.rbc_session.specs.declared.session.SessionState.{SessionState}
+use Rattle.rbc_wait.specs.Waits.{WaitState, IsCovered}
 use Rattle.rbc_rules.specs.SessionStates.{Enters, Stands}
-use Rattle.rbc_centre.specs.State.{of_trains, right_at}
+use Rattle.rbc_centre.specs.State.{of_trains, right_at, IsOfTrain}
 use Rattle.rbc_rules.proofs.SessionStates.{stands_for_train, stands_with_train}
 use Rattle.rbc_rules.specs.declared.train.TrainState.{TrainState}
 
@@ -116,22 +118,52 @@ counted_later states before clock later each j p at = let early = each j p at in
 pub other_train : (line : Line) (t u i j : ℕ) → train_number line t ≡ Some i → train_number line u ≡ Some j → j ≢ i → u ≢ t
 other_train line t u i j at_t at_u apart same = apart (let e : Some j ≡ Some i = sym at_u ∙ ap (train_number line) same ∙ at_t in cc)
 
--- what stands with each train, behind a change of one
-pub each_stands_after : (line : Line) (old new : Records) (states : List TrainState) (t i : ℕ) (state : TrainState) (phase : Phase) → i < length states → train_number line t ≡ Some i
-    → Enters old new state.session_state t phase → ((u j : ℕ) (p : TrainState) → train_number line u ≡ Some j → slice_get states j ≡ Some p → Stands old p.session_state u)
-    → (u j : ℕ) (p : TrainState) → train_number line u ≡ Some j → slice_get (set states i state) j ≡ Some p → Stands new p.session_state u
-each_stands_after line old new states t i state phase within at_t enters each u j p at_u found =
-    each_after (λ n q. train_number line u ≡ Some n → Stands new q.session_state u) states i state within
-    (λ at. subst (λ (x : ℕ). Stands new state.session_state x) (same_train line u t i at at_t) (stands_with_train new state.session_state t enters.stands))
-    (λ n q apart at number. stands_with_train new q.session_state u (enters.others q.session_state u (other_train line t u i n at_t number apart) (stands_for_train old q.session_state u (each u n q number at))))
-    j p found at_u
-
 -- what holds of each train of the line, by its number, behind a change of one
 pub each_train_after : (P : ℕ → ℕ → TrainState → Type 0) (line : Line) (states : List TrainState) (t i : ℕ) (state : TrainState) → i < length states → train_number line t ≡ Some i → P t i state
-    → ((u j : ℕ) (p : TrainState) → train_number line u ≡ Some j → slice_get states j ≡ Some p → P u j p)
+    → ((u j : ℕ) (p : TrainState) → u ≢ t → train_number line u ≡ Some j → slice_get states j ≡ Some p → P u j p)
     → (u j : ℕ) (p : TrainState) → train_number line u ≡ Some j → slice_get (set states i state) j ≡ Some p → P u j p
 each_train_after P line states t i state within at_t here each u j p at_u found =
     each_after (λ n q. train_number line u ≡ Some n → P u n q) states i state within
     (λ at. subst (λ (x : ℕ). P x i state) (same_train line u t i at at_t) here)
-    (λ n q apart at number. each u n q number at)
+    (λ n q apart at number. each u n q (other_train line t u i n at_t number apart) number at)
     j p found at_u
+
+-- what stands with another train, where one has changed
+stands_beside : (line : Line) (old new : Records) (s : SessionState) (t u j : ℕ) (p : TrainState) (phase : Phase) → Enters old new s t phase → u ≢ t
+    → IsOfTrain line old u j p → IsOfTrain line new u j p
+stands_beside line old new s t u j p phase enters apart is = record {
+  number = is.number;
+  engine = is.engine;
+  waiting = is.waiting;
+  covers = is.covers;
+  session = stands_with_train new p.session_state u (enters.others p.session_state u apart (stands_for_train old p.session_state u is.session));
+}
+
+-- what is kept of each train, behind a message of one
+pub each_of_train_after : (line : Line) (old new : Records) (states : List TrainState) (t i : ℕ) (state : TrainState) (phase : Phase) → i < length states → train_number line t ≡ Some i
+    → Enters old new state.session_state t phase → state.supervision.number ≡ i → state.supervision.engine ≡ t → state.waiting.engine ≡ t → IsCovered line state.waiting
+    → ((u j : ℕ) (p : TrainState) → train_number line u ≡ Some j → slice_get states j ≡ Some p → IsOfTrain line old u j p)
+    → (u j : ℕ) (p : TrainState) → train_number line u ≡ Some j → slice_get (set states i state) j ≡ Some p → IsOfTrain line new u j p
+each_of_train_after line old new states t i state phase within at_t enters number engine waiting covers each =
+    each_train_after (IsOfTrain line new) line states t i state within at_t
+    (record { number = number; engine = engine; waiting = waiting; covers = covers; session = stands_with_train new state.session_state t enters.stands })
+    (λ u j p apart at_u at. stands_beside line old new state.session_state t u j p phase enters apart (each u j p at_u at))
+
+-- the same, where no session has changed
+pub each_of_train_still : (line : Line) (sessions : Records) (states : List TrainState) (t i : ℕ) (state : TrainState) → i < length states → train_number line t ≡ Some i
+    → IsOfTrain line sessions t i state
+    → ((u j : ℕ) (p : TrainState) → train_number line u ≡ Some j → slice_get states j ≡ Some p → IsOfTrain line sessions u j p)
+    → (u j : ℕ) (p : TrainState) → train_number line u ≡ Some j → slice_get (set states i state) j ≡ Some p → IsOfTrain line sessions u j p
+each_of_train_still line sessions states t i state within at_t here each =
+    each_train_after (IsOfTrain line sessions) line states t i state within at_t here (λ u j p apart. each u j p)
+
+-- a train that is asked for a section stays the one that it was
+pub asked_train : (line : Line) (sessions : Records) (t i : ℕ) (before after : TrainState) → IsOfTrain line sessions t i before → after.supervision.number ≡ before.supervision.number
+    → after.supervision.engine ≡ before.supervision.engine → after.waiting ≡ before.waiting → after.session_state ≡ before.session_state → IsOfTrain line sessions t i after
+asked_train line sessions t i before after was number engine waiting session_state = record {
+  number = number ∙ was.number;
+  engine = engine ∙ was.engine;
+  waiting = ap (λ (w : WaitState). w.engine) waiting ∙ was.waiting;
+  covers = subst (IsCovered line) (sym waiting) was.covers;
+  session = subst (λ (x : SessionState). Stands sessions x t) (sym session_state) was.session;
+}

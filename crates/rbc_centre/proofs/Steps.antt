@@ -1,157 +1,193 @@
 -- The whole step of a centre.
-use Rattle.std.proofs.Common.{◌≡◌, ℕ, ◌+◌, ◌<◌, ◌≤◌, ◌&&◌, Bool, true, false, List, [], length, Option, Some, None, refl, sym, ap, ◌∙◌, arith, Result, Ok, Err, nat_lt}
-use Rattle.std.specs.List.{list_any, range_with_len}
+use Rattle.std.proofs.Common.{◌≡◌, ℕ, ◌+◌, ◌<◌, ◌≤◌, Bool, true, false, if◌then◌else◌, List, [], ◌++◌, length, max, Option, Some, None, refl, sym, ap, ◌∙◌, subst, arith, rules, inl, inr, ◌⊎◌, nat_cmp, Result, Ok, Err, nat_lt}
+use Rattle.std.specs.Ordering.{ord_max}
+use Rattle.std.specs.Result.{OnOk, IfErr}
+use Rattle.std.proofs.lemmas.Bool.{ltb-false}
 use Rattle.std.proofs.lemmas.Bool.Decides.{nat_tests}
-use Rattle.rbc_spec.specs.Line.{Line, is_linked}
-use Rattle.rbc_spec.specs.Reach.{Local}
-use Rattle.rbc_spec.specs.Message.{TrainMessage}
-use Rattle.rbc_spec.specs.Outcome.{Reason, Saying, Word, Outcome}
+use Rattle.std.proofs.lemmas.List.{length-map}
+use Rattle.rbc_spec.specs.Line.{Line}
+use Rattle.rbc_spec.specs.Reach.{Rights as ToRights}
+use Rattle.rbc_spec.specs.Frame.{Frame}
+use Rattle.rbc_spec.specs.Outcome.{Reason, Saying, Word, Outcome, Taken}
 use Rattle.rbc_spec.specs.Centre as centre
 use Rattle.rbc_spec.specs.Acts.{Reply}
 use Rattle.rbc_spec.specs.Step as step
-use Rattle.rbc_spec.specs.Step.{Event, Train, Set, Unset, Effect}
-use Rattle.rbc_local.specs.Local.{IsLocalAt}
-use Rattle.rbc_msgs.specs.StepMessage.{step_message}
+use Rattle.rbc_spec.specs.Step.{Event, Train, Set, Unset, Deliver, Effect, numbered}
+use Rattle.rbc_msgs.specs.TrainText.{TrainText}
 use Rattle.rbc_book.specs.Book.{Pages}
+use Rattle.rbc_link.specs.declared.link.Link.{Link}
+use Rattle.rbc_link.specs.Links.{sent_to, KeepsLinks}
+use Rattle.rbc_link.specs.Outgoing.{frame_by, frames_by}
+use Rattle.rbc_link.specs.Posted.{HasPosted}
+use Rattle.rbc_link.proofs.Posted.{posted_none}
+use Rattle.rbc_linkmsg.specs.Bodies.{body_of}
+use Rattle.rbc_linkmsg.specs.declared.body.Body.{Body}
 use Rattle.rbc_right.specs.Rights.{Rights}
-use Rattle.rbc_centre.specs.State.{stands_for}
-use Rattle.rbc_rules.specs.Desk.{effect_left}
-use Rattle.rbc_rules.specs.declared.heard.Heard.{Heard}
-use Rattle.rbc_rules.specs.declared.reason.Reason.{Reason as ReasonCode}
-use Rattle.rbc_centre.specs.Views.{event_of, outcome_heard}
-use Rattle.rbc_centre.specs.declared.event.Event.{Event as EventOfCode}
-use Rattle.rbc_centre.specs.declared.event.Event.TheVariants as code
+use Rattle.rbc_rules.specs.Letters.{letters}
+use Rattle.rbc_rules.specs.declared.letter.Letter.{Letter}
 use Rattle.rbc_rules.specs.declared.train.TrainState.{TrainState}
-use Rattle.rbc_lemmas.proofs.Lists.{any-range_none}
+use Rattle.rbc_centre.specs.Answer.{IsRefusal, IsRefusalOf}
+use Rattle.rbc_centre.specs.State.{stands_for}
+use Rattle.rbc_centre.specs.Views.{event_of}
+use Rattle.rbc_centre.specs.declared.event.Event.{Event as EventCode}
+use Rattle.rbc_centre.specs.declared.event.Event.TheVariants as code
+use Rattle.rbc_centre.specs.declared.fault.StepFault.{StepFault}
+use Rattle.rbc_centre.specs.declared.fault.StepFault.TheVariants as fault
+
+-- ## What the parts of a centre stand for
 
 -- a clock that ticks changes nothing else
-pub ticked_is : (line : Line) (c old clock : ℕ) (pages : Pages) (rights : Rights) (states : List TrainState) → step.ticked clock (stands_for line c old pages rights states) ≡ stands_for line c clock pages rights states
+pub ticked_is : (line : Line) (c old clock : ℕ) (pages : Pages) (rights : Rights) (links : List (Link Body)) (states : List TrainState)
+    → step.ticked clock (stands_for line c old pages rights links states) ≡ stands_for line c clock pages rights links states
 unfolding stands_for
-ticked_is line c old clock pages rights states = refl
+ticked_is line c old clock pages rights links states = refl
 
--- and leaves a centre local
-pub local_later : (line : Line) (c old clock : ℕ) (pages : Pages) (rights : Rights) (states : List TrainState) → IsLocalAt line c (stands_for line c old pages rights states) → IsLocalAt line c (stands_for line c clock pages rights states)
+-- links that are the same but for their room stand for the same
+pub stands_kept : (line : Line) (c clock : ℕ) (pages : Pages) (rights : Rights) (old new : List (Link Body)) (states : List TrainState) → KeepsLinks old new
+    → stands_for line c clock pages rights new states ≡ stands_for line c clock pages rights old states
 unfolding stands_for
-local_later line c old clock pages rights states a = record {
-  taken = a.taken;
-  not_out = a.not_out;
-  foreign = a.foreign;
-  unwished = a.unwished;
-  right = a.right;
-  at_registrar = a.at_registrar;
-  mission = a.mission;
-  no_wait = a.no_wait;
-  not_asked = a.not_asked;
-  no_route_ask = a.no_route_ask;
-  not_expected = a.not_expected;
-  none_sent = a.none_sent;
+stands_kept line c clock pages rights old new states keeps = λ i. record (stands_for line c clock pages rights old states) {
+  sent = λ d. ap (frames_by body_of) (keeps.sent d) i;
+  taken = λ d. keeps.taken d i;
 }
 
 -- ## What an event comes to
 
-abbrev pub spoken : ℕ → List Saying → List Word → Option Reason → Outcome
-spoken stamp sayings words silence = record { stamp = stamp; sayings = sayings; frames = λ d. []; words = words; link = None; silence = silence }
+-- a reply that leaves this state, sends a letter or none, and says and tells this
+abbrev pub replied : centre.Centre → Option Letter → List Saying → List Word → Reply
+replied k letter sayings words = record { state = k; frames = letters letter; sayings = sayings; words = words }
 
--- a reply without frames
-abbrev replied : centre.Centre → List Saying → List Word → Reply
-replied k sayings words = record { state = k; frames = λ d. []; sayings = sayings; words = words }
+abbrev pub effect_of : Reply → Option Taken → Option Reason → Effect
+effect_of reply link silence = record { reply = reply; link = link; silence = silence }
 
-module _ (line : Line) (c clock : ℕ) (old_book new_book : Pages) (old_rights new_rights : Rights) (old new : List TrainState) (sayings : List Saying) (words : List Word) (outcome : Outcome) where
+abbrev pub outcome_with : ℕ → (ℕ → List Frame) → List Saying → List Word → Option Taken → Option Reason → Outcome
+outcome_with stamp frames sayings words link silence =
+    record { stamp = stamp; sayings = sayings; frames = frames; words = words; link = link; silence = silence }
+
+module _ (line : Line) (c before clock : ℕ) (old_book new_book : Pages) (old_rights new_rights : Rights) (old mid new : List (Link Body)) (old_states new_states : List TrainState)
+    (letter : Option Letter) (event : Event) where
   abbrev k : centre.Centre
-  k = stands_for line c clock old_book old_rights old
+  k = stands_for line c before old_book old_rights old old_states
 
   abbrev left : centre.Centre
-  left = stands_for line c (clock + 1) new_book new_rights new
+  left = stands_for line c clock new_book new_rights new new_states
 
-  -- what is said and told, and the state that is left, are those of the step
-  pub stands_behind : (event : Event) → step.stamp_of k event ≡ clock + 1 → (silence : Option Reason) → step.effect Local line c (step.ticked (clock + 1) k) event ≡ record { reply = replied left sayings words; link = None; silence = silence }
-      → outcome ≡ spoken (clock + 1) sayings words silence → (outcome, left) ≡ step.taken Local line c event k
-  unfolding stands_for centre.beginning
-  stands_behind event stamp silence effect o =
-      ap (λ (x : Outcome). (x, left)) o
-      ∙ ap (λ (e : Effect). (step.outcome_of (clock + 1) k e, step.state_after (clock + 1) k e)) (sym effect)
-      ∙ ap (λ n. (step.outcome_of n k (step.effect Local line c (step.ticked n k) event), step.state_after n k (step.effect Local line c (step.ticked n k) event))) (sym stamp)
+  -- as many frames were sent before as the links have, also behind an event that a link has taken
+  counted : ((d : ℕ) → sent_to mid d ≡ sent_to old d) → (d : ℕ) → length (sent_to mid d) ≡ length (k.sent d)
+  unfolding stands_for
+  counted same d = ap length (same d) ∙ sym (length-map (sent_to old d) (frame_by body_of))
+
+  -- what the code answers, and the state that it leaves, are those of the step: it had posted nothing in between
+  pub answers : step.stamp_of k event ≡ clock → ((d : ℕ) → sent_to mid d ≡ sent_to old d) → HasPosted body_of clock (letters letter) mid new
+      → (sayings : List Saying) (words : List Word) (link : Option Taken) (silence : Option Reason)
+      → step.effect ToRights line c (step.ticked clock k) event ≡ effect_of (replied (stands_for line c clock new_book new_rights mid new_states) letter sayings words) link silence
+      → (frames : ℕ → List Frame) → ((d : ℕ) → frames d ≡ numbered clock (length (sent_to mid d)) (letters letter d))
+      → (outcome : Outcome) → outcome ≡ outcome_with clock frames sayings words link silence
+      → (outcome, left) ≡ step.taken ToRights line c event k
+  unfolding stands_for
+  answers stamp same posted sayings words link silence effect frames numbers outcome is =
+      let frames_are : (d : ℕ) → frames d ≡ numbered clock (length (k.sent d)) (letters letter d) = λ d. numbers d ∙ ap (λ n. numbered clock n (letters letter d)) (counted same d) in
+      let sent_are : (d : ℕ) → frames_by body_of (sent_to new d) ≡ k.sent d ++ numbered clock (length (k.sent d)) (letters letter d) =
+      λ d. posted.sent d ∙ (λ i. frames_by body_of (same d i) ++ numbered clock (counted same d i) (letters letter d)) in
+      ap (λ (o : Outcome). (o, left)) is
+      ∙ (λ i. (
+        outcome_with clock (λ d. frames_are d i) sayings words link silence,
+        record left { sent = λ d. sent_are d i; taken = λ d. posted.taken d i },
+      ))
+      ∙ ap (λ (e : Effect). (step.outcome_of clock k e, step.state_after clock k e)) (sym effect)
+      ∙ ap (λ n. (step.outcome_of n k (step.effect ToRights line c (step.ticked n k) event), step.state_after n k (step.effect ToRights line c (step.ticked n k) event))) (sym stamp)
+
+-- a step that sends nothing
+module _ (line : Line) (c before clock : ℕ) (old_book new_book : Pages) (old_rights new_rights : Rights) (links mid : List (Link Body)) (old_states new_states : List TrainState) (event : Event) where
+  pub says : step.stamp_of (stands_for line c before old_book old_rights links old_states) event ≡ clock → ((d : ℕ) → sent_to mid d ≡ sent_to links d)
+      → (sayings : List Saying) (words : List Word) (link : Option Taken) (silence : Option Reason)
+      → step.effect ToRights line c (step.ticked clock (stands_for line c before old_book old_rights links old_states)) event
+      ≡ effect_of (replied (stands_for line c clock new_book new_rights mid new_states) None sayings words) link silence
+      → (outcome : Outcome) → outcome ≡ outcome_with clock (λ d. []) sayings words link silence
+      → (outcome, stands_for line c clock new_book new_rights mid new_states) ≡ step.taken ToRights line c event (stands_for line c before old_book old_rights links old_states)
+  says stamp same sayings words link silence effect outcome is =
+      answers line c before clock old_book new_book old_rights new_rights links mid mid old_states new_states None event stamp same (posted_none body_of clock mid)
+      sayings words link silence effect (λ d. []) (λ d. refl) outcome is
+
+-- what the interlocking says
+module _ (line : Line) (c clock : ℕ) (old_book new_book : Pages) (rights : Rights) (links : List (Link Body)) (old_states new_states : List TrainState)
+    (sayings : List Saying) (words : List Word) (outcome : Outcome) (s : ℕ) (is : outcome ≡ outcome_with (clock + 1) (λ d. []) sayings words None None) where
+  abbrev at : centre.Centre
+  at = stands_for line c clock old_book rights links old_states
 
   abbrev later : centre.Centre
-  later = stands_for line c (clock + 1) old_book old_rights old
+  later = stands_for line c (clock + 1) old_book rights links old_states
 
-  abbrev effect_of : Option Reason → Reply → Effect
-  effect_of silence reply = record { reply = reply; link = None; silence = silence }
+  is_later : step.ticked (clock + 1) at ≡ later
+  is_later = ticked_is line c clock (clock + 1) old_book rights links old_states
 
-  is_later : step.ticked (clock + 1) k ≡ later
-  is_later = ticked_is line c clock (clock + 1) old_book old_rights old
-
-  -- what the interlocking says
-  pub set_stands : (s : ℕ) → outcome ≡ spoken (clock + 1) sayings words None → replied left sayings words ≡ step.set line c s later → (outcome, left) ≡ step.taken Local line c (Set s) k
+  pub set_stands : replied (stands_for line c (clock + 1) new_book rights links new_states) None sayings words ≡ step.set line c s later
+      → (outcome, stands_for line c (clock + 1) new_book rights links new_states) ≡ step.taken ToRights line c (Set s) at
   unfolding stands_for
-  set_stands s o r = stands_behind (Set s) refl None (ap (effect_of None) (ap (step.set line c s) is_later ∙ sym r)) o
+  set_stands r = says line c clock (clock + 1) old_book new_book rights rights links links old_states new_states (Set s) refl (λ d. refl) sayings words None None
+      (ap (λ (x : Reply). effect_of x None None) (ap (step.set line c s) is_later ∙ sym r)) outcome is
 
-  pub unset_stands : (s : ℕ) → outcome ≡ spoken (clock + 1) sayings words None → replied left sayings words ≡ step.unset line c s later → (outcome, left) ≡ step.taken Local line c (Unset s) k
+  pub unset_stands : replied (stands_for line c (clock + 1) new_book rights links new_states) None sayings words ≡ step.unset line c s later
+      → (outcome, stands_for line c (clock + 1) new_book rights links new_states) ≡ step.taken ToRights line c (Unset s) at
   unfolding stands_for
-  unset_stands s o r = stands_behind (Unset s) refl None (ap (effect_of None) (ap (step.unset line c s) is_later ∙ sym r)) o
+  unset_stands r = says line c clock (clock + 1) old_book new_book rights rights links links old_states new_states (Unset s) refl (λ d. refl) sayings words None None
+      (ap (λ (x : Reply). effect_of x None None) (ap (step.unset line c s) is_later ∙ sym r)) outcome is
 
--- what a message came to, as a step
-pub heard_stands : (line line' : Line) (c c' clock clock' : ℕ) (book book' : Pages) (rights rights' : Rights) (trains trains' : List TrainState) (m : TrainMessage) (r : Result Heard ReasonCode)
-    → step.effect Local line c (step.ticked (clock + 1) (stands_for line c clock book rights trains)) (Train m) ≡ effect_left (stands_for line' c' clock' book' rights' trains') r
-    → (outcome_heard (clock + 1) r, stands_for line' c' clock' book' rights' trains') ≡ step.taken Local line c (Train m) (stands_for line c clock book rights trains)
-unfolding stands_for centre.beginning
-heard_stands line line' c c' clock clock' book book' rights rights' trains trains' m (Ok h) is =
-    ap (λ (e : Effect). (step.outcome_of (clock + 1) (stands_for line c clock book rights trains) e, step.state_after (clock + 1) (stands_for line c clock book rights trains) e)) (sym is)
-heard_stands line line' c c' clock clock' book book' rights rights' trains trains' m (Err why) is =
-    ap (λ (e : Effect). (step.outcome_of (clock + 1) (stands_for line c clock book rights trains) e, step.state_after (clock + 1) (stands_for line c clock book rights trains) e)) (sym is)
+-- ## Whether an event is refused
 
--- ## The whole step
+tests_of : (a b : Bool) → (if a then Some step.ClockEnd else (if b then Some step.LinkFull else None)) ≡ None → (a ≡ false) × (b ≡ false)
+tests_of true b h = cc
+tests_of false true h = cc
+tests_of false false h = (refl, refl)
 
--- an event that brings no frame is stamped one above the clock
-pub data BringsNoFrame : Event → Type 0 where
-  of_train : (m : TrainMessage) → BringsNoFrame (Train m)
-  of_set : (s : ℕ) → BringsNoFrame (Set s)
-  of_unset : (s : ℕ) → BringsNoFrame (Unset s)
+-- an event that is not refused has a stamp, and no link is full
+pub allowed : (line : Line) (c : ℕ) (k : centre.Centre) (event : Event) → step.refusal line c k event ≡ None
+    → (step.stamp_of k event ≤ 1073741823) × (step.has_full_link line c k ≡ false)
+allowed line c k event none =
+    let tests = tests_of (nat_lt step.last_stamp (step.stamp_of k event)) (step.has_full_link line c k) none in
+    (ltb-false step.last_stamp (step.stamp_of k event) tests.0, tests.1)
 
-pub frameless : (event : EventOfCode) → BringsNoFrame (event_of event)
-frameless (code.Train m) = of_train (step_message m)
-frameless (code.Set s) = of_set s
-frameless (code.Unset s) = of_unset s
+-- and the other way round
+pub no_refusal : (line : Line) (c : ℕ) (k : centre.Centre) (event : Event) (stamp : ℕ) → step.stamp_of k event ≡ stamp + 1 → stamp < 1073741823 → step.has_full_link line c k ≡ false
+    → step.refusal line c k event ≡ None
+no_refusal line c k event stamp is early room =
+    let e : nat_lt step.last_stamp (stamp + 1) ≡ false = grind (arith, nat_tests) in
+    rw (is, e, room) refl
 
-next_stamp : (k : centre.Centre) (event : Event) → BringsNoFrame event → step.stamp_of k event ≡ k.clock + 1
-next_stamp k _ (of_train m) = refl
-next_stamp k _ (of_set s) = refl
-next_stamp k _ (of_unset s) = refl
+-- the refusal of the event, by the stamp before its own
+pub refusal_by : (line : Line) (c : ℕ) (k : centre.Centre) (event : Event) (stamp : ℕ) → step.stamp_of k event ≡ stamp + 1
+    → (if nat_lt 1073741823 (stamp + 1) then Some step.ClockEnd else (if step.has_full_link line c k then Some step.LinkFull else None)) ≡ step.refusal line c k event
+refusal_by line c k event stamp is = rw is refl
 
--- no link is full where no frame was sent
-and_false : (b : Bool) → (b && false) ≡ false
-and_false true = refl
-and_false false = refl
+pub taken_step : (line : Line) (c : ℕ) (k : centre.Centre) (event : Event) → step.refusal line c k event ≡ None → step.step ToRights line c event k ≡ Ok (step.taken ToRights line c event k)
+unfolding step.step
+taken_step line c k event none = rw none refl
 
-none_full : (line : Line) (c first count : ℕ) → list_any (λ d. is_linked line c d && false) (range_with_len first count) ≡ false
-none_full line c first count = any-range_none (λ d. is_linked line c d && false) first count (λ d low high. and_false (is_linked line c d))
+pub refused_step : (line : Line) (c : ℕ) (k : centre.Centre) (event : Event) (f : StepFault) → IsRefusalOf f (step.refusal line c k event) → IsRefusal f (step.step ToRights line c event k)
+unfolding step.step
+refused_step line c k event fault.Memory is = absurd is
+refused_step line c k event fault.LinkFull is = rw is refl
+refused_step line c k event fault.ClockEnd is = rw is refl
 
-refusal_at_end : (line : Line) (event : Event) (c : ℕ) (k : centre.Centre) → BringsNoFrame event → 1073741823 ≤ k.clock → step.refusal line c k event ≡ Some step.ClockEnd
-refusal_at_end line event c k brings late =
-    let e : nat_lt step.last_stamp (k.clock + 1) ≡ true = grind (arith, nat_tests) in
-    rw (next_stamp k event brings) (rw e refl)
+-- what a test of the stamp and the links answers, as the refusal of the event
+pub ok_allowed : {T : Type 0} (line : Line) (c : ℕ) (k : centre.Centre) (event : Event) (stamp : ℕ) → step.stamp_of k event ≡ stamp + 1 → (r : Result T StepFault)
+    → OnOk r ((stamp < 1073741823) × (step.has_full_link line c k ≡ false)) → OnOk r (step.refusal line c k event ≡ None)
+ok_allowed line c k event stamp is (Ok x) room = no_refusal line c k event stamp is room.0 room.1
+ok_allowed line c k event stamp is (Err f) room = tt
 
-module _ (line : Line) (event : Event) (c clock : ℕ) (pages : Pages) (rights : Rights) (states : List TrainState) (brings : BringsNoFrame event) where
-  abbrev at : centre.Centre
-  at = stands_for line c clock pages rights states
+pub err_refused : {T : Type 0} (line : Line) (c : ℕ) (k : centre.Centre) (event : Event) (stamp : ℕ) → step.stamp_of k event ≡ stamp + 1 → (r : Result T StepFault)
+    → IfErr r (λ f. IsRefusalOf f (if nat_lt 1073741823 (stamp + 1) then Some step.ClockEnd else (if step.has_full_link line c k then Some step.LinkFull else None)))
+    → IfErr r (λ f. IsRefusalOf f (step.refusal line c k event))
+err_refused line c k event stamp is (Ok x) why = tt
+err_refused line c k event stamp is (Err f) why = subst (IsRefusalOf f) (refusal_by line c k event stamp is) why
 
-  no_refusal : clock < 1073741823 → step.refusal line c at event ≡ None
-  unfolding stands_for centre.beginning
-  no_refusal early =
-      let e : nat_lt step.last_stamp (clock + 1) ≡ false = grind (arith, nat_tests) in
-      rw (next_stamp at event brings) (rw (e, none_full line c 0 (length line.centres)) refl)
+-- the stamp before that of an event that brings no frame
+pub next_stamp : (k : centre.Centre) (event : EventCode)
+    → ((m : TrainText) × (event ≡ code.Train m)) ⊎ (((s : ℕ) × (event ≡ code.Set s)) ⊎ ((s : ℕ) × (event ≡ code.Unset s))) → step.stamp_of k (event_of event) ≡ k.clock + 1
+next_stamp k event (inl is) = ap (λ (e : EventCode). step.stamp_of k (event_of e)) is.1
+next_stamp k event (inr (inl is)) = ap (λ (e : EventCode). step.stamp_of k (event_of e)) is.1
+next_stamp k event (inr (inr is)) = ap (λ (e : EventCode). step.stamp_of k (event_of e)) is.1
 
-  clock_of : at.clock ≡ clock
-  unfolding stands_for
-  clock_of = refl
-
-  pub refused_step : 1073741823 ≤ clock → step.step Local line c event at ≡ Err step.ClockEnd
-  unfolding step.step
-  refused_step late = rw (refusal_at_end line event c at brings (rw clock_of late)) refl
-
-  pub taken_step : (p : Outcome × centre.Centre) → clock < 1073741823 → p ≡ step.taken Local line c event at → step.step Local line c event at ≡ Ok p
-  unfolding step.step
-  taken_step p early t = rw (no_refusal early) (ap (λ q. Ok q) (sym t))
-
-  pub not_refused : clock < 1073741823 → step.step Local line c event at ≡ Ok (step.taken Local line c event at)
-  not_refused early = taken_step (step.taken Local line c event at) early refl
+-- the later of two numbers, by their order
+pub later_of : (a b : ℕ) → ord_max nat_cmp a b ≡ max a b
+later_of a b = search rules

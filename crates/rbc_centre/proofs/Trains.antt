@@ -1,50 +1,76 @@
--- One train at a centre, and the centre that is left where a message has changed it.
+-- One train at a centre, and the centre that is left where a message or a frame has changed it.
 use Rattle.std.proofs.Common.{◌≡◌, ℕ, ◌<◌, List, length, Some, None, slice_get, set, sym, ap, ◌∙◌, false, refl}
 use Rattle.std.specs.Option.{option_map_or}
+use Rattle.rbc_spec.specs.Reach.{Rights as ToRights}
 use Rattle.rbc_spec.specs.Maps.{put}
-use Rattle.rbc_spec.specs.Line.{Line, is_home, train_number}
+use Rattle.rbc_spec.specs.Line.{Line, IsLine, is_home, train_number}
 use Rattle.rbc_spec.specs.Centre as centre
-use Rattle.rbc_local.specs.Local.{IsOrdered, IsLocalAt}
 use Rattle.rbc_book.specs.Book.{Pages, is_own, entry_at, wish_at}
+use Rattle.rbc_flow.specs.Sound.{IsCentreSound}
+use Rattle.rbc_link.specs.declared.link.Link.{Link}
+use Rattle.rbc_linkmsg.specs.declared.body.Body.{Body}
+use Rattle.rbc_own.specs.Own.{IsOwnAt}
 use Rattle.rbc_right.specs.Rights.{Rights, is_here}
+use Rattle.rbc_session.specs.Sessions.{Records}
 use Rattle.rbc_session.specs.SessionStates.{session_phase}
-use Rattle.rbc_rules.specs.Desk.{HasParts, KeepsTrain, KeepsDesk, with_parts}
+use Rattle.rbc_rules.specs.Desk.{IsKeptAt, HasParts, KeepsTrain, KeepsDesk, with_parts}
 use Rattle.rbc_rules.specs.declared.train.TrainState.{TrainState}
-use Rattle.rbc_centre.specs.State.{stands_for, of_trains}
+use Rattle.rbc_centre.specs.State.{stands_for, of_trains, IsOfTrain}
+use Rattle.rbc_centre.proofs.Kept.{ordered_line, local_form, hand_at_home}
 use Rattle.rbc_centre.proofs.States.{of_trains-set, right_turned, part_of_train}
 
 -- the last T_TRAIN heard of a train of the line
-pub heard_of : (line : Line) (c clock t i : ℕ) (book : Pages) (rights : Rights) (states : List TrainState) (state : TrainState) → train_number line t ≡ Some i → slice_get states i ≡ Some state
-    → (stands_for line c clock book rights states).heard t ≡ state.heard
+pub heard_of : (line : Line) (c clock t i : ℕ) (book : Pages) (rights : Rights) (links : List (Link Body)) (states : List TrainState) (state : TrainState)
+    → train_number line t ≡ Some i → slice_get states i ≡ Some state → (stands_for line c clock book rights links states).heard t ≡ state.heard
 unfolding stands_for
-heard_of line c clock t i book rights states state number at = sym (part_of_train (λ p. p.heard) None line states t i state number at)
+heard_of line c clock t i book rights links states state number at = sym (part_of_train (λ p. p.heard) None line states t i state number at)
 
-module _ (line : Line) (c clock t i : ℕ) (book : Pages) (rights : Rights) (states : List TrainState) (old : TrainState)
-    (number : train_number line t ≡ Some i) (at : slice_get states i ≡ Some old) (within : i < length states) (engine : old.supervision.engine ≡ t) (place : old.supervision.number ≡ i) where
+-- and its mission
+pub mission_of : (line : Line) (c clock t i : ℕ) (book : Pages) (rights : Rights) (links : List (Link Body)) (states : List TrainState) (state : TrainState)
+    → train_number line t ≡ Some i → slice_get states i ≡ Some state → (stands_for line c clock book rights links states).mission t ≡ state.supervision.mission
+unfolding stands_for
+mission_of line c clock t i book rights links states state number at = sym (part_of_train (λ p. p.supervision.mission) None line states t i state number at)
+
+-- what holds of the train at a centre that keeps to its own
+pub kept_at : (line : Line) (c : ℕ) (k : centre.Centre) (sessions : Records) (t i : ℕ) (p : TrainState) → ∥ IsLine line ∥₁ → IsCentreSound line c k → IsOwnAt ToRights line c k
+    → IsOfTrain line sessions t i p → k.mission t ≡ p.supervision.mission → IsKeptAt line c p
+kept_at line c k sessions t i p rules sound own of_train mission = record {
+  one_train = of_train.waiting ∙ sym of_train.engine;
+  form = λ m at. local_form line c k rules sound own t m (mission ∙ at);
+  at_home = λ m at. hand_at_home line c k rules sound own t m (mission ∙ at);
+  covers = of_train.covers;
+}
+
+module _ (line : Line) (c clock t i : ℕ) (book : Pages) (rights : Rights) (links : List (Link Body)) (states : List TrainState) (old : TrainState)
+    (number : train_number line t ≡ Some i) (at : slice_get states i ≡ Some old) (within : i < length states) (engine : old.supervision.engine ≡ t)
+    (place : old.supervision.number ≡ i) where
   abbrev k : centre.Centre
-  k = stands_for line c clock book rights states
+  k = stands_for line c clock book rights links states
 
   part_at : {X : Type 0} (part : TrainState → X) (none : X) → of_trains part none line states old.supervision.engine ≡ part old
   part_at part none = ap (of_trains part none line states) engine ∙ sym (part_of_train part none line states t i old number at)
 
-  pub has_train : IsOrdered line → IsLocalAt line c k → ((s : ℕ) → is_own book s ≡ is_home line c s) → HasParts line c k old book rights
-  unfolding stands_for
-  has_train ordered local homes = record {
-    ordered = ordered;
-    local = local;
+  pub has_train : ∥ IsLine line ∥₁ → IsKeptAt line c old → ((s : ℕ) → is_own book s ≡ is_home line c s) → HasParts line c k old book rights
+  unfolding stands_for centre.beginning
+  has_train rules kept homes = record {
+    ordered = ordered_line line rules;
+    kept = kept;
     homes = homes;
+    not_expected = λ d u. refl;
     has_book = λ s. refl;
     has_wish = λ s. refl;
     has_phase = part_at (λ p. session_phase p.session_state) centre.Closed;
     has_heard = part_at (λ p. p.heard) None;
     has_said = part_at (λ p. p.said) 0;
     has_mission = part_at (λ p. p.supervision.mission) None;
+    has_wait = part_at (λ p. p.waiting.wait) None;
+    has_ask = part_at (λ p. p.waiting.has_asked) false;
     has_right = ap (λ o. option_map_or (is_here rights) o false) (ap (train_number line) engine ∙ number) ∙ ap (is_here rights) (sym place);
   }
 
   -- the train, book and rights that are left, as a centre
   pub train_left : (new : TrainState) (new_book : Pages) (new_rights : Rights) → KeepsTrain old new → KeepsDesk old.supervision.number book new_book rights new_rights
-      → with_parts new new_book new_rights k ≡ stands_for line c clock new_book new_rights (set states i new)
+      → with_parts new new_book new_rights k ≡ stands_for line c clock new_book new_rights links (set states i new)
   unfolding stands_for
   train_left new new_book new_rights kept desk = λ j. record k {
     book = entry_at new_book;
@@ -53,6 +79,8 @@ module _ (line : Line) (c clock t i : ℕ) (book : Pages) (rights : Rights) (sta
     heard = λ u. changed (λ p. p.heard) None u j;
     said = λ u. changed (λ p. p.said) 0 u j;
     mission = λ u. changed (λ p. p.supervision.mission) None u j;
+    wait = λ u. changed (λ p. p.waiting.wait) None u j;
+    has_asked = λ u. changed (λ p. p.waiting.has_asked) false u j;
     has_right = λ u. ((λ l. put k.has_right (is_train l) (is_here new_rights ((kept.number ∙ place) l)) u) ∙ sym (right_turned line rights new_rights t i (is_here new_rights i) number turned u)) j;
   }
     where
@@ -60,7 +88,7 @@ module _ (line : Line) (c clock t i : ℕ) (book : Pages) (rights : Rights) (sta
       is_train = kept.engine ∙ engine
 
       turned : (j : ℕ) → is_here new_rights j ≡ put (is_here rights) i (is_here new_rights i) j
-      turned j = desk.others j ∙ ap (λ (n : ℕ). put (is_here rights) n (is_here new_rights n) j) place
+      turned j = desk.rights.others j ∙ ap (λ (n : ℕ). put (is_here rights) n (is_here new_rights n) j) place
 
       changed : {X : Type 0} (part : TrainState → X) (none : X) (u : ℕ) → put (of_trains part none line states) new.supervision.engine (part new) u ≡ of_trains part none line (set states i new) u
       changed part none u = (λ l. put (of_trains part none line states) (is_train l) (part new) u) ∙ sym (of_trains-set part none line states t i new number within u)

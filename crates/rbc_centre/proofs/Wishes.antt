@@ -1,17 +1,23 @@
 -- What the interlocking says of a section, as the change of the book and of a train's state.
-use Rattle.std.proofs.Common.{◌≡◌, ℕ, ◌==◌, ◌<◌, ◌&&◌, Bool, true, false, not, if◌then◌else◌, List, [], ◌∷◌, length, Option, Some, None, slice_get, set, refl, sym, ap, ◌∙◌, subst, eq-eqb}
+use Rattle.std.proofs.Common.{◌≡◌, ℕ, ◌==◌, ◌<◌, ◌&&◌, Bool, true, false, not, if◌then◌else◌, List, [], ◌∷◌, length, Some, None, slice_get, set, refl, sym, ap, ◌∙◌, arith, inl, inr, eq-eqb}
+use Rattle.std.proofs.lemmas.Bool.{cases_Bool}
+use Rattle.rbc_spec.specs.Reach.{Rights as ToRights}
 use Rattle.rbc_spec.specs.Maps.{put}
 use Rattle.rbc_spec.specs.Line.{Line, is_home, train_number}
-use Rattle.rbc_spec.specs.Outcome.{Saying, Word, Done, Asked, NotHome}
+use Rattle.rbc_spec.specs.Outcome.{Saying, Done, Asked, NotHome}
 use Rattle.rbc_spec.specs.Centre as centre
-use Rattle.rbc_spec.specs.Centre.{Entry, Shut, Open, Taken, Out, Mission, is_unused, is_taken_for, is_out_for}
-use Rattle.rbc_spec.specs.Acts.{Reply, propose_if_so}
+use Rattle.rbc_spec.specs.Centre.{Entry, Shut, Open, Taken, Out, is_unused, is_taken_for, is_out_for}
+use Rattle.rbc_spec.specs.Acts.{propose_if_so}
 use Rattle.rbc_spec.specs.Step as step
-use Rattle.rbc_local.specs.Local.{IsLocalAt, hand_has}
-use Rattle.rbc_local.proofs.Steps.{set_stays, unset_stays}
+use Rattle.rbc_local.specs.Local.{hand_has}
+use Rattle.rbc_flow.specs.Counts.{wait_has}
+use Rattle.rbc_flow.specs.Sound.{IsCentreSound}
+use Rattle.rbc_own.specs.Own.{IsOwnAt}
 use Rattle.rbc_book.specs.Book.{Pages, is_own, entry_at, wish_at}
 use Rattle.rbc_book.specs.Answers.{unset_answer}
 use Rattle.rbc_book.specs.declared.answer.Unset.TheVariants as Unset
+use Rattle.rbc_link.specs.declared.link.Link.{Link}
+use Rattle.rbc_linkmsg.specs.declared.body.Body.{Body}
 use Rattle.rbc_right.specs.Rights.{Rights}
 use Rattle.rbc_session.specs.SessionStates.{session_phase}
 use Rattle.rbc_rules.specs.Tellings.{wishing}
@@ -22,64 +28,55 @@ use Rattle.rbc_rules.specs.declared.train.TrainState.{TrainState}
 use Rattle.rbc_lemmas.proofs.Puts.{put_same}
 use Rattle.rbc_centre.specs.declared.centre.Centre.{Centre as CentreCode}
 use Rattle.rbc_centre.proofs.States.{of_trains-set, part_of_train, part_of_foreign, number_within}
+use Rattle.rbc_centre.proofs.Steps.{replied}
 
-abbrev replied : centre.Centre → List Saying → List Word → Reply
-replied k sayings words = record { state = k; frames = λ d. []; sayings = sayings; words = words }
-
-module _ (line : Line) (c clock : ℕ) (old new : Pages) (rights : Rights) (states : List TrainState) (s : ℕ) (home : is_own old s ≡ is_home line c s) where
+module _ (line : Line) (c clock : ℕ) (old new : Pages) (rights : Rights) (links : List (Link Body)) (states : List TrainState) (s : ℕ) (home : is_own old s ≡ is_home line c s) where
   abbrev k : centre.Centre
-  k = stands_for line c clock old rights states
+  k = stands_for line c clock old rights links states
 
   abbrev left : centre.Centre
-  left = stands_for line c clock new rights states
+  left = stands_for line c clock new rights links states
 
-  module _ (entry : (n : ℕ) → entry_at new n ≡ (if (is_own old s && is_unused (entry_at old s)) && (n == s) then Open else entry_at old n))
-      (wish : (n : ℕ) → wish_at new n ≡ (if is_own old s && (n == s) then false else wish_at old n)) where
-    pub set_turns : (own unused : Bool) → is_own old s ≡ own → is_unused (entry_at old s) ≡ unused → replied left [] ((if own then Done s else NotHome s) ∷ []) ≡ step.set line c s k
-    unfolding stands_for
-    set_turns true true own unused =
-        let entries : (n : ℕ) → entry_at new n ≡ put (entry_at old) s Open n = λ n. rw (own, unused) at (entry n) in
-        let wishes : (n : ℕ) → wish_at new n ≡ put (wish_at old) s false n = λ n. rw own at (wish n) in
-        (λ i. replied (record k { book = λ n. entries n i; wish = λ n. wishes n i }) [] (Done s ∷ []))
-        ∙ sym (opened_at_once line c s k (sym home ∙ own) unused)
-    set_turns true false own unused =
-        let entries : (n : ℕ) → entry_at new n ≡ entry_at old n = λ n. rw (own, unused) at (entry n) in
-        let wishes : (n : ℕ) → wish_at new n ≡ put (wish_at old) s false n = λ n. rw own at (wish n) in
-        (λ i. replied (record k { book = λ n. entries n i; wish = λ n. wishes n i }) [] (Done s ∷ []))
-        ∙ sym (kept_in_use line c s k (sym home ∙ own) unused)
-    set_turns false unused own used =
-        let entries : (n : ℕ) → entry_at new n ≡ entry_at old n = λ n. rw own at (entry n) in
-        let wishes : (n : ℕ) → wish_at new n ≡ wish_at old n = λ n. rw own at (wish n) in
-        (λ i. replied (record k { book = λ n. entries n i; wish = λ n. wishes n i }) [] (NotHome s ∷ []))
-        ∙ sym (left_at_set line c s k (sym home ∙ own))
-
-    pub set_local : IsLocalAt line c k → IsLocalAt line c left
-    set_local local =
-        subst (λ (r : Reply). IsLocalAt line c r.state) (sym (set_turns (is_own old s) (is_unused (entry_at old s)) refl refl)) ((set_stays line c s k local).state)
+  pub set_turns : ((n : ℕ) → entry_at new n ≡ (if (is_own old s && is_unused (entry_at old s)) && (n == s) then Open else entry_at old n))
+      → ((n : ℕ) → wish_at new n ≡ (if is_own old s && (n == s) then false else wish_at old n))
+      → (own unused : Bool) → is_own old s ≡ own → is_unused (entry_at old s) ≡ unused → replied left None [] ((if own then Done s else NotHome s) ∷ []) ≡ step.set line c s k
+  unfolding stands_for
+  set_turns entry wish true true own unused =
+      let entries : (n : ℕ) → entry_at new n ≡ put (entry_at old) s Open n = λ n. rw (own, unused) at (entry n) in
+      let wishes : (n : ℕ) → wish_at new n ≡ put (wish_at old) s false n = λ n. rw own at (wish n) in
+      (λ i. replied (record k { book = λ n. entries n i; wish = λ n. wishes n i }) None [] (Done s ∷ []))
+      ∙ sym (opened_at_once line c s k (sym home ∙ own) unused)
+  set_turns entry wish true false own unused =
+      let entries : (n : ℕ) → entry_at new n ≡ entry_at old n = λ n. rw (own, unused) at (entry n) in
+      let wishes : (n : ℕ) → wish_at new n ≡ put (wish_at old) s false n = λ n. rw own at (wish n) in
+      (λ i. replied (record k { book = λ n. entries n i; wish = λ n. wishes n i }) None [] (Done s ∷ []))
+      ∙ sym (kept_in_use line c s k (sym home ∙ own) unused)
+  set_turns entry wish false unused own used =
+      let entries : (n : ℕ) → entry_at new n ≡ entry_at old n = λ n. rw own at (entry n) in
+      let wishes : (n : ℕ) → wish_at new n ≡ wish_at old n = λ n. rw own at (wish n) in
+      (λ i. replied (record k { book = λ n. entries n i; wish = λ n. wishes n i }) None [] (NotHome s ∷ []))
+      ∙ sym (left_at_set line c s k (sym home ∙ own))
 
   module _ (entry : (n : ℕ) → entry_at new n ≡ (if (is_own old s && is_unused (entry_at old s)) && (n == s) then Shut else entry_at old n))
       (wish : (n : ℕ) → wish_at new n ≡ (if is_own old s && (n == s) then not (is_unused (entry_at old s)) else wish_at old n)) where
-    pub unset_turns : (own : Bool) → is_own old s ≡ own → (own ≡ true → is_unused (entry_at old s) ≡ true) → replied left [] ((if own then Done s else NotHome s) ∷ []) ≡ step.unset line c s k
+    pub unset_turns : (own : Bool) → is_own old s ≡ own → (own ≡ true → is_unused (entry_at old s) ≡ true) → replied left None [] ((if own then Done s else NotHome s) ∷ []) ≡ step.unset line c s k
     unfolding stands_for
     unset_turns true own never =
         let unused : is_unused (entry_at old s) ≡ true = never refl in
         let entries : (n : ℕ) → entry_at new n ≡ put (entry_at old) s Shut n = λ n. rw (own, unused) at (entry n) in
         let wishes : (n : ℕ) → wish_at new n ≡ put (wish_at old) s false n = λ n. rw (own, unused) at (wish n) in
-        (λ i. replied (record k { book = λ n. entries n i; wish = λ n. wishes n i }) [] (Done s ∷ []))
+        (λ i. replied (record k { book = λ n. entries n i; wish = λ n. wishes n i }) None [] (Done s ∷ []))
         ∙ sym (shut_at_once line c s k (sym home ∙ own) unused)
     unset_turns false own never =
         let entries : (n : ℕ) → entry_at new n ≡ entry_at old n = λ n. rw own at (entry n) in
         let wishes : (n : ℕ) → wish_at new n ≡ wish_at old n = λ n. rw own at (wish n) in
-        (λ i. replied (record k { book = λ n. entries n i; wish = λ n. wishes n i }) [] (NotHome s ∷ []))
+        (λ i. replied (record k { book = λ n. entries n i; wish = λ n. wishes n i }) None [] (NotHome s ∷ []))
         ∙ sym (left_at_unset line c s k (sym home ∙ own))
-
-    pub unset_local : (own : Bool) → is_own old s ≡ own → (own ≡ true → is_unused (entry_at old s) ≡ true) → IsLocalAt line c k → IsLocalAt line c left
-    unset_local own is never local = subst (λ (r : Reply). IsLocalAt line c r.state) (sym (unset_turns own is never)) ((unset_stays line c s k local).state)
 
     -- a section that is in use for a train
     module _ (t i : ℕ) (before after : TrainState) (sayings : List Saying) (own : is_own old s ≡ true) (taken : entry_at old s ≡ Taken t)
         (number : train_number line t ≡ Some i) (at : slice_get states i ≡ Some before) (within : i < length states)
-        (session_state : after.session_state ≡ before.session_state) (heard : after.heard ≡ before.heard)
+        (session_state : after.session_state ≡ before.session_state) (heard : after.heard ≡ before.heard) (waiting : after.waiting ≡ before.waiting)
         (asks : (j : centre.Centre) → HasTrain j t before → propose_if_so line t s j ≡ asked t after sayings j) where
       wishing_is : HasTrain (wishing s k) t before
       unfolding stands_for
@@ -95,7 +92,7 @@ module _ (line : Line) (c clock : ℕ) (old new : Pages) (rights : Rights) (stat
           of_trains-set part none line states t i after number within u
           ∙ put_same t (part after) (of_trains part none line states) (sym (part_of_train part none line states t i before number at) ∙ sym same) u
 
-      pub asked_turns : replied (stands_for line c clock new rights (set states i after)) sayings (Asked s ∷ []) ≡ step.unset line c s k
+      pub asked_turns : replied (stands_for line c clock new rights links (set states i after)) None sayings (Asked s ∷ []) ≡ step.unset line c s k
       unfolding stands_for
       asked_turns =
           let used : is_unused (entry_at old s) ≡ false = ap is_unused taken in
@@ -108,30 +105,33 @@ module _ (line : Line) (c clock : ℕ) (old new : Pages) (rights : Rights) (stat
             heard = λ u. same_part (λ p. p.heard) None heard u j;
             said = λ u. of_trains-set (λ p. p.said) 0 line states t i after number within u j;
             mission = λ u. of_trains-set (λ p. p.supervision.mission) None line states t i after number within u j;
-          }) sayings (Asked s ∷ []))
+            wait = λ u. same_part (λ p. p.waiting.wait) None (λ l. (waiting l).wait) u j;
+            has_asked = λ u. same_part (λ p. p.waiting.has_asked) false (λ l. (waiting l).has_asked) u j;
+          }) None sayings (Asked s ∷ []))
           ∙ sym (asked_of_taken line c s t k (asked t after sayings (wishing s k)) (sym home ∙ own) taken (asks (wishing s k) wishing_is))
 
-      pub asked_local : IsLocalAt line c k → IsLocalAt line c (stands_for line c clock new rights (set states i after))
-      asked_local local = subst (λ (r : Reply). IsLocalAt line c r.state) (sym asked_turns) ((unset_stays line c s k local).state)
-
-  -- at a centre that is local, a section in use is so for a train of the line
-  pub user_stands : IsLocalAt line c k → (e : Entry) → entry_at old s ≡ e → is_unused e ≡ false → (t : ℕ) × (e ≡ Taken t)
+  -- at a centre that keeps to its own, a section in use is so for a train
+  pub user_stands : IsOwnAt ToRights line c k → (e : Entry) → entry_at old s ≡ e → is_unused e ≡ false → (t : ℕ) × (e ≡ Taken t)
   unfolding stands_for
-  user_stands local Shut is used = cc
-  user_stands local Open is used = cc
-  user_stands local (Taken t) is used = (t, refl)
-  user_stands local (Out t d) is used =
-      let out : is_out_for t d (Out t d) ≡ false = ap (is_out_for t d) (sym is) ∙ local.not_out s t d in
+  user_stands own Shut is used = cc
+  user_stands own Open is used = cc
+  user_stands own (Taken t) is used = (t, refl)
+  user_stands own (Out t d) is used =
+      let out : is_out_for t d (Out t d) ≡ false = ap (is_out_for t d) (sym is) ∙ own.not_out refl s t d in
       let no = rw (eq-eqb t t refl, eq-eqb d d refl) at out in cc
 
-  pub user_number : IsLocalAt line c k → (t : ℕ) → entry_at old s ≡ Taken t → (o : Option ℕ) → train_number line t ≡ o → o ≡ None → ⊥
+  -- and where the centre is sound, that is one of the line
+  pub user_number : IsCentreSound line c k → (t : ℕ) → entry_at old s ≡ Taken t → train_number line t ≡ None → ⊥
   unfolding stands_for
-  user_number local t taken (Some i) number none = cc
-  user_number local t taken None number none =
-      let here : is_taken_for t (Taken t) ≡ true = eq-eqb t t refl in
-      let no : true ≡ false =
-      sym here ∙ ap (is_taken_for t) (sym taken) ∙ local.taken s t ∙ ap (λ o. hand_has o s) (sym (part_of_foreign (λ p. p.supervision.mission) None line states t number))
-      in cc
+  user_number sound t taken foreign = elim (cases_Bool (is_home line c s)) [
+    | inl at_home ↦
+        let here : is_taken_for t (entry_at old s) ≡ true = ap (is_taken_for t) taken ∙ eq-eqb t t refl in
+        let no_wait : wait_has line (k.wait t) s ≡ false = ap (λ o. wait_has line o s) (sym (part_of_foreign (λ p. p.waiting.wait) None line states t foreign)) in
+        let no_hand : hand_has (k.mission t) s ≡ false = ap (λ o. hand_has o s) (sym (part_of_foreign (λ p. p.supervision.mission) None line states t foreign)) in
+        let claims = rw (here, no_wait, no_hand) at (sound.claims s t at_home) in
+        omega (arith, claims)
+    | inr away ↦ let no : Shut ≡ Taken t = sym (sound.foreign s away) ∙ taken in cc
+  ]
 
 -- what a book answers to an unset says whether the section is in use
 pub done_unused : (e : Entry) → Unset.Done ≡ unset_answer e → is_unused e ≡ true
@@ -157,17 +157,17 @@ pub record IsUser (k : CentreCode) (s i : ℕ) (before : TrainState) (t : ℕ) :
   pub engine : before.supervision.engine ≡ t
 
 pub user_of : (k : CentreCode) (s : ℕ) → Unset.Asked ≡ unset_answer (entry_at k.book s) → (t : ℕ) × (entry_at k.book s ≡ Taken t)
-user_of k s asked = user_stands k.line k.number k.clock k.book k.book k.registrar k.trains.items s (k.own_sections s) k.local (entry_at k.book s) refl (asked_used (entry_at k.book s) asked)
+user_of k s asked = user_stands k.line k.number k.clock k.book k.book k.registrar k.links k.trains.items s (k.own_sections s) k.own (entry_at k.book s) refl (asked_used (entry_at k.book s) asked)
 
 pub user_at : (k : CentreCode) (s i : ℕ) (before : TrainState) (asked : Unset.Asked ≡ unset_answer (entry_at k.book s)) → ((t : ℕ) → entry_at k.book s ≡ Taken t → train_number k.line t ≡ Some i)
     → (i < length k.trains.items → slice_get k.trains.items i ≡ Some before) → IsUser k s i before (user_of k s asked).0
 user_at k s i before asked found read =
     let u = user_of k s asked in
     let number = found u.0 u.1 in
-    let within = number_within k.line k.trains.items u.0 i number k.each_train in
-    record { taken = u.1; number = number; within = within; at = read within; engine = k.each_engine u.0 i before number (read within) }
+    let within = number_within k.line k.trains.items u.0 i number k.train_count in
+    record { taken = u.1; number = number; within = within; at = read within; engine = (k.each_train u.0 i before number (read within)).engine }
 
 pub no_user : (k : CentreCode) (s : ℕ) (asked : Unset.Asked ≡ unset_answer (entry_at k.book s)) → ((t : ℕ) → entry_at k.book s ≡ Taken t → train_number k.line t ≡ None) → ⊥
 no_user k s asked none =
     let u = user_of k s asked in
-    user_number k.line k.number k.clock k.book k.book k.registrar k.trains.items s (k.own_sections s) k.local u.0 u.1 (train_number k.line u.0) refl (none u.0 u.1)
+    user_number k.line k.number k.clock k.book k.book k.registrar k.links k.trains.items s (k.own_sections s) k.sound u.0 u.1 (none u.0 u.1)

@@ -1,24 +1,32 @@
 -- The step's definition, seen from the code.
-use Rattle.std.specs.Prelude.{◌≡◌, Result, Ok, Err, IsOk}
+use Rattle.std.specs.Prelude.{◌≡◌, ◌⊎◌, true, Option, Some, Result, Ok, Err, IsOk}
 use Rattle.rbc_spec.specs.Message.{InitiationOfSession}
 use Rattle.rbc_spec.specs.Step as step
+use Rattle.rbc_rules.specs.Letters.{tells_others}
 use Rattle.rbc_centre.specs.declared.fault.StepFault.{StepFault}
 use Rattle.rbc_centre.specs.declared.fault.StepFault.TheVariants.{Memory, LinkFull, ClockEnd}
 
--- but for want of memory, where the definition does not refuse the step, the fault is the refusal that it gives; no link can be full yet
+-- but for want of memory, where the definition does not refuse the step, the fault is the refusal that it gives
 abbrev pub IsRefusal : {Y : Type 0} → StepFault → Result Y step.Refusal → Type 0
 IsRefusal Memory r = IsOk r
-IsRefusal LinkFull r = ⊥
+IsRefusal LinkFull r = r ≡ Err step.LinkFull
 IsRefusal ClockEnd r = r ≡ Err step.ClockEnd
+
+-- the fault is this refusal, and never that memory ran out
+abbrev pub IsRefusalOf : StepFault → Option step.Refusal → Type 0
+IsRefusalOf Memory r = ⊥
+IsRefusalOf LinkFull r = r ≡ Some step.LinkFull
+IsRefusalOf ClockEnd r = r ≡ Some step.ClockEnd
 
 -- what a step returned, seen by view, is what the definition gives
 abbrev pub Steps : {X Y : Type 0} → (X → Y) → Result X StepFault → Result Y step.Refusal → Type 0
 Steps view (Ok x) r = r ≡ Ok (view x)
 Steps view (Err fault) r = IsRefusal fault r
 
--- memory is wanted only where a train opens a session
+-- memory is wanted only where a train opens a session, and where another centre may have to be told something
 abbrev pub TakesMemory : step.Event → Type 0
-TakesMemory (step.Train m) = m.body ≡ InitiationOfSession
+TakesMemory (step.Train m) = (m.body ≡ InitiationOfSession) ⊎ (tells_others m.body ≡ true)
+TakesMemory (step.Deliver from frame) = Unit {0}
 TakesMemory event = ⊥
 
 abbrev pub IsWantedBy : {X : Type 0} → step.Event → Result X StepFault → Type 0

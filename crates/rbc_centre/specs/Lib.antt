@@ -2,3 +2,5 @@ pub mod Views
 pub mod State
 pub mod States
 pub mod Answer
+pub mod Posts
+pub mod Ranges

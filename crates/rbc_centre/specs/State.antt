@@ -5,7 +5,15 @@ use Rattle.rbc_spec.specs.Line.{Line, train_number}
 use Rattle.rbc_spec.specs.Centre as centre
 use Rattle.rbc_book.specs.Book.{Pages, entry_at, wish_at}
 use Rattle.rbc_right.specs.Rights.{Rights, is_here}
+use Rattle.rbc_session.specs.Sessions.{Records}
 use Rattle.rbc_session.specs.SessionStates.{session_phase}
+use Rattle.rbc_wait.specs.Waits.{IsCovered}
+use Rattle.rbc_link.specs.declared.link.Link.{Link}
+use Rattle.rbc_link.specs.Links.{sent_to, taken_from}
+use Rattle.rbc_link.specs.Outgoing.{frames_by}
+use Rattle.rbc_linkmsg.specs.Bodies.{body_of}
+use Rattle.rbc_linkmsg.specs.declared.body.Body.{Body}
+use Rattle.rbc_rules.specs.SessionStates.{Stands}
 use Rattle.rbc_rules.specs.declared.train.TrainState.{TrainState}
 use Rattle.rbc_rules.specs.Trains.{unknown_state}
 
@@ -21,10 +29,9 @@ of_trains part none line trains t = option_map_or part (state_at line trains t) 
 abbrev pub right_at : Line → Rights → ℕ → Bool
 right_at line rights t = option_map_or (is_here rights) (train_number line t) false
 
--- What a centre's number, clock, pages, rights and states of trains stand for. No start waits at it, it expects no handover, and it has
--- sent and taken no frame
-unfoldable pub stands_for : Line → ℕ → ℕ → Pages → Rights → List TrainState → centre.Centre
-stands_for line number clock pages rights trains = record (centre.beginning line number) {
+-- What a centre's number, clock, pages, rights, links and states of trains stand for. It expects no handover, and has asked for no section
+unfoldable pub stands_for : Line → ℕ → ℕ → Pages → Rights → List (Link Body) → List TrainState → centre.Centre
+stands_for line number clock pages rights links trains = record (centre.beginning line number) {
   clock = clock;
   book = entry_at pages;
   wish = wish_at pages;
@@ -32,8 +39,20 @@ stands_for line number clock pages rights trains = record (centre.beginning line
   heard = of_trains (λ p. p.heard) None line trains;
   said = of_trains (λ p. p.said) 0 line trains;
   mission = of_trains (λ p. p.supervision.mission) None line trains;
+  wait = of_trains (λ p. p.waiting.wait) None line trains;
+  has_asked = of_trains (λ p. p.waiting.has_asked) false line trains;
   has_right = right_at line rights;
+  sent = λ d. frames_by body_of (sent_to links d);
+  taken = taken_from links;
 }
+
+-- what is kept of the train with this NID_ENGINE, at its place in the line file
+pub record IsOfTrain (line : Line) (sessions : Records) (t i : ℕ) (p : TrainState) : Type 0 where
+  pub number : p.supervision.number ≡ i
+  pub engine : p.supervision.engine ≡ t
+  pub waiting : p.waiting.engine ≡ t
+  pub covers : IsCovered line p.waiting
+  pub session : Stands sessions p.session_state t
 
 -- the state is of the train at place i of the line file, which was never heard
 pub record IsUnknown (line : Line) (i : ℕ) (p : TrainState) : Type 0 where

@@ -1,5 +1,6 @@
 -- What the types of a step stand for.
-use Rattle.std.specs.Prelude.{ℕ, List, [], ◌∷◌, ◌++◌, Option, Some, None, Result, Ok, Err, map, option_map}
+use Rattle.std.specs.Prelude.{ℕ, ◌==◌, ◌-◌, slice_get, if◌then◌else◌, List, [], ◌∷◌, ◌++◌, Option, Some, None, map, option_map}
+use Rattle.rbc_spec.specs.Frame.{Frame}
 use Rattle.rbc_spec.specs.Outcome.{Outcome}
 use Rattle.rbc_spec.specs.Outcome as spec
 use Rattle.rbc_spec.specs.Step as step
@@ -8,10 +9,13 @@ use Rattle.rbc_rules.specs.Reasons.{reason_of}
 use Rattle.rbc_rules.specs.Sayings.{saying_of, sayings_of}
 use Rattle.rbc_rules.specs.declared.heard.Heard.{Heard}
 use Rattle.rbc_centre.specs.declared.event.Event.{Event}
-use Rattle.rbc_centre.specs.declared.event.Event.TheVariants.{Train, Set, Unset}
+use Rattle.rbc_centre.specs.declared.event.Event.TheVariants.{Train, Set, Unset, Deliver}
 use Rattle.rbc_centre.specs.declared.fault.StepFault.{StepFault}
 use Rattle.rbc_centre.specs.declared.fault.StepFault.TheVariants as fault
 use Rattle.rbc_rules.specs.declared.reason.Reason.{Reason as ReasonCode}
+use Rattle.rbc_centre.specs.declared.link_answer.LinkAnswer.{LinkAnswer}
+use Rattle.rbc_centre.specs.declared.link_answer.LinkAnswer.TheVariants as link
+use Rattle.rbc_centre.specs.declared.posted.Posted.{Posted}
 use Rattle.rbc_centre.specs.declared.outcome.Word.{Word}
 use Rattle.rbc_centre.specs.declared.outcome.Word.TheVariants as word
 use Rattle.rbc_centre.specs.declared.outcome.Outcome.{Outcome as OutcomeCode}
@@ -20,6 +24,7 @@ abbrev pub event_of : Event → step.Event
 event_of (Train m) = step.Train (step_message m)
 event_of (Set s) = step.Set s
 event_of (Unset s) = step.Unset s
+event_of (Deliver from frame) = step.Deliver from frame
 
 -- what the interlocking is told
 abbrev pub word_of : Word → spec.Word
@@ -33,21 +38,46 @@ abbrev pub words_of : Option Word → List spec.Word
 words_of (Some w) = word_of w ∷ []
 words_of None = []
 
--- no step has frames yet
+-- what a frame that was sent, or none, brings to each centre
+abbrev pub frames_to : Option Posted → ℕ → List Frame
+frames_to None d = []
+frames_to (Some p) d = if d == p.to then p.frame ∷ [] else []
+
+-- the frame of this number, from 1
+abbrev pub frame_number : List Frame → ℕ → Option Frame
+frame_number frames number = if number == 0 then None else slice_get frames (number - 1)
+
+-- what a link said to a frame
+abbrev pub link_of : LinkAnswer → spec.Taken
+link_of link.Next = spec.Next
+link_of link.Old = spec.Old
+link_of link.Early = spec.Early
+link_of link.NoLink = spec.NoLink
+
 abbrev pub outcome_of : OutcomeCode → Outcome
 outcome_of o = record {
   stamp = o.stamp;
   sayings = map saying_of o.sayings.items;
-  frames = λ d. [];
+  frames = frames_to o.frame;
   words = words_of o.word ++ map (λ s. spec.Told s) o.told;
-  link = None;
+  link = option_map link_of o.link;
   silence = option_map reason_of o.silence;
 }
 
--- what is answered by a message that came to this
-abbrev pub outcome_heard : ℕ → Result Heard ReasonCode → Outcome
-outcome_heard stamp (Ok h) = record { stamp = stamp; sayings = sayings_of h.saying; frames = λ d. []; words = map (λ s. spec.Told s) h.told; link = None; silence = None }
-outcome_heard stamp (Err why) = record { stamp = stamp; sayings = []; frames = λ d. []; words = []; link = None; silence = Some (reason_of why) }
+-- what a step answers by a message or a frame that came to this
+abbrev pub outcome_heard : ℕ → Option LinkAnswer → Option Posted → Heard → Outcome
+outcome_heard stamp answer frame h = record {
+  stamp = stamp;
+  sayings = sayings_of h.saying;
+  frames = frames_to frame;
+  words = map (λ s. spec.Told s) h.told;
+  link = option_map link_of answer;
+  silence = None;
+}
+
+-- and by a message that is left without an answer
+abbrev pub outcome_silent : ℕ → ReasonCode → Outcome
+outcome_silent stamp why = record { stamp = stamp; sayings = []; frames = λ d. []; words = []; link = None; silence = Some (reason_of why) }
 
 abbrev pub number_of_fault : StepFault → ℕ
 number_of_fault fault.Memory = 1

@@ -1,21 +1,25 @@
-ghost use Rattle.std.specs.Prelude.{◌≡◌, ◌≤◌, ◌<◌, ℕ, slice_get, true, length, IfOk, IfErr, OnOk, OnErr, IsOk, Some, None, Err, option_map};
-ghost use Rattle.rbc_spec.specs.Line.{is_centre, is_home, train_number};
+ghost use Rattle.std.specs.Prelude.{◌≡◌, ◌≤◌, ◌<◌, ◌+◌, ℕ, slice_get, true, false, length, nat_lt, if◌then◌else◌, All, IfOk, IfErr, OnOk, OnErr, Some, None, option_map};
+ghost use Rattle.rbc_spec.specs.Line.{IsLine, is_centre, is_home, is_linked, train_number};
+ghost use Rattle.rbc_spec.specs.Frame.{HasFrameRanges};
 ghost use Rattle.rbc_spec.specs.Centre.{beginning};
 ghost use Rattle.rbc_spec.specs.Step as spec;
+ghost use Rattle.rbc_spec.specs.Step.{refusal, has_full_link};
 ghost use Rattle.rbc_spec.specs.Reach as reach;
-ghost use Rattle.rbc_local.specs.Local.{IsOrdered, IsLocalAt};
+ghost use Rattle.rbc_flow.specs.Sound.{IsCentreSound};
+ghost use Rattle.rbc_own.specs.Own.{IsOwnAt};
 ghost use Rattle.rbc_book.specs.Book.{is_own};
 ghost use Rattle.rbc_book.specs.Entries.{entry_of};
+ghost use Rattle.rbc_link.specs.Links.{has_link, sent_to};
+ghost use Rattle.rbc_link.specs.Outgoing.{frames_by};
+ghost use Rattle.rbc_linkmsg.specs.Bodies.{body_of};
+ghost use Rattle.rbc_place.specs.Places.{place_of};
 ghost use Rattle.rbc_rules.specs.Desks.{mission_by};
 ghost use Rattle.rbc_msgs.specs.StepMessage.{step_message};
 ghost use Rattle.rbc_session.specs.SessionStates.{phase_of};
-ghost use Rattle.rbc_centre.specs.Answer.{Steps, IsWantedBy};
-ghost use Rattle.rbc_rules.specs.SessionStates.{Stands};
-ghost use Rattle.rbc_centre.specs.State.{stands_for, IsUnknown};
-ghost use Rattle.rbc_centre.specs.Views.{event_of, outcome_of};
+ghost use Rattle.rbc_centre.specs.Answer.{Steps, IsWantedBy, IsRefusalOf};
+ghost use Rattle.rbc_centre.specs.State.{stands_for, IsOfTrain, IsUnknown};
+ghost use Rattle.rbc_centre.specs.Views.{event_of, outcome_of, frame_number};
 ghost use Rattle.rbc_rules.specs.declared.train.TrainState.{TrainState};
-ghost use Rattle.rbc_centre.specs.declared.event.Event.{Event as EventInMemory};
-ghost use Rattle.rbc_centre.specs.declared.fault.StepFault.TheVariants.{ClockEnd};
 
 use crate::event::Event;
 use crate::fault::StepFault;
@@ -23,11 +27,14 @@ use crate::outcome::Outcome;
 use rbc_book::{Book, Page};
 use rbc_hand::SectionRun;
 use rbc_line::Line;
+use rbc_link::Links;
+use rbc_linkmsg::{Body, Frame};
 use rbc_msgs::TrainMsg;
 use rbc_right::Registrar;
 use rbc_rules::{TrainPage, TrainState};
 use rbc_session::{Phase, Sessions};
 use std::alloc::{AllocError, Global};
+use std::cmp::max;
 
 /// The greatest stamp of a step.
 pub const LAST_STAMP: u32 = 1_073_741_823;
@@ -39,6 +46,7 @@ const UNKNOWN: TrainPage = TrainPage {
     said: 0,
     mission: None,
     hand: SectionRun { first: 0, count: 0 },
+    waiting: None,
 };
 
 /// A radio block centre.
@@ -53,18 +61,23 @@ pub struct Centre {
     pub(crate) registrar: Registrar,
     /// The communication sessions with its trains.
     pub(crate) sessions: Sessions,
+    /// What came from the other centres, and what was sent to them.
+    pub(crate) links: Links<Body>,
     /// What is kept of each train, in the order of the line file.
     pub(crate) trains: Vec<TrainState>,
-    ghost ordered: { IsOrdered line },
+    ghost line_rules: { ∥ IsLine line ∥₁ },
+    ghost of_line: { is_centre line number ≡ true },
     ghost in_time: { clock ≤ 1073741823 },
     ghost own_sections: { (s : ℕ) → is_own book s ≡ is_home line number s },
-    ghost local: { IsLocalAt line number (stands_for line number clock book registrar trains.items) },
     ghost each_right: { length registrar ≡ length line.trains },
-    ghost each_train: { length trains.items ≡ length line.trains },
-    ghost each_number: { (t i : ℕ) → (p : TrainState) → train_number line t ≡ Some i → slice_get trains.items i ≡ Some p → p.supervision.number ≡ i },
-    ghost each_engine: { (t i : ℕ) → (p : TrainState) → train_number line t ≡ Some i → slice_get trains.items i ≡ Some p → p.supervision.engine ≡ t },
-    ghost each_stands: { (t i : ℕ) → (p : TrainState) → train_number line t ≡ Some i → slice_get trains.items i ≡ Some p → Stands sessions p.session_state t },
+    ghost link_count: { length links ≡ length line.centres },
+    ghost each_link: { (d : ℕ) → has_link links d ≡ is_linked line number d },
+    ghost each_frame: { ∥ ((d : ℕ) → All HasFrameRanges (frames_by body_of (sent_to links d))) ∥₁ },
+    ghost train_count: { length trains.items ≡ length line.trains },
+    ghost each_train: { (t i : ℕ) → (p : TrainState) → train_number line t ≡ Some i → slice_get trains.items i ≡ Some p → IsOfTrain line sessions t i p },
     ghost counted: { (i : ℕ) → (p : TrainState) → slice_get trains.items i ≡ Some p → p.said ≤ clock },
+    ghost sound: { IsCentreSound line number (stands_for line number clock book registrar links trains.items) },
+    ghost own: { IsOwnAt reach.Rights line number (stands_for line number clock book registrar links trains.items) },
 }
 
 impl Drop for Centre {
@@ -75,11 +88,12 @@ impl Drop for Centre {
             number: _,
             clock: _,
             mut book,
-            mut registrar,
+            registrar: _,
             mut sessions,
+            links: _,
             trains,
         } = self;
-        end_trains(trains, &mut sessions, &mut book, &mut registrar);
+        end_trains(trains, &mut sessions, &mut book);
     }
 }
 
@@ -95,9 +109,10 @@ impl Centre {
     {
         let line = line.copied(alloc)?;
         let mut book = Book::new(alloc, &line, number)?;
-        let mut registrar = Registrar::new(alloc, &line, number)?;
+        let registrar = Registrar::new(alloc, &line, number)?;
         let mut sessions = Sessions::new(alloc);
-        let trains = unknown_trains(alloc, &line, &mut sessions, &mut book, &mut registrar)?;
+        let links = Links::new(alloc, &line, number)?;
+        let trains = unknown_trains(alloc, &line, &mut sessions, &mut book)?;
         Ok(Centre {
             line,
             number,
@@ -105,6 +120,7 @@ impl Centre {
             book,
             registrar,
             sessions,
+            links,
             trains,
         })
     }
@@ -130,6 +146,7 @@ impl Centre {
         ensures heard { result.heard ≡ (state_of self.now).heard nid_engine }
         ensures said { result.said ≡ (state_of self.now).said nid_engine }
         ensures mission { mission_by result.mission result.hand ≡ (state_of self.now).mission nid_engine }
+        ensures waiting { option_map place_of result.waiting ≡ (state_of self.now).wait nid_engine }
     {
         match self.line.train_number(nid_engine) {
             Some(i) => self.trains[i as usize].page(),
@@ -137,35 +154,57 @@ impl Centre {
         }
     }
 
-    /// Says whether a further step has a stamp: it is refused as `ClockEnd` where the last stamp is used.
-    pub fn may_step(&self) -> Result<(), StepFault>
-        ensures ok { OnOk result ((event : EventInMemory) → IsOk (spec.step reach.Local (line_of self.now) (number_of self.now) (event_of event) (state_of self.now))) }
-        ensures err { IfErr result (λ fault. (fault ≡ ClockEnd) × ((event : EventInMemory)
-            → spec.step reach.Local (line_of self.now) (number_of self.now) (event_of event) (state_of self.now) ≡ Err spec.ClockEnd)) }
+    /// The frame of this number that was sent to a centre. None exactly for 0 and for a number that was not sent yet.
+    pub fn frame(&self, to: u8, number: u32) -> Option<Frame>
+        ensures { result ≡ frame_number ((state_of self.now).sent to) number }
     {
-        if self.clock < LAST_STAMP {
-            return Ok(());
-        }
-        Err(StepFault::ClockEnd)
+        let sent = self.links.get(to, number)?;
+        Some(Frame::new(sent.number, sent.stamp, sent.body))
     }
 
-    /// Takes an event, and answers it. It is refused where the stamp would pass the last one, or for want of memory, which only
-    /// the opening of a session takes; then nothing changes.
+    /// Says whether an event may be taken: it is refused as `ClockEnd` where its stamp would pass the last one, and else as `LinkFull`
+    /// where a link has fewer than four numbers left.
+    pub fn may_step(&self, event: &Event) -> Result<(), StepFault>
+        ensures ok { OnOk result (refusal (line_of self.now) (number_of self.now) (state_of self.now) (event_of event.now) ≡ None) }
+        ensures err { IfErr result (λ fault. IsRefusalOf fault (refusal (line_of self.now) (number_of self.now) (state_of self.now) (event_of event.now))) }
+    {
+        match event {
+            Event::Train(_) | Event::Set(_) | Event::Unset(_) => self.may_take(self.clock),
+            Event::Deliver { frame, .. } => self.may_take(max(self.clock, frame.stamp())),
+        }
+    }
+
+    // Whether a step may be taken whose stamp is above this.
+    fn may_take(&self, stamp: u32) -> Result<(), StepFault>
+        ensures ok { OnOk result ((stamp < 1073741823) × (has_full_link (line_of self.now) (number_of self.now) (state_of self.now) ≡ false)) }
+        ensures err { IfErr result (λ fault. IsRefusalOf fault (if nat_lt 1073741823 (stamp + 1) then Some spec.ClockEnd
+            else (if has_full_link (line_of self.now) (number_of self.now) (state_of self.now) then Some spec.LinkFull else None))) }
+    {
+        if stamp >= LAST_STAMP {
+            return Err(StepFault::ClockEnd);
+        }
+        if self.links.is_full() {
+            return Err(StepFault::LinkFull);
+        }
+        Ok(())
+    }
+
+    /// Takes an event, and answers it. It is refused where the stamp would pass the last one or a link is nearly full, or for want of
+    /// memory, which only the opening of a session and the sending of a frame take; then nothing changes.
     pub fn step(&mut self, event: &Event) -> Result<Outcome, StepFault>
         ensures line { line_of self.new ≡ line_of self.old }
         ensures number { number_of self.new ≡ number_of self.old }
         ensures exact { Steps (λ o. (outcome_of o, state_of self.new)) result
-            (spec.step reach.Local (line_of self.old) (number_of self.old) (event_of event.now) (state_of self.old)) }
+            (spec.step reach.Rights (line_of self.old) (number_of self.old) (event_of event.now) (state_of self.old)) }
         ensures memory { IsWantedBy (event_of event.now) result }
         ensures err { OnErr result (state_of self.new ≡ state_of self.old) }
     {
-        if self.clock >= LAST_STAMP {
-            return Err(StepFault::ClockEnd);
-        }
+        self.may_step(event)?;
         match event {
-            Event::Train(message) => self.take(message),
+            Event::Train(message) => Ok(self.take(message)?),
             Event::Set(s) => Ok(self.set(*s)),
             Event::Unset(s) => Ok(self.unset(*s)),
+            Event::Deliver { from, frame } => Ok(self.deliver(*from, frame)?),
         }
     }
 
@@ -174,15 +213,12 @@ impl Centre {
         ensures line { line_of self.new ≡ line_of self.old }
         ensures number { number_of self.new ≡ number_of self.old }
         ensures exact { Steps (λ o. (outcome_of o, state_of self.new)) result
-            (spec.step reach.Local (line_of self.old) (number_of self.old) (spec.Train (step_message message.now)) (state_of self.old)) }
+            (spec.step reach.Rights (line_of self.old) (number_of self.old) (spec.Train (step_message message.now)) (state_of self.old)) }
         ensures memory { IsWantedBy (spec.Train (step_message message.now)) result }
         ensures err { OnErr result (state_of self.new ≡ state_of self.old) }
     {
-        if self.clock < LAST_STAMP {
-            self.take(message)
-        } else {
-            Err(StepFault::ClockEnd)
-        }
+        self.may_take(self.clock)?;
+        Ok(self.take(message)?)
     }
 }
 
@@ -192,21 +228,19 @@ fn unknown_trains(
     line: &Line,
     sessions: &mut Sessions,
     book: &mut Book,
-    registrar: &mut Registrar,
 ) -> Result<Vec<TrainState>, AllocError>
     ensures count { IfOk result (λ trains. length trains.items ≡ length line.now.trains) }
     ensures each { IfOk result (λ trains. (i : ℕ) → (p : TrainState) → slice_get trains.items i ≡ Some p → IsUnknown line.now i p) }
     ensures sessions { IfOk result (λ trains. sessions.new ≡ sessions.old) }
     ensures book { IfOk result (λ trains. book.new ≡ book.old) }
-    ensures registrar { IfOk result (λ trains. registrar.new ≡ registrar.old) }
 {
     let count = line.train_count();
     let mut trains = Vec::with_capacity(alloc, count as usize)?;
     for i in 0..count {
-        match TrainState::unknown(alloc, i, engine_of(line, i)) {
+        match TrainState::unknown(alloc, i, engine_of(line, i), book) {
             Ok(train) => trains.push_reserved(train),
             Err(error) => {
-                end_trains(trains, sessions, book, registrar);
+                end_trains(trains, sessions, book);
                 return Err(error);
             }
         }
@@ -226,14 +260,9 @@ fn engine_of(line: &Line, i: u8) -> u32
 }
 
 // Ends each train with its centre.
-fn end_trains(
-    mut trains: Vec<TrainState>,
-    sessions: &mut Sessions,
-    book: &mut Book,
-    registrar: &mut Registrar,
-) {
+fn end_trains(mut trains: Vec<TrainState>, sessions: &mut Sessions, book: &mut Book) {
     while let Some(train) = trains.pop() {
-        train.end(sessions, book, registrar);
+        train.end(sessions, book);
     }
     trains.destroy_empty();
 }

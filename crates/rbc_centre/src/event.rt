@@ -1,3 +1,4 @@
+use rbc_linkmsg::Frame;
 use rbc_msgs::TrainMsg;
 
 /// What a step of a centre takes.
@@ -9,4 +10,6 @@ pub enum Event {
     Set(u16),
     /// The interlocking takes a section back.
     Unset(u16),
+    /// A frame of another centre, by its number.
+    Deliver { from: u8, frame: Frame },
 }

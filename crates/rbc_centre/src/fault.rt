@@ -8,7 +8,7 @@ use std::alloc::{AllocError, AllocFailed};
 pub enum StepFault {
     /// Memory ran out.
     Memory = 1,
-    /// A link to another centre has too few numbers left. No step sends a frame yet, so it does not come.
+    /// A link to another centre has fewer than four of its 65 536 numbers left.
     LinkFull = 2,
     /// The stamp of the step would pass the last one.
     ClockEnd = 3,

@@ -1,34 +1,37 @@
 //! The step of a train's message: room is made, and then the train takes it.
 
-ghost use Rattle.std.specs.Prelude.{◌≡◌, ◌+◌, ◌<◌, OnOk, OnErr, false, Ok, Some};
+ghost use Rattle.std.specs.Prelude.{◌≡◌, ◌<◌, IfOk, OnOk, OnErr, true, false, Some};
 ghost use Rattle.rbc_spec.specs.Line.{train_number};
 ghost use Rattle.rbc_spec.specs.Message.{is_stale};
 ghost use Rattle.rbc_spec.specs.Step as spec;
+ghost use Rattle.rbc_spec.specs.Step.{has_full_link};
 ghost use Rattle.rbc_spec.specs.Reach as reach;
 ghost use Rattle.rbc_msgs.specs.StepMessage.{step_message};
 ghost use Rattle.rbc_msgs.specs.declared.train_body.TrainBody.TheVariants.{InitiationOfSession};
-ghost use Rattle.rbc_session.specs.Sessions.{HasRoom};
-ghost use Rattle.rbc_rules.specs.Desk.{effect_left};
-ghost use Rattle.rbc_centre.specs.Answer.{Steps, IsWantedBy};
+ghost use Rattle.rbc_session.specs.Sessions as sessions;
+ghost use Rattle.rbc_link.specs.Links as links;
+ghost use Rattle.rbc_rules.specs.Letters.{tells_others};
+ghost use Rattle.rbc_centre.specs.Answer.{TakesMemory};
 ghost use Rattle.rbc_centre.specs.States.{line_of, number_of, state_of, IsSame};
 ghost use Rattle.rbc_centre.specs.Views.{outcome_of};
 
 use crate::centre::Centre;
-use crate::fault::StepFault;
 use crate::outcome::Outcome;
+use crate::posted::post;
 use rbc_msgs::{TrainBody, TrainMsg};
-use rbc_rules::{Heard, Reason};
+use rbc_rules::{Reason, tells_others};
 use std::alloc::AllocError;
 
 impl Centre {
-    /// The step of a train's message, at a centre that is not at its last stamp. Room for a session is made first.
-    pub(crate) fn take(&mut self, message: &TrainMsg) -> Result<Outcome, StepFault>
-        requires { self.old.clock < 1073741823 }
+    /// The step of a train's message, at a centre that refuses none. Room for a session and a frame is made first.
+    pub(crate) fn take(&mut self, message: &TrainMsg) -> Result<Outcome, AllocError>
+        requires time { self.old.clock < 1073741823 }
+        requires numbers { has_full_link (line_of self.old) (number_of self.old) (state_of self.old) ≡ false }
         ensures line { line_of self.new ≡ line_of self.old }
         ensures number { number_of self.new ≡ number_of self.old }
-        ensures exact { Steps (λ o. (outcome_of o, state_of self.new)) result
-            (Ok (spec.taken reach.Local (line_of self.old) (number_of self.old) (spec.Train (step_message message.now)) (state_of self.old))) }
-        ensures memory { IsWantedBy (spec.Train (step_message message.now)) result }
+        ensures exact { IfOk result (λ o. (outcome_of o, state_of self.new)
+            ≡ spec.taken reach.Rights (line_of self.old) (number_of self.old) (spec.Train (step_message message.now)) (state_of self.old)) }
+        ensures memory { OnErr result (TakesMemory (spec.Train (step_message message.now))) }
         ensures err { OnErr result (state_of self.new ≡ state_of self.old) }
     {
         let Some(i) = self.line.train_number(message.nid_engine()) else {
@@ -36,17 +39,22 @@ impl Centre {
             return Ok(Outcome::silent(self.clock, Reason::ForeignEngine));
         };
         self.make_room(i as usize, message)?;
-        let heard = self.hear_train(i as usize, message);
-        Ok(Outcome::of(self.clock, heard))
+        Ok(self.hear_train(i as usize, message))
     }
 
-    // Room for the session that the message of train number i of the line opens. Nothing else changes.
+    // Room for a frame, and for the session that the message of train number i of the line opens. Nothing else changes.
     fn make_room(&mut self, i: usize, message: &TrainMsg) -> Result<(), AllocError>
         requires number { train_number (line_of self.old) message.now.nid_engine ≡ Some i }
         ensures same { IsSame self.old self.new }
-        ensures room { OnOk result (message.now.body ≡ InitiationOfSession → is_stale message.now.t_train ((state_of self.new).heard message.now.nid_engine) ≡ false → HasRoom self.new.sessions) }
-        ensures err { OnErr result (message.now.body ≡ InitiationOfSession) }
+        ensures frames { OnOk result (tells_others (step_message message.now).body ≡ true → links.HasRoom self.new.links 1) }
+        ensures session { OnOk result (message.now.body ≡ InitiationOfSession → is_stale message.now.t_train ((state_of self.new).heard message.now.nid_engine) ≡ false
+            → sessions.HasRoom self.new.sessions) }
+        ensures memory { OnErr result (TakesMemory (spec.Train (step_message message.now))) }
     {
+        if tells_others(message.body()) {
+            self.links.reserve(1)?;
+            return Ok(());
+        }
         let TrainBody::InitiationOfSession = message.body() else {
             return Ok(());
         };
@@ -56,25 +64,34 @@ impl Centre {
         self.sessions.reserve()
     }
 
-    // What a message of train number i of the line comes to.
-    fn hear_train(&mut self, i: usize, message: &TrainMsg) -> Result<Heard, Reason>
+    // The step of a message of train number i of the line.
+    fn hear_train(&mut self, i: usize, message: &TrainMsg) -> Outcome
         requires time { self.old.clock < 1073741823 }
+        requires numbers { has_full_link (line_of self.old) (number_of self.old) (state_of self.old) ≡ false }
         requires number { train_number (line_of self.old) message.now.nid_engine ≡ Some i }
-        requires room { message.now.body ≡ InitiationOfSession → is_stale message.now.t_train ((state_of self.old).heard message.now.nid_engine) ≡ false → HasRoom self.old.sessions }
+        requires frames { tells_others (step_message message.now).body ≡ true → links.HasRoom self.old.links 1 }
+        requires session { message.now.body ≡ InitiationOfSession → is_stale message.now.t_train ((state_of self.old).heard message.now.nid_engine) ≡ false
+            → sessions.HasRoom self.old.sessions }
         ensures line { line_of self.new ≡ line_of self.old }
         ensures number { number_of self.new ≡ number_of self.old }
-        ensures clock { self.new.clock ≡ self.old.clock + 1 }
-        ensures exact { spec.effect reach.Local (line_of self.old) (number_of self.old) (spec.ticked (self.old.clock + 1) (state_of self.old)) (spec.Train (step_message message.now))
-            ≡ effect_left (state_of self.new) result }
+        ensures exact { (outcome_of result, state_of self.new)
+            ≡ spec.taken reach.Rights (line_of self.old) (number_of self.old) (spec.Train (step_message message.now)) (state_of self.old) }
     {
         self.clock += 1;
-        self.trains[i].take(
+        let heard = self.trains[i].take(
             &self.line,
             self.number,
             &mut self.book,
             &mut self.registrar,
             &mut self.sessions,
             message,
-        )
+        );
+        match heard {
+            Ok(heard) => {
+                let frame = post(&mut self.links, self.clock, heard.letter);
+                Outcome::heard(self.clock, None, frame, heard)
+            }
+            Err(why) => Outcome::silent(self.clock, why),
+        }
     }
 }

@@ -20,7 +20,7 @@ impl Centre {
         ensures line { line_of self.new ≡ line_of self.old }
         ensures number { number_of self.new ≡ number_of self.old }
         ensures exact { (outcome_of result, state_of self.new)
-            ≡ step.taken reach.Local (line_of self.old) (number_of self.old) (step.Set s) (state_of self.old) }
+            ≡ step.taken reach.Rights (line_of self.old) (number_of self.old) (step.Set s) (state_of self.old) }
     {
         self.clock += 1;
         match self.book.set(s) {
@@ -35,7 +35,7 @@ impl Centre {
         ensures line { line_of self.new ≡ line_of self.old }
         ensures number { number_of self.new ≡ number_of self.old }
         ensures exact { (outcome_of result, state_of self.new)
-            ≡ step.taken reach.Local (line_of self.old) (number_of self.old) (step.Unset s) (state_of self.old) }
+            ≡ step.taken reach.Rights (line_of self.old) (number_of self.old) (step.Unset s) (state_of self.old) }
     {
         let user = self.user_of(s);
         self.clock += 1;

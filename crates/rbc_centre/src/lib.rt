@@ -3,18 +3,24 @@
 #![tactic(auto)]
 
 mod centre;
+mod delivering;
 mod event;
 mod fault;
 mod hearing;
 mod interlocking;
+mod link_answer;
 mod outcome;
+mod posted;
 mod same;
 
 pub use centre::{Centre, LAST_STAMP};
 pub use event::Event;
 pub use fault::StepFault;
+pub use link_answer::LinkAnswer;
 pub use outcome::{Outcome, Word};
+pub use posted::Posted;
 pub use rbc_hand::SectionRun;
+pub use rbc_linkmsg::{Body, Frame};
 pub use rbc_mission::{MissionFacts, Told};
-pub use rbc_rules::{Reason, Saying, TrainPage};
+pub use rbc_rules::{Letter, Reason, Saying, TrainPage};
 pub use rbc_session::Phase;

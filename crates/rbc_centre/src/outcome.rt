@@ -1,8 +1,9 @@
-ghost use Rattle.std.specs.Prelude.{◌≡◌, [], ◌∷◌, Some, None, map};
-ghost use Rattle.rbc_spec.specs.Outcome as spec;
+ghost use Rattle.std.specs.Prelude.{◌≡◌, [], ◌∷◌, None, map};
 ghost use Rattle.rbc_rules.specs.Sayings.{saying_of, sayings_of};
 ghost use Rattle.rbc_centre.specs.Views.{word_of};
 
+use crate::link_answer::LinkAnswer;
+use crate::posted::Posted;
 use arrayvec::ArrayVec;
 use rbc_mission::Told;
 use rbc_rules::{Heard, Reason, Saying};
@@ -34,50 +35,52 @@ pub struct Outcome {
     pub stamp: u32,
     /// The messages to trains, in order.
     pub sayings: ArrayVec<Saying, 2>,
+    /// The frame to another centre.
+    pub frame: Option<Posted>,
     /// What the interlocking is answered.
     pub word: Option<Word>,
     /// The sections that were wished back and are shut now, of which the interlocking is told behind that.
     pub told: Told,
+    /// What the link said to a frame that was delivered.
+    pub link: Option<LinkAnswer>,
     /// Why a train's message was left without an answer.
     pub silence: Option<Reason>,
 }
 
 impl Outcome {
-    ghost use Rattle.rbc_centre.specs.Views.{outcome_of, outcome_heard};
-    ghost use Rattle.rbc_rules.specs.Reasons.{reason_of};
-
-    /// The step of a train's message that came to this.
-    pub(crate) fn of(stamp: u32, heard: Result<Heard, Reason>) -> Outcome
-        ensures { outcome_of result ≡ outcome_heard stamp heard }
-    {
-        match heard {
-            Ok(Heard { saying, told }) => Outcome::said(stamp, saying, told),
-            Err(why) => Outcome::silent(stamp, why),
-        }
-    }
+    ghost use Rattle.rbc_centre.specs.Views.{outcome_of, outcome_heard, outcome_silent};
 
     /// A step that does not answer.
     pub(crate) fn silent(stamp: u32, why: Reason) -> Outcome
-        ensures { outcome_of result ≡ record { stamp = stamp; sayings = []; frames = λ d. []; words = []; link = None; silence = Some (reason_of why) } }
+        ensures { outcome_of result ≡ outcome_silent stamp why }
     {
         Outcome {
             stamp,
             sayings: ArrayVec::new(),
+            frame: None,
             word: None,
             told: Told::nothing(),
+            link: None,
             silence: Some(why),
         }
     }
 
-    /// A step that answers a train with one message or none, and tells the interlocking of these sections that they are shut.
-    pub(crate) fn said(stamp: u32, saying: Option<Saying>, told: Told) -> Outcome
-        ensures { outcome_of result ≡ record { stamp = stamp; sayings = sayings_of saying; frames = λ d. []; words = map (λ s. spec.Told s) told; link = None; silence = None } }
+    /// A step whose message or frame came to this, of which this frame was sent. The link has said this to a frame.
+    pub(crate) fn heard(
+        stamp: u32,
+        link: Option<LinkAnswer>,
+        frame: Option<Posted>,
+        heard: Heard,
+    ) -> Outcome
+        ensures { outcome_of result ≡ outcome_heard stamp link frame heard }
     {
         Outcome {
             stamp,
-            sayings: one_or_none(saying),
+            sayings: one_or_none(heard.saying),
+            frame,
             word: None,
-            told,
+            told: heard.told,
+            link,
             silence: None,
         }
     }
@@ -89,8 +92,10 @@ impl Outcome {
         Outcome {
             stamp,
             sayings: one_or_none(saying),
+            frame: None,
             word: Some(word),
             told: Told::nothing(),
+            link: None,
             silence: None,
         }
     }

@@ -1,11 +1,14 @@
-ghost use Rattle.std.specs.Prelude.{◌≡◌, ◌↔◌, map, IsTrue, IfOk};
+ghost use Rattle.std.specs.Prelude.{◌≡◌, ◌↔◌, map, option_map, IsTrue, IfOk};
+ghost use Rattle.rbc_rules.specs.Reasons.{reason_of};
 ghost use Rattle.rbc_rules.specs.Sayings.{saying_of};
-ghost use Rattle.rbc_centre.specs.Views.{word_of, outcome_of};
+ghost use Rattle.rbc_centre.specs.Views.{word_of, link_of, frames_to, outcome_of};
 
 use crate::event::Event;
+use crate::link_answer::LinkAnswer;
 use crate::outcome::{Outcome, Word};
+use crate::posted::Posted;
 use arrayvec::ArrayVec;
-use rbc_rules::Saying;
+use rbc_rules::{Reason, Saying};
 use std::alloc::{AllocError, Global};
 
 impl Event {
@@ -16,15 +19,22 @@ impl Event {
         match self {
             Event::Train(message) => match other {
                 Event::Train(another) => message.is_same(another),
-                Event::Set(_) | Event::Unset(_) => false,
+                Event::Set(_) | Event::Unset(_) | Event::Deliver { .. } => false,
             },
             Event::Set(s) => match other {
                 Event::Set(another) => s == another,
-                Event::Train(_) | Event::Unset(_) => false,
+                Event::Train(_) | Event::Unset(_) | Event::Deliver { .. } => false,
             },
             Event::Unset(s) => match other {
                 Event::Unset(another) => s == another,
-                Event::Train(_) | Event::Set(_) => false,
+                Event::Train(_) | Event::Set(_) | Event::Deliver { .. } => false,
+            },
+            Event::Deliver { from, frame } => match other {
+                Event::Deliver {
+                    from: another,
+                    frame: other_frame,
+                } => from == another && frame == other_frame,
+                Event::Train(_) | Event::Set(_) | Event::Unset(_) => false,
             },
         }
     }
@@ -37,6 +47,10 @@ impl Event {
             Event::Train(message) => Ok(Event::Train(message.copied(alloc)?)),
             Event::Set(s) => Ok(Event::Set(*s)),
             Event::Unset(s) => Ok(Event::Unset(*s)),
+            Event::Deliver { from, frame } => Ok(Event::Deliver {
+                from: *from,
+                frame: *frame,
+            }),
         }
     }
 }
@@ -55,6 +69,27 @@ fn same_words(words: &[Word], others: &[Word]) -> bool
     words == others
 }
 
+// Whether the same frame was sent to the same centre.
+fn same_frame(frame: Option<Posted>, other: Option<Posted>) -> bool
+    ensures { IsTrue result ↔ (frames_to frame ≡ frames_to other) }
+{
+    frame == other
+}
+
+// Whether the link has said the same.
+fn same_link(link: Option<LinkAnswer>, other: Option<LinkAnswer>) -> bool
+    ensures { IsTrue result ↔ (option_map link_of link ≡ option_map link_of other) }
+{
+    link == other
+}
+
+// Whether the same reason is given for silence.
+fn same_silence(silence: Option<Reason>, other: Option<Reason>) -> bool
+    ensures { IsTrue result ↔ (option_map reason_of silence ≡ option_map reason_of other) }
+{
+    silence == other
+}
+
 impl Outcome {
     /// Whether another outcome says the same.
     pub fn is_same(&self, other: &Outcome) -> bool
@@ -62,8 +97,10 @@ impl Outcome {
     {
         self.stamp == other.stamp
             && same_sayings(self.sayings.as_slice(), other.sayings.as_slice())
+            && same_frame(self.frame, other.frame)
             && same_words(self.words().as_slice(), other.words().as_slice())
-            && self.silence == other.silence
+            && same_link(self.link, other.link)
+            && same_silence(self.silence, other.silence)
     }
 
     /// Another outcome that says the same.
@@ -77,8 +114,10 @@ impl Outcome {
         Outcome {
             stamp: self.stamp,
             sayings,
+            frame: self.frame,
             word: self.word,
             told: self.told.copied(),
+            link: self.link,
             silence: self.silence,
         }
     }

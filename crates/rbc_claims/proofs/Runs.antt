@@ -1,5 +1,6 @@
 -- Sections that are taken into use for a train, and given back.
-use Rattle.std.proofs.Common.{◌≡◌, ℕ, zero, suc, ◌+◌, ◌-◌, ◌*◌, ◌<◌, ◌≤◌, ◌==◌, ◌&&◌, ◌||◌, inl, inr, Bool, true, false, cond, eqb, not, [], ◌∷◌, ◌++◌, length, nat_lt, refl, ap, sym, ◌∙◌, arith}
+use Rattle.std.proofs.Common.{◌≡◌, ℕ, zero, suc, ◌+◌, ◌-◌, ◌<◌, ◌≤◌, ◌==◌, ◌&&◌, ◌||◌, inl, inr, Bool, true, false, cond, not, length, nat_lt, refl, ap, sym, ◌∙◌, arith}
+use Rattle.std.proofs.Math.Bool.{and-true, and-false}
 use Rattle.std.proofs.lemmas.Bool.{cases_Bool}
 use Rattle.std.proofs.lemmas.Bool.Decides.{eqb_tells, nat_tests}
 use Rattle.rbc_spec.specs.SectionRuns.{SectionRun, within, joined}
@@ -211,22 +212,14 @@ frees_on : (t s : ℕ) (a b : Pages) → ((k : ℕ) → is_own b k ≡ is_own a 
 frees_on t s a b homes entry wish = record {
   homes = homes;
   entry = λ k. entry k ∙ elim (eqb_tells k s) as (λ _. cond (is_taken_for t (entry_at a s) && (k == s)) (back_to (wish_at a s)) (entry_at a k) ≡ entry_then t (within (one s) k) (entry_at a k) (wish_at a k)) [
-    | inl e ↦ rw (within_one s k, e.0, e.1) (ap (λ x. cond x (back_to (wish_at a s)) (entry_at a s)) (and_true (is_taken_for t (entry_at a s))))
-    | inr e ↦ rw (within_one s k, e.0) (ap (λ x. cond x (back_to (wish_at a s)) (entry_at a k)) (and_false (is_taken_for t (entry_at a s))))
+    | inl e ↦ rw (within_one s k, e.0, e.1) (ap (λ x. cond x (back_to (wish_at a s)) (entry_at a s)) (and-true (is_taken_for t (entry_at a s))))
+    | inr e ↦ rw (within_one s k, e.0) (ap (λ x. cond x (back_to (wish_at a s)) (entry_at a k)) (and-false (is_taken_for t (entry_at a s))))
   ];
   wish = λ k. wish k ∙ elim (eqb_tells k s) as (λ _. cond (is_taken_for t (entry_at a s) && (k == s)) false (wish_at a k) ≡ wish_then t (within (one s) k) (entry_at a k) (wish_at a k)) [
     | inl e ↦ rw (within_one s k, e.0, e.1) (elim (is_taken_for t (entry_at a s)) as (λ x. cond (x && true) false (wish_at a s) ≡ (not x && wish_at a s)) [ true ↦ refl | false ↦ refl ])
-    | inr e ↦ rw (within_one s k, e.0) (ap (λ x. cond x false (wish_at a k)) (and_false (is_taken_for t (entry_at a s))))
+    | inr e ↦ rw (within_one s k, e.0) (ap (λ x. cond x false (wish_at a k)) (and-false (is_taken_for t (entry_at a s))))
   ];
 }
-  where
-    and_true : (x : Bool) → (x && true) ≡ x
-    and_true true = refl
-    and_true false = refl
-
-    and_false : (x : Bool) → (x && false) ≡ false
-    and_false true = refl
-    and_false false = refl
 
 -- the section of a claim
 pub frees_one : (t s : ℕ) (claim : Claim) (a b : Pages) → claim ≡ claim_on s t → ((k : ℕ) → is_own b k ≡ is_own a k)

@@ -1,6 +1,6 @@
 -- A body is told by its kind and its fields.
 use Rattle.std.proofs.Common.{◌≡◌, ℕ, ◌/◌, ◌%◌, ◌^◌, ◌<◌, Bool, true, false, List, [], ◌∷◌, refl, sym, ap, ◌∙◌, arith, ℤ, pos, negsuc}
-use Rattle.std.specs.Prelude.{Option, Some, None, if◌then◌else◌, nat_lt, ◌==◌, IsTrue, FitsSigned}
+use Rattle.std.specs.Prelude.{Option, Some, None, ◌==◌, IsTrue, FitsSigned}
 use Rattle.std.specs.Option.{option_map_or}
 use Rattle.std.specs.Int.{w32, cast_signed}
 use Rattle.std.proofs.Math.Facts.{to_z-of_z, Fits-of_z}

@@ -1,5 +1,5 @@
 -- What the bytes of a header and of a body say of the frame.
-use Rattle.std.proofs.Common.{◌≡◌, ℕ, ◌%◌, ◌^◌, ◌<◌, ◌≤◌, List, ◌++◌, refl, sym, ap, ◌∙◌, arith, mod-eq_of_lt}
+use Rattle.std.proofs.Common.{◌≡◌, ℕ, ◌^◌, ◌<◌, ◌≤◌, List, ◌++◌, refl, sym, ap, ◌∙◌, arith, mod-eq_of_lt}
 use Rattle.std.specs.Prelude.{Option, None, Some, IfSome, IfNone, slice_index}
 use Rattle.byteorder.specs.Endian.{big_bytes}
 use Rattle.rbc_spec.specs.Frame.{Frame, Body, AskRight, GiveRight, RefuseRight, ReturnRight, RouteAsk, RouteInfo, RouteWithdraw, RouteReturn, Announce, Cancel, TakingOver, Yield, HasFrameRanges, HasBodyRange}

@@ -1,11 +1,9 @@
 -- What the fields of a kind say, and the bytes of a frame's header.
-use Rattle.std.proofs.Common.{◌≡◌, ℕ, ◌+◌, ◌%◌, ◌^◌, ◌<◌, List, [], ◌∷◌, ◌++◌, length, refl, sym, ap, ◌∙◌, arith}
-use Rattle.std.specs.Prelude.{Option, Some, nat_lt, slice_index, if◌then◌else◌}
+use Rattle.std.proofs.Common.{◌≡◌, ℕ, ◌+◌, ◌%◌, List, ◌∷◌, length, refl, sym, ap, ◌∙◌, arith}
+use Rattle.std.specs.Prelude.{Some, nat_lt, slice_index, if◌then◌else◌}
 use Rattle.rbc_spec.specs.Frame.{Frame, Body, AskRight, GiveRight, RefuseRight, ReturnRight, RouteAsk, RouteInfo, RouteWithdraw, RouteReturn, Announce, Cancel, TakingOver, Yield, HasBodyRange}
 use Rattle.rbc_linkmsg.specs.declared.kind.FrameKind.{FrameKind}
 use Rattle.rbc_linkmsg.specs.declared.kind.FrameKind.TheVariants as kinds
-use Rattle.rbc_linkmsg.specs.declared.body.Body.{Body as BodyCode}
-use Rattle.rbc_linkmsg.specs.declared.fault.FrameFault.{FrameFault}
 use Rattle.rbc_linkmsg.specs.declared.fault.FrameFault.TheVariants.{Short, Value}
 use Rattle.rbc_linkmsg.specs.Bodies.{body_back}
 use Rattle.rbc_linkmsg.specs.Kinds.{kind_number, kind_length, kind_with}

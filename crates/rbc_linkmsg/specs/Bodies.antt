@@ -1,4 +1,5 @@
 -- What the bodies of frames say, as the rules of a centre have it.
+use Rattle.std.specs.Prelude.{ℕ}
 use Rattle.rbc_spec.specs.Frame as said
 use Rattle.rbc_spec.specs.SectionRuns.{SectionRun}
 use Rattle.rbc_hand.specs.declared.section_run.SectionRun.{SectionRun as SectionRunCode}
@@ -46,3 +47,18 @@ body_back (said.Cancel number t) = code.Cancel number t
 body_back (said.TakingOver number t) = code.TakingOver number t
 body_back (said.Yield number t heard has_data is_ended place hand) =
     code.Yield number t heard has_data is_ended (place_back place) (run_back hand)
+
+-- the train that a body names
+abbrev pub engine_in : said.Body → ℕ
+engine_in (said.AskRight t) = t
+engine_in (said.GiveRight t) = t
+engine_in (said.RefuseRight t) = t
+engine_in (said.ReturnRight t) = t
+engine_in (said.RouteAsk t first most) = t
+engine_in (said.RouteInfo t run) = t
+engine_in (said.RouteWithdraw t s) = t
+engine_in (said.RouteReturn t run) = t
+engine_in (said.Announce number t track) = t
+engine_in (said.Cancel number t) = t
+engine_in (said.TakingOver number t) = t
+engine_in (said.Yield number t heard has_data is_ended place hand) = t

@@ -1,3 +1,5 @@
+ghost use Rattle.std.specs.Prelude.{◌≡◌};
+
 use rbc_hand::SectionRun;
 
 /// The place that is yielded with a train.
@@ -79,4 +81,28 @@ pub enum Body {
         place: YieldedPlace,
         hand: SectionRun,
     },
+}
+
+impl Body {
+    ghost use Rattle.rbc_linkmsg.specs.Bodies.{body_of, engine_in};
+
+    /// NID_ENGINE of the train that it names.
+    pub fn engine(self) -> u32
+        ensures { result ≡ engine_in (body_of self) }
+    {
+        match self {
+            Body::AskRight { engine }
+            | Body::GiveRight { engine }
+            | Body::RefuseRight { engine }
+            | Body::ReturnRight { engine }
+            | Body::RouteAsk { engine, .. }
+            | Body::RouteInfo { engine, .. }
+            | Body::RouteWithdraw { engine, .. }
+            | Body::RouteReturn { engine, .. }
+            | Body::Announce { engine, .. }
+            | Body::Cancel { engine, .. }
+            | Body::TakingOver { engine, .. }
+            | Body::Yield { engine, .. } => engine,
+        }
+    }
 }

@@ -1,9 +1,9 @@
 -- A centre with its log.
 use Rattle.std.specs.Prelude.{◌≡◌, ℕ, ◌≤◌, ◌<◌, List, [], ◌∷◌, ◌++◌, length, map, Ok, Err, IsOk}
-use Rattle.rbc_spec.specs.Reach.{Local}
+use Rattle.rbc_spec.specs.Reach.{Rights}
 use Rattle.rbc_spec.specs.Outcome.{Outcome}
 use Rattle.rbc_spec.specs.Centre.{beginning}
-use Rattle.rbc_spec.specs.Step.{Event, step, ClockEnd as AtClockEnd}
+use Rattle.rbc_spec.specs.Step.{Event, step, ClockEnd as AtClockEnd, LinkFull as AtLinkFull}
 use Rattle.rbc_centre.specs.States.{line_of, number_of, state_of}
 use Rattle.rbc_centre.specs.Views.{event_of}
 use Rattle.rbc_centre.specs.declared.centre.Centre.{Centre}
@@ -31,7 +31,7 @@ pub record Appends (old new : LogValue) (event : EventInMemory) (outcome : Outco
   pub room : length old.entries < most_entries
   pub entries : map entry_of new.entries ≡ map entry_of old.entries ++ record { centre = number_of old.core; event = event_of event; outcome = outcome } ∷ []
   pub events : map (λ e. e.event) new.entries ≡ map (λ e. e.event) old.entries ++ event ∷ []
-  pub core : step Local (line_of old.core) (number_of old.core) (event_of event) (state_of old.core) ≡ Ok (outcome, state_of new.core)
+  pub core : step Rights (line_of old.core) (number_of old.core) (event_of event) (state_of old.core) ≡ Ok (outcome, state_of new.core)
   pub line : line_of new.core ≡ line_of old.core
   pub number : number_of new.core ≡ number_of old.core
 
@@ -42,9 +42,9 @@ pub record IsUnchanged (old new : LogValue) : Type 0 where
   pub line : line_of new.core ≡ line_of old.core
   pub number : number_of new.core ≡ number_of old.core
 
--- when a fault comes: LogFull exactly where no entry has room, else the refusal of the step, and Memory only where it is not refused; no link can be full yet
+-- when a fault comes: LogFull exactly where no entry has room, else the refusal of the step, and Memory only where it is not refused
 abbrev pub IsRefusal : LogValue → Event → CommitFault → Type 0
-IsRefusal l event Memory = (length l.entries < most_entries) × IsOk (step Local (line_of l.core) (number_of l.core) event (state_of l.core))
-IsRefusal l event LinkFull = ⊥
-IsRefusal l event ClockEnd = (length l.entries < most_entries) × (step Local (line_of l.core) (number_of l.core) event (state_of l.core) ≡ Err AtClockEnd)
+IsRefusal l event Memory = (length l.entries < most_entries) × IsOk (step Rights (line_of l.core) (number_of l.core) event (state_of l.core))
+IsRefusal l event LinkFull = (length l.entries < most_entries) × (step Rights (line_of l.core) (number_of l.core) event (state_of l.core) ≡ Err AtLinkFull)
+IsRefusal l event ClockEnd = (length l.entries < most_entries) × (step Rights (line_of l.core) (number_of l.core) event (state_of l.core) ≡ Err AtClockEnd)
 IsRefusal l event LogFull = most_entries ≤ length l.entries

@@ -1,6 +1,6 @@
 -- What a log says, and when it replays.
 use Rattle.std.specs.Prelude.{◌≡◌, ℕ, List, [], ◌∷◌, Ok}
-use Rattle.rbc_spec.specs.Reach.{Local}
+use Rattle.rbc_spec.specs.Reach.{Rights}
 use Rattle.rbc_spec.specs.Line.{Line}
 use Rattle.rbc_spec.specs.Outcome.{Outcome}
 use Rattle.rbc_spec.specs.Centre.{Centre}
@@ -16,4 +16,4 @@ pub record LogEntry : Type 0 where
 abbrev pub Replays : Line → ℕ → Centre → List LogEntry → Centre → Type 0
 Replays line c k [] last = last ≡ k
 Replays line c k (e ∷ entries) last =
-    (mid : Centre) × (e.centre ≡ c) × (step Local line c e.event k ≡ Ok (e.outcome, mid)) × Replays line c mid entries last
+    (mid : Centre) × (e.centre ≡ c) × (step Rights line c e.event k ≡ Ok (e.outcome, mid)) × Replays line c mid entries last

@@ -72,7 +72,7 @@ impl CentreLog {
         if self.entries.len() >= MOST_ENTRIES {
             return Err(CommitFault::LogFull);
         }
-        self.core.may_step()?;
+        self.core.may_step(&event)?;
         self.entries.reserve(1)?;
         let outcome = self.core.step(&event)?;
         let entry = Entry {

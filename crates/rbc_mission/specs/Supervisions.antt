@@ -1,13 +1,12 @@
 -- What a centre has of a train's mission, in memory and by the rules.
-use Rattle.std.specs.Prelude.{◌≡◌, ℕ, ◌+◌, ◌==◌, ◌≤◌, ◌&&◌, true, false, if◌then◌else◌, length, Option, Some, None, option_map, is_some, is_none}
+use Rattle.std.specs.Prelude.{◌≡◌, ℕ, ◌+◌, ◌==◌, ◌≤◌, ◌&&◌, false, if◌then◌else◌, length, Option, Some, None, option_map, is_some, is_none}
 use Rattle.std.specs.Option.{option_map_or}
-use Rattle.rbc_spec.specs.Maps.{put}
 use Rattle.rbc_spec.specs.Place.{Place}
 use Rattle.rbc_spec.specs.SectionRuns.{SectionRun, no_run, behind, is_empty}
 use Rattle.rbc_spec.specs.Centre as spec
 use Rattle.rbc_spec.specs.Rules.{extended_by}
 use Rattle.rbc_hand.specs.Hands.{Holding, run, IsAllOwn}
-use Rattle.rbc_right.specs.Rights.{Rights, is_here, right_of}
+use Rattle.rbc_right.specs.Rights.{right_of}
 use Rattle.rbc_place.specs.Places.{place_of}
 use Rattle.rbc_shorten.specs.Facts.{standing_of}
 use Rattle.rbc_book.specs.Book.{Pages}
@@ -68,9 +67,9 @@ with_next place count m = extended_by (next_of count m.hand) (record m { place =
 abbrev pub next_sections : ℕ → SupervisionState → SectionRun
 next_sections count c = option_map_or (λ m. next_of count m.hand) c.mission no_run
 
--- the right of the train is here again where its mission has closed; nothing else of the rights changed
-abbrev pub GoesHome : SupervisionState → SupervisionState → Rights → Rights → Type 0
-GoesHome old new from to = (j : ℕ) → is_here to j ≡ put (is_here from) old.number (if is_some old.mission && is_none new.mission then true else is_here from old.number) j
+-- the right of the train is given back where its mission has closed
+abbrev pub right_left : SupervisionState → SupervisionState → HeldRight
+right_left old new = if is_some old.mission && is_none new.mission then Held (right_of old.number) else Nothing
 
 -- ## In memory
 

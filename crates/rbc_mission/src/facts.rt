@@ -1,4 +1,4 @@
-ghost use Rattle.std.specs.Prelude.{◌≡◌, false, None};
+ghost use Rattle.std.specs.Prelude.{◌≡◌, false, Some, None, if◌then◌else◌};
 
 use rbc_place::Place;
 use rbc_shorten::Proposal;
@@ -27,5 +27,12 @@ impl MissionFacts {
             is_ended: false,
             proposal: None,
         }
+    }
+
+    /// They stay, where the mission does.
+    pub(crate) fn stay(self, is_left: bool) -> Option<MissionFacts>
+        ensures { result ≡ (if is_left then Some self else None) }
+    {
+        if is_left { Some(self) } else { None }
     }
 }

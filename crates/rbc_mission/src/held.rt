@@ -1,22 +1,19 @@
-ghost use Rattle.std.specs.Prelude.{◌≡◌, ℕ, Some, None, length, nat_lt, if◌then◌else◌};
-ghost use Rattle.rbc_spec.specs.Maps.{put};
-ghost use Rattle.rbc_right.specs.Rights.{is_here, right_of};
+ghost use Rattle.std.specs.Prelude.{◌≡◌, if◌then◌else◌};
 
-use crate::facts::MissionFacts;
-use rbc_right::{Registrar, Right};
+use rbc_right::Right;
 use std::mem;
 
-/// The right to supervise a train, where a mission stands.
+/// The right to supervise a train, where it is held. It can't be copied, and not be dropped.
 #[must_use]
 #[derive(Debug)]
-pub(crate) enum HeldRight {
+pub enum HeldRight {
     Nothing,
     Held(Right),
 }
 
 impl HeldRight {
     /// Ends it, where its centre does.
-    pub(crate) fn end(self) {
+    pub fn end(self) {
         match self {
             HeldRight::Held(right) => {
                 right.send();
@@ -34,36 +31,13 @@ pub(crate) fn hold(held: &mut HeldRight, right: Right)
     before.end();
 }
 
-/// Gives the right that is held back to its registrar.
-pub(crate) fn release(held: &mut HeldRight, registrar: &mut Registrar)
-    ensures held { held.new ≡ HeldRight.Nothing }
-    ensures here { (n j : ℕ) → held.old ≡ HeldRight.Held (right_of n)
-        → is_here registrar.new j ≡ put (is_here registrar.old) n (nat_lt n (length registrar.old)) j }
-    ensures count { length registrar.new ≡ length registrar.old }
+/// Lets go what is held, unless it stays.
+pub(crate) fn let_go(held: &mut HeldRight, stays: bool) -> HeldRight
+    ensures gone { result ≡ (if stays then HeldRight.Nothing else held.old) }
+    ensures held { held.new ≡ (if stays then held.old else HeldRight.Nothing) }
 {
-    let before = mem::replace(held, HeldRight::Nothing);
-    match before {
-        HeldRight::Held(right) => registrar.back(right),
-        HeldRight::Nothing => {}
+    if stays {
+        return HeldRight::Nothing;
     }
-}
-
-/// What becomes of a mission with these facts: it stays, or it closes, where no section is left, and the right goes home.
-pub(crate) fn stay(
-    is_left: bool,
-    facts: MissionFacts,
-    held: &mut HeldRight,
-    registrar: &mut Registrar,
-) -> Option<MissionFacts>
-    ensures mission { result ≡ (if is_left then Some facts else None) }
-    ensures held { held.new ≡ (if is_left then held.old else HeldRight.Nothing) }
-    ensures here { (n j : ℕ) → held.old ≡ HeldRight.Held (right_of n)
-        → is_here registrar.new j ≡ (if is_left then is_here registrar.old j else put (is_here registrar.old) n (nat_lt n (length registrar.old)) j) }
-    ensures count { length registrar.new ≡ length registrar.old }
-{
-    if is_left {
-        return Some(facts);
-    }
-    release(held, registrar);
-    None
+    mem::replace(held, HeldRight::Nothing)
 }

@@ -1,51 +1,54 @@
-ghost use Rattle.std.specs.Prelude.{◌≡◌, ◌≤◌, ◌<◌, ◌+◌, ℕ, Some, None, option_map, option_and_then, true, false, length};
-ghost use Rattle.rbc_spec.specs.Maps.{put};
+ghost use Rattle.std.specs.Prelude.{◌≡◌, ◌≤◌, ◌+◌, Some, None, option_map, option_and_then, is_some, true, false};
 ghost use Rattle.rbc_spec.specs.Centre as spec;
-ghost use Rattle.rbc_right.specs.Rights.{is_here};
+ghost use Rattle.rbc_right.specs.Rights.{right_of};
+ghost use Rattle.rbc_wait.specs.Waits.{nothing_waits};
 ghost use Rattle.rbc_hand.specs.SectionRuns.{run_of};
 ghost use Rattle.rbc_place.specs.Places.{place_of};
 ghost use Rattle.rbc_shorten.specs.Facts.{proposal_of};
 
 use crate::facts::MissionFacts;
 use crate::held;
+use crate::released::Released;
 use crate::supervision::Supervision;
 use rbc_book::Book;
-use rbc_claims::Told;
 use rbc_hand::SectionRun;
 use rbc_place::Place;
-use rbc_right::{Asked, Registrar};
+use rbc_right::Right;
 use rbc_shorten::Proposal;
+use rbc_wait::WaitingStart;
 
 impl Supervision {
-    ghost use Rattle.rbc_mission.specs.Supervisions.{hand_of, mission_at, with_next, next_sections, without_front, with_front, GoesHome, MayGrow};
+    ghost use Rattle.rbc_mission.specs.Supervisions.{hand_of, mission_at, with_next, next_sections, without_front, with_front, right_left, MayGrow};
     ghost use Rattle.rbc_claims.specs.Sections.{TakesRun, FreesRun, wished, front_of, rest_of, IsAllOpen};
 
-    /// A mission begins at this place, with these sections, which are open, and with the right, which is here.
-    pub fn begin(
-        &mut self,
-        place: Place,
-        sections: SectionRun,
-        book: &mut Book,
-        registrar: &mut Registrar,
-    )
+    /// A mission begins at this place, with these sections, which are open, and with the right to supervise the train.
+    pub fn begin(&mut self, place: Place, sections: SectionRun, book: &mut Book, right: Right)
         requires none { self.old.mission ≡ None }
         requires some { 1 ≤ sections.count }
         requires most { sections.count ≤ 32 }
         requires numbers { sections.first + sections.count ≤ 65535 }
         requires open { IsAllOpen (run_of sections) book.old }
-        requires here { is_here registrar.old self.old.number ≡ true }
+        requires right { right ≡ right_of self.old.number }
         ensures supervision { self.new ≡ record self.old { mission = Some (mission_at (place_of place) (run_of sections)) } }
         ensures book { TakesRun self.old.engine (run_of sections) book.old book.new }
-        ensures right { (j : ℕ) → is_here registrar.new j ≡ put (is_here registrar.old) self.old.number false j }
-        ensures rights { length registrar.new ≡ length registrar.old }
     {
-        match registrar.ask(self.number) {
-            Asked::Given(right) => {
-                rbc_claims::take_run(&mut self.hand, sections, self.nid_engine, book);
-                held::hold(&mut self.right, right);
-                self.mission = Some(MissionFacts::at(place));
-            }
-            Asked::NotHere => {}
+        rbc_claims::take_run(&mut self.hand, sections, self.nid_engine, book);
+        held::hold(&mut self.right, right);
+        self.mission = Some(MissionFacts::at(place));
+    }
+
+    /// The start of mission that waits becomes a mission, with its place, its claims and the right to supervise the train.
+    pub fn admit(&mut self, waiting: &mut WaitingStart, right: Right)
+        requires none { self.old.mission ≡ None }
+        requires waits { is_some waiting.old.wait ≡ true }
+        requires engine { waiting.old.engine ≡ self.old.engine }
+        requires right { right ≡ right_of self.old.number }
+        ensures supervision { self.new ≡ record self.old { mission = option_map (λ place. mission_at place waiting.old.sections) waiting.old.wait } }
+        ensures waits { waiting.new ≡ nothing_waits waiting.old.engine false }
+    {
+        held::hold(&mut self.right, right);
+        if let Some(place) = waiting.admit(&mut self.hand) {
+            self.mission = Some(MissionFacts::at(place));
         }
     }
 
@@ -114,61 +117,50 @@ impl Supervision {
         ensures book { TakesRun self.old.engine (next_sections count self.old) book.old book.new }
     {
         if let Some(mission) = self.mission {
-            let sections = rbc_claims::behind(self.hand.run(), count);
-            rbc_claims::take_run(&mut self.hand, sections, self.nid_engine, book);
+            let next = rbc_claims::behind(self.hand.run(), count);
+            rbc_claims::take_run(&mut self.hand, next, self.nid_engine, book);
             self.mission = Some(MissionFacts { place, ..mission });
         }
     }
 
-    /// The train is at this place, and so many of its first sections are given back: those that were wished back, of which the
-    /// interlocking is to be told, in rising order. Where no section is left the mission closes, and the right goes home.
-    pub fn clear_front(
-        &mut self,
-        place: Place,
-        count: u16,
-        book: &mut Book,
-        registrar: &mut Registrar,
-    ) -> Told
+    /// The train is at this place, and so many of its first sections are given back. Where no section is left the mission closes.
+    pub fn clear_front(&mut self, place: Place, count: u16, book: &mut Book) -> Released
         requires some { count ≤ (hand_of self.old).count }
-        requires number { self.old.number < length registrar.old }
         ensures supervision { self.new ≡ record self.old { mission = option_and_then (without_front (place_of place) count) self.old.mission } }
         ensures book { FreesRun self.old.engine (front_of count (hand_of self.old)) book.old book.new }
-        ensures told { result ≡ wished self.old.engine (front_of count (hand_of self.old)) book.old }
-        ensures right { GoesHome self.old self.new registrar.old registrar.new }
-        ensures rights { length registrar.new ≡ length registrar.old }
+        ensures told { result.told ≡ wished self.old.engine (front_of count (hand_of self.old)) book.old }
+        ensures right { result.right ≡ right_left self.old self.new }
     {
         let Some(mission) = self.mission else {
-            return Told::nothing();
+            return Released::nothing();
         };
         let told = rbc_claims::clear(&mut self.hand, count, self.nid_engine, book);
         let is_left = !self.hand.is_empty();
-        let facts = MissionFacts { place, ..mission };
-        self.mission = held::stay(is_left, facts, &mut self.right, registrar);
-        told
+        self.mission = MissionFacts { place, ..mission }.stay(is_left);
+        let right = held::let_go(&mut self.right, is_left);
+        Released { told, right }
     }
 
-    /// All but so many of the first sections are given back (3.8.6): those that were wished back, of which the interlocking is
-    /// to be told, in rising order. No request to shorten stands. Where no section is left the mission closes, and the right
-    /// goes home.
-    pub fn shorten(&mut self, keep: u16, book: &mut Book, registrar: &mut Registrar) -> Told
+    /// All but so many of the first sections are given back (3.8.6), and no request to shorten stands. Where no section is left the
+    /// mission closes.
+    pub fn shorten(&mut self, keep: u16, book: &mut Book) -> Released
         requires some { keep ≤ (hand_of self.old).count }
-        requires number { self.old.number < length registrar.old }
         ensures supervision { self.new ≡ record self.old { mission = option_and_then (with_front keep) self.old.mission } }
         ensures book { FreesRun self.old.engine (rest_of keep (hand_of self.old)) book.old book.new }
-        ensures told { result ≡ wished self.old.engine (rest_of keep (hand_of self.old)) book.old }
-        ensures right { GoesHome self.old self.new registrar.old registrar.new }
-        ensures rights { length registrar.new ≡ length registrar.old }
+        ensures told { result.told ≡ wished self.old.engine (rest_of keep (hand_of self.old)) book.old }
+        ensures right { result.right ≡ right_left self.old self.new }
     {
         let Some(mission) = self.mission else {
-            return Told::nothing();
+            return Released::nothing();
         };
         let told = rbc_claims::cut(&mut self.hand, keep, self.nid_engine, book);
-        let is_left = !self.hand.is_empty();
         let facts = MissionFacts {
             proposal: None,
             ..mission
         };
-        self.mission = held::stay(is_left, facts, &mut self.right, registrar);
-        told
+        let is_left = !self.hand.is_empty();
+        self.mission = facts.stay(is_left);
+        let right = held::let_go(&mut self.right, is_left);
+        Released { told, right }
     }
 }

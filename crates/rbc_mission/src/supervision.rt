@@ -3,16 +3,15 @@ ghost use Rattle.rbc_spec.specs.Centre as spec;
 ghost use Rattle.rbc_hand.specs.SectionRuns.{run_of};
 
 use crate::facts::MissionFacts;
-use crate::held::{self, HeldRight};
+use crate::held::HeldRight;
 use rbc_book::Book;
 use rbc_hand::{Hand, SectionRun};
-use rbc_right::Registrar;
 use std::alloc::{AllocError, Global};
 use std::marker::Model;
 
 /// What a centre supervises of one train of the line: its mission (the facts, the sections of its movement authority and the
 /// right to supervise it), or that no mission stands. Room for 32 sections is made at the beginning, and no call takes memory after
-/// that. It can't be copied, and not be dropped: what it holds goes back to the book and to the registrar.
+/// that. It can't be copied, and not be dropped: its sections go back to the book, and its right to the registrar.
 #[must_use]
 #[derive(Debug)]
 pub struct Supervision {
@@ -84,16 +83,15 @@ impl Supervision {
     }
 
     /// Ends it, where its centre does: its sections go back to the book.
-    pub fn give_up(self, book: &mut Book, registrar: &mut Registrar) {
+    pub fn end(self, book: &mut Book) {
         let Supervision {
             number: _,
             nid_engine: _,
             mission: _,
             hand,
-            mut right,
+            right,
         } = self;
         rbc_claims::end_hand(hand, book);
-        held::release(&mut right, registrar);
         right.end();
     }
 }

@@ -6,7 +6,7 @@ ghost use Rattle.rbc_node.specs.Commit.{Fits, Commits, Refuses};
 use crate::fault::ShareFault;
 use crate::receipt::Receipt;
 use rbc_centre::{Event, Outcome};
-use rbc_log::{CentreLog, MOST_ENTRIES};
+use rbc_log::{CentreLog, CommitFault, MOST_ENTRIES};
 use std::alloc::Global;
 use std::marker::Model;
 
@@ -73,9 +73,9 @@ impl Share {
         if place >= MOST_ENTRIES {
             return Err(ShareFault::LogFull);
         }
-        let Ok(()) = log.core().may_step() else {
-            return Err(ShareFault::ClockEnd);
-        };
+        if let Err(fault) = log.core().may_step(&event) {
+            return Err(ShareFault::from(CommitFault::from(fault)));
+        }
         self.receipts.reserve(1)?;
         let given = event.copied(*self.receipts.allocator())?;
         let outcome = log.commit(event)?;

@@ -1,6 +1,6 @@
 //! What `run` prints: events, what they lead to, and the line.
 
-use rbc_centre::{Outcome, Saying, StepFault, Word};
+use rbc_centre::{Body, LinkAnswer, Outcome, Posted, Saying, StepFault, Word};
 use rbc_line::Line;
 use rbc_msgs::encode_track;
 use rbc_status::Fault;
@@ -58,7 +58,7 @@ pub fn print_answer<W: Write>(
 ) -> Result<(), Fault<'static>> {
     let centre = name_of(line, centre_of(event));
     match answer {
-        Answer::Outcome(outcome) => print_outcome(alloc, out, centre, outcome)?,
+        Answer::Outcome(outcome) => print_outcome(alloc, out, line, centre, outcome)?,
         Answer::Fault(fault) => writeln!(out, "{centre} fault {}", fault.number())?,
         Answer::NotSent => writeln!(out, "not sent")?,
         // A script names centres of the line alone.
@@ -70,26 +70,63 @@ pub fn print_answer<W: Write>(
 fn print_outcome<W: Write>(
     alloc: Global,
     out: &mut W,
+    line: &Line,
     centre: &str,
     outcome: &Outcome,
 ) -> Result<(), Fault<'static>> {
     for saying in outcome.sayings.as_slice() {
         print_saying(alloc, out, centre, saying)?;
     }
+    if let Some(posted) = &outcome.frame {
+        print_frame(out, line, centre, posted)?;
+    }
     for word in outcome.words().as_slice() {
         print_word(out, centre, word)?;
     }
-    match outcome.silence {
-        Some(why) => writeln!(out, "{centre} silent {}", why.number())?,
-        None if says_nothing(outcome) => writeln!(out, "{centre} ok")?,
-        None => {}
+    match (outcome.silence, outcome.link) {
+        (Some(why), _) => writeln!(out, "{centre} silent {}", why.number())?,
+        (None, Some(LinkAnswer::Old)) => writeln!(out, "{centre} old")?,
+        (None, Some(LinkAnswer::Early)) => writeln!(out, "{centre} early")?,
+        (None, _) if says_nothing(outcome) => writeln!(out, "{centre} ok")?,
+        (None, _) => {}
     }
     Ok(())
 }
 
-// Whether a step has nothing to say to a train or to the interlocking.
+// Whether a step has nothing to say to a train, to another centre or to the interlocking.
 fn says_nothing(outcome: &Outcome) -> bool {
-    outcome.sayings.is_empty() && outcome.words().is_empty()
+    outcome.sayings.is_empty() && outcome.frame.is_none() && outcome.words().is_empty()
+}
+
+fn print_frame<W: Write>(
+    out: &mut W,
+    line: &Line,
+    centre: &str,
+    posted: &Posted,
+) -> Result<(), Fault<'static>> {
+    let to = name_of(line, posted.to);
+    let number = posted.frame.number();
+    let name = body_name(posted.frame.body());
+    writeln!(out, "{centre} => {to} {number} {name}")?;
+    Ok(())
+}
+
+// What a frame's body is called.
+fn body_name(body: Body) -> &'static str {
+    match body {
+        Body::AskRight { .. } => "AskRight",
+        Body::GiveRight { .. } => "GiveRight",
+        Body::RefuseRight { .. } => "RefuseRight",
+        Body::ReturnRight { .. } => "ReturnRight",
+        Body::RouteAsk { .. } => "RouteAsk",
+        Body::RouteInfo { .. } => "RouteInfo",
+        Body::RouteWithdraw { .. } => "RouteWithdraw",
+        Body::RouteReturn { .. } => "RouteReturn",
+        Body::Announce { .. } => "Announce",
+        Body::Cancel { .. } => "Cancel",
+        Body::TakingOver { .. } => "TakingOver",
+        Body::Yield { .. } => "Yield",
+    }
 }
 
 fn print_word<W: Write>(out: &mut W, centre: &str, word: &Word) -> Result<(), Fault<'static>> {

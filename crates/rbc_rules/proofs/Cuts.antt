@@ -1,5 +1,5 @@
 -- A train grants a request to shorten its authority: what comes of it is what its definition says.
-use Rattle.std.proofs.Common.{◌≡◌, ℕ, ◌+◌, ◌-◌, ◌≤◌, ◌==◌, ◌&&◌, Bool, true, false, if◌then◌else◌, List, [], max, Some, None, refl, sym, ap, ◌∙◌, subst, arith, eqb-true, eq-eqb, not}
+use Rattle.std.proofs.Common.{◌≡◌, ℕ, ◌+◌, ◌-◌, ◌<◌, ◌≤◌, ◌==◌, ◌&&◌, Bool, true, false, if◌then◌else◌, List, [], length, max, Option, Some, None, refl, sym, ap, ◌∙◌, subst, arith, eqb-true, eq-eqb, not}
 use Rattle.std.specs.List.{filter, range_with_len}
 use Rattle.std.specs.Option.{option_map_or}
 use Rattle.std.proofs.lemmas.Bool.{cond-true, cond-false, eqb-false}
@@ -10,12 +10,13 @@ use Rattle.rbc_spec.specs.Acts.{Act, rest, ◌>>◌, leave, set_mission, cancel,
 use Rattle.rbc_spec.specs.Rules.{cut}
 use Rattle.rbc_lemmas.proofs.Acts.{then_alike, then_resting}
 use Rattle.rbc_lemmas.proofs.Runs.{within_true, within_from, within_none, same_tests, joined_empty}
-use Rattle.rbc_local.specs.Local.{IsLocalMission}
 use Rattle.rbc_book.specs.Book.{Pages, entry_at, wish_at}
 use Rattle.rbc_right.specs.Rights.{Rights}
 use Rattle.rbc_claims.specs.Sections.{FreesRun, rest_of, front_of, wished}
-use Rattle.rbc_mission.specs.Supervisions.{SupervisionState, with_front, GoesHome}
-use Rattle.rbc_rules.specs.Desk.{HasParts, with_parts, replied}
+use Rattle.rbc_mission.specs.Supervisions.{SupervisionState, HasLocalForm, with_front, right_left}
+use Rattle.rbc_rules.specs.Desk.{HasParts, with_parts, posted, replied}
+use Rattle.rbc_rules.specs.Homes.{GoesHome}
+use Rattle.rbc_rules.specs.declared.letter.Letter.{Letter}
 use Rattle.rbc_rules.specs.declared.train.TrainState.{TrainState}
 use Rattle.rbc_rules.proofs.Frees.{part_leaves, whole_leaves}
 
@@ -75,9 +76,9 @@ abbrev unasked : Mission → Mission
 unasked m = record m { proposal = None }
 
 module _ (line : Line) (c : ℕ) (k : Centre) (old : TrainState) (book : Pages) (rights : Rights) (has : HasParts line c k old book rights) (n : Mission) (last : ℕ) (there : old.supervision.mission ≡ Some (unasked n))
-    (left : SupervisionState) (book' : Pages) (rights' : Rights) (told : List ℕ) (is : left ≡ record old.supervision { mission = with_front (kept_of last n.hand) n })
+    (few : old.supervision.number < length rights) (left : SupervisionState) (book' : Pages) (rights' : Rights) (told : List ℕ) (letter : Option Letter) (is : left ≡ record old.supervision { mission = with_front (kept_of last n.hand) n })
     (frees : FreesRun old.supervision.engine (rest_of (kept_of last n.hand) n.hand) book book') (is_told : told ≡ wished old.supervision.engine (rest_of (kept_of last n.hand) n.hand) book)
-    (home : GoesHome old.supervision left rights rights') where
+    (home : GoesHome line c old.supervision.engine (right_left old.supervision left) letter rights rights') where
   abbrev t : ℕ
   t = old.supervision.engine
 
@@ -87,25 +88,25 @@ module _ (line : Line) (c : ℕ) (k : Centre) (old : TrainState) (book : Pages) 
   abbrev kept : Mission
   kept = record n { hand = part_before (last + 1) n.hand; pool = no_run; proposal = None }
 
-  local : IsLocalMission line (unasked n)
-  local = has.local.mission t (unasked n) (has.has_mission ∙ there)
+  local : HasLocalForm (unasked n)
+  local = has.kept.form (unasked n) there
 
-  by_rest : (b : Bool) → (kept_of last n.hand == 0) ≡ b → cut line c t last n k ≡ replied (with_parts (record old { supervision = left }) book' rights' k) [] told
+  by_rest : (b : Bool) → (kept_of last n.hand == 0) ≡ b → cut line c t last n k ≡ posted letter (replied (with_parts (record old { supervision = left }) book' rights' k) [] told)
   by_rest true none =
-      rw (none_kept last n.hand local.some ∙ none) (ap (λ r. (leave line c t n.place.track (joined rear r) >> close line c t n) k) local.no_pool
-      ∙ whole_leaves line c k old book rights has (unasked n) there left (with_front (kept_of last n.hand) n) book' rights' told (joined rear no_run) is
+      rw (none_kept last n.hand local.some ∙ none) (ap (λ r. (leave line c t n.place.track (joined rear r) >> close line c t n) k) local.pool
+      ∙ whole_leaves line c k old book rights has (unasked n) there few left (with_front (kept_of last n.hand) n) book' rights' told letter (joined rear no_run) is
       (frees_tail last n.hand t book book' told frees is_told (rear.count == 0) refl) (tells_tail last n.hand t book book' told frees is_told (rear.count == 0) refl) home (inside last n.hand)
-      n.place.track n local.no_handing (rw none refl))
+      n.place.track n local.handing (rw none refl))
   by_rest false some =
       let cancels : Act = option_map_or (λ i. if is_empty (part_at line i.to n.place.track kept.hand) then cancel t kept else rest) n.handing rest in
-      rw (none_kept last n.hand local.some ∙ some) (ap (λ r. (leave line c t n.place.track (joined rear r) >> (set_mission t (Some kept) >> cancels)) k) local.no_pool
+      rw (none_kept last n.hand local.some ∙ some) (ap (λ r. (leave line c t n.place.track (joined rear r) >> (set_mission t (Some kept) >> cancels)) k) local.pool
       ∙ then_alike (leave line c t n.place.track (joined rear no_run)) (set_mission t (Some kept) >> cancels) (set_mission t (Some kept)) k
       (then_resting (set_mission t (Some kept)) cancels _ (ap (λ o. option_map_or (λ i. if is_empty (part_at line i.to n.place.track kept.hand) then cancel t kept else rest) o rest
-      (set_mission t (Some kept) (leave line c t n.place.track (joined rear no_run) k).state).state) local.no_handing))
-      ∙ ap (λ (r : SectionRun). (leave line c t n.place.track (joined rear no_run) >> set_mission t (Some (record kept { pool = r }))) k) (sym local.no_pool)
-      ∙ part_leaves line c k old book rights has (unasked n) there left (with_front (kept_of last n.hand) n) book' rights' told (joined rear no_run) is
+      (set_mission t (Some kept) (leave line c t n.place.track (joined rear no_run) k).state).state) local.handing))
+      ∙ ap (λ (r : SectionRun). (leave line c t n.place.track (joined rear no_run) >> set_mission t (Some (record kept { pool = r }))) k) (sym local.pool)
+      ∙ part_leaves line c k old book rights has (unasked n) there few left (with_front (kept_of last n.hand) n) book' rights' told letter (joined rear no_run) is
       (frees_tail last n.hand t book book' told frees is_told (rear.count == 0) refl) (tells_tail last n.hand t book book' told frees is_told (rear.count == 0) refl) home (inside last n.hand)
       n.place.track (record n { hand = front_of (kept_of last n.hand) n.hand; proposal = None }) (rw some refl))
 
-  pub cuts : cut line c t last n k ≡ replied (with_parts (record old { supervision = left }) book' rights' k) [] told
+  pub cuts : cut line c t last n k ≡ posted letter (replied (with_parts (record old { supervision = left }) book' rights' k) [] told)
   cuts = by_rest (kept_of last n.hand == 0) refl

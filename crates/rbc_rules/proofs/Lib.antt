@@ -4,6 +4,10 @@ pub mod Tellings
 pub mod Asks
 pub mod SessionStates
 pub mod Desk
+pub mod Letters
+pub mod RightFrames
+pub mod Kept
+pub mod Received
 pub mod ShorteningRejected
 pub mod SessionMessages
 pub mod TrainData

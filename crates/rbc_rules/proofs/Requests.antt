@@ -2,7 +2,7 @@
 use Rattle.std.proofs.Common.{◌≡◌, ℕ, ◌+◌, ◌-◌, ◌≤◌, ◌&&◌, if◌then◌else◌, true, false, [], ◌∷◌, is_some, Some, refl, sym, ap, ◌∙◌, arith, Option, option_map, None}
 use Rattle.std.proofs.lemmas.Bool.{cond-false, ne_eqb}
 use Rattle.rbc_spec.specs.Maps.{put}
-use Rattle.rbc_spec.specs.Reach.{Local}
+use Rattle.rbc_spec.specs.Reach.{Rights as ToRights}
 use Rattle.rbc_spec.specs.SectionRuns.{SectionRun, within, behind, is_empty, joined}
 use Rattle.rbc_spec.specs.Line.{Line, end}
 use Rattle.rbc_spec.specs.Place.{Place, Position, place_on, group_start}
@@ -12,14 +12,14 @@ use Rattle.rbc_spec.specs.Acts.{◌>>◌}
 use Rattle.rbc_spec.specs.Rules.{authority, extension, extended_by}
 use Rattle.rbc_spec.specs.Step.{Train, effect}
 use Rattle.rbc_book.specs.Book.{Pages}
-use Rattle.rbc_right.specs.Rights.{Rights, is_here}
+use Rattle.rbc_right.specs.Rights.{Rights}
 use Rattle.rbc_session.specs.SessionStates.{session_phase}
 use Rattle.rbc_grant.specs.Grants as grants
 use Rattle.rbc_claims.specs.Sections.{TakesRun, next_of}
 use Rattle.rbc_mission.specs.Supervisions.{SupervisionState, with_next}
 use Rattle.rbc_rules.specs.Desk.{HearsTrain, with_parts, replied}
 use Rattle.rbc_rules.specs.declared.train.TrainState.{TrainState}
-use Rattle.rbc_rules.proofs.Desk.{by_reply, answered_effect, same_phase, same_right, heard_at}
+use Rattle.rbc_rules.proofs.Desk.{by_reply, answered_effect, same_state, heard_at}
 
 module _ (line : Line) (c : ℕ) (k : Centre) (stamp : ℕ) (old : TrainState) (book : Pages) (rights : Rights) (position : Position) (h : HearsTrain line c k stamp old book rights) where
   abbrev t : ℕ
@@ -32,7 +32,7 @@ module _ (line : Line) (c : ℕ) (k : Centre) (stamp : ℕ) (old : TrainState) (
       → n.is_ended ≡ false → n.has_data ≡ true → is_some n.proposal ≡ false → place_on line n.place.track position ≡ Some place → grants.may_request line n.hand place ≡ true
       → (extension line c k (record n { place = place })).count ≡ count → authority line (with_next place count n) ≡ metres
       → left ≡ record old.supervision { mission = Some (with_next place count n) } → TakesRun t (next_of count n.hand) book book'
-      → effect Local line c k (Train m) ≡ by_reply (replied (with_parts (record { session_state = old.session_state; heard = Some stamp; said = old.said + 1; supervision = left }) book' rights k)
+      → effect ToRights line c k (Train m) ≡ by_reply (replied (with_parts (record { session_state = old.session_state; heard = Some stamp; said = old.said + 1; supervision = left; waiting = old.waiting }) book' rights k)
       (record { nid_engine = left.engine; message = record { t_train = old.said + 1; nid_lrbg = place.group; body = Authority metres } } ∷ []) [])
   unfolding ◌>>◌
   grants_more n place count metres left book' up there goes_on known none on may counts ends is takes =
@@ -47,15 +47,15 @@ module _ (line : Line) (c : ℕ) (k : Centre) (stamp : ℕ) (old : TrainState) (
         said = put k.said t (has.has_said i + 1);
         mission = put k.mission t (Some (extended_by (run (counts i)) (record n { place = place })));
       }) (record { nid_engine = t; message = record { t_train = has.has_said i + 1; nid_lrbg = place.group; body = Authority (authority line (extended_by (run (counts i)) (record n { place = place }))) } } ∷ []) [])
-      ∙ (λ i. replied (record k {
+      ∙ (λ i. replied (record (same_state line c k old book rights has i) {
         book = λ s. sym (takes.entry s) i;
         wish = λ s. sym (takes.wish s) i;
-        phase = λ u. (same_phase line c k old book rights has u ∙ (λ l. put k.phase (sym is l).engine (session_phase old.session_state) u)) i;
-        heard = put k.heard (sym is i).engine (Some stamp);
-        said = put k.said (sym is i).engine (old.said + 1);
-        mission = put k.mission (sym is i).engine (sym is i).mission;
-        has_right = λ u. (same_right line c k old book rights has u ∙ (λ l. put k.has_right (sym is l).engine (is_here rights (sym is l).number) u)) i;
-      }) (record { nid_engine = (sym is i).engine; message = record { t_train = old.said + 1; nid_lrbg = place.group; body = Authority (ends i) } } ∷ []) [])))
+        heard = put k.heard t (Some stamp);
+        said = put k.said t (old.said + 1);
+        mission = put k.mission t (Some (with_next place count n));
+      }) (record { nid_engine = t; message = record { t_train = old.said + 1; nid_lrbg = place.group; body = Authority (ends i) } } ∷ []) [])
+      ∙ (λ i. replied (with_parts (record { session_state = old.session_state; heard = Some stamp; said = old.said + 1; supervision = sym is i; waiting = old.waiting }) book' rights k)
+      (record { nid_engine = (sym is i).engine; message = record { t_train = old.said + 1; nid_lrbg = place.group; body = Authority metres } } ∷ []) [])))
 
 -- the end of the hand with so many sections more
 pub end_is : (line : Line) (n : Mission) (place : Place) (count metres : ℕ) → 1 ≤ n.hand.count → metres ≡ end line (behind n.hand + count - 1) - group_start line place → authority line (with_next place count n) ≡ metres

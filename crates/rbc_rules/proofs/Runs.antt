@@ -1,7 +1,8 @@
 -- Tests of all sections of a run, and what may follow a hand.
-use Rattle.std.proofs.Common.{◌≡◌, ℕ, zero, suc, ◌+◌, ◌-◌, ◌==◌, ◌<◌, ◌≤◌, ◌&&◌, ◌||◌, Bool, true, false, nat_le, length, Option, Some, None, nat_eq, refl, sym, ap, ◌∙◌, arith, is_some}
+use Rattle.std.proofs.Common.{◌≡◌, ◌≢◌, ℕ, zero, suc, ◌+◌, ◌-◌, ◌==◌, ◌<◌, ◌≤◌, ◌&&◌, ◌||◌, Bool, true, false, nat_le, length, Option, Some, None, nat_eq, refl, sym, ap, ◌∙◌, arith, is_some, eq-eqb}
 use Rattle.std.specs.List.{list_all, range_with_len}
 use Rattle.std.specs.Option.{option_map_or, option_eq}
+use Rattle.std.proofs.lemmas.Bool.{false≢true}
 use Rattle.std.proofs.lemmas.Bool.Decides.{nat_tests}
 use Rattle.rbc_spec.specs.SectionRuns.{SectionRun, no_run, within, behind, longest, all_of}
 use Rattle.std.proofs.lemmas.Option.{slice_get_past}
@@ -106,10 +107,13 @@ follows_same line c k book m first most none pages home = same_longest (grants.m
 
 -- ## Rights
 
-pub registered_here : (line : Line) (c t : ℕ) (r : Option ℕ) (b : Bool) → r ≡ registrar line t → option_eq nat_eq r (Some c) ≡ true → b ≡ (is_registrar_of line c t && b)
-registered_here line c t (Some d) b is same = rw (sym is) (let e : (d == c) ≡ true = same in rw e refl)
-registered_here line c t None b is same = cc
+pub is_registered : (line : Line) (c t : ℕ) (r : Option ℕ) → r ≡ registrar line t → option_eq nat_eq r (Some c) ≡ true → is_registrar_of line c t ≡ true
+is_registered line c t (Some d) is same = rw (sym is) (let e : (d == c) ≡ true = same in e)
+is_registered line c t None is same = cc
 
-pub not_registered_here : (line : Line) (c t : ℕ) (r : Option ℕ) (b : Bool) → r ≡ registrar line t → option_eq nat_eq r (Some c) ≡ false → false ≡ (is_registrar_of line c t && b)
-not_registered_here line c t (Some d) b is same = rw (sym is) (let e : (d == c) ≡ false = same in rw e refl)
-not_registered_here line c t None b is same = rw (sym is) refl
+pub not_registered : (line : Line) (c t : ℕ) (r : Option ℕ) → r ≡ registrar line t → option_eq nat_eq r (Some c) ≡ false → is_registrar_of line c t ≡ false
+not_registered line c t (Some d) is same = rw (sym is) (let e : (d == c) ≡ false = same in e)
+not_registered line c t None is same = rw (sym is) refl
+
+pub registered_elsewhere : (line : Line) (c t : ℕ) (r : Option ℕ) → r ≡ registrar line t → option_eq nat_eq r (Some c) ≡ false → registrar line t ≢ Some c
+registered_elsewhere line c t r is same here = false≢true (sym same ∙ ap (λ o. option_eq nat_eq o (Some c)) (is ∙ here) ∙ eq-eqb c c refl)

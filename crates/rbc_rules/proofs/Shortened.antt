@@ -1,22 +1,18 @@
 -- A train grants a request to shorten its authority: what comes of it is what its definition says.
-use Rattle.std.proofs.Common.{◌≡◌, ℕ, ◌*◌, nat_le, ◌==◌, ◌&&◌, true, false, if◌then◌else◌, List, [], is_none, Option, Some, None, Result, Ok, Err, Bool, option_map, option_and_then, refl, sym, ap, ◌∙◌, subst}
+use Rattle.std.proofs.Common.{◌≡◌, ℕ, ◌*◌, ◌<◌, length, nat_le, ◌==◌, ◌&&◌, true, false, if◌then◌else◌, List, [], is_none, Option, Some, None, Result, Ok, Err, Bool, option_map, option_and_then, refl, sym, ap, ◌∙◌, subst}
 use Rattle.std.proofs.lemmas.Option.{same_Some}
-use Rattle.rbc_spec.specs.Maps.{put}
-use Rattle.rbc_spec.specs.Reach.{Local}
+use Rattle.rbc_spec.specs.Reach.{Rights as ToRights}
 use Rattle.rbc_spec.specs.SectionRuns.{SectionRun}
 use Rattle.rbc_spec.specs.Line.{Line, end}
 use Rattle.rbc_spec.specs.Place.{Position}
-use Rattle.rbc_spec.specs.Message.{TrainMessage, ShorteningGranted, ShorteningRejected}
+use Rattle.rbc_spec.specs.Message.{TrainMessage, ShorteningGranted}
 use Rattle.rbc_spec.specs.Centre.{Centre, Up, Mission, Proposal}
-use Rattle.rbc_spec.specs.Acts.{Act, Reply, rest, ◌>>◌, change_mission, yield_if_due}
+use Rattle.rbc_spec.specs.Acts.{Act, rest, ◌>>◌, change_mission, yield_if_due}
 use Rattle.rbc_spec.specs.Step.{Train, effect, is_unasked}
-use Rattle.rbc_lemmas.proofs.Acts.{then_resting, then_rest}
-use Rattle.rbc_lemmas.proofs.Puts.{put_there, put_same}
-use Rattle.rbc_local.specs.Local.{IsLocalAt}
-use Rattle.rbc_local.proofs.Simple.{HasNoHanding, no_yield}
-use Rattle.rbc_local.proofs.Steps.{answer_stays}
+use Rattle.rbc_lemmas.proofs.Acts.{then_rest}
+use Rattle.rbc_local.proofs.Simple.{HasNoHanding}
 use Rattle.rbc_book.specs.Book.{Pages}
-use Rattle.rbc_right.specs.Rights.{Rights, is_here}
+use Rattle.rbc_right.specs.Rights.{Rights, right_of}
 use Rattle.rbc_session.specs.SessionStates.{session_phase}
 use Rattle.rbc_shorten.specs.Answers.{freeing, act_of, on_asked, cut_of}
 use Rattle.rbc_shorten.specs.declared.answer.Cut.{Cut}
@@ -24,12 +20,17 @@ use Rattle.rbc_shorten.specs.declared.answer.Cut.TheVariants.{Nothing, Keep}
 use Rattle.rbc_shorten.specs.declared.answer.Unasked.{Unasked}
 use Rattle.rbc_shorten.specs.declared.facts.Proposal.{Proposal as ProposalCode}
 use Rattle.rbc_claims.specs.Sections.{FreesRun, rest_of, wished}
-use Rattle.rbc_mission.specs.Supervisions.{SupervisionState, hand_of, with_front, GoesHome}
-use Rattle.rbc_rules.specs.Desk.{HasParts, HearsTrain, KeepsDesk, with_parts, replied}
+use Rattle.rbc_mission.specs.Supervisions.{SupervisionState, hand_of, with_front, right_left}
+use Rattle.rbc_mission.specs.declared.held.HeldRight.{HeldRight}
+use Rattle.rbc_mission.specs.declared.held.HeldRight.TheVariants.{Nothing as Nothing_held, Held}
+use Rattle.rbc_rules.specs.Desk.{HasParts, HearsTrain, IsKeptAt, with_parts, posted, replied}
+use Rattle.rbc_rules.specs.Homes.{GoesHome}
+use Rattle.rbc_rules.specs.declared.letter.Letter.{Letter}
 use Rattle.rbc_rules.specs.declared.train.TrainState.{TrainState}
 use Rattle.rbc_rules.proofs.Cuts.{kept_of, cuts}
 use Rattle.rbc_rules.proofs.Requests.{some_mapped}
 use Rattle.rbc_rules.proofs.Desk.{by_reply, answered_effect, with_mission, mission_changed, heard_at, parts_heard, left_heard, does_then, has_left}
+use Rattle.rbc_rules.proofs.Kept.{unhanded, kept_changed, yields_nothing}
 
 -- the request that stands, where the answer is to it
 pub asked_is : (f : ProposalCode → Cut) (o : Option ProposalCode) (stamp : ℕ) (x : Cut) → on_asked f o stamp ≡ Ok x → (p : ProposalCode) × (o ≡ Some p) × (f p ≡ x)
@@ -77,52 +78,43 @@ module _ (line : Line) (c : ℕ) (k : Centre) (stamp : ℕ) (old : TrainState) (
   mid = with_mission (record old { heard = Some stamp }) (option_map unasked old.supervision.mission)
 
   has : HasParts line c at (record old { heard = Some stamp }) book rights
-  has = parts_heard line c k stamp old book rights h.parts (ShorteningGranted request position)
+  has = parts_heard line c k stamp old book rights h.parts
 
   dropped : change_mission t unasked at ≡ replied (with_parts mid book rights at) [] []
   dropped = ap (λ (x : Centre). replied x [] []) (mission_changed line c at (record old { heard = Some stamp }) book rights has unasked)
 
-  left_local : IsLocalAt line c (with_parts mid book rights at)
-  left_local = subst (λ (r : Reply). IsLocalAt line c r.state) dropped (answer_stays line c h.parts.ordered m (ShorteningRejected request position) at has.local).state
-
-  same_desk : KeepsDesk old.supervision.number book book rights rights
-  same_desk = record { homes = λ s. refl; others = λ j. sym (put_same old.supervision.number (is_here rights old.supervision.number) (is_here rights) refl j); count = refl }
+  mid_kept : IsKeptAt line c mid
+  mid_kept = kept_changed line c (record old { heard = Some stamp }) unasked (λ m form. record { some = form.some; most = form.most; numbers = form.numbers; pool = form.pool; handing = form.handing }) (λ m. refl) has.kept
 
   mid_has : HasParts line c (with_parts mid book rights at) mid book rights
-  mid_has = has_left line c at (record old { heard = Some stamp }) mid book book rights rights has same_desk left_local
+  mid_has = has_left line c at (record old { heard = Some stamp }) mid book book rights rights has (λ s. refl) mid_kept
 
-  unhanded : n.handing ≡ None
-  unhanded = (h.parts.local.mission t n (h.parts.has_mission ∙ there)).no_handing
-
-  answers : (act : Act) (new : TrainState) (book' : Pages) (rights' : Rights) (told : List ℕ) → freeing line c t position n p ≡ act → new.supervision.engine ≡ t → HasNoHanding new.supervision.mission
-      → (change_mission t unasked >> act) at ≡ replied (with_parts new book' rights' at) [] told
-      → effect Local line c k (Train m) ≡ by_reply (replied (with_parts new book' rights' k) [] told)
-  answers act new book' rights' told frees engine none both =
+  answers : (act : Act) (new : TrainState) (book' : Pages) (rights' : Rights) (told : List ℕ) (letter : Option Letter) → freeing line c t position n p ≡ act → new.supervision.engine ≡ t → HasNoHanding new.supervision.mission
+      → (change_mission t unasked >> act) at ≡ posted letter (replied (with_parts new book' rights' at) [] told)
+      → effect ToRights line c k (Train m) ≡ by_reply (posted letter (replied (with_parts new book' rights' k) [] told))
+  answers act new book' rights' told letter frees engine none both =
       let stands : k.mission t ≡ Some n = h.parts.has_mission ∙ there in
-      let none_here : HasNoHanding (put at.mission new.supervision.engine new.supervision.mission t) =
-      subst HasNoHanding (sym (put_there at.mission new.supervision.engine new.supervision.mission) ∙ ap (put at.mission new.supervision.engine new.supervision.mission) engine) none in
       answered_effect line c k m _ (rw (h.known, h.parts.has_heard, h.timely, h.parts.has_phase, up, stands, asked) refl)
       (rw (stands, standing) (ap (λ (a : Act). ((change_mission t unasked >> a) >> yield_if_due line c t) at) frees
-      ∙ then_resting (change_mission t unasked >> act) (yield_if_due line c t) at (subst (λ (r : Reply). yield_if_due line c t r.state ≡ rest r.state) (sym both) (no_yield line c t (with_parts new book' rights' at) none_here))
-      ∙ both ∙ ap (λ (x : Centre). replied x [] told) (left_heard line c k stamp old book rights h.parts new book' rights' engine)))
+      ∙ yields_nothing line c t (change_mission t unasked >> act) at new book' rights' [] told letter engine none both
+      ∙ ap (λ (x : Centre). posted letter (replied x [] told)) (left_heard line c k stamp old book rights h.parts new book' rights' engine)))
 
   -- a train that has run past the proposed end keeps its hand
-  pub keeps_all : freeing line c t position n p ≡ rest → effect Local line c k (Train m) ≡ by_reply (replied (with_parts mid book rights k) [] [])
-  keeps_all frees = answers rest mid book rights [] frees refl (subst (λ (o : Option Mission). HasNoHanding (option_map unasked o)) (sym there) (λ x is. ap (λ (z : Mission). z.handing) (sym (same_Some (unasked n) x is)) ∙ unhanded))
-      (then_rest (change_mission t unasked) at ∙ dropped)
+  pub keeps_all : freeing line c t position n p ≡ rest → effect ToRights line c k (Train m) ≡ by_reply (replied (with_parts mid book rights k) [] [])
+  keeps_all frees = answers rest mid book rights [] None frees refl (unhanded line c mid mid_kept) (then_rest (change_mission t unasked) at ∙ dropped)
 
   -- another gives back what is behind it
-  pub gives_back : (keep : ℕ) (left : SupervisionState) (book' : Pages) (rights' : Rights) (told : List ℕ) → freeing line c t position n p ≡ act_of line c t n p (Keep keep) → keep ≡ kept_of p.last_kept n.hand
-      → left ≡ record old.supervision { mission = option_and_then (with_front keep) old.supervision.mission } → FreesRun t (rest_of keep (hand_of old.supervision)) book book' → told ≡ wished t (rest_of keep (hand_of old.supervision)) book
-      → GoesHome old.supervision left rights rights'
-      → effect Local line c k (Train m) ≡ by_reply (replied (with_parts (record { session_state = old.session_state; heard = Some stamp; said = old.said; supervision = left }) book' rights' k) [] told)
-  gives_back keep left book' rights' told frees counts is freed is_told home =
+  pub gives_back : (keep : ℕ) (left : SupervisionState) (book' : Pages) (rights' : Rights) (told : List ℕ) (letter : Option Letter) → freeing line c t position n p ≡ act_of line c t n p (Keep keep) → keep ≡ kept_of p.last_kept n.hand
+      → old.supervision.number < length rights → left ≡ record old.supervision { mission = option_and_then (with_front keep) old.supervision.mission } → FreesRun t (rest_of keep (hand_of old.supervision)) book book' → told ≡ wished t (rest_of keep (hand_of old.supervision)) book
+      → GoesHome line c t (right_left old.supervision left) letter rights rights'
+      → effect ToRights line c k (Train m) ≡ by_reply (posted letter (replied (with_parts (record old { heard = Some stamp; supervision = left }) book' rights' k) [] told))
+  gives_back keep left book' rights' told letter frees counts few is freed is_told home =
       let run_is : rest_of keep (hand_of old.supervision) ≡ rest_of (kept_of p.last_kept n.hand) n.hand = λ i. rest_of (counts i) (hand_of (record old.supervision { mission = there i })) in
       let left_is : left ≡ record old.supervision { mission = with_front (kept_of p.last_kept n.hand) n } = is ∙ (λ i. record old.supervision { mission = option_and_then (with_front (counts i)) (there i) }) in
-      let goes_home : GoesHome mid.supervision left rights rights' = λ j. home j
-      ∙ (λ i. put (is_here rights) old.supervision.number (if sym (some_mapped unasked old.supervision.mission) i && is_none left.mission then true else is_here rights old.supervision.number) j) in
-      answers (act_of line c t n p (Keep keep)) (record mid { supervision = left }) book' rights' told frees (ap (λ (x : SupervisionState). x.engine) left_is)
-      (subst HasNoHanding (sym (ap (λ (x : SupervisionState). x.mission) left_is)) (no_handing_left (kept_of p.last_kept n.hand) n unhanded))
-      (does_then (change_mission t unasked) (act_of line c t n p (Keep keep)) at mid (record mid { supervision = left }) book book' rights rights' [] told (ap (λ (x : SupervisionState). x.engine) left_is) dropped
-      (cuts line c (with_parts mid book rights at) mid book rights mid_has n p.last_kept (ap (option_map unasked) there) left book' rights' told left_is
+      let goes_home : GoesHome line c t (right_left mid.supervision left) letter rights rights' = subst (λ (x : HeldRight). GoesHome line c t x letter rights rights')
+      (λ i. if sym (some_mapped unasked old.supervision.mission) i && is_none left.mission then Held (right_of old.supervision.number) else Nothing_held) home in
+      answers (act_of line c t n p (Keep keep)) (record mid { supervision = left }) book' rights' told letter frees (ap (λ (x : SupervisionState). x.engine) left_is)
+      (subst HasNoHanding (sym (ap (λ (x : SupervisionState). x.mission) left_is)) (no_handing_left (kept_of p.last_kept n.hand) n (h.parts.kept.form n there).handing))
+      (does_then (change_mission t unasked) (act_of line c t n p (Keep keep)) at mid (record mid { supervision = left }) book book' rights rights' [] told letter (ap (λ (x : SupervisionState). x.engine) left_is) dropped
+      (cuts line c (with_parts mid book rights at) mid book rights mid_has n p.last_kept (ap (option_map unasked) there) few left book' rights' told letter left_is
       (subst (λ (r : SectionRun). FreesRun t r book book') run_is freed) (is_told ∙ ap (λ r. wished t r book) run_is) goes_home))

@@ -1,34 +1,50 @@
 -- A centre seen from one of its trains: the parts of its state that a message of the train finds, and those that it leaves.
-use Rattle.std.specs.Prelude.{◌≡◌, ◌+◌, ◌<◌, ◌≤◌, ℕ, List, [], Some, None, Result, Ok, Err, map, is_none, false, length}
+use Rattle.std.specs.Prelude.{◌≡◌, ◌+◌, ◌≤◌, ℕ, Bool, List, [], Option, Some, None, Result, Ok, Err, map, is_none, true, false, length}
 use Rattle.rbc_spec.specs.Maps.{put}
-use Rattle.rbc_spec.specs.Line.{Line, train_number}
+use Rattle.rbc_spec.specs.SectionRuns.{within}
+use Rattle.rbc_spec.specs.Line.{Line, is_home, train_number}
 use Rattle.rbc_spec.specs.Message.{is_stale}
 use Rattle.rbc_spec.specs.Outcome.{Saying, Told}
-use Rattle.rbc_spec.specs.Centre.{Centre}
+use Rattle.rbc_spec.specs.Centre.{Centre, Mission}
 use Rattle.rbc_spec.specs.Acts.{Act, Reply}
 use Rattle.rbc_spec.specs.Step.{Effect}
-use Rattle.rbc_local.specs.Local.{IsOrdered, IsLocalAt}
+use Rattle.rbc_local.specs.Local.{IsOrdered}
 use Rattle.rbc_book.specs.Book.{Pages, is_own, entry_at, wish_at}
 use Rattle.rbc_right.specs.Rights.{Rights, is_here}
+use Rattle.rbc_wait.specs.Waits.{IsCovered}
+use Rattle.rbc_mission.specs.Supervisions.{HasLocalForm}
 use Rattle.rbc_session.specs.SessionStates.{session_phase}
 use Rattle.rbc_rules.specs.Desks.{IsBookOf, HasBook}
 use Rattle.rbc_rules.specs.Reasons.{reason_of}
+use Rattle.rbc_rules.specs.Letters.{letters}
 use Rattle.rbc_rules.specs.Sayings.{sayings_of}
 use Rattle.rbc_rules.specs.declared.heard.Heard.{Heard}
+use Rattle.rbc_rules.specs.declared.letter.Letter.{Letter}
 use Rattle.rbc_rules.specs.declared.reason.Reason.{Reason}
 use Rattle.rbc_rules.specs.declared.train.TrainState.{TrainState}
 
--- centre c, in whose missions no other has a part, has this of the train, this book and these rights
+-- The train's mission has sections of home c alone, with no part of another centre, and what is claimed for a start that waits is what
+-- its place covers
+pub record IsKeptAt (line : Line) (c : ℕ) (p : TrainState) : Type 0 where
+  pub one_train : p.waiting.engine ≡ p.supervision.engine
+  pub form : (m : Mission) → p.supervision.mission ≡ Some m → HasLocalForm m
+  pub at_home : (m : Mission) → p.supervision.mission ≡ Some m → (s : ℕ) → within m.hand s ≡ true → is_home line c s ≡ true
+  pub covers : IsCovered line p.waiting
+
+-- centre c, which expects no train from another, has this of the train, this book and these rights
 pub record HasParts (line : Line) (c : ℕ) (k : Centre) (p : TrainState) (book : Pages) (rights : Rights) : Type 0 where
   pub ordered : IsOrdered line
-  pub local : IsLocalAt line c k
+  pub kept : IsKeptAt line c p
   pub homes : IsBookOf line c book
+  pub not_expected : (d t : ℕ) → k.expects d t ≡ None
   pub has_book : HasBook k book
   pub has_wish : (s : ℕ) → k.wish s ≡ wish_at book s
   pub has_phase : k.phase p.supervision.engine ≡ session_phase p.session_state
   pub has_heard : k.heard p.supervision.engine ≡ p.heard
   pub has_said : k.said p.supervision.engine ≡ p.said
   pub has_mission : k.mission p.supervision.engine ≡ p.supervision.mission
+  pub has_wait : k.wait p.supervision.engine ≡ p.waiting.wait
+  pub has_ask : k.has_asked p.supervision.engine ≡ p.waiting.has_asked
   pub has_right : k.has_right p.supervision.engine ≡ is_here rights p.supervision.number
 
 -- and it hears the train, of the line, with a T_TRAIN above the last
@@ -46,23 +62,37 @@ with_parts p book rights k = record k {
   heard = put k.heard p.supervision.engine p.heard;
   said = put k.said p.supervision.engine p.said;
   mission = put k.mission p.supervision.engine p.supervision.mission;
+  wait = put k.wait p.supervision.engine p.waiting.wait;
+  has_asked = put k.has_asked p.supervision.engine p.waiting.has_asked;
   has_right = put k.has_right p.supervision.engine (is_here rights p.supervision.number);
 }
 
+-- the centre with this right of the train, or without it
+abbrev pub with_right : ℕ → Bool → Centre → Centre
+with_right t is_here k = record k { has_right = put k.has_right t is_here }
+
 -- ## What an act and a message come to
 
--- a reply that leaves this, and says and tells this. No other centre has a part, so none is sent a frame
+-- a reply that leaves this, says and tells this, and sends no frame
 abbrev pub replied : Centre → List Saying → List ℕ → Reply
 replied k sayings told = record { state = k; frames = λ d. []; sayings = sayings; words = map (λ s. Told s) told }
 
--- wherever centre c has the old parts, the act leaves the new ones, and says and tells this
-abbrev pub Does : Line → (ℕ → Act) → TrainState → Pages → Rights → TrainState → Pages → Rights → List Saying → List ℕ → Type 0
-Does line act old book rights new book' rights' sayings told =
-    (c : ℕ) (k : Centre) → HasParts line c k old book rights → act c k ≡ replied (with_parts new book' rights' k) sayings told
+-- a reply with the frame of this letter, or with none
+abbrev pub posted : Option Letter → Reply → Reply
+posted letter reply = record reply { frames = letters letter }
+
+-- wherever centre c has the old parts, the act leaves the new ones, says and tells this, and sends this letter
+abbrev pub Does : Line → ℕ → Act → TrainState → Pages → Rights → TrainState → Pages → Rights → List Saying → List ℕ → Option Letter → Type 0
+Does line c act old book rights new book' rights' sayings told letter =
+    (k : Centre) → HasParts line c k old book rights → act k ≡ posted letter (replied (with_parts new book' rights' k) sayings told)
+
+-- what a frame came to, or a message that was answered, at a centre that is left so
+abbrev pub reply_left : Centre → Heard → Reply
+reply_left k h = posted h.letter (replied k (sayings_of h.saying) h.told)
 
 -- what a message came to at a centre that is left so
 abbrev pub effect_left : Centre → Result Heard Reason → Effect
-effect_left k (Ok h) = record { reply = replied k (sayings_of h.saying) h.told; link = None; silence = None }
+effect_left k (Ok h) = record { reply = reply_left k h; link = None; silence = None }
 effect_left k (Err why) = record { reply = replied k [] []; link = None; silence = Some (reason_of why) }
 
 -- ## What stays
@@ -71,10 +101,15 @@ effect_left k (Err why) = record { reply = replied k [] []; link = None; silence
 pub record KeepsTrain (old new : TrainState) : Type 0 where
   pub number : new.supervision.number ≡ old.supervision.number
   pub engine : new.supervision.engine ≡ old.supervision.engine
+  pub waiting : new.waiting.engine ≡ old.waiting.engine
   pub said : new.said ≤ old.said + 1
 
--- the book has the same homes, and of the rights none but that of this train has changed
-pub record KeepsDesk (i : ℕ) (book book' : Pages) (rights rights' : Rights) : Type 0 where
-  pub homes : (s : ℕ) → is_own book' s ≡ is_own book s
+-- of the rights none but that of this train has changed
+pub record KeepsRights (i : ℕ) (rights rights' : Rights) : Type 0 where
   pub others : (j : ℕ) → is_here rights' j ≡ put (is_here rights) i (is_here rights' i) j
   pub count : length rights' ≡ length rights
+
+-- the book has the same homes, and of the rights none but that of this train has changed
+pub record KeepsDesk (i : ℕ) (book book' : Pages) (from to : Rights) : Type 0 where
+  pub homes : (s : ℕ) → is_own book' s ≡ is_own book s
+  pub rights : KeepsRights i from to

@@ -4,5 +4,8 @@ pub mod Asking
 pub mod Tellings
 pub mod SessionStates
 pub mod Sayings
+pub mod Letters
 pub mod Trains
 pub mod Desk
+pub mod Starts
+pub mod Homes

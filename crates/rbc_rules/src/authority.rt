@@ -1,6 +1,6 @@
 //! Validated train data (3.18), and a request for a movement authority (3.8).
 
-ghost use Rattle.std.specs.Prelude.{◌≡◌, ◌<◌, ℕ};
+ghost use Rattle.std.specs.Prelude.{◌≡◌, ◌<◌, ℕ, None, IfOk};
 ghost use Rattle.rbc_spec.specs.Centre as spec;
 ghost use Rattle.rbc_spec.specs.Line as track;
 ghost use Rattle.rbc_spec.specs.Place as place;
@@ -18,7 +18,6 @@ use crate::train::TrainState;
 use rbc_book::Book;
 use rbc_grant::{answer_request, may_request};
 use rbc_line::Line;
-use rbc_mission::Told;
 use rbc_msgs::{NID_LRBG_UNKNOWN, TrackBody};
 use rbc_packets::{Authority, Position};
 use rbc_place::place_on;
@@ -31,9 +30,11 @@ impl TrainState {
         requires count { self.old.said < 4294967294 }
         ensures exact { (line : track.Line) (c : ℕ) (book : Pages) (rights : Rights) (k : spec.Centre) (position : place.Position)
             → HearsTrain line c k t_train self.old book rights
-            → step.effect reach.Local line c k (step.Train (record { t_train = t_train; nid_engine = self.old.supervision.engine; body = TrainData position }))
+            → step.effect reach.Rights line c k (step.Train (record { t_train = t_train; nid_engine = self.old.supervision.engine; body = TrainData position }))
             ≡ effect_left (with_parts self.new book rights k) result }
         ensures kept { KeepsTrain self.old self.new }
+        ensures letter { IfOk result (λ h. h.letter ≡ None) }
+        ensures waiting { self.new.waiting ≡ self.old.waiting }
         ensures session { self.new.session_state ≡ self.old.session_state }
     {
         let known = self.known();
@@ -52,10 +53,7 @@ impl TrainState {
         self.supervision.note_data();
         let acknowledgement = TrackBody::DataAcknowledged(TTrain::new(u64::from(t_train)));
         let saying = self.answer(NID_LRBG_UNKNOWN, acknowledgement);
-        Ok(Heard {
-            saying: Some(saying),
-            told: Told::nothing(),
-        })
+        Ok(Heard::said(saying))
     }
 
     /// Message 132: the hand is extended by the sections that may follow it, and the authority is given up to its end.
@@ -68,9 +66,11 @@ impl TrainState {
     ) -> Result<Heard, Reason>
         requires count { self.old.said < 4294967294 }
         ensures exact { (c : ℕ) (rights : Rights) (k : spec.Centre) → HearsTrain line.now c k t_train self.old book.old rights
-            → step.effect reach.Local line.now c k (step.Train (record { t_train = t_train; nid_engine = self.old.supervision.engine; body = Request (position_of position.now) }))
+            → step.effect reach.Rights line.now c k (step.Train (record { t_train = t_train; nid_engine = self.old.supervision.engine; body = Request (position_of position.now) }))
             ≡ effect_left (with_parts self.new book.new rights k) result }
         ensures kept { KeepsTrain self.old self.new }
+        ensures letter { IfOk result (λ h. h.letter ≡ None) }
+        ensures waiting { self.new.waiting ≡ self.old.waiting }
         ensures session { self.new.session_state ≡ self.old.session_state }
         ensures homes { (s : ℕ) → is_own book.new s ≡ is_own book.old s }
     {
@@ -105,9 +105,6 @@ impl TrainState {
             l_endsection: LEndsection::new(u64::from(grant.end)),
         });
         let saying = self.answer(place.group, authority);
-        Ok(Heard {
-            saying: Some(saying),
-            told: Told::nothing(),
-        })
+        Ok(Heard::said(saying))
     }
 }

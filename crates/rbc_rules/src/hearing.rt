@@ -1,17 +1,20 @@
 //! A message of a train, at a radio block centre whose missions no other centre has a part in.
 
-ghost use Rattle.std.specs.Prelude.{◌≡◌, ◌<◌, ℕ, false, is_none, length};
+ghost use Rattle.std.specs.Prelude.{◌≡◌, ◌<◌, ◌≤◌, ℕ, true, false, is_none, None, length, IfOk, IfSome};
 ghost use Rattle.rbc_spec.specs.Centre as spec;
-ghost use Rattle.rbc_spec.specs.Line.{train_number};
+ghost use Rattle.rbc_spec.specs.Line.{is_centre, train_number};
 ghost use Rattle.rbc_spec.specs.Message.{is_stale};
 ghost use Rattle.rbc_spec.specs.Reach as reach;
 ghost use Rattle.rbc_spec.specs.Step as step;
 ghost use Rattle.rbc_msgs.specs.StepMessage.{step_message};
+ghost use Rattle.rbc_msgs.specs.TrainText.{TrainText};
 ghost use Rattle.rbc_msgs.specs.declared.train_body.TrainBody.TheVariants.{InitiationOfSession};
+ghost use Rattle.rbc_wait.specs.Waits.{IsCovered};
 ghost use Rattle.rbc_session.specs.Sessions.{HasRoom};
 ghost use Rattle.rbc_session.specs.SessionStates.{session_phase, StandsFor};
 ghost use Rattle.rbc_rules.specs.Desk.{HasParts, KeepsTrain, KeepsDesk, with_parts, effect_left};
 ghost use Rattle.rbc_rules.specs.Desks.{IsBookOf};
+ghost use Rattle.rbc_rules.specs.Letters.{MaySend, tells_others};
 ghost use Rattle.rbc_rules.specs.SessionStates.{Enters};
 
 use crate::heard::Heard;
@@ -42,18 +45,21 @@ impl TrainState {
         requires room { message.now.body ≡ InitiationOfSession → is_stale message.now.t_train self.old.heard ≡ false → HasRoom sessions.old }
         requires count { self.old.said < 4294967294 }
         ensures exact { (k : spec.Centre) → HasParts line.now centre k self.old book.old registrar.old → is_none (train_number line.now self.old.supervision.engine) ≡ false
-            → step.effect reach.Local line.now centre k (step.Train (step_message message.now)) ≡ effect_left (with_parts self.new book.new registrar.new k) result }
+            → step.effect reach.Rights line.now centre k (step.Train (step_message message.now)) ≡ effect_left (with_parts self.new book.new registrar.new k) result }
         ensures kept { KeepsTrain self.old self.new }
+        ensures covers { IsCovered line.now self.old.waiting → IsCovered line.now self.new.waiting }
         ensures desk { KeepsDesk self.old.supervision.number book.old book.new registrar.old registrar.new }
         ensures stands { Enters sessions.old sessions.new self.new.session_state self.old.supervision.engine (session_phase self.new.session_state) }
+        ensures silent { tells_others (step_message message.now).body ≡ false → IfOk result (λ h. h.letter ≡ None) }
+        ensures may { is_centre line.now centre ≡ true → self.old.supervision.engine ≤ 16777215 → IfOk result (λ h. IfSome h.letter (MaySend line.now centre)) }
     {
         let t_train = message.t_train();
         if self.is_stale(t_train) {
             return Err(Reason::StaleStamp);
         }
         match message.body() {
-            TrainBody::InitiationOfSession => self.initiation_of_session(sessions, t_train),
-            TrainBody::TerminationOfSession => self.termination_of_session(sessions, t_train),
+            TrainBody::InitiationOfSession => self.initiation_of_session(book, sessions, t_train),
+            TrainBody::TerminationOfSession => self.termination_of_session(book, sessions, t_train),
             TrainBody::SessionEstablished => self.session_established(sessions, t_train),
             TrainBody::StartOfMission { q_status, position } => {
                 self.start_of_mission(line, centre, book, registrar, t_train, *q_status, position)
@@ -61,17 +67,35 @@ impl TrainState {
             TrainBody::TrainData { .. } => self.train_data(t_train),
             TrainBody::Request { position, .. } => self.request(line, book, t_train, position),
             TrainBody::Report { position } => {
-                self.report(line, book, registrar, t_train, position)
+                self.report(line, centre, book, registrar, t_train, position)
             }
             TrainBody::ShorteningGranted { request, position } => {
-                self.shortening_granted(line, book, registrar, t_train, *request, position)
+                self.shortening_granted(line, centre, book, registrar, t_train, *request, position)
             }
             TrainBody::ShorteningRejected { request, .. } => {
                 self.shortening_rejected(t_train, *request)
             }
             TrainBody::EndOfMission { position } => {
-                self.end_of_mission(line, book, registrar, t_train, position)
+                self.end_of_mission(line, centre, book, registrar, t_train, position)
             }
         }
+    }
+}
+
+/// Whether another centre may have to be told something by a train's message: the right may be asked for, or go home.
+pub fn tells_others(body: &TrainBody) -> bool
+    ensures { (m : TrainText) → m.body ≡ body.now → result ≡ tells_others (step_message m).body }
+{
+    match body {
+        TrainBody::StartOfMission { .. }
+        | TrainBody::Report { .. }
+        | TrainBody::ShorteningGranted { .. }
+        | TrainBody::EndOfMission { .. } => true,
+        TrainBody::InitiationOfSession
+        | TrainBody::TerminationOfSession
+        | TrainBody::SessionEstablished
+        | TrainBody::TrainData { .. }
+        | TrainBody::Request { .. }
+        | TrainBody::ShorteningRejected { .. } => false,
     }
 }

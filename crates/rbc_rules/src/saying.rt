@@ -1,7 +1,9 @@
-ghost use Rattle.std.specs.Prelude.{◌≡◌, ◌<◌, ◌+◌};
+ghost use Rattle.std.specs.Prelude.{◌≡◌, ◌<◌, ◌+◌, [], ◌∷◌, None};
+ghost use Rattle.rbc_spec.specs.Message.{unknown_group};
 ghost use Rattle.rbc_msgs.specs.Bodies.{track_body};
-ghost use Rattle.rbc_rules.specs.Sayings.{saying_of};
+ghost use Rattle.rbc_rules.specs.Sayings.{saying_of, sayings_of};
 
+use crate::heard::Heard;
 use crate::train::TrainState;
 use rbc_msgs::{NID_LRBG_UNKNOWN, TrackBody, TrackMsg};
 
@@ -48,5 +50,16 @@ impl TrainState {
         let nid_engine = self.nid_engine();
         self.said += 1;
         Saying::of_count(nid_engine, self.said, nid_lrbg, body)
+    }
+
+    /// The next message to the train says this, from no balise group, and nothing else is said.
+    pub(crate) fn answered(&mut self, body: TrackBody) -> Heard
+        requires { self.old.said < 4294967294 }
+        ensures said { sayings_of result.saying ≡ record { nid_engine = self.old.supervision.engine; message = record { t_train = self.old.said + 1; nid_lrbg = unknown_group; body = track_body body } } ∷ [] }
+        ensures letter { result.letter ≡ None }
+        ensures told { result.told ≡ [] }
+        ensures counted { self.new ≡ record self.old { said = self.old.said + 1 } }
+    {
+        Heard::said(self.answer(NID_LRBG_UNKNOWN, body))
     }
 }

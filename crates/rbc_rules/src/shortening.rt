@@ -1,14 +1,16 @@
 //! The train answers the request to shorten its movement authority (3.8.6).
 
-ghost use Rattle.std.specs.Prelude.{◌≡◌, ◌<◌, ℕ, option_map, length};
+ghost use Rattle.std.specs.Prelude.{◌≡◌, ◌<◌, ◌≤◌, ℕ, option_map, length, true, None, IfOk, IfSome};
 ghost use Rattle.rbc_spec.specs.Centre as spec;
 ghost use Rattle.rbc_spec.specs.Message.{ShorteningGranted, ShorteningRejected};
 ghost use Rattle.rbc_spec.specs.Place as place;
 ghost use Rattle.rbc_spec.specs.Reach as reach;
 ghost use Rattle.rbc_spec.specs.Step as step;
 ghost use Rattle.rbc_msgs.specs.StepMessage.{position_of};
+ghost use Rattle.rbc_rules.specs.Letters.{MaySend};
 ghost use Rattle.rbc_rules.specs.Desk.{HearsTrain, KeepsTrain, KeepsDesk, with_parts, effect_left};
 ghost use Rattle.rbc_spec.specs.Line as track;
+ghost use Rattle.rbc_spec.specs.Line.{is_centre};
 ghost use Rattle.rbc_book.specs.Book.{Pages};
 ghost use Rattle.rbc_right.specs.Rights.{Rights};
 
@@ -17,7 +19,6 @@ use crate::reason::Reason;
 use crate::train::TrainState;
 use rbc_book::Book;
 use rbc_line::Line;
-use rbc_mission::Told;
 use rbc_packets::Position;
 use rbc_place::place_on;
 use rbc_right::Registrar;
@@ -31,6 +32,7 @@ impl TrainState {
     pub(crate) fn shortening_granted(
         &mut self,
         line: &Line,
+        centre: u8,
         book: &mut Book,
         registrar: &mut Registrar,
         t_train: u32,
@@ -38,12 +40,14 @@ impl TrainState {
         position: &Position,
     ) -> Result<Heard, Reason>
         requires number { self.old.supervision.number < length registrar.old }
-        ensures exact { (c : ℕ) (k : spec.Centre) → HearsTrain line.now c k t_train self.old book.old registrar.old
-            → step.effect reach.Local line.now c k (step.Train (record { t_train = t_train; nid_engine = self.old.supervision.engine; body = ShorteningGranted request (position_of position.now) }))
+        ensures exact { (k : spec.Centre) → HearsTrain line.now centre k t_train self.old book.old registrar.old
+            → step.effect reach.Rights line.now centre k (step.Train (record { t_train = t_train; nid_engine = self.old.supervision.engine; body = ShorteningGranted request (position_of position.now) }))
             ≡ effect_left (with_parts self.new book.new registrar.new k) result }
         ensures kept { KeepsTrain self.old self.new }
         ensures session { self.new.session_state ≡ self.old.session_state }
+        ensures waiting { self.new.waiting ≡ self.old.waiting }
         ensures desk { KeepsDesk self.old.supervision.number book.old book.new registrar.old registrar.new }
+        ensures may { is_centre line.now centre ≡ true → self.old.supervision.engine ≤ 16777215 → IfOk result (λ h. IfSome h.letter (MaySend line.now centre)) }
     {
         let known = self.known();
         match known.phase {
@@ -64,16 +68,13 @@ impl TrainState {
         ) {
             Ok(Cut::Keep(keep)) => {
                 self.heard = Some(t_train);
-                let told = self.supervision.shorten(keep, book, registrar);
-                Ok(Heard { saying: None, told })
+                let released = self.supervision.shorten(keep, book);
+                Ok(self.released(line, centre, registrar, released))
             }
             Ok(Cut::Nothing) => {
                 self.heard = Some(t_train);
                 self.supervision.forget_proposal();
-                Ok(Heard {
-                    saying: None,
-                    told: Told::nothing(),
-                })
+                Ok(Heard::nothing())
             }
             Err(_) => Err(Reason::Unasked),
         }
@@ -87,10 +88,12 @@ impl TrainState {
     ) -> Result<Heard, Reason>
         ensures exact { (line : track.Line) (c : ℕ) (book : Pages) (rights : Rights) (k : spec.Centre) (position : place.Position)
             → HearsTrain line c k t_train self.old book rights
-            → step.effect reach.Local line c k (step.Train (record { t_train = t_train; nid_engine = self.old.supervision.engine; body = ShorteningRejected request position }))
+            → step.effect reach.Rights line c k (step.Train (record { t_train = t_train; nid_engine = self.old.supervision.engine; body = ShorteningRejected request position }))
             ≡ effect_left (with_parts self.new book rights k) result }
         ensures kept { KeepsTrain self.old self.new }
+        ensures letter { IfOk result (λ h. h.letter ≡ None) }
         ensures session { self.new.session_state ≡ self.old.session_state }
+        ensures waiting { self.new.waiting ≡ self.old.waiting }
     {
         let known = self.known();
         match known.phase {
@@ -106,10 +109,7 @@ impl TrainState {
         }
         self.heard = Some(t_train);
         self.supervision.forget_proposal();
-        Ok(Heard {
-            saying: None,
-            told: Told::nothing(),
-        })
+        Ok(Heard::nothing())
     }
 }
 

@@ -2,7 +2,7 @@
 
 ghost use Rattle.std.specs.Prelude.{◌≡◌, ◌&&◌, ◌<◌, ℕ, option_map, true, IfSome};
 ghost use Rattle.rbc_spec.specs.Centre as spec;
-ghost use Rattle.rbc_spec.specs.Centre.{is_free, is_registrar_of};
+ghost use Rattle.rbc_spec.specs.Centre.{is_free};
 ghost use Rattle.rbc_spec.specs.Place as place;
 ghost use Rattle.rbc_spec.specs.Place.{fit_place};
 ghost use Rattle.rbc_spec.specs.SectionRuns.{within, all_of};
@@ -10,16 +10,13 @@ ghost use Rattle.rbc_msgs.specs.StepMessage as message;
 ghost use Rattle.rbc_msgs.specs.StepMessage.{position_of};
 ghost use Rattle.rbc_hand.specs.SectionRuns.{run_of};
 ghost use Rattle.rbc_place.specs.Places.{place_of};
-ghost use Rattle.rbc_right.specs.Rights.{is_here};
 ghost use Rattle.rbc_rules.specs.Desks.{IsBookOf, HasBook};
 
-use crate::known::Train;
 use rbc_book::Book;
 use rbc_hand::SectionRun;
 use rbc_line::Line;
 use rbc_packets::Position;
 use rbc_place::{Place, extent, is_fit};
-use rbc_right::Registrar;
 use rbc_vars::QStatus;
 
 /// The place of a start of mission that is fit (5.4).
@@ -61,11 +58,4 @@ fn is_free(line: &Line, centre: u8, book: &Book, s: u32) -> bool
     ensures { (k : spec.Centre) → HasBook k book.now → result ≡ is_free line.now centre k s }
 {
     s < u32::from(line.section_count()) && book.page(s as u16).entry.is_open()
-}
-
-// Whether the train's right is registered here, and here.
-pub(crate) fn has_right(line: &Line, centre: u8, registrar: &Registrar, train: &Train) -> bool
-    ensures { result ≡ (is_registrar_of line.now centre train.now.nid_engine && is_here registrar.now train.now.number) }
-{
-    line.registrar(train.nid_engine) == Some(centre) && registrar.has(train.number)
 }

@@ -3,6 +3,7 @@ ghost use Rattle.rbc_spec.specs.Message.{is_stale};
 ghost use Rattle.rbc_spec.specs.Centre as spec;
 ghost use Rattle.rbc_spec.specs.Acts.{propose_if_so};
 ghost use Rattle.rbc_hand.specs.SectionRuns.{run_of};
+ghost use Rattle.rbc_place.specs.Places.{place_of};
 ghost use Rattle.rbc_session.specs.SessionStates.{phase_of, session_phase};
 ghost use Rattle.rbc_mission.specs.Supervisions.{HasLocalForm, hand_of};
 ghost use Rattle.rbc_rules.specs.Desks.{mission_by};
@@ -18,9 +19,10 @@ use rbc_line::Line;
 use rbc_mission::{MissionFacts, Supervision};
 use rbc_msgs::TrackBody;
 use rbc_packets::Authority;
-use rbc_right::Registrar;
+use rbc_place::Place;
 use rbc_session::{Phase, SessionState, Sessions};
 use rbc_vars::LEndsection;
+use rbc_wait::WaitingStart;
 use std::alloc::{AllocError, Global};
 
 /// What is known of a train at a centre.
@@ -36,6 +38,8 @@ pub struct TrainPage {
     pub mission: Option<MissionFacts>,
     /// The sections of its movement authority, none where there is no mission.
     pub hand: SectionRun,
+    /// The place of a start of mission that waits for the right to supervise the train.
+    pub waiting: Option<Place>,
 }
 
 /// What a centre keeps of a train of the line.
@@ -49,20 +53,36 @@ pub struct TrainState {
     pub said: u32,
     /// Its mission, where one stands at this centre.
     pub supervision: Supervision,
+    /// Its start of mission that waits, and whether its right is asked for.
+    pub waiting: WaitingStart,
 }
 
 impl TrainState {
     /// What is kept of a train that was never heard, with this place in the line file.
-    pub fn unknown(alloc: Global, number: u8, nid_engine: u32) -> Result<TrainState, AllocError>
-        ensures { IfOk result (λ p. p ≡ unknown_state number nid_engine) }
+    /// For want of memory the book ends what was made.
+    pub fn unknown(
+        alloc: Global,
+        number: u8,
+        nid_engine: u32,
+        book: &mut Book,
+    ) -> Result<TrainState, AllocError>
+        ensures state { IfOk result (λ p. p ≡ unknown_state number nid_engine) }
+        ensures book { IfOk result (λ p. book.new ≡ book.old) }
     {
         let supervision = Supervision::new(alloc, number, nid_engine)?;
-        Ok(TrainState {
-            session_state: SessionState::Closed,
-            heard: None,
-            said: 0,
-            supervision,
-        })
+        match WaitingStart::new(alloc, nid_engine) {
+            Ok(waiting) => Ok(TrainState {
+                session_state: SessionState::Closed,
+                heard: None,
+                said: 0,
+                supervision,
+                waiting,
+            }),
+            Err(error) => {
+                supervision.end(book);
+                Err(error)
+            }
+        }
     }
 
     /// The train's NID_ENGINE.
@@ -85,6 +105,7 @@ impl TrainState {
         ensures heard { result.heard ≡ self.now.heard }
         ensures said { result.said ≡ self.now.said }
         ensures mission { mission_by result.mission result.hand ≡ self.now.supervision.mission }
+        ensures waiting { option_map place_of result.waiting ≡ self.now.waiting.wait }
     {
         TrainPage {
             phase: self.session_state.phase(),
@@ -92,6 +113,7 @@ impl TrainState {
             said: self.said,
             mission: self.supervision.mission(),
             hand: self.supervision.hand(),
+            waiting: self.waiting.place(),
         }
     }
 
@@ -112,16 +134,18 @@ impl TrainState {
         }
     }
 
-    /// Ends it with its centre: its session ends, and what its mission holds goes back.
-    pub fn end(self, sessions: &mut Sessions, book: &mut Book, registrar: &mut Registrar) {
+    /// Ends it with its centre: its session ends, and its sections go back.
+    pub fn end(self, sessions: &mut Sessions, book: &mut Book) {
         let TrainState {
             session_state,
             heard: _,
             said: _,
             supervision,
+            waiting,
         } = self;
         sessions.end(session_state);
-        supervision.give_up(book, registrar);
+        supervision.end(book);
+        waiting.end(book);
     }
 
     /// Whether a message came late or again (3.16.3).
@@ -143,6 +167,7 @@ impl TrainState {
         ensures heard { self.new.heard ≡ self.old.heard }
         ensures number { self.new.supervision.number ≡ self.old.supervision.number }
         ensures engine { self.new.supervision.engine ≡ self.old.supervision.engine }
+        ensures waiting { self.new.waiting ≡ self.old.waiting }
         ensures said { self.new.said ≤ self.old.said + 1 }
     {
         let known = self.known();

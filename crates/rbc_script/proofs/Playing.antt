@@ -1,7 +1,7 @@
 -- Entries that are played one after another.
 use Rattle.std.proofs.Common.{◌≡◌, ℕ, ◌+◌, ◌<◌, List, [], ◌∷◌, ◌++◌, length, get_or, drop, Ok, Err, refl, sym, ap, ◌∙◌, subst, append_assoc}
 use Rattle.std.proofs.lemmas.List.{drop_more}
-use Rattle.rbc_spec.specs.Reach.{Local}
+use Rattle.rbc_spec.specs.Reach.{Rights}
 use Rattle.rbc_spec.specs.Line.{Line}
 use Rattle.rbc_spec.specs.World.{World, Answer, world_step}
 use Rattle.rbc_centre.specs.declared.fault.StepFault.{StepFault}

@@ -1,7 +1,8 @@
 -- A start that waits, by the acts of the rules.
-use Rattle.std.proofs.Common.{◌≡◌, ℕ, zero, suc, ◌+◌, ◌<◌, ◌≤◌, ◌&&◌, Bool, true, false, cond, not, if◌then◌else◌, List, [], ◌∷◌, ◌++◌, map, Option, Some, None, is_some, is_none, option_map, refl, sym, ap, subst, ◌∙◌, inl, inr, arith, eq-eqb, length, ◌==◌}
+use Rattle.std.proofs.Common.{◌≡◌, ℕ, zero, suc, ◌+◌, ◌<◌, ◌≤◌, ◌&&◌, Bool, true, false, cond, not, if◌then◌else◌, List, [], ◌∷◌, map, Option, Some, None, is_some, is_none, option_map, refl, sym, ap, subst, ◌∙◌, inl, inr, arith, eq-eqb, length, ◌==◌}
 use Rattle.std.specs.List.{filter, range_with_len}
 use Rattle.std.specs.Option.{option_map_or}
+use Rattle.std.proofs.Math.Bool.{and-true, and-false}
 use Rattle.std.proofs.lemmas.Bool.{cases_Bool, false≢true, and_parts, leb-true}
 use Rattle.std.proofs.lemmas.List.{append-nil}
 use Rattle.rbc_spec.specs.Line.{Line, is_home, registrar}
@@ -31,19 +32,11 @@ use Rattle.rbc_claims.proofs.Runs.{within_none}
 -- what is in use for a train is of home
 held_is : (line : Line) (c t : ℕ) (r : SectionRun) (book : Pages) → ((s : ℕ) → is_own book s ≡ is_home line c s) → (s : ℕ) → ((within r s && is_home line c s) && is_taken_for t (entry_at book s)) ≡ is_held t r book s
 held_is line c t r book of s = elim (cases_Bool (is_home line c s)) [
-  | inl home ↦ rw home (ap (λ x. x && is_taken_for t (entry_at book s)) (and_true (within r s)))
+  | inl home ↦ rw home (ap (λ x. x && is_taken_for t (entry_at book s)) (and-true (within r s)))
   | inr home ↦
       let shut = foreign_is_shut book s (of s ∙ home) in
-      rw (home, shut) (and_false (within r s && false) ∙ sym (and_false (within r s)))
+      rw (home, shut) (and-false (within r s && false) ∙ sym (and-false (within r s)))
 ]
-  where
-    and_true : (x : Bool) → (x && true) ≡ x
-    and_true true = refl
-    and_true false = refl
-
-    and_false : (x : Bool) → (x && false) ≡ false
-    and_false true = refl
-    and_false false = refl
 
 filter_same : (p q : ℕ → Bool) (a n : ℕ) → ((s : ℕ) → a ≤ s → s < a + n → p s ≡ q s) → filter p (range_with_len a n) ≡ filter q (range_with_len a n)
 filter_same p q a zero same = refl

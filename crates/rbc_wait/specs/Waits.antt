@@ -1,5 +1,5 @@
 -- A start of mission that waits for the right to supervise, and the ask for that right.
-use Rattle.std.specs.Prelude.{◌≡◌, ℕ, ◌+◌, ◌≤◌, ◌==◌, Bool, List, [], ◌∷◌, length, map, Option, Some, None, option_map, if◌then◌else◌}
+use Rattle.std.specs.Prelude.{◌≡◌, ℕ, ◌+◌, ◌≤◌, ◌==◌, Bool, List, [], ◌∷◌, length, map, Option, Some, None, option_map, is_some, true, if◌then◌else◌}
 use Rattle.std.specs.Option.{option_map_or}
 use Rattle.rbc_spec.specs.Maps.{put}
 use Rattle.rbc_spec.specs.SectionRuns.{SectionRun, no_run}
@@ -79,9 +79,10 @@ abbrev pub wait_state : ℕ → Option Place → Holding → Bool → WaitState
 wait_state t place hand has_asked =
     record { engine = t; wait = option_map place_of place; sections = run hand; has_asked = has_asked }
 
--- each section is held by a claim for the train, and none where no start waits
+-- each section is held by a claim for the train: one at least where a start waits, and none where none does
 pub record IsWaitingStart (t : ℕ) (place : Option Place) (hand : Holding) : Type 0 where
   pub own : IsAllOwn t hand
   pub none : place ≡ None → run hand ≡ no_run
+  pub some : is_some place ≡ true → 1 ≤ length hand.holds
   pub most : length hand.holds ≤ 32
   pub numbers : hand.first + length hand.holds ≤ 65535

@@ -1,4 +1,4 @@
-ghost use Rattle.std.specs.Prelude.{◌≡◌, ℕ, ◌≤◌, true, false, not, Some, None, option_map, is_some, if◌then◌else◌, IfOk, IfSome};
+ghost use Rattle.std.specs.Prelude.{◌≡◌, ℕ, ◌+◌, ◌≤◌, length, true, false, not, Some, None, option_map, if◌then◌else◌, IfOk, IfSome};
 ghost use Rattle.rbc_spec.specs.Line as track;
 ghost use Rattle.rbc_spec.specs.Place as spec;
 ghost use Rattle.rbc_spec.specs.Place.{covered};
@@ -6,7 +6,7 @@ ghost use Rattle.rbc_spec.specs.SectionRuns.{is_empty};
 ghost use Rattle.rbc_spec.specs.Centre.{Centre};
 ghost use Rattle.rbc_spec.specs.Rules as rules;
 ghost use Rattle.rbc_spec.specs.Links as links;
-ghost use Rattle.rbc_book.specs.Book.{Pages};
+ghost use Rattle.rbc_book.specs.Book.{Pages, is_own};
 ghost use Rattle.rbc_hand.specs.Hands.{run, IsAllOwn};
 ghost use Rattle.rbc_hand.specs.SectionRuns.{run_of};
 ghost use Rattle.rbc_place.specs.Places.{place_of};
@@ -43,7 +43,7 @@ impl Model for WaitingStart {
 }
 
 impl WaitingStart {
-    ghost use Rattle.rbc_wait.specs.Waits.{nothing_waits, waits_at, IsCovered, HasWait, with_wait, telling, asking, rejecting};
+    ghost use Rattle.rbc_wait.specs.Waits.{nothing_waits, waits_at, HasWait, with_wait, telling, asking, rejecting};
     ghost use Rattle.rbc_claims.specs.Sections.{TakesRun, FreesRun, IsAllOpen, IsAllTaken, wished};
 
     /// Of the train with this NID_ENGINE: none waits, and nobody is asked.
@@ -128,6 +128,7 @@ impl WaitingStart {
         requires open { IsAllOpen (covered line.now (place_of place)) book.old }
         ensures answer { result ≡ not self.old.has_asked }
         ensures waits { self.new ≡ record (waits_at line.now (place_of place) self.old) { has_asked = true } }
+        ensures homes { (s : ℕ) → is_own book.new s ≡ is_own book.old s }
         ensures claims { IsAllTaken self.old.engine self.new.sections book.new }
         ensures exact { (c : ℕ) (k : Centre) → HasWait line.now c k self.old book.old
             → rules.start_waiting line.now self.old.engine (place_of place) k
@@ -157,6 +158,7 @@ impl WaitingStart {
     /// the interlocking is to be told, in rising order; None exactly where no ask stands or no start waits.
     pub fn give_up(&mut self, book: &mut Book) -> Option<Told>
         ensures waits { self.new ≡ (if self.old.has_asked then nothing_waits self.old.engine false else self.old) }
+        ensures homes { (s : ℕ) → is_own book.new s ≡ is_own book.old s }
         ensures exact { (line : track.Line) (c : ℕ) (k : Centre) → HasWait line c k self.old book.old
             → links.right_refused line c self.old.engine k
             ≡ rejecting self.old.engine result (with_wait self.new book.new k) }
@@ -179,6 +181,9 @@ impl WaitingStart {
         ensures waits { self.new ≡ nothing_waits self.old.engine false }
         ensures sections { IfSome result (λ place. run hand.new ≡ self.old.sections) }
         ensures own { IfSome result (λ place. IsAllOwn self.old.engine hand.new) }
+        ensures some { IfSome result (λ place. 1 ≤ length hand.new.holds) }
+        ensures most { IfSome result (λ place. length hand.new.holds ≤ 32) }
+        ensures numbers { IfSome result (λ place. hand.new.first + length hand.new.holds ≤ 65535) }
         ensures none { result ≡ None → hand.new ≡ hand.old }
         ensures exact { (line : track.Line) (c : ℕ) (k : Centre) (book : Pages) → HasWait line c k self.old book
             → self.old.has_asked ≡ true → k.mission self.old.engine ≡ None → IfSome result (λ place.

@@ -3,19 +3,12 @@ use Rattle.std.proofs.Common.{◌≡◌, ℕ, zero, suc, ◌<◌, ◌≢◌, Lis
 use Rattle.std.specs.Option.{option_map_or}
 use Rattle.std.proofs.lemmas.Bool.Decides.{eqb_tells}
 use Rattle.rbc_spec.specs.Maps.{put}
-use Rattle.rbc_spec.specs.Line.{Line, IsLine}
+use Rattle.rbc_spec.specs.Line.{Line}
 use Rattle.rbc_spec.specs.Centre as centre
 use Rattle.rbc_spec.specs.World.{new_world}
-use Rattle.rbc_spec.specs.ReadOff.{StandsFor, read_off}
-use Rattle.rbc_local.specs.Local.{IsLocalAt, IsLocal}
-use Rattle.rbc_local.proofs.Ordered.{begins_local}
-use Rattle.rbc_spec.specs.Promises.{IsSound}
-use Rattle.rbc_pieces.proofs.Whole.{read_stands, world_is_sound}
 use Rattle.rbc_centre.specs.States as one
 use Rattle.rbc_centre.specs.declared.centre.Centre.{Centre}
 use Rattle.rbc_world.specs.States.{centres_of, stands_for, AtBeginning}
-use Rattle.rbc_world.specs.World.{state_of}
-use Rattle.rbc_world.specs.declared.world.World.{World}
 
 -- ## Lists
 
@@ -78,26 +71,3 @@ each_pushed P [] x each p zero k found = let is : x ≡ k = cc in subst (P zero)
 each_pushed P [] x each p (suc d) k found = cc
 each_pushed P (y ∷ ys) x each p zero k found = each zero k found
 each_pushed P (y ∷ ys) x each p (suc d) k found = each_pushed (λ e. P (suc e)) ys x (λ e j h. each (suc e) j h) p d k found
-
--- ## No other centre has a part in their missions
-
--- a centre of the line knows that of itself
-centre_local : (line : Line) (c : ℕ) (k : Centre) → one.line_of k ≡ line → one.number_of k ≡ c → IsLocalAt line c (one.state_of k)
-centre_local line c k of_line of_number = subst (λ (l : Line). IsLocalAt l c (one.state_of k)) of_line (subst (λ (n : ℕ). IsLocalAt (one.line_of k) n (one.state_of k)) of_number k.local)
-
-pub world_local : (line : Line) (cs : List Centre) (trains : List ℕ) → ((c : ℕ) (k : Centre) → slice_get cs c ≡ Some k → one.line_of k ≡ line)
-    → ((c : ℕ) (k : Centre) → slice_get cs c ≡ Some k → one.number_of k ≡ c) → IsLocal line (stands_for line cs trains)
-unfolding stands_for
-world_local line cs trains one_line in_order = record { each = λ c. by_centre c (slice_get cs c) refl }
-  where
-    by_centre : (c : ℕ) (o : Option Centre) → slice_get cs c ≡ o → IsLocalAt line c (option_map_or one.state_of o (centre.beginning line c))
-    by_centre c (Some k) at = centre_local line c k (one_line c k at) (in_order c k at)
-    by_centre c None at = begins_local line c
-
--- the state that is read off a world in memory stands for it
-pub world_stands : (w : World) → IsLine w.line → StandsFor w.line (state_of w) (read_off w.line (state_of w))
-world_stands w ok = read_stands w.line ok (state_of w) (world_local w.line w.centres.items w.trains.keys w.one_line w.in_order)
-
--- and each world in memory is sound
-pub world_sound : (w : World) → IsLine w.line → IsSound w.line (state_of w)
-world_sound w ok = world_is_sound w.line ok (state_of w) (world_local w.line w.centres.items w.trains.keys w.one_line w.in_order)

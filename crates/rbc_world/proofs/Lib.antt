@@ -1,4 +1,5 @@
 pub mod Centres
+pub mod Known
 pub mod Steps
 pub mod Shown
 pub mod Loop

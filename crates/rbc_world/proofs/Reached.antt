@@ -1,14 +1,14 @@
 -- The events that led to a world go on by one.
-use Rattle.std.proofs.Common.{◌≡◌, ℕ, ◌<◌, List, [], ◌∷◌, ◌++◌, length, Some, slice_get, set, Result, Ok, Err, refl, sym, ap, subst, ◌∙◌}
+use Rattle.std.proofs.Common.{◌≡◌, ℕ, ◌<◌, true, List, [], ◌∷◌, ◌++◌, length, Some, slice_get, set, Result, Ok, Err, refl, sym, ap, subst, ◌∙◌}
 use Rattle.std.proofs.Math.Logic.{∥∥₁_map}
 use Rattle.std.specs.Result.{OnErr}
-use Rattle.rbc_spec.specs.Reach.{Reach, Local}
-use Rattle.rbc_spec.specs.Line.{Line}
+use Rattle.rbc_spec.specs.Reach.{Reach, Rights}
+use Rattle.rbc_spec.specs.Line.{Line, is_centre}
 use Rattle.rbc_spec.specs.Message.{TrainMessage}
 use Rattle.rbc_spec.specs.Outcome.{Outcome}
 use Rattle.rbc_spec.specs.Step as step
 use Rattle.rbc_spec.specs.Step.{Refusal}
-use Rattle.rbc_spec.specs.World.{World, Event, Bytes, Set, Unset, Answer, Answered, new_world, world_step, world_run, at_centre as told_at, takes, mention}
+use Rattle.rbc_spec.specs.World.{World, Event, Bytes, Set, Unset, Delivery, Answer, Answered, new_world, world_step, world_run, at_centre as told_at, takes, mention}
 use Rattle.rbc_local.proofs.Worlds.{bind_ok}
 use Rattle.rbc_pieces.proofs.Runs.{whole_run, run_of_none, run_of_cons}
 use Rattle.rbc_centre.specs.States as one
@@ -20,8 +20,8 @@ use Rattle.rbc_centre.specs.declared.event.Event.TheVariants as of_centre
 use Rattle.rbc_centre.specs.declared.outcome.Outcome.{Outcome as OutcomeInMemory}
 use Rattle.rbc_centre.specs.declared.fault.StepFault.{StepFault}
 use Rattle.rbc_world.specs.States.{stands_for}
-use Rattle.rbc_world.specs.Reached.{WasReached, IsOfInterlocking}
-use Rattle.rbc_world.proofs.Steps.{at_centre, set_told, unset_told, step_ok, told_ok, world_kept}
+use Rattle.rbc_world.specs.Reached.{WasReached, MayBeTold}
+use Rattle.rbc_world.proofs.Steps.{is_centre_within, at_centre, set_told, unset_told, delivered, step_ok, told_ok, world_kept}
 
 of_ok : {X : Type 0} (p q : X) → ◌≡◌ {A = Result X Refusal} (Ok p) (Ok q) → p ≡ q
 of_ok p q e = cc
@@ -43,49 +43,51 @@ run_on reach line (e ∷ events) w mid new answers event answer is s =
     (whole_run reach line w e (events ++ event ∷ []) first.0 (Ok (others.0.0 ++ answer ∷ [], new)) first.1 (run_on reach line events first.0.1 others.0.1 new others.0.0 event answer others.1 last))
 
 -- no event leads to the beginning
-led_to_beginning : (line : Line) (w : World) → w ≡ new_world line → WasReached Local line w
-led_to_beginning line w new = record { events = []; answers = []; run = run_of_none Local line (new_world line) ∙ ap (λ (v : World). Ok ([], v)) (sym new) }
+led_to_beginning : (line : Line) (w : World) → w ≡ new_world line → WasReached Rights line w
+led_to_beginning line w new = record { events = []; answers = []; run = run_of_none Rights line (new_world line) ∙ ap (λ (v : World). Ok ([], v)) (sym new) }
 
-pub begins : (line own : Line) (w : World) → own ≡ line → w ≡ new_world line → ∥ WasReached Local own w ∥₁
-begins line own w same new = subst (λ (l : Line). ∥ WasReached Local l w ∥₁) (sym same) ∣ led_to_beginning line w new ∣₁
+pub begins : (line own : Line) (w : World) → own ≡ line → w ≡ new_world line → ∥ WasReached Rights own w ∥₁
+begins line own w same new = subst (λ (l : Line). ∥ WasReached Rights l w ∥₁) (sym same) ∣ led_to_beginning line w new ∣₁
 
 -- a step leads on
-led_on : (line : Line) (w new : World) (event : Event) (answer : Answer) → world_step Local line w event ≡ Ok (answer, new) → WasReached Local line w → WasReached Local line new
+led_on : (line : Line) (w new : World) (event : Event) (answer : Answer) → world_step Rights line w event ≡ Ok (answer, new) → WasReached Rights line w → WasReached Rights line new
 led_on line w new event answer s before = record {
   events = before.events ++ event ∷ [];
   answers = before.answers ++ answer ∷ [];
-  run = run_on Local line before.events (new_world line) w new before.answers event answer before.run s;
+  run = run_on Rights line before.events (new_world line) w new before.answers event answer before.run s;
 }
 
-goes_on : (line : Line) (w new : World) (event : Event) (answer : Answer) → world_step Local line w event ≡ Ok (answer, new) → ∥ WasReached Local line w ∥₁ → ∥ WasReached Local line new ∥₁
+goes_on : (line : Line) (w new : World) (event : Event) (answer : Answer) → world_step Rights line w event ≡ Ok (answer, new) → ∥ WasReached Rights line w ∥₁ → ∥ WasReached Rights line new ∥₁
 goes_on line w new event answer s before = ∥∥₁_map before (led_on line w new event answer s)
 
--- so does what the interlocking says to a centre
-told_on : (line : Line) (w new : World) (c : ℕ) (event : CentreEvent) (answer : Answer) → IsOfInterlocking event
-    → told_at line w c (takes Local line w c w.trains (one_event event)) ≡ Ok (answer, new) → ∥ WasReached Local line w ∥₁ → ∥ WasReached Local line new ∥₁
-told_on line w new c (of_centre.Train m) answer never s before = absurd never
-told_on line w new c (of_centre.Set n) answer said s before = goes_on line w new (Set c n) answer (set_told line w c n ∙ s) before
-told_on line w new c (of_centre.Unset n) answer said s before = goes_on line w new (Unset c n) answer (unset_told line w c n ∙ s) before
+-- so does what a centre of the line is told
+told_on : (line : Line) (w new : World) (c : ℕ) (event : CentreEvent) (answer : Answer) → is_centre line c ≡ true → MayBeTold w c event
+    → told_at line w c (takes Rights line w c w.trains (one_event event)) ≡ Ok (answer, new) → ∥ WasReached Rights line w ∥₁ → ∥ WasReached Rights line new ∥₁
+told_on line w new c (of_centre.Train m) answer here never s before = absurd never
+told_on line w new c (of_centre.Set n) answer here said s before = goes_on line w new (Set c n) answer (set_told line w c n ∙ s) before
+told_on line w new c (of_centre.Unset n) answer here said s before = goes_on line w new (Unset c n) answer (unset_told line w c n ∙ s) before
+told_on line w new c (of_centre.Deliver from frame) answer here sent s before =
+    goes_on line w new (Delivery from c sent.0) answer (delivered line w from c sent.0 frame here sent.1 ∙ s) before
 
 -- ## A centre of the world steps
 
 module _ (line : Line) (cs : List Centre) (trains : List ℕ) (c : ℕ) (k new : Centre) (at : slice_get cs c ≡ Some k) (within : c < length cs)
-    (of_line : one.line_of k ≡ line) (of_number : one.number_of k ≡ c) (each : length cs ≡ length line.centres) (before : ∥ WasReached Local line (stands_for line cs trains) ∥₁) where
+    (of_line : one.line_of k ≡ line) (of_number : one.number_of k ≡ c) (each : length cs ≡ length line.centres) (before : ∥ WasReached Rights line (stands_for line cs trains) ∥₁) where
   -- a refused step leaves the world that was reached
-  pub reached_still : (after : List ℕ) → after ≡ trains → one.state_of new ≡ one.state_of k → ∥ WasReached Local line (stands_for line (set cs c new) after) ∥₁
-  reached_still after same kept = subst (λ (w : World). ∥ WasReached Local line w ∥₁) (sym (ap (stands_for line (set cs c new)) same ∙ world_kept line cs trains c k new at within kept)) before
+  pub reached_still : (after : List ℕ) → after ≡ trains → one.state_of new ≡ one.state_of k → ∥ WasReached Rights line (stands_for line (set cs c new) after) ∥₁
+  reached_still after same kept = subst (λ (w : World). ∥ WasReached Rights line w ∥₁) (sym (ap (stands_for line (set cs c new)) same ∙ world_kept line cs trains c k new at within kept)) before
 
-  -- behind what the interlocking says
-  pub reached_by_word : (event : CentreEvent) (result : Result OutcomeInMemory StepFault) → IsOfInterlocking event
-      → Steps (λ o. (outcome_of o, one.state_of new)) result (step.step Local (one.line_of k) (one.number_of k) (one_event event) (one.state_of k)) → OnErr result (one.state_of new ≡ one.state_of k)
-      → ∥ WasReached Local line (stands_for line (set cs c new) trains) ∥₁
+  -- behind what the centre is told
+  pub reached_by_word : (event : CentreEvent) (result : Result OutcomeInMemory StepFault) → MayBeTold (stands_for line cs trains) c event
+      → Steps (λ o. (outcome_of o, one.state_of new)) result (step.step Rights (one.line_of k) (one.number_of k) (one_event event) (one.state_of k)) → OnErr result (one.state_of new ≡ one.state_of k)
+      → ∥ WasReached Rights line (stands_for line (set cs c new) trains) ∥₁
   reached_by_word event (Ok o) said s kept =
-      told_on line (stands_for line cs trains) (stands_for line (set cs c new) trains) c event (Answered (outcome_of o)) said (told_ok line cs trains (one_event event) c k new at within of_line of_number each (outcome_of o) s) before
+      told_on line (stands_for line cs trains) (stands_for line (set cs c new) trains) c event (Answered (outcome_of o)) (is_centre_within line cs c each within) said (told_ok line cs trains (one_event event) c k new at within of_line of_number each (outcome_of o) s) before
   reached_by_word event (Err fault) said s kept = reached_still trains refl kept
 
   -- behind a train's message
-  pub reached_by_message : (m : TrainMessage) (outcome : Outcome) (after : List ℕ) → step.step Local (one.line_of k) (one.number_of k) (step.Train m) (one.state_of k) ≡ Ok (outcome, one.state_of new)
-      → after ≡ mention line m.nid_engine trains → ∥ WasReached Local line (stands_for line (set cs c new) after) ∥₁
+  pub reached_by_message : (m : TrainMessage) (outcome : Outcome) (after : List ℕ) → step.step Rights (one.line_of k) (one.number_of k) (step.Train m) (one.state_of k) ≡ Ok (outcome, one.state_of new)
+      → after ≡ mention line m.nid_engine trains → ∥ WasReached Rights line (stands_for line (set cs c new) after) ∥₁
   unfolding stands_for
   reached_by_message m outcome after s named =
       goes_on line (stands_for line cs trains) (stands_for line (set cs c new) after) (Bytes c (Ok m)) (Answered outcome)

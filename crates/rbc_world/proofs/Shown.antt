@@ -1,22 +1,23 @@
 -- What is shown of a world.
-use Rattle.std.proofs.Common.{◌≡◌, ℕ, zero, suc, ◌+◌, ◌≤◌, false, List, [], ◌∷◌, ◌++◌, length, Option, Some, None, option_map, length-append, slice_get, refl, sym, ap, ◌∙◌, subst}
+use Rattle.std.proofs.Common.{◌≡◌, ℕ, zero, suc, ◌+◌, ◌-◌, ◌<◌, ◌≤◌, Bool, true, false, cond, List, [], ◌∷◌, ◌++◌, length, Option, Some, None, option_map, is_some, length-append, slice_get, refl, sym, ap, ◌∙◌, subst, arith}
+use Rattle.std.specs.List.{find, range_with_len}
 use Rattle.std.specs.Option.{option_map_or, option_and_then, IfSome}
 use Rattle.std.proofs.lemmas.Option.{slice_get_past}
-use Rattle.rbc_spec.specs.Line.{Line, Section, registrar}
-use Rattle.rbc_spec.specs.LineCentre as line_centre
-use Rattle.rbc_spec.specs.LineCentre.{IsHand}
+use Rattle.rbc_spec.specs.Line.{Line, Section}
+use Rattle.rbc_spec.specs.LineCentre.{LineState, IsHand}
 use Rattle.rbc_spec.specs.Centre as centre
-use Rattle.rbc_spec.specs.World.{World}
-use Rattle.rbc_spec.specs.ReadOff.{seen}
-use Rattle.rbc_local.specs.Local.{IsLocal, local_mark, local_read_off}
-use Rattle.rbc_pieces.proofs.Off.{given_is_hand}
+use Rattle.rbc_spec.specs.World.{World, frame_sent}
+use Rattle.rbc_spec.specs.ReadOff.{read_off, seen}
+use Rattle.rbc_seen.specs.Seen.{supervisor_of, seen_off, AreMissionsSeen}
 use Rattle.rbc_hand.specs.SectionRuns.{run_of}
 use Rattle.rbc_centre.specs.States as one
+use Rattle.rbc_centre.specs.Views.{frame_number}
 use Rattle.rbc_centre.specs.declared.centre.Centre.{Centre}
 use Rattle.rbc_world.specs.States.{stands_for}
 use Rattle.rbc_world.specs.View.{mission_shown, mission_kept, EachOf}
 use Rattle.rbc_world.specs.declared.view.MissionView.{MissionView}
 use Rattle.rbc_world.proofs.Centres.{centre_at}
+use Rattle.rbc_world.proofs.Known.{none_at}
 
 -- ## What is read of a centre
 
@@ -37,6 +38,14 @@ module _ (line : Line) (cs : List Centre) (trains : List ℕ) (c : ℕ) where
   unfolding centre.beginning
   unwished_past s past = seen_past (λ k. k.wish s) past
 
+  pub none_past : (t : ℕ) → length cs ≤ c → None ≡ ((stands_for line cs trains).at c).mission t
+  unfolding centre.beginning
+  none_past t past = seen_past (λ k. k.mission t) past
+
+  pub unsent_past : (to number : ℕ) → length cs ≤ c → None ≡ frame_sent (stands_for line cs trains) c to number
+  unfolding centre.beginning
+  unsent_past to number past = none_at number ∙ seen_past (λ k. frame_number (k.sent to) number) past
+
 -- ## What is read of a section at its home
 
 pub at_home : {X : Type 0} (f : ℕ → X) (none : X) (o : Option Section) (home : ℕ) → option_map (λ p. p.home) o ≡ Some home → f home ≡ option_map_or (λ p. f p.home) o none
@@ -47,36 +56,55 @@ pub at_no_home : {X : Type 0} (f : ℕ → X) (none : X) (o : Option Section) �
 at_no_home f none (Some p) e = cc
 at_no_home f none None e = refl
 
-pub marked : (f : Section → centre.Entry) (o : Option Section) → local_mark (option_map_or f o centre.Shut) ≡ option_map_or (λ p. local_mark (f p)) o line_centre.Shut
-marked f (Some p) = refl
-marked f None = refl
+-- ## The centre that has a mission
+
+-- the first number of a test, from c on, of those below n
+abbrev pub first_from : (ℕ → Bool) → ℕ → ℕ → Option ℕ
+first_from test c n = find test (range_with_len c (n - c))
+
+pub from_none : (test : ℕ → Bool) (n : ℕ) → find test (range_with_len 0 n) ≡ first_from test 0 n
+from_none test n = let all : n ≡ n - 0 = omega arith in ap (λ k. find test (range_with_len 0 k)) all
+
+from_one : (test : ℕ → Bool) (c n : ℕ) → c < n → first_from test c n ≡ cond (test c) (Some c) (first_from test (c + 1) n)
+from_one test c n within = let some : n - c ≡ suc (n - (c + 1)) = omega arith in ap (λ k. find test (range_with_len c k)) some
+
+pub found_here : (test : ℕ → Bool) (c n : ℕ) → c < n → test c ≡ true → first_from test c n ≡ Some c
+found_here test c n within is = from_one test c n within ∙ ap (λ b. cond b (Some c) (first_from test (c + 1) n)) is
+
+pub found_later : (test : ℕ → Bool) (c n : ℕ) → c < n → test c ≡ false → first_from test c n ≡ first_from test (c + 1) n
+found_later test c n within is = from_one test c n within ∙ ap (λ b. cond b (Some c) (first_from test (c + 1) n)) is
+
+pub found_nowhere : (test : ℕ → Bool) (c n : ℕ) → n ≤ c → first_from test c n ≡ None
+found_nowhere test c n past = let none : n - c ≡ 0 = omega arith in ap (λ k. find test (range_with_len c k)) none
+
+-- there is one exactly where one was seen
+pub same_test : {X Y : Type 0} (f : X → Y) (o : Option X) (m : Option Y) → option_map f o ≡ m → is_some m ≡ is_some o
+same_test f (Some x) m is = ap (λ (p : Option _). is_some p) (sym is)
+same_test f None m is = ap (λ (p : Option _). is_some p) (sym is)
 
 -- ## The mission of a train
 
-pub none_past : (line : Line) (cs : List Centre) (trains : List ℕ) (c t : ℕ) → length cs ≤ c → None ≡ ((stands_for line cs trains).at c).mission t
-unfolding centre.beginning
-none_past line cs trains c t past = seen_past line cs trains c (λ k. k.mission t) past
-
-module _ (line : Line) (w : World) (t c : ℕ) (registered : registrar line t ≡ Some c) where
-  at_registrar : (local_read_off line w).mission t ≡ option_map (seen c) ((w.at c).mission t)
-  at_registrar = ap (λ (o : Option ℕ). option_and_then (λ r. option_map (seen r) ((w.at r).mission t)) o) registered
+module _ (line : Line) (w : World) (t c : ℕ) (found : supervisor_of line w t ≡ Some c) where
+  at_supervisor : (seen_off line w).mission t ≡ option_map (seen c) ((w.at c).mission t)
+  at_supervisor = ap (λ (o : Option ℕ). option_and_then (λ d. option_map (seen d) ((w.at d).mission t)) o) found
 
   -- what is shown of it
-  pub mission_is : (shown : Option MissionView) → option_map mission_kept shown ≡ (w.at c).mission t → IfSome shown (λ m. m.supervisor ≡ c) → option_map mission_shown shown ≡ (local_read_off line w).mission t
-  mission_is shown kept here = same shown here ∙ ap (option_map (seen c)) kept ∙ sym at_registrar
+  pub mission_is : (shown : Option MissionView) → option_map mission_kept shown ≡ (w.at c).mission t → IfSome shown (λ m. m.supervisor ≡ c) → option_map mission_shown shown ≡ (seen_off line w).mission t
+  mission_is shown kept here = same shown here ∙ ap (option_map (seen c)) kept ∙ sym at_supervisor
     where
       same : (o : Option MissionView) → IfSome o (λ m. m.supervisor ≡ c) → option_map mission_shown o ≡ option_map (seen c) (option_map mission_kept o)
       same (Some m) here = ap (λ (d : ℕ). Some (seen d (mission_kept m))) here
       same None here = refl
 
-  -- its hand has the sections that are given to the train
-  pub hand_is : IsLocal line w → (shown : Option MissionView) → option_map mission_kept shown ≡ (w.at c).mission t → IfSome shown (λ m. IsHand (local_read_off line w) t (run_of m.hand))
-  hand_is local (Some m) kept = record { each = λ s. given_is_hand line w c t (mission_kept m) local (sym kept) s }
-  hand_is local None kept = tt
+-- its hand has the sections that are given to the train
+pub hand_is : (line : Line) (w : World) (t c : ℕ) → AreMissionsSeen line w → read_off line w ≡ seen_off line w
+    → (shown : Option MissionView) → option_map mission_kept shown ≡ (w.at c).mission t → IfSome shown (λ m. IsHand (seen_off line w) t (run_of m.hand))
+hand_is line w t c missions read (Some m) kept = subst (λ (v : LineState). IsHand v t (run_of m.hand)) read (missions.hand t c (mission_kept m) (sym kept))
+hand_is line w t c missions read None kept = tt
 
--- a foreign engine has none
-pub mission_of_foreign : (line : Line) (w : World) (t : ℕ) → registrar line t ≡ None → None ≡ (local_read_off line w).mission t
-mission_of_foreign line w t none = sym (ap (λ (o : Option ℕ). option_and_then (λ r. option_map (seen r) ((w.at r).mission t)) o) none)
+-- a train that no centre supervises has none
+pub no_mission : (line : Line) (w : World) (t : ℕ) → supervisor_of line w t ≡ None → None ≡ (seen_off line w).mission t
+no_mission line w t none = sym (ap (λ (o : Option ℕ). option_and_then (λ d. option_map (seen d) ((w.at d).mission t)) o) none)
 
 -- ## Rows of what is shown
 

@@ -1,14 +1,15 @@
 -- What the calls of a world answer, beside their definitions.
-use Rattle.std.specs.Prelude.{◌≡◌, ◌≢◌, ◌⊎◌, ℕ, true, List, [], ◌∷◌, ◌++◌, Result, Ok, Err}
-use Rattle.rbc_spec.specs.Reach.{Local}
+use Rattle.std.specs.Prelude.{◌≡◌, ◌≢◌, ◌⊎◌, ℕ, true, List, [], ◌∷◌, ◌++◌, Result, Ok, Err, is_some}
+use Rattle.rbc_spec.specs.Reach.{Rights}
 use Rattle.rbc_spec.specs.Line.{Line, is_centre}
+use Rattle.rbc_spec.specs.World.{Event, World, new_world, mention, frame_sent, IsRefused}
+use Rattle.rbc_spec.specs.Step.{Refusal, ClockEnd as AtClockEnd, LinkFull as AtLinkFull}
 use Rattle.rbc_spec.specs.Message.{TrainMessage, InitiationOfSession}
-use Rattle.rbc_spec.specs.World.{Event, World, new_world, mention, IsRefused}
-use Rattle.rbc_spec.specs.Step.{Refusal, ClockEnd as AtClockEnd}
+use Rattle.rbc_msgs.specs.StepMessage.{step_message}
+use Rattle.rbc_rules.specs.Letters.{tells_others}
 use Rattle.rbc_msgs.specs.TrainText.{TrainText}
 use Rattle.rbc_msgs.specs.TrainReading.{read_train}
 use Rattle.rbc_msgs.specs.Kept.{kept_packets, IsBehindPackets}
-use Rattle.rbc_msgs.specs.StepMessage.{step_message}
 use Rattle.rbc_msgs.specs.declared.fault.MsgFault.{MsgFault}
 use Rattle.rbc_world.specs.declared.event.WorldEvent.{WorldEvent}
 use Rattle.rbc_world.specs.declared.event.WorldEvent.TheVariants as event
@@ -18,7 +19,7 @@ use Rattle.rbc_centre.specs.declared.fault.StepFault.TheVariants.{Memory, LinkFu
 -- but for want of memory the fault is the refusal that the definition gives
 abbrev pub IsRefusal : {Y : Type 0} → StepFault → Result Y Refusal → Type 0
 IsRefusal Memory step = Unit {0}
-IsRefusal LinkFull step = ⊥
+IsRefusal LinkFull step = step ≡ Err AtLinkFull
 IsRefusal ClockEnd step = step ≡ Err AtClockEnd
 
 -- what was returned, seen by view, is what the definition gives
@@ -26,18 +27,20 @@ abbrev pub Gives : {X Y : Type 0} → (X → Y) → Result X StepFault → Resul
 Gives view (Ok x) step = step ≡ Ok (view x)
 Gives view (Err fault) step = IsRefusal fault step
 
--- a message makes room where it opens a session, or is the first to name a train of the line
+-- a message makes room where it opens a session, where another centre may have to be told something, or where it is the first to name a
+-- train of the line
 abbrev pub MakesRoom : Line → List ℕ → TrainMessage → Type 0
-MakesRoom line trains m = (m.body ≡ InitiationOfSession) ⊎ (mention line m.nid_engine trains ≡ trains ++ m.nid_engine ∷ [])
+MakesRoom line trains m = ((m.body ≡ InitiationOfSession) ⊎ (tells_others m.body ≡ true)) ⊎ (mention line m.nid_engine trains ≡ trains ++ m.nid_engine ∷ [])
 
 -- bytes of a train want memory only where their message keeps a packet or makes room, or where their fault can be found behind a packet
 abbrev pub BytesTakeMemory : Line → List ℕ → Result TrainText MsgFault → Type 0
 BytesTakeMemory line trains (Ok m) = (kept_packets m ≢ []) ⊎ MakesRoom line trains (step_message m)
 BytesTakeMemory line trains (Err fault) = IsBehindPackets fault
 
--- an event wants memory only where it is such bytes, at a centre of the line
+-- an event wants memory only where it is such bytes, at a centre of the line, or brings a frame that was sent
 abbrev pub TakesMemory : Line → World → WorldEvent → Type 0
 TakesMemory line w (event.Train c bytes) = (is_centre line c ≡ true) × BytesTakeMemory line w.trains (read_train bytes.items)
+TakesMemory line w (event.Deliver from to number) = is_some (frame_sent w from to number) ≡ true
 TakesMemory line w other = ⊥
 
 -- where memory was wanted, this holds
@@ -48,5 +51,5 @@ IfWanted result so = Unit {0}
 -- a whole run is refused for want of memory, or as one of its steps is
 abbrev pub IsRefusedRun : Line → List Event → StepFault → Type 0
 IsRefusedRun line events Memory = Unit {0}
-IsRefusedRun line events LinkFull = ⊥
-IsRefusedRun line events ClockEnd = IsRefused Local line (new_world line) events AtClockEnd
+IsRefusedRun line events LinkFull = IsRefused Rights line (new_world line) events AtLinkFull
+IsRefusedRun line events ClockEnd = IsRefused Rights line (new_world line) events AtClockEnd

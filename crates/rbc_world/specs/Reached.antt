@@ -1,8 +1,8 @@
 -- Worlds that events led to.
-use Rattle.std.specs.Prelude.{◌≡◌, List, Ok}
+use Rattle.std.specs.Prelude.{◌≡◌, ℕ, List, Ok, Some}
 use Rattle.rbc_spec.specs.Reach.{Reach}
 use Rattle.rbc_spec.specs.Line.{Line}
-use Rattle.rbc_spec.specs.World.{World, Event, Answer, new_world, world_run}
+use Rattle.rbc_spec.specs.World.{World, Event, Answer, new_world, frame_sent, world_run}
 use Rattle.rbc_centre.specs.declared.event.Event.{Event as CentreEvent}
 use Rattle.rbc_centre.specs.declared.event.Event.TheVariants as of_centre
 
@@ -12,8 +12,9 @@ pub record WasReached (reach : Reach) (line : Line) (w : World) : Type 0 where
   pub answers : List Answer
   pub run : world_run reach line (new_world line) events ≡ Ok (answers, w)
 
--- the interlocking says it, and no train
-abbrev pub IsOfInterlocking : CentreEvent → Type 0
-IsOfInterlocking (of_centre.Train m) = ⊥
-IsOfInterlocking (of_centre.Set s) = Unit {0}
-IsOfInterlocking (of_centre.Unset s) = Unit {0}
+-- centre c of this world may be told it: the interlocking says it, or it is a frame that was sent to the centre under some number
+abbrev pub MayBeTold : World → ℕ → CentreEvent → Type 0
+MayBeTold w c (of_centre.Train m) = ⊥
+MayBeTold w c (of_centre.Set s) = Unit {0}
+MayBeTold w c (of_centre.Unset s) = Unit {0}
+MayBeTold w c (of_centre.Deliver from frame) = (number : ℕ) × (frame_sent w from c number ≡ Some frame)

@@ -51,6 +51,7 @@ pub record ShowsSession (v : LineState) (t c : ℕ) (shown : SessionView) : Type
   pub phase : phase_of shown.phase ≡ v.phase t c
   pub heard : shown.heard ≡ v.heard t c
   pub said : shown.said ≡ v.said t c
+  pub wait : option_map place_of shown.waiting ≡ v.wait t c
 
 -- the train at place i of the line file: its mission, whose hand is the sections that are given to it
 pub record ShowsTrain (line : Line) (v : LineState) (i : ℕ) (shown : TrainView) : Type 0 where

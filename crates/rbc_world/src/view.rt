@@ -1,11 +1,11 @@
-ghost use Rattle.std.specs.Prelude.{◌≡◌, ◌<◌, length, slice_get, IfOk, IfSome, Some, option_map, false};
-ghost use Rattle.std.specs.Option.{option_map_or};
-ghost use Rattle.rbc_spec.specs.Centre.{Shut};
-ghost use Rattle.rbc_spec.specs.Reach.{Local};
-ghost use Rattle.rbc_spec.specs.Line.{IsLine, section};
+ghost use Rattle.std.specs.Prelude.{◌≡◌, ◌<◌, length, slice_get, IfOk, IfSome, Some, option_map};
+ghost use Rattle.rbc_spec.specs.Reach.{Rights};
+ghost use Rattle.rbc_spec.specs.Line.{section};
 ghost use Rattle.rbc_spec.specs.LineCentre.{IsHand};
 ghost use Rattle.rbc_spec.specs.ReadOff.{StandsFor, read_off};
-ghost use Rattle.rbc_local.specs.Local.{local_mark, local_read_off};
+ghost use Rattle.rbc_local.specs.Local.{hand_has};
+ghost use Rattle.rbc_flow.specs.Shows.{shown};
+ghost use Rattle.rbc_seen.specs.Seen.{supervisor_of, seen_off};
 ghost use Rattle.rbc_book.specs.Entries.{entry_of};
 ghost use Rattle.rbc_hand.specs.SectionRuns.{run_of};
 ghost use Rattle.rbc_world.specs.Reached.{WasReached};
@@ -16,6 +16,7 @@ use crate::world::{World, known_line};
 use rbc_book::{Entry, Page};
 use rbc_centre::{MissionFacts, Phase, SectionRun};
 use rbc_line::Line;
+use rbc_place::Place;
 use std::alloc::{AllocError, Global};
 
 /// What a section is used for, as the line sees it.
@@ -29,21 +30,6 @@ pub enum Mark {
     Kept { nid_engine: u32 },
     /// In a train's movement authority.
     Given { nid_engine: u32 },
-}
-
-impl Mark {
-    /// A section that is in use is in its train's movement authority: no train is handed over to another centre yet.
-    fn of(entry: Entry) -> Mark
-        ensures { mark_shown result ≡ local_mark (entry_of entry) }
-    {
-        match entry {
-            Entry::Shut => Mark::Shut,
-            Entry::Open => Mark::Open,
-            Entry::Taken { nid_engine } | Entry::Out { nid_engine, .. } => Mark::Given {
-                nid_engine,
-            },
-        }
-    }
 }
 
 /// A section of the line.
@@ -62,6 +48,8 @@ pub struct SessionView {
     pub heard: Option<u32>,
     /// How many messages were said to the train.
     pub said: u32,
+    /// The place of a start of mission that waits for the right to supervise the train.
+    pub waiting: Option<Place>,
 }
 
 /// The mission of a train.
@@ -101,7 +89,7 @@ impl World {
         // That state stands for the centres.
         ensures stands { StandsFor (line_of self.now) (state_of self.now) (read_off (line_of self.now) (state_of self.now)) }
         // Some list of events led from the line's beginning to the centres as they are.
-        ensures reached { ∥ WasReached Local (line_of self.now) (state_of self.now) ∥₁ }
+        ensures reached { ∥ WasReached Rights (line_of self.now) (state_of self.now) ∥₁ }
     {
         known_line(&self.line);
         Ok(LineView {
@@ -111,8 +99,7 @@ impl World {
     }
 
     fn section_views(&self, alloc: Global) -> Result<Vec<SectionView>, AllocError>
-        ensures line { IsLine (line_of self.now) }
-        ensures each { IfOk result (λ views. EachOf (λ s p. ShowsSection (local_read_off (line_of self.now) (state_of self.now)) s p) (length (line_of self.now).sections) views.items) }
+        ensures { IfOk result (λ views. EachOf (λ s p. ShowsSection (seen_off (line_of self.now) (state_of self.now)) s p) (length (line_of self.now).sections) views.items) }
     {
         let count = self.line.section_count();
         let mut views = Vec::with_capacity(alloc, count as usize)?;
@@ -122,24 +109,55 @@ impl World {
         Ok(views)
     }
 
+    // A section, as its home has it.
     fn section_view(&self, s: u16) -> SectionView
-        ensures { ShowsSection (local_read_off (line_of self.now) (state_of self.now)) s result }
+        ensures { ShowsSection (seen_off (line_of self.now) (state_of self.now)) s result }
     {
-        let page = self.home_page(s);
+        match home_of(&self.line, s) {
+            Some(home) => self.seen_at(home, s),
+            None => SectionView {
+                mark: Mark::Shut,
+                is_wished: false,
+            },
+        }
+    }
+
+    // What centre c has of a section.
+    fn seen_at(&self, c: u8, s: u16) -> SectionView
+        ensures mark { mark_shown result.mark ≡ shown (((state_of self.now).at c).book s) (λ t. hand_has (((state_of self.now).at c).mission t) s) }
+        ensures wish { result.is_wished ≡ ((state_of self.now).at c).wish s }
+    {
+        let page = self.page_at(c, s);
         SectionView {
-            mark: Mark::of(page.entry),
+            mark: self.mark_at(c, s, page.entry),
             is_wished: page.is_wished,
         }
     }
 
-    // What the book of its home has of a section.
-    fn home_page(&self, s: u16) -> Page
-        ensures entry { entry_of result.entry ≡ option_map_or (λ p. ((state_of self.now).at p.home).book s) (section (line_of self.now) s) Shut }
-        ensures wish { result.is_wished ≡ option_map_or (λ p. ((state_of self.now).at p.home).wish s) (section (line_of self.now) s) false }
+    // What a section is used for of which the book of centre c has this. In use, it is in its train's movement authority, or kept for it.
+    fn mark_at(&self, c: u8, s: u16, entry: Entry) -> Mark
+        ensures { mark_shown result ≡ shown (entry_of entry) (λ t. hand_has (((state_of self.now).at c).mission t) s) }
     {
-        match home_of(&self.line, s) {
-            Some(home) => self.page_at(home, s),
-            None => Page::SHUT,
+        match entry {
+            Entry::Shut => Mark::Shut,
+            Entry::Open => Mark::Open,
+            Entry::Taken { nid_engine } | Entry::Out { nid_engine, .. } => {
+                if self.is_given(c, s, nid_engine) {
+                    Mark::Given { nid_engine }
+                } else {
+                    Mark::Kept { nid_engine }
+                }
+            }
+        }
+    }
+
+    // Whether a section is in the movement authority that centre c has given the train.
+    fn is_given(&self, c: u8, s: u16, nid_engine: u32) -> bool
+        ensures { result ≡ hand_has (((state_of self.now).at c).mission nid_engine) s }
+    {
+        match self.mission_at(c, nid_engine) {
+            Some(mission) => mission.hand.contains(s),
+            None => false,
         }
     }
 
@@ -156,7 +174,7 @@ impl World {
     }
 
     fn train_views(&self, alloc: Global) -> Result<Vec<TrainView>, AllocError>
-        ensures { IfOk result (λ views. EachOf (λ i p. ShowsTrain (line_of self.now) (local_read_off (line_of self.now) (state_of self.now)) i p) (length (line_of self.now).trains) views.items) }
+        ensures { IfOk result (λ views. EachOf (λ i p. ShowsTrain (line_of self.now) (seen_off (line_of self.now) (state_of self.now)) i p) (length (line_of self.now).trains) views.items) }
     {
         let count = self.line.train_count();
         let mut views = Vec::with_capacity(alloc, count as usize)?;
@@ -173,7 +191,7 @@ impl World {
     }
 
     fn session_views(&self, alloc: Global, nid_engine: u32) -> Result<Vec<SessionView>, AllocError>
-        ensures { IfOk result (λ views. EachOf (λ c p. ShowsSession (local_read_off (line_of self.now) (state_of self.now)) nid_engine c p) (length (line_of self.now).centres) views.items) }
+        ensures { IfOk result (λ views. EachOf (λ c p. ShowsSession (seen_off (line_of self.now) (state_of self.now)) nid_engine c p) (length (line_of self.now).centres) views.items) }
     {
         let mut views = Vec::with_capacity(alloc, self.centres.len())?;
         for c in 0..self.centres.len() {
@@ -184,25 +202,39 @@ impl World {
 
     fn session_view(&self, c: usize, nid_engine: u32) -> SessionView
         requires { c < length self.now.centres.items }
-        ensures { ShowsSession (local_read_off (line_of self.now) (state_of self.now)) nid_engine c result }
+        ensures { ShowsSession (seen_off (line_of self.now) (state_of self.now)) nid_engine c result }
     {
         let state = self.centres[c].train(nid_engine);
         SessionView {
             phase: state.phase,
             heard: state.heard,
             said: state.said,
+            waiting: state.waiting,
         }
     }
 
-    // The mission of a train, which no centre but its registrar can have.
+    // The mission of a train, as its supervisor has it.
     fn mission_view(&self, nid_engine: u32) -> Option<MissionView>
-        ensures mission { option_map mission_shown result ≡ (local_read_off (line_of self.now) (state_of self.now)).mission nid_engine }
-        ensures hand { IfSome result (λ m. IsHand (local_read_off (line_of self.now) (state_of self.now)) nid_engine (run_of m.hand)) }
+        ensures mission { option_map mission_shown result ≡ (seen_off (line_of self.now) (state_of self.now)).mission nid_engine }
+        ensures hand { IfSome result (λ m. IsHand (seen_off (line_of self.now) (state_of self.now)) nid_engine (run_of m.hand)) }
     {
-        match self.line.registrar(nid_engine) {
-            Some(registrar) => self.mission_at(registrar, nid_engine),
+        known_line(&self.line);
+        match self.supervisor(nid_engine) {
+            Some(c) => self.mission_at(c, nid_engine),
             None => None,
         }
+    }
+
+    // The centre that has a mission of the train: at most one has, since none is handed over yet.
+    fn supervisor(&self, nid_engine: u32) -> Option<u8>
+        ensures { result ≡ supervisor_of (line_of self.now) (state_of self.now) nid_engine }
+    {
+        for c in 0..self.line.centre_count() {
+            if self.mission_at(c, nid_engine).is_some() {
+                return Some(c);
+            }
+        }
+        None
     }
 
     // The mission that centre c has of a train.

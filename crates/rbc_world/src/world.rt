@@ -1,14 +1,14 @@
-ghost use Rattle.std.specs.Prelude.{◌≡◌, ◌<◌, ◌≤◌, ◌==◌, ◌&&◌, ℕ, true, not, if◌then◌else◌, nat_eq, is_none, length, slice_get, IfOk, IfErr, OnOk, OnErr, Some};
+ghost use Rattle.std.specs.Prelude.{◌≡◌, ◌<◌, ◌≤◌, ◌==◌, ◌&&◌, ℕ, true, not, if◌then◌else◌, nat_eq, is_none, is_some, length, slice_get, IfOk, IfErr, IfSome, OnOk, OnErr, Some};
 ghost use Rattle.std.specs.List.{list_any};
 ghost use Rattle.rbc_spec.specs.Line.{IsLine, is_centre, train_number};
-ghost use Rattle.rbc_spec.specs.World.{new_world, world_step, at_centre, takes, mention, Bytes};
+ghost use Rattle.rbc_spec.specs.World.{new_world, world_step, at_centre, takes, mention, frame_sent, Bytes, Delivery};
 ghost use Rattle.rbc_spec.specs.Step.{Train};
-ghost use Rattle.rbc_spec.specs.Reach.{Local, Whole};
+ghost use Rattle.rbc_spec.specs.Reach.{Rights, Whole};
 ghost use Rattle.rbc_msgs.specs.StepMessage.{step_message};
 ghost use Rattle.rbc_msgs.specs.TrainReading.{read_train};
 ghost use Rattle.indexmap.specs.IndexSet.{spare, insert_key};
 ghost use Rattle.rbc_world.specs.States.{AtBeginning, stands_for};
-ghost use Rattle.rbc_world.specs.Reached.{WasReached, IsOfInterlocking};
+ghost use Rattle.rbc_world.specs.Reached.{WasReached, MayBeTold};
 ghost use Rattle.rbc_world.specs.Views.{IsFaultOf};
 ghost use Rattle.rbc_centre.specs.declared.fault.StepFault.TheVariants.{Memory};
 ghost use Rattle.rbc_spec.specs.Run.{Goes};
@@ -22,7 +22,7 @@ ghost use Rattle.rbc_centre.specs.Views.{event_of as one_event};
 
 use crate::event::{Answer, WorldEvent};
 use indexmap::IndexSet;
-use rbc_centre::{Centre, Event, StepFault};
+use rbc_centre::{Centre, Event, Frame, StepFault};
 use rbc_line::Line;
 use rbc_msgs::{MsgFault, TrainMsg, decode_train};
 use std::alloc::{AllocError, Global};
@@ -38,7 +38,7 @@ pub struct World {
     ghost each_centre: { length centres.items ≡ length line.centres },
     ghost one_line: { (c : ℕ) → (k : Centre) → slice_get centres.items c ≡ Some k → one.line_of k ≡ line },
     ghost in_order: { (c : ℕ) → (k : Centre) → slice_get centres.items c ≡ Some k → one.number_of k ≡ c },
-    ghost reached: { ∥ WasReached Local line (stands_for line centres.items trains.keys) ∥₁ },
+    ghost reached: { ∥ WasReached Rights line (stands_for line centres.items trains.keys) ∥₁ },
 }
 
 impl World {
@@ -50,7 +50,7 @@ impl World {
     pub fn new(alloc: Global, line: &Line) -> Result<World, AllocError>
         ensures line { IfOk result (λ w. line_of w ≡ line.now) }
         ensures beginning { IfOk result (λ w. state_of w ≡ new_world line.now) }
-        ensures reached { IfOk result (λ w. ∥ WasReached Local (line_of w) (state_of w) ∥₁) }
+        ensures reached { IfOk result (λ w. ∥ WasReached Rights (line_of w) (state_of w) ∥₁) }
     {
         Ok(World {
             alloc,
@@ -68,17 +68,17 @@ impl World {
         &self.trains
     }
 
-    /// Takes an event, and answers it. A refusal, for want of memory or of stamps, changes nothing.
+    /// Takes an event, and answers it. A refusal, for want of memory, of stamps or of a link's numbers, changes nothing.
     pub fn step(&mut self, event: &WorldEvent) -> Result<Answer, StepFault>
         ensures line { line_of self.new ≡ line_of self.old }
         // What is answered and left is what the definition of a world's step gives.
         ensures exact { Gives (λ a. (answer_of a, state_of self.new)) result
-            (world_step Local (line_of self.old) (state_of self.old) (event_of event.now)) }
+            (world_step Rights (line_of self.old) (state_of self.old) (event_of event.now)) }
         // It is one piece of the one line centre's run, or none.
         ensures piece { IfOk result (λ a. Goes (line_of self.old) (read_off (line_of self.old) (state_of self.old))
             (event_of event.now) (answer_of a) (read_off (line_of self.old) (state_of self.new))) }
         // Some list of events led from the line's beginning to the world that is left.
-        ensures reached { ∥ WasReached Local (line_of self.new) (state_of self.new) ∥₁ }
+        ensures reached { ∥ WasReached Rights (line_of self.new) (state_of self.new) ∥₁ }
         // The state that is read off the centres stands for them, whatever was refused before.
         ensures stands { StandsFor (line_of self.new) (state_of self.new) (read_off (line_of self.new) (state_of self.new)) }
         // So each train has one supervisor at most, each section one train, and no section in use and no right is lost or in two places.
@@ -91,7 +91,8 @@ impl World {
             (event_of event.now) (answer_of a) (read_off (line_of self.old) (state_of self.new))) }
         ensures one_centre_exact { (c : ℕ) → IsOneCentreLine (line_of self.old) c → Gives (λ a. (answer_of a, state_of self.new)) result
             (world_step Whole (line_of self.old) (state_of self.old) (event_of event.now)) }
-        // Memory is wanted only by a train's bytes at a centre of the line: for packets that are kept, a session or a first mention.
+        // Memory is wanted only by a train's bytes at a centre of the line, for packets that are kept, a session, a frame or a first mention,
+        // and by a frame that was sent.
         ensures memory { IfWanted result (TakesMemory (line_of self.old) (state_of self.old) event.now) }
         ensures err { OnErr result (state_of self.new ≡ state_of self.old) }
     {
@@ -102,7 +103,7 @@ impl World {
     fn take(&mut self, event: &WorldEvent) -> Result<Answer, StepFault>
         ensures line { line_of self.new ≡ line_of self.old }
         ensures exact { Gives (λ a. (answer_of a, state_of self.new)) result
-            (world_step Local (line_of self.old) (state_of self.old) (event_of event.now)) }
+            (world_step Rights (line_of self.old) (state_of self.old) (event_of event.now)) }
         ensures memory { IfWanted result (TakesMemory (line_of self.old) (state_of self.old) event.now) }
         ensures err { OnErr result (state_of self.new ≡ state_of self.old) }
     {
@@ -110,16 +111,16 @@ impl World {
             WorldEvent::Train { centre, bytes } => self.receive(*centre, bytes),
             WorldEvent::Set { centre, section } => self.tell(*centre, &Event::Set(*section)),
             WorldEvent::Unset { centre, section } => self.tell(*centre, &Event::Unset(*section)),
-            WorldEvent::Deliver { .. } => Ok(Answer::NotSent),
+            WorldEvent::Deliver { from, to, number } => self.deliver(*from, *to, *number),
         }
     }
 
-    // The interlocking says something to a centre.
+    // The interlocking says something to a centre, or a frame that was sent to it comes.
     fn tell(&mut self, c: u8, event: &Event) -> Result<Answer, StepFault>
-        requires { IsOfInterlocking event.now }
+        requires { MayBeTold (state_of self.old) c event.now }
         ensures line { line_of self.new ≡ line_of self.old }
         ensures exact { Gives (λ a. (answer_of a, state_of self.new)) result
-            (at_centre (line_of self.old) (state_of self.old) c (takes Local (line_of self.old) (state_of self.old) c (state_of self.old).trains (one_event event.now))) }
+            (at_centre (line_of self.old) (state_of self.old) c (takes Rights (line_of self.old) (state_of self.old) c (state_of self.old).trains (one_event event.now))) }
         ensures memory { one_step.IsWantedBy (one_event event.now) result }
         ensures err { OnErr result (state_of self.new ≡ state_of self.old) }
     {
@@ -130,11 +131,38 @@ impl World {
         Ok(Answer::Outcome(outcome))
     }
 
+    // A frame that one centre sent to another under this number comes to it.
+    fn deliver(&mut self, from: u8, to: u8, number: u32) -> Result<Answer, StepFault>
+        ensures line { line_of self.new ≡ line_of self.old }
+        ensures exact { Gives (λ a. (answer_of a, state_of self.new)) result
+            (world_step Rights (line_of self.old) (state_of self.old) (Delivery from to number)) }
+        ensures memory { IfWanted result (is_some (frame_sent (state_of self.old) from to number) ≡ true) }
+        ensures err { OnErr result (state_of self.new ≡ state_of self.old) }
+    {
+        match self.frame_sent(from, to, number) {
+            Some(frame) => self.tell(to, &Event::Deliver { from, frame }),
+            None => Ok(Answer::NotSent),
+        }
+    }
+
+    // The frame that one centre sent to another under this number. Only a centre of the line is sent one.
+    fn frame_sent(&self, from: u8, to: u8, number: u32) -> Option<Frame>
+        ensures value { result ≡ frame_sent (state_of self.now) from to number }
+        ensures receiver { IfSome result (λ f. is_centre (line_of self.now) to ≡ true) }
+    {
+        known_line(&self.line);
+        if (from as usize) < self.centres.len() {
+            self.centres[from as usize].frame(to, number)
+        } else {
+            None
+        }
+    }
+
     // Bytes from a train come to a centre.
     fn receive(&mut self, c: u8, bytes: &[u8]) -> Result<Answer, StepFault>
         ensures line { line_of self.new ≡ line_of self.old }
         ensures exact { Gives (λ a. (answer_of a, state_of self.new)) result
-            (world_step Local (line_of self.old) (state_of self.old) (Bytes c (numbered (read_train bytes.now)))) }
+            (world_step Rights (line_of self.old) (state_of self.old) (Bytes c (numbered (read_train bytes.now)))) }
         ensures memory { IfWanted result ((is_centre (line_of self.old) c ≡ true) × BytesTakeMemory (line_of self.old) (state_of self.old).trains (read_train bytes.now)) }
         ensures err { OnErr result (state_of self.new ≡ state_of self.old) }
     {
@@ -152,8 +180,8 @@ impl World {
         requires { c < length self.old.centres.items }
         ensures line { line_of self.new ≡ line_of self.old }
         ensures exact { Gives (λ a. (answer_of a, state_of self.new)) result
-            (takes Local (line_of self.old) (state_of self.old) c (mention (line_of self.old) message.nid_engine (state_of self.old).trains) (Train (step_message message))) }
-        // Memory is wanted only for a session or a first mention.
+            (takes Rights (line_of self.old) (state_of self.old) c (mention (line_of self.old) message.nid_engine (state_of self.old).trains) (Train (step_message message))) }
+        // Memory is wanted only for a session, a frame or a first mention.
         ensures memory { IfWanted result (MakesRoom (line_of self.old) (state_of self.old).trains (step_message message)) }
         ensures err { OnErr result (state_of self.new ≡ state_of self.old) }
     {

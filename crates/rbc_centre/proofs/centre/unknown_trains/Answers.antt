@@ -8,12 +8,11 @@ loop-i-preserved c =
     let states = c.loop-i.trains.items in
     record {
       each = each_more c.args.line.now states c.push_reserved.new.self.items c.in-Ok.train c.engine_of.result c.push_reserved.ensures.items
-          (c.in-Ok.ensures ∙ ap (λ n. unknown_state n c.engine_of.result) (sym c.loop-i.invariant.count))
+          (c.in-Ok.ensures.state ∙ ap (λ n. unknown_state n c.engine_of.result) (sym c.loop-i.invariant.count))
           (ap (λ n. option_map (λ q. q.nid_engine) (slice_get c.args.line.now.trains n)) c.loop-i.invariant.count ∙ c.engine_of.ensures) c.loop-i.invariant.each;
       room = omega (arith, c.push_reserved.ensures.capacity, c.loop-i.invariant.room);
       made = omega (arith, c.push_reserved.ensures.len, c.loop-i.invariant.made);
       count = ap length c.push_reserved.ensures.items ∙ length-append states (c.in-Ok.train ∷ []) ∙ ap (λ n. n + 1) c.loop-i.invariant.count;
       sessions = c.loop-i.invariant.sessions;
-      book = c.loop-i.invariant.book;
-      registrar = c.loop-i.invariant.registrar;
+      book = c.in-Ok.ensures.book ∙ c.loop-i.invariant.book;
     }

@@ -12,5 +12,4 @@ invariant-loop-i l = record {
   count : length l.trains.items ≡ l.i;
   sessions : l.sessions ≡ l.fn.sessions;
   book : l.book ≡ l.fn.book;
-  registrar : l.registrar ≡ l.fn.registrar;
 }

@@ -1,19 +1,32 @@
-use Rattle.std.proofs.Common.{arith, sym, subst, Result}
-use Rattle.rbc_spec.specs.Outcome.{Outcome}
-use Rattle.rbc_spec.specs.Centre as centre
-use Rattle.rbc_spec.specs.Step.{Refusal, Train}
+use Rattle.std.proofs.Common.{◌∙◌, ap, sym, refl, subst, Ok}
+use Rattle.std.proofs.lemmas.Result.{err_from_is_err_and}
+use Rattle.rbc_spec.specs.Step.{Train}
 use Rattle.rbc_msgs.specs.StepMessage.{step_message}
-use Rattle.rbc_centre.specs.Answer.{Steps}
+use Rattle.rbc_centre.specs.Answer.{IsRefusalOf}
 use Rattle.rbc_centre.specs.States.{state_of}
-use Rattle.rbc_centre.specs.Views.{outcome_of}
-use Rattle.rbc_centre.proofs.Steps.{refused_step, not_refused, of_train}
+use Rattle.rbc_centre.proofs.Steps.{refused_step, taken_step, no_refusal, refusal_by}
+use Rattle.rbc_centre.proofs.Turns.{heard_stamp}
 use Rattle.rbc_centre.proofs.centre.Centre.hear.Goals as goal
 
-pub returns-else-self-lt-LAST_STAMP-clause-exact : goal.returns-else-self-lt-LAST_STAMP-clause-exact
-returns-else-self-lt-LAST_STAMP-clause-exact c = refused_step c.args.self.now.line _ c.args.self.now.number c.args.self.now.clock _ _ _ (of_train (step_message c.args.message.now)) (omega arith)
+pub returns-in_err-may_take-clause-exact : goal.returns-in_err-may_take-clause-exact
+returns-in_err-may_take-clause-exact c =
+    let k = c.args.self.now in
+    let event = Train (step_message c.args.message.now) in
+    let p = err_from_is_err_and c.from_residual.result c.from_residual.ensures.1 in
+    rw (p.1, p.2) (refused_step k.line k.number (state_of k) event c.in_err-may_take.field-0.0
+    (subst (IsRefusalOf c.in_err-may_take.field-0.0) (refusal_by k.line k.number (state_of k) event k.clock (heard_stamp k (step_message c.args.message.now))) c.in_err-may_take.ensures.err))
 
-pub returns-then-self-lt-LAST_STAMP-clause-exact : goal.returns-then-self-lt-LAST_STAMP-clause-exact
-returns-then-self-lt-LAST_STAMP-clause-exact c =
-    subst (λ (r : Result (Outcome × centre.Centre) Refusal). Steps (λ o. (outcome_of o, state_of c.take.new.self)) c.take.result r)
-    (sym (not_refused c.args.self.now.line (Train (step_message c.args.message.now)) c.args.self.now.number c.args.self.now.clock c.args.self.now.book c.args.self.now.registrar c.args.self.now.trains.items
-    (of_train (step_message c.args.message.now)) (omega arith))) c.take.ensures.exact
+pub returns-in_err-take-clause-exact : goal.returns-in_err-take-clause-exact
+returns-in_err-take-clause-exact c =
+    let k = c.args.self.now in
+    let m = step_message c.args.message.now in
+    let p = err_from_is_err_and c.from_residual-in_err-take.result c.from_residual-in_err-take.ensures.1 in
+    let allowed = c.in_ok-may_take.ensures.ok in
+    rw (p.1, p.2, taken_step k.line k.number (state_of k) (Train m) (no_refusal k.line k.number (state_of k) (Train m) k.clock (heard_stamp k m) allowed.0 allowed.1)) refl
+
+pub returns-clause-exact : goal.returns-clause-exact
+returns-clause-exact c =
+    let k = c.args.self.now in
+    let m = step_message c.args.message.now in
+    let allowed = c.in_ok-may_take.ensures.ok in
+    taken_step k.line k.number (state_of k) (Train m) (no_refusal k.line k.number (state_of k) (Train m) k.clock (heard_stamp k m) allowed.0 allowed.1) ∙ ap (λ x. Ok x) (sym c.in_ok-take.ensures.exact)

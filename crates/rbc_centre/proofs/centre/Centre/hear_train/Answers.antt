@@ -1,124 +1,181 @@
-use Rattle.std.proofs.Common.{◌≡◌, ◌+◌, ◌≤◌, ◌∙◌, ap, sym, refl, slice_get, set, Some, is_none, false, arith, subst, ℕ}
-use Rattle.std.proofs.Math.ListN.{length-set}
+use Rattle.std.proofs.Common.{◌+◌, ◌∙◌, ap, sym, refl, set, Some, None, Ok, Err, arith, subst, ℕ, [], map}
 use Rattle.std.proofs.lemmas.Option.{slice_get_read}
-use Rattle.rbc_spec.specs.Line.{train_number}
 use Rattle.rbc_spec.specs.Message.{is_stale}
-use Rattle.rbc_spec.specs.Outcome.{Outcome}
-use Rattle.rbc_spec.specs.Reach.{Local}
-use Rattle.rbc_spec.specs.Centre as centre
-use Rattle.rbc_spec.specs.Step.{Train, effect, ticked}
-use Rattle.rbc_local.specs.Local.{IsLocalAt}
-use Rattle.rbc_local.proofs.Steps.{train_stays}
+use Rattle.rbc_spec.specs.Outcome.{Outcome, Told}
+use Rattle.rbc_spec.specs.Step.{Train}
 use Rattle.rbc_msgs.specs.StepMessage.{step_message}
+use Rattle.rbc_link.proofs.Posted.{posted_none}
+use Rattle.rbc_linkmsg.specs.Bodies.{body_of}
 use Rattle.rbc_session.specs.SessionStates.{StandsFor, session_phase}
-use Rattle.rbc_rules.specs.Desk.{effect_left}
+use Rattle.rbc_rules.specs.Letters.{tells_others}
+use Rattle.rbc_rules.specs.Reasons.{reason_of}
+use Rattle.rbc_rules.specs.Sayings.{sayings_of}
 use Rattle.rbc_rules.specs.SessionStates.{Enters}
 use Rattle.rbc_rules.proofs.SessionStates.{stands_for_train}
 use Rattle.rbc_centre.specs.State.{stands_for}
-use Rattle.rbc_centre.specs.States.{state_of}
-use Rattle.rbc_centre.proofs.States.{number_within, counted_after, each_train_after, each_stands_after}
-use Rattle.rbc_centre.proofs.Steps.{ticked_is, local_later, heard_stands}
-use Rattle.rbc_centre.proofs.Trains.{heard_of, has_train, train_left}
+use Rattle.rbc_centre.specs.Views.{frames_to}
+use Rattle.rbc_centre.proofs.States.{number_within, each_of_train_after}
+use Rattle.rbc_centre.proofs.Trains.{heard_of}
+use Rattle.rbc_centre.proofs.Turns.{within, of_train, has_number, has_count, each_counted, takes, turns, stays, heard_stamp, letter_may}
 use Rattle.rbc_centre.proofs.centre.Centre.hear_train.Goals as goal
 
--- the train that the message is from, in the list of trains
-pub take-requires-clause-engine : goal.take-requires-clause-engine
-take-requires-clause-engine c =
-    let k = c.args.self.now in
-    sym (k.each_engine _ c.args.i _ c.requires.number (slice_get_read _ _ _ _ refl (number_within k.line k.trains.items _ c.args.i c.requires.number k.each_train) c.index_mut.ensures.value))
+-- ## The train that the message is from, in the list of trains
 
-pub take-requires-clause-number : goal.take-requires-clause-number
-take-requires-clause-number c =
+pub take-heard-requires-clause-engine : goal.take-heard-requires-clause-engine
+take-heard-requires-clause-engine c =
     let k = c.args.self.now in
-    let within = number_within k.line k.trains.items _ c.args.i c.requires.number k.each_train in
-    let place = k.each_number _ c.args.i _ c.requires.number (slice_get_read _ _ _ _ refl within c.index_mut.ensures.value) in
-    omega (arith, place, within, k.each_train, k.each_right)
+    let at = slice_get_read _ _ _ _ refl (number_within k.line k.trains.items _ c.args.i c.requires.number k.train_count) c.index_mut.ensures.value in
+    sym (of_train k _ c.args.i c.index_mut.result.now c.requires.number at).engine
 
-pub take-requires-clause-stands : goal.take-requires-clause-stands
-take-requires-clause-stands c =
+pub take-heard-requires-clause-number : goal.take-heard-requires-clause-number
+take-heard-requires-clause-number c =
+    let k = c.args.self.now in
+    let at = slice_get_read _ _ _ _ refl (number_within k.line k.trains.items _ c.args.i c.requires.number k.train_count) c.index_mut.ensures.value in
+    has_number k _ c.args.i c.index_mut.result.now c.requires.number at
+
+pub take-heard-requires-clause-stands : goal.take-heard-requires-clause-stands
+take-heard-requires-clause-stands c =
     let k = c.args.self.now in
     let old = c.index_mut.result.now in
-    let at : slice_get k.trains.items c.args.i ≡ Some old = slice_get_read _ _ _ _ refl (number_within k.line k.trains.items _ c.args.i c.requires.number k.each_train) c.index_mut.ensures.value in
-    subst (λ (n : ℕ). StandsFor k.sessions old.session_state n) (sym (k.each_engine _ c.args.i old c.requires.number at))
-    (stands_for_train k.sessions old.session_state _ (k.each_stands _ c.args.i old c.requires.number at))
+    let at = slice_get_read _ _ _ _ refl (number_within k.line k.trains.items _ c.args.i c.requires.number k.train_count) c.index_mut.ensures.value in
+    let is = of_train k _ c.args.i old c.requires.number at in
+    subst (λ (n : ℕ). StandsFor k.sessions old.session_state n) (sym is.engine) (stands_for_train k.sessions old.session_state _ is.session)
 
-pub take-requires-clause-room : goal.take-requires-clause-room
-take-requires-clause-room c = λ opens timely.
+pub take-heard-requires-clause-room : goal.take-heard-requires-clause-room
+take-heard-requires-clause-room c = λ opens timely.
     let k = c.args.self.now in
     let m = step_message c.args.message.now in
-    c.requires.room opens (ap (is_stale m.t_train) (heard_of k.line k.number k.clock m.nid_engine c.args.i k.book k.registrar k.trains.items c.index_mut.result.now c.requires.number
-    (slice_get_read _ _ _ _ refl (number_within k.line k.trains.items _ c.args.i c.requires.number k.each_train) c.index_mut.ensures.value)) ∙ timely)
+    let at = slice_get_read _ _ _ _ refl (number_within k.line k.trains.items _ c.args.i c.requires.number k.train_count) c.index_mut.ensures.value in
+    c.requires.session opens (ap (is_stale m.t_train) (heard_of k.line k.number k.clock m.nid_engine c.args.i k.book k.registrar k.links k.trains.items c.index_mut.result.now c.requires.number at) ∙ timely)
 
-pub take-requires-clause-count : goal.take-requires-clause-count
-take-requires-clause-count c =
+pub take-heard-requires-clause-count : goal.take-heard-requires-clause-count
+take-heard-requires-clause-count c =
     let k = c.args.self.now in
-    let few = k.counted c.args.i c.index_mut.result.now (slice_get_read _ _ _ _ refl (number_within k.line k.trains.items _ c.args.i c.requires.number k.each_train) c.index_mut.ensures.value) in
-    let time = c.requires.time in
-    omega (arith, few, time)
+    let at = slice_get_read _ _ _ _ refl (number_within k.line k.trains.items _ c.args.i c.requires.number k.train_count) c.index_mut.ensures.value in
+    has_count k _ c.args.i c.index_mut.result.now c.requires.number at c.requires.time
 
-pub returns-clause-exact : goal.returns-clause-exact
-returns-clause-exact c =
+-- ## The letter
+
+-- there is room for it: a message that tells no other centre sends none
+pub post-frame-requires-clause-may : goal.post-frame-requires-clause-may
+post-frame-requires-clause-may c =
     let k = c.args.self.now in
-    let states = k.trains.items in
     let m = step_message c.args.message.now in
-    let t = m.nid_engine in
-    let i = c.args.i in
-    let within = number_within k.line states t i c.requires.number k.each_train in
     let old = c.index_mut.result.now in
-    let at : slice_get states i ≡ Some old = slice_get_read _ _ _ _ refl within c.index_mut.ensures.value in
-    let engine : old.supervision.engine ≡ t = k.each_engine t i old c.requires.number at in
-    let place : old.supervision.number ≡ i = k.each_number t i old c.requires.number at in
-    let now = k.clock + 1 in
-    let at_now = stands_for k.line k.number now k.book k.registrar states in
-    let local = local_later k.line k.number k.clock now k.book k.registrar states k.local in
-    let new = c.take.new.self in
-    let has = has_train k.line k.number now t i k.book k.registrar states old c.requires.number at within engine place k.ordered local k.own_sections in
-    let known : is_none (train_number k.line old.supervision.engine) ≡ false = ap (λ (n : ℕ). is_none (train_number k.line n)) engine ∙ ap is_none c.requires.number in
-    let left = train_left k.line k.number now t i k.book k.registrar states old c.requires.number at within engine place new c.take.new.book c.take.new.registrar c.take.ensures.kept c.take.ensures.desk in
-    let exact : effect Local k.line k.number (ticked now (state_of k)) (Train m) ≡ effect_left (stands_for k.line k.number now c.take.new.book c.take.new.registrar (set states i new)) c.take.result =
-    ap (λ (x : centre.Centre). effect Local k.line k.number x (Train m)) (ticked_is k.line k.number k.clock now k.book k.registrar states)
-    ∙ c.take.ensures.exact at_now has known ∙ ap (λ (x : centre.Centre). effect_left x c.take.result) left in
-    exact
+    let at = slice_get_read _ _ _ _ refl (number_within k.line k.trains.items _ c.args.i c.requires.number k.train_count) c.index_mut.ensures.value in
+    letter_may k _ c.args.i old c.requires.number at (tells_others m.body) c.in-Ok.heard.letter c.requires.numbers c.requires.frames c.in-Ok.ensures.may c.in-Ok.ensures.silent
+
+-- ## The centre that is left
 
 pub invariant_of-self : goal.invariant_of-self
 invariant_of-self c =
     let k = c.args.self.now in
-    let states = k.trains.items in
     let m = step_message c.args.message.now in
     let t = m.nid_engine in
     let i = c.args.i in
-    let within = number_within k.line states t i c.requires.number k.each_train in
+    let number = c.requires.number in
     let old = c.index_mut.result.now in
-    let at : slice_get states i ≡ Some old = slice_get_read _ _ _ _ refl within c.index_mut.ensures.value in
-    let engine : old.supervision.engine ≡ t = k.each_engine t i old c.requires.number at in
-    let place : old.supervision.number ≡ i = k.each_number t i old c.requires.number at in
+    let at = slice_get_read _ _ _ _ refl (number_within k.line k.trains.items t i number k.train_count) c.index_mut.ensures.value in
     let now = k.clock + 1 in
-    let at_now = stands_for k.line k.number now k.book k.registrar states in
-    let local = local_later k.line k.number k.clock now k.book k.registrar states k.local in
-    let new = c.take.new.self in
-    let has = has_train k.line k.number now t i k.book k.registrar states old c.requires.number at within engine place k.ordered local k.own_sections in
-    let known : is_none (train_number k.line old.supervision.engine) ≡ false = ap (λ (n : ℕ). is_none (train_number k.line n)) engine ∙ ap is_none c.requires.number in
-    let left = train_left k.line k.number now t i k.book k.registrar states old c.requires.number at within engine place new c.take.new.book c.take.new.registrar c.take.ensures.kept c.take.ensures.desk in
-    let exact : effect Local k.line k.number (ticked now (state_of k)) (Train m) ≡ effect_left (stands_for k.line k.number now c.take.new.book c.take.new.registrar (set states i new)) c.take.result =
-    ap (λ (x : centre.Centre). effect Local k.line k.number x (Train m)) (ticked_is k.line k.number k.clock now k.book k.registrar states)
-    ∙ c.take.ensures.exact at_now has known ∙ ap (λ (x : centre.Centre). effect_left x c.take.result) left in
-    let kept = c.take.ensures.kept in
-    let desk = c.take.ensures.desk in
-    let few : old.said ≤ k.clock = k.counted i old at in
-    let more : new.said ≤ old.said + 1 = kept.said in
-    let enters : Enters k.sessions c.take.new.sessions new.session_state t (session_phase new.session_state) =
-    subst (λ (n : ℕ). Enters k.sessions c.take.new.sessions new.session_state n (session_phase new.session_state)) engine c.take.ensures.stands in
+    let new = c.take-heard.new.self in
+    let heard = c.in-Ok.heard in
+    let kept = c.take-heard.ensures.kept in
+    let desk = c.take-heard.ensures.desk in
+    let is = of_train k t i old number at in
+    let effect = takes k (Train m) t i old number at now new c.take-heard.new.book c.take-heard.new.registrar kept desk (Ok heard) c.in-Ok.ensures.exact in
+    let s = stays k (Train m) now i k.links c.post-frame.new.links c.take-heard.new.book c.take-heard.new.registrar old new heard.letter (sayings_of heard.saying) (map (λ s. Told s) heard.told) None None
+    (heard_stamp k m) (λ d. refl) c.post-frame.ensures.links effect (frames_to c.post-frame.result) c.post-frame.ensures.frames
+    (omega arith) (omega (arith, c.requires.time)) tt
+    (letter_may k t i old number at (tells_others m.body) heard.letter c.requires.numbers c.requires.frames c.in-Ok.ensures.may c.in-Ok.ensures.silent) desk refl (λ d. refl) in
+    let enters : Enters k.sessions c.take-heard.new.sessions new.session_state t (session_phase new.session_state) =
+    subst (λ (n : ℕ). Enters k.sessions c.take-heard.new.sessions new.session_state n (session_phase new.session_state)) is.engine c.take-heard.ensures.stands in
     record {
-      ordered = k.ordered;
+      line_rules = k.line_rules;
+      of_line = k.of_line;
       in_time = omega (arith, c.requires.time);
-      own_sections = λ s. desk.homes s ∙ k.own_sections s;
-      local = subst (λ (p : Outcome × centre.Centre). IsLocalAt k.line k.number p.1)
-          (sym (heard_stands k.line k.line k.number k.number k.clock now k.book c.take.new.book k.registrar c.take.new.registrar states (set states i new) m c.take.result exact))
-          ((train_stays k.line k.number k.ordered (state_of k) m k.local).state);
-      each_right = desk.count ∙ k.each_right;
-      each_train = length-set states i new ∙ k.each_train;
-      each_number = each_train_after (λ u j p. p.supervision.number ≡ j) k.line states t i new within c.requires.number (kept.number ∙ place) k.each_number;
-      each_engine = each_train_after (λ u j p. p.supervision.engine ≡ u) k.line states t i new within c.requires.number (kept.engine ∙ engine) k.each_engine;
-      each_stands = each_stands_after k.line k.sessions c.take.new.sessions states t i new (session_phase new.session_state) within c.requires.number enters k.each_stands;
-      counted = counted_after states i k.clock now new within (omega (arith, few, more)) (omega arith) k.counted;
+      own_sections = s.own_sections;
+      each_right = s.each_right;
+      link_count = s.link_count;
+      each_link = s.each_link;
+      each_frame = ∣ s.each_frame ∣₁;
+      train_count = s.train_count;
+      each_train = each_of_train_after k.line k.sessions c.take-heard.new.sessions k.trains.items t i new (session_phase new.session_state) (within k t i old number at) number enters
+          (kept.number ∙ is.number) (kept.engine ∙ is.engine) (kept.waiting ∙ is.waiting) (c.take-heard.ensures.covers is.covers) k.each_train;
+      counted = each_counted k t i old number at now k.links new c.take-heard.new.book c.take-heard.new.registrar kept desk (omega arith);
+      sound = s.sound;
+      own = s.own;
     }
+
+pub invariant_of-self-in-Err-1 : goal.invariant_of-self-in-Err-1
+invariant_of-self-in-Err-1 c =
+    let k = c.args.self.now in
+    let m = step_message c.args.message.now in
+    let t = m.nid_engine in
+    let i = c.args.i in
+    let number = c.requires.number in
+    let old = c.index_mut.result.now in
+    let at = slice_get_read _ _ _ _ refl (number_within k.line k.trains.items t i number k.train_count) c.index_mut.ensures.value in
+    let now = k.clock + 1 in
+    let new = c.take-heard.new.self in
+    let kept = c.take-heard.ensures.kept in
+    let desk = c.take-heard.ensures.desk in
+    let is = of_train k t i old number at in
+    let effect = takes k (Train m) t i old number at now new c.take-heard.new.book c.take-heard.new.registrar kept desk (Err c.in-Err.why) c.in-Err.ensures.exact in
+    let s = stays k (Train m) now i k.links k.links c.take-heard.new.book c.take-heard.new.registrar old new None [] [] None (Some (reason_of c.in-Err.why))
+    (heard_stamp k m) (λ d. refl) (posted_none body_of now k.links) effect (λ d. []) (λ d. refl)
+    (omega arith) (omega (arith, c.requires.time)) tt tt desk refl (λ d. refl) in
+    let enters : Enters k.sessions c.take-heard.new.sessions new.session_state t (session_phase new.session_state) =
+    subst (λ (n : ℕ). Enters k.sessions c.take-heard.new.sessions new.session_state n (session_phase new.session_state)) is.engine c.take-heard.ensures.stands in
+    record {
+      line_rules = k.line_rules;
+      of_line = k.of_line;
+      in_time = omega (arith, c.requires.time);
+      own_sections = s.own_sections;
+      each_right = s.each_right;
+      link_count = s.link_count;
+      each_link = s.each_link;
+      each_frame = ∣ s.each_frame ∣₁;
+      train_count = s.train_count;
+      each_train = each_of_train_after k.line k.sessions c.take-heard.new.sessions k.trains.items t i new (session_phase new.session_state) (within k t i old number at) number enters
+          (kept.number ∙ is.number) (kept.engine ∙ is.engine) (kept.waiting ∙ is.waiting) (c.take-heard.ensures.covers is.covers) k.each_train;
+      counted = each_counted k t i old number at now k.links new c.take-heard.new.book c.take-heard.new.registrar kept desk (omega arith);
+      sound = s.sound;
+      own = s.own;
+    }
+
+-- ## The answer
+
+pub returns-in-Ok-clause-exact : goal.returns-in-Ok-clause-exact
+returns-in-Ok-clause-exact c =
+    let k = c.args.self.now in
+    let m = step_message c.args.message.now in
+    let t = m.nid_engine in
+    let i = c.args.i in
+    let number = c.requires.number in
+    let old = c.index_mut.result.now in
+    let at = slice_get_read _ _ _ _ refl (number_within k.line k.trains.items t i number k.train_count) c.index_mut.ensures.value in
+    let now = k.clock + 1 in
+    let new = c.take-heard.new.self in
+    let heard = c.in-Ok.heard in
+    let effect = takes k (Train m) t i old number at now new c.take-heard.new.book c.take-heard.new.registrar c.take-heard.ensures.kept c.take-heard.ensures.desk (Ok heard) c.in-Ok.ensures.exact in
+    let left = stands_for k.line k.number now c.take-heard.new.book c.take-heard.new.registrar c.post-frame.new.links (set k.trains.items i new) in
+    ap (λ (o : Outcome). (o, left)) c.heard.ensures
+    ∙ turns k (Train m) now i k.links c.post-frame.new.links c.take-heard.new.book c.take-heard.new.registrar old new heard.letter (sayings_of heard.saying) (map (λ s. Told s) heard.told) None None
+    (heard_stamp k m) (λ d. refl) c.post-frame.ensures.links effect (frames_to c.post-frame.result) c.post-frame.ensures.frames
+
+pub returns-in-Err-clause-exact : goal.returns-in-Err-clause-exact
+returns-in-Err-clause-exact c =
+    let k = c.args.self.now in
+    let m = step_message c.args.message.now in
+    let t = m.nid_engine in
+    let i = c.args.i in
+    let number = c.requires.number in
+    let old = c.index_mut.result.now in
+    let at = slice_get_read _ _ _ _ refl (number_within k.line k.trains.items t i number k.train_count) c.index_mut.ensures.value in
+    let now = k.clock + 1 in
+    let new = c.take-heard.new.self in
+    let effect = takes k (Train m) t i old number at now new c.take-heard.new.book c.take-heard.new.registrar c.take-heard.ensures.kept c.take-heard.ensures.desk (Err c.in-Err.why) c.in-Err.ensures.exact in
+    let left = stands_for k.line k.number now c.take-heard.new.book c.take-heard.new.registrar k.links (set k.trains.items i new) in
+    ap (λ (o : Outcome). (o, left)) c.silent.ensures
+    ∙ turns k (Train m) now i k.links k.links c.take-heard.new.book c.take-heard.new.registrar old new None [] [] None (Some (reason_of c.in-Err.why))
+    (heard_stamp k m) (λ d. refl) (posted_none body_of now k.links) effect (λ d. []) (λ d. refl)

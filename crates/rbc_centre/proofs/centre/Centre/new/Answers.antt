@@ -1,37 +1,43 @@
-use Rattle.std.proofs.Common.{◌∙◌, ap, sym, arith, subst, length}
-use Rattle.rbc_spec.specs.Centre as centre
+use Rattle.std.proofs.Common.{◌≡◌, ◌∙◌, ap, sym, arith, subst, true}
+use Rattle.rbc_spec.specs.Reach.{Rights as ToRights}
+use Rattle.rbc_spec.specs.Line.{is_centre}
 use Rattle.rbc_spec.specs.Centre.{beginning}
-use Rattle.rbc_local.specs.Local.{IsLocalAt}
-use Rattle.rbc_local.proofs.Ordered.{is_ordered, begins_local}
+use Rattle.rbc_flow.specs.Sound.{IsCentreSound}
+use Rattle.rbc_flow.proofs.Begins.{centre_begins}
+use Rattle.rbc_own.specs.Own.{IsOwnAt}
+use Rattle.rbc_own.proofs.Stays.{begins_own}
 use Rattle.rbc_book.specs.Book.{Pages, is_own}
 use Rattle.rbc_session.specs.Sessions.{phase_at}
 use Rattle.rbc_centre.specs.State.{stands_for}
-use Rattle.rbc_centre.proofs.Begins.{stands_at_beginning, none_said, numbers, engines, closed_everywhere}
+use Rattle.rbc_centre.proofs.Begins.{stands_at_beginning, none_said, each_begins, none_in_range}
+use Rattle.rbc_centre.proofs.centre.Centre.new.Goals.{In_ok-trains}
 use Rattle.rbc_centre.proofs.centre.Centre.new.Goals as goal
 
+begins : (c : In_ok-trains) → stands_for c.in_ok-line.line c.args.number 0 c.unknown_trains.new.book c.in_ok-registrar.registrar c.in_ok-links.links c.in_ok-trains.trains.items
+    ≡ beginning c.in_ok-line.line c.args.number
+begins c =
+    (λ i. stands_for c.in_ok-line.line c.args.number 0 (c.in_ok-trains.ensures.book i) c.in_ok-registrar.registrar c.in_ok-links.links c.in_ok-trains.trains.items)
+    ∙ stands_at_beginning c.in_ok-line.line c.in_ok-trains.trains.items c.in_ok-trains.ensures.each c.args.number c.in_ok-book.book c.in_ok-registrar.registrar c.in_ok-links.links
+    c.in_ok-book.ensures.entry c.in_ok-book.ensures.wish c.in_ok-registrar.ensures.engines c.in_ok-links.ensures.taken c.in_ok-links.ensures.sent
+
 pub returns-clause-beginning : goal.returns-clause-beginning
-returns-clause-beginning c =
-    (λ i. stands_for c.in_ok-line.line c.args.number 0 (c.in_ok-trains.ensures.book i) (c.in_ok-trains.ensures.registrar i) c.in_ok-trains.trains.items)
-    ∙ stands_at_beginning c.in_ok-line.line c.in_ok-trains.trains.items c.in_ok-trains.ensures.each c.args.number c.in_ok-book.book c.in_ok-registrar.registrar
-    c.in_ok-book.ensures.entry c.in_ok-book.ensures.wish c.in_ok-registrar.ensures.engines
-    ∙ ap (λ l. beginning l c.args.number) c.in_ok-line.ensures.value
+returns-clause-beginning c = begins (goal.at.returns-clause-beginning c).In_ok-trains ∙ ap (λ l. beginning l c.args.number) c.in_ok-line.ensures.value
 
 pub invariant_of-result : goal.invariant_of-result
 invariant_of-result c =
-    let begins =
-    (λ i. stands_for c.in_ok-line.line c.args.number 0 (c.in_ok-trains.ensures.book i) (c.in_ok-trains.ensures.registrar i) c.in_ok-trains.trains.items)
-    ∙ stands_at_beginning c.in_ok-line.line c.in_ok-trains.trains.items c.in_ok-trains.ensures.each c.args.number c.in_ok-book.book c.in_ok-registrar.registrar
-    c.in_ok-book.ensures.entry c.in_ok-book.ensures.wish c.in_ok-registrar.ensures.engines
-    in
+    let is = begins (goal.at.invariant_of-result c).In_ok-trains in
     record {
-      ordered = is_ordered c.in_ok-line.line c.in_ok-line.ensures.line;
+      line_rules = ∣ c.in_ok-line.ensures.line ∣₁;
+      of_line = subst (λ l. is_centre l c.args.number ≡ true) (sym c.in_ok-line.ensures.value) c.requires;
       in_time = omega arith;
       own_sections = λ s. ap (λ (b : Pages). is_own b s) c.in_ok-trains.ensures.book ∙ c.in_ok-book.ensures.homes s;
-      local = subst (λ (x : centre.Centre). IsLocalAt c.in_ok-line.line c.args.number x) (sym begins) (begins_local c.in_ok-line.line c.args.number);
-      each_right = ap length c.in_ok-trains.ensures.registrar ∙ c.in_ok-registrar.ensures.count;
-      each_train = c.in_ok-trains.ensures.count;
-      each_number = numbers c.in_ok-line.line c.in_ok-trains.trains.items c.in_ok-trains.ensures.each;
-      each_engine = engines c.in_ok-line.line c.in_ok-trains.trains.items c.in_ok-trains.ensures.each;
-      each_stands = closed_everywhere c.in_ok-line.line c.in_ok-trains.trains.items c.in_ok-trains.ensures.each _ (λ u. ap (λ r. phase_at r u) c.in_ok-trains.ensures.sessions ∙ c.new-sessions.ensures.phases u);
+      each_right = c.in_ok-registrar.ensures.count;
+      link_count = c.in_ok-links.ensures.count;
+      each_link = c.in_ok-links.ensures.linked;
+      each_frame = ∣ none_in_range c.in_ok-links.links c.in_ok-links.ensures.sent ∣₁;
+      train_count = c.in_ok-trains.ensures.count;
+      each_train = each_begins c.in_ok-line.line c.in_ok-trains.trains.items c.in_ok-trains.ensures.each _ (λ u. ap (λ r. phase_at r u) c.in_ok-trains.ensures.sessions ∙ c.new-sessions.ensures.phases u);
       counted = none_said c.in_ok-line.line c.in_ok-trains.trains.items c.in_ok-trains.ensures.each;
+      sound = subst (IsCentreSound c.in_ok-line.line c.args.number) (sym is) (centre_begins c.in_ok-line.line c.args.number);
+      own = subst (IsOwnAt ToRights c.in_ok-line.line c.args.number) (sym is) (begins_own ToRights c.in_ok-line.line c.args.number);
     }

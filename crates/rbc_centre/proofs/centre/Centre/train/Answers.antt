@@ -10,7 +10,7 @@ pub returns-in-Some-clause-phase : goal.returns-in-Some-clause-phase
 unfolding stands_for
 returns-in-Some-clause-phase c =
     let number = sym c.train_number.ensures.value ∙ c.in-Some.is in
-    let within = number_within c.args.self.now.line c.args.self.now.trains.items c.args.nid_engine _ number c.args.self.now.each_train in
+    let within = number_within c.args.self.now.line c.args.self.now.trains.items c.args.nid_engine _ number c.args.self.now.train_count in
     c.page.ensures.phase ∙ part_of_train (λ p. session_phase p.session_state) Closed c.args.self.now.line c.args.self.now.trains.items c.args.nid_engine _ c.index.result.now number (slice_get_read _ _ _ _ refl within c.index.ensures)
 
 pub returns-in-None-clause-phase : goal.returns-in-None-clause-phase
@@ -22,7 +22,7 @@ pub returns-in-Some-clause-heard : goal.returns-in-Some-clause-heard
 unfolding stands_for
 returns-in-Some-clause-heard c =
     let number = sym c.train_number.ensures.value ∙ c.in-Some.is in
-    let within = number_within c.args.self.now.line c.args.self.now.trains.items c.args.nid_engine _ number c.args.self.now.each_train in
+    let within = number_within c.args.self.now.line c.args.self.now.trains.items c.args.nid_engine _ number c.args.self.now.train_count in
     c.page.ensures.heard ∙ part_of_train (λ p. p.heard) None c.args.self.now.line c.args.self.now.trains.items c.args.nid_engine _ c.index.result.now number (slice_get_read _ _ _ _ refl within c.index.ensures)
 
 pub returns-in-None-clause-heard : goal.returns-in-None-clause-heard
@@ -34,7 +34,7 @@ pub returns-in-Some-clause-said : goal.returns-in-Some-clause-said
 unfolding stands_for
 returns-in-Some-clause-said c =
     let number = sym c.train_number.ensures.value ∙ c.in-Some.is in
-    let within = number_within c.args.self.now.line c.args.self.now.trains.items c.args.nid_engine _ number c.args.self.now.each_train in
+    let within = number_within c.args.self.now.line c.args.self.now.trains.items c.args.nid_engine _ number c.args.self.now.train_count in
     c.page.ensures.said ∙ part_of_train (λ p. p.said) 0 c.args.self.now.line c.args.self.now.trains.items c.args.nid_engine _ c.index.result.now number (slice_get_read _ _ _ _ refl within c.index.ensures)
 
 pub returns-in-None-clause-said : goal.returns-in-None-clause-said
@@ -46,10 +46,22 @@ pub returns-in-Some-clause-mission : goal.returns-in-Some-clause-mission
 unfolding stands_for
 returns-in-Some-clause-mission c =
     let number = sym c.train_number.ensures.value ∙ c.in-Some.is in
-    let within = number_within c.args.self.now.line c.args.self.now.trains.items c.args.nid_engine _ number c.args.self.now.each_train in
+    let within = number_within c.args.self.now.line c.args.self.now.trains.items c.args.nid_engine _ number c.args.self.now.train_count in
     c.page.ensures.mission ∙ part_of_train (λ p. p.supervision.mission) None c.args.self.now.line c.args.self.now.trains.items c.args.nid_engine _ c.index.result.now number (slice_get_read _ _ _ _ refl within c.index.ensures)
 
 pub returns-in-None-clause-mission : goal.returns-in-None-clause-mission
 unfolding stands_for
 returns-in-None-clause-mission c =
     part_of_foreign (λ p. p.supervision.mission) None c.args.self.now.line c.args.self.now.trains.items c.args.nid_engine (sym c.train_number.ensures.value ∙ c.in-None.is)
+
+pub returns-in-Some-clause-waiting : goal.returns-in-Some-clause-waiting
+unfolding stands_for
+returns-in-Some-clause-waiting c =
+    let number = sym c.train_number.ensures.value ∙ c.in-Some.is in
+    let within = number_within c.args.self.now.line c.args.self.now.trains.items c.args.nid_engine _ number c.args.self.now.train_count in
+    c.page.ensures.waiting ∙ part_of_train (λ p. p.waiting.wait) None c.args.self.now.line c.args.self.now.trains.items c.args.nid_engine _ c.index.result.now number (slice_get_read _ _ _ _ refl within c.index.ensures)
+
+pub returns-in-None-clause-waiting : goal.returns-in-None-clause-waiting
+unfolding stands_for
+returns-in-None-clause-waiting c =
+    part_of_foreign (λ p. p.waiting.wait) None c.args.self.now.line c.args.self.now.trains.items c.args.nid_engine (sym c.train_number.ensures.value ∙ c.in-None.is)

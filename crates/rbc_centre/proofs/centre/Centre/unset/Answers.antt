@@ -1,18 +1,19 @@
-use Rattle.std.proofs.Common.{◌≡◌, ◌∙◌, ◌+◌, ◌<◌, ◌≤◌, sym, arith, true, false, refl, subst, ℕ, Some, None, slice_get, set, [], ◌∷◌}
+use Rattle.std.proofs.Common.{◌≡◌, ◌∙◌, ◌+◌, ◌≤◌, sym, arith, true, false, refl, subst, ℕ, List, None, set, [], ◌∷◌}
 use Rattle.std.proofs.Math.ListN.{length-set}
 use Rattle.std.proofs.lemmas.Option.{slice_get_read}
 use Rattle.rbc_spec.specs.Centre as centre
 use Rattle.rbc_spec.specs.Acts.{propose_if_so}
-use Rattle.rbc_spec.specs.Outcome.{Asked}
+use Rattle.rbc_spec.specs.Outcome.{Word, Done, Asked, NotHome}
+use Rattle.rbc_spec.specs.Step.{Unset}
 use Rattle.rbc_book.specs.Book.{entry_at}
-use Rattle.rbc_rules.specs.SessionStates.{Stands}
 use Rattle.rbc_rules.specs.Trains.{asked, HasTrain}
 use Rattle.rbc_rules.specs.Sayings.{sayings_of}
-use Rattle.rbc_centre.specs.Views.{outcome_of}
-use Rattle.rbc_centre.proofs.States.{counted_later, counted_after, each_train_after}
 use Rattle.rbc_centre.specs.States.{state_of}
-use Rattle.rbc_centre.proofs.Steps.{local_later, unset_stands, spoken}
-use Rattle.rbc_centre.proofs.Wishes.{unset_turns, unset_local, asked_turns, asked_local, user_of, user_at, no_user, done_unused}
+use Rattle.rbc_centre.specs.Views.{outcome_of}
+use Rattle.rbc_centre.proofs.Kept.{sound_left, own_left}
+use Rattle.rbc_centre.proofs.States.{counted_later, counted_after, each_of_train_still, asked_train}
+use Rattle.rbc_centre.proofs.Steps.{outcome_with, unset_stands}
+use Rattle.rbc_centre.proofs.Wishes.{unset_turns, asked_turns, user_of, user_at, no_user, done_unused}
 use Rattle.rbc_centre.proofs.centre.Centre.unset.Goals.{in-Some, in-None}
 use Rattle.rbc_centre.proofs.centre.Centre.unset.Goals as goal
 
@@ -20,54 +21,65 @@ pub invariant_of-self : goal.invariant_of-self
 invariant_of-self c =
     let k = c.args.self.now in
     let s = c.args.s in
+    let words : List Word = Done s ∷ [] in
+    let is = unset_stands k.line k.number k.clock k.book c.unset.new.self k.registrar k.links k.trains.items k.trains.items [] words
+    (outcome_with (k.clock + 1) (λ d. []) [] words None None) s refl
+    (unset_turns k.line k.number (k.clock + 1) k.book c.unset.new.self k.registrar k.links k.trains.items s (k.own_sections s) c.unset.ensures.entry c.unset.ensures.wish true c.in-Ok-Done.ensures.own
+    (λ _. done_unused (entry_at k.book s) (sym c.in-Ok-Done.field-0-is ∙ c.in-Ok-Done.ensures.answer))) in
     record {
-      ordered = k.ordered;
+      line_rules = k.line_rules;
+      of_line = k.of_line;
       in_time = omega (arith, c.requires);
       own_sections = λ n. c.unset.ensures.homes n ∙ k.own_sections n;
-      local = unset_local k.line k.number (k.clock + 1) k.book c.unset.new.self k.registrar k.trains.items s (k.own_sections s) c.unset.ensures.entry c.unset.ensures.wish
-          true c.in-Ok-Done.ensures.own (λ _. done_unused (entry_at k.book s) (sym c.in-Ok-Done.field-0-is ∙ c.in-Ok-Done.ensures.answer))
-          (local_later k.line k.number k.clock (k.clock + 1) k.book k.registrar k.trains.items k.local);
       each_right = k.each_right;
+      link_count = k.link_count;
+      each_link = k.each_link;
+      each_frame = k.each_frame;
+      train_count = k.train_count;
       each_train = k.each_train;
-      each_number = k.each_number;
-      each_engine = k.each_engine;
-      each_stands = k.each_stands;
       counted = counted_later k.trains.items k.clock (k.clock + 1) (omega arith) k.counted;
+      sound = sound_left k.line k.number (state_of k) _ (Unset s) _ k.line_rules tt is k.sound;
+      own = own_left k.line k.number (state_of k) _ (Unset s) _ k.line_rules tt is k.sound k.own;
     }
 
 pub invariant_of-self-in-Err : goal.invariant_of-self-in-Err
 invariant_of-self-in-Err c =
     let k = c.args.self.now in
     let s = c.args.s in
+    let words : List Word = NotHome s ∷ [] in
+    let is = unset_stands k.line k.number k.clock k.book c.unset.new.self k.registrar k.links k.trains.items k.trains.items [] words
+    (outcome_with (k.clock + 1) (λ d. []) [] words None None) s refl
+    (unset_turns k.line k.number (k.clock + 1) k.book c.unset.new.self k.registrar k.links k.trains.items s (k.own_sections s) c.unset.ensures.entry c.unset.ensures.wish false c.in-Err.ensures.own (λ e. cc)) in
     record {
-      ordered = k.ordered;
+      line_rules = k.line_rules;
+      of_line = k.of_line;
       in_time = omega (arith, c.requires);
       own_sections = λ n. c.unset.ensures.homes n ∙ k.own_sections n;
-      local = unset_local k.line k.number (k.clock + 1) k.book c.unset.new.self k.registrar k.trains.items s (k.own_sections s) c.unset.ensures.entry c.unset.ensures.wish
-          false c.in-Err.ensures.own (λ e. cc)
-          (local_later k.line k.number k.clock (k.clock + 1) k.book k.registrar k.trains.items k.local);
       each_right = k.each_right;
+      link_count = k.link_count;
+      each_link = k.each_link;
+      each_frame = k.each_frame;
+      train_count = k.train_count;
       each_train = k.each_train;
-      each_number = k.each_number;
-      each_engine = k.each_engine;
-      each_stands = k.each_stands;
       counted = counted_later k.trains.items k.clock (k.clock + 1) (omega arith) k.counted;
+      sound = sound_left k.line k.number (state_of k) _ (Unset s) _ k.line_rules tt is k.sound;
+      own = own_left k.line k.number (state_of k) _ (Unset s) _ k.line_rules tt is k.sound k.own;
     }
 
 pub returns-in-Ok-Done-clause-exact : goal.returns-in-Ok-Done-clause-exact
 returns-in-Ok-Done-clause-exact c =
     let k = c.args.self.now in
     let s = c.args.s in
-    unset_stands k.line k.number k.clock k.book c.unset.new.self k.registrar k.registrar k.trains.items k.trains.items _ _ _ s c.told.ensures
-    (unset_turns k.line k.number (k.clock + 1) k.book c.unset.new.self k.registrar k.trains.items s (k.own_sections s) c.unset.ensures.entry c.unset.ensures.wish true c.in-Ok-Done.ensures.own
+    unset_stands k.line k.number k.clock k.book c.unset.new.self k.registrar k.links k.trains.items k.trains.items _ _ _ s c.told.ensures
+    (unset_turns k.line k.number (k.clock + 1) k.book c.unset.new.self k.registrar k.links k.trains.items s (k.own_sections s) c.unset.ensures.entry c.unset.ensures.wish true c.in-Ok-Done.ensures.own
     (λ _. done_unused (entry_at k.book s) (sym c.in-Ok-Done.field-0-is ∙ c.in-Ok-Done.ensures.answer)))
 
 pub returns-in-Err-clause-exact : goal.returns-in-Err-clause-exact
 returns-in-Err-clause-exact c =
     let k = c.args.self.now in
     let s = c.args.s in
-    unset_stands k.line k.number k.clock k.book c.unset.new.self k.registrar k.registrar k.trains.items k.trains.items _ _ _ s c.told-in-Err.ensures
-    (unset_turns k.line k.number (k.clock + 1) k.book c.unset.new.self k.registrar k.trains.items s (k.own_sections s) c.unset.ensures.entry c.unset.ensures.wish false c.in-Err.ensures.own (λ e. cc))
+    unset_stands k.line k.number k.clock k.book c.unset.new.self k.registrar k.links k.trains.items k.trains.items _ _ _ s c.told-in-Err.ensures
+    (unset_turns k.line k.number (k.clock + 1) k.book c.unset.new.self k.registrar k.links k.trains.items s (k.own_sections s) c.unset.ensures.entry c.unset.ensures.wish false c.in-Err.ensures.own (λ e. cc))
 
 -- ## A section in use
 
@@ -77,7 +89,7 @@ ask_back-request-requires c =
     let user = user_at k c.args.s c.in-Some.i c.index_mut.result.now (sym c.in-Ok-Asked.field-0-is ∙ c.in-Ok-Asked.ensures.answer) (λ t taken. sym (c.user_of-user.ensures.value t taken) ∙ c.in-Some.is)
     (λ within. slice_get_read _ _ _ _ refl within c.index_mut.ensures.value) in
     let few = k.counted c.in-Some.i c.index_mut.result.now user.at in
-    omega (arith, few, c.requires)
+    record { count = omega (arith, few, c.requires) }
 
 pub invariant_of-self-in-Some : goal.invariant_of-self-in-Some
 invariant_of-self-in-Some c =
@@ -91,25 +103,33 @@ invariant_of-self-in-Some c =
     let asked_for = sym c.in-Ok-Asked.field-0-is ∙ c.in-Ok-Asked.ensures.answer in
     let user = user_at k s i before asked_for (λ t taken. sym (c.user_of-user.ensures.value t taken) ∙ c.in-Some.is) (λ within. slice_get_read _ _ _ _ refl within c.index_mut.ensures.value) in
     let t = (user_of k s asked_for).0 in
-    let asks : (j : centre.Centre) → HasTrain j t before → propose_if_so k.line t s j ≡ asked t after (sayings_of c.ask_back-request.result) j =
-    subst (λ (n : ℕ). (j : centre.Centre) → HasTrain j n before → propose_if_so k.line n s j ≡ asked n after (sayings_of c.ask_back-request.result) j) user.engine ask.exact
+    let sayings = sayings_of c.ask_back-request.result in
+    let asks : (j : centre.Centre) → HasTrain j t before → propose_if_so k.line t s j ≡ asked t after sayings j =
+    subst (λ (n : ℕ). (j : centre.Centre) → HasTrain j n before → propose_if_so k.line n s j ≡ asked n after sayings j) user.engine ask.exact
     in
+    let words : List Word = Asked s ∷ [] in
+    let is = unset_stands k.line k.number k.clock k.book c.unset.new.self k.registrar k.links states (set states i after) sayings words
+    (outcome_with (k.clock + 1) (λ d. []) sayings words None None) s refl
+    (asked_turns k.line k.number (k.clock + 1) k.book c.unset.new.self k.registrar k.links states s (k.own_sections s) c.unset.ensures.entry c.unset.ensures.wish
+    t i before after sayings c.in-Ok-Asked.ensures.own user.taken user.number user.at user.within ask.session_state ask.heard ask.waiting asks) in
     let few : before.said ≤ k.clock = k.counted i before user.at in
     let said : after.said ≤ before.said + 1 = ask.said in
+    let was = k.each_train t i before user.number user.at in
     record {
-      ordered = k.ordered;
+      line_rules = k.line_rules;
+      of_line = k.of_line;
       in_time = omega (arith, c.requires);
       own_sections = λ n. c.unset.ensures.homes n ∙ k.own_sections n;
-      local = asked_local k.line k.number (k.clock + 1) k.book c.unset.new.self k.registrar states s (k.own_sections s) c.unset.ensures.entry c.unset.ensures.wish
-          t i before after (sayings_of c.ask_back-request.result) c.in-Ok-Asked.ensures.own user.taken user.number user.at user.within ask.session_state ask.heard asks
-          (local_later k.line k.number k.clock (k.clock + 1) k.book k.registrar states k.local);
       each_right = k.each_right;
-      each_train = length-set states i after ∙ k.each_train;
-      each_number = each_train_after (λ u j p. p.supervision.number ≡ j) k.line states t i after user.within user.number (ask.number ∙ k.each_number t i before user.number user.at) k.each_number;
-      each_engine = each_train_after (λ u j p. p.supervision.engine ≡ u) k.line states t i after user.within user.number (ask.engine ∙ user.engine) k.each_engine;
-      each_stands = each_train_after (λ u j p. Stands k.sessions p.session_state u) k.line states t i after user.within user.number
-          (subst (λ x. Stands k.sessions x t) (sym ask.session_state) (k.each_stands t i before user.number user.at)) k.each_stands;
+      link_count = k.link_count;
+      each_link = k.each_link;
+      each_frame = k.each_frame;
+      train_count = length-set states i after ∙ k.train_count;
+      each_train = each_of_train_still k.line k.sessions states t i after user.within user.number
+          (asked_train k.line k.sessions t i before after was ask.number ask.engine ask.waiting ask.session_state) k.each_train;
       counted = counted_after states i k.clock (k.clock + 1) after user.within (omega (arith, few, said)) (omega arith) k.counted;
+      sound = sound_left k.line k.number (state_of k) _ (Unset s) _ k.line_rules tt is k.sound;
+      own = own_left k.line k.number (state_of k) _ (Unset s) _ k.line_rules tt is k.sound k.own;
     }
 
 pub invariant_of-self-in-None : goal.invariant_of-self-in-None
@@ -127,13 +147,15 @@ returns-after-user-clause-exact c = elim c.match-user.branch [
       let asked_for = sym c.in-Ok-Asked.field-0-is ∙ c.in-Ok-Asked.ensures.answer in
       let user = user_at k s w.in-Some.i before asked_for (λ t taken. sym (c.user_of-user.ensures.value t taken) ∙ w.in-Some.is) (λ within. slice_get_read _ _ _ _ refl within w.index_mut.ensures.value) in
       let t = (user_of k s asked_for).0 in
-      let asks : (j : centre.Centre) → HasTrain j t before → propose_if_so k.line t s j ≡ asked t after (sayings_of w.ask_back-request.result) j =
-      subst (λ (n : ℕ). (j : centre.Centre) → HasTrain j n before → propose_if_so k.line n s j ≡ asked n after (sayings_of w.ask_back-request.result) j) user.engine w.ask_back-request.ensures.exact
+      let ask = w.ask_back-request.ensures in
+      let sayings = sayings_of w.ask_back-request.result in
+      let asks : (j : centre.Centre) → HasTrain j t before → propose_if_so k.line t s j ≡ asked t after sayings j =
+      subst (λ (n : ℕ). (j : centre.Centre) → HasTrain j n before → propose_if_so k.line n s j ≡ asked n after sayings j) user.engine ask.exact
       in
       (λ i. (outcome_of c.told-in-Ok-Asked.result, state_of (w.self-is i)))
-      ∙ unset_stands k.line k.number k.clock k.book c.unset.new.self k.registrar k.registrar states (set states w.in-Some.i after) (sayings_of w.ask_back-request.result) (Asked s ∷ []) _ s
-      (c.told-in-Ok-Asked.ensures ∙ (λ i. spoken ((w.self-is i).clock) (sayings_of (w.request-is i)) (Asked s ∷ []) None))
-      (asked_turns k.line k.number (k.clock + 1) k.book c.unset.new.self k.registrar states s (k.own_sections s) c.unset.ensures.entry c.unset.ensures.wish
-      t w.in-Some.i before after (sayings_of w.ask_back-request.result) c.in-Ok-Asked.ensures.own user.taken user.number user.at user.within w.ask_back-request.ensures.session_state w.ask_back-request.ensures.heard asks)
+      ∙ unset_stands k.line k.number k.clock k.book c.unset.new.self k.registrar k.links states (set states w.in-Some.i after) sayings (Asked s ∷ []) _ s
+      (c.told-in-Ok-Asked.ensures ∙ (λ i. outcome_with ((w.self-is i).clock) (λ d. []) (sayings_of (w.request-is i)) (Asked s ∷ []) None None))
+      (asked_turns k.line k.number (k.clock + 1) k.book c.unset.new.self k.registrar k.links states s (k.own_sections s) c.unset.ensures.entry c.unset.ensures.wish
+      t w.in-Some.i before after sayings c.in-Ok-Asked.ensures.own user.taken user.number user.at user.within ask.session_state ask.heard ask.waiting asks)
   | in-None w ↦ absurd (no_user c.args.self.now c.args.s (sym c.in-Ok-Asked.field-0-is ∙ c.in-Ok-Asked.ensures.answer) (λ t taken. sym (c.user_of-user.ensures.value t taken) ∙ w.in-None.is))
 ]

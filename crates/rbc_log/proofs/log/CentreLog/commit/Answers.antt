@@ -1,9 +1,14 @@
-use Rattle.std.proofs.Common.{◌≡◌, ◌∙◌, ◌++◌, ◌∷◌, [], List, ap, map}
+use Rattle.std.proofs.Common.{◌≡◌, ◌∙◌, ◌++◌, ◌∷◌, ◌<◌, [], List, length, None, ap, map, subst, arith}
+use Rattle.std.proofs.lemmas.Result.{err_from_is_err_and}
+use Rattle.rbc_spec.specs.Step.{refusal}
+use Rattle.rbc_centre.specs.Answer.{IsRefusalOf}
 use Rattle.rbc_centre.specs.States.{line_of, number_of, state_of}
 use Rattle.rbc_centre.specs.Views.{event_of, outcome_of}
 use Rattle.rbc_log.specs.Replay.{LogEntry}
+use Rattle.rbc_log.specs.Log.{LogValue}
 use Rattle.rbc_log.specs.Entries.{entry_of}
 use Rattle.rbc_log.proofs.Growing.{grown, map_push}
+use Rattle.rbc_log.proofs.Refusals.{refused_as, no_memory}
 use Rattle.rbc_log.proofs.log.CentreLog.commit.Goals as goal
 
 pub invariant_of-self-2 : goal.invariant_of-self-2
@@ -27,3 +32,15 @@ returns-clause-replays c =
     in
     grown (line_of old) (line_of c.step.new.self) (number_of old) (number_of c.step.new.self) (state_of old) (state_of c.step.new.self) front (map entry_of c.push_reserved.new.self.items)
     (event_of c.args.event) (outcome_of c.in_ok-outcome.outcome) c.self.invariant c.in_ok-outcome.ensures.exact grows c.in_ok-outcome.ensures.line c.in_ok-outcome.ensures.number
+
+pub returns-in_err-may_step-clause-refused : goal.returns-in_err-may_step-clause-refused
+returns-in_err-may_step-clause-refused c =
+    let p = err_from_is_err_and c.from_residual.result c.from_residual.ensures.1 in
+    rw (p.1, p.2) (refused_as c.args.self.now (event_of c.args.event) c.in_err-may_step.field-0.0 (let same : length c.self.inside.entries.items ≡ length c.args.self.now.entries = ap (λ (l : LogValue). length l.entries) c.self.view_is in omega (arith, same, c.if-len-ge-MOST_ENTRIES.false, c.len.ensures))
+    (subst (λ (l : LogValue). IsRefusalOf c.in_err-may_step.field-0.0 (refusal (line_of l.core) (number_of l.core) (state_of l.core) (event_of c.args.event))) c.self.view_is c.in_err-may_step.ensures.err))
+
+pub returns-in_err-reserve-clause-refused : goal.returns-in_err-reserve-clause-refused
+returns-in_err-reserve-clause-refused c =
+    let p = err_from_is_err_and c.from_residual-in_err-reserve.result c.from_residual-in_err-reserve.ensures.1 in
+    rw (p.1, p.2) (no_memory c.args.self.now (event_of c.args.event) (let same : length c.self.inside.entries.items ≡ length c.args.self.now.entries = ap (λ (l : LogValue). length l.entries) c.self.view_is in omega (arith, same, c.if-len-ge-MOST_ENTRIES.false, c.len.ensures))
+    (subst (λ (l : LogValue). refusal (line_of l.core) (number_of l.core) (state_of l.core) (event_of c.args.event) ≡ None) c.self.view_is c.in_ok-may_step.ensures.ok))

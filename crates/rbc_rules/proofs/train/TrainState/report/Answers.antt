@@ -5,21 +5,26 @@ use Rattle.rbc_hand.specs.SectionRuns.{run_of}
 use Rattle.rbc_place.specs.Places.{place_of}
 use Rattle.rbc_mission.specs.Supervisions.{mission_of}
 use Rattle.rbc_rules.specs.Desks.{mission_by}
+use Rattle.rbc_rules.specs.Sayings.{sayings_of}
+use Rattle.rbc_rules.proofs.Desk.{parts_heard}
+use Rattle.rbc_rules.proofs.Kept.{unhanded}
 use Rattle.rbc_rules.proofs.Reports.{not_supervised, reports}
 use Rattle.rbc_rules.proofs.train.TrainState.report.Goals as goal
 
 pub returns-in_default-clause-exact : goal.returns-in_default-clause-exact
-returns-in_default-clause-exact c = λ n k h.
-    not_supervised c.args.line.now n k c.args.t_train c.args.self.now c.args.book.now c.args.registrar.now (position_of c.args.position.now) h
+returns-in_default-clause-exact c = λ k h.
+    not_supervised c.args.line.now c.args.centre k c.args.t_train c.args.self.now c.args.book.now c.args.registrar.now (position_of c.args.position.now) h
     (sym c.known-known.ensures.phase ∙ ap phase_of c.in-Up.is) (sym c.known-known.ensures.mission ∙ ap (λ o. mission_by o c.known-known.result.hand) c.in_default.is)
 
 pub returns-clause-exact : goal.returns-clause-exact
-returns-clause-exact c = λ n k h.
+returns-clause-exact c = λ k h.
+    let line = c.args.line.now in
     let old = c.args.self.now in
     let hand = c.known-known.result.hand in
     let m = mission_of (run_of hand) c.in-Some.mission in
     let there = sym c.known-known.ensures.mission ∙ ap (λ o. mission_by o hand) c.in-Some.is in
-    reports c.args.line.now n k c.args.t_train old c.args.book.now c.args.registrar.now (position_of c.args.position.now) h
-    m (place_of c.in-Some-place_on.place) c.clear-told.new.self c.clear-told.new.book c.clear-told.new.registrar c.clear-told.result
+    let kept = c.clear.ensures.stays (parts_heard line c.args.centre k c.args.t_train old c.args.book.now c.args.registrar.now h.parts).kept in
+    reports line c.args.centre k c.args.t_train old c.args.book.now c.args.registrar.now (position_of c.args.position.now) h
+    m (place_of c.in-Some-place_on.place) c.clear.new.self c.clear.new.book c.clear.new.registrar (sayings_of c.clear.result.saying) c.clear.result.told c.clear.result.letter
     (sym c.known-known.ensures.phase ∙ ap phase_of c.in-Up.is) there
-    (sym c.place_on.ensures.value ∙ ap (option_map place_of) c.in-Some-place_on.is) c.clear-told.ensures.kept.engine (c.clear-told.ensures.exact m there)
+    (sym c.place_on.ensures.value ∙ ap (option_map place_of) c.in-Some-place_on.is) c.clear.ensures.kept.engine (unhanded line c.args.centre c.clear.new.self kept) (c.clear.ensures.exact m there)

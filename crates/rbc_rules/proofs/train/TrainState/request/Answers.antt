@@ -1,4 +1,4 @@
-use Rattle.std.proofs.Common.{◌≡◌, ◌+◌, ◌∙◌, [], ◌∷◌, ap, sym, refl, subst, Option, Some, option_map}
+use Rattle.std.proofs.Common.{◌≡◌, ◌+◌, ◌∙◌, [], ◌∷◌, ap, sym, refl, subst, Option, Some, option_map, Ok}
 use Rattle.std.specs.Option.{option_map_or}
 use Rattle.std.proofs.lemmas.Option.{same_Some}
 use Rattle.rbc_spec.specs.SectionRuns.{no_run, behind}
@@ -12,6 +12,8 @@ use Rattle.rbc_shorten.specs.Facts.{proposal_of}
 use Rattle.rbc_claims.specs.Sections.{TakesRun, next_of}
 use Rattle.rbc_mission.specs.Supervisions.{mission_of, with_next, MayGrow}
 use Rattle.rbc_rules.specs.Desks.{mission_by}
+use Rattle.rbc_rules.specs.Desk.{with_parts, effect_left}
+use Rattle.rbc_rules.specs.declared.heard.Heard.{Heard}
 use Rattle.rbc_rules.proofs.Runs.{follows_same}
 use Rattle.rbc_rules.proofs.Fits.{grows}
 use Rattle.rbc_rules.proofs.Desk.{left_as}
@@ -49,7 +51,8 @@ returns-clause-exact c = λ n rights k h.
     (end_is line m place count metres (c.known-known.ensures.local m known).some grant.end)
     (c.lengthen.ensures.supervision ∙ (λ i. record old.supervision { mission = option_map (with_next place count) (there i) }))
     (subst (λ (o : Option spec.Mission). TakesRun old.supervision.engine (option_map_or (λ x. next_of count x.hand) o no_run) c.args.book.now c.lengthen.new.book) there c.lengthen.ensures.book)
-    ∙ sym (left_as k c.answer-saying.new.self _ c.lengthen.new.book rights _ (record { nid_engine = left.engine; message = record { t_train = old.said + 1; nid_lrbg = place.group; body = Authority metres } } ∷ []) c.nothing.result []
+    ∙ sym (left_as k c.answer-saying.new.self _ c.lengthen.new.book rights _ (record { nid_engine = left.engine; message = record { t_train = old.said + 1; nid_lrbg = place.group; body = Authority metres } } ∷ []) [] []
     c.answer-saying.ensures.counted
     (ap (λ x. x ∷ []) (c.answer-saying.ensures.saying ∙ (λ i. record { nid_engine = left.engine; message = record { t_train = old.said + 1; nid_lrbg = place.group; body = Authority ((c.new.ensures ∙ c.from.ensures) i) } })))
-    c.nothing.ensures)
+    refl)
+    ∙ ap (λ (x : Heard). effect_left (with_parts c.answer-saying.new.self c.lengthen.new.book rights k) (Ok x)) (sym c.said.ensures)

@@ -1,7 +1,8 @@
-use Rattle.std.proofs.Common.{◌∙◌, [], ap, sym, Some, None}
+use Rattle.std.proofs.Common.{◌∙◌, ap, sym, Some, Ok}
 use Rattle.rbc_spec.specs.Centre.{Up}
 use Rattle.rbc_session.specs.SessionStates.{phase_of}
-use Rattle.rbc_rules.specs.Desk.{with_parts, replied}
+use Rattle.rbc_rules.specs.Desk.{with_parts, effect_left}
+use Rattle.rbc_rules.specs.declared.heard.Heard.{Heard}
 use Rattle.rbc_rules.proofs.Desk.{turned}
 use Rattle.rbc_rules.proofs.SessionMessages.{established}
 use Rattle.rbc_rules.proofs.SessionStates.{phase_entered}
@@ -13,4 +14,4 @@ returns-clause-exact c = λ line n book rights k h.
     let session = c.establish.new.session_state in
     established line n k c.args.t_train old book rights h session (sym c.known-known.ensures.phase ∙ ap phase_of c.in-Opened.is)
     (phase_entered c.args.sessions.now c.establish.new.sessions session c.known-known.result.nid_engine Up c.establish.ensures)
-    ∙ (λ i. record { reply = replied (with_parts (turned old session (Some c.args.t_train) old.said old.supervision.mission) book rights k) [] (sym c.nothing.ensures i); link = None; silence = None })
+    ∙ ap (λ (x : Heard). effect_left (with_parts (turned old session (Some c.args.t_train) old.said old.supervision.mission) book rights k) (Ok x)) (sym c.nothing.ensures)

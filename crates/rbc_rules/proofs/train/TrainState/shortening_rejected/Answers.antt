@@ -1,11 +1,11 @@
-use Rattle.std.proofs.Common.{◌∙◌, [], ap, sym, refl, Some, None, ℕ}
+use Rattle.std.proofs.Common.{◌∙◌, ap, sym, refl, Some, Ok, ℕ}
 use Rattle.rbc_spec.specs.Message.{ShorteningRejected}
 use Rattle.rbc_spec.specs.Step.{is_unasked}
 use Rattle.rbc_session.specs.SessionStates.{phase_of}
 use Rattle.rbc_mission.specs.Supervisions.{mission_of}
 use Rattle.rbc_hand.specs.SectionRuns.{run_of}
 use Rattle.rbc_rules.specs.Desks.{mission_by}
-use Rattle.rbc_rules.specs.Desk.{with_parts, replied}
+use Rattle.rbc_rules.specs.Desk.{with_parts, effect_left}
 use Rattle.rbc_rules.proofs.ShorteningRejected.{rejects}
 use Rattle.rbc_rules.proofs.train.TrainState.shortening_rejected.Goals as goal
 
@@ -16,4 +16,4 @@ returns-clause-exact c = λ line n book rights k position h.
     rejects line n k c.args.t_train old book rights h c.args.request position m (sym c.known-known.ensures.phase ∙ ap phase_of c.in-Up.is)
     (sym c.known-known.ensures.mission ∙ ap (λ o. mission_by o c.known-known.result.hand) c.in-Some.is)
     (ap (λ (s : ℕ). is_unasked (Some m) (ShorteningRejected s position)) (sym c.value.ensures.value) ∙ sym (c.rejected.ensures.reason m position refl) ∙ sym c.is_err.ensures.value ∙ c.if-is_err.false)
-    ∙ (λ i. record { reply = replied (with_parts (record { session_state = old.session_state; heard = Some c.args.t_train; said = old.said; supervision = sym c.forget_proposal.ensures i }) book rights k) [] (sym c.nothing.ensures i); link = None; silence = None })
+    ∙ (λ i. effect_left (with_parts (record { session_state = old.session_state; heard = Some c.args.t_train; said = old.said; supervision = sym c.forget_proposal.ensures i; waiting = old.waiting }) book rights k) (Ok (sym c.nothing.ensures i)))

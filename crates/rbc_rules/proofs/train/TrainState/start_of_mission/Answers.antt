@@ -1,20 +1,42 @@
-use Rattle.std.proofs.Common.{◌+◌, ◌∙◌, [], ◌∷◌, if◌then◌else◌, ap, sym}
-use Rattle.rbc_spec.specs.Message.{TrainAccepted, TrainRejected, unknown_group}
+use Rattle.std.proofs.Common.{◌∙◌, [], List, ap, sym, ℕ}
+use Rattle.rbc_spec.specs.Message.{TrainAccepted, TrainRejected}
+use Rattle.rbc_spec.specs.Centre.{Centre}
 use Rattle.rbc_msgs.specs.StepMessage.{position_of, is_valid}
+use Rattle.rbc_place.specs.Places.{place_of}
 use Rattle.rbc_session.specs.SessionStates.{phase_of}
-use Rattle.rbc_rules.proofs.Desk.{left_as, answer_to}
-use Rattle.rbc_rules.proofs.Starts.{starts}
+use Rattle.rbc_rules.specs.Desk.{with_parts, replied, posted}
+use Rattle.rbc_rules.specs.Starts.{started}
+use Rattle.rbc_rules.specs.declared.start_of_mission.Start.{Start}
+use Rattle.rbc_rules.proofs.Desk.{by_reply}
+use Rattle.rbc_rules.proofs.Starts.{none_there, starts_answered, starts_waiting}
 use Rattle.rbc_rules.proofs.train.TrainState.start_of_mission.Goals as goal
 
-pub returns-clause-exact : goal.returns-clause-exact
-returns-clause-exact c = λ k h.
+pub start-requires-clause-none : goal.start-requires-clause-none
+start-requires-clause-none c = sym c.place.ensures ∙ none_there place_of c.place.result (sym c.is_some.ensures ∙ c.if-is_some.false)
+
+pub returns-in-Accepted-clause-exact : goal.returns-in-Accepted-clause-exact
+returns-in-Accepted-clause-exact c = λ k h.
     let old = c.args.self.now in
-    let mid = c.start-is_accepted.new.self in
-    let body = if c.start-is_accepted.result then TrainAccepted else TrainRejected in
-    starts c.args.line.now c.args.centre k c.args.t_train old c.args.book.now c.args.registrar.now h (is_valid c.args.q_status) (position_of c.args.position.now)
-    mid c.start-is_accepted.new.book c.start-is_accepted.new.registrar body (sym c.known-known.ensures.phase ∙ ap phase_of c.in-Up.is) c.start-is_accepted.ensures.kept.engine c.start-is_accepted.ensures.exact
-    ∙ sym (left_as k c.answer-saying.new.self _ c.start-is_accepted.new.book c.start-is_accepted.new.registrar _ (answer_to old.supervision.engine (mid.said + 1) body) c.nothing.result []
-    c.answer-saying.ensures.counted
-    (ap (λ x. x ∷ []) (c.answer-saying.ensures.saying
-    ∙ (λ i. record { nid_engine = c.start-is_accepted.ensures.kept.engine i; message = record { t_train = mid.said + 1; nid_lrbg = unknown_group; body = c.start_answer.ensures i } })))
-    c.nothing.ensures)
+    starts_answered c.args.line.now c.args.centre k c.args.t_train old c.args.book.now c.args.registrar.now h (is_valid c.args.q_status) (position_of c.args.position.now)
+    c.start.result c.start.new.self c.start.new.book c.start.new.registrar (sym c.known-known.ensures.phase ∙ ap phase_of c.in-Up.is)
+    (sym c.place.ensures ∙ none_there place_of c.place.result (sym c.is_some.ensures ∙ c.if-is_some.false)) c.start.ensures.kept.engine c.start.ensures.exact
+    TrainAccepted c.answered.new.self c.answered.result (λ (j : Centre). ap (λ (s : Start). started old.supervision.engine s j) c.in-Accepted.is)
+    c.answered.ensures.counted c.answered.ensures.said c.answered.ensures.letter c.answered.ensures.told
+
+pub returns-in-Rejected-clause-exact : goal.returns-in-Rejected-clause-exact
+returns-in-Rejected-clause-exact c = λ k h.
+    let old = c.args.self.now in
+    starts_answered c.args.line.now c.args.centre k c.args.t_train old c.args.book.now c.args.registrar.now h (is_valid c.args.q_status) (position_of c.args.position.now)
+    c.start.result c.start.new.self c.start.new.book c.start.new.registrar (sym c.known-known.ensures.phase ∙ ap phase_of c.in-Up.is)
+    (sym c.place.ensures ∙ none_there place_of c.place.result (sym c.is_some.ensures ∙ c.if-is_some.false)) c.start.ensures.kept.engine c.start.ensures.exact
+    TrainRejected c.answered-in-Rejected.new.self c.answered-in-Rejected.result (λ (j : Centre). ap (λ (s : Start). started old.supervision.engine s j) c.in-Rejected.is)
+    c.answered-in-Rejected.ensures.counted c.answered-in-Rejected.ensures.said c.answered-in-Rejected.ensures.letter c.answered-in-Rejected.ensures.told
+
+pub returns-in-Waiting-clause-exact : goal.returns-in-Waiting-clause-exact
+returns-in-Waiting-clause-exact c = λ k h.
+    let old = c.args.self.now in
+    starts_waiting c.args.line.now c.args.centre k c.args.t_train old c.args.book.now c.args.registrar.now h (is_valid c.args.q_status) (position_of c.args.position.now)
+    c.start.result c.start.new.self c.start.new.book c.start.new.registrar (sym c.known-known.ensures.phase ∙ ap phase_of c.in-Up.is)
+    (sym c.place.ensures ∙ none_there place_of c.place.result (sym c.is_some.ensures ∙ c.if-is_some.false)) c.start.ensures.kept.engine c.start.ensures.exact
+    c.in-Waiting.letter c.in-Waiting.is
+    ∙ ap (λ (told : List ℕ). by_reply (posted c.in-Waiting.letter (replied (with_parts c.start.new.self c.start.new.book c.start.new.registrar k) [] told))) (sym c.nothing.ensures)

@@ -1,7 +1,7 @@
-use Rattle.std.proofs.Common.{◌≡◌, ◌∙◌, ap, sym, refl, false, ℕ}
+use Rattle.std.proofs.Common.{◌∙◌, ap, sym, ℕ}
 use Rattle.rbc_spec.specs.Message.{is_stale}
 use Rattle.rbc_msgs.specs.StepMessage.{step_message, step_body, position_of}
-use Rattle.rbc_rules.proofs.Takes.{stale_left, heard_as, same_rights, session_stays}
+use Rattle.rbc_rules.proofs.Takes.{stale_left, heard_as}
 use Rattle.rbc_rules.proofs.train.TrainState.take.Goals as goal
 
 pub initiation_of_session-requires-clause-room : goal.initiation_of_session-requires-clause-room
@@ -17,12 +17,12 @@ returns-then-is_stale-clause-exact c = λ k has known.
 
 pub returns-in-InitiationOfSession-clause-exact : goal.returns-in-InitiationOfSession-clause-exact
 returns-in-InitiationOfSession-clause-exact c = λ k has known.
-    heard_as c.args.line.now c.args.centre k (step_message c.args.message.now) _ _ (c.initiation_of_session.ensures.exact c.args.line.now c.args.centre c.args.book.now c.args.registrar.now k (record { parts = has; known = known; timely = sym c.is_stale.ensures ∙ c.if-is_stale.false }))
+    heard_as c.args.line.now c.args.centre k (step_message c.args.message.now) _ _ (c.initiation_of_session.ensures.exact c.args.line.now c.args.centre c.args.registrar.now k (record { parts = has; known = known; timely = sym c.is_stale.ensures ∙ c.if-is_stale.false }))
     (λ i. record { t_train = sym c.t_train-t_train.ensures.value i; nid_engine = c.requires.engine i; body = step_body ((sym c.body.ensures.value ∙ c.in-InitiationOfSession.is) i) })
 
 pub returns-in-TerminationOfSession-clause-exact : goal.returns-in-TerminationOfSession-clause-exact
 returns-in-TerminationOfSession-clause-exact c = λ k has known.
-    heard_as c.args.line.now c.args.centre k (step_message c.args.message.now) _ _ (c.termination_of_session.ensures.exact c.args.line.now c.args.centre c.args.book.now c.args.registrar.now k (record { parts = has; known = known; timely = sym c.is_stale.ensures ∙ c.if-is_stale.false }))
+    heard_as c.args.line.now c.args.centre k (step_message c.args.message.now) _ _ (c.termination_of_session.ensures.exact c.args.line.now c.args.centre c.args.registrar.now k (record { parts = has; known = known; timely = sym c.is_stale.ensures ∙ c.if-is_stale.false }))
     (λ i. record { t_train = sym c.t_train-t_train.ensures.value i; nid_engine = c.requires.engine i; body = step_body ((sym c.body.ensures.value ∙ c.in-TerminationOfSession.is) i) })
 
 pub returns-in-SessionEstablished-clause-exact : goal.returns-in-SessionEstablished-clause-exact
@@ -47,12 +47,12 @@ returns-in-Request-clause-exact c = λ k has known.
 
 pub returns-in-Report-clause-exact : goal.returns-in-Report-clause-exact
 returns-in-Report-clause-exact c = λ k has known.
-    heard_as c.args.line.now c.args.centre k (step_message c.args.message.now) _ _ (c.report.ensures.exact c.args.centre k (record { parts = has; known = known; timely = sym c.is_stale.ensures ∙ c.if-is_stale.false }))
+    heard_as c.args.line.now c.args.centre k (step_message c.args.message.now) _ _ (c.report.ensures.exact k (record { parts = has; known = known; timely = sym c.is_stale.ensures ∙ c.if-is_stale.false }))
     (λ i. record { t_train = sym c.t_train-t_train.ensures.value i; nid_engine = c.requires.engine i; body = step_body ((sym c.body.ensures.value ∙ c.in-Report.is) i) })
 
 pub returns-in-ShorteningGranted-clause-exact : goal.returns-in-ShorteningGranted-clause-exact
 returns-in-ShorteningGranted-clause-exact c = λ k has known.
-    heard_as c.args.line.now c.args.centre k (step_message c.args.message.now) _ _ (c.shortening_granted.ensures.exact c.args.centre k (record { parts = has; known = known; timely = sym c.is_stale.ensures ∙ c.if-is_stale.false }))
+    heard_as c.args.line.now c.args.centre k (step_message c.args.message.now) _ _ (c.shortening_granted.ensures.exact k (record { parts = has; known = known; timely = sym c.is_stale.ensures ∙ c.if-is_stale.false }))
     (λ i. record { t_train = sym c.t_train-t_train.ensures.value i; nid_engine = c.requires.engine i; body = step_body ((sym c.body.ensures.value ∙ c.in-ShorteningGranted.is) i) })
 
 pub returns-in-ShorteningRejected-clause-exact : goal.returns-in-ShorteningRejected-clause-exact
@@ -62,5 +62,5 @@ returns-in-ShorteningRejected-clause-exact c = λ k has known.
 
 pub returns-in-EndOfMission-clause-exact : goal.returns-in-EndOfMission-clause-exact
 returns-in-EndOfMission-clause-exact c = λ k has known.
-    heard_as c.args.line.now c.args.centre k (step_message c.args.message.now) _ _ (c.end_of_mission.ensures.exact c.args.centre k (record { parts = has; known = known; timely = sym c.is_stale.ensures ∙ c.if-is_stale.false }))
+    heard_as c.args.line.now c.args.centre k (step_message c.args.message.now) _ _ (c.end_of_mission.ensures.exact k (record { parts = has; known = known; timely = sym c.is_stale.ensures ∙ c.if-is_stale.false }))
     (λ i. record { t_train = sym c.t_train-t_train.ensures.value i; nid_engine = c.requires.engine i; body = step_body ((sym c.body.ensures.value ∙ c.in-EndOfMission.is) i) })

@@ -1,4 +1,4 @@
-use Rattle.std.proofs.Common.{◌≡◌, ◌+◌, ◌∙◌, false, inl, inr, [], ◌∷◌, ap, sym, Some}
+use Rattle.std.proofs.Common.{◌≡◌, ◌+◌, ◌∙◌, false, inl, inr, [], ◌∷◌, ap, sym, refl, Some}
 use Rattle.rbc_spec.specs.Message.{TerminationAcknowledged, unknown_group}
 use Rattle.rbc_spec.specs.Centre.{Closed, is_closed}
 use Rattle.rbc_session.specs.SessionStates.{phase_of, session_phase}
@@ -9,16 +9,18 @@ use Rattle.rbc_rules.proofs.SessionStates.{phase_entered}
 use Rattle.rbc_rules.proofs.train.TrainState.termination_of_session.Goals as goal
 
 pub returns-clause-exact : goal.returns-clause-exact
-returns-clause-exact c = λ line n book rights k h.
+returns-clause-exact c = λ line n rights k h.
     let old = c.args.self.now in
     let session = c.close.new.session_state in
-    closed line n k c.args.t_train old book rights h session
+    let waiting = c.drop_start-told.new.self in
+    let told = c.drop_start-told.result in
+    closed line n k c.args.t_train old c.args.book.now rights h session waiting c.drop_start-told.new.book told c.drop_start-told.ensures.waits (c.drop_start-told.ensures.exact line n)
     (elim c.in-Opened.is as (λ _. is_closed (session_phase old.session_state) ≡ false) [
       | inl e ↦ ap is_closed (sym c.known-known.ensures.phase ∙ ap phase_of e)
       | inr e ↦ ap is_closed (sym c.known-known.ensures.phase ∙ ap phase_of e)
     ])
     (phase_entered c.args.sessions.now c.close.new.sessions session c.known-known.result.nid_engine Closed c.close.ensures)
-    ∙ sym (left_as k c.answer-saying.new.self _ book rights _ (answer_to old.supervision.engine (old.said + 1) TerminationAcknowledged) c.nothing.result []
-    (c.answer-saying.ensures.counted ∙ ap (λ (x : SupervisionState). record { session_state = session; heard = Some c.args.t_train; said = old.said + 1; supervision = x }) c.forget_proposal.ensures)
+    ∙ sym (left_as k c.answer-saying.new.self _ c.drop_start-told.new.book rights _ (answer_to old.supervision.engine (old.said + 1) TerminationAcknowledged) told told
+    (c.answer-saying.ensures.counted ∙ ap (λ (x : SupervisionState). record { session_state = session; heard = Some c.args.t_train; said = old.said + 1; supervision = x; waiting = waiting }) c.forget_proposal.ensures)
     (ap (λ x. x ∷ []) (c.answer-saying.ensures.saying ∙ ap (λ (x : SupervisionState). record { nid_engine = x.engine; message = record { t_train = old.said + 1; nid_lrbg = unknown_group; body = TerminationAcknowledged } }) c.forget_proposal.ensures))
-    c.nothing.ensures)
+    refl)

@@ -1,9 +1,11 @@
-use Rattle.std.proofs.Common.{◌+◌, ◌∙◌, [], ◌∷◌, ap, sym, Some}
+use Rattle.std.proofs.Common.{◌+◌, ◌∙◌, [], ◌∷◌, ap, sym, refl, Some, Ok}
 use Rattle.rbc_spec.specs.Message.{DataAcknowledged, unknown_group}
 use Rattle.rbc_session.specs.SessionStates.{phase_of}
 use Rattle.rbc_hand.specs.SectionRuns.{run_of}
 use Rattle.rbc_mission.specs.Supervisions.{SupervisionState, mission_of}
 use Rattle.rbc_rules.specs.Desks.{mission_by}
+use Rattle.rbc_rules.specs.Desk.{with_parts, effect_left}
+use Rattle.rbc_rules.specs.declared.heard.Heard.{Heard}
 use Rattle.rbc_rules.proofs.Desk.{left_as, answer_to}
 use Rattle.rbc_rules.proofs.TrainData.{takes_data}
 use Rattle.rbc_rules.proofs.train.TrainState.train_data.Goals as goal
@@ -14,7 +16,8 @@ returns-clause-exact c = λ line n book rights k position h.
     let hand = c.known-known.result.hand in
     takes_data line n k c.args.t_train old book rights h position (mission_of (run_of hand) c.in-Some.mission)
     (sym c.known-known.ensures.phase ∙ ap phase_of c.in-Up.is) (sym c.known-known.ensures.mission ∙ ap (λ o. mission_by o hand) c.in-Some.is) c.if-mission.false
-    ∙ sym (left_as k c.answer-saying.new.self _ book rights _ (answer_to old.supervision.engine (old.said + 1) (DataAcknowledged c.args.t_train)) c.nothing.result []
-    (c.answer-saying.ensures.counted ∙ ap (λ (x : SupervisionState). record { session_state = old.session_state; heard = Some c.args.t_train; said = old.said + 1; supervision = x }) c.note_data.ensures)
+    ∙ sym (left_as k c.answer-saying.new.self _ book rights _ (answer_to old.supervision.engine (old.said + 1) (DataAcknowledged c.args.t_train)) [] []
+    (c.answer-saying.ensures.counted ∙ ap (λ (x : SupervisionState). record { session_state = old.session_state; heard = Some c.args.t_train; said = old.said + 1; supervision = x; waiting = old.waiting }) c.note_data.ensures)
     (ap (λ x. x ∷ []) (c.answer-saying.ensures.saying ∙ (λ i. record { nid_engine = (c.note_data.ensures i).engine; message = record { t_train = old.said + 1; nid_lrbg = unknown_group; body = DataAcknowledged ((c.new.ensures ∙ c.from.ensures) i) } })))
-    c.nothing.ensures)
+    refl)
+    ∙ ap (λ (x : Heard). effect_left (with_parts c.answer-saying.new.self book rights k) (Ok x)) (sym c.said.ensures)

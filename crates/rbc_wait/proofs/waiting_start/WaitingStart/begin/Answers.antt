@@ -21,6 +21,7 @@ invariant_of-self c =
     record {
       own = c.take_run.ensures.own;
       none = λ e. absurd (false≢true (sym (ap is_some e)));
+      some = λ _. subst (λ (r : SectionRun). 1 ≤ r.count) (sym held) c.requires.some;
       most = subst (λ (r : SectionRun). r.count ≤ 32) (sym held) (few c.args.line.now (place_of c.args.place) c.requires.fit);
       numbers = subst (λ (r : SectionRun). r.first + r.count ≤ 65535) (sym (held ∙ sym c.covered-run.ensures.value)) (omega (arith, c.covered-run.ensures.bound, c.covered-run.ensures.line.limits.sections));
     }

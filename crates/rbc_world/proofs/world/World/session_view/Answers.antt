@@ -13,4 +13,5 @@ returns c =
       phase = c.train-state.ensures.phase ∙ seen_at line cs ts c.args.c (λ k. k.phase c.args.nid_engine) c.index.result.now at;
       heard = c.train-state.ensures.heard ∙ seen_at line cs ts c.args.c (λ k. k.heard c.args.nid_engine) c.index.result.now at;
       said = c.train-state.ensures.said ∙ seen_at line cs ts c.args.c (λ k. k.said c.args.nid_engine) c.index.result.now at;
+      wait = c.train-state.ensures.waiting ∙ seen_at line cs ts c.args.c (λ k. k.wait c.args.nid_engine) c.index.result.now at;
     }

@@ -1,35 +1,32 @@
 use Rattle.std.proofs.Common.{sym, subst}
 use Rattle.rbc_spec.specs.Line.{IsLine}
 use Rattle.rbc_world.specs.World.{state_of}
-use Rattle.rbc_world.proofs.Centres.{world_local, world_stands, world_sound}
+use Rattle.rbc_world.proofs.Known.{world_stands, world_sound}
 use Rattle.rbc_world.proofs.Steps.{step_piece, step_promises, step_forced, step_by_all_rules}
 use Rattle.rbc_world.proofs.world.World.step.Goals as goal
 
 pub returns-clause-piece : goal.returns-clause-piece
 returns-clause-piece c =
     let old = c.args.self.now in
-    step_piece old.line (state_of old) (state_of c.take.new.self) c.args.event.now c.take.result c.known_line.ensures
-    (world_local old.line old.centres.items old.trains.keys old.one_line old.in_order) c.take.ensures.exact
-
-pub returns-clause-stands : goal.returns-clause-stands
-returns-clause-stands c = world_stands c.take.new.self (subst IsLine (sym c.take.ensures.line) c.known_line.ensures)
-
-pub returns-clause-sound : goal.returns-clause-sound
-returns-clause-sound c = world_sound c.take.new.self (subst IsLine (sym c.take.ensures.line) c.known_line.ensures)
+    step_piece old.line c.known_line.ensures (state_of old) (state_of c.take.new.self) c.args.event.now old.reached c.take.result c.take.ensures.exact
 
 pub returns-clause-promises : goal.returns-clause-promises
 returns-clause-promises c =
     let old = c.args.self.now in
-    step_promises old.line (state_of old) (state_of c.take.new.self) c.args.event.now c.take.result c.known_line.ensures
-    (world_local old.line old.centres.items old.trains.keys old.one_line old.in_order) c.take.ensures.exact
+    step_promises old.line c.known_line.ensures (state_of old) (state_of c.take.new.self) c.args.event.now old.reached c.take.result c.take.ensures.exact
+
+pub returns-clause-stands : goal.returns-clause-stands
+returns-clause-stands c = let new = c.take.new.self in world_stands new.line (state_of new) (subst IsLine (sym c.take.ensures.line) c.known_line.ensures) new.reached
+
+pub returns-clause-sound : goal.returns-clause-sound
+returns-clause-sound c = let new = c.take.new.self in world_sound new.line (state_of new) (subst IsLine (sym c.take.ensures.line) c.known_line.ensures) new.reached
 
 pub returns-clause-one_centre : goal.returns-clause-one_centre
 returns-clause-one_centre c d one =
     let old = c.args.self.now in
-    step_forced old.line (state_of old) (state_of c.take.new.self) c.args.event.now c.take.result c.known_line.ensures d one
-    (world_local old.line old.centres.items old.trains.keys old.one_line old.in_order) c.take.ensures.exact
+    step_forced old.line c.known_line.ensures (state_of old) (state_of c.take.new.self) c.args.event.now old.reached d one c.take.result c.take.ensures.exact
 
 pub returns-clause-one_centre_exact : goal.returns-clause-one_centre_exact
 returns-clause-one_centre_exact c d one =
     let old = c.args.self.now in
-    step_by_all_rules old.line (state_of old) (state_of c.take.new.self) c.args.event.now c.take.result c.known_line.ensures d one c.take.ensures.exact
+    step_by_all_rules old.line c.known_line.ensures (state_of old) (state_of c.take.new.self) c.args.event.now old.reached d one c.take.result c.take.ensures.exact

@@ -4,14 +4,11 @@ use Rattle.rbc_spec.specs.Step.{Refusal}
 use Rattle.rbc_world.specs.Views.{answer_of}
 use Rattle.rbc_world.specs.Answers.{Gives}
 use Rattle.rbc_world.specs.World.{state_of}
-use Rattle.rbc_world.proofs.Centres.{world_local}
-use Rattle.rbc_world.proofs.Steps.{never_sent, set_told, unset_told}
+use Rattle.rbc_world.proofs.Steps.{set_told, unset_told}
 use Rattle.rbc_world.proofs.world.World.take.Goals as goal
 
 pub returns-in-Deliver-clause-exact : goal.returns-in-Deliver-clause-exact
-returns-in-Deliver-clause-exact c =
-    let old = c.args.self.now in
-    rw c.in-Deliver.is (never_sent _ _ _ _ _ _ (world_local old.line old.centres.items old.trains.keys old.one_line old.in_order))
+returns-in-Deliver-clause-exact c = rw c.in-Deliver.is c.deliver.ensures.exact
 
 pub returns-in-Set-clause-exact : goal.returns-in-Set-clause-exact
 returns-in-Set-clause-exact c =

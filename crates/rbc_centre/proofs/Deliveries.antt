@@ -1,0 +1,201 @@
+-- A frame of another centre, and the links that it leaves.
+use Rattle.std.proofs.Common.{◌≡◌, ℕ, ◌+◌, Bool, true, false, if◌then◌else◌, List, [], length, map, set, slice_get, Option, Some, None, is_some, is_none, refl, sym, ap, ◌∙◌, subst, arith, max, All}
+use Rattle.rbc_spec.specs.Maps.{put}
+use Rattle.rbc_spec.specs.Line.{Line, is_linked, train_number}
+use Rattle.rbc_spec.specs.Reach.{Rights as ToRights}
+use Rattle.rbc_spec.specs.Frame.{Frame, Body, AskRight, GiveRight, RefuseRight, ReturnRight, RouteAsk, RouteInfo, RouteWithdraw, RouteReturn, Announce, Cancel, TakingOver, Yield, HasBodyRange, HasFrameRanges}
+use Rattle.rbc_spec.specs.Outcome.{Taken, Next, Old, Early, NoLink, Told}
+use Rattle.rbc_spec.specs.Centre as centre
+use Rattle.rbc_spec.specs.Acts.{Act, Reply, become, rest, ◌>>◌}
+use Rattle.rbc_spec.specs.Step as step
+use Rattle.rbc_spec.specs.Step.{Deliver, offered, body_taken}
+use Rattle.rbc_lemmas.proofs.Puts.{put_same}
+use Rattle.rbc_sound.proofs.Ranges.{range_hand}
+use Rattle.rbc_book.specs.Book.{Pages}
+use Rattle.rbc_link.specs.declared.link.Link.{Link}
+use Rattle.rbc_link.specs.declared.sent.Sent.{Sent}
+use Rattle.rbc_link.specs.declared.inbox.Taken.{Taken as TakenCode}
+use Rattle.rbc_link.specs.Inbox.{link_answer_of, taken_after}
+use Rattle.rbc_link.specs.Links.{has_link, sent_to, taken_from, room_to, KeepsLinks}
+use Rattle.rbc_link.specs.Outgoing.{frames_by}
+use Rattle.rbc_linkmsg.specs.Bodies.{body_of, engine_in}
+use Rattle.rbc_linkmsg.specs.declared.body.Body.{Body as BodyCode}
+use Rattle.rbc_right.specs.Rights.{Rights}
+use Rattle.rbc_rules.specs.Desk.{HasParts, KeepsTrain, KeepsDesk, with_parts, reply_left}
+use Rattle.rbc_rules.specs.Sayings.{sayings_of}
+use Rattle.rbc_rules.specs.declared.heard.Heard.{Heard}
+use Rattle.rbc_rules.specs.declared.train.TrainState.{TrainState}
+use Rattle.rbc_centre.specs.State.{stands_for}
+use Rattle.rbc_centre.specs.States.{state_of}
+use Rattle.rbc_centre.specs.declared.centre.Centre.{Centre as CentreCode}
+use Rattle.rbc_centre.specs.declared.link_answer.LinkAnswer.{LinkAnswer}
+use Rattle.rbc_centre.specs.declared.link_answer.LinkAnswer.TheVariants as code
+use Rattle.rbc_centre.specs.Views.{link_of}
+use Rattle.rbc_centre.proofs.Kept.{sound_left, own_left}
+use Rattle.rbc_centre.proofs.Steps.{ticked_is, stands_kept, replied, effect_of, outcome_with}
+use Rattle.rbc_centre.proofs.Steps as Steps
+use Rattle.rbc_centre.proofs.Turns.{sent_in_range, Stays, parts, is_known, left}
+
+-- ## A frame
+
+-- a body of a train that is not of the line has no effect
+pub foreign_body : (line : Line) (c d : ℕ) (body : Body) (k : centre.Centre) → is_some (train_number line (engine_in body)) ≡ false → body_taken ToRights line c d body k ≡ rest k
+foreign_body line c d (AskRight t) k foreign = rw foreign refl
+foreign_body line c d (GiveRight t) k foreign = rw foreign refl
+foreign_body line c d (RefuseRight t) k foreign = rw foreign refl
+foreign_body line c d (ReturnRight t) k foreign = rw foreign refl
+foreign_body line c d (RouteAsk t first most) k foreign = refl
+foreign_body line c d (RouteInfo t run) k foreign = refl
+foreign_body line c d (RouteWithdraw t s) k foreign = refl
+foreign_body line c d (RouteReturn t run) k foreign = refl
+foreign_body line c d (Announce number t track) k foreign = refl
+foreign_body line c d (Cancel number t) k foreign = refl
+foreign_body line c d (TakingOver number t) k foreign = refl
+foreign_body line c d (Yield number t heard has_data is_ended place hand) k foreign = refl
+
+-- a change, and then an act
+changed_then : (change : centre.Centre → centre.Centre) (act : Act) (k : centre.Centre) → (become change >> act) k ≡ act (change k)
+unfolding ◌>>◌
+changed_then change act k = refl
+
+-- ## What the link says
+
+abbrev pub is_next : Taken → Bool
+is_next Next = true
+is_next other = false
+
+pub not_next : (a : LinkAnswer) → (a ≡ code.Next → ⊥) → is_next (link_of a) ≡ false
+not_next code.Next apart = absurd (apart refl)
+not_next code.Old apart = refl
+not_next code.Early apart = refl
+not_next code.NoLink apart = refl
+
+taken_still : (answer : Taken) (count n : ℕ) → is_next answer ≡ false → taken_after answer count n ≡ count
+taken_still Next count n apart = cc
+taken_still Old count n apart = refl
+taken_still Early count n apart = refl
+taken_still NoLink count n apart = refl
+
+pub deliver_stamp : (k : CentreCode) (d : ℕ) (f : Frame) → step.stamp_of (state_of k) (Deliver d f) ≡ max k.clock f.stamp + 1
+unfolding stands_for
+deliver_stamp k d f = refl
+
+-- what is ensured of offering the link of centre d a frame
+pub record IsOffered (k : CentreCode) (d : ℕ) (f : Frame) (mid : List (Link BodyCode)) (answer : Taken) : Type 0 where
+  pub offer : answer ≡ (if has_link k.links d then offered (taken_from k.links d) f.number else NoLink)
+  pub count : length mid ≡ length k.links
+  pub linked : (e : ℕ) → has_link mid e ≡ has_link k.links e
+  pub taken : (e : ℕ) → taken_from mid e ≡ put (taken_from k.links) d (taken_after answer (taken_from k.links d) f.number) e
+  pub sent : (e : ℕ) → sent_to mid e ≡ sent_to k.links e
+  pub room : (e : ℕ) → room_to mid e ≡ room_to k.links e
+
+-- by the contract of the links
+pub offered_as : (k : CentreCode) (d : ℕ) (f : Frame) (mid : List (Link BodyCode)) (a : LinkAnswer) (said : Option TakenCode) (n : ℕ) → link_of a ≡ link_answer_of said → n ≡ f.number
+    → link_answer_of said ≡ (if has_link k.links d then offered (taken_from k.links d) n else NoLink) → length mid ≡ length k.links → ((e : ℕ) → has_link mid e ≡ has_link k.links e)
+    → ((e : ℕ) → taken_from mid e ≡ put (taken_from k.links) d (taken_after (link_answer_of said) (taken_from k.links d) n) e) → ((e : ℕ) → sent_to mid e ≡ sent_to k.links e)
+    → ((e : ℕ) → room_to mid e ≡ room_to k.links e) → IsOffered k d f mid (link_of a)
+offered_as k d f mid a said n of number offer count linked taken sent room = record {
+  offer = of ∙ offer ∙ ap (λ m. if has_link k.links d then offered (taken_from k.links d) m else NoLink) number;
+  count = count;
+  linked = linked;
+  taken = λ e. taken e ∙ (λ i. put (taken_from k.links) d (taken_after (sym of i) (taken_from k.links d) (number i)) e);
+  sent = sent;
+  room = room;
+}
+
+-- the next frame comes on a link
+pub next_is_linked : (k : CentreCode) (d : ℕ) (f : Frame) (mid : List (Link BodyCode)) (answer : Taken) → IsOffered k d f mid answer → answer ≡ Next → is_linked k.line k.number d ≡ true
+next_is_linked k d f mid answer is next = sym (k.each_link d) ∙ by_link (has_link k.links d) (sym next ∙ is.offer)
+  where
+    by_link : (b : Bool) → Next ≡ (if b then offered (taken_from k.links d) f.number else NoLink) → b ≡ true
+    by_link true said = refl
+    by_link false said = cc
+
+module _ (k : CentreCode) (clock d : ℕ) (f : Frame) (mid : List (Link BodyCode)) (answer : Taken) (is : IsOffered k d f mid answer) where
+  abbrev old : centre.Centre
+  old = stands_for k.line k.number clock k.book k.registrar k.links k.trains.items
+
+  abbrev at : centre.Centre
+  at = stands_for k.line k.number clock k.book k.registrar mid k.trains.items
+
+  says : step.link_answer k.line k.number old d f ≡ answer
+  unfolding stands_for
+  says = ap (λ b. if b then offered (taken_from k.links d) f.number else NoLink) (sym (k.each_link d)) ∙ sym is.offer
+
+  -- a frame that is not the next leaves the links as they are
+  pub keeps : is_next answer ≡ false → KeepsLinks k.links mid
+  keeps apart = record {
+    count = is.count;
+    linked = is.linked;
+    taken = λ e. is.taken e ∙ put_same d (taken_after answer (taken_from k.links d) f.number) (taken_from k.links) (sym (taken_still answer (taken_from k.links d) f.number apart)) e;
+    sent = is.sent;
+    room = λ e. let same = is.room e in omega (arith, same);
+  }
+
+  by_answer : (a : Taken) → step.link_answer k.line k.number old d f ≡ a → is_next a ≡ false → step.effect ToRights k.line k.number old (Deliver d f) ≡ effect_of (replied old None [] []) (Some a) None
+  by_answer Next said apart = cc
+  by_answer Old said apart = rw said refl
+  by_answer Early said apart = rw said refl
+  by_answer NoLink said apart = rw said refl
+
+  pub untaken : is_next answer ≡ false → step.effect ToRights k.line k.number (step.ticked clock (state_of k)) (Deliver d f) ≡ effect_of (replied at None [] []) (Some answer) None
+  untaken apart =
+      ap (λ (x : centre.Centre). step.effect ToRights k.line k.number x (Deliver d f)) (ticked_is k.line k.number k.clock clock k.book k.registrar k.links k.trains.items)
+      ∙ by_answer answer says apart
+      ∙ ap (λ (x : centre.Centre). effect_of (replied x None [] []) (Some answer) None) (sym (stands_kept k.line k.number clock k.book k.registrar k.links mid k.trains.items (keeps apart)))
+
+  -- the next one is counted, and comes to what its body comes to
+  counted_is : answer ≡ Next → record old { taken = put (taken_from k.links) d f.number } ≡ at
+  unfolding stands_for
+  counted_is next = λ i. record old {
+    sent = λ e. ap (frames_by body_of) (sym (is.sent e)) i;
+    taken = λ e. (ap (λ (a : Taken). put (taken_from k.links) d (taken_after a (taken_from k.links d) f.number) e) (sym next) ∙ sym (is.taken e)) i;
+  }
+
+  pub taken : answer ≡ Next → step.effect ToRights k.line k.number (step.ticked clock (state_of k)) (Deliver d f)
+      ≡ record { reply = body_taken ToRights k.line k.number d f.body at; link = Some Next; silence = None }
+  unfolding stands_for
+  taken next =
+      ap (λ (x : centre.Centre). step.effect ToRights k.line k.number x (Deliver d f)) (ticked_is k.line k.number k.clock clock k.book k.registrar k.links k.trains.items)
+      ∙ rw (says ∙ next) (ap (λ (r : Reply). record { reply = r; link = Some Next; silence = None })
+      (changed_then (λ j. record j { taken = put j.taken d f.number }) (body_taken ToRights k.line k.number d f.body) old ∙ ap (body_taken ToRights k.line k.number d f.body) (counted_is next)))
+
+  -- a train of the line takes what it says
+  pub received : answer ≡ Next → (t i : ℕ) (train : TrainState) (number : train_number k.line t ≡ Some i) (here : slice_get k.trains.items i ≡ Some train)
+      → (new : TrainState) (book : Pages) (rights : Rights) (kept : KeepsTrain train new) (desk : KeepsDesk train.supervision.number k.book book k.registrar rights) (heard : Heard)
+      → ((x : centre.Centre) → HasParts k.line k.number x train k.book k.registrar → is_none (train_number k.line train.supervision.engine) ≡ false
+      → body_taken ToRights k.line k.number d f.body x ≡ reply_left (with_parts new book rights x) heard)
+      → step.effect ToRights k.line k.number (step.ticked clock (state_of k)) (Deliver d f)
+      ≡ effect_of (replied (stands_for k.line k.number clock book rights mid (set k.trains.items i new)) heard.letter (sayings_of heard.saying) (map (λ s. Told s) heard.told)) (Some answer) None
+  received next t i train number here new book rights kept desk heard exact =
+      taken next
+      ∙ ap (λ (r : Reply). record { reply = r; link = Some Next; silence = None })
+      (exact at (parts k t i train number here clock mid) (is_known k t i train number here) ∙ ap (λ (x : centre.Centre). reply_left x heard) (left k t i train number here clock mid new book rights kept desk))
+      ∙ ap (λ (a : Taken). effect_of (replied (stands_for k.line k.number clock book rights mid (set k.trains.items i new)) heard.letter (sayings_of heard.saying) (map (λ s. Told s) heard.told)) (Some a) None) (sym next)
+
+  -- and a body of no train of the line has no effect
+  pub ignored : answer ≡ Next → is_some (train_number k.line (engine_in f.body)) ≡ false
+      → step.effect ToRights k.line k.number (step.ticked clock (state_of k)) (Deliver d f) ≡ effect_of (replied at None [] []) (Some answer) None
+  ignored next foreign =
+      taken next
+      ∙ ap (λ (r : Reply). record { reply = r; link = Some Next; silence = None }) (foreign_body k.line k.number d f.body at foreign)
+      ∙ ap (λ (a : Taken). effect_of (replied at None [] []) (Some a) None) (sym next)
+
+  -- what stays true of a centre that sends nothing, of whose trains none has changed
+  module _ (stamp : step.stamp_of (state_of k) (Deliver d f) ≡ clock) (range : HasBodyRange f.body)
+      (effect : step.effect ToRights k.line k.number (step.ticked clock (state_of k)) (Deliver d f) ≡ effect_of (replied at None [] []) (Some answer) None) where
+    pub silent : (outcome_with clock (λ e. []) [] [] (Some answer) None, at) ≡ step.taken ToRights k.line k.number (Deliver d f) (state_of k)
+    silent =
+        Steps.says k.line k.number k.clock clock k.book k.book k.registrar k.registrar k.links mid k.trains.items k.trains.items (Deliver d f) stamp is.sent [] [] (Some answer) None effect _ refl
+
+    pub stays_silent : Stays k clock k.book k.registrar mid k.trains.items
+    stays_silent = record {
+      own_sections = k.own_sections;
+      each_right = k.each_right;
+      link_count = is.count ∙ k.link_count;
+      each_link = λ e. is.linked e ∙ k.each_link e;
+      each_frame = λ e. subst (λ (fs : List (Sent BodyCode)). All HasFrameRanges (frames_by body_of fs)) (sym (is.sent e)) (sent_in_range k e);
+      train_count = k.train_count;
+      sound = sound_left k.line k.number (state_of k) _ (Deliver d f) _ k.line_rules (range_hand f.body range) silent k.sound;
+      own = own_left k.line k.number (state_of k) _ (Deliver d f) _ k.line_rules (range_hand f.body range) silent k.sound k.own;
+    }

@@ -1,0 +1,124 @@
+-- Two frames are one exactly where `==` says so.
+use Rattle.std.proofs.Common.{◌≡◌, true, Option, refl, sym, ap, ◌∙◌, subst, rules, eq-eqb}
+use Rattle.std.specs.Bool.{Decides}
+use Rattle.std.specs.Option.{option_eq}
+use Rattle.std.specs.Cmp.{booleans_Decides}
+use Rattle.std.proofs.lemmas.Bool.{and_parts, and_from, eqb-true}
+use Rattle.rbc_spec.specs.Frame as spec
+use Rattle.rbc_hand.specs.declared.section_run.SectionRun.{SectionRun}
+use Rattle.rbc_hand.specs.contracts.section_run.SectionRunPartialEq.TheImpl as runs
+use Rattle.rbc_linkmsg.specs.Bodies.{body_of, body_back}
+use Rattle.rbc_linkmsg.specs.declared.body.Body.{Body}
+use Rattle.rbc_linkmsg.specs.declared.body.Body.TheVariants.{AskRight, GiveRight, RefuseRight, ReturnRight, RouteAsk, RouteInfo, RouteWithdraw, RouteReturn, Announce, Cancel, TakingOver, Yield}
+use Rattle.rbc_linkmsg.specs.declared.body.YieldedPlace.{YieldedPlace}
+use Rattle.rbc_linkmsg.specs.contracts.body.YieldedPlacePartialEq.TheImpl as places
+use Rattle.rbc_linkmsg.specs.contracts.body.BodyPartialEq.TheImpl as bodies
+use Rattle.rbc_linkmsg.specs.contracts.frame.FramePartialEq.TheImpl as frames
+use Rattle.rbc_centre.specs.declared.posted.Posted.{Posted}
+use Rattle.rbc_centre.specs.contracts.posted.PostedPartialEq.TheImpl as posts
+
+pub same_places : (a b : YieldedPlace) → Decides (places.eq-value.it a b) (a ≡ b)
+same_places a b = search rules
+
+same_runs : (a b : SectionRun) → Decides (runs.eq-value.it a b) (a ≡ b)
+same_runs a b = search rules
+
+one_body : (a b : Body) → bodies.eq-value.it a b ≡ true → a ≡ b
+one_body (AskRight t) (AskRight u) e = search rules
+one_body (AskRight t) b e = cc
+one_body (GiveRight t) (GiveRight u) e = search rules
+one_body (GiveRight t) b e = cc
+one_body (RefuseRight t) (RefuseRight u) e = search rules
+one_body (RefuseRight t) b e = cc
+one_body (ReturnRight t) (ReturnRight u) e = search rules
+one_body (ReturnRight t) b e = cc
+one_body (RouteAsk t first most) (RouteAsk u first' most') e = search rules
+one_body (RouteAsk t first most) b e = cc
+one_body (RouteInfo t run) (RouteInfo u run') e = search (rules, same_runs)
+one_body (RouteInfo t run) b e = cc
+one_body (RouteWithdraw t s) (RouteWithdraw u s') e = search rules
+one_body (RouteWithdraw t s) b e = cc
+one_body (RouteReturn t run) (RouteReturn u run') e = search (rules, same_runs)
+one_body (RouteReturn t run) b e = cc
+one_body (Announce number t track) (Announce number' u track') e = search rules
+one_body (Announce number t track) b e = cc
+one_body (Cancel number t) (Cancel number' u) e = search rules
+one_body (Cancel number t) b e = cc
+one_body (TakingOver number t) (TakingOver number' u) e = search rules
+one_body (TakingOver number t) b e = cc
+one_body (Yield number t heard has_data is_ended place hand) (Yield number' u heard' has_data' is_ended' place' hand') e =
+    let one = and_parts _ _ e in
+    let two = and_parts _ _ one.1 in
+    let three = and_parts _ _ two.1 in
+    let four = and_parts _ _ three.1 in
+    let five = and_parts _ _ four.1 in
+    let six = and_parts _ _ five.1 in
+    let a : number ≡ number' = eqb-true number number' one.0 in
+    let b : t ≡ u = eqb-true t u two.0 in
+    let c : heard ≡ heard' = eqb-true heard heard' three.0 in
+    let d : has_data ≡ has_data' = (booleans_Decides has_data has_data').0 four.0 in
+    let f : is_ended ≡ is_ended' = (booleans_Decides is_ended is_ended').0 five.0 in
+    let g : place ≡ place' = (same_places place place').0 six.0 in
+    let h : hand ≡ hand' = (same_runs hand hand').0 six.1 in
+    λ i. Yield (a i) (b i) (c i) (d i) (f i) (g i) (h i)
+one_body (Yield number t heard has_data is_ended place hand) b e = cc
+
+itself : (a : Body) → bodies.eq-value.it a a ≡ true
+itself (AskRight t) = search rules
+itself (GiveRight t) = search rules
+itself (RefuseRight t) = search rules
+itself (ReturnRight t) = search rules
+itself (RouteAsk t first most) = search rules
+itself (RouteInfo t run) = search (rules, same_runs)
+itself (RouteWithdraw t s) = search rules
+itself (RouteReturn t run) = search (rules, same_runs)
+itself (Announce number t track) = search rules
+itself (Cancel number t) = search rules
+itself (TakingOver number t) = search rules
+itself (Yield number t heard has_data is_ended place hand) = search (rules, same_places, same_runs)
+
+-- a frame shows its body as the rules have it, and goes back to the one in memory
+body_there : (b : spec.Body) → body_of (body_back b) ≡ b
+body_there (spec.AskRight t) = refl
+body_there (spec.GiveRight t) = refl
+body_there (spec.RefuseRight t) = refl
+body_there (spec.ReturnRight t) = refl
+body_there (spec.RouteAsk t first most) = refl
+body_there (spec.RouteInfo t run) = refl
+body_there (spec.RouteWithdraw t s) = refl
+body_there (spec.RouteReturn t run) = refl
+body_there (spec.Announce number t track) = refl
+body_there (spec.Cancel number t) = refl
+body_there (spec.TakingOver number t) = refl
+body_there (spec.Yield number t heard has_data is_ended place hand) = refl
+
+one_frame : (a b : spec.Frame) → frames.eq-value.it a b ≡ true → a ≡ b
+one_frame a b e =
+    let one = and_parts _ _ e in
+    let two = and_parts _ _ one.1 in
+    let number : a.number ≡ b.number = eqb-true a.number b.number one.0 in
+    let stamp : a.stamp ≡ b.stamp = eqb-true a.stamp b.stamp two.0 in
+    let body : a.body ≡ b.body = sym (body_there a.body) ∙ ap body_of (one_body (body_back a.body) (body_back b.body) two.1) ∙ body_there b.body in
+    λ i. record { number = number i; stamp = stamp i; body = body i }
+
+frame_itself : (a : spec.Frame) → frames.eq-value.it a a ≡ true
+frame_itself a = and_from _ _ (eq-eqb a.number a.number refl) (and_from _ _ (eq-eqb a.stamp a.stamp refl) (itself (body_back a.body)))
+
+pub same_frames : (a b : spec.Frame) → Decides (frames.eq-value.it a b) (a ≡ b)
+same_frames a b = (one_frame a b, λ e. subst (λ (x : spec.Frame). frames.eq-value.it a x ≡ true) e (frame_itself a))
+
+one_post : (a b : Posted) → posts.eq-value.it a b ≡ true → a ≡ b
+one_post a b e =
+    let both = and_parts _ _ e in
+    let to : a.to ≡ b.to = eqb-true a.to b.to both.0 in
+    let frame : a.frame ≡ b.frame = one_frame a.frame b.frame both.1 in
+    λ i. record { to = to i; frame = frame i }
+
+post_itself : (a : Posted) → posts.eq-value.it a a ≡ true
+post_itself a = and_from _ _ (eq-eqb a.to a.to refl) (frame_itself a.frame)
+
+same_posts : (a b : Posted) → Decides (posts.eq-value.it a b) (a ≡ b)
+same_posts a b = (one_post a b, λ e. subst (λ (x : Posted). posts.eq-value.it a x ≡ true) e (post_itself a))
+
+pub same_options : (a b : Option Posted) → Decides (option_eq posts.eq-value.it a b) (a ≡ b)
+same_options a b = search (rules, same_posts)

@@ -1,0 +1,32 @@
+-- The ranges of a frame are met in one way at most.
+use Rattle.std.specs.Prelude.{ℕ, List, All}
+use Rattle.std.proofs.Props.{props}
+use Rattle.rbc_spec.specs.SectionRuns.{SectionRun}
+use Rattle.rbc_spec.specs.Frame.{Frame, Body, YieldedPlace, AskRight, GiveRight, RefuseRight, ReturnRight, RouteAsk, RouteInfo, RouteWithdraw, RouteReturn, Announce, Cancel, TakingOver, Yield, HasRunRange, HasPlaceRange, HasBodyRange, HasFrameRanges}
+
+HasRunRange-prop : (least most : ℕ) (run : SectionRun) → IsProp (HasRunRange least most run)
+HasRunRange-prop least most run = hlevel props
+
+HasPlaceRange-prop : (place : YieldedPlace) → IsProp (HasPlaceRange place)
+HasPlaceRange-prop place = hlevel props
+
+HasBodyRange-prop : (body : Body) → IsProp (HasBodyRange body)
+HasBodyRange-prop (AskRight t) = hlevel props
+HasBodyRange-prop (GiveRight t) = hlevel props
+HasBodyRange-prop (RefuseRight t) = hlevel props
+HasBodyRange-prop (ReturnRight t) = hlevel props
+HasBodyRange-prop (RouteAsk t first most) = hlevel (props, HasRunRange-prop)
+HasBodyRange-prop (RouteInfo t run) = hlevel (props, HasRunRange-prop)
+HasBodyRange-prop (RouteWithdraw t s) = hlevel props
+HasBodyRange-prop (RouteReturn t run) = hlevel (props, HasRunRange-prop)
+HasBodyRange-prop (Announce number t track) = hlevel props
+HasBodyRange-prop (Cancel number t) = hlevel props
+HasBodyRange-prop (TakingOver number t) = hlevel props
+HasBodyRange-prop (Yield number t heard has_data is_ended place hand) = hlevel (props, HasRunRange-prop, HasPlaceRange-prop)
+
+HasFrameRanges-prop : (f : Frame) → IsProp (HasFrameRanges f)
+HasFrameRanges-prop f = let body : IsProp (HasBodyRange f.body) = HasBodyRange-prop f.body in hlevel props
+
+-- of all frames that go to each centre
+pub AreInRange-prop : (frames : ℕ → List Frame) → IsProp ((d : ℕ) → All HasFrameRanges (frames d))
+AreInRange-prop frames = hlevel (props, HasFrameRanges-prop)

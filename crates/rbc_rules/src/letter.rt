@@ -1,0 +1,67 @@
+//! What other centres are told.
+
+ghost use Rattle.std.specs.Prelude.{◌≡◌, ◌≢◌, ℕ, IfSome, Some, option_map, true};
+ghost use Rattle.rbc_spec.specs.Frame.{HasBodyRange};
+ghost use Rattle.rbc_spec.specs.Line.{is_centre, registrar};
+ghost use Rattle.rbc_linkmsg.specs.Bodies.{body_of};
+ghost use Rattle.rbc_rules.specs.Homes.{GoesHome};
+ghost use Rattle.rbc_rules.specs.Letters.{MaySend};
+
+use rbc_line::Line;
+use rbc_linkmsg::Body;
+use rbc_mission::HeldRight;
+use rbc_right::{Registrar, Right};
+
+/// What another centre is to be told: a frame before it has its number.
+#[derive(Clone, Copy, Debug, PartialEq, Eq)]
+pub struct Letter {
+    /// The number of the centre that it goes to.
+    pub to: u8,
+    pub body: Body,
+}
+
+/// A letter to the registrar of a train. None where the train is not of the line.
+pub(crate) fn to_registrar(line: &Line, nid_engine: u32, body: Body) -> Option<Letter>
+    ensures value { result ≡ option_map (λ r. record { to = r; body = body }) (registrar line.now nid_engine) }
+    // One to another centre may be sent.
+    ensures may { (c : ℕ) → is_centre line.now c ≡ true → registrar line.now nid_engine ≢ Some c → HasBodyRange (body_of body) → IfSome result (MaySend line.now c) }
+{
+    let to = line.registrar(nid_engine)?;
+    prove!(to < line.centre_count());
+    Some(Letter { to, body })
+}
+
+/// The right of a train that its mission or its registrar has handed out goes home, where there is one: to the registrar, if that is this
+/// centre, or by a letter to it.
+pub(crate) fn go_home(
+    line: &Line,
+    centre: u8,
+    nid_engine: u32,
+    right: HeldRight,
+    registrar: &mut Registrar,
+) -> Option<Letter>
+    ensures { GoesHome line.now centre nid_engine right result registrar.old registrar.new }
+{
+    match right {
+        HeldRight::Nothing => None,
+        HeldRight::Held(right) => send_home(line, centre, nid_engine, right, registrar),
+    }
+}
+
+// A right goes home.
+fn send_home(
+    line: &Line,
+    centre: u8,
+    nid_engine: u32,
+    right: Right,
+    registrar: &mut Registrar,
+) -> Option<Letter>
+    ensures { GoesHome line.now centre nid_engine (HeldRight.Held right) result registrar.old registrar.new }
+{
+    if line.registrar(nid_engine) == Some(centre) {
+        registrar.back(right);
+        return None;
+    }
+    right.send();
+    to_registrar(line, nid_engine, Body::ReturnRight { engine: nid_engine })
+}
