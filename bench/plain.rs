@@ -1,5 +1,7 @@
-// A codec of the same seven messages as one writes it in plain Rust: a bit reader and a bit writer over bytes, a struct a
-// packet. It shares no code with the proved one, and is only measured against it.
+// A codec of the same seven messages as one writes it in plain Rust: a bit reader and a bit writer over bytes, a struct
+// a packet. It shares no code with the proved one, and is only measured against it.
+mod frames;
+
 use std::hint::black_box;
 use std::time::Instant;
 
@@ -274,4 +276,5 @@ fn main() {
         }
         println!("encode {name} {}", rate(turns, start));
     }
+    frames::measure_frames(turns);
 }

@@ -1,7 +1,8 @@
-//! How many messages a second the codec reads and writes.
+//! How many messages a second the codec reads and writes, and how many frames between centres.
 
 ghost use Rattle.std.specs.Prelude.{◌≡◌, ◌%◌, set};
 
+use rbc_linkmsg::{decode_frame, encode_frame};
 use rbc_msgs::{decode_track, decode_train, encode_track, encode_train};
 use std::io;
 use std::time::Instant;
@@ -54,13 +55,32 @@ const TRACK: [(&str, &[u8]); 3] = [
     ("41", &[0x29, 2, 0x80, 0, 0, 0, 0x9F, 0xFF, 0xFF, 0xE0]),
 ];
 
-/// Reads and writes each of seven messages so often, and prints a line for each and each direction; of one turn, nothing.
+const FRAMES: [(&str, &[u8]); 3] = [
+    ("AskRight", &[0, 0, 0, 1, 0, 0, 0, 4, 1, 0, 0, 0, 2]),
+    (
+        "RouteReturn",
+        &[0, 0, 0, 4, 0, 0, 0, 9, 8, 0, 0, 0, 1, 0, 1, 3],
+    ),
+    (
+        "Yield",
+        &[
+            0, 0, 0, 4, 0, 0, 0, 0x11, 0x0C, 0, 0, 0, 1, 0, 0, 0, 1, 0, 0, 0, 6, 0, 5, 0, 1, 0x40,
+            0x65, 0, 0, 0x3F, 0x48, 0, 0, 0x36, 0x4C, 0, 1, 6,
+        ],
+    ),
+];
+
+/// Reads and writes each of seven messages and three frames so often, and prints a line for each and each direction; of one turn,
+/// nothing.
 pub fn measure_codec(rt: &HostRuntime, turns: u32) -> io::Result<()> {
     for (name, bytes) in &TRAIN {
         train(rt, name, bytes, turns)?;
     }
     for (name, bytes) in &TRACK {
         track(rt, name, bytes, turns)?;
+    }
+    for (name, bytes) in &FRAMES {
+        frame(rt, name, bytes, turns)?;
     }
     Ok(())
 }
@@ -104,7 +124,29 @@ fn track(rt: &HostRuntime, name: &str, bytes: &[u8], turns: u32) -> io::Result<(
     print(rt, "encode", name, turns, &start)
 }
 
-// Each turn reads another T_TRAIN: the byte that lies whole in it is the turn's lowest byte. A message without it stays.
+fn frame(rt: &HostRuntime, name: &str, bytes: &[u8], turns: u32) -> io::Result<()> {
+    let mut bytes = Vec::from_slice(rt.alloc(), bytes)?;
+    let start = Instant::now(rt)?;
+    let mut are_read = true;
+    for turn in 0..turns {
+        set_time(&mut bytes, turn % 64);
+        are_read &= decode_frame(&bytes).is_ok();
+    }
+    if are_read {
+        print(rt, "decode", name, turns, &start)?;
+    }
+    let Ok(frame) = decode_frame(&bytes) else {
+        return Ok(());
+    };
+    let start = Instant::now(rt)?;
+    for _ in 0..turns {
+        let _bytes = encode_frame(rt.alloc(), &frame);
+    }
+    print(rt, "encode", name, turns, &start)
+}
+
+// Each turn reads another T_TRAIN, or a frame's stamp: the byte that lies whole in it is the turn's lowest byte. A message without it
+// stays.
 #[tactic(auto, using(std::proofs::lemmas::List::set_past))]
 fn set_time(bytes: &mut [u8], turn: u32)
     ensures { bytes.new ≡ set bytes.old 4 (turn % 256) }

@@ -1,9 +1,15 @@
-//! Tests of what no clause says and no row of `rbc_rows` reaches: threads at a node, streams, frames, a whole list of events, and how calls end where
-//! an allocation fails. What the program prints is data of `rbc_rows`.
+//! Tests of what no clause says and no row of `rbc_rows` reaches: threads at a node, streams, frames as bytes and between two
+//! centres, a whole list of events, and how calls end where an allocation fails. What the program prints is data of `rbc_rows`.
 #![tactic(auto)]
 
 #[cfg(test)]
+mod bytes;
+#[cfg(test)]
+mod centre;
+#[cfg(test)]
 mod frame;
+#[cfg(test)]
+mod frame_bytes;
 #[cfg(test)]
 mod line;
 #[cfg(test)]

@@ -26,6 +26,13 @@ engine = 2
 registrar = \"B\"
 ";
 
+/// With section 1 set, a train that centre B registers opens a session at centre A and starts its mission there.
+pub const START: [&str; 3] = [
+    "9B028000000040000080",
+    "9F028000000080000080",
+    "9D0680000000C00000900040A0280CA096140050014406400418",
+];
+
 /// Sections 0 and 1 of centre A, and then section 2 of centre B.
 pub fn two_centres(alloc: Global) -> Result<Line, Fail> {
     Ok(

@@ -1,5 +1,6 @@
 //! A train's messages on a stream, in whatever pieces its bytes come, and written again. No command reads a stream or writes what a train says.
 
+use crate::bytes::bytes_of;
 use rbc_msgs::{MsgFault, Stream, StreamFault, TrainMsg, encode_train};
 use std::alloc::Global;
 use std::test::*;
@@ -164,8 +165,4 @@ fn want_of_memory_is_a_fault_too(rt: HostRuntime) {
             assert!(rt; copy.is_same(message));
         }
     }
-}
-
-fn bytes_of(alloc: Global, text: &str) -> Result<Vec<u8>, Fail> {
-    Ok(hex::decode(alloc, text).ok().ok_or("it is hexadecimal")?)
 }

@@ -1,4 +1,6 @@
-use crate::line::two_centres;
+use crate::bytes::bytes_of;
+use crate::line::{START, two_centres};
+use rbc_centre::{Body, Frame, LinkAnswer, Outcome, StepFault};
 use rbc_world::{Answer, World, WorldEvent};
 use std::alloc::Global;
 use std::test::*;
@@ -33,4 +35,56 @@ fn events_are_run_in_order(rt: HostRuntime) -> Result<(), Fail> {
     assert!(rt; matches!(outputs.answers[2], Answer::NoCentre));
     assert_eq!(rt; outputs.trains().len(), 1);
     Ok(())
+}
+
+// Made to be run with each allocation failing in turn (`rt try --test --fail-alloc N`): a step that memory refused changed nothing, and
+// is taken again.
+#[test]
+fn a_right_is_asked_for_and_given_between_centres(rt: HostRuntime) -> Result<(), Fail> {
+    let line = two_centres(rt.alloc())?;
+    let mut world = World::new(rt.alloc(), &line)?;
+    let set = WorldEvent::Set {
+        centre: 0,
+        section: 1,
+    };
+    let mut asks = taken(&mut world, &set)?;
+    for text in &START {
+        let bytes = bytes_of(rt.alloc(), text)?;
+        asks = taken(&mut world, &WorldEvent::Train { centre: 0, bytes })?;
+    }
+    let asked = asks.frame.ok_or("the right is asked for")?;
+    assert_eq!(rt; asked.to, 1);
+    assert!(rt; asked.frame == Frame::new(1, 4, Body::AskRight { engine: 2 }));
+    let gives = taken(&mut world, &delivery(0, 1))?;
+    assert!(rt; gives.link == Some(LinkAnswer::Next));
+    let given = gives.frame.ok_or("the right is given")?;
+    assert_eq!(rt; given.to, 0);
+    assert!(rt; given.frame == Frame::new(1, 5, Body::GiveRight { engine: 2 }));
+    let accepts = taken(&mut world, &delivery(1, 0))?;
+    assert_eq!(rt; accepts.sayings.as_slice().len(), 1);
+    let again = taken(&mut world, &delivery(0, 1))?;
+    assert!(rt; again.link == Some(LinkAnswer::Old));
+    assert!(rt; again.frame.is_none());
+    Ok(())
+}
+
+// The first frame from one centre to another is delivered.
+fn delivery(from: u8, to: u8) -> WorldEvent {
+    WorldEvent::Deliver {
+        from,
+        to,
+        number: 1,
+    }
+}
+
+// Takes an event, and once more where memory ran out.
+fn taken(world: &mut World, event: &WorldEvent) -> Result<Outcome, Fail> {
+    let answer = match world.step(event) {
+        Err(StepFault::Memory) => world.step(event),
+        answer => answer,
+    };
+    match answer {
+        Ok(Answer::Outcome(outcome)) => Ok(outcome),
+        _ => Err("a centre takes the event".into()),
+    }
 }
