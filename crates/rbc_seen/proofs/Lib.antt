@@ -8,3 +8,4 @@ pub mod Named
 pub mod NamedEvents
 pub mod Sent
 pub mod Known
+pub mod Whole
