@@ -5,6 +5,7 @@
 mod faults;
 mod field;
 mod fields;
+mod frames;
 mod message;
 mod names;
 mod numbers;

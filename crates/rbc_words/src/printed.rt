@@ -109,12 +109,15 @@ fn who_of(alloc: Global, row: Row<'_>) -> Result<String, AllocError> {
             format!(in alloc; "interlocking -> {centre}")
         }
         Row::Word { centre, .. } => format!(in alloc; "{centre} -> interlocking"),
-        Row::Deliver { from, to, .. } => format!(in alloc; "{from} => {to}"),
+        Row::Deliver { from, to, .. } | Row::Frame { from, to, .. } => {
+            format!(in alloc; "{from} => {to}")
+        }
         Row::Section { section, .. } => format!(in alloc; "section {section}"),
         Row::Supervisor { nid_engine, .. } => format!(in alloc; "train {nid_engine}"),
         Row::Silent { centre, .. }
         | Row::Fault { centre, .. }
         | Row::Nothing { centre }
+        | Row::NotNext { centre, .. }
         | Row::Train { centre, .. }
         | Row::Message { centre, .. } => String::from_str(alloc, centre),
         Row::NotSent | Row::Show => Ok(String::new(alloc)),
@@ -127,6 +130,7 @@ fn what_of(alloc: Global, line: &Line, row: Row<'_>) -> Result<String, AllocErro
         Row::Set { section, .. } => format!(in alloc; "section {section} is released"),
         Row::Unset { section, .. } => format!(in alloc; "section {section} is wanted back"),
         Row::Deliver { number, .. } => format!(in alloc; "frame {number} is delivered"),
+        Row::Frame { number, words, .. } => format!(in alloc; "frame {number}: {words}"),
         Row::Word { section, words, .. } => format!(in alloc; "section {section}: {words}"),
         Row::Silent { number, words, .. } => format!(in alloc; "silent {number}: {words}"),
         Row::Fault { number, words, .. } => format!(in alloc; "fault {number}: {words}"),
@@ -149,6 +153,7 @@ fn plain_words(row: Row<'_>) -> &'static str {
         Row::Show => "the line is shown",
         Row::Nothing { .. } => "taken, and nothing is answered",
         Row::NotSent => "no such frame was sent",
+        Row::NotNext { words, .. } => words,
         Row::Supervisor { .. } => "supervised by no centre",
         _ => "",
     }

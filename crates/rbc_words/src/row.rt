@@ -1,6 +1,7 @@
 //! The forms of the lines that `run` prints.
 
 use crate::faults::{words_of_fault_number, words_of_reason, words_of_word};
+use crate::frames::{words_of_body, words_of_late};
 use crate::numbers::{number_of, section_number};
 use rbc_line::Line;
 
@@ -32,6 +33,18 @@ pub enum Row<'a> {
         centre: &'a str,
         nid_engine: u32,
         digits: &'a str,
+    },
+    /// A frame to another centre.
+    Frame {
+        from: &'a str,
+        to: &'a str,
+        number: u32,
+        words: &'static str,
+    },
+    /// A frame was delivered that is not the next.
+    NotNext {
+        centre: &'a str,
+        words: &'static str,
     },
     /// A word to the interlocking.
     Word {
@@ -88,7 +101,7 @@ fn row_from<'a>(line: &Line, first: &'a str, rest: &[&'a str]) -> Option<Row<'a>
     if told.is_some() {
         return told;
     }
-    answer_of(centre_of(line, first)?, rest)
+    answer_of(line, centre_of(line, first)?, rest)
 }
 
 fn not_sent_of<'a>(words: &[&'a str]) -> Option<Row<'a>> {
@@ -125,9 +138,19 @@ fn event_of<'a>(line: &Line, words: &[&'a str]) -> Option<Row<'a>> {
     }
 }
 
-fn answer_of<'a>(centre: &'a str, words: &[&'a str]) -> Option<Row<'a>> {
+fn answer_of<'a>(line: &Line, centre: &'a str, words: &[&'a str]) -> Option<Row<'a>> {
     match *words {
         ["ok"] => Some(Row::Nothing { centre }),
+        [word] => {
+            let words = words_of_late(word)?;
+            Some(Row::NotNext { centre, words })
+        }
+        ["=>", to, number, name] => Some(Row::Frame {
+            from: centre,
+            to: centre_of(line, to)?,
+            number: number_of(number)?,
+            words: words_of_body(name)?,
+        }),
         ["->", train, digits] => {
             let nid_engine = number_of(train)?;
             Some(Row::Message {

@@ -1,0 +1,29 @@
+//! What the frames between centres say, in words.
+
+/// What a frame says whose body has this name. None where no body has it.
+pub(crate) fn words_of_body(name: &str) -> Option<&'static str> {
+    Some(match name {
+        "AskRight" => "the train's right is asked for",
+        "GiveRight" => "the train's right is given",
+        "RefuseRight" => "the train's right is refused",
+        "ReturnRight" => "the train's right goes back",
+        "RouteAsk" => "sections behind the train's authority are asked for",
+        "RouteInfo" => "sections are lent, or none",
+        "RouteWithdraw" => "a lent section is wanted back",
+        "RouteReturn" => "lent sections come back",
+        "Announce" => "a handover is announced",
+        "Cancel" => "a handover is called off",
+        "TakingOver" => "the train will be taken over",
+        "Yield" => "the mission is handed over",
+        _ => return None,
+    })
+}
+
+/// What it means that a frame which was delivered is not taken. None where the word is another.
+pub(crate) fn words_of_late(word: &str) -> Option<&'static str> {
+    Some(match word {
+        "old" => "the frame was taken before, and changes nothing",
+        "early" => "a frame before it was not taken yet, and it changes nothing",
+        _ => return None,
+    })
+}
