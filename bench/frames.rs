@@ -9,10 +9,24 @@ struct Frame {
     body: Body,
 }
 
+struct Run {
+    first: u16,
+    count: u8,
+}
+
 enum Body {
     AskRight { engine: u32 },
-    RouteReturn { engine: u32, first: u16, count: u8 },
-    Yield { handover: u32, engine: u32, heard: u32, track: u8, flags: u8, group: u32, front: i32, rear: Option<i32>, first: u16, count: u8 },
+    GiveRight { engine: u32 },
+    RefuseRight { engine: u32 },
+    ReturnRight { engine: u32 },
+    RouteAsk { engine: u32, first: u16, most: u8 },
+    RouteInfo { engine: u32, run: Run },
+    RouteWithdraw { engine: u32, section: u16 },
+    RouteReturn { engine: u32, run: Run },
+    Announce { handover: u32, engine: u32, track: u8 },
+    Cancel { handover: u32, engine: u32 },
+    TakingOver { handover: u32, engine: u32 },
+    Yield { handover: u32, engine: u32, heard: u32, has_data: bool, is_ended: bool, track: u8, group: u32, front: i32, rear: Option<i32>, hand: Run },
 }
 
 fn number(bytes: &[u8], at: usize) -> Option<u32> {
@@ -23,10 +37,35 @@ fn engine_at(bytes: &[u8], at: usize) -> Option<u32> {
     number(bytes, at).filter(|engine| *engine <= 16_777_215)
 }
 
-fn run_at(bytes: &[u8], at: usize, most: u8) -> Option<(u16, u8)> {
+fn run_at(bytes: &[u8], at: usize, least: u8, most: u8) -> Option<Run> {
     let first = u16::from_be_bytes(bytes.get(at..at + 2)?.try_into().ok()?);
     let count = *bytes.get(at + 2)?;
-    (first <= 511 && (1..=most).contains(&count) && first + u16::from(count) <= 512).then_some((first, count))
+    (first <= 511 && (least..=most).contains(&count) && first + u16::from(count) <= 512).then_some(Run { first, count })
+}
+
+fn handover_at(bytes: &[u8], at: usize) -> Option<u32> {
+    number(bytes, at).filter(|handover| *handover > 0)
+}
+
+fn yield_in(bytes: &[u8]) -> Option<Body> {
+    let (track, flags) = (bytes[21], bytes[22]);
+    let rear = number(bytes, 31)? as i32;
+    let (heard, group) = (number(bytes, 17)?, number(bytes, 23)?);
+    if heard == u32::MAX || track > 3 || flags > 7 || group > 16_777_214 || (flags < 4 && rear != 0) {
+        return None;
+    }
+    Some(Body::Yield {
+        handover: handover_at(bytes, 9)?,
+        engine: engine_at(bytes, 13)?,
+        heard,
+        has_data: flags & 1 == 1,
+        is_ended: flags & 2 == 2,
+        track,
+        group,
+        front: number(bytes, 27)? as i32,
+        rear: (flags >= 4).then_some(rear),
+        hand: run_at(bytes, 35, 1, 32)?,
+    })
 }
 
 fn decode_frame(bytes: &[u8]) -> Option<Frame> {
@@ -36,34 +75,42 @@ fn decode_frame(bytes: &[u8]) -> Option<Frame> {
     }
     let body = match (*bytes.get(8)?, bytes.len()) {
         (1, 13) => Body::AskRight { engine: engine_at(bytes, 9)? },
-        (8, 16) => {
-            let (first, count) = run_at(bytes, 13, 63)?;
-            Body::RouteReturn { engine: engine_at(bytes, 9)?, first, count }
+        (2, 13) => Body::GiveRight { engine: engine_at(bytes, 9)? },
+        (3, 13) => Body::RefuseRight { engine: engine_at(bytes, 9)? },
+        (4, 13) => Body::ReturnRight { engine: engine_at(bytes, 9)? },
+        (5, 16) => {
+            let Run { first, count } = run_at(bytes, 13, 1, 31)?;
+            Body::RouteAsk { engine: engine_at(bytes, 9)?, first, most: count }
         }
-        (12, 38) => {
-            let flags = bytes[22];
-            let rear = number(bytes, 31)? as i32;
-            let (first, count) = run_at(bytes, 35, 32)?;
-            let (handover, heard, group) = (number(bytes, 9)?, number(bytes, 17)?, number(bytes, 23)?);
-            if handover == 0 || heard == u32::MAX || bytes[21] > 3 || flags > 7 || group > 16_777_214 || (flags < 4 && rear != 0) {
-                return None;
-            }
-            Body::Yield {
-                handover,
-                engine: engine_at(bytes, 13)?,
-                heard,
-                track: bytes[21],
-                flags: flags & 3,
-                group,
-                front: number(bytes, 27)? as i32,
-                rear: (flags >= 4).then_some(rear),
-                first,
-                count,
-            }
+        (6, 16) => Body::RouteInfo { engine: engine_at(bytes, 9)?, run: run_at(bytes, 13, 0, 31)? },
+        (7, 15) => {
+            let section = u16::from_be_bytes([bytes[13], bytes[14]]);
+            Body::RouteWithdraw { engine: engine_at(bytes, 9)?, section: Some(section).filter(|section| *section <= 511)? }
         }
+        (8, 16) => Body::RouteReturn { engine: engine_at(bytes, 9)?, run: run_at(bytes, 13, 1, 63)? },
+        (9, 18) => {
+            let track = Some(bytes[17]).filter(|track| *track <= 3)?;
+            Body::Announce { handover: handover_at(bytes, 9)?, engine: engine_at(bytes, 13)?, track }
+        }
+        (10, 17) => Body::Cancel { handover: handover_at(bytes, 9)?, engine: engine_at(bytes, 13)? },
+        (11, 17) => Body::TakingOver { handover: handover_at(bytes, 9)?, engine: engine_at(bytes, 13)? },
+        (12, 38) => yield_in(bytes)?,
         _ => return None,
     };
     Some(Frame { number: count, stamp, body })
+}
+
+// The kind and the fields behind it, from place 8 on.
+fn put(bytes: &mut Vec<u8>, kind: u8, fields: &[u32]) {
+    bytes.push(kind);
+    for field in fields {
+        bytes.extend_from_slice(&field.to_be_bytes());
+    }
+}
+
+fn put_run(bytes: &mut Vec<u8>, first: u16, count: u8) {
+    bytes.extend_from_slice(&first.to_be_bytes());
+    bytes.push(count);
 }
 
 fn encode_frame(frame: &Frame) -> Vec<u8> {
@@ -71,28 +118,40 @@ fn encode_frame(frame: &Frame) -> Vec<u8> {
     bytes.extend_from_slice(&frame.number.to_be_bytes());
     bytes.extend_from_slice(&frame.stamp.to_be_bytes());
     match &frame.body {
-        Body::AskRight { engine } => {
-            bytes.push(1);
-            bytes.extend_from_slice(&engine.to_be_bytes());
+        Body::AskRight { engine } => put(&mut bytes, 1, &[*engine]),
+        Body::GiveRight { engine } => put(&mut bytes, 2, &[*engine]),
+        Body::RefuseRight { engine } => put(&mut bytes, 3, &[*engine]),
+        Body::ReturnRight { engine } => put(&mut bytes, 4, &[*engine]),
+        Body::RouteAsk { engine, first, most } => {
+            put(&mut bytes, 5, &[*engine]);
+            put_run(&mut bytes, *first, *most);
         }
-        Body::RouteReturn { engine, first, count } => {
-            bytes.push(8);
-            bytes.extend_from_slice(&engine.to_be_bytes());
-            bytes.extend_from_slice(&first.to_be_bytes());
-            bytes.push(*count);
+        Body::RouteInfo { engine, run } => {
+            put(&mut bytes, 6, &[*engine]);
+            put_run(&mut bytes, run.first, run.count);
         }
-        Body::Yield { handover, engine, heard, track, flags, group, front, rear, first, count } => {
-            bytes.push(12);
-            for field in [handover, engine, heard] {
-                bytes.extend_from_slice(&field.to_be_bytes());
-            }
+        Body::RouteWithdraw { engine, section } => {
+            put(&mut bytes, 7, &[*engine]);
+            bytes.extend_from_slice(&section.to_be_bytes());
+        }
+        Body::RouteReturn { engine, run } => {
+            put(&mut bytes, 8, &[*engine]);
+            put_run(&mut bytes, run.first, run.count);
+        }
+        Body::Announce { handover, engine, track } => {
+            put(&mut bytes, 9, &[*handover, *engine]);
             bytes.push(*track);
-            bytes.push(flags | if rear.is_some() { 4 } else { 0 });
+        }
+        Body::Cancel { handover, engine } => put(&mut bytes, 10, &[*handover, *engine]),
+        Body::TakingOver { handover, engine } => put(&mut bytes, 11, &[*handover, *engine]),
+        Body::Yield { handover, engine, heard, has_data, is_ended, track, group, front, rear, hand } => {
+            put(&mut bytes, 12, &[*handover, *engine, *heard]);
+            bytes.push(*track);
+            bytes.push(u8::from(*has_data) | u8::from(*is_ended) << 1 | u8::from(rear.is_some()) << 2);
             bytes.extend_from_slice(&group.to_be_bytes());
             bytes.extend_from_slice(&front.to_be_bytes());
             bytes.extend_from_slice(&rear.unwrap_or(0).to_be_bytes());
-            bytes.extend_from_slice(&first.to_be_bytes());
-            bytes.push(*count);
+            put_run(&mut bytes, hand.first, hand.count);
         }
     }
     bytes
@@ -110,7 +169,7 @@ pub fn measure_frames(turns: u32) {
         let start = Instant::now();
         for turn in 0..turns {
             bytes[4] = (turn % 64) as u8;
-            black_box(decode_frame(black_box(&bytes)).is_some());
+            black_box(decode_frame(black_box(&bytes)));
         }
         println!("decode {name} {}", rate(turns, start));
         let frame = decode_frame(&bytes).expect("it is a frame");

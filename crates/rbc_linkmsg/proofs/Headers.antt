@@ -81,6 +81,6 @@ same_ranges f g e h = rw (sym e) h
 
 -- values in their ranges make their frame
 pub found_frame : (r : Option Frame) (n s : ℕ) (b : Body) (f : Frame) → f ≡ made n s b → IfSome r (λ x. x ≡ made n s b)
-    → IfNone r ((1 ≤ n) × (n ≤ 65536) → (1 ≤ s) × (s ≤ 1073741823) → HasBodyRange b → ⊥) → HasFrameRanges f → r ≡ Some f
-found_frame None n s b f e value refused h = let g = same_ranges f (made n s b) e h in absurd (refused g.number g.stamp g.body)
+    → IfNone r ((1 ≤ n) × (n ≤ 65536) → (1 ≤ s) × (s ≤ 1073741823) → ⊥) → HasFrameRanges f → r ≡ Some f
+found_frame None n s b f e value refused h = let g = same_ranges f (made n s b) e h in absurd (refused g.number g.stamp)
 found_frame (Some x) n s b f e value refused h = ap Some (value ∙ sym e)

@@ -1,11 +1,12 @@
 -- What the fields of a kind say, and the bytes of a frame's header.
-use Rattle.std.proofs.Common.{◌≡◌, ℕ, ◌+◌, ◌%◌, List, ◌∷◌, length, refl, sym, ap, ◌∙◌, arith}
-use Rattle.std.specs.Prelude.{Some, nat_lt, slice_index, if◌then◌else◌}
+use Rattle.std.proofs.Common.{◌≡◌, ℕ, ◌+◌, ◌%◌, List, ◌∷◌, length, refl, sym, ap, subst, ◌∙◌, arith}
+use Rattle.std.specs.Prelude.{Option, Some, None, IfSome, IfNone, nat_lt, slice_index, if◌then◌else◌}
 use Rattle.rbc_spec.specs.Frame.{Frame, Body, AskRight, GiveRight, RefuseRight, ReturnRight, RouteAsk, RouteInfo, RouteWithdraw, RouteReturn, Announce, Cancel, TakingOver, Yield, HasBodyRange}
 use Rattle.rbc_linkmsg.specs.declared.kind.FrameKind.{FrameKind}
 use Rattle.rbc_linkmsg.specs.declared.kind.FrameKind.TheVariants as kinds
 use Rattle.rbc_linkmsg.specs.declared.fault.FrameFault.TheVariants.{Short, Value}
 use Rattle.rbc_linkmsg.specs.Bodies.{body_back}
+use Rattle.rbc_linkmsg.specs.declared.body.Body.{Body as InMemory}
 use Rattle.rbc_linkmsg.specs.Kinds.{kind_number, kind_length, kind_with}
 use Rattle.rbc_linkmsg.specs.Faults.{first_fault, fault_of_kind}
 use Rattle.rbc_linkmsg.specs.Spelling.{Field, spelled, kind_of, body_fields, frame_fields, AllFit, Spells}
@@ -30,6 +31,14 @@ pub found : (bytes : List ℕ) (k : FrameKind) (fields : List Field) → widths 
     → (f : Body) → HasBodyRange f → kind_of f ≡ k → bytes ≡ spelled (body_fields f) → Some (body_back (body_from k fields)) ≡ Some (body_back f)
 found bytes k fields w t fits f h e s =
     some_back f (body_from k fields) (body_is f k fields h e (fields_of f k fields w fits h e (sym t ∙ s)))
+
+-- so is the body that is read, where what was read is let through in its ranges
+pub found_in : (r : Option InMemory) (bytes : List ℕ) (k : FrameKind) (fields : List Field) → widths fields ≡ kind_widths k → bytes ≡ spelled fields → AllFit fields
+    → IfSome r (λ b. b ≡ body_back (body_from k fields)) → IfNone r (HasBodyRange (body_from k fields) → ⊥)
+    → (f : Body) → HasBodyRange f → kind_of f ≡ k → bytes ≡ spelled (body_fields f) → r ≡ Some (body_back f)
+found_in None bytes k fields w t fits value refused f h e s =
+    absurd (refused (subst HasBodyRange (body_is f k fields h e (fields_of f k fields w fits h e (sym t ∙ s))) h))
+found_in (Some b) bytes k fields w t fits value refused f h e s = ap Some value ∙ found bytes k fields w t fits f h e s
 
 -- a frame's length is its kind's
 pub body_length : (b : Body) → 9 + length (spelled (body_fields b)) ≡ kind_length (kind_of b)

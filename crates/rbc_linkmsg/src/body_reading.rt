@@ -9,37 +9,41 @@ ghost use Rattle.rbc_linkmsg.specs.Spelling as spelling;
 
 use crate::body::Body;
 use crate::kind::FrameKind;
+use crate::ranges::ranged;
 use crate::reading::{read_run, take_u8, take_u16, take_u32};
 use crate::yield_reading::read_yield;
 use rbc_hand::SectionRun;
 
-/// The body that the bytes behind the kind spell. It is none only where the flags or the rear of a Yield are refused.
+/// The body that the bytes behind the kind spell. It is none where a value is refused. Each kind tests its own ranges, so that a body is
+/// looked at once.
+#[inline(always)]
 pub(crate) fn read_body(kind: FrameKind, bytes: &[u8]) -> Option<Body>
     requires { 9 + length bytes.now ≡ kind_length kind }
     ensures spelled { IfSome result (λ b. bytes.now ≡ spelling.spelled (spelling.body_fields (body_of b))) }
     ensures kind { IfSome result (λ b. spelling.kind_of (body_of b) ≡ kind) }
+    ensures ranges { IfSome result (λ b. spec.HasBodyRange (body_of b)) }
     ensures found { (f : spec.Body) → spec.HasBodyRange f → spelling.kind_of f ≡ kind → bytes.now ≡ spelling.spelled (spelling.body_fields f) → result ≡ Some (body_back f) }
 {
     match kind {
         FrameKind::AskRight => {
             let engine = read_engine(bytes);
-            Some(Body::AskRight { engine })
+            ranged(Body::AskRight { engine })
         }
         FrameKind::GiveRight => {
             let engine = read_engine(bytes);
-            Some(Body::GiveRight { engine })
+            ranged(Body::GiveRight { engine })
         }
         FrameKind::RefuseRight => {
             let engine = read_engine(bytes);
-            Some(Body::RefuseRight { engine })
+            ranged(Body::RefuseRight { engine })
         }
         FrameKind::ReturnRight => {
             let engine = read_engine(bytes);
-            Some(Body::ReturnRight { engine })
+            ranged(Body::ReturnRight { engine })
         }
         FrameKind::RouteAsk => {
             let (engine, run) = read_route(bytes);
-            Some(Body::RouteAsk {
+            ranged(Body::RouteAsk {
                 engine,
                 first: run.first,
                 most: run.count,
@@ -47,19 +51,19 @@ pub(crate) fn read_body(kind: FrameKind, bytes: &[u8]) -> Option<Body>
         }
         FrameKind::RouteInfo => {
             let (engine, run) = read_route(bytes);
-            Some(Body::RouteInfo { engine, run })
+            ranged(Body::RouteInfo { engine, run })
         }
         FrameKind::RouteWithdraw => {
             let (engine, section) = read_section(bytes);
-            Some(Body::RouteWithdraw { engine, section })
+            ranged(Body::RouteWithdraw { engine, section })
         }
         FrameKind::RouteReturn => {
             let (engine, run) = read_route(bytes);
-            Some(Body::RouteReturn { engine, run })
+            ranged(Body::RouteReturn { engine, run })
         }
         FrameKind::Announce => {
             let (handover, engine, track) = read_announced(bytes);
-            Some(Body::Announce {
+            ranged(Body::Announce {
                 handover,
                 engine,
                 track,
@@ -67,13 +71,13 @@ pub(crate) fn read_body(kind: FrameKind, bytes: &[u8]) -> Option<Body>
         }
         FrameKind::Cancel => {
             let (handover, engine) = read_handover(bytes);
-            Some(Body::Cancel { handover, engine })
+            ranged(Body::Cancel { handover, engine })
         }
         FrameKind::TakingOver => {
             let (handover, engine) = read_handover(bytes);
-            Some(Body::TakingOver { handover, engine })
+            ranged(Body::TakingOver { handover, engine })
         }
-        FrameKind::Yield => read_yield(bytes),
+        FrameKind::Yield => ranged(read_yield(bytes)?),
     }
 }
 

@@ -12,7 +12,7 @@ use crate::body_reading::read_body;
 use crate::fault::FrameFault;
 use crate::frame::Frame;
 use crate::kind::FrameKind;
-use crate::ranges::{is_header, is_in_range};
+use crate::ranges::is_header;
 use crate::reading::{take_u8, take_u32};
 
 /// The frame that the bytes spell, all of the bytes. It takes no memory.
@@ -77,13 +77,15 @@ fn read_header(bytes: &[u8]) -> (u32, u32, u8, &[u8])
     (number, stamp, kind, rest)
 }
 
-// A frame whose values are in their ranges.
+// The frame of this body, where its number and its stamp are in their ranges.
+#[inline(always)]
 fn in_ranges(number: u32, stamp: u32, body: Body) -> Option<Frame>
+    requires { spec.HasBodyRange (body_of body) }
     ensures value { IfSome result (λ f. f ≡ record { number = number; stamp = stamp; body = body_of body }) }
     ensures ranges { IfSome result (λ f. spec.HasFrameRanges f) }
-    ensures refused { IfNone result ((1 ≤ number) × (number ≤ 65536) → (1 ≤ stamp) × (stamp ≤ 1073741823) → spec.HasBodyRange (body_of body) → ⊥) }
+    ensures refused { IfNone result ((1 ≤ number) × (number ≤ 65536) → (1 ≤ stamp) × (stamp ≤ 1073741823) → ⊥) }
 {
-    if is_header(number, stamp) && is_in_range(body) {
+    if is_header(number, stamp) {
         Some(Frame::new(number, stamp, body))
     } else {
         None
