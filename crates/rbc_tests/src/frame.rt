@@ -1,7 +1,7 @@
 //! The two frames whose bytes the profile gives, written and read, and bytes of chance.
 
+use crate::chance::{bytes_by_chance, next_of};
 use rbc_linkmsg::{Body, Frame, decode_frame, encode_frame};
-use std::alloc::{AllocError, Global};
 use std::test::*;
 
 #[test]
@@ -21,24 +21,6 @@ fn a_right_is_asked_for_and_given(rt: HostRuntime) -> Result<(), Fail> {
     );
     assert!(rt; decode_frame(&bytes) == Ok(given));
     Ok(())
-}
-
-// The next of a row of numbers that look like chance.
-fn next_of(seed: u32) -> u32 {
-    seed.wrapping_mul(1_664_525).wrapping_add(1_013_904_223)
-}
-
-// So many bytes of chance: the number and the stamp are small, and the kind is one of sixteen, so that many of them spell a frame.
-fn bytes_by_chance(alloc: Global, seed: u32, length: usize) -> Result<Vec<u8>, AllocError> {
-    const ONES: [u8; 12] = [0, 0, 3, 255, 0, 255, 255, 255, 15, 0, 255, 255];
-    let mut bytes = Vec::with_capacity(alloc, length)?;
-    let mut chance = seed;
-    for place in 0..length {
-        chance = next_of(chance);
-        let ones = if place < 12 { ONES[place] } else { 7 };
-        bytes.push(chance.to_be_bytes()[0] & ones)?;
-    }
-    Ok(bytes)
 }
 
 #[test]

@@ -6,6 +6,7 @@
 mod bytes;
 #[cfg(test)]
 mod centre;
+pub mod chance;
 #[cfg(test)]
 mod frame;
 #[cfg(test)]

@@ -1,0 +1,25 @@
+//! Bytes that look like chance.
+
+ghost use Rattle.std.specs.Prelude.{◌≡◌, length, IfOk};
+
+use std::alloc::{AllocError, Global};
+
+/// The next of a row of numbers that look like chance.
+pub fn next_of(seed: u32) -> u32 {
+    seed.wrapping_mul(1_664_525).wrapping_add(1_013_904_223)
+}
+
+/// So many bytes of chance: the number and the stamp are small, and the kind is one of sixteen, so that many of them spell a frame.
+pub fn bytes_by_chance(alloc: Global, seed: u32, count: usize) -> Result<Vec<u8>, AllocError>
+    ensures { IfOk result (λ bytes. length bytes.items ≡ count) }
+{
+    const ONES: [u8; 12] = [0, 0, 3, 255, 0, 255, 255, 255, 15, 0, 255, 255];
+    let mut bytes = Vec::with_capacity(alloc, count)?;
+    let mut chance = seed;
+    for place in 0..count {
+        chance = next_of(chance);
+        let ones = if place < 12 { ONES[place] } else { 7 };
+        bytes.push(chance.to_be_bytes()[0] & ones)?;
+    }
+    Ok(bytes)
+}
