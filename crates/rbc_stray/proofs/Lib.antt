@@ -1,0 +1,12 @@
+pub mod Acts
+pub mod Handing
+pub mod Messages
+pub mod Answers
+pub mod Rights
+pub mod Frames
+pub mod Steps
+pub mod Heads
+pub mod Worlds
+pub mod Counts
+pub mod Taken
+pub mod Reached
