@@ -1,8 +1,8 @@
 -- What the bytes of a header and of a body say of the frame.
-use Rattle.std.proofs.Common.{◌≡◌, ℕ, ◌^◌, ◌<◌, ◌≤◌, List, ◌++◌, refl, sym, ap, ◌∙◌, arith, mod-eq_of_lt}
-use Rattle.std.specs.Prelude.{Option, None, Some, IfSome, IfNone, slice_index}
+use Rattle.std.proofs.Common.{◌≡◌, ℕ, ◌^◌, ◌<◌, List, ◌++◌, refl, sym, ap, ◌∙◌, arith, mod-eq_of_lt}
+use Rattle.std.specs.Prelude.{Some, slice_index}
 use Rattle.byteorder.specs.Endian.{big_bytes}
-use Rattle.rbc_spec.specs.Frame.{Frame, Body, AskRight, GiveRight, RefuseRight, ReturnRight, RouteAsk, RouteInfo, RouteWithdraw, RouteReturn, Announce, Cancel, TakingOver, Yield, HasFrameRanges, HasBodyRange}
+use Rattle.rbc_spec.specs.Frame.{Frame, Body, AskRight, GiveRight, RefuseRight, ReturnRight, RouteAsk, RouteInfo, RouteWithdraw, RouteReturn, Announce, Cancel, TakingOver, Yield, HasFrameRanges}
 use Rattle.rbc_linkmsg.specs.declared.kind.FrameKind.{FrameKind}
 use Rattle.rbc_linkmsg.specs.declared.body.Body.{Body as BodyCode}
 use Rattle.rbc_linkmsg.specs.Bodies.{body_of, body_back}
@@ -68,19 +68,12 @@ spells_read bytes rest n s k kind b e fits at same body =
     let byte : k ≡ kind_number (kind_of b) = sym (header_kind bytes rest n s k e fits) ∙ at ∙ kind_of_same b kind same in
     e ∙ same_bytes n s k (kind_number (kind_of b)) rest (spelled (body_fields b)) byte body ∙ sym (frame_parts (made n s b))
 
--- and so does each frame that was made of it
-pub made_spells : (bytes : List ℕ) (r : Option Frame) (g : Frame) → bytes ≡ spelled (frame_fields g) → IfSome r (λ f. f ≡ g) → IfSome r HasFrameRanges → IfSome r (λ f. Spells bytes f)
-made_spells bytes None g t e h = tt
-made_spells bytes (Some f) g t e h = record { text = t ∙ ap (λ x. spelled (frame_fields x)) (sym e); ranges = h }
+pub same_ranges : (f g : Frame) → f ≡ g → HasFrameRanges f → HasFrameRanges g
+same_ranges f g e h = rw (sym e) h
+
+-- and so does the frame that was made of it
+pub made_text : (bytes : List ℕ) (f g : Frame) → bytes ≡ spelled (frame_fields g) → f ≡ g → HasFrameRanges g → Spells bytes f
+made_text bytes f g t e h = record { text = t ∙ ap (λ x. spelled (frame_fields x)) (sym e); ranges = same_ranges g f (sym e) h }
 
 pub frame_is : (n s : ℕ) (k : FrameKind) (rest : List ℕ) (b : Body) (f : Frame) → IsHeaderOf n s k rest f → b ≡ f.body → f ≡ made n s b
 frame_is n s k rest b f h e = same_frame f.number n f.stamp s f.body b h.number h.stamp (sym e)
-
-same_ranges : (f g : Frame) → f ≡ g → HasFrameRanges f → HasFrameRanges g
-same_ranges f g e h = rw (sym e) h
-
--- values in their ranges make their frame
-pub found_frame : (r : Option Frame) (n s : ℕ) (b : Body) (f : Frame) → f ≡ made n s b → IfSome r (λ x. x ≡ made n s b)
-    → IfNone r ((1 ≤ n) × (n ≤ 65536) → (1 ≤ s) × (s ≤ 1073741823) → ⊥) → HasFrameRanges f → r ≡ Some f
-found_frame None n s b f e value refused h = let g = same_ranges f (made n s b) e h in absurd (refused g.number g.stamp)
-found_frame (Some x) n s b f e value refused h = ap Some (value ∙ sym e)

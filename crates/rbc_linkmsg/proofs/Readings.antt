@@ -1,12 +1,12 @@
 -- What the fields of a kind say, and the bytes of a frame's header.
-use Rattle.std.proofs.Common.{◌≡◌, ℕ, ◌+◌, ◌%◌, List, ◌∷◌, length, refl, sym, ap, subst, ◌∙◌, arith}
-use Rattle.std.specs.Prelude.{Option, Some, None, IfSome, IfNone, nat_lt, slice_index, if◌then◌else◌}
+use Rattle.std.proofs.Common.{◌≡◌, ℕ, ◌+◌, ◌≤◌, ◌%◌, false, List, ◌∷◌, length, Err, refl, sym, ap, ◌∙◌, arith}
+use Rattle.std.proofs.lemmas.Bool.Decides.{nat_tests}
+use Rattle.std.specs.Prelude.{nat_lt, slice_index, if◌then◌else◌}
 use Rattle.rbc_spec.specs.Frame.{Frame, Body, AskRight, GiveRight, RefuseRight, ReturnRight, RouteAsk, RouteInfo, RouteWithdraw, RouteReturn, Announce, Cancel, TakingOver, Yield, HasBodyRange}
 use Rattle.rbc_linkmsg.specs.declared.kind.FrameKind.{FrameKind}
 use Rattle.rbc_linkmsg.specs.declared.kind.FrameKind.TheVariants as kinds
+use Rattle.rbc_linkmsg.specs.declared.fault.FrameFault.{FrameFault}
 use Rattle.rbc_linkmsg.specs.declared.fault.FrameFault.TheVariants.{Short, Value}
-use Rattle.rbc_linkmsg.specs.Bodies.{body_back}
-use Rattle.rbc_linkmsg.specs.declared.body.Body.{Body as InMemory}
 use Rattle.rbc_linkmsg.specs.Kinds.{kind_number, kind_length, kind_with}
 use Rattle.rbc_linkmsg.specs.Faults.{first_fault, fault_of_kind}
 use Rattle.rbc_linkmsg.specs.Spelling.{Field, spelled, kind_of, body_fields, frame_fields, AllFit, Spells}
@@ -24,21 +24,10 @@ fields_of f k fields w fits h e s =
 pub body_is : (f : Body) (k : FrameKind) (fields : List Field) → HasBodyRange f → kind_of f ≡ k → body_fields f ≡ fields → f ≡ body_from k fields
 body_is f k fields h e s = sym (body_from-again f h) ∙ same_from (kind_of f) k (body_fields f) fields e s
 
-some_back : (a b : Body) → a ≡ b → Some (body_back b) ≡ Some (body_back a)
-some_back a b e = rw e refl
-
-pub found : (bytes : List ℕ) (k : FrameKind) (fields : List Field) → widths fields ≡ kind_widths k → bytes ≡ spelled fields → AllFit fields
-    → (f : Body) → HasBodyRange f → kind_of f ≡ k → bytes ≡ spelled (body_fields f) → Some (body_back (body_from k fields)) ≡ Some (body_back f)
-found bytes k fields w t fits f h e s =
-    some_back f (body_from k fields) (body_is f k fields h e (fields_of f k fields w fits h e (sym t ∙ s)))
-
--- so is the body that is read, where what was read is let through in its ranges
-pub found_in : (r : Option InMemory) (bytes : List ℕ) (k : FrameKind) (fields : List Field) → widths fields ≡ kind_widths k → bytes ≡ spelled fields → AllFit fields
-    → IfSome r (λ b. b ≡ body_back (body_from k fields)) → IfNone r (HasBodyRange (body_from k fields) → ⊥)
-    → (f : Body) → HasBodyRange f → kind_of f ≡ k → bytes ≡ spelled (body_fields f) → r ≡ Some (body_back f)
-found_in None bytes k fields w t fits value refused f h e s =
-    absurd (refused (subst HasBodyRange (body_is f k fields h e (fields_of f k fields w fits h e (sym t ∙ s))) h))
-found_in (Some b) bytes k fields w t fits value refused f h e s = ap Some value ∙ found bytes k fields w t fits f h e s
+-- so the fields that are read tell the body
+pub found_body : (bytes : List ℕ) (k : FrameKind) (fields : List Field) → widths fields ≡ kind_widths k → bytes ≡ spelled fields → AllFit fields
+    → (f : Body) → HasBodyRange f → kind_of f ≡ k → bytes ≡ spelled (body_fields f) → body_from k fields ≡ f
+found_body bytes k fields w t fits f h e s = sym (body_is f k fields h e (fields_of f k fields w fits h e (sym t ∙ s)))
 
 -- a frame's length is its kind's
 pub body_length : (b : Body) → 9 + length (spelled (body_fields b)) ≡ kind_length (kind_of b)
@@ -105,3 +94,10 @@ fault_at n m k p q = rw (p, q) (fault_of k)
 pub no_fault : (bytes : List ℕ) (f : Frame) → Spells bytes f → first_fault bytes ≡ Value
 unfolding first_fault
 no_fault bytes f p = fault_at (length bytes) (slice_index bytes 8) (kind_of f.body) (frame_length bytes f p) (frame_kind bytes f p)
+
+-- a byte that names no kind is the fault of bytes that have a header
+pub kind_fault : (bytes : List ℕ) (e : FrameFault) → 9 ≤ length bytes → kind_with (slice_index bytes 8) ≡ Err e → first_fault bytes ≡ e
+unfolding first_fault
+kind_fault bytes e h k =
+    let long : nat_lt (length bytes) 9 ≡ false = grind (arith, nat_tests) in
+    rw (long, k) refl

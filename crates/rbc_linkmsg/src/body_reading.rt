@@ -1,83 +1,81 @@
 //! The body of a frame, read from bytes of its length.
 
-ghost use Rattle.std.specs.Prelude.{◌≡◌, ◌+◌, ◌∷◌, [], length, IfSome, Some};
+ghost use Rattle.std.specs.Prelude.{◌≡◌, ◌≢◌, ◌+◌, ◌∷◌, [], length};
 ghost use Rattle.rbc_spec.specs.Frame as spec;
 ghost use Rattle.rbc_hand.specs.SectionRuns.{run_of};
-ghost use Rattle.rbc_linkmsg.specs.Bodies.{body_of, body_back};
+ghost use Rattle.rbc_linkmsg.specs.Bodies.{body_of};
 ghost use Rattle.rbc_linkmsg.specs.Kinds.{kind_length};
 ghost use Rattle.rbc_linkmsg.specs.Spelling as spelling;
+ghost use Rattle.rbc_linkmsg.specs.declared.kind.FrameKind.TheVariants as kinds;
 
 use crate::body::Body;
 use crate::kind::FrameKind;
-use crate::ranges::ranged;
 use crate::reading::{read_run, take_u8, take_u16, take_u32};
-use crate::yield_reading::read_yield;
 use rbc_hand::SectionRun;
 
-/// The body that the bytes behind the kind spell. It is none where a value is refused. Each kind tests its own ranges, so that a body is
-/// looked at once.
+/// The body that the bytes behind the kind spell. A Yield, whose flags may be refused, has a reader of its own.
 #[inline(always)]
-pub(crate) fn read_body(kind: FrameKind, bytes: &[u8]) -> Option<Body>
-    requires { 9 + length bytes.now ≡ kind_length kind }
-    ensures spelled { IfSome result (λ b. bytes.now ≡ spelling.spelled (spelling.body_fields (body_of b))) }
-    ensures kind { IfSome result (λ b. spelling.kind_of (body_of b) ≡ kind) }
-    ensures ranges { IfSome result (λ b. spec.HasBodyRange (body_of b)) }
-    ensures found { (f : spec.Body) → spec.HasBodyRange f → spelling.kind_of f ≡ kind → bytes.now ≡ spelling.spelled (spelling.body_fields f) → result ≡ Some (body_back f) }
+pub(crate) fn read_body(kind: FrameKind, bytes: &[u8]) -> Body
+    requires length { 9 + length bytes.now ≡ kind_length kind }
+    requires other { kind ≢ kinds.Yield }
+    ensures spelled { bytes.now ≡ spelling.spelled (spelling.body_fields (body_of result)) }
+    ensures kind { spelling.kind_of (body_of result) ≡ kind }
+    ensures found { (f : spec.Body) → spec.HasBodyRange f → spelling.kind_of f ≡ kind → bytes.now ≡ spelling.spelled (spelling.body_fields f) → body_of result ≡ f }
 {
     match kind {
         FrameKind::AskRight => {
             let engine = read_engine(bytes);
-            ranged(Body::AskRight { engine })
+            Body::AskRight { engine }
         }
         FrameKind::GiveRight => {
             let engine = read_engine(bytes);
-            ranged(Body::GiveRight { engine })
+            Body::GiveRight { engine }
         }
         FrameKind::RefuseRight => {
             let engine = read_engine(bytes);
-            ranged(Body::RefuseRight { engine })
+            Body::RefuseRight { engine }
         }
         FrameKind::ReturnRight => {
             let engine = read_engine(bytes);
-            ranged(Body::ReturnRight { engine })
+            Body::ReturnRight { engine }
         }
         FrameKind::RouteAsk => {
             let (engine, run) = read_route(bytes);
-            ranged(Body::RouteAsk {
+            Body::RouteAsk {
                 engine,
                 first: run.first,
                 most: run.count,
-            })
+            }
         }
         FrameKind::RouteInfo => {
             let (engine, run) = read_route(bytes);
-            ranged(Body::RouteInfo { engine, run })
+            Body::RouteInfo { engine, run }
         }
         FrameKind::RouteWithdraw => {
             let (engine, section) = read_section(bytes);
-            ranged(Body::RouteWithdraw { engine, section })
+            Body::RouteWithdraw { engine, section }
         }
         FrameKind::RouteReturn => {
             let (engine, run) = read_route(bytes);
-            ranged(Body::RouteReturn { engine, run })
+            Body::RouteReturn { engine, run }
         }
         FrameKind::Announce => {
             let (handover, engine, track) = read_announced(bytes);
-            ranged(Body::Announce {
+            Body::Announce {
                 handover,
                 engine,
                 track,
-            })
+            }
         }
         FrameKind::Cancel => {
             let (handover, engine) = read_handover(bytes);
-            ranged(Body::Cancel { handover, engine })
+            Body::Cancel { handover, engine }
         }
         FrameKind::TakingOver => {
             let (handover, engine) = read_handover(bytes);
-            ranged(Body::TakingOver { handover, engine })
+            Body::TakingOver { handover, engine }
         }
-        FrameKind::Yield => ranged(read_yield(bytes)?),
+        FrameKind::Yield => unreachable!(),
     }
 }
 

@@ -24,6 +24,7 @@ pub(crate) enum FrameKind {
 }
 
 impl FrameKind {
+    #[inline(always)]
     #[tactic(auto, unfolding(crate::specs::Kinds::kind_with))]
     pub(crate) fn of(number: u8) -> Result<FrameKind, FrameFault>
         ensures exact { result ≡ kind_with number }
@@ -48,6 +49,7 @@ impl FrameKind {
     }
 
     /// How many bytes the frame has.
+    #[inline(always)]
     pub(crate) fn length(self) -> usize
         ensures { result ≡ kind_length self }
     {

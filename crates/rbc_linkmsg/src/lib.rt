@@ -9,6 +9,7 @@ mod decode;
 mod encode;
 mod fault;
 mod frame;
+mod frame_reading;
 mod kind;
 mod laws;
 mod ranges;

@@ -1,6 +1,6 @@
 //! The ranges of the fields of a frame (profile).
 
-ghost use Rattle.std.specs.Prelude.{◌≡◌, ◌≤◌, ◌↔◌, IsTrue, IfSome, IfNone};
+ghost use Rattle.std.specs.Prelude.{◌≡◌, ◌≤◌, ◌↔◌, IsTrue};
 ghost use Rattle.rbc_spec.specs.Frame.{HasBodyRange, HasRunRange, HasPlaceRange, IsEngine, IsHandoverNumber};
 ghost use Rattle.rbc_hand.specs.SectionRuns.{run_of};
 ghost use Rattle.rbc_linkmsg.specs.Bodies.{body_of, place_of};
@@ -15,19 +15,9 @@ pub(crate) fn is_header(number: u32, stamp: u32) -> bool
     number >= 1 && number <= 65_536 && stamp >= 1 && stamp <= 1_073_741_823
 }
 
-/// The body, where its fields are in their ranges.
+/// Whether the fields of the body are in their ranges.
 #[inline(always)]
-pub(crate) fn ranged(body: Body) -> Option<Body>
-    ensures value { IfSome result (λ b. b ≡ body) }
-    ensures ranges { IfSome result (λ b. HasBodyRange (body_of b)) }
-    ensures refused { IfNone result (HasBodyRange (body_of body) → ⊥) }
-{
-    if is_in_range(body) { Some(body) } else { None }
-}
-
-// Whether the fields of the body are in their ranges.
-#[inline(always)]
-fn is_in_range(body: Body) -> bool
+pub(crate) fn is_in_range(body: Body) -> bool
     ensures { IsTrue result ↔ HasBodyRange (body_of body) }
 {
     match body {
