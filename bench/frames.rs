@@ -29,28 +29,38 @@ enum Body {
     Yield { handover: u32, engine: u32, heard: u32, has_data: bool, is_ended: bool, track: u8, group: u32, front: i32, rear: Option<i32>, hand: Run },
 }
 
-fn number(bytes: &[u8], at: usize) -> Option<u32> {
-    Some(u32::from_be_bytes(bytes.get(at..at + 4)?.try_into().ok()?))
+#[derive(Clone, Copy, Debug, PartialEq)]
+enum Fault {
+    Short,
+    Length,
+    Kind,
+    Value,
+}
+
+fn number(bytes: &[u8], at: usize) -> u32 {
+    u32::from_be_bytes([bytes[at], bytes[at + 1], bytes[at + 2], bytes[at + 3]])
 }
 
 fn engine_at(bytes: &[u8], at: usize) -> Option<u32> {
-    number(bytes, at).filter(|engine| *engine <= 16_777_215)
+    Some(number(bytes, at)).filter(|engine| *engine <= 16_777_215)
+}
+
+fn section_at(bytes: &[u8], at: usize) -> Option<u16> {
+    Some(u16::from_be_bytes([bytes[at], bytes[at + 1]])).filter(|section| *section <= 511)
 }
 
 fn run_at(bytes: &[u8], at: usize, least: u8, most: u8) -> Option<Run> {
-    let first = u16::from_be_bytes(bytes.get(at..at + 2)?.try_into().ok()?);
-    let count = *bytes.get(at + 2)?;
-    (first <= 511 && (least..=most).contains(&count) && first + u16::from(count) <= 512).then_some(Run { first, count })
+    let (first, count) = (section_at(bytes, at)?, bytes[at + 2]);
+    ((least..=most).contains(&count) && first + u16::from(count) <= 512).then_some(Run { first, count })
 }
 
 fn handover_at(bytes: &[u8], at: usize) -> Option<u32> {
-    number(bytes, at).filter(|handover| *handover > 0)
+    Some(number(bytes, at)).filter(|handover| *handover > 0)
 }
 
-fn yield_in(bytes: &[u8]) -> Option<Body> {
+fn yield_in(bytes: &[u8; 38]) -> Option<Body> {
     let (track, flags) = (bytes[21], bytes[22]);
-    let rear = number(bytes, 31)? as i32;
-    let (heard, group) = (number(bytes, 17)?, number(bytes, 23)?);
+    let (heard, group, rear) = (number(bytes, 17), number(bytes, 23), number(bytes, 31) as i32);
     if heard == u32::MAX || track > 3 || flags > 7 || group > 16_777_214 || (flags < 4 && rear != 0) {
         return None;
     }
@@ -62,18 +72,15 @@ fn yield_in(bytes: &[u8]) -> Option<Body> {
         is_ended: flags & 2 == 2,
         track,
         group,
-        front: number(bytes, 27)? as i32,
+        front: number(bytes, 27) as i32,
         rear: (flags >= 4).then_some(rear),
         hand: run_at(bytes, 35, 1, 32)?,
     })
 }
 
-fn decode_frame(bytes: &[u8]) -> Option<Frame> {
-    let (count, stamp) = (number(bytes, 0)?, number(bytes, 4)?);
-    if !(1..=65_536).contains(&count) || !(1..=1_073_741_823).contains(&stamp) {
-        return None;
-    }
-    let body = match (*bytes.get(8)?, bytes.len()) {
+// The body of a kind, whose bytes are as many as its frames have.
+fn body_in(bytes: &[u8]) -> Option<Body> {
+    Some(match (bytes[8], bytes.len()) {
         (1, 13) => Body::AskRight { engine: engine_at(bytes, 9)? },
         (2, 13) => Body::GiveRight { engine: engine_at(bytes, 9)? },
         (3, 13) => Body::RefuseRight { engine: engine_at(bytes, 9)? },
@@ -83,10 +90,7 @@ fn decode_frame(bytes: &[u8]) -> Option<Frame> {
             Body::RouteAsk { engine: engine_at(bytes, 9)?, first, most: count }
         }
         (6, 16) => Body::RouteInfo { engine: engine_at(bytes, 9)?, run: run_at(bytes, 13, 0, 31)? },
-        (7, 15) => {
-            let section = u16::from_be_bytes([bytes[13], bytes[14]]);
-            Body::RouteWithdraw { engine: engine_at(bytes, 9)?, section: Some(section).filter(|section| *section <= 511)? }
-        }
+        (7, 15) => Body::RouteWithdraw { engine: engine_at(bytes, 9)?, section: section_at(bytes, 13)? },
         (8, 16) => Body::RouteReturn { engine: engine_at(bytes, 9)?, run: run_at(bytes, 13, 1, 63)? },
         (9, 18) => {
             let track = Some(bytes[17]).filter(|track| *track <= 3)?;
@@ -94,10 +98,43 @@ fn decode_frame(bytes: &[u8]) -> Option<Frame> {
         }
         (10, 17) => Body::Cancel { handover: handover_at(bytes, 9)?, engine: engine_at(bytes, 13)? },
         (11, 17) => Body::TakingOver { handover: handover_at(bytes, 9)?, engine: engine_at(bytes, 13)? },
-        (12, 38) => yield_in(bytes)?,
+        (12, _) => yield_in(bytes.try_into().ok()?)?,
         _ => return None,
+    })
+}
+
+// Why bytes have no body.
+fn fault_of(bytes: &[u8]) -> Fault {
+    let wanted = match bytes[8] {
+        1..=4 => 13,
+        5 | 6 | 8 => 16,
+        7 => 15,
+        9 => 18,
+        10 | 11 => 17,
+        12 => 38,
+        _ => return Fault::Kind,
     };
-    Some(Frame { number: count, stamp, body })
+    match bytes.len().cmp(&wanted) {
+        std::cmp::Ordering::Less => Fault::Short,
+        std::cmp::Ordering::Greater => Fault::Length,
+        std::cmp::Ordering::Equal => Fault::Value,
+    }
+}
+
+#[inline(never)]
+fn decode_frame(bytes: &[u8]) -> Result<Frame, Fault> {
+    if bytes.len() < 9 {
+        return Err(Fault::Short);
+    }
+    frame_in(bytes).ok_or_else(|| fault_of(bytes))
+}
+
+fn frame_in(bytes: &[u8]) -> Option<Frame> {
+    let (count, stamp) = (number(bytes, 0), number(bytes, 4));
+    if !(1..=65_536).contains(&count) || !(1..=1_073_741_823).contains(&stamp) {
+        return None;
+    }
+    Some(Frame { number: count, stamp, body: body_in(bytes)? })
 }
 
 // The kind and the fields behind it, from place 8 on.
@@ -169,7 +206,7 @@ pub fn measure_frames(turns: u32) {
         let start = Instant::now();
         for turn in 0..turns {
             bytes[4] = (turn % 64) as u8;
-            black_box(decode_frame(black_box(&bytes)));
+            let _ = black_box(decode_frame(black_box(&bytes)));
         }
         println!("decode {name} {}", rate(turns, start));
         let frame = decode_frame(&bytes).expect("it is a frame");
