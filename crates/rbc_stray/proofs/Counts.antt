@@ -1,12 +1,13 @@
 -- The questions and answers on the way, counted frame by frame.
-use Rattle.std.proofs.Common.{◌≡◌, ℕ, ◌+◌, ◌<◌, ◌==◌, ◌&&◌, if◌then◌else◌, Bool, true, false, List, [], ◌∷◌, map, refl, ap, ◌∙◌, arith, ne_eqb, ltb-true}
+use Rattle.std.proofs.Common.{◌≡◌, ℕ, ◌+◌, ◌<◌, ◌==◌, ◌&&◌, if◌then◌else◌, Bool, true, false, List, [], ◌∷◌, map, refl, ap, ◌∙◌, arith, ne_eqb, ltb-true, Option, Some, None, is_some, sym}
 use Rattle.std.specs.List.{count_by}
 use Rattle.rbc_ledger.specs.Sums.{one_if, sum_below, sum_links}
 use Rattle.rbc_ledger.specs.Network.{way}
 use Rattle.rbc_ledger.specs.Resource.{carried, allowed}
 use Rattle.rbc_ledger.proofs.Sums.{sum_same, sum_plus, sum_only, sum_zero}
 use Rattle.rbc_ledger.proofs.Places.{placed_parts}
-use Rattle.rbc_spec.specs.Line.{Line}
+use Rattle.rbc_spec.specs.Line.{Line, is_centre}
+use Rattle.rbc_spec.specs.Place.{Place}
 use Rattle.rbc_spec.specs.Frame.{Frame}
 use Rattle.rbc_spec.specs.World.{World}
 use Rattle.rbc_spec.specs.World as world
@@ -15,7 +16,7 @@ use Rattle.rbc_flow.proofs.Basics.{itself}
 use Rattle.rbc_flow.proofs.Frames.{way_is}
 use Rattle.rbc_flow.proofs.Lists.{flat_sum}
 use Rattle.rbc_flow.proofs.Trains.{count_more, count_added}
-use Rattle.rbc_asked.specs.Asked.{Question, asks, answers, stands, questions}
+use Rattle.rbc_asked.specs.Asked.{Question, OfRight, asks, answers, stands, questions}
 use Rattle.rbc_stray.specs.Questions.{frames_from, frames_to, IsAskedOnce, IsAnswered, LeavesNone}
 
 abbrev counted_if : Bool → ℕ → ℕ
@@ -109,3 +110,19 @@ is_answered line w old = record {
   questions = λ c x to. asked_once line w x c (ltb-true c (centre_count line) to) old;
   waits = old.waits;
 }
+
+-- where nothing is on the way from a centre or to it, it has all its answers, and no start waits there
+module _ (line : Line) (w : World) (so : IsAnswered line w) (c : ℕ) (to : is_centre line c ≡ true) (none_from : frames_from line w c ≡ []) (none_to : frames_to line w c ≡ []) where
+  pub none_stands : (x : Question) → stands x (w.at c) ≡ false
+  none_stands x = by_count (stands x (w.at c)) (omega (arith, (so.questions c x to).once, ap (count_by (λ (f : Frame). asks x f.body)) none_from, ap (count_by (λ (f : Frame). answers x f.body)) none_to))
+    where
+      by_count : (z : Bool) → one_if z ≡ 0 → z ≡ false
+      by_count true is = absurd (omega (arith, is))
+      by_count false is = refl
+
+  pub none_waits : (t : ℕ) → (w.at c).wait t ≡ None
+  none_waits t = by_wait ((w.at c).wait t) refl
+    where
+      by_wait : (o : Option Place) → (w.at c).wait t ≡ o → o ≡ None
+      by_wait None at = refl
+      by_wait (Some place) at = absurd (let wrong : true ≡ false = sym ((so.waits c).each t (ap is_some at)) ∙ none_stands (OfRight t) in cc)

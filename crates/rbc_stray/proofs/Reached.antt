@@ -1,8 +1,6 @@
 -- What holds of each world that events led to.
-use Rattle.std.proofs.Common.{◌≡◌, ◌⊎◌, ℕ, ◌&&◌, Bool, true, false, List, [], Option, Some, None, is_some, Ok, refl, sym, ap, ◌∙◌, subst, arith, ⊎_elim}
-use Rattle.std.specs.List.{count_by}
+use Rattle.std.proofs.Common.{◌≡◌, ◌⊎◌, ℕ, ◌&&◌, Bool, true, List, Some, Ok, sym, ap, ◌∙◌, subst, ⊎_elim}
 use Rattle.std.proofs.lemmas.Bool.{and_parts}
-use Rattle.rbc_ledger.specs.Sums.{one_if}
 use Rattle.rbc_ledger.specs.Network.{TakesHead}
 use Rattle.rbc_spec.specs.Reach.{Reach, follows_rule}
 use Rattle.rbc_spec.specs.SectionRuns.{SectionRun, within}
@@ -20,9 +18,8 @@ use Rattle.rbc_flow.proofs.Numbers.{next_sent}
 use Rattle.rbc_pairs.proofs.Steps.{within_reach}
 use Rattle.rbc_pairs.proofs.Worlds.{linked_next, sent_between}
 use Rattle.rbc_tokens.specs.Stray.{train_of}
-use Rattle.rbc_asked.specs.Asked.{Question, OfRight, asks, answers, stands}
 use Rattle.rbc_stray.specs.Due.{IsDue, IsFrameDue, IsTakenOver}
-use Rattle.rbc_stray.specs.Questions.{IsAnswered, frames_from, frames_to}
+use Rattle.rbc_stray.specs.Questions.{IsAnswered}
 use Rattle.rbc_stray.proofs.Counts.{is_answered}
 use Rattle.rbc_stray.proofs.Heads.{yield_follows}
 use Rattle.rbc_stray.proofs.Taken.{delivered_at, yield_taken}
@@ -81,18 +78,3 @@ module _ (reach : Reach) (line : Line) (ok : IsLine line) (events : List Event) 
 
   pub answered_so : IsAnswered line w
   answered_so = is_answered line w reached.answered
-
-  module _ (c : ℕ) (to : is_centre line c ≡ true) (none_from : frames_from line w c ≡ []) (none_to : frames_to line w c ≡ []) where
-    pub none_stands : (x : Question) → stands x (w.at c) ≡ false
-    none_stands x = by_count (stands x (w.at c)) (omega (arith, (answered_so.questions c x to).once, ap (count_by (λ (f : Frame). asks x f.body)) none_from, ap (count_by (λ (f : Frame). answers x f.body)) none_to))
-      where
-        by_count : (z : Bool) → one_if z ≡ 0 → z ≡ false
-        by_count true is = absurd (omega (arith, is))
-        by_count false is = refl
-
-    pub none_waits : (t : ℕ) → (w.at c).wait t ≡ None
-    none_waits t = by_wait ((w.at c).wait t) refl
-      where
-        by_wait : (o : Option Place) → (w.at c).wait t ≡ o → o ≡ None
-        by_wait None at = refl
-        by_wait (Some place) at = absurd (let wrong : true ≡ false = sym ((answered_so.waits c).each t (ap is_some at)) ∙ none_stands (OfRight t) in cc)
