@@ -1,6 +1,6 @@
 //! Laws of what comes in each world that events led to, and of the questions that stand there.
 
-ghost use Rattle.std.specs.Prelude.{◌≡◌, ◌⊎◌, ℕ, ◌&&◌, Bool, true, false, List, [], Some, None, Ok, is_some};
+ghost use Rattle.std.specs.Prelude.{◌≡◌, ◌⊎◌, ℕ, Bool, true, false, List, [], Some, None, Ok};
 ghost use Rattle.rbc_spec.specs.Reach.{Reach};
 ghost use Rattle.rbc_spec.specs.SectionRuns.{SectionRun, within};
 ghost use Rattle.rbc_spec.specs.Line.{Line, IsLine, is_centre, is_home};
