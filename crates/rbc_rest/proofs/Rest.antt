@@ -69,7 +69,7 @@ module _ (line : Line) (w : World) where
     no_work a b [] is = refl
     no_work a b (f ∷ fs) is = absurd (omega (arith, is, carried_more (load (centre_count line)) a b f.body (map (λ (g : Frame). g.body) fs), less_left (centre_count line) f.body))
 
-    no_way : (a b : ℕ) → a < centre_count line → b < centre_count line → world.way w a b ≡ []
+    pub no_way : (a b : ℕ) → a < centre_count line → b < centre_count line → world.way w a b ≡ []
     no_way a b from to = no_work a b (world.way w a b) (ap (carried (load (centre_count line)) a b) (sym (way_is w a b)) ∙ omega (
       arith,
       none,

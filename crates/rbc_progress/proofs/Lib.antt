@@ -1,0 +1,5 @@
+pub mod Announced
+pub mod Kept
+pub mod Places
+pub mod Messages
+pub mod Rounds
