@@ -11,9 +11,9 @@ use Rattle.rbc_spec.specs.Message.{EndSession, unknown_group, TrainMessage, Trai
 use Rattle.rbc_spec.specs.Frame.{Frame, Body, AskRight, GiveRight, RefuseRight, ReturnRight, RouteAsk, RouteInfo, RouteWithdraw, RouteReturn, Announce, Cancel, TakingOver, Yield, carried_place}
 use Rattle.rbc_spec.specs.Outcome as outcome
 use Rattle.rbc_spec.specs.Outcome.{Next, Old, Early, NoLink}
-use Rattle.rbc_spec.specs.Centre.{Centre, Mission, Handing, Out, Opened, Up, is_taken_for, is_open, is_registrar_of, is_up, uses_some, is_expected}
-use Rattle.rbc_spec.specs.Acts.{Act, Reply, rest, become, ◌>>◌, where_so, with_some, with_mission, send, say, hear, booked, freed, returned, is_of_two, part_at, change_mission, set_mission, cancel, close, return_right, leave, may_propose, propose, propose_if_so, end_order, yield, yield_if_due}
-use Rattle.rbc_spec.specs.Rules.{choose, drop_wait, begin, reject, set_phase, close_session, cleared, clear, report_here, take_over, report, answered}
+use Rattle.rbc_spec.specs.Centre.{Centre, Mission, Handing, Out, is_taken_for, is_open, is_registrar_of, is_up}
+use Rattle.rbc_spec.specs.Acts.{Act, Reply, rest, become, ◌>>◌, where_so, with_some, send, say, hear, booked, freed, returned, is_of_two, part_at, change_mission, set_mission, cancel, close, return_right, leave, may_propose, propose, propose_if_so, end_order, yield, yield_if_due}
+use Rattle.rbc_spec.specs.Rules.{choose, drop_wait, begin, reject, close_session, cleared, clear, report_here, take_over, report, answered}
 use Rattle.rbc_spec.specs.Links.{answered_ask, right_asked, right_given, right_refused, right_returned, lendable, route_asked, is_wanted, route_told, route_withdrawn, route_returned, expect, announced, cancelled, is_under, claimed}
 use Rattle.rbc_spec.specs.Links.{taking_over, may_take, take_mission, yielded, is_train, of_train, received}
 use Rattle.rbc_spec.specs.Step.{hear_and_answer, taken_by}

@@ -1,9 +1,8 @@
 -- An event that announces no handover leaves none where there was none.
-use Rattle.std.proofs.Common.{◌≡◌, ◌≢◌, ◌⊎◌, inl, inr, ℕ, ◌+◌, ◌<◌, ◌≤◌, ◌==◌, ◌&&◌, Bool, true, false, if◌then◌else◌, List, [], ◌∷◌, option_map, option_and_then, is_some, Option, Some, None, Result, Ok, Err, refl, sym, ap, ◌∙◌, subst, arith, ⊎_elim}
+use Rattle.std.proofs.Common.{◌≡◌, ◌≢◌, ◌⊎◌, inl, inr, ℕ, ◌+◌, ◌<◌, ◌≤◌, ◌==◌, ◌&&◌, Bool, true, false, if◌then◌else◌, List, [], ◌∷◌, option_and_then, is_some, Option, Some, None, Result, Ok, Err, refl, sym, ap, ◌∙◌, subst, arith, ⊎_elim}
 use Rattle.std.specs.Option.{option_map_or}
 use Rattle.std.proofs.lemmas.Bool.{cases_eq}
 use Rattle.rbc_ledger.specs.Sums.{one_if}
-use Rattle.rbc_ledger.specs.Network.{TakesHead}
 use Rattle.rbc_ledger.specs.Chain.{after_all}
 use Rattle.rbc_ledger.proofs.Sums.{put_same, put_other}
 use Rattle.rbc_ledger.proofs.Network.{each_head}
@@ -12,18 +11,18 @@ use Rattle.rbc_spec.specs.Reach.{Reach}
 use Rattle.rbc_spec.specs.Line.{Line, IsLine, is_centre}
 use Rattle.rbc_spec.specs.Message.{TrainMessage}
 use Rattle.rbc_spec.specs.Frame.{Frame, Body, AskRight, GiveRight, RefuseRight, ReturnRight, RouteAsk, RouteInfo, RouteWithdraw, RouteReturn, Announce, Cancel, TakingOver, Yield}
-use Rattle.rbc_spec.specs.Outcome.{Outcome, Reason, Next}
+use Rattle.rbc_spec.specs.Outcome.{Outcome, Reason}
 use Rattle.rbc_spec.specs.Centre.{Centre, Mission, Handing}
 use Rattle.rbc_spec.specs.Acts.{rest}
 use Rattle.rbc_spec.specs.Step as centre
 use Rattle.rbc_spec.specs.Step.{Effect, Refusal, step, refusal, taken, hear_and_answer, silence, link_answer, stamp_of, ticked}
-use Rattle.rbc_spec.specs.World.{World, Event, Bytes, Set, Unset, Delivery, Answer, NoCentre, NotSent, frame_sent, mention, stepped, at_centre, takes, world_step}
+use Rattle.rbc_spec.specs.World.{World, Event, Bytes, Set, Unset, Delivery, Answer, NoCentre, NotSent, frame_sent, mention, stepped, takes, world_step}
 use Rattle.rbc_lemmas.proofs.Puts.{itself, put_keeps}
 use Rattle.rbc_local.proofs.Worlds.{world_of}
-use Rattle.rbc_flow.specs.Flow.{Flow, flow_of, in_world}
+use Rattle.rbc_flow.specs.Flow.{Flow, flow_of}
 use Rattle.rbc_flow.specs.Pairs.{follows, handing_to, announces, count_if}
 use Rattle.rbc_pairs.specs.Orderly.{number_announced, IsHandedWithin, IsOrderly, IsTakenWith}
-use Rattle.rbc_pairs.specs.Steps.{IsByItself, left_by, sent_by}
+use Rattle.rbc_pairs.specs.Steps.{left_by, sent_by}
 use Rattle.rbc_pairs.specs.Worlds.{IsWorldSound}
 use Rattle.rbc_pairs.proofs.Steps.{step_orderly, step_taken}
 use Rattle.rbc_asked.proofs.Split.{world_step_keeps}

@@ -1,5 +1,5 @@
 -- What the three messages come to that end a handover: the session is begun, and the train reports that it has cleared its hand.
-use Rattle.std.proofs.Common.{◌≡◌, ℕ, ◌+◌, ◌<◌, ◌≤◌, ◌==◌, ◌&&◌, not, Bool, true, false, if◌then◌else◌, is_none, is_some, nat_le, ◌++◌, option_map, Option, Some, None, Result, Ok, Err, List, refl, sym, ap, ◌∙◌, subst, arith, ⊎_elim, leb-true, eq-eqb}
+use Rattle.std.proofs.Common.{◌≡◌, ℕ, ◌+◌, ◌&&◌, not, Bool, true, false, if◌then◌else◌, is_none, is_some, nat_le, ◌++◌, option_map, Option, Some, None, Ok, Err, List, refl, sym, ap, ◌∙◌, subst, arith, ⊎_elim, leb-true, eq-eqb}
 use Rattle.std.specs.Option.{option_map_or}
 use Rattle.std.proofs.lemmas.Bool.{cases_Bool}
 use Rattle.rbc_ledger.proofs.Sums.{put_same}
@@ -12,14 +12,12 @@ use Rattle.rbc_spec.specs.Message.{TrainMessage, TrainBody, Report, InitiationOf
 use Rattle.rbc_spec.specs.Frame.{Frame, Cancel, ReturnRight}
 use Rattle.rbc_spec.specs.Outcome.{Outcome, Reason, ForeignEngine, StaleStamp, NoSession, WrongPhase, NotSupervised, NoPlace}
 use Rattle.rbc_spec.specs.Centre.{Centre, Mission, Handing, Phase, Closed, Opened, Up, is_closed, is_up, is_taken_for, is_registrar_of}
-use Rattle.rbc_spec.specs.Acts.{Reply, rest, become, ◌>>◌, where_so, with_some, send, freed, leave, set_mission, change_mission, cancel, close, return_right, is_of_two, yield, yield_if_due}
+use Rattle.rbc_spec.specs.Acts.{rest, become, ◌>>◌, where_so, with_some, send, freed, leave, set_mission, change_mission, cancel, close, return_right, is_of_two, yield, yield_if_due}
 use Rattle.rbc_spec.specs.Rules.{drop_wait, cleared, clear, report_here, take_over, report}
-use Rattle.rbc_spec.specs.Step as centre
 use Rattle.rbc_spec.specs.Step.{Effect, Refusal, Train, step, refusal, taken, hear_and_answer, silence, is_awaited, mission_has, frames_of, ticked}
-use Rattle.rbc_spec.specs.World.{World, Event, Bytes, Answer, NoCentre, mention, stepped, takes, world_step}
+use Rattle.rbc_spec.specs.World.{World, Bytes, Answer, NoCentre, mention, stepped, takes, world_step}
 use Rattle.rbc_lemmas.proofs.Puts.{put_there}
 use Rattle.rbc_local.proofs.Worlds.{world_of}
-use Rattle.rbc_flow.specs.Flow.{in_world}
 use Rattle.rbc_tokens.specs.Steps.{done}
 use Rattle.rbc_pairs.specs.Steps.{left_by}
 use Rattle.rbc_progress.specs.Ends.{is_handing}

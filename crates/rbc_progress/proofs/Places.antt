@@ -1,6 +1,6 @@
 -- A position from which a train has cleared its hand.
-use Rattle.std.proofs.Common.{◌≡◌, ℕ, ◌+◌, ◌-◌, ◌*◌, ◌<◌, ◌≤◌, ◌==◌, ◌&&◌, Bool, true, false, if◌then◌else◌, cond, length, get_or, slice_get, option_map, option_and_then, Option, Some, None, nat_lt, ℤ, pos, int_le, refl, sym, ap, ◌∙◌, arith, ⊎_elim, eq-eqb, eqb-true, lt-ltb, le-leb}
-use Rattle.std.specs.List.{position, position_or_len}
+use Rattle.std.proofs.Common.{◌≡◌, ℕ, ◌+◌, ◌-◌, ◌*◌, ◌<◌, ◌≤◌, ◌==◌, ◌&&◌, Bool, true, false, if◌then◌else◌, cond, length, get_or, option_map, option_and_then, Option, Some, None, nat_lt, refl, ap, ◌∙◌, arith, ⊎_elim, eq-eqb, eqb-true, lt-ltb, le-leb}
+use Rattle.std.specs.List.{position_or_len}
 use Rattle.std.specs.Option.{option_map_or}
 use Rattle.std.proofs.lemmas.Bool.{cond-true, cases_Bool, cases_lt, both_ways}
 use Rattle.std.proofs.lemmas.List.Sums.{position_or_len_is}
@@ -10,7 +10,6 @@ use Rattle.rbc_spec.specs.Line.{Line, Section, IsLine, section, start, end, grou
 use Rattle.rbc_spec.specs.Sections.{is_on}
 use Rattle.rbc_spec.specs.Place.{Place, Position, is_known, has_place, extent, place_behind, place_on, is_cleared}
 use Rattle.rbc_spec.proofs.Places.{IsAt, section_on, start_is, end_of, ends_rise}
-use Rattle.rbc_lemmas.specs.Runs.{IsLongest}
 use Rattle.rbc_lemmas.proofs.Lists.{each_at}
 use Rattle.rbc_lemmas.proofs.Longest.{longest_is}
 use Rattle.rbc_lemmas.proofs.Runs.{within_from, within_true}

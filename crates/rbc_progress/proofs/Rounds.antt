@@ -1,6 +1,6 @@
 -- One handover after another ends, and the line comes to rest behind each.
-use Rattle.std.proofs.Common.{◌≡◌, ◌⊎◌, inl, inr, map, ℕ, zero, suc, ◌+◌, ◌<◌, ◌≤◌, ◌==◌, ◌||◌, Bool, true, false, is_some, List, [], ◌∷◌, length, nat_lt, slice_get, Option, Some, None, Result, Ok, Err, refl, sym, ap, ◌∙◌, subst, arith, ⊎_elim, ltb-true, lt-ltb, eqb-true, All}
-use Rattle.std.specs.List.{list_any, position, sum_by}
+use Rattle.std.proofs.Common.{◌≡◌, ◌⊎◌, inl, inr, map, ℕ, zero, suc, ◌+◌, ◌<◌, ◌≤◌, ◌==◌, ◌||◌, Bool, true, false, is_some, List, [], ◌∷◌, slice_get, Option, Some, None, Result, Ok, Err, refl, sym, ap, ◌∙◌, subst, arith, ⊎_elim, ltb-true, lt-ltb, eqb-true, All}
+use Rattle.std.specs.List.{list_any, sum_by}
 use Rattle.std.proofs.lemmas.Bool.{cases_Bool, cases_lt, both_ways}
 use Rattle.std.proofs.lemmas.Option.{slice_get-get_or}
 use Rattle.std.proofs.lemmas.List.Quantifiers.{position-Some}
@@ -9,26 +9,24 @@ use Rattle.rbc_ledger.specs.Network.{way}
 use Rattle.rbc_ledger.specs.Chain.{after_all}
 use Rattle.rbc_spec.specs.Reach.{Reach}
 use Rattle.rbc_spec.specs.Line.{Line, Train, IsLine, is_centre, train_number}
-use Rattle.rbc_spec.specs.Message.{TrainBody, Report, InitiationOfSession, SessionEstablished, unknown_time}
+use Rattle.rbc_spec.specs.Message.{Report, InitiationOfSession, SessionEstablished, unknown_time}
 use Rattle.rbc_spec.specs.Frame.{Frame, Body}
-use Rattle.rbc_spec.specs.Centre.{Centre, Mission, Expectation, Phase, Closed, Opened, Up, is_expected}
-use Rattle.rbc_spec.specs.Step as centre
+use Rattle.rbc_spec.specs.Centre.{Mission, Expectation, Phase, Closed, Opened, Up}
 use Rattle.rbc_spec.specs.Step.{Refusal}
 use Rattle.rbc_spec.specs.World.{World, Event, Bytes, Set, Unset, Delivery, Answer, world_step, world_run}
 use Rattle.rbc_lemmas.proofs.Lists.{any-range_none}
 use Rattle.rbc_local.proofs.Worlds.{bind_ok}
-use Rattle.rbc_flow.specs.Flow.{Flow, flow_of, centre_count}
+use Rattle.rbc_flow.specs.Flow.{flow_of, centre_count}
 use Rattle.rbc_flow.specs.Pairs.{follows, handing_to}
 use Rattle.rbc_flow.proofs.Frames.{way_is}
 use Rattle.rbc_pairs.specs.Orderly.{number_expected, number_announced}
 use Rattle.rbc_pieces.proofs.Runs.{run_of_none, whole_run}
-use Rattle.rbc_ranges.specs.Ranges.{HasMessageRanges, IsReportInRange}
 use Rattle.rbc_ranges.specs.Stays.{IsReadInRange, IsWorldInRange}
 use Rattle.rbc_ranges.proofs.Worlds.{step_in_range}
 use Rattle.rbc_stray.proofs.Worlds.{IsReachedSo, step_reached}
-use Rattle.rbc_rest.specs.Rest.{work_of, IsDelivery, IsAtRest, IsStopped, ComesToRest}
+use Rattle.rbc_rest.specs.Rest.{work_of, IsDelivery, IsAtRest, IsStopped}
 use Rattle.rbc_rest.proofs.Rest.{work_is, no_way, comes_to_rest}
-use Rattle.rbc_progress.specs.Ends.{IsSessionOrReport, IsGoingOn, is_handing, HasNoHandover, messages_for_report, IsOutOfStamps, IsRefusedThere, GoesOn}
+use Rattle.rbc_progress.specs.Ends.{IsGoingOn, is_handing, HasNoHandover, messages_for_report, IsOutOfStamps, IsRefusedThere, GoesOn}
 use Rattle.rbc_progress.proofs.Kept.{none_to, none_new}
 use Rattle.rbc_progress.proofs.Places.{at_end, clears}
 use Rattle.rbc_progress.proofs.Messages.{next, IsHanded, initiated, established, reported, left_at}
