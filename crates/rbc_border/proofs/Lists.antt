@@ -1,5 +1,5 @@
 -- Laws of lists, tests, and choices.
-use Rattle.std.proofs.Common.{◌≡◌, ℕ, zero, suc, ◌+◌, ◌<◌, ◌≤◌, ◌&&◌, Bool, true, false, cond, List, [], ◌∷◌, ◌++◌, Some, None, refl, sym, ap, ◌∙◌, arith}
+use Rattle.std.proofs.Common.{◌≡◌, ℕ, zero, suc, ◌+◌, ◌<◌, ◌≤◌, ◌&&◌, Bool, true, false, cond, List, [], ◌∷◌, Some, None, refl, ap, ◌∙◌, arith}
 use Rattle.std.specs.List.{filter, list_all, range_with_len}
 
 pub and_true : (x : Bool) → (x && true) ≡ x
@@ -17,14 +17,6 @@ filter_same p q a (suc n) same =
     let rest = filter_same p q (a + 1) n (λ s above below. same s (omega arith) (omega arith)) in
     ap (λ b. cond b (a ∷ filter p (range_with_len (a + 1) n)) (filter p (range_with_len (a + 1) n))) (same a (omega arith) (omega arith))
     ∙ ap (λ xs. cond (q a) (a ∷ xs) xs) rest
-
--- one number more
-pub more_in_range : (a n : ℕ) → range_with_len a (n + 1) ≡ range_with_len a n ++ (a + n) ∷ []
-more_in_range a zero = let e : a + 0 ≡ a = omega arith in rw e refl
-more_in_range a (suc n) =
-    let e : a + suc n ≡ a + 1 + n = omega arith in
-    let m : suc n + 1 ≡ suc (n + 1) = omega arith in
-    ap (range_with_len a) m ∙ ap (λ xs. a ∷ xs) (more_in_range (a + 1) n ∙ ap (λ x. range_with_len (a + 1) n ++ x ∷ []) (sym e))
 
 shuffled : (a b x y : Bool) → ((a && b) && (x && y)) ≡ ((a && x) && (b && y))
 shuffled true true x y = refl

@@ -8,7 +8,7 @@ use Rattle.std.proofs.lemmas.Option.{cond_some}
 use Rattle.rbc_spec.specs.SectionRuns.{SectionRun, within}
 use Rattle.rbc_spec.specs.Line.{Line, is_home}
 use Rattle.rbc_spec.specs.Outcome.{Told}
-use Rattle.rbc_spec.specs.Centre.{Centre, Entry, Shut, Open, Taken, is_taken_for, is_out_for}
+use Rattle.rbc_spec.specs.Centre.{Centre, Shut, Open, Taken, is_taken_for, is_out_for}
 use Rattle.rbc_spec.specs.Acts.{freed}
 use Rattle.rbc_lemmas.proofs.Puts.{itself}
 use Rattle.rbc_lemmas.proofs.Runs.{within_from, within_behind}
@@ -18,14 +18,12 @@ use Rattle.rbc_book.specs.declared.claim.Claim.{Claim}
 use Rattle.rbc_book.proofs.Pages.{foreign_is_shut}
 use Rattle.rbc_hand.specs.Hands.{one}
 use Rattle.rbc_claims.specs.Marks.{marked}
-use Rattle.rbc_claims.proofs.Marks.{marked-more}
+use Rattle.rbc_claims.proofs.Backs.{back_to, entry_then, wish_then, entry_twice, wish_twice}
+use Rattle.rbc_claims.proofs.Marks.{marked-more, more_in_range}
 use Rattle.rbc_claims.proofs.Runs.{within_one, within_none, within_more}
 use Rattle.rbc_border.specs.Lending.{BringsBack, is_lent, told_back, telling, HasBook, with_book}
-use Rattle.rbc_border.proofs.Lists.{and_true, and_false, filter_same, more_in_range, none_chosen}
+use Rattle.rbc_border.proofs.Lists.{and_true, and_false, filter_same, none_chosen}
 use Rattle.rbc_border.proofs.Loans.{Writes}
-
-abbrev back_to : Bool → Entry
-back_to w = cond w Shut Open
 
 -- ## One section
 
@@ -85,45 +83,10 @@ module _ (t d s : ℕ) (o : Option Claim) (a m : Pages) (is : o ≡ claim_if (is
 pub brings_none : (t d from : ℕ) (book : Pages) → BringsBack t d (record { first = from; count = 0 }) book book
 brings_none t d from book = record { homes = λ s. refl; entry = λ s. rw (within_none from s) refl; wish = λ s. rw (within_none from s) refl }
 
-abbrev entry_then : ℕ → ℕ → Bool → Entry → Bool → Entry
-entry_then t d x e w = cond (x && is_out_for t d e) (back_to w) e
-
-abbrev wish_then : ℕ → ℕ → Bool → Entry → Bool → Bool
-wish_then t d x e w = not (x && is_out_for t d e) && w
-
+-- a section that came home is out for no train
 idle : (t d : ℕ) (w : Bool) → is_out_for t d (back_to w) ≡ false
 idle t d true = refl
 idle t d false = refl
-
-entry_twice : (t d : ℕ) (e : Entry) (w x y : Bool) → entry_then t d y (entry_then t d x e w) (wish_then t d x e w) ≡ entry_then t d (x || y) e w
-entry_twice t d e w true y = elim (cases_Bool (is_out_for t d e)) [
-  | inl h ↦ rw h (still y w)
-  | inr h ↦ rw h (kept y h)
-]
-  where
-    still : (y w : Bool) → entry_then t d y (back_to w) false ≡ back_to w
-    still true w = rw (idle t d w) refl
-    still false w = refl
-
-    kept : (y : Bool) → is_out_for t d e ≡ false → entry_then t d y e w ≡ e
-    kept true h = rw h refl
-    kept false h = refl
-entry_twice t d e w false y = refl
-
-wish_twice : (t d : ℕ) (e : Entry) (w x y : Bool) → wish_then t d y (entry_then t d x e w) (wish_then t d x e w) ≡ wish_then t d (x || y) e w
-wish_twice t d e w true y = elim (cases_Bool (is_out_for t d e)) [
-  | inl h ↦ rw h (nothing y w)
-  | inr h ↦ rw h (kept y h)
-]
-  where
-    nothing : (y w : Bool) → wish_then t d y (back_to w) false ≡ false
-    nothing true w = rw (idle t d w) refl
-    nothing false w = refl
-
-    kept : (y : Bool) → is_out_for t d e ≡ false → wish_then t d y e w ≡ w
-    kept true h = rw h refl
-    kept false h = refl
-wish_twice t d e w false y = refl
 
 module _ (t d from k s : ℕ) (a b : Pages) (is : s ≡ from + k) (so_far : BringsBack t d (record { first = from; count = k }) a b) where
   both : (j : ℕ) → within (record { first = from; count = k + 1 }) j ≡ (within (record { first = from; count = k }) j || within (one s) j)
@@ -133,20 +96,20 @@ module _ (t d from k s : ℕ) (a b : Pages) (is : s ≡ from + k) (so_far : Brin
   brings_more c next = record {
     homes = λ j. next.homes j ∙ so_far.homes j;
     entry = λ j. next.entry j
-        ∙ (λ i. entry_then t d (within (one s) j) (so_far.entry j i) (so_far.wish j i))
-        ∙ entry_twice t d (entry_at a j) (wish_at a j) (within (record { first = from; count = k }) j) (within (one s) j)
-        ∙ ap (λ x. entry_then t d x (entry_at a j) (wish_at a j)) (sym (both j));
+        ∙ (λ i. entry_then (is_out_for t d) (within (one s) j) (so_far.entry j i) (so_far.wish j i))
+        ∙ entry_twice (is_out_for t d) (idle t d) (entry_at a j) (wish_at a j) (within (record { first = from; count = k }) j) (within (one s) j)
+        ∙ ap (λ x. entry_then (is_out_for t d) x (entry_at a j) (wish_at a j)) (sym (both j));
     wish = λ j. next.wish j
-        ∙ (λ i. wish_then t d (within (one s) j) (so_far.entry j i) (so_far.wish j i))
-        ∙ wish_twice t d (entry_at a j) (wish_at a j) (within (record { first = from; count = k }) j) (within (one s) j)
-        ∙ ap (λ x. wish_then t d x (entry_at a j) (wish_at a j)) (sym (both j));
+        ∙ (λ i. wish_then (is_out_for t d) (within (one s) j) (so_far.entry j i) (so_far.wish j i))
+        ∙ wish_twice (is_out_for t d) (idle t d) (entry_at a j) (wish_at a j) (within (record { first = from; count = k }) j) (within (one s) j)
+        ∙ ap (λ x. wish_then (is_out_for t d) x (entry_at a j) (wish_at a j)) (sym (both j));
   }
 
   -- the next section is as before
   pub next_as_before : (is_out_for t d (entry_at b s) && wish_at b s) ≡ (is_out_for t d (entry_at a s) && wish_at a s)
   next_as_before =
       let out : within (record { first = from; count = k }) s ≡ false = ap (within (record { first = from; count = k })) is ∙ past in
-      (λ i. is_out_for t d ((so_far.entry s ∙ ap (λ x. entry_then t d x (entry_at a s) (wish_at a s)) out) i) && (so_far.wish s ∙ ap (λ x. wish_then t d x (entry_at a s) (wish_at a s)) out) i)
+      (λ i. is_out_for t d ((so_far.entry s ∙ ap (λ x. entry_then (is_out_for t d) x (entry_at a s) (wish_at a s)) out) i) && (so_far.wish s ∙ ap (λ x. wish_then (is_out_for t d) x (entry_at a s) (wish_at a s)) out) i)
     where
       past : within (record { first = from; count = k }) (from + k) ≡ false
       past = within_behind (record { first = from; count = k }) (from + k) (omega arith)

@@ -11,22 +11,24 @@ use rbc_book::Book;
 use rbc_hand::SectionRun;
 use rbc_line::Line;
 
+/// A train that another centre hands over to this one (3.15.1).
+#[derive(Clone, Copy, Debug, PartialEq, Eq)]
+pub struct Arrival {
+    pub nid_engine: u32,
+    /// The centre that hands it over.
+    pub from: u8,
+    /// Number of the train's track in the line file, from 0.
+    pub track: u8,
+}
+
 /// Whether each section of a hand may come to this centre with a train that another centre hands over to it (3.15.1): one of its home
 /// is in use for the train at that centre; any other is of a centre that it has a link with, and not of the next one on the track.
-pub fn may_arrive(
-    line: &Line,
-    centre: u8,
-    book: &Book,
-    nid_engine: u32,
-    from: u8,
-    track: u8,
-    hand: SectionRun,
-) -> bool
-    ensures { (k : Centre) → HasBook line.now centre k book.now → result ≡ all_of (links.may_arrive line.now centre k from nid_engine track) (run_of hand) }
+pub fn may_arrive(line: &Line, centre: u8, book: &Book, train: Arrival, hand: SectionRun) -> bool
+    ensures { (k : Centre) → HasBook line.now centre k book.now → result ≡ all_of (links.may_arrive line.now centre k train.from train.nid_engine train.track) (run_of hand) }
 {
     for k in 0..hand.count {
         let s = u32::from(hand.first) + u32::from(k);
-        if !arrives(line, centre, book, nid_engine, from, track, s) {
+        if !arrives(line, centre, book, train, s) {
             return false;
         }
     }
@@ -34,16 +36,8 @@ pub fn may_arrive(
 }
 
 // Whether the section may come so.
-fn arrives(
-    line: &Line,
-    centre: u8,
-    book: &Book,
-    nid_engine: u32,
-    from: u8,
-    track: u8,
-    s: u32,
-) -> bool
-    ensures { (k : Centre) → HasBook line.now centre k book.now → result ≡ links.may_arrive line.now centre k from nid_engine track s }
+fn arrives(line: &Line, centre: u8, book: &Book, train: Arrival, s: u32) -> bool
+    ensures { (k : Centre) → HasBook line.now centre k book.now → result ≡ links.may_arrive line.now centre k train.from train.nid_engine train.track s }
 {
     if s >= u32::from(line.section_count()) {
         return false;
@@ -51,9 +45,12 @@ fn arrives(
     match line.section(s as u16) {
         Some(section) => {
             if section.home == centre {
-                book.page(s as u16).entry.is_out_for(nid_engine, from)
+                book.page(s as u16)
+                    .entry
+                    .is_out_for(train.nid_engine, train.from)
             } else {
-                line.linked(centre, section.home) && !is_next(line, centre, track, section.home)
+                line.linked(centre, section.home)
+                    && !is_next(line, centre, train.track, section.home)
             }
         }
         None => false,

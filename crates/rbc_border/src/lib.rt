@@ -12,16 +12,14 @@ mod lending;
 mod names;
 mod question;
 mod returning;
-mod told_back;
 mod used;
 mod way;
 
-pub use arriving::may_arrive;
+pub use arriving::{Arrival, may_arrive};
 pub use border::Border;
 pub use homes::{part_at, part_of};
 pub use lending::lend;
 pub use question::Question;
 pub use returning::bring_back;
-pub use told_back::ToldBack;
 pub use used::uses_some;
 pub use way::Way;

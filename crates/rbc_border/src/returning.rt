@@ -7,8 +7,8 @@ ghost use Rattle.rbc_hand.specs.Hands.{one};
 ghost use Rattle.rbc_hand.specs.SectionRuns.{run_of};
 ghost use Rattle.rbc_border.specs.Lending.{HasBook, with_book, BringsBack, told_back, telling};
 
-use crate::told_back::ToldBack;
 use rbc_book::{Back, Book};
+use rbc_claims::Told;
 use rbc_hand::SectionRun;
 
 // Brings a section back, where it is out so. Whether the interlocking is to be told.
@@ -24,7 +24,7 @@ fn bring_one(book: &mut Book, nid_engine: u32, from: u8, s: u16) -> bool
 
 /// Sections come home that were in use for the train at another centre (profile): each of them that is out so is given back. Those that were
 /// wished back, of which the interlocking is to be told, in rising order.
-pub fn bring_back(book: &mut Book, nid_engine: u32, from: u8, run: SectionRun) -> ToldBack
+pub fn bring_back(book: &mut Book, nid_engine: u32, from: u8, run: SectionRun) -> Told
     requires most { run.count ≤ 64 }
     requires numbers { run.first + run.count ≤ 65535 }
     ensures told { result ≡ told_back nid_engine from (run_of run) book.old }
@@ -41,5 +41,5 @@ pub fn bring_back(book: &mut Book, nid_engine: u32, from: u8, run: SectionRun) -
         };
         marks = marks * 2 + mark;
     }
-    ToldBack::of(run.first, run.count, marks)
+    Told::of(run.first, run.count, marks)
 }

@@ -1,2 +1,4 @@
+pub mod Backs
 pub mod Runs
+pub mod Held
 pub mod Marks

@@ -1,6 +1,6 @@
 -- What marks say of a run of sections.
 use Rattle.std.proofs.Common.{◌≡◌, ℕ, zero, suc, ◌&&◌, Bool, ◌+◌, ◌-◌, ◌*◌, ◌/◌, ◌%◌, ◌^◌, ◌<◌, true, false, cond, eqb, List, [], ◌∷◌, ◌++◌, refl, sym, ap, ◌∙◌, arith}
-use Rattle.std.proofs.Math.Nat.{pow-le-pow_right, div-one}
+use Rattle.std.proofs.Math.Nat.{div-one}
 use Rattle.std.specs.List.{filter, range_with_len}
 use Rattle.std.proofs.lemmas.List.{append-nil}
 use Rattle.std.proofs.lemmas.List.Elements.{filter-append}
@@ -30,10 +30,6 @@ marked-more first n marks mark lt =
 
 pub mark_fits : (n marks mark : ℕ) → mark < 2 → marks < 2 ^ n → marks * 2 + mark < 2 ^ (n + 1)
 mark_fits n marks mark lt fits = rw (pow-add 2 n 1) (omega arith)
-
--- below 32 sections there is room for another
-pub mark_room : (n marks : ℕ) → n < 32 → marks < 2 ^ n → marks < 2 ^ 31
-mark_room n marks lt fits = omega (arith, pow-le-pow_right {n = 2} (omega arith) {i = n} {j = 31} (omega arith))
 
 -- ---- the marks read from the first on
 
@@ -70,7 +66,7 @@ marked-same first count k marks old new lt test so_far same =
 
 -- ---- the sections that were wished back
 
-more_in_range : (a n : ℕ) → range_with_len a (n + 1) ≡ range_with_len a n ++ (a + n) ∷ []
+pub more_in_range : (a n : ℕ) → range_with_len a (n + 1) ≡ range_with_len a n ++ (a + n) ∷ []
 more_in_range a zero = let e : a + 0 ≡ a = omega arith in rw e refl
 more_in_range a (suc n) =
     let e : a + suc n ≡ a + 1 + n = omega arith in

@@ -1,17 +1,22 @@
 -- Sections that are taken into use for a train, and given back.
-use Rattle.std.proofs.Common.{◌≡◌, ℕ, zero, suc, ◌+◌, ◌-◌, ◌<◌, ◌≤◌, ◌==◌, ◌&&◌, ◌||◌, inl, inr, Bool, true, false, cond, not, length, nat_lt, refl, ap, sym, ◌∙◌, arith}
+use Rattle.std.proofs.Common.{◌≡◌, ℕ, zero, suc, ◌+◌, ◌-◌, ◌<◌, ◌≤◌, ◌==◌, ◌&&◌, ◌||◌, inl, inr, Bool, true, false, cond, not, List, [], ◌∷◌, ◌++◌, length, take, drop, replicate, Option, Some, nat_lt, refl, ap, sym, ◌∙◌, arith, append_assoc}
 use Rattle.std.proofs.Math.Bool.{and-true, and-false}
-use Rattle.std.proofs.lemmas.Bool.{cases_Bool}
+use Rattle.std.proofs.Math.Seq.{take-length}
+use Rattle.std.proofs.lemmas.Bool.{cases_Bool, cond-true}
 use Rattle.std.proofs.lemmas.Bool.Decides.{eqb_tells, nat_tests}
-use Rattle.rbc_spec.specs.SectionRuns.{SectionRun, within, joined}
-use Rattle.rbc_spec.specs.Centre.{Entry, Shut, Open, Taken, is_open, is_taken_for}
+use Rattle.std.proofs.lemmas.List.{append-nil, length-drop, length-take-le, drop-drop, replicate-append-replicate}
+use Rattle.std.proofs.lemmas.Option.{cond_some}
+use Rattle.rbc_spec.specs.SectionRuns.{SectionRun, within, joined, is_empty}
+use Rattle.rbc_spec.specs.Centre.{Entry, Taken, is_open, is_taken_for}
 use Rattle.rbc_book.specs.Book.{Pages, is_own, entry_at, wish_at}
-use Rattle.rbc_book.specs.Claim.{section_of, claim_on, is_taken_by}
+use Rattle.rbc_book.specs.Claim.{section_of, train_of, claim_on, claim_if, is_taken_by}
 use Rattle.rbc_book.specs.declared.claim.Claim.{Claim}
+use Rattle.rbc_hand.specs.Tokens.{Held, Own}
 use Rattle.rbc_hand.specs.declared.token.Token.{Token}
 use Rattle.rbc_hand.specs.declared.token.Token.TheVariants as code
-use Rattle.rbc_hand.specs.Hands.{Holding, run, one, takes, run_without_front, run_without_back, IsAllOwn}
-use Rattle.rbc_claims.specs.Sections.{TakesRun, FreesRun}
+use Rattle.rbc_hand.specs.Hands.{Holding, run, one, takes, extended}
+use Rattle.rbc_claims.specs.Sections.{TakesRun, FreesRun, hand_rest, hand_front}
+use Rattle.rbc_claims.proofs.Backs.{back_to, entry_then, wish_then, entry_twice, wish_twice}
 
 -- ## Runs
 
@@ -70,14 +75,14 @@ takes_one t s a b free homes entry wish = record {
 }
 
 -- so many sections of a run from a first are in the hand, behind the n0 that were there
-pub record HasTaken (t from n0 k : ℕ) (hand : Holding) (old new : Pages) : Type 0 where
+pub record HasTaken (t from n0 k : ℕ) (held : List Held) (hand : Holding) (old new : Pages) : Type 0 where
   pub count : length hand.holds ≡ n0 + k
   pub begins : 0 < length hand.holds → hand.first + n0 ≡ from
-  pub own : IsAllOwn t hand
+  pub holds : hand.holds ≡ held ++ replicate k (Own t)
   pub book : TakesRun t (record { first = from; count = k }) old new
 
-pub taken_none : (t from : ℕ) (hand : Holding) (book : Pages) → IsAllOwn t hand → (0 < length hand.holds → hand.first + length hand.holds ≡ from) → HasTaken t from (length hand.holds) 0 hand book book
-taken_none t from hand book own next = record { count = omega arith; begins = next; own = own; book = takes_none t from book }
+pub taken_none : (t from : ℕ) (hand : Holding) (book : Pages) → (0 < length hand.holds → hand.first + length hand.holds ≡ from) → HasTaken t from (length hand.holds) 0 hand.holds hand book book
+taken_none t from hand book next = record { count = omega arith; begins = next; holds = sym (append-nil hand.holds); book = takes_none t from book }
 
 joined_count : (r : SectionRun) (s : ℕ) → (joined r (one s)).count ≡ r.count + 1
 joined_count r s = elim (eqb_tells r.count 0) as (λ _. (joined r (one s)).count ≡ r.count + 1) [ inl e ↦ rw (e.0, e.1) refl | inr e ↦ rw (e.0) refl ]
@@ -93,11 +98,13 @@ joined_begins r s n0 k from count begins is =
     by zero other = absurd (other refl)
     by (suc n) other = omega arith
 
-pub taken_more : (t from n0 k s : ℕ) (hand more : Holding) (a b c : Pages) → s ≡ from + k → HasTaken t from n0 k hand a b → run more ≡ joined (run hand) (one s) → IsAllOwn t more → TakesRun t (one s) b c → HasTaken t from n0 (k + 1) more a c
-taken_more t from n0 k s hand more a b c is before grown own next = record {
+pub taken_more : (t from n0 k s : ℕ) (held : List Held) (hand more : Holding) (a b c : Pages) → s ≡ from + k → HasTaken t from n0 k held hand a b → more ≡ extended hand s (Own t) → run more ≡ joined (run hand) (one s) → TakesRun t (one s) b c
+    → HasTaken t from n0 (k + 1) held more a c
+taken_more t from n0 k s held hand more a b c is before longer grown next = record {
   count = let e : length more.holds ≡ length hand.holds + 1 = ap (λ (r : SectionRun). r.count) grown ∙ joined_count (run hand) s in omega (arith, e, before.count);
   begins = λ _. ap (λ (r : SectionRun). r.first + n0) grown ∙ joined_begins (run hand) s n0 k from before.count before.begins is;
-  own = own;
+  holds = ap (λ (h : Holding). h.holds) longer ∙ ap (λ xs. xs ++ Own t ∷ []) before.holds ∙ append_assoc held (replicate k (Own t)) (Own t ∷ [])
+      ∙ ap (λ xs. held ++ xs) (replicate-append-replicate k 1 (Own t));
   book = takes_then t _ (one s) _ a b c (λ j. within_more from k j ∙ ap (λ x. within (record { first = from; count = k }) j || within (one x) j) (sym is)) before.book next;
 }
 
@@ -137,63 +144,23 @@ open_next t from k count s a b is lt all so_far =
 pub frees_none : (t first : ℕ) (book : Pages) → FreesRun t (record { first = first; count = 0 }) book book
 frees_none t first book = record { homes = λ s. refl; entry = λ s. rw (within_none first s) refl; wish = λ s. rw (within_none first s) refl }
 
-abbrev back_to : Bool → Entry
-back_to w = cond w Shut Open
-
-abbrev entry_then : ℕ → Bool → Entry → Bool → Entry
-entry_then t x e w = cond (x && is_taken_for t e) (back_to w) e
-
-abbrev wish_then : ℕ → Bool → Entry → Bool → Bool
-wish_then t x e w = not (x && is_taken_for t e) && w
-
+-- a section that was given back is in use for no train
 idle : (t : ℕ) (w : Bool) → is_taken_for t (back_to w) ≡ false
 idle t true = refl
 idle t false = refl
-
-freed_twice : (t : ℕ) (e : Entry) (w x y : Bool) → entry_then t y (entry_then t x e w) (wish_then t x e w) ≡ entry_then t (x || y) e w
-freed_twice t e w true y = elim (cases_Bool (is_taken_for t e)) [
-  | inl h ↦ rw h (still y w)
-  | inr h ↦ rw h (kept y h)
-]
-  where
-    still : (y w : Bool) → entry_then t y (back_to w) false ≡ back_to w
-    still true w = rw (idle t w) refl
-    still false w = refl
-
-    kept : (y : Bool) → is_taken_for t e ≡ false → entry_then t y e w ≡ e
-    kept true h = rw h refl
-    kept false h = refl
-freed_twice t e w false y = refl
-
-wish_twice : (t : ℕ) (e : Entry) (w x y : Bool) → wish_then t y (entry_then t x e w) (wish_then t x e w) ≡ wish_then t (x || y) e w
-wish_twice t e w true y = elim (cases_Bool (is_taken_for t e)) [
-  | inl h ↦ rw h (nothing y w)
-  | inr h ↦ rw h (kept y h)
-]
-  where
-    nothing : (y w : Bool) → wish_then t y (back_to w) false ≡ false
-    nothing true w = rw (idle t w) refl
-    nothing false w = refl
-
-    kept : (y : Bool) → is_taken_for t e ≡ false → wish_then t y e w ≡ w
-    kept true h = rw h refl
-    kept false h = refl
-wish_twice t e w false y = refl
 
 -- one run after another
 pub frees_then : (t : ℕ) (r q p : SectionRun) (a b c : Pages) → ((s : ℕ) → within p s ≡ (within r s || within q s)) → FreesRun t r a b → FreesRun t q b c → FreesRun t p a c
 frees_then t r q p a b c both first next = record {
   homes = λ s. next.homes s ∙ first.homes s;
   entry = λ s. next.entry s
-      ∙ ap (λ e. entry_then t (within q s) e (wish_at b s)) (first.entry s)
-      ∙ ap (entry_then t (within q s) (entry_then t (within r s) (entry_at a s) (wish_at a s))) (first.wish s)
-      ∙ freed_twice t (entry_at a s) (wish_at a s) (within r s) (within q s)
-      ∙ ap (λ x. entry_then t x (entry_at a s) (wish_at a s)) (sym (both s));
+      ∙ (λ i. entry_then (is_taken_for t) (within q s) (first.entry s i) (first.wish s i))
+      ∙ entry_twice (is_taken_for t) (idle t) (entry_at a s) (wish_at a s) (within r s) (within q s)
+      ∙ ap (λ x. entry_then (is_taken_for t) x (entry_at a s) (wish_at a s)) (sym (both s));
   wish = λ s. next.wish s
-      ∙ ap (λ e. wish_then t (within q s) e (wish_at b s)) (first.entry s)
-      ∙ ap (wish_then t (within q s) (entry_then t (within r s) (entry_at a s) (wish_at a s))) (first.wish s)
-      ∙ wish_twice t (entry_at a s) (wish_at a s) (within r s) (within q s)
-      ∙ ap (λ x. wish_then t x (entry_at a s) (wish_at a s)) (sym (both s));
+      ∙ (λ i. wish_then (is_taken_for t) (within q s) (first.entry s i) (first.wish s i))
+      ∙ wish_twice (is_taken_for t) (idle t) (entry_at a s) (wish_at a s) (within r s) (within q s)
+      ∙ ap (λ x. wish_then (is_taken_for t) x (entry_at a s) (wish_at a s)) (sym (both s));
 }
 
 claim_in : Token → Claim → Claim
@@ -211,11 +178,11 @@ frees_on : (t s : ℕ) (a b : Pages) → ((k : ℕ) → is_own b k ≡ is_own a 
     → FreesRun t (one s) a b
 frees_on t s a b homes entry wish = record {
   homes = homes;
-  entry = λ k. entry k ∙ elim (eqb_tells k s) as (λ _. cond (is_taken_for t (entry_at a s) && (k == s)) (back_to (wish_at a s)) (entry_at a k) ≡ entry_then t (within (one s) k) (entry_at a k) (wish_at a k)) [
+  entry = λ k. entry k ∙ elim (eqb_tells k s) as (λ _. cond (is_taken_for t (entry_at a s) && (k == s)) (back_to (wish_at a s)) (entry_at a k) ≡ entry_then (is_taken_for t) (within (one s) k) (entry_at a k) (wish_at a k)) [
     | inl e ↦ rw (within_one s k, e.0, e.1) (ap (λ x. cond x (back_to (wish_at a s)) (entry_at a s)) (and-true (is_taken_for t (entry_at a s))))
     | inr e ↦ rw (within_one s k, e.0) (ap (λ x. cond x (back_to (wish_at a s)) (entry_at a k)) (and-false (is_taken_for t (entry_at a s))))
   ];
-  wish = λ k. wish k ∙ elim (eqb_tells k s) as (λ _. cond (is_taken_for t (entry_at a s) && (k == s)) false (wish_at a k) ≡ wish_then t (within (one s) k) (entry_at a k) (wish_at a k)) [
+  wish = λ k. wish k ∙ elim (eqb_tells k s) as (λ _. cond (is_taken_for t (entry_at a s) && (k == s)) false (wish_at a k) ≡ wish_then (is_taken_for t) (within (one s) k) (entry_at a k) (wish_at a k)) [
     | inl e ↦ rw (within_one s k, e.0, e.1) (elim (is_taken_for t (entry_at a s)) as (λ x. cond (x && true) false (wish_at a s) ≡ (not x && wish_at a s)) [ true ↦ refl | false ↦ refl ])
     | inr e ↦ rw (within_one s k, e.0) (ap (λ x. cond x false (wish_at a k)) (and-false (is_taken_for t (entry_at a s))))
   ];
@@ -230,48 +197,76 @@ frees_one t s claim a b is homes entry wish = frees_on t s a b homes
     (λ k. entry k ∙ ap (λ (x : Claim). cond (is_taken_by a x && (k == section_of x)) (back_to (wish_at a (section_of x))) (entry_at a k)) is)
     (λ k. wish k ∙ ap (λ (x : Claim). cond (is_taken_by a x && (k == section_of x)) false (wish_at a k)) is)
 
-run_by : (r : SectionRun) (first count : ℕ) → r.first ≡ first → r.count ≡ count → r ≡ record { first = first; count = count }
-run_by r first count a b i = record { first = a i; count = b i }
+-- a section that is taken comes behind the last
+pub taken_in : (h new : Holding) (s t : ℕ) (b : Bool) (o : Option Claim) (claim : Claim) → o ≡ claim_if b s t → o ≡ Some claim → takes (run h) s ≡ true
+    → new ≡ cond (takes (run h) (section_of claim)) (extended h (section_of claim) (Own (train_of claim))) h → new ≡ extended h s (Own t)
+taken_in h new s t b o claim is some room came =
+    let on : claim_on s t ≡ claim = (cond_some b (claim_on s t) claim (sym is ∙ some)).1 in
+    came ∙ ap (λ (x : Claim). cond (takes (run h) (section_of x)) (extended h (section_of x) (Own (train_of x))) h) (sym on)
+    ∙ cond-true (takes (run h) s) (extended h s (Own t)) h room
 
--- so many sections at the front of the hand are given back
+hand_by : (h : Holding) (first : ℕ) (holds : List Held) → h.first ≡ first → h.holds ≡ holds → h ≡ record { first = first; holds = holds }
+hand_by h first holds a b i = record { first = a i; holds = b i }
+
+-- so many sections at the front of the hand have left
 pub record HasFreedFront (t k : ℕ) (before now : Holding) (old new : Pages) : Type 0 where
-  pub hand : run now ≡ record { first = before.first + k; count = length before.holds - k }
-  pub own : IsAllOwn t now
+  pub hand : now ≡ hand_rest k before
   pub book : FreesRun t (record { first = before.first; count = k }) old new
 
-pub freed_front_none : (t : ℕ) (hand : Holding) (book : Pages) → IsAllOwn t hand → HasFreedFront t 0 hand hand book book
-freed_front_none t hand book own = record { hand = run_by _ (hand.first + 0) (length hand.holds - 0) (omega arith) (omega arith); own = own; book = frees_none t hand.first book }
+pub freed_front_none : (t : ℕ) (hand : Holding) (book : Pages) → HasFreedFront t 0 hand hand book book
+freed_front_none t hand book = record { hand = hand_by hand (hand.first + 0) hand.holds (omega arith) refl; book = frees_none t hand.first book }
 
-pub freed_front_more : (t k : ℕ) (first now next : Holding) (a b c : Pages) → k < length first.holds → HasFreedFront t k first now a b → run next ≡ run_without_front (run now) → IsAllOwn t next → FreesRun t (one now.first) b c → HasFreedFront t (k + 1) first next a c
-freed_front_more t k first now next a b c lt so_far cut own frees =
-    let count : length now.holds ≡ length first.holds - k = ap (λ (r : SectionRun). r.count) so_far.hand in
-    let begins : now.first ≡ first.first + k = ap (λ (r : SectionRun). r.first) so_far.hand in
-    let empty : (length now.holds == 0) ≡ false = grind (arith, nat_tests) in
-    let shorter : run next ≡ record { first = now.first + 1; count = length now.holds - 1 } = cut ∙ ap (λ x. cond x (run now) (record { first = now.first + 1; count = length now.holds - 1 })) empty in
+pub freed_front_more : (t k : ℕ) (first now next : Holding) (a b c : Pages) → HasFreedFront t k first now a b → next ≡ hand_rest 1 now → FreesRun t (one now.first) b c → HasFreedFront t (k + 1) first next a c
+freed_front_more t k first now next a b c so_far cut frees =
+    let begins : now.first ≡ first.first + k = ap (λ (h : Holding). h.first) so_far.hand in
     record {
-      hand = shorter ∙ run_by _ (first.first + (k + 1)) (length first.holds - (k + 1)) (omega (arith, begins)) (omega (arith, count));
-      own = own;
+      hand = cut ∙ ap (hand_rest 1) so_far.hand ∙ hand_by (hand_rest 1 (hand_rest k first)) (first.first + (k + 1)) (drop (k + 1) first.holds) (omega arith) (drop-drop 1 k first.holds);
       book = frees_then t _ (one now.first) _ a b c (λ j. within_more first.first k j ∙ ap (λ x. within (record { first = first.first; count = k }) j || within (one x) j) (sym begins)) so_far.book frees;
     }
 
--- and at its end
+-- a hand that has not lost all its sections
+pub front_left : (k : ℕ) (first now : Holding) → now ≡ hand_rest k first → k < length first.holds → is_empty (run now) ≡ false
+front_left k first now is lt =
+    let count : length now.holds ≡ length first.holds - k = ap (λ (h : Holding). length h.holds) is ∙ length-drop k first.holds in
+    grind (arith, nat_tests)
+
+-- so many sections at its end have left
 pub record HasFreedBack (t k : ℕ) (before now : Holding) (old new : Pages) : Type 0 where
-  pub hand : run now ≡ record { first = before.first; count = length before.holds - k }
-  pub own : IsAllOwn t now
+  pub hand : now ≡ hand_front (length before.holds - k) before
   pub book : FreesRun t (record { first = before.first + (length before.holds - k); count = k }) old new
 
-pub freed_back_none : (t : ℕ) (hand : Holding) (book : Pages) → IsAllOwn t hand → HasFreedBack t 0 hand hand book book
-freed_back_none t hand book own = record { hand = run_by _ hand.first (length hand.holds - 0) refl (omega arith); own = own; book = frees_none t _ book }
+pub freed_back_none : (t : ℕ) (hand : Holding) (book : Pages) → HasFreedBack t 0 hand hand book book
+freed_back_none t hand book = record {
+  hand = hand_by hand hand.first (take (length hand.holds - 0) hand.holds) refl (sym (ap (λ n. take n hand.holds) all ∙ take-length hand.holds));
+  book = frees_none t _ book;
+}
+  where
+    all : length hand.holds - 0 ≡ length hand.holds
+    all = omega arith
 
-pub freed_back_more : (t k : ℕ) (first now next : Holding) (a b c : Pages) → k < length first.holds → HasFreedBack t k first now a b → run next ≡ run_without_back (run now) → IsAllOwn t next → FreesRun t (one (now.first + (length now.holds - 1))) b c → HasFreedBack t (k + 1) first next a c
-freed_back_more t k first now next a b c lt so_far cut own frees =
-    let count : length now.holds ≡ length first.holds - k = ap (λ (r : SectionRun). r.count) so_far.hand in
-    let begins : now.first ≡ first.first = ap (λ (r : SectionRun). r.first) so_far.hand in
+taken_twice_front : {X : Type 0} (n k : ℕ) (xs : List X) → n ≤ k → take n (take k xs) ≡ take n xs
+taken_twice_front zero k xs le = refl
+taken_twice_front (suc n) zero xs le = absurd (let no : ⊥ = omega arith in no)
+taken_twice_front (suc n) (suc k) [] le = refl
+taken_twice_front (suc n) (suc k) (x ∷ xs) le = ap (λ ys. x ∷ ys) (taken_twice_front n k xs (omega arith))
+
+back_count : (k : ℕ) (first now : Holding) → now ≡ hand_front (length first.holds - k) first → length now.holds ≡ length first.holds - k
+back_count k first now is = ap (λ (h : Holding). length h.holds) is ∙ length-take-le (length first.holds - k) first.holds (omega arith)
+
+pub back_left : (k : ℕ) (first now : Holding) → now ≡ hand_front (length first.holds - k) first → k < length first.holds → is_empty (run now) ≡ false
+back_left k first now is lt = let count = back_count k first now is in grind (arith, nat_tests)
+
+pub freed_back_more : (t k : ℕ) (first now next : Holding) (a b c : Pages) → k < length first.holds → HasFreedBack t k first now a b → next ≡ hand_front (length now.holds - 1) now → FreesRun t (one (now.first + (length now.holds - 1))) b c → HasFreedBack t (k + 1) first next a c
+freed_back_more t k first now next a b c lt so_far cut frees =
+    let count = back_count k first now so_far.hand in
+    let begins : now.first ≡ first.first = ap (λ (h : Holding). h.first) so_far.hand in
+    let kept : length now.holds - 1 ≡ length first.holds - (k + 1) = omega (arith, count) in
     let last : now.first + (length now.holds - 1) ≡ first.first + (length first.holds - (k + 1)) = omega (arith, begins, count) in
     let behind_last : first.first + (length first.holds - k) ≡ first.first + (length first.holds - (k + 1)) + 1 = omega arith in
     record {
-      hand = cut ∙ run_by _ first.first (length first.holds - (k + 1)) begins (omega (arith, count));
-      own = own;
+      hand = cut ∙ (λ i. hand_front (kept i) (so_far.hand i))
+          ∙ hand_by (hand_front (length first.holds - (k + 1)) (hand_front (length first.holds - k) first)) first.first (take (length first.holds - (k + 1)) first.holds) refl
+          (taken_twice_front (length first.holds - (k + 1)) (length first.holds - k) first.holds (omega arith));
       book = frees_then t _ (one (now.first + (length now.holds - 1))) _ a b c
           (λ j. within_before (first.first + (length first.holds - (k + 1))) k j
           ∙ ap (λ x. within (record { first = x; count = k }) j || within (one (first.first + (length first.holds - (k + 1)))) j) (sym behind_last)

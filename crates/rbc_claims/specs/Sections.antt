@@ -1,9 +1,11 @@
 -- Sections that are taken into use for a train, and given back.
-use Rattle.std.specs.Prelude.{◌≡◌, ℕ, ◌+◌, ◌-◌, Bool, true, ◌&&◌, not, List, if◌then◌else◌}
+use Rattle.std.specs.Prelude.{◌≡◌, ℕ, ◌+◌, ◌-◌, ◌==◌, Bool, true, ◌&&◌, not, List, take, drop, Some, slice_get, if◌then◌else◌}
 use Rattle.std.specs.List.{filter, range_with_len}
 use Rattle.rbc_spec.specs.SectionRuns.{SectionRun, within, behind}
 use Rattle.rbc_spec.specs.Centre.{Shut, Open, Taken, is_open, is_taken_for}
 use Rattle.rbc_book.specs.Book.{Pages, is_own, entry_at, wish_at}
+use Rattle.rbc_hand.specs.Tokens.{Held, Own, Name}
+use Rattle.rbc_hand.specs.Hands.{Holding}
 
 -- the open sections of the run are in use for the train, and nothing else changed
 pub record TakesRun (t : ℕ) (r : SectionRun) (old new : Pages) : Type 0 where
@@ -44,3 +46,26 @@ IsAllOpen r book = (s : ℕ) → within r s ≡ true → is_open (entry_at book 
 pub record IsAllTaken (t : ℕ) (r : SectionRun) (book : Pages) : Type 0 where
   pub taken : (s : ℕ) → within r s ≡ true → is_taken_for t (entry_at book s) ≡ true
   pub home : (s : ℕ) → within r s ≡ true → is_own book s ≡ true
+
+-- ## In a hand
+
+-- the hand without so many of its first sections, and with so many of them alone
+abbrev pub hand_rest : ℕ → Holding → Holding
+hand_rest count h = record { first = h.first + count; holds = drop count h.holds }
+
+abbrev pub hand_front : ℕ → Holding → Holding
+hand_front count h = record h { holds = take count h.holds }
+
+-- what is held of a section, of the home or not: a claim is for the train, and a name is of a section that is not of the home. So a
+-- section of the home is held by its claim for the train
+abbrev pub is_held_as : ℕ → Bool → Held → Bool
+is_held_as t is_home (Own u) = u == t
+is_held_as t is_home (Name u home) = not is_home
+
+-- each section of the hand is held so, where these are the sections of the home
+abbrev pub IsHeldAt : ℕ → (ℕ → Bool) → Holding → Type 0
+IsHeldAt t is_home hand = (i : ℕ) (held : Held) → slice_get hand.holds i ≡ Some held → is_held_as t (is_home (hand.first + i)) held ≡ true
+
+-- by the home of a book
+abbrev pub IsHeldBy : ℕ → Holding → Pages → Type 0
+IsHeldBy t hand book = IsHeldAt t (is_own book) hand

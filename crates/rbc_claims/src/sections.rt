@@ -1,11 +1,11 @@
-ghost use Rattle.std.specs.Prelude.{◌≡◌, ◌+◌, ◌-◌, ◌≤◌, ◌<◌, ◌==◌, ◌&&◌, ℕ, length, true, false, if◌then◌else◌};
+ghost use Rattle.std.specs.Prelude.{◌≡◌, ◌+◌, ◌-◌, ◌++◌, ◌≤◌, ◌<◌, ◌==◌, ◌&&◌, ℕ, length, replicate, true, false, if◌then◌else◌};
 ghost use Rattle.rbc_spec.specs.SectionRuns.{within, behind, is_empty, joined};
 ghost use Rattle.rbc_spec.specs.Centre.{is_open, is_taken_for};
-ghost use Rattle.rbc_book.specs.Book.{entry_at, wish_at};
+ghost use Rattle.rbc_book.specs.Book.{is_own, entry_at, wish_at};
 ghost use Rattle.rbc_hand.specs.SectionRuns.{run_of};
-ghost use Rattle.rbc_hand.specs.Tokens.{Own, token_of};
-ghost use Rattle.rbc_hand.specs.Hands.{run, one, takes, run_without_front, run_without_back, IsAllOwn};
-ghost use Rattle.rbc_claims.specs.Sections.{TakesRun, FreesRun, wished};
+ghost use Rattle.rbc_hand.specs.Tokens.{Held, Own, token_of};
+ghost use Rattle.rbc_hand.specs.Hands.{run, one, takes, extended};
+ghost use Rattle.rbc_claims.specs.Sections.{TakesRun, FreesRun, wished, hand_rest, hand_front, is_held_as, IsHeldBy};
 
 use crate::told::Told;
 use rbc_book::Book;
@@ -13,7 +13,7 @@ use rbc_hand::{Hand, SectionRun, Token};
 
 // Ends a token: a claim goes back to the book.
 fn end_token(token: Token, book: &mut Book)
-    ensures { (s t : ℕ) → token ≡ token_of s (Own t) → FreesRun t (one s) book.old book.new }
+    ensures { (s t : ℕ) (held : Held) → token ≡ token_of s held → is_held_as t (is_own book.old s) held ≡ true → FreesRun t (one s) book.old book.new }
 {
     match token {
         Token::Own(claim) => {
@@ -29,8 +29,8 @@ fn end_token(token: Token, book: &mut Book)
 fn take(hand: &mut Hand, s: u16, nid_engine: u32, book: &mut Book)
     requires room { takes (run hand.old) s ≡ true }
     requires open { is_open (entry_at book.old s) ≡ true }
+    ensures hand { hand.new ≡ extended hand.old s (Own nid_engine) }
     ensures run { run hand.new ≡ joined (run hand.old) (one s) }
-    ensures own { IsAllOwn nid_engine hand.old → IsAllOwn nid_engine hand.new }
     ensures book { TakesRun nid_engine (one s) book.old book.new }
 {
     if let Some(claim) = book.take(s, nid_engine) {
@@ -42,14 +42,14 @@ fn take(hand: &mut Hand, s: u16, nid_engine: u32, book: &mut Book)
 
 /// Takes sections into the hand, behind its last.
 pub fn take_run(hand: &mut Hand, sections: SectionRun, nid_engine: u32, book: &mut Book)
-    requires own { IsAllOwn nid_engine hand.old }
     requires room { length hand.old.holds + sections.count ≤ 32 }
     requires numbers { sections.first + sections.count ≤ 65535 }
     requires next { 0 < length hand.old.holds → hand.old.first + length hand.old.holds ≡ sections.first }
     requires open { (s : ℕ) → within (run_of sections) s ≡ true → is_open (entry_at book.old s) ≡ true }
     ensures count { length hand.new.holds ≡ length hand.old.holds + sections.count }
     ensures first { 0 < length hand.new.holds → hand.new.first + length hand.old.holds ≡ sections.first }
-    ensures own { IsAllOwn nid_engine hand.new }
+    ensures holds { hand.new.holds ≡ hand.old.holds ++ replicate sections.count (Own nid_engine) }
+    ensures held { IsHeldBy nid_engine hand.old book.old → IsHeldBy nid_engine hand.new book.new }
     ensures book { TakesRun nid_engine (run_of sections) book.old book.new }
 {
     for k in 0..sections.count {
@@ -57,12 +57,11 @@ pub fn take_run(hand: &mut Hand, sections: SectionRun, nid_engine: u32, book: &m
     }
 }
 
-// Gives the first section of the hand back.
+// The first section leaves the hand.
 fn free_first(hand: &mut Hand, nid_engine: u32, book: &mut Book)
-    requires own { IsAllOwn nid_engine hand.old }
+    requires held { IsHeldBy nid_engine hand.old book.old }
     requires some { is_empty (run hand.old) ≡ false }
-    ensures run { run hand.new ≡ run_without_front (run hand.old) }
-    ensures own { IsAllOwn nid_engine hand.new }
+    ensures hand { hand.new ≡ hand_rest 1 hand.old }
     ensures book { FreesRun nid_engine (one hand.old.first) book.old book.new }
 {
     if let Some(token) = hand.cut_front() {
@@ -70,12 +69,11 @@ fn free_first(hand: &mut Hand, nid_engine: u32, book: &mut Book)
     }
 }
 
-// Gives the last section of the hand back.
+// The last section leaves the hand.
 fn free_last(hand: &mut Hand, nid_engine: u32, book: &mut Book)
-    requires own { IsAllOwn nid_engine hand.old }
+    requires held { IsHeldBy nid_engine hand.old book.old }
     requires some { is_empty (run hand.old) ≡ false }
-    ensures run { run hand.new ≡ run_without_back (run hand.old) }
-    ensures own { IsAllOwn nid_engine hand.new }
+    ensures hand { hand.new ≡ hand_front (length hand.old.holds - 1) hand.old }
     ensures book { FreesRun nid_engine (one (hand.old.first + (length hand.old.holds - 1))) book.old book.new }
 {
     if let Some(token) = hand.cut_back() {
@@ -83,12 +81,11 @@ fn free_last(hand: &mut Hand, nid_engine: u32, book: &mut Book)
     }
 }
 
-// Gives so many of the first sections of the hand back.
+// So many of the first sections leave the hand.
 fn free_front(hand: &mut Hand, count: u16, nid_engine: u32, book: &mut Book)
-    requires own { IsAllOwn nid_engine hand.old }
+    requires held { IsHeldBy nid_engine hand.old book.old }
     requires some { count ≤ length hand.old.holds }
-    ensures run { run hand.new ≡ record { first = hand.old.first + count; count = length hand.old.holds - count } }
-    ensures own { IsAllOwn nid_engine hand.new }
+    ensures hand { hand.new ≡ hand_rest count hand.old }
     ensures book { FreesRun nid_engine (record { first = hand.old.first; count = count }) book.old book.new }
 {
     for _ in 0..count {
@@ -96,12 +93,11 @@ fn free_front(hand: &mut Hand, count: u16, nid_engine: u32, book: &mut Book)
     }
 }
 
-// Gives so many of the last sections of the hand back.
+// So many of the last sections leave the hand.
 fn free_back(hand: &mut Hand, count: u16, nid_engine: u32, book: &mut Book)
-    requires own { IsAllOwn nid_engine hand.old }
+    requires held { IsHeldBy nid_engine hand.old book.old }
     requires some { count ≤ length hand.old.holds }
-    ensures run { run hand.new ≡ record { first = hand.old.first; count = length hand.old.holds - count } }
-    ensures own { IsAllOwn nid_engine hand.new }
+    ensures hand { hand.new ≡ hand_front (length hand.old.holds - count) hand.old }
     ensures book { FreesRun nid_engine (record { first = hand.old.first + (length hand.old.holds - count); count = count }) book.old book.new }
 {
     for _ in 0..count {
@@ -135,15 +131,17 @@ fn wished(sections: SectionRun, nid_engine: u32, book: &Book) -> Told
     Told::of(sections.first, sections.count, marks)
 }
 
-/// Gives so many of the first sections of the hand back: those that were wished back, in rising order.
+/// So many of the first sections leave the hand: those of the book's home are given back, and the names of the others end. Those that were
+/// wished back, in rising order.
 pub fn clear(hand: &mut Hand, count: u16, nid_engine: u32, book: &mut Book) -> Told
-    requires own { IsAllOwn nid_engine hand.old }
+    requires held { IsHeldBy nid_engine hand.old book.old }
     requires some { count ≤ length hand.old.holds }
     requires most { length hand.old.holds ≤ 32 }
     requires numbers { hand.old.first + length hand.old.holds ≤ 65535 }
     ensures told { result ≡ wished nid_engine (record { first = hand.old.first; count = count }) book.old }
+    ensures hand { hand.new ≡ hand_rest count hand.old }
     ensures run { run hand.new ≡ record { first = hand.old.first + count; count = length hand.old.holds - count } }
-    ensures own { IsAllOwn nid_engine hand.new }
+    ensures held { IsHeldBy nid_engine hand.new book.new }
     ensures book { FreesRun nid_engine (record { first = hand.old.first; count = count }) book.old book.new }
 {
     let first = hand.run().first;
@@ -152,15 +150,17 @@ pub fn clear(hand: &mut Hand, count: u16, nid_engine: u32, book: &mut Book) -> T
     told
 }
 
-/// Gives all but so many of the first sections of the hand back: those that were wished back, in rising order.
+/// All but so many of the first sections leave the hand: those of the book's home are given back, and the names of the others end. Those
+/// that were wished back, in rising order.
 pub fn cut(hand: &mut Hand, keep: u16, nid_engine: u32, book: &mut Book) -> Told
-    requires own { IsAllOwn nid_engine hand.old }
+    requires held { IsHeldBy nid_engine hand.old book.old }
     requires some { keep ≤ length hand.old.holds }
     requires most { length hand.old.holds ≤ 32 }
     requires numbers { hand.old.first + length hand.old.holds ≤ 65535 }
     ensures told { result ≡ wished nid_engine (record { first = hand.old.first + keep; count = length hand.old.holds - keep }) book.old }
+    ensures hand { hand.new ≡ hand_front keep hand.old }
     ensures run { run hand.new ≡ record { first = hand.old.first; count = keep } }
-    ensures own { IsAllOwn nid_engine hand.new }
+    ensures held { IsHeldBy nid_engine hand.new book.new }
     ensures book { FreesRun nid_engine (record { first = hand.old.first + keep; count = length hand.old.holds - keep }) book.old book.new }
 {
     let run = hand.run();

@@ -4,12 +4,12 @@ ghost use Rattle.rbc_claims.specs.Marks.{marked};
 use arrayvec::ArrayVec;
 use std::marker::Model;
 
-/// Sections that the interlocking is to be told of, in rising order: some of at most 32 that follow one another, each by one bit.
+/// Sections that the interlocking is to be told of, in rising order: some of at most 64 that follow one another, each by one bit.
 #[derive(Debug, Drop)]
 pub struct Told {
     first: u16,
     count: u16,
-    marks: u32,
+    marks: u64,
 }
 
 impl Model for Told {
@@ -20,7 +20,7 @@ impl Model for Told {
 
     ghost view = { λ t. marked t.first t.count t.marks };
 
-    ghost invariant = { λ t. (t.count ≤ 32) × (t.first + t.count ≤ 65535) × (t.marks < 2 ^ t.count) };
+    ghost invariant = { λ t. (t.count ≤ 64) × (t.first + t.count ≤ 65535) × (t.marks < 2 ^ t.count) };
 }
 
 impl Told {
@@ -36,9 +36,9 @@ impl Told {
         }
     }
 
-    /// The marked ones of so many sections from the first on.
-    pub(crate) fn of(first: u16, count: u16, marks: u32) -> Told
-        requires few { count ≤ 32 }
+    /// The marked ones of so many sections from the first on: the lowest bit is the last section's.
+    pub fn of(first: u16, count: u16, marks: u64) -> Told
+        requires few { count ≤ 64 }
         requires numbers { first + count ≤ 65535 }
         requires fits { marks < 2 ^ count }
         ensures { result ≡ marked first count marks }
@@ -62,7 +62,7 @@ impl Told {
     }
 
     /// The sections.
-    pub fn sections(&self) -> ArrayVec<u16, 32>
+    pub fn sections(&self) -> ArrayVec<u16, 64>
         ensures { result.items ≡ self.now }
     {
         let (first, count, marks) = (self.first, self.count, self.marks);

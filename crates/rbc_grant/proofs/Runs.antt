@@ -47,11 +47,11 @@ at_most : (x y : ℕ) → nat_le x y ≡ true → x ≤ y
 at_most x y h = grind (arith, nat_tests)
 
 -- where each section that follows may follow, the hand's end has room in L_ENDSECTION as before
-pub has_room : (line : Line) (book : Pages) (place : Place) (hand : SectionRun) (n : ℕ) → ((k : ℕ) → k < n → may_follow line book place (behind hand + k) ≡ true) → may_request line hand place ≡ true
+pub has_room : (line : Line) (book : Pages) (pool : SectionRun) (place : Place) (hand : SectionRun) (n : ℕ) → ((k : ℕ) → k < n → may_follow line book pool place (behind hand + k) ≡ true) → may_request line hand place ≡ true
     → end line (behind hand + n - 1) ≤ group_start line place + 32767
-has_room line book place hand zero each asked =
+has_room line book pool place hand zero each asked =
     let at : behind hand + 0 - 1 ≡ behind hand - 1 = omega arith in
     at_most _ (group_start line place + 32767) (ap (λ s. nat_le (end line s) (group_start line place + 32767)) at ∙ last_holds _ _ asked)
-has_room line book place hand (suc n) each asked =
+has_room line book pool place hand (suc n) each asked =
     let at : behind hand + suc n - 1 ≡ behind hand + n = omega arith in
     at_most _ (group_start line place + 32767) (ap (λ s. nat_le (end line s) (group_start line place + 32767)) at ∙ last_holds _ _ (each n (omega arith)))

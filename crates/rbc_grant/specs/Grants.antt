@@ -1,6 +1,6 @@
--- What a request for a movement authority may be given (3.8), where no pool of another centre's sections stands.
-use Rattle.std.specs.Prelude.{ℕ, ◌+◌, ◌-◌, ◌*◌, Bool, ◌&&◌, nat_le}
-use Rattle.rbc_spec.specs.SectionRuns.{SectionRun, behind}
+-- What a request for a movement authority may be given (3.8).
+use Rattle.std.specs.Prelude.{ℕ, ◌+◌, ◌-◌, ◌*◌, Bool, ◌&&◌, ◌||◌, nat_le}
+use Rattle.rbc_spec.specs.SectionRuns.{SectionRun, behind, within}
 use Rattle.rbc_spec.specs.Line.{Line, end}
 use Rattle.rbc_spec.specs.Sections.{is_on}
 use Rattle.rbc_spec.specs.Centre.{is_open}
@@ -12,7 +12,7 @@ abbrev pub may_request : Line → SectionRun → Place → Bool
 may_request line hand place =
     nat_le place.front (10 * end line (behind hand - 1)) && nat_le (end line (behind hand - 1)) (group_start line place + 32767)
 
--- the section may follow in the hand: on the track, open in this book, and its end has room in L_ENDSECTION
-abbrev pub may_follow : Line → Pages → Place → ℕ → Bool
-may_follow line book place s =
-    (is_on line place.track s && is_open (entry_at book s)) && nat_le (end line s) (group_start line place + 32767)
+-- the section may follow in the hand: on the track, open in this book or of the pool, and its end has room in L_ENDSECTION
+abbrev pub may_follow : Line → Pages → SectionRun → Place → ℕ → Bool
+may_follow line book pool place s =
+    (is_on line place.track s && (is_open (entry_at book s) || within pool s)) && nat_le (end line s) (group_start line place + 32767)

@@ -1,5 +1,7 @@
-ghost use Rattle.std.specs.Prelude.{◌≡◌, ◌-◌, ◌≤◌};
-ghost use Rattle.rbc_spec.specs.SectionRuns.{behind, longest};
+ghost use Rattle.std.specs.Prelude.{◌≡◌, ◌-◌, ◌≤◌, ◌||◌};
+ghost use Rattle.rbc_spec.specs.SectionRuns.{behind, longest, within};
+ghost use Rattle.rbc_spec.specs.Centre.{is_open};
+ghost use Rattle.rbc_book.specs.Book.{entry_at};
 ghost use Rattle.rbc_hand.specs.SectionRuns.{run_of};
 ghost use Rattle.rbc_place.specs.Places.{place_of};
 ghost use Rattle.rbc_grant.specs.Grants as grants;
@@ -13,28 +15,41 @@ use rbc_place::{Place, group_start, is_on, section_end};
 pub(crate) const MOST_METRES: u32 = 32_767;
 
 /// How many sections follow the hand, one after another, with at most 32 in the hand.
-pub(crate) fn following(line: &Line, book: &Book, hand: SectionRun, place: &Place) -> u16
-    ensures value { result ≡ longest (grants.may_follow line.now book.now (place_of place.now)) (behind (run_of hand)) (32 - hand.count) }
+pub(crate) fn following(
+    line: &Line,
+    book: &Book,
+    pool: SectionRun,
+    hand: SectionRun,
+    place: &Place,
+) -> u16
+    ensures value { result ≡ longest (grants.may_follow line.now book.now (run_of pool) (place_of place.now)) (behind (run_of hand)) (32 - hand.count) }
     ensures bound { result ≤ 32 - hand.count }
 {
     let room = Hand::ROOM.saturating_sub(hand.count);
     for k in 0..room {
-        if !may_follow(line, book, place, hand.behind() + u32::from(k)) {
+        if !may_follow(line, book, pool, place, hand.behind() + u32::from(k)) {
             return k;
         }
     }
     room
 }
 
-/// Whether the section may follow in the hand of a train at this place: on its track, open in this book, and its end not too
-/// far from the group.
-fn may_follow(line: &Line, book: &Book, place: &Place, s: u32) -> bool
-    ensures { result ≡ grants.may_follow line.now book.now (place_of place.now) s }
+// Whether the section may follow in the hand of a train at this place: on its track, open in this book or of the pool, and its end not
+// too far from the group.
+fn may_follow(line: &Line, book: &Book, pool: SectionRun, place: &Place, s: u32) -> bool
+    ensures { result ≡ grants.may_follow line.now book.now (run_of pool) (place_of place.now) s }
 {
     if s >= u32::from(line.section_count()) {
         return false;
     }
     is_on(line, place.track, s)
-        && book.page(s as u16).entry.is_open()
+        && is_free(book, pool, s as u16)
         && section_end(line, s) <= group_start(line, place) + MOST_METRES
+}
+
+// Whether the section is open in this book, or of the pool.
+fn is_free(book: &Book, pool: SectionRun, s: u16) -> bool
+    ensures { result ≡ (is_open (entry_at book.now s) || within (run_of pool) s) }
+{
+    book.page(s).entry.is_open() || pool.contains(s)
 }

@@ -39,20 +39,26 @@ pub fn may_request(line: &Line, hand: SectionRun, place: &Place) -> bool
 }
 
 /// The answer to a request (message 132 answered by message 3): the hand is extended by the longest run of sections that
-/// follow it on the train's track, each open in this centre's book, with at most 32 sections in the hand and an end at most
-/// 32 767 metres past the balise group of the place.
-pub fn answer_request(line: &Line, book: &Book, hand: SectionRun, place: &Place) -> Grant
-    ensures sections { result.sections ≡ longest (grants.may_follow line.now book.now (place_of place.now)) (behind (run_of hand)) (32 - hand.count) }
+/// follow it on the train's track, each open in this centre's book or of the train's pool, with at most 32 sections in the hand and
+/// an end at most 32 767 metres past the balise group of the place.
+pub fn answer_request(
+    line: &Line,
+    book: &Book,
+    pool: SectionRun,
+    hand: SectionRun,
+    place: &Place,
+) -> Grant
+    ensures sections { result.sections ≡ longest (grants.may_follow line.now book.now (run_of pool) (place_of place.now)) (behind (run_of hand)) (32 - hand.count) }
     // No more than there is room for.
     ensures room { result.sections ≤ 32 - hand.count }
     // Each of them may follow.
-    ensures each { (k : ℕ) → k < result.sections → grants.may_follow line.now book.now (place_of place.now) (behind (run_of hand) + k) ≡ true }
+    ensures each { (k : ℕ) → k < result.sections → grants.may_follow line.now book.now (run_of pool) (place_of place.now) (behind (run_of hand) + k) ≡ true }
     ensures end { result.end ≡ end line.now (behind (run_of hand) + result.sections - 1) - spec.group_start line.now (place_of place.now) }
     ensures line { IsLine line.now }
     // L_ENDSECTION has room for it, where the request may be answered.
     ensures fits { grants.may_request line.now (run_of hand) (place_of place.now) ≡ true → result.end ≤ 32767 }
 {
-    let sections = following(line, book, hand, place);
+    let sections = following(line, book, pool, hand, place);
     let last = (hand.behind() + u32::from(sections)).saturating_sub(1);
     Grant {
         sections,

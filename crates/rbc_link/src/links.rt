@@ -72,6 +72,17 @@ impl<B> Links<B> {
         }
     }
 
+    /// How many frames were sent to this centre.
+    #[tactic(auto, unfolding(crate::specs::Links::sent_to))]
+    pub fn sent(&self, to: u8) -> u32
+        ensures { result ≡ length (sent_to self.now to) }
+    {
+        match self.links.get(to as usize) {
+            Some(link) => link.outbox.count(),
+            None => 0,
+        }
+    }
+
     /// The frame of this number that was sent to a centre. None exactly for 0 and for a number that was not sent yet.
     #[tactic(auto, unfolding(crate::specs::Links::sent_to))]
     pub fn get(&self, to: u8, number: u32) -> Option<&Sent<B>>

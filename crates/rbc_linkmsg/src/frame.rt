@@ -29,6 +29,13 @@ impl Model for Frame {
     ghost inverse_ok = { frame_back };
 }
 
+impl Default for Frame {
+    /// What fills the places of a row of frames that are not in use.
+    fn default() -> Frame {
+        Frame::new(1, 1, Body::AskRight { engine: 0 })
+    }
+}
+
 impl Frame {
     /// A frame of this number on its link, counted from 1, with the stamp of its step.
     pub fn new(number: u32, stamp: u32, body: Body) -> Frame

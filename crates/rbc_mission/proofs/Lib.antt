@@ -1,1 +1,3 @@
 pub mod Missions
+pub mod Borders
+pub mod Grows

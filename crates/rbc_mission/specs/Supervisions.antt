@@ -1,48 +1,62 @@
 -- What a centre has of a train's mission, in memory and by the rules.
-use Rattle.std.specs.Prelude.{◌≡◌, ℕ, ◌+◌, ◌==◌, ◌≤◌, ◌&&◌, false, if◌then◌else◌, length, Option, Some, None, option_map, is_some, is_none}
+use Rattle.std.specs.Prelude.{◌≡◌, ℕ, ◌+◌, ◌==◌, ◌≤◌, ◌<◌, ◌&&◌, true, false, if◌then◌else◌, length, replicate, Option, Some, None, option_map, is_some, is_none}
 use Rattle.std.specs.Option.{option_map_or}
+use Rattle.rbc_spec.specs.Maps.{put}
 use Rattle.rbc_spec.specs.Place.{Place}
-use Rattle.rbc_spec.specs.SectionRuns.{SectionRun, no_run, behind, is_empty}
+use Rattle.rbc_spec.specs.SectionRuns.{SectionRun, no_run, within, behind, is_empty, joined, part_before}
 use Rattle.rbc_spec.specs.Centre as spec
+use Rattle.rbc_spec.specs.Centre.{is_open}
 use Rattle.rbc_spec.specs.Rules.{extended_by}
-use Rattle.rbc_hand.specs.Hands.{Holding, run, IsAllOwn}
+use Rattle.rbc_hand.specs.Tokens.{Own}
+use Rattle.rbc_hand.specs.Hands.{Holding, run, nothing}
 use Rattle.rbc_right.specs.Rights.{right_of}
 use Rattle.rbc_place.specs.Places.{place_of}
 use Rattle.rbc_shorten.specs.Facts.{standing_of}
-use Rattle.rbc_book.specs.Book.{Pages}
-use Rattle.rbc_claims.specs.Sections.{front_of, rest_of, next_of, IsAllOpen}
+use Rattle.rbc_book.specs.Book.{Pages, is_own, entry_at}
+use Rattle.rbc_claims.specs.Sections.{front_of, rest_of, next_of}
+use Rattle.rbc_border.specs.Border.{BorderState}
 use Rattle.rbc_mission.specs.declared.facts.MissionFacts.{MissionFacts}
 use Rattle.rbc_mission.specs.declared.held.HeldRight.{HeldRight}
 use Rattle.rbc_mission.specs.declared.held.HeldRight.TheVariants.{Nothing, Held}
 
--- a train of the line, by its place in the line file and its NID_ENGINE, and its mission where one stands
+-- a train of the line, by its place in the line file and its NID_ENGINE; its mission where one stands, what is held of the sections of its
+-- hand, and the first section that was asked for over the border, of a question without an answer. The question may outlive the mission
 pub record SupervisionState : Type 0 where
   pub number : ℕ
   pub engine : ℕ
   pub mission : Option spec.Mission
+  pub hand : Holding
+  pub asked : Option ℕ
 
--- the facts and the sections of a mission that no other centre has a part in
-abbrev pub mission_of : SectionRun → MissionFacts → spec.Mission
-mission_of hand m = record {
+-- a train without a mission, for which nothing is held and nothing is asked
+abbrev pub no_mission : ℕ → ℕ → SupervisionState
+no_mission number t = record { number = number; engine = t; mission = None; hand = nothing; asked = None }
+
+-- the facts, the hand and the pool of a mission that is not handed over
+abbrev pub mission_of : SectionRun → SectionRun → MissionFacts → spec.Mission
+mission_of hand pool m = record {
   place = place_of m.place;
   hand = hand;
-  pool = no_run;
+  pool = pool;
   has_data = m.has_data;
   is_ended = m.is_ended;
   proposal = standing_of m.proposal;
   handing = None;
 }
 
--- the sections of its movement authority, none where no mission stands
+-- the sections of its movement authority, and those of its pool; none where no mission stands
 abbrev pub hand_of : SupervisionState → SectionRun
 hand_of c = option_map_or (λ m. m.hand) c.mission no_run
 
+abbrev pub pool_of : SupervisionState → SectionRun
+pool_of c = option_map_or (λ m. m.pool) c.mission no_run
+
 -- what holds of each mission that stands so
-pub record HasLocalForm (m : spec.Mission) : Type 0 where
+pub record HasRouteForm (m : spec.Mission) : Type 0 where
   pub some : 1 ≤ m.hand.count
   pub most : m.hand.count ≤ 32
   pub numbers : behind m.hand ≤ 65535
-  pub pool : m.pool ≡ no_run
+  pub few : m.pool.count ≤ 31
   pub handing : m.handing ≡ None
 
 -- ## What is done to it
@@ -51,15 +65,19 @@ pub record HasLocalForm (m : spec.Mission) : Type 0 where
 abbrev pub mission_at : Place → SectionRun → spec.Mission
 mission_at place hand = record { place = place; hand = hand; pool = no_run; has_data = false; is_ended = false; proposal = None; handing = None }
 
+-- a hand of claims for the train on these sections
+abbrev pub claims_on : ℕ → SectionRun → Holding
+claims_on t r = record { first = r.first; holds = replicate r.count (Own t) }
+
 -- the mission without so many of its first sections, at this place; none where no section is left
 abbrev pub without_front : Place → ℕ → spec.Mission → Option spec.Mission
 without_front place count m = if count == m.hand.count then None else Some (record m { place = place; hand = rest_of count m.hand })
 
--- the mission with so many of its first sections alone, and no request; none where no section is left
+-- the mission with so many of its first sections alone, and neither pool nor request; none where no section is left
 abbrev pub with_front : ℕ → spec.Mission → Option spec.Mission
-with_front count m = if count == 0 then None else Some (record m { hand = front_of count m.hand; proposal = None })
+with_front count m = if count == 0 then None else Some (record m { hand = front_of count m.hand; pool = no_run; proposal = None })
 
--- the mission at this place, with so many sections behind its hand
+-- the mission at this place, with so many sections behind its hand: first those of its pool
 abbrev pub with_next : Place → ℕ → spec.Mission → spec.Mission
 with_next place count m = extended_by (next_of count m.hand) (record m { place = place })
 
@@ -67,30 +85,63 @@ with_next place count m = extended_by (next_of count m.hand) (record m { place =
 abbrev pub next_sections : ℕ → SupervisionState → SectionRun
 next_sections count c = option_map_or (λ m. next_of count m.hand) c.mission no_run
 
+-- so many sections behind the hand of a mission may be added to it: the pool follows the hand and has no section of the book's home, and
+-- each that is not of the pool is open
+pub record MayGrow (m : spec.Mission) (count : ℕ) (book : Pages) : Type 0 where
+  pub most : m.hand.count + count ≤ 32
+  pub numbers : behind m.hand + count ≤ 65535
+  pub follows : 0 < m.pool.count → behind m.hand ≡ m.pool.first
+  pub away : (s : ℕ) → within m.pool s ≡ true → is_own book s ≡ false
+  pub free : (s : ℕ) → within (next_of count m.hand) s ≡ true → within m.pool s ≡ false → is_open (entry_at book s) ≡ true
+
+-- what leaves where so many of the first sections are cleared: with the last section of the hand the pool goes
+abbrev pub cleared_run : ℕ → SupervisionState → SectionRun
+cleared_run count c = if count == (hand_of c).count then joined (hand_of c) (pool_of c) else front_of count (hand_of c)
+
+-- what leaves where so many of the first sections are kept: the pool goes with what is cut off
+abbrev pub cut_run : ℕ → SupervisionState → SectionRun
+cut_run keep c = joined (rest_of keep (hand_of c)) (pool_of c)
+
 -- the right of the train is given back where its mission has closed
 abbrev pub right_left : SupervisionState → SupervisionState → HeldRight
 right_left old new = if is_some old.mission && is_none new.mission then Held (right_of old.number) else Nothing
 
+-- with another pool, where a mission stands
+abbrev pub with_pool : SectionRun → SupervisionState → SupervisionState
+with_pool pool c = record c { mission = option_map (λ (m : spec.Mission). record m { pool = pool }) c.mission }
+
+-- without the sections of the pool from this one on
+abbrev pub without_section : ℕ → SupervisionState → SupervisionState
+without_section s c = if within (pool_of c) s then with_pool (part_before s (pool_of c)) c else c
+
+-- ## A centre that has it
+
+-- the centre has this mission of the train, and this question
+pub record HasSupervision (k : spec.Centre) (c : SupervisionState) : Type 0 where
+  pub has_mission : k.mission c.engine ≡ c.mission
+  pub has_question : k.route_ask c.engine ≡ c.asked
+
+-- the centre with this mission of the train, and this question
+abbrev pub with_supervision : SupervisionState → spec.Centre → spec.Centre
+with_supervision c k = record k { mission = put k.mission c.engine c.mission; route_ask = put k.route_ask c.engine c.asked }
+
 -- ## In memory
 
-abbrev pub supervision_state : ℕ → ℕ → Option MissionFacts → Holding → SupervisionState
-supervision_state number engine mission hand = record { number = number; engine = engine; mission = option_map (mission_of (run hand)) mission }
+abbrev pub supervision_state : ℕ → ℕ → Option MissionFacts → Holding → BorderState → SupervisionState
+supervision_state number engine mission hand border =
+    record { number = number; engine = engine; mission = option_map (mission_of (run hand) border.pool) mission; hand = hand; asked = border.asked }
 
 -- the right is held exactly where a mission stands
 abbrev pub held_for : ℕ → Option MissionFacts → HeldRight
 held_for number None = Nothing
 held_for number (Some m) = Held (right_of number)
 
--- and so are sections, each by a claim for the train
-pub record IsSupervision (number engine : ℕ) (mission : Option MissionFacts) (hand : Holding) (held : HeldRight) : Type 0 where
-  pub own : IsAllOwn engine hand
+-- and so are sections; the border is that of the train, with a pool where a mission stands alone
+pub record IsSupervision (number engine : ℕ) (mission : Option MissionFacts) (hand : Holding) (held : HeldRight) (border : BorderState) : Type 0 where
   pub right : held ≡ held_for number mission
   pub some : is_empty (run hand) ≡ is_none mission
   pub most : length hand.holds ≤ 32
   pub numbers : hand.first + length hand.holds ≤ 65535
-
--- so many sections behind the hand of the mission, where one stands, may be added to it
-pub record MayGrow (m : spec.Mission) (count : ℕ) (book : Pages) : Type 0 where
-  pub most : m.hand.count + count ≤ 32
-  pub numbers : behind m.hand + count ≤ 65535
-  pub free : IsAllOpen (next_of count m.hand) book
+  pub train : border.engine ≡ engine
+  pub none : mission ≡ None → border.pool ≡ no_run
+  pub few : border.pool.count ≤ 31

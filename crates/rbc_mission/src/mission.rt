@@ -1,4 +1,4 @@
-ghost use Rattle.std.specs.Prelude.{◌≡◌, ◌≤◌, ◌+◌, Some, None, option_map, option_and_then, is_some, true, false};
+ghost use Rattle.std.specs.Prelude.{◌≡◌, ◌≤◌, ◌+◌, ℕ, Bool, Some, None, option_map, option_and_then, is_some, true, false};
 ghost use Rattle.rbc_spec.specs.Centre as spec;
 ghost use Rattle.rbc_right.specs.Rights.{right_of};
 ghost use Rattle.rbc_wait.specs.Waits.{nothing_waits};
@@ -8,7 +8,7 @@ ghost use Rattle.rbc_shorten.specs.Facts.{proposal_of};
 
 use crate::facts::MissionFacts;
 use crate::held;
-use crate::released::Released;
+use crate::released::{Released, leaving};
 use crate::supervision::Supervision;
 use rbc_book::Book;
 use rbc_hand::SectionRun;
@@ -18,8 +18,8 @@ use rbc_shorten::Proposal;
 use rbc_wait::WaitingStart;
 
 impl Supervision {
-    ghost use Rattle.rbc_mission.specs.Supervisions.{hand_of, mission_at, with_next, next_sections, without_front, with_front, right_left, MayGrow};
-    ghost use Rattle.rbc_claims.specs.Sections.{TakesRun, FreesRun, wished, front_of, rest_of, IsAllOpen};
+    ghost use Rattle.rbc_mission.specs.Supervisions.{hand_of, mission_at, claims_on, with_next, next_sections, without_front, with_front, cleared_run, cut_run, right_left, MayGrow};
+    ghost use Rattle.rbc_claims.specs.Sections.{TakesRun, FreesRun, wished, front_of, rest_of, hand_rest, hand_front, IsAllOpen, IsHeldAt, IsHeldBy};
 
     /// A mission begins at this place, with these sections, which are open, and with the right to supervise the train.
     pub fn begin(&mut self, place: Place, sections: SectionRun, book: &mut Book, right: Right)
@@ -29,7 +29,8 @@ impl Supervision {
         requires numbers { sections.first + sections.count ≤ 65535 }
         requires open { IsAllOpen (run_of sections) book.old }
         requires right { right ≡ right_of self.old.number }
-        ensures supervision { self.new ≡ record self.old { mission = Some (mission_at (place_of place) (run_of sections)) } }
+        ensures supervision { self.new ≡ record self.old { mission = Some (mission_at (place_of place) (run_of sections)); hand = claims_on self.old.engine (run_of sections) } }
+        ensures held { (is_home : ℕ → Bool) → IsHeldAt self.old.engine is_home self.new.hand }
         ensures book { TakesRun self.old.engine (run_of sections) book.old book.new }
     {
         rbc_claims::take_run(&mut self.hand, sections, self.nid_engine, book);
@@ -43,7 +44,8 @@ impl Supervision {
         requires waits { is_some waiting.old.wait ≡ true }
         requires engine { waiting.old.engine ≡ self.old.engine }
         requires right { right ≡ right_of self.old.number }
-        ensures supervision { self.new ≡ record self.old { mission = option_map (λ place. mission_at place waiting.old.sections) waiting.old.wait } }
+        ensures supervision { self.new ≡ record self.old { mission = option_map (λ place. mission_at place waiting.old.sections) waiting.old.wait; hand = claims_on self.old.engine waiting.old.sections } }
+        ensures held { (is_home : ℕ → Bool) → IsHeldAt self.old.engine is_home self.new.hand }
         ensures waits { waiting.new ≡ nothing_waits waiting.old.engine false }
     {
         held::hold(&mut self.right, right);
@@ -110,48 +112,68 @@ impl Supervision {
         }
     }
 
-    /// The train is at this place, and so many sections behind its last are added, which are open.
+    /// The train is at this place, and so many sections come behind its last: first those of its pool, and then open ones.
     pub fn lengthen(&mut self, place: Place, count: u16, book: &mut Book)
         requires { (m : spec.Mission) → self.old.mission ≡ Some m → MayGrow m count book.old }
-        ensures supervision { self.new ≡ record self.old { mission = option_map (with_next (place_of place) count) self.old.mission } }
+        ensures supervision { self.new ≡ record self.old { mission = option_map (with_next (place_of place) count) self.old.mission; hand = self.new.hand } }
+        ensures held { IsHeldBy self.old.engine self.old.hand book.old → IsHeldBy self.old.engine self.new.hand book.new }
         ensures book { TakesRun self.old.engine (next_sections count self.old) book.old book.new }
     {
         if let Some(mission) = self.mission {
-            let next = rbc_claims::behind(self.hand.run(), count);
+            let fed = self.border.feed(count, &mut self.hand);
+            let next = rbc_claims::behind(self.hand.run(), count - fed);
             rbc_claims::take_run(&mut self.hand, next, self.nid_engine, book);
             self.mission = Some(MissionFacts { place, ..mission });
         }
     }
 
-    /// The train is at this place, and so many of its first sections are given back. Where no section is left the mission closes.
+    /// The train is at this place, and so many of its first sections leave. Where no section is left the mission closes, and its pool
+    /// leaves too.
     pub fn clear_front(&mut self, place: Place, count: u16, book: &mut Book) -> Released
         requires some { count ≤ (hand_of self.old).count }
-        ensures supervision { self.new ≡ record self.old { mission = option_and_then (without_front (place_of place) count) self.old.mission } }
+        requires held { IsHeldBy self.old.engine self.old.hand book.old }
+        ensures supervision { self.new ≡ record self.old { mission = option_and_then (without_front (place_of place) count) self.old.mission; hand = hand_rest count self.old.hand } }
+        ensures held { IsHeldBy self.old.engine self.new.hand book.new }
         ensures book { FreesRun self.old.engine (front_of count (hand_of self.old)) book.old book.new }
         ensures told { result.told ≡ wished self.old.engine (front_of count (hand_of self.old)) book.old }
         ensures right { result.right ≡ right_left self.old self.new }
+        ensures returned { run_of result.returned ≡ cleared_run count self.old }
     {
         let Some(mission) = self.mission else {
             return Released::nothing();
         };
+        let first = self.hand.run().first;
         let told = rbc_claims::clear(&mut self.hand, count, self.nid_engine, book);
         let is_left = !self.hand.is_empty();
         self.mission = MissionFacts { place, ..mission }.stay(is_left);
         let right = held::let_go(&mut self.right, is_left);
-        Released { told, right }
+        let returned = leaving(SectionRun { first, count }, &mut self.border, is_left);
+        Released {
+            told,
+            right,
+            returned,
+        }
     }
 
-    /// All but so many of the first sections are given back (3.8.6), and no request to shorten stands. Where no section is left the
-    /// mission closes.
+    /// All but so many of the first sections leave (3.8.6), and so does the pool; no request to shorten stands. Where no section is left
+    /// the mission closes.
     pub fn shorten(&mut self, keep: u16, book: &mut Book) -> Released
         requires some { keep ≤ (hand_of self.old).count }
-        ensures supervision { self.new ≡ record self.old { mission = option_and_then (with_front keep) self.old.mission } }
+        requires held { IsHeldBy self.old.engine self.old.hand book.old }
+        ensures supervision { self.new ≡ record self.old { mission = option_and_then (with_front keep) self.old.mission; hand = hand_front keep self.old.hand } }
+        ensures held { IsHeldBy self.old.engine self.new.hand book.new }
         ensures book { FreesRun self.old.engine (rest_of keep (hand_of self.old)) book.old book.new }
         ensures told { result.told ≡ wished self.old.engine (rest_of keep (hand_of self.old)) book.old }
         ensures right { result.right ≡ right_left self.old self.new }
+        ensures returned { run_of result.returned ≡ cut_run keep self.old }
     {
         let Some(mission) = self.mission else {
             return Released::nothing();
+        };
+        let run = self.hand.run();
+        let tail = SectionRun {
+            first: run.first + keep,
+            count: run.count - keep,
         };
         let told = rbc_claims::cut(&mut self.hand, keep, self.nid_engine, book);
         let facts = MissionFacts {
@@ -161,6 +183,11 @@ impl Supervision {
         let is_left = !self.hand.is_empty();
         self.mission = facts.stay(is_left);
         let right = held::let_go(&mut self.right, is_left);
-        Released { told, right }
+        let returned = leaving(tail, &mut self.border, false);
+        Released {
+            told,
+            right,
+            returned,
+        }
     }
 }

@@ -1,17 +1,19 @@
-ghost use Rattle.std.specs.Prelude.{◌≡◌, Some, None, option_map, IfOk};
+ghost use Rattle.std.specs.Prelude.{◌≡◌, ◌≤◌, Some, None, option_map, IfOk};
 ghost use Rattle.rbc_spec.specs.Centre as spec;
 ghost use Rattle.rbc_hand.specs.SectionRuns.{run_of};
 
 use crate::facts::MissionFacts;
 use crate::held::HeldRight;
 use rbc_book::Book;
+use rbc_border::Border;
 use rbc_hand::{Hand, SectionRun};
 use std::alloc::{AllocError, Global};
 use std::marker::Model;
 
-/// What a centre supervises of one train of the line: its mission (the facts, the sections of its movement authority and the
-/// right to supervise it), or that no mission stands. Room for 32 sections is made at the beginning, and no call takes memory after
-/// that. It can't be copied, and not be dropped: its sections go back to the book, and its right to the registrar.
+/// What a centre supervises of one train of the line: its mission (the facts, the sections of its movement authority, those of its pool
+/// and the right to supervise it), or that no mission stands; and whether sections were asked for over the border without an answer.
+/// Room for 32 sections of the hand and for the pool is made at the beginning, and no call takes memory after that. It can't be
+/// copied, and not be dropped: its sections go back to the book or home, and its right to the registrar.
 #[must_use]
 #[derive(Debug)]
 pub struct Supervision {
@@ -21,6 +23,7 @@ pub struct Supervision {
     pub(crate) mission: Option<MissionFacts>,
     pub(crate) hand: Hand,
     pub(crate) right: HeldRight,
+    pub(crate) border: Border,
 }
 
 impl Model for Supervision {
@@ -28,26 +31,33 @@ impl Model for Supervision {
 
     ghost Value = { SupervisionState };
 
-    ghost view = { λ c. supervision_state c.number c.nid_engine c.mission c.hand };
+    ghost view = { λ c. supervision_state c.number c.nid_engine c.mission c.hand c.border };
 
-    ghost invariant = { λ c. IsSupervision c.number c.nid_engine c.mission c.hand c.right };
+    ghost invariant = { λ c. IsSupervision c.number c.nid_engine c.mission c.hand c.right c.border };
 }
 
 impl Supervision {
-    ghost use Rattle.rbc_mission.specs.Supervisions.{mission_of, hand_of, HasLocalForm};
+    ghost use Rattle.rbc_mission.specs.Supervisions.{no_mission, mission_of, hand_of, pool_of, HasRouteForm};
 
     /// A train with this place in the line file and this NID_ENGINE, without a mission.
     pub fn new(alloc: Global, number: u8, nid_engine: u32) -> Result<Supervision, AllocError>
-        ensures { IfOk result (λ c. c ≡ record { number = number; engine = nid_engine; mission = None }) }
+        ensures { IfOk result (λ c. c ≡ no_mission number nid_engine) }
     {
         let hand = Hand::new(alloc)?;
-        Ok(Supervision {
-            number,
-            nid_engine,
-            mission: None,
-            hand,
-            right: HeldRight::Nothing,
-        })
+        match Border::new(alloc, nid_engine) {
+            Ok(border) => Ok(Supervision {
+                number,
+                nid_engine,
+                mission: None,
+                hand,
+                right: HeldRight::Nothing,
+                border,
+            }),
+            Err(error) => {
+                hand.end();
+                Err(error)
+            }
+        }
     }
 
     /// The train's place in the line file, from 0.
@@ -66,8 +76,8 @@ impl Supervision {
 
     /// The facts of the mission. None exactly where none stands.
     pub fn mission(&self) -> Option<MissionFacts>
-        ensures value { option_map (mission_of (hand_of self.now)) result ≡ self.now.mission }
-        ensures local { (m : spec.Mission) → self.now.mission ≡ Some m → HasLocalForm m }
+        ensures value { option_map (mission_of (hand_of self.now) (pool_of self.now)) result ≡ self.now.mission }
+        ensures route { (m : spec.Mission) → self.now.mission ≡ Some m → HasRouteForm m }
     {
         self.mission
     }
@@ -82,7 +92,15 @@ impl Supervision {
         self.hand.run()
     }
 
-    /// Ends it, where its centre does: its sections go back to the book.
+    /// The lent sections that follow the hand; none where no mission stands.
+    pub fn pool(&self) -> SectionRun
+        ensures value { run_of result ≡ pool_of self.now }
+        ensures most { result.count ≤ 31 }
+    {
+        self.border.pool()
+    }
+
+    /// Ends it, where its centre does: its sections go back to the book, and the names of lent ones end.
     pub fn end(self, book: &mut Book) {
         let Supervision {
             number: _,
@@ -90,8 +108,10 @@ impl Supervision {
             mission: _,
             hand,
             right,
+            border,
         } = self;
         rbc_claims::end_hand(hand, book);
+        border.end();
         right.end();
     }
 }

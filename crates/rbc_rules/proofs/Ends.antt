@@ -1,66 +1,185 @@
 -- An end of mission comes to what its definition says.
-use Rattle.std.proofs.Common.{◌≡◌, ℕ, true, false, List, [], Option, Some, None, option_map, refl, sym, ap, ◌∙◌}
+use Rattle.std.proofs.Common.{◌≡◌, ℕ, ◌++◌, true, false, List, [], map, Option, Some, None, is_some, option_map, refl, sym, ap, ◌∙◌}
+use Rattle.std.specs.Option.{option_map_or}
+use Rattle.std.proofs.lemmas.List.{append-nil}
 use Rattle.std.proofs.lemmas.Option.{same_Some}
-use Rattle.rbc_spec.specs.Reach.{Rights as ToRights}
+use Rattle.rbc_spec.specs.Reach.{Routes as ToRoutes}
+use Rattle.rbc_spec.specs.SectionRuns.{SectionRun, no_run}
 use Rattle.rbc_spec.specs.Line.{Line}
 use Rattle.rbc_spec.specs.Place.{Position}
 use Rattle.rbc_spec.specs.Message.{TrainMessage, EndOfMission}
-use Rattle.rbc_spec.specs.Outcome.{Saying}
+use Rattle.rbc_spec.specs.Frame.{Body}
+use Rattle.rbc_spec.specs.Outcome.{Told}
 use Rattle.rbc_spec.specs.Centre.{Centre, Up, Mission}
-use Rattle.rbc_spec.specs.Acts.{Act, with_some, ◌>>◌, change_mission, return_pool}
+use Rattle.rbc_spec.specs.Acts.{Act, rest, with_some, ◌>>◌, change_mission, return_pool, returned}
 use Rattle.rbc_spec.specs.Rules.{report_here}
 use Rattle.rbc_spec.specs.Step.{Train, effect}
-use Rattle.rbc_lemmas.proofs.Acts.{resting_then}
-use Rattle.rbc_local.proofs.Simple.{HasNoHanding, no_pool_returned}
+use Rattle.rbc_spec.specs.Maps.{put}
+use Rattle.rbc_lemmas.proofs.Puts.{put_there, put_over}
+use Rattle.rbc_local.proofs.Simple.{HasNoHanding}
 use Rattle.rbc_book.specs.Book.{Pages, is_own}
 use Rattle.rbc_right.specs.Rights.{Rights}
+use Rattle.rbc_hand.specs.SectionRuns.{run_of}
+use Rattle.rbc_hand.specs.declared.section_run.SectionRun.{SectionRun as SectionRunCode}
 use Rattle.rbc_session.specs.SessionStates.{session_phase}
-use Rattle.rbc_rules.specs.Desk.{HasParts, HearsTrain, IsKeptAt, with_parts, posted, replied, Does}
+use Rattle.rbc_mission.specs.Supervisions.{SupervisionState, with_pool, pool_of}
+use Rattle.rbc_rules.specs.Letters.{letters, going_home, mail_home, mail_to}
+use Rattle.rbc_rules.specs.Sayings.{sayings_of}
+use Rattle.rbc_rules.specs.Desk.{HasParts, HearsTrain, IsKeptAt, with_parts, posted, replied, reply_left, Does}
+use Rattle.rbc_rules.specs.declared.heard.Heard.{Heard}
 use Rattle.rbc_rules.specs.declared.letter.Letter.{Letter}
+use Rattle.rbc_rules.specs.declared.mail.Mail.{Mail}
 use Rattle.rbc_rules.specs.declared.train.TrainState.{TrainState}
-use Rattle.rbc_rules.proofs.Desk.{by_reply, answered_effect, same_parts, mission_changed, then_does, has_left, heard_at, parts_heard, left_heard, with_mission}
+use Rattle.rbc_rules.proofs.Desk.{by_reply, answered_effect, same_state}
+use Rattle.rbc_rules.proofs.Turns.{in_turn, parts_over, has_left, heard_at, parts_heard, left_heard}
 use Rattle.rbc_rules.proofs.Kept.{unhanded, yields_nothing}
+use Rattle.rbc_rules.proofs.Letters.{sends_home}
 
-abbrev ended : Mission → Mission
+abbrev pub ended : Mission → Mission
 ended m = record m { is_ended = true; proposal = None }
 
-unhanded_end : (o : Option Mission) → HasNoHanding o → HasNoHanding (option_map ended o)
-unhanded_end (Some y) none x is = ap (λ (z : Mission). z.handing) (sym (same_Some (ended y) x is)) ∙ none y refl
+-- the pool has gone, and the mission is ended
+abbrev pub finished : SupervisionState → SupervisionState
+finished s = record s { mission = option_map ended (with_pool no_run s).mission }
+
+unhanded_end : (o : Option Mission) → HasNoHanding o → HasNoHanding (option_map ended (option_map (λ (m : Mission). record m { pool = no_run }) o))
+unhanded_end (Some y) none x is = ap (λ (z : Mission). z.handing) (sym (same_Some (ended (record y { pool = no_run })) x is)) ∙ none y refl
 unhanded_end None none x is = cc
 
 abbrev finishing : Line → ℕ → ℕ → Act
 finishing line c t = with_some (λ i. i.mission t) (λ x. return_pool line c t x >> change_mission t ended)
 
+-- ## What goes home
+
+module _ (line : Line) (c t track : ℕ) (first pool : SectionRunCode) (letter : Option Letter) where
+  abbrev sent : Mail
+  sent = mail_home track first letter
+
+  -- nothing more
+  no_more : run_of pool ≡ no_run → (d : ℕ) → mail_to line c t sent d ++ [] ≡ mail_to line c t (record sent { second = pool }) d
+  no_more none d =
+      append-nil (mail_to line c t sent d) ∙ ap (λ (r : SectionRun). going_home line c t track (run_of first) d ++ (going_home line c t track r d ++ letters letter d)) (sym none)
+
+  -- or a pool, where no letter goes
+  and_pool : (r : SectionRun) → run_of pool ≡ r → letter ≡ None → (d : ℕ) → mail_to line c t sent d ++ going_home line c t track r d ≡ mail_to line c t (record sent { second = pool }) d
+  and_pool r is none d =
+      let goes : List Body = going_home line c t track (run_of first) d in
+      (λ i. (goes ++ letters (none i) d) ++ going_home line c t track r d)
+      ∙ ap (λ (xs : List Body). xs ++ going_home line c t track r d) (append-nil goes)
+      ∙ (λ i. goes ++ sym (append-nil (going_home line c t track (sym is i) d)) i)
+      ∙ (λ i. goes ++ (going_home line c t track (run_of pool) d ++ letters (sym none i) d))
+
+-- ## The mission, if it still stands, is ended
+
 module _ (line : Line) (c : ℕ) (j : Centre) (mid : TrainState) (book : Pages) (rights : Rights) (has : HasParts line c j mid book rights) where
-  finished : (o : Option Mission) → mid.supervision.mission ≡ o → finishing line c mid.supervision.engine j ≡ replied (with_parts (with_mission mid (option_map ended mid.supervision.mission)) book rights j) [] []
-  finished None none = rw (has.has_mission, none) (same_parts line c j mid book rights has ∙ ap (λ (o : Option Mission). replied (with_parts (with_mission mid o) book rights j) [] []) none)
-  finished (Some n) there =
-      let stands : j.mission mid.supervision.engine ≡ Some n = has.has_mission ∙ there in
-      rw stands (resting_then (return_pool line c mid.supervision.engine n) (change_mission mid.supervision.engine ended) j
-      (no_pool_returned line c mid.supervision.engine n j stands (has.kept.form n there).pool)
-      ∙ ap (λ (x : Centre). replied x [] []) (mission_changed line c j mid book rights has ended))
+  abbrev t : ℕ
+  t = mid.supervision.engine
+
+  abbrev without_pool : Mission → Mission
+  without_pool m = record m { pool = no_run }
+
+  abbrev left : TrainState
+  left = record mid { supervision = finished mid.supervision }
+
+  abbrev dropped : Option Mission
+  dropped = option_map without_pool (j.mission t)
+
+  abbrev twice : Option Mission
+  twice = option_map ended (put j.mission t dropped t)
+
+  state_is : record j { mission = put (put j.mission t dropped) t twice } ≡ with_parts left book rights j
+  state_is = λ i. record (same_state line c j mid book rights has i) {
+    mission = λ u. (put_over t twice dropped j.mission u ∙ ap (λ o. put j.mission t (option_map ended o) u) (put_there j.mission t dropped ∙ ap (option_map without_pool) has.has_mission)) i;
+  }
+
+  changed : (n : Mission) → (return_pool line c t n >> change_mission t ended) j
+      ≡ record {
+        state = record j { mission = put (put j.mission t dropped) t twice };
+        frames = λ d. ((returned line c t n.place.track n.pool j).frames d ++ []) ++ [];
+        sayings = [];
+        words = [];
+      }
+  unfolding ◌>>◌
+  changed n = refl
+
+  ends_some : (n : Mission) → mid.supervision.mission ≡ Some n → finishing line c t j ≡ posted (going_home line c t n.place.track n.pool) (replied (with_parts left book rights j) [] [])
+  ends_some n there =
+      let stands : j.mission t ≡ Some n = has.has_mission ∙ there in
+      ap (λ o. option_map_or (λ x. (return_pool line c t x >> change_mission t ended) j) o (rest j)) stands ∙ changed n
+      ∙ (λ i. posted (λ d. (append-nil ((returned line c t n.place.track n.pool j).frames d ++ []) ∙ append-nil ((returned line c t n.place.track n.pool j).frames d)
+      ∙ sym (sends_home line c t n.place.track n.pool j d)) i) (replied (state_is i) [] []))
+
+  ends_none : mid.supervision.mission ≡ None → finishing line c t j ≡ replied (with_parts left book rights j) [] []
+  ends_none none =
+      let missing : j.mission t ≡ None = has.has_mission ∙ none in
+      ap (λ o. option_map_or (λ x. (return_pool line c t x >> change_mission t ended) j) o (rest j)) missing
+      ∙ ap (λ (x : Centre). replied x [] []) (same_state line c j mid book rights has)
+      ∙ (λ i. replied (with_parts (record mid { supervision = record mid.supervision { mission = (none ∙ ap (λ o. option_map ended (option_map without_pool o)) (sym none)) i } }) book rights j) [] [])
+
+-- ## The message
 
 module _ (line : Line) (c : ℕ) (k : Centre) (stamp : ℕ) (old : TrainState) (book : Pages) (rights : Rights) (position : Position) (h : HearsTrain line c k stamp old book rights) where
-  abbrev t : ℕ
-  t = old.supervision.engine
+  abbrev e : ℕ
+  e = old.supervision.engine
 
   abbrev m : TrainMessage
-  m = record { t_train = stamp; nid_engine = t; body = EndOfMission position }
+  m = record { t_train = stamp; nid_engine = e; body = EndOfMission position }
 
-  pub ends : (n : Mission) (mid : TrainState) (book' : Pages) (rights' : Rights) (sayings : List Saying) (told : List ℕ) (letter : Option Letter) → session_phase old.session_state ≡ Up → old.supervision.mission ≡ Some n → n.is_ended ≡ false
-      → mid.supervision.engine ≡ t → ((s : ℕ) → is_own book' s ≡ is_own book s) → IsKeptAt line c mid
-      → Does line c (report_here line c t position n) (record old { heard = Some stamp }) book rights mid book' rights' sayings told letter
-      → effect ToRights line c k (Train m) ≡ by_reply (posted letter (replied (with_parts (with_mission mid (option_map ended mid.supervision.mission)) book' rights' k) sayings told))
-  ends n mid book' rights' sayings told letter up there goes_on engine homes kept does =
-      let at = heard_at line c k stamp old book rights h.parts in
-      let mid_at = with_parts mid book' rights' at in
-      let new = with_mission mid (option_map ended mid.supervision.mission) in
-      let stands : k.mission t ≡ Some n = h.parts.has_mission ∙ there in
-      let has : HasParts line c at (record old { heard = Some stamp }) book rights = parts_heard line c k stamp old book rights h.parts in
-      let left : HasParts line c mid_at mid book' rights' = has_left line c at (record old { heard = Some stamp }) mid book book' rights rights' has homes kept in
-      answered_effect line c k m _ (rw (h.known, h.parts.has_heard, h.timely, h.parts.has_phase, up, stands, goes_on) refl)
-      (yields_nothing line c t (with_some (λ i. i.mission t) (report_here line c t position) >> finishing line c t) at new book' rights' sayings told letter engine
-      (unhanded_end mid.supervision.mission (unhanded line c mid kept))
-      (then_does (with_some (λ i. i.mission t) (report_here line c t position)) (finishing line c t) at mid new book' book' rights' rights' sayings told letter refl (rw stands (does at has))
-      (ap (λ (u : ℕ). finishing line c u mid_at) (sym engine) ∙ finished line c mid_at mid book' rights' left mid.supervision.mission refl))
-      ∙ ap (λ (x : Centre). posted letter (replied x sayings told)) (left_heard line c k stamp old book rights h.parts new book' rights' engine))
+  abbrev at : Centre
+  at = heard_at line c k stamp old book rights h.parts
+
+  module _ (n : Mission) (mid : TrainState) (book' : Pages) (rights' : Rights) (heard : Heard) (pool : SectionRunCode) (up : session_phase old.session_state ≡ Up) (there : old.supervision.mission ≡ Some n) (goes_on : n.is_ended ≡ false)
+      (engine : mid.supervision.engine ≡ e) (homes : (s : ℕ) → is_own book' s ≡ is_own book s) (kept : IsKeptAt line c mid) (does : Does line c (report_here line c e position n) (record old { heard = Some stamp }) book rights mid book' rights' heard)
+      (mail : heard.mail ≡ mail_home n.place.track heard.mail.first heard.mail.letter) (silent : is_some mid.supervision.mission ≡ true → heard.mail.letter ≡ None)
+      (on : (x : Mission) → mid.supervision.mission ≡ Some x → x.place.track ≡ n.place.track) (returns : run_of pool ≡ pool_of mid.supervision) where
+    abbrev mid_at : Centre
+    mid_at = with_parts mid book' rights' at
+
+    abbrev new : TrainState
+    new = record mid { supervision = finished mid.supervision }
+
+    has_mid : HasParts line c mid_at mid book' rights'
+    has_mid = has_left line c at (record old { heard = Some stamp }) mid book book' rights rights' (parts_heard line c k stamp old book rights h.parts) homes kept
+
+    abbrev home : Mail
+    home = mail_home n.place.track heard.mail.first heard.mail.letter
+
+    -- what is finished, and what goes home with it
+    abbrev Finishes : Option Mission → Type 0
+    Finishes o = (frames : ℕ → List Body) × (finishing line c e mid_at ≡ posted frames (replied (with_parts new book' rights' mid_at) [] []))
+        × ((d : ℕ) → mail_to line c e home d ++ frames d ≡ mail_to line c e (record home { second = pool }) d)
+
+    finishes : (o : Option Mission) → mid.supervision.mission ≡ o → Finishes o
+    finishes None none = (
+      (λ d. []),
+      ap (λ (u : ℕ). finishing line c u mid_at) (sym engine) ∙ ends_none line c mid_at mid book' rights' has_mid none,
+      no_more line c e n.place.track heard.mail.first pool heard.mail.letter (returns ∙ ap (λ o. option_map_or (λ (x : Mission). x.pool) o no_run) none),
+    )
+    finishes (Some x) stands = (
+      going_home line c e n.place.track x.pool,
+      ap (λ (u : ℕ). finishing line c u mid_at) (sym engine) ∙ ends_some line c mid_at mid book' rights' has_mid x stands
+          ∙ (λ i. posted (going_home line c (engine i) (on x stands i) x.pool) (replied (with_parts new book' rights' mid_at) [] [])),
+      and_pool line c e n.place.track heard.mail.first pool heard.mail.letter x.pool (returns ∙ ap (λ o. option_map_or (λ (y : Mission). y.pool) o no_run) stands) (silent (ap is_some stands)),
+    )
+
+    both : (with_some (λ i. i.mission e) (report_here line c e position) >> finishing line c e) at
+        ≡ posted (mail_to line c e (record home { second = pool })) (replied (with_parts new book' rights' at) (sayings_of heard.saying) heard.told)
+    both =
+        let f = finishes mid.supervision.mission refl in
+        let stands : k.mission e ≡ Some n = h.parts.has_mission ∙ there in
+        in_turn (with_some (λ i. i.mission e) (report_here line c e position)) (finishing line c e) at (reply_left line c e mid_at heard) (posted f.0 (replied (with_parts new book' rights' mid_at) [] []))
+        (ap (λ o. option_map_or (λ x. report_here line c e position x at) o (rest at)) stands ∙ does at (parts_heard line c k stamp old book rights h.parts)) f.1
+        ∙ (λ i. record {
+          state = parts_over mid new book' book' rights' rights' at refl i;
+          frames = λ d. (ap (λ (x : Mail). mail_to line c e x d ++ f.0 d) mail ∙ f.2 d) i;
+          sayings = append-nil (sayings_of heard.saying) i;
+          words = append-nil (map (λ s. Told s) heard.told) i;
+        })
+
+    pub ends : effect ToRoutes line c k (Train m) ≡ by_reply (reply_left line c e (with_parts new book' rights' k) (record heard { mail = record heard.mail { second = pool } }))
+    ends =
+        let stands : k.mission e ≡ Some n = h.parts.has_mission ∙ there in
+        answered_effect line c k m _ (rw (h.known, h.parts.has_heard, h.timely, h.parts.has_phase, up, stands, goes_on) refl)
+        (yields_nothing line c e (with_some (λ i. i.mission e) (report_here line c e position) >> finishing line c e) at new book' rights' (sayings_of heard.saying) heard.told (mail_to line c e (record home { second = pool })) engine
+        (unhanded_end mid.supervision.mission (unhanded line c mid kept)) both
+        ∙ (λ i. posted (mail_to line c e (record (sym mail i) { second = pool })) (replied (left_heard line c k stamp old book rights h.parts new book' rights' engine i) (sayings_of heard.saying) heard.told)))

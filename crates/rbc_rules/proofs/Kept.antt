@@ -1,25 +1,26 @@
--- What stays of a train's mission and of its start that waits: no other centre gets a part in it, and no handover is yielded.
-use Rattle.std.proofs.Common.{◌≡◌, ℕ, ◌≤◌, ◌==◌, if◌then◌else◌, Bool, true, false, List, Option, Some, None, option_map, option_and_then, refl, sym, ap, ◌∙◌, subst, arith}
+-- What stays of a train's mission and of its start that waits: its pool follows its hand, what is held is held, and no handover is yielded.
+use Rattle.std.proofs.Common.{◌≡◌, ◌+◌, ℕ, ◌≤◌, ◌==◌, if◌then◌else◌, Bool, true, false, List, Option, Some, None, is_some, is_none, ◌&&◌, option_map, option_and_then, refl, sym, ap, ◌∙◌, subst, arith}
 use Rattle.std.specs.Option.{option_map_or}
 use Rattle.std.proofs.lemmas.Bool.{eqb-false}
 use Rattle.std.proofs.lemmas.Option.{same_Some}
 use Rattle.rbc_spec.specs.Maps.{put}
 use Rattle.rbc_spec.specs.Line.{Line, is_home}
 use Rattle.rbc_spec.specs.Place.{Place}
-use Rattle.rbc_spec.specs.SectionRuns.{no_run, within}
+use Rattle.rbc_spec.specs.SectionRuns.{SectionRun, no_run, within, behind, is_empty}
+use Rattle.rbc_spec.specs.Frame.{Body}
 use Rattle.rbc_spec.specs.Outcome.{Saying}
 use Rattle.rbc_spec.specs.Centre.{Centre, Mission}
 use Rattle.rbc_spec.specs.Acts.{Act, Reply, rest, ◌>>◌, yield_if_due}
 use Rattle.rbc_lemmas.proofs.Acts.{then_resting}
 use Rattle.rbc_lemmas.proofs.Puts.{put_there}
-use Rattle.rbc_lemmas.proofs.Runs.{within_true, within_from}
 use Rattle.rbc_local.proofs.Simple.{HasNoHanding, no_yield}
 use Rattle.rbc_book.specs.Book.{Pages}
-use Rattle.rbc_right.specs.Rights.{Rights}
-use Rattle.rbc_claims.specs.Sections.{rest_of}
-use Rattle.rbc_mission.specs.Supervisions.{SupervisionState, HasLocalForm, hand_of, without_front}
-use Rattle.rbc_rules.specs.Desk.{IsKeptAt, with_parts, posted, replied}
-use Rattle.rbc_rules.specs.declared.letter.Letter.{Letter}
+use Rattle.rbc_right.specs.Rights.{Rights, right_of}
+use Rattle.rbc_hand.specs.Hands.{Holding}
+use Rattle.rbc_claims.specs.Sections.{rest_of, is_held_as, IsHeldAt}
+use Rattle.rbc_mission.specs.Supervisions.{SupervisionState, HasRouteForm, hand_of, without_front, right_left}
+use Rattle.rbc_mission.specs.declared.held.HeldRight.TheVariants.{Nothing, Held}
+use Rattle.rbc_rules.specs.Desk.{IsKeptAt, IsHeld, with_parts, posted, replied}
 use Rattle.rbc_rules.specs.declared.train.TrainState.{TrainState}
 use Rattle.rbc_rules.proofs.Desk.{with_mission}
 
@@ -30,32 +31,39 @@ pub unhanded : (line : Line) (c : ℕ) (p : TrainState) → IsKeptAt line c p �
 unhanded line c p kept m is = (kept.form m is).handing
 
 -- none is yielded behind an act that leaves none
-pub yields_nothing : (line : Line) (c t : ℕ) (act : Act) (k : Centre) (p : TrainState) (book : Pages) (rights : Rights) (sayings : List Saying) (told : List ℕ) (letter : Option Letter) → p.supervision.engine ≡ t
-    → HasNoHanding p.supervision.mission → act k ≡ posted letter (replied (with_parts p book rights k) sayings told)
-    → (act >> yield_if_due line c t) k ≡ posted letter (replied (with_parts p book rights k) sayings told)
-yields_nothing line c t act k p book rights sayings told letter engine none is =
+pub yields_nothing : (line : Line) (c t : ℕ) (act : Act) (k : Centre) (p : TrainState) (book : Pages) (rights : Rights) (sayings : List Saying) (told : List ℕ) (frames : ℕ → List Body) → p.supervision.engine ≡ t
+    → HasNoHanding p.supervision.mission → act k ≡ posted frames (replied (with_parts p book rights k) sayings told)
+    → (act >> yield_if_due line c t) k ≡ posted frames (replied (with_parts p book rights k) sayings told)
+yields_nothing line c t act k p book rights sayings told frames engine none is =
     let left : HasNoHanding (put k.mission p.supervision.engine p.supervision.mission t) =
     subst HasNoHanding (sym (put_there k.mission p.supervision.engine p.supervision.mission) ∙ ap (put k.mission p.supervision.engine p.supervision.mission) engine) none in
     then_resting act (yield_if_due line c t) k (subst (λ (r : Reply). yield_if_due line c t r.state ≡ rest r.state) (sym is) (no_yield line c t (with_parts p book rights k) left)) ∙ is
 
 -- ## Missions
 
+-- what stands of a mission whose facts alone were changed
+mapped : (change : Mission → Mission) (o : Option Mission) (m : Mission) → option_map change o ≡ Some m → (n : Mission) × (o ≡ Some n) × (change n ≡ m)
+mapped change None m is = cc
+mapped change (Some n) m is = (n, refl, same_Some (change n) m is)
+
 -- of the mission facts alone have changed
-pub kept_changed : (line : Line) (c : ℕ) (p : TrainState) (change : Mission → Mission) → ((m : Mission) → HasLocalForm m → HasLocalForm (change m)) → ((m : Mission) → m.hand ≡ (change m).hand) → IsKeptAt line c p
-    → IsKeptAt line c (with_mission p (option_map change p.supervision.mission))
-kept_changed line c p change form hand kept = record {
+pub kept_changed : (line : Line) (c : ℕ) (p : TrainState) (change : Mission → Mission) → ((m : Mission) → HasRouteForm m → HasRouteForm (change m)) → ((m : Mission) → m.hand ≡ (change m).hand) → ((m : Mission) → m.pool ≡ (change m).pool)
+    → IsKeptAt line c p → IsKeptAt line c (with_mission p (option_map change p.supervision.mission))
+kept_changed line c p change form hand pool kept = record {
   one_train = kept.one_train;
-  form = λ m is. let n = mapped p.supervision.mission m is in subst HasLocalForm n.2 (form n.0 (kept.form n.0 n.1));
-  at_home = λ m is. let n = mapped p.supervision.mission m is in home_of m n.0 n.1 n.2;
+  form = λ m is. let n = mapped change p.supervision.mission m is in subst HasRouteForm n.2 (form n.0 (kept.form n.0 n.1));
+  pool = record {
+    follows = λ m is some. let n = mapped change p.supervision.mission m is in
+        let runs = same_runs m n.0 n.2 in
+        ap (λ (r : SectionRun). r.first) (sym runs.0) ∙ kept.pool.follows n.0 n.1 (ap is_empty runs.0 ∙ some) ∙ ap behind runs.1;
+    away = λ m is s here. let n = mapped change p.supervision.mission m is in
+        kept.pool.away n.0 n.1 s (ap (λ r. within r s) (same_runs m n.0 n.2).0 ∙ here);
+  };
   covers = kept.covers;
 }
   where
-    mapped : (o : Option Mission) (m : Mission) → option_map change o ≡ Some m → (n : Mission) × (o ≡ Some n) × (change n ≡ m)
-    mapped None m is = cc
-    mapped (Some n) m is = (n, refl, same_Some (change n) m is)
-
-    home_of : (m n : Mission) → p.supervision.mission ≡ Some n → change n ≡ m → (s : ℕ) → within m.hand s ≡ true → is_home line c s ≡ true
-    home_of m n there is s in_hand = kept.at_home n there s (ap (λ r. within r s) (hand n) ∙ ap (λ (x : Mission). within x.hand s) is ∙ in_hand)
+    same_runs : (m n : Mission) → change n ≡ m → (n.pool ≡ m.pool) × (n.hand ≡ m.hand)
+    same_runs m n is = (pool n ∙ ap (λ (x : Mission). x.pool) is, hand n ∙ ap (λ (x : Mission). x.hand) is)
 
 -- what is left of a mission behind its first sections
 left_of : (place : Place) (count : ℕ) (o : Option Mission) (m : Mission) → option_and_then (without_front place count) o ≡ Some m
@@ -68,27 +76,55 @@ left_of place count (Some n) m is = by (count == n.hand.count) refl is
     by true all e = cc
     by false some e = (n, refl, eqb-false count n.hand.count some, same_Some (record n { place = place; hand = rest_of count n.hand }) m e)
 
-rest_form : (place : Place) (count : ℕ) (n : Mission) → HasLocalForm n → count ≤ n.hand.count → (count ≡ n.hand.count → ⊥) → HasLocalForm (record n { place = place; hand = rest_of count n.hand })
+rest_form : (place : Place) (count : ℕ) (n : Mission) → HasRouteForm n → count ≤ n.hand.count → (count ≡ n.hand.count → ⊥) → HasRouteForm (record n { place = place; hand = rest_of count n.hand })
 rest_form place count n form few apart = record {
   some = omega (arith, few, apart);
   most = let most = form.most in omega (arith, most);
   numbers = let numbers = form.numbers in omega (arith, numbers, few);
-  pool = form.pool;
+  few = form.few;
   handing = form.handing;
 }
 
 -- its first sections have left it
-pub kept_cleared : (line : Line) (c : ℕ) (p : TrainState) (left : SupervisionState) (place : Place) (count : ℕ) → count ≤ (hand_of p.supervision).count
-    → left ≡ record p.supervision { mission = option_and_then (without_front place count) p.supervision.mission } → IsKeptAt line c p → IsKeptAt line c (record p { supervision = left })
-kept_cleared line c p left place count few is kept = subst (λ (x : SupervisionState). IsKeptAt line c (record p { supervision = x })) (sym is) (record {
+pub kept_cleared : (line : Line) (c : ℕ) (p : TrainState) (left : SupervisionState) (hand : Holding) (place : Place) (count : ℕ) → count ≤ (hand_of p.supervision).count
+    → left ≡ record p.supervision { mission = option_and_then (without_front place count) p.supervision.mission; hand = hand } → IsKeptAt line c p → IsKeptAt line c (record p { supervision = left })
+kept_cleared line c p left hand place count few is kept = subst (λ (x : SupervisionState). IsKeptAt line c (record p { supervision = x })) (sym is) (record {
   one_train = kept.one_train;
-  form = λ m here. let n = left_of place count p.supervision.mission m here in subst HasLocalForm n.3 (rest_form place count n.0 (kept.form n.0 n.1) (within_hand n.0 n.1) n.2);
-  at_home = λ m here s in_hand. let n = left_of place count p.supervision.mission m here in
-      let at = within_true (rest_of count n.0.hand) s (ap (λ (x : Mission). within x.hand s) n.3 ∙ in_hand) in
-      let room = within_hand n.0 n.1 in
-      kept.at_home n.0 n.1 s (within_from n.0.hand s (omega (arith, at)) (omega (arith, at, room)));
+  form = λ m here. let n = left_of place count p.supervision.mission m here in subst HasRouteForm n.3 (rest_form place count n.0 (kept.form n.0 n.1) (within_hand n.0 n.1) n.2);
+  pool = record {
+    follows = λ m here some. let n = left_of place count p.supervision.mission m here in
+        let ends : behind n.0.hand ≡ behind (rest_of count n.0.hand) = let room = within_hand n.0 n.1 in omega (arith, room) in
+        ap (λ (x : Mission). x.pool.first) (sym n.3) ∙ kept.pool.follows n.0 n.1 (ap (λ (x : Mission). is_empty x.pool) n.3 ∙ some) ∙ ends ∙ ap (λ (x : Mission). behind x.hand) n.3;
+    away = λ m here s in_pool. let n = left_of place count p.supervision.mission m here in
+        kept.pool.away n.0 n.1 s (ap (λ (x : Mission). within x.pool s) n.3 ∙ in_pool);
+  };
   covers = kept.covers;
 })
   where
     within_hand : (n : Mission) → p.supervision.mission ≡ Some n → count ≤ n.hand.count
     within_hand n there = subst (λ (o : Option Mission). count ≤ (option_map_or (λ m. m.hand) o no_run).count) there few
+
+-- where they have left, it is at this place
+pub cleared_place : (place : Place) (count : ℕ) (o : Option Mission) (m : Mission) → option_and_then (without_front place count) o ≡ Some m → m.place.track ≡ place.track
+cleared_place place count o m is = let n = left_of place count o m is in ap (λ (x : Mission). x.place.track) (sym n.3)
+
+-- no right is given back of a mission that still stands
+pub none_left : (old new : SupervisionState) → is_some new.mission ≡ true → right_left old new ≡ Nothing
+none_left old new stands = by (is_some old.mission) new.mission stands
+  where
+    by : (b : Bool) (o : Option Mission) → is_some o ≡ true → (if b && is_none o then Held (right_of old.number) else Nothing) ≡ Nothing
+    by true (Some m) is = refl
+    by false (Some m) is = refl
+    by b None is = cc
+
+-- ## What is held
+
+-- at the sections of the line as by the book of its home, and back
+pub held_as : (t u : ℕ) (is_home is_home' : ℕ → Bool) (hand : Holding) → t ≡ u → ((s : ℕ) → is_home' s ≡ is_home s) → IsHeldAt t is_home hand → IsHeldAt u is_home' hand
+held_as t u is_home is_home' hand train same so i held at =
+    ap (λ b. is_held_as u b held) (same (hand.first + i)) ∙ ap (λ (v : ℕ). is_held_as v (is_home (hand.first + i)) held) (sym train) ∙ so i held at
+
+-- what is held stays so
+pub still_held : (line : Line) (c : ℕ) (p q : TrainState) → q.supervision.engine ≡ p.supervision.engine → q.supervision.hand ≡ p.supervision.hand → IsHeld line c p → IsHeld line c q
+still_held line c p q engine hand held =
+    subst (λ (h : Holding). IsHeldAt q.supervision.engine (is_home line c) h) (sym hand) (subst (λ (t : ℕ). IsHeldAt t (is_home line c) p.supervision.hand) (sym engine) held)

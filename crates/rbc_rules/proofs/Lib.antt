@@ -4,6 +4,7 @@ pub mod Tellings
 pub mod Asks
 pub mod SessionStates
 pub mod Desk
+pub mod Turns
 pub mod Letters
 pub mod RightFrames
 pub mod Kept
@@ -11,6 +12,7 @@ pub mod Received
 pub mod ShorteningRejected
 pub mod SessionMessages
 pub mod TrainData
+pub mod Joined
 pub mod Frees
 pub mod Clears
 pub mod Reports
@@ -19,4 +21,6 @@ pub mod Requests
 pub mod Starts
 pub mod Cuts
 pub mod Shortened
+pub mod RouteFrames
+pub mod Gone
 pub mod Takes

@@ -17,15 +17,19 @@ use Rattle.rbc_right.specs.declared.registrar.Asked.TheVariants.{Given, NotHere}
 use Rattle.rbc_wait.specs.Waits.{WaitState, nothing_waits, with_wait}
 use Rattle.rbc_wait.proofs.Waits.{given}
 use Rattle.rbc_linkmsg.specs.declared.body.Body.TheVariants as code
+use Rattle.rbc_hand.specs.Hands.{Holding}
 use Rattle.rbc_mission.specs.Supervisions.{SupervisionState, mission_at}
 use Rattle.rbc_mission.specs.declared.held.HeldRight.TheVariants.{Held}
 use Rattle.rbc_rules.specs.Desk.{HasParts, with_parts, with_right, posted, replied, reply_left}
 use Rattle.rbc_rules.specs.Sayings.{sayings_of}
 use Rattle.rbc_rules.specs.declared.heard.Heard.{Heard}
 use Rattle.rbc_rules.specs.Homes.{GoesHome}
+use Rattle.rbc_rules.specs.Letters.{letters, mail_to}
+use Rattle.rbc_rules.specs.declared.mail.Mail.{Mail}
 use Rattle.rbc_rules.specs.declared.letter.Letter.{Letter}
 use Rattle.rbc_rules.specs.declared.train.TrainState.{TrainState}
-use Rattle.rbc_rules.proofs.Desk.{same_state, same_parts, has_waiting, says, answer_to}
+use Rattle.rbc_rules.proofs.Desk.{same_state, same_parts, has_waiting, answer_to}
+use Rattle.rbc_rules.proofs.Turns.{says}
 
 -- ## What a call tells
 
@@ -58,8 +62,9 @@ is_back rights rights' i right is few back =
     back i ∙ ap (λ (r : Right). put (is_here rights) r.train (nat_lt r.train (length rights)) i) is ∙ put_there (is_here rights) i (nat_lt i (length rights)) ∙ lt-ltb i (length rights) few
 
 -- what was released says nothing
-pub released_as : (k : Centre) (h : Heard) (told : List ℕ) → h.saying ≡ None → h.told ≡ told → reply_left k h ≡ posted h.letter (replied k [] told)
-released_as k h told saying is = λ i. posted h.letter (replied k (sayings_of (saying i)) (is i))
+pub released_as : (line : Line) (c t : ℕ) (k : Centre) (h : Heard) (told : List ℕ) (mail : Mail) → h.saying ≡ None → h.mail ≡ mail → h.told ≡ told
+    → reply_left line c t k h ≡ posted (mail_to line c t mail) (replied k [] told)
+released_as line c t k h told mail saying sends is = λ i. posted (mail_to line c t (sends i)) (replied k (sayings_of (saying i)) (is i))
 
 -- ## The frames
 
@@ -76,14 +81,14 @@ module _ (line : Line) (c : ℕ) (k : Centre) (p : TrainState) (book : Pages) (r
   -- ## The registrar is asked
 
   pub gives : (d : ℕ) (rights' : Rights) → is_registrar_of line c t ≡ true → is_here rights p.supervision.number ≡ true → is_here rights' p.supervision.number ≡ false
-      → right_asked line c d t k ≡ posted (Some (record { to = d; body = code.GiveRight t })) (replied (with_parts p book rights' k) [] [])
+      → right_asked line c d t k ≡ posted (letters (Some (record { to = d; body = code.GiveRight t }))) (replied (with_parts p book rights' k) [] [])
   unfolding ◌>>◌
-  gives d rights' here there gone = rw (here, has.has_right ∙ there) (ap (λ (x : Centre). posted (Some (record { to = d; body = code.GiveRight t })) (replied x [] [])) (right_is rights' false gone))
+  gives d rights' here there gone = rw (here, has.has_right ∙ there) (ap (λ (x : Centre). posted (letters (Some (record { to = d; body = code.GiveRight t }))) (replied x [] [])) (right_is rights' false gone))
 
   pub refuses : (d : ℕ) (rights' : Rights) → is_registrar_of line c t ≡ true → is_here rights p.supervision.number ≡ false → is_here rights' p.supervision.number ≡ false
-      → right_asked line c d t k ≡ posted (Some (record { to = d; body = code.RefuseRight t })) (replied (with_parts p book rights' k) [] [])
+      → right_asked line c d t k ≡ posted (letters (Some (record { to = d; body = code.RefuseRight t }))) (replied (with_parts p book rights' k) [] [])
   refuses d rights' here gone still =
-      rw (here, has.has_right ∙ gone) (ap (λ (x : Centre). posted (Some (record { to = d; body = code.RefuseRight t })) (replied x [] []))
+      rw (here, has.has_right ∙ gone) (ap (λ (x : Centre). posted (letters (Some (record { to = d; body = code.RefuseRight t }))) (replied x [] []))
       ((λ i. record k { has_right = λ u. sym (put_same t false k.has_right (has.has_right ∙ gone) u) i }) ∙ right_is rights' false still))
 
   -- ## A right comes back
@@ -126,26 +131,26 @@ module _ (line : Line) (c : ℕ) (k : Centre) (p : TrainState) (book : Pages) (r
       (given line c k p.waiting book place (has_waiting line c k p book rights has) asked (ap k.mission has.kept.one_train ∙ has.has_mission ∙ none) waits)
       ∙ ap (say t unknown_group TrainAccepted) state ∙ says t unknown_group TrainAccepted mid book rights k refl
 
-  pub admits : (left : SupervisionState) (w : WaitState) → p.waiting.has_asked ≡ true → p.supervision.mission ≡ None → is_some p.waiting.wait ≡ true
-      → left ≡ record p.supervision { mission = option_map (λ place. mission_at place p.waiting.sections) p.waiting.wait } → w ≡ nothing_waits p.waiting.engine false
+  pub admits : (left : SupervisionState) (hand : Holding) (w : WaitState) → p.waiting.has_asked ≡ true → p.supervision.mission ≡ None → is_some p.waiting.wait ≡ true
+      → left ≡ record p.supervision { mission = option_map (λ place. mission_at place p.waiting.sections) p.waiting.wait; hand = hand } → w ≡ nothing_waits p.waiting.engine false
       → right_given line c t k ≡ replied (with_parts (record p { said = p.said + 1; supervision = left; waiting = w }) book rights k) (answer_to t (p.said + 1) TrainAccepted) []
-  admits left w asked none some is waits = by p.waiting.wait refl
+  admits left hand w asked none some is waits = by p.waiting.wait refl
     where
       by : (o : Option Place) → p.waiting.wait ≡ o → right_given line c t k ≡ replied (with_parts (record p { said = p.said + 1; supervision = left; waiting = w }) book rights k) (answer_to t (p.said + 1) TrainAccepted) []
       by None at = absurd (let wrong : false ≡ true = ap is_some (sym at) ∙ some in cc)
       by (Some place) at =
-          let left_is : left ≡ record p.supervision { mission = Some (begun line place) } =
-          is ∙ (λ i. record p.supervision { mission = option_map (λ q. mission_at q p.waiting.sections) (at i) }) ∙ (λ i. record p.supervision { mission = Some (mission_at place (has.kept.covers place at i)) }) in
+          let left_is : left ≡ record p.supervision { mission = Some (begun line place); hand = hand } =
+          is ∙ (λ i. record p.supervision { mission = option_map (λ q. mission_at q p.waiting.sections) (at i); hand = hand }) ∙ (λ i. record p.supervision { mission = Some (mission_at place (has.kept.covers place at i)); hand = hand }) in
           admitted_at place asked none at
           ∙ (λ i. replied (with_parts (record p { said = p.said + 1; supervision = sym left_is i; waiting = sym waits i }) book rights k) (answer_to t (p.said + 1) TrainAccepted) [])
 
   -- a right that nothing waits for goes home
   pub given_in_vain : (letter : Option Letter) (rights' : Rights) (w : WaitState) → p.waiting.has_asked ≡ true → (is_some p.waiting.wait && is_none p.supervision.mission) ≡ false → p.supervision.number < length rights
       → GoesHome line c t (Held (right_of p.supervision.number)) letter rights rights' → w ≡ record p.waiting { has_asked = false }
-      → right_given line c t k ≡ posted letter (replied (with_parts (record p { waiting = w }) book rights' k) [] [])
+      → right_given line c t k ≡ posted (letters letter) (replied (with_parts (record p { waiting = w }) book rights' k) [] [])
   unfolding ◌>>◌
   given_in_vain letter rights' w asked busy few home is =
       let j : Centre = record k { has_asked = put k.has_asked t false } in
       rw (has.has_ask ∙ asked, has.has_wait, has.has_mission, busy) (home.goes p.supervision.number j refl few has.has_right
-      ∙ (λ i. posted letter (replied (record (same_state line c k p book rights has i) { has_asked = put k.has_asked t false; has_right = put k.has_right t (is_here rights' p.supervision.number) }) [] []))
-      ∙ (λ i. posted letter (replied (with_parts (record p { waiting = sym is i }) book rights' k) [] [])))
+      ∙ (λ i. posted (letters letter) (replied (record (same_state line c k p book rights has i) { has_asked = put k.has_asked t false; has_right = put k.has_right t (is_here rights' p.supervision.number) }) [] []))
+      ∙ (λ i. posted (letters letter) (replied (with_parts (record p { waiting = sym is i }) book rights' k) [] [])))

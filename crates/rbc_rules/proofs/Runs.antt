@@ -1,12 +1,13 @@
 -- Tests of all sections of a run, and what may follow a hand.
-use Rattle.std.proofs.Common.{◌≡◌, ◌≢◌, ℕ, zero, suc, ◌+◌, ◌-◌, ◌==◌, ◌<◌, ◌≤◌, ◌&&◌, ◌||◌, Bool, true, false, nat_le, length, Option, Some, None, nat_eq, refl, sym, ap, ◌∙◌, arith, is_some, eq-eqb}
+use Rattle.std.proofs.Common.{◌≡◌, ℕ, zero, suc, ◌+◌, ◌-◌, ◌==◌, ◌<◌, ◌≤◌, ◌&&◌, ◌||◌, Bool, true, false, nat_le, length, Option, Some, None, nat_eq, refl, sym, ap, ◌∙◌, arith, is_some}
 use Rattle.std.specs.List.{list_all, range_with_len}
 use Rattle.std.specs.Option.{option_map_or, option_eq}
-use Rattle.std.proofs.lemmas.Bool.{false≢true}
 use Rattle.std.proofs.lemmas.Bool.Decides.{nat_tests}
-use Rattle.rbc_spec.specs.SectionRuns.{SectionRun, no_run, within, behind, longest, all_of}
+use Rattle.rbc_spec.specs.SectionRuns.{SectionRun, within, behind, longest, all_of}
 use Rattle.std.proofs.lemmas.Option.{slice_get_past}
-use Rattle.rbc_spec.specs.Line.{Line, is_home, registrar}
+use Rattle.rbc_spec.specs.Line.{Line, is_home, end, registrar}
+use Rattle.rbc_spec.specs.Sections.{is_on}
+use Rattle.rbc_spec.specs.Place.{has_room}
 use Rattle.rbc_spec.specs.Centre.{Centre, Mission, Shut, is_open, is_free, is_registrar_of}
 use Rattle.rbc_spec.specs.Rules.{may_follow}
 use Rattle.rbc_book.specs.Book.{Pages, is_own, entry_at, page_of}
@@ -92,18 +93,10 @@ not_free_past line c k s past = rw (past_home line c s past) refl
 same_longest : (f g : ℕ → Bool) (first most : ℕ) → ((s : ℕ) → f s ≡ g s) → longest f first most ≡ longest g first most
 same_longest f g first most same = ap (λ (h : ℕ → Bool). longest h first most) (λ i s. same s i)
 
-within_no_run : (s : ℕ) → within no_run s ≡ false
-unfolding within
-within_no_run s = grind (arith, nat_tests)
-
-or_none : (b : Bool) → (b || false) ≡ b
-or_none true = refl
-or_none false = refl
-
-pub follows_same : (line : Line) (c : ℕ) (k : Centre) (book : Pages) (m : Mission) (first most : ℕ) → m.pool ≡ no_run → ((e : ℕ) → k.book e ≡ entry_at book e) → ((s : ℕ) → is_own book s ≡ is_home line c s)
-    → longest (grants.may_follow line book m.place) first most ≡ longest (may_follow line c k m) first most
-follows_same line c k book m first most none pages home = same_longest (grants.may_follow line book m.place) (may_follow line c k m) first most (λ s.
-    rw (none, within_no_run s, or_none (is_free line c k s), sym (free_open line c k book s pages (home s))) refl)
+pub follows_same : (line : Line) (c : ℕ) (k : Centre) (book : Pages) (m : Mission) (first most : ℕ) → ((e : ℕ) → k.book e ≡ entry_at book e) → ((s : ℕ) → is_own book s ≡ is_home line c s)
+    → longest (grants.may_follow line book m.pool m.place) first most ≡ longest (may_follow line c k m) first most
+follows_same line c k book m first most pages home = same_longest (grants.may_follow line book m.pool m.place) (may_follow line c k m) first most (λ s.
+    ap (λ (b : Bool). (is_on line m.place.track s && (b || within m.pool s)) && has_room line m.place (end line s)) (free_open line c k book s pages (home s)))
 
 -- ## Rights
 
@@ -114,6 +107,3 @@ is_registered line c t None is same = cc
 pub not_registered : (line : Line) (c t : ℕ) (r : Option ℕ) → r ≡ registrar line t → option_eq nat_eq r (Some c) ≡ false → is_registrar_of line c t ≡ false
 not_registered line c t (Some d) is same = rw (sym is) (let e : (d == c) ≡ false = same in e)
 not_registered line c t None is same = rw (sym is) refl
-
-pub registered_elsewhere : (line : Line) (c t : ℕ) (r : Option ℕ) → r ≡ registrar line t → option_eq nat_eq r (Some c) ≡ false → registrar line t ≢ Some c
-registered_elsewhere line c t r is same here = false≢true (sym same ∙ ap (λ o. option_eq nat_eq o (Some c)) (is ∙ here) ∙ eq-eqb c c refl)

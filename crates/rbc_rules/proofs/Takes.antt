@@ -1,6 +1,6 @@
 -- A message of a train: late or again, of a foreign engine, or one that is taken.
 use Rattle.std.proofs.Common.{◌≡◌, ℕ, true, false, List, [], ◌∷◌, Some, None, is_none, refl, sym, ap, ◌∙◌}
-use Rattle.rbc_spec.specs.Reach.{Rights as ToRights}
+use Rattle.rbc_spec.specs.Reach.{Routes as ToRoutes}
 use Rattle.rbc_spec.specs.Line.{Line, train_number}
 use Rattle.rbc_spec.specs.Message.{TrainMessage, TrainBody, TrainData, Request, Report, ShorteningGranted, ShorteningRejected, EndOfMission, InitiationOfSession, TerminationOfSession, StartOfMission, SessionEstablished, is_stale}
 use Rattle.rbc_spec.specs.Outcome.{Reason, StaleStamp, ForeignEngine, reasons_of}
@@ -44,15 +44,15 @@ stale_silence line c k m known stale = ap (find (holds line c k m)) (reasons_beg
 -- a message late or again leaves the parts as they are
 pub stale_left : (line : Line) (c : ℕ) (k : Centre) (p : TrainState) (book : Pages) (rights : Rights) (m : TrainMessage) → HasParts line c k p book rights → m.nid_engine ≡ p.supervision.engine
     → is_none (train_number line p.supervision.engine) ≡ false → is_stale m.t_train p.heard ≡ true
-    → effect ToRights line c k (Train m) ≡ record { reply = replied (with_parts p book rights k) [] []; link = None; silence = Some StaleStamp }
+    → effect ToRoutes line c k (Train m) ≡ record { reply = replied (with_parts p book rights k) [] []; link = None; silence = Some StaleStamp }
 stale_left line c k p book rights m has engine known stale =
     silent_effect line c k m StaleStamp (stale_silence line c k m (ap (λ (t : ℕ). is_none (train_number line t)) engine ∙ known)
     (ap (is_stale m.t_train) (ap k.heard engine ∙ has.has_heard) ∙ stale))
     ∙ ap (λ (r : Reply). record { reply = r; link = None; silence = Some StaleStamp }) (same_parts line c k p book rights has)
 
 -- one message and the same
-pub heard_as : (line : Line) (c : ℕ) (k : Centre) (m n : TrainMessage) (e : Effect) → effect ToRights line c k (Train n) ≡ e → m ≡ n → effect ToRights line c k (Train m) ≡ e
-heard_as line c k m n e is same = ap (λ (x : TrainMessage). effect ToRights line c k (Train x)) same ∙ is
+pub heard_as : (line : Line) (c : ℕ) (k : Centre) (m n : TrainMessage) (e : Effect) → effect ToRoutes line c k (Train n) ≡ e → m ≡ n → effect ToRoutes line c k (Train m) ≡ e
+heard_as line c k m n e is same = ap (λ (x : TrainMessage). effect ToRoutes line c k (Train x)) same ∙ is
 
 -- what stays where nothing was changed
 pub same_rights : (i : ℕ) (book book' : Pages) (rights : Rights) → ((s : ℕ) → is_own book' s ≡ is_own book s) → KeepsDesk i book book' rights rights

@@ -13,7 +13,7 @@ use Rattle.rbc_rules.specs.declared.asking.Asking.{Asking}
 -- centre k has this session and this mission of the train, and its next message to it has this T_TRAIN
 pub record IsTrain (k : Centre) (train : Train) (stamp : ℕ) : Type 0 where
   pub has_phase : k.phase train.nid_engine ≡ phase_of train.phase
-  pub has_mission : k.mission train.nid_engine ≡ mission_by train.mission train.hand
+  pub has_mission : k.mission train.nid_engine ≡ mission_by train.mission train.hand train.pool
   pub counts : k.said train.nid_engine + 1 ≡ stamp
 
 -- the whole reply of centre k: message 9 to train t, which stands from then on; or nothing

@@ -1,9 +1,10 @@
 -- A centre seen from one of its trains: the parts of its state that a message of the train finds, and those that it leaves.
-use Rattle.std.specs.Prelude.{◌≡◌, ◌+◌, ◌≤◌, ℕ, Bool, List, [], Option, Some, None, Result, Ok, Err, map, is_none, true, false, length}
+use Rattle.std.specs.Prelude.{◌≡◌, ◌+◌, ◌≤◌, ℕ, Bool, List, [], Some, None, Option, Result, Ok, Err, map, is_none, true, false, length}
 use Rattle.rbc_spec.specs.Maps.{put}
-use Rattle.rbc_spec.specs.SectionRuns.{within}
+use Rattle.rbc_spec.specs.SectionRuns.{within, behind, is_empty}
 use Rattle.rbc_spec.specs.Line.{Line, is_home, train_number}
 use Rattle.rbc_spec.specs.Message.{is_stale}
+use Rattle.rbc_spec.specs.Frame.{Body}
 use Rattle.rbc_spec.specs.Outcome.{Saying, Told}
 use Rattle.rbc_spec.specs.Centre.{Centre, Mission}
 use Rattle.rbc_spec.specs.Acts.{Act, Reply}
@@ -12,24 +13,33 @@ use Rattle.rbc_local.specs.Local.{IsOrdered}
 use Rattle.rbc_book.specs.Book.{Pages, is_own, entry_at, wish_at}
 use Rattle.rbc_right.specs.Rights.{Rights, is_here}
 use Rattle.rbc_wait.specs.Waits.{IsCovered}
-use Rattle.rbc_mission.specs.Supervisions.{HasLocalForm}
+use Rattle.rbc_claims.specs.Sections.{IsHeldAt}
+use Rattle.rbc_mission.specs.Supervisions.{HasRouteForm}
 use Rattle.rbc_session.specs.SessionStates.{session_phase}
 use Rattle.rbc_rules.specs.Desks.{IsBookOf, HasBook}
 use Rattle.rbc_rules.specs.Reasons.{reason_of}
-use Rattle.rbc_rules.specs.Letters.{letters}
+use Rattle.rbc_rules.specs.Letters.{mail_to}
 use Rattle.rbc_rules.specs.Sayings.{sayings_of}
 use Rattle.rbc_rules.specs.declared.heard.Heard.{Heard}
-use Rattle.rbc_rules.specs.declared.letter.Letter.{Letter}
 use Rattle.rbc_rules.specs.declared.reason.Reason.{Reason}
 use Rattle.rbc_rules.specs.declared.train.TrainState.{TrainState}
 
--- The train's mission has sections of home c alone, with no part of another centre, and what is claimed for a start that waits is what
--- its place covers
+-- the pool of the mission, if one stands, follows its hand, and no section of it is of home c
+pub record HasPoolAt (line : Line) (c : ℕ) (mission : Option Mission) : Type 0 where
+  pub follows : (m : Mission) → mission ≡ Some m → is_empty m.pool ≡ false → m.pool.first ≡ behind m.hand
+  pub away : (m : Mission) → mission ≡ Some m → (s : ℕ) → within m.pool s ≡ true → is_home line c s ≡ false
+
+-- The train's mission is not handed over, its pool follows its hand and is of other homes, and what is claimed for a start that waits
+-- is what its place covers
 pub record IsKeptAt (line : Line) (c : ℕ) (p : TrainState) : Type 0 where
   pub one_train : p.waiting.engine ≡ p.supervision.engine
-  pub form : (m : Mission) → p.supervision.mission ≡ Some m → HasLocalForm m
-  pub at_home : (m : Mission) → p.supervision.mission ≡ Some m → (s : ℕ) → within m.hand s ≡ true → is_home line c s ≡ true
+  pub form : (m : Mission) → p.supervision.mission ≡ Some m → HasRouteForm m
+  pub pool : HasPoolAt line c p.supervision.mission
   pub covers : IsCovered line p.waiting
+
+-- each section of the train's hand is held as it has to be at centre c: one of its home by a claim, and another by its name
+abbrev pub IsHeld : Line → ℕ → TrainState → Type 0
+IsHeld line c p = IsHeldAt p.supervision.engine (is_home line c) p.supervision.hand
 
 -- centre c, which expects no train from another, has this of the train, this book and these rights
 pub record HasParts (line : Line) (c : ℕ) (k : Centre) (p : TrainState) (book : Pages) (rights : Rights) : Type 0 where
@@ -43,6 +53,7 @@ pub record HasParts (line : Line) (c : ℕ) (k : Centre) (p : TrainState) (book 
   pub has_heard : k.heard p.supervision.engine ≡ p.heard
   pub has_said : k.said p.supervision.engine ≡ p.said
   pub has_mission : k.mission p.supervision.engine ≡ p.supervision.mission
+  pub has_route_ask : k.route_ask p.supervision.engine ≡ p.supervision.asked
   pub has_wait : k.wait p.supervision.engine ≡ p.waiting.wait
   pub has_ask : k.has_asked p.supervision.engine ≡ p.waiting.has_asked
   pub has_right : k.has_right p.supervision.engine ≡ is_here rights p.supervision.number
@@ -62,6 +73,7 @@ with_parts p book rights k = record k {
   heard = put k.heard p.supervision.engine p.heard;
   said = put k.said p.supervision.engine p.said;
   mission = put k.mission p.supervision.engine p.supervision.mission;
+  route_ask = put k.route_ask p.supervision.engine p.supervision.asked;
   wait = put k.wait p.supervision.engine p.waiting.wait;
   has_asked = put k.has_asked p.supervision.engine p.waiting.has_asked;
   has_right = put k.has_right p.supervision.engine (is_here rights p.supervision.number);
@@ -77,23 +89,23 @@ with_right t is_here k = record k { has_right = put k.has_right t is_here }
 abbrev pub replied : Centre → List Saying → List ℕ → Reply
 replied k sayings told = record { state = k; frames = λ d. []; sayings = sayings; words = map (λ s. Told s) told }
 
--- a reply with the frame of this letter, or with none
-abbrev pub posted : Option Letter → Reply → Reply
-posted letter reply = record reply { frames = letters letter }
+-- a reply that sends this to each centre
+abbrev pub posted : (ℕ → List Body) → Reply → Reply
+posted frames reply = record reply { frames = frames }
 
--- wherever centre c has the old parts, the act leaves the new ones, says and tells this, and sends this letter
-abbrev pub Does : Line → ℕ → Act → TrainState → Pages → Rights → TrainState → Pages → Rights → List Saying → List ℕ → Option Letter → Type 0
-Does line c act old book rights new book' rights' sayings told letter =
-    (k : Centre) → HasParts line c k old book rights → act k ≡ posted letter (replied (with_parts new book' rights' k) sayings told)
+-- what a frame of train t came to at centre c, or a message that was answered, where it is left as k
+abbrev pub reply_left : Line → ℕ → ℕ → Centre → Heard → Reply
+reply_left line c t k h = posted (mail_to line c t h.mail) (replied k (sayings_of h.saying) h.told)
 
--- what a frame came to, or a message that was answered, at a centre that is left so
-abbrev pub reply_left : Centre → Heard → Reply
-reply_left k h = posted h.letter (replied k (sayings_of h.saying) h.told)
+-- wherever centre c has the old parts, the act leaves the new ones, and comes to this
+abbrev pub Does : Line → ℕ → Act → TrainState → Pages → Rights → TrainState → Pages → Rights → Heard → Type 0
+Does line c act old book rights new book' rights' h =
+    (k : Centre) → HasParts line c k old book rights → act k ≡ reply_left line c old.supervision.engine (with_parts new book' rights' k) h
 
--- what a message came to at a centre that is left so
-abbrev pub effect_left : Centre → Result Heard Reason → Effect
-effect_left k (Ok h) = record { reply = reply_left k h; link = None; silence = None }
-effect_left k (Err why) = record { reply = replied k [] []; link = None; silence = Some (reason_of why) }
+-- what a message of train t came to at centre c, where it is left as k
+abbrev pub effect_left : Line → ℕ → ℕ → Centre → Result Heard Reason → Effect
+effect_left line c t k (Ok h) = record { reply = reply_left line c t k h; link = None; silence = None }
+effect_left line c t k (Err why) = record { reply = replied k [] []; link = None; silence = Some (reason_of why) }
 
 -- ## What stays
 

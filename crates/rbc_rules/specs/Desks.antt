@@ -16,6 +16,6 @@ IsBookOf line c book = (s : ℕ) → is_own book s ≡ is_home line c s
 abbrev pub HasBook : Centre → Pages → Type 0
 HasBook k book = (s : ℕ) → k.book s ≡ entry_at book s
 
--- the mission by its facts and its hand, if there is one
-abbrev pub mission_by : Option Facts → SectionRun → Option Mission
-mission_by facts hand = option_map (mission_of (run_of hand)) facts
+-- the mission by its facts, its hand and its pool, if there is one
+abbrev pub mission_by : Option Facts → SectionRun → SectionRun → Option Mission
+mission_by facts hand pool = option_map (mission_of (run_of hand) (run_of pool)) facts

@@ -1,12 +1,12 @@
 -- How a right goes home that a mission or a registrar has handed out.
-use Rattle.std.specs.Prelude.{◌≡◌, ◌<◌, ◌≤◌, ℕ, [], true, length, Option, None, IfSome}
-use Rattle.rbc_spec.specs.Line.{Line, is_centre}
+use Rattle.std.specs.Prelude.{◌≡◌, ◌<◌, ℕ, [], length, Option, None}
+use Rattle.rbc_spec.specs.Line.{Line}
 use Rattle.rbc_spec.specs.Centre.{Centre}
 use Rattle.rbc_spec.specs.Acts.{return_right}
 use Rattle.rbc_right.specs.Rights.{Rights, is_here, right_of}
 use Rattle.rbc_mission.specs.declared.held.HeldRight.{HeldRight}
 use Rattle.rbc_mission.specs.declared.held.HeldRight.TheVariants.{Nothing, Held}
-use Rattle.rbc_rules.specs.Letters.{MaySend}
+use Rattle.rbc_rules.specs.Letters.{letters}
 use Rattle.rbc_rules.specs.Desk.{KeepsRights, posted, replied, with_right}
 use Rattle.rbc_rules.specs.declared.letter.Letter.{Letter}
 
@@ -15,6 +15,5 @@ use Rattle.rbc_rules.specs.declared.letter.Letter.{Letter}
 pub record GoesHome (line : Line) (c t : ℕ) (right : HeldRight) (letter : Option Letter) (rights rights' : Rights) : Type 0 where
   pub nothing : right ≡ Nothing → (letter ≡ None) × (rights' ≡ rights)
   pub goes : (i : ℕ) (k : Centre) → right ≡ Held (right_of i) → i < length rights → k.has_right t ≡ is_here rights i
-      → return_right line c t k ≡ posted letter (replied (with_right t (is_here rights' i) k) [] [])
+      → return_right line c t k ≡ posted (letters letter) (replied (with_right t (is_here rights' i) k) [] [])
   pub kept : (i : ℕ) → right ≡ Held (right_of i) → KeepsRights i rights rights'
-  pub may : is_centre line c ≡ true → t ≤ 16777215 → IfSome letter (MaySend line c)

@@ -1,10 +1,10 @@
 -- What a start of mission comes to.
-use Rattle.std.specs.Prelude.{ℕ, [], Option, None}
+use Rattle.std.specs.Prelude.{ℕ, []}
 use Rattle.rbc_spec.specs.Message.{TrainAccepted, TrainRejected, unknown_group}
 use Rattle.rbc_spec.specs.Centre.{Centre}
 use Rattle.rbc_spec.specs.Acts.{Reply, say}
 use Rattle.rbc_rules.specs.Desk.{posted, replied}
-use Rattle.rbc_rules.specs.declared.letter.Letter.{Letter}
+use Rattle.rbc_rules.specs.Letters.{letters}
 use Rattle.rbc_rules.specs.declared.start_of_mission.Start.{Start}
 use Rattle.rbc_rules.specs.declared.start_of_mission.Start.TheVariants.{Accepted, Rejected, Waiting}
 
@@ -12,10 +12,4 @@ use Rattle.rbc_rules.specs.declared.start_of_mission.Start.TheVariants.{Accepted
 abbrev pub started : ℕ → Start → Centre → Reply
 started t Accepted k = say t unknown_group TrainAccepted k
 started t Rejected k = say t unknown_group TrainRejected k
-started t (Waiting letter) k = posted letter (replied k [] [])
-
--- the letter that asks for the right
-abbrev pub letter_of : Start → Option Letter
-letter_of Accepted = None
-letter_of Rejected = None
-letter_of (Waiting letter) = letter
+started t (Waiting letter) k = posted (letters letter) (replied k [] [])

@@ -5,13 +5,14 @@ use Rattle.rbc_spec.specs.Outcome.{Saying}
 use Rattle.rbc_spec.specs.Centre as centre
 use Rattle.rbc_spec.specs.Acts.{Reply}
 use Rattle.rbc_wait.specs.Waits.{nothing_waits}
+use Rattle.rbc_mission.specs.Supervisions.{no_mission}
 use Rattle.rbc_session.specs.SessionStates.{session_phase}
 use Rattle.rbc_session.specs.declared.session.SessionState.TheVariants as session_state
 use Rattle.rbc_rules.specs.declared.train.TrainState.{TrainState}
 
 -- what is kept of a train that was never heard, by its place in the line file and its NID_ENGINE
 abbrev pub unknown_state : ℕ → ℕ → TrainState
-unknown_state i t = record { session_state = session_state.Closed; heard = None; said = 0; supervision = record { number = i; engine = t; mission = None }; waiting = nothing_waits t false }
+unknown_state i t = record { session_state = session_state.Closed; heard = None; said = 0; supervision = no_mission i t; waiting = nothing_waits t false }
 
 -- centre k has this session and this mission of train t, and has said so many messages to it
 pub record HasTrain (k : centre.Centre) (t : ℕ) (p : TrainState) : Type 0 where

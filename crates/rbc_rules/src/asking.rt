@@ -53,7 +53,7 @@ pub fn ask_back(line: &Line, train: &Train, s: u16, stamp: u32) -> Option<Asking
 // What decides whether the train may be asked to shorten the authority of its mission.
 fn facts(line: &Line, train: &Train, mission: &MissionFacts) -> rbc_shorten::ShorteningFacts
     ensures { (k : spec.Centre) → k.phase train.now.nid_engine ≡ phase_of train.now.phase
-        → AreFactsOf line.now train.now.nid_engine (mission_of (run_of train.now.hand) mission.now) k result }
+        → AreFactsOf line.now train.now.nid_engine (mission_of (run_of train.now.hand) (run_of train.now.pool) mission.now) k result }
 {
     rbc_shorten::ShorteningFacts {
         is_up: is_up(train.phase),
@@ -65,8 +65,8 @@ fn facts(line: &Line, train: &Train, mission: &MissionFacts) -> rbc_shorten::Sho
     }
 }
 
-// Whether the session is up.
-fn is_up(phase: Phase) -> bool
+/// Whether the session is up.
+pub(crate) fn is_up(phase: Phase) -> bool
     ensures { result ≡ spec.is_up (phase_of phase) }
 {
     match phase {

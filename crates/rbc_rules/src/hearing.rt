@@ -1,8 +1,8 @@
-//! A message of a train, at a radio block centre whose missions no other centre has a part in.
+//! A message of a train, at a radio block centre.
 
-ghost use Rattle.std.specs.Prelude.{◌≡◌, ◌<◌, ◌≤◌, ℕ, true, false, is_none, None, length, IfOk, IfSome};
+ghost use Rattle.std.specs.Prelude.{◌≡◌, ◌<◌, ℕ, true, false, is_none, length};
 ghost use Rattle.rbc_spec.specs.Centre as spec;
-ghost use Rattle.rbc_spec.specs.Line.{is_centre, train_number};
+ghost use Rattle.rbc_spec.specs.Line.{train_number};
 ghost use Rattle.rbc_spec.specs.Message.{is_stale};
 ghost use Rattle.rbc_spec.specs.Reach as reach;
 ghost use Rattle.rbc_spec.specs.Step as step;
@@ -12,9 +12,9 @@ ghost use Rattle.rbc_msgs.specs.declared.train_body.TrainBody.TheVariants.{Initi
 ghost use Rattle.rbc_wait.specs.Waits.{IsCovered};
 ghost use Rattle.rbc_session.specs.Sessions.{HasRoom};
 ghost use Rattle.rbc_session.specs.SessionStates.{session_phase, StandsFor};
-ghost use Rattle.rbc_rules.specs.Desk.{HasParts, KeepsTrain, KeepsDesk, with_parts, effect_left};
+ghost use Rattle.rbc_rules.specs.Desk.{HasParts, IsKeptAt, IsHeld, KeepsTrain, KeepsDesk, with_parts, effect_left};
 ghost use Rattle.rbc_rules.specs.Desks.{IsBookOf};
-ghost use Rattle.rbc_rules.specs.Letters.{MaySend, tells_others};
+ghost use Rattle.rbc_rules.specs.Letters.{tells_others};
 ghost use Rattle.rbc_rules.specs.SessionStates.{Enters};
 
 use crate::heard::Heard;
@@ -41,17 +41,18 @@ impl TrainState {
         requires engine { message.now.nid_engine ≡ self.old.supervision.engine }
         requires number { self.old.supervision.number < length registrar.old }
         requires book { IsBookOf line.now centre book.old }
+        requires kept { IsKeptAt line.now centre self.old }
+        requires held { IsHeld line.now centre self.old }
         requires stands { StandsFor sessions.old self.old.session_state self.old.supervision.engine }
         requires room { message.now.body ≡ InitiationOfSession → is_stale message.now.t_train self.old.heard ≡ false → HasRoom sessions.old }
         requires count { self.old.said < 4294967294 }
         ensures exact { (k : spec.Centre) → HasParts line.now centre k self.old book.old registrar.old → is_none (train_number line.now self.old.supervision.engine) ≡ false
-            → step.effect reach.Rights line.now centre k (step.Train (step_message message.now)) ≡ effect_left (with_parts self.new book.new registrar.new k) result }
+            → step.effect reach.Routes line.now centre k (step.Train (step_message message.now)) ≡ effect_left line.now centre self.old.supervision.engine (with_parts self.new book.new registrar.new k) result }
         ensures kept { KeepsTrain self.old self.new }
+        ensures held { IsHeld line.now centre self.new }
         ensures covers { IsCovered line.now self.old.waiting → IsCovered line.now self.new.waiting }
         ensures desk { KeepsDesk self.old.supervision.number book.old book.new registrar.old registrar.new }
         ensures stands { Enters sessions.old sessions.new self.new.session_state self.old.supervision.engine (session_phase self.new.session_state) }
-        ensures silent { tells_others (step_message message.now).body ≡ false → IfOk result (λ h. h.letter ≡ None) }
-        ensures may { is_centre line.now centre ≡ true → self.old.supervision.engine ≤ 16777215 → IfOk result (λ h. IfSome h.letter (MaySend line.now centre)) }
     {
         let t_train = message.t_train();
         if self.is_stale(t_train) {
@@ -65,7 +66,9 @@ impl TrainState {
                 self.start_of_mission(line, centre, book, registrar, t_train, *q_status, position)
             }
             TrainBody::TrainData { .. } => self.train_data(t_train),
-            TrainBody::Request { position, .. } => self.request(line, book, t_train, position),
+            TrainBody::Request { position, .. } => {
+                self.request(line, centre, book, t_train, position)
+            }
             TrainBody::Report { position } => {
                 self.report(line, centre, book, registrar, t_train, position)
             }
@@ -82,12 +85,13 @@ impl TrainState {
     }
 }
 
-/// Whether another centre may have to be told something by a train's message: the right may be asked for, or go home.
+/// Whether another centre may have to be told something by a train's message: the right or sections may be asked for, or go home.
 pub fn tells_others(body: &TrainBody) -> bool
     ensures { (m : TrainText) → m.body ≡ body.now → result ≡ tells_others (step_message m).body }
 {
     match body {
         TrainBody::StartOfMission { .. }
+        | TrainBody::Request { .. }
         | TrainBody::Report { .. }
         | TrainBody::ShorteningGranted { .. }
         | TrainBody::EndOfMission { .. } => true,
@@ -95,7 +99,6 @@ pub fn tells_others(body: &TrainBody) -> bool
         | TrainBody::TerminationOfSession
         | TrainBody::SessionEstablished
         | TrainBody::TrainData { .. }
-        | TrainBody::Request { .. }
         | TrainBody::ShorteningRejected { .. } => false,
     }
 }

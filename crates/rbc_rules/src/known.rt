@@ -14,4 +14,6 @@ pub struct Train {
     pub mission: Option<MissionFacts>,
     /// The sections of its movement authority, none where there is no mission.
     pub hand: SectionRun,
+    /// The lent sections that follow them, none where there is no mission.
+    pub pool: SectionRun,
 }

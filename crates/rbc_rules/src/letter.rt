@@ -1,11 +1,8 @@
-//! What other centres are told.
+//! What one other centre is told.
 
-ghost use Rattle.std.specs.Prelude.{◌≡◌, ◌≢◌, ℕ, IfSome, Some, option_map, true};
-ghost use Rattle.rbc_spec.specs.Frame.{HasBodyRange};
-ghost use Rattle.rbc_spec.specs.Line.{is_centre, registrar};
-ghost use Rattle.rbc_linkmsg.specs.Bodies.{body_of};
+ghost use Rattle.std.specs.Prelude.{◌≡◌, option_map};
+ghost use Rattle.rbc_spec.specs.Line.{registrar};
 ghost use Rattle.rbc_rules.specs.Homes.{GoesHome};
-ghost use Rattle.rbc_rules.specs.Letters.{MaySend};
 
 use rbc_line::Line;
 use rbc_linkmsg::Body;
@@ -22,12 +19,9 @@ pub struct Letter {
 
 /// A letter to the registrar of a train. None where the train is not of the line.
 pub(crate) fn to_registrar(line: &Line, nid_engine: u32, body: Body) -> Option<Letter>
-    ensures value { result ≡ option_map (λ r. record { to = r; body = body }) (registrar line.now nid_engine) }
-    // One to another centre may be sent.
-    ensures may { (c : ℕ) → is_centre line.now c ≡ true → registrar line.now nid_engine ≢ Some c → HasBodyRange (body_of body) → IfSome result (MaySend line.now c) }
+    ensures { result ≡ option_map (λ r. record { to = r; body = body }) (registrar line.now nid_engine) }
 {
     let to = line.registrar(nid_engine)?;
-    prove!(to < line.centre_count());
     Some(Letter { to, body })
 }
 

@@ -1,5 +1,5 @@
-//! What a train's message or another centre's frame comes to at a radio block centre whose missions no other centre has a part in
-//! (SUBSET-026 3.5, 3.6, 3.8, 5.4, 5.5): each is one call of what the centre keeps of the train, and its clause is one equation with
+//! What a train's message or another centre's frame comes to at a radio block centre, as far as no mission goes on from one centre to
+//! another (SUBSET-026 3.5, 3.6, 3.8, 5.4, 5.5): each is one call of what the centre keeps of the train, and its clause is one equation with
 //! `rbc_spec`'s own effect. And what a section comes to that the interlocking takes back: a request to shorten, where it is in use and
 //! one may be made (3.8.6). Nothing here takes memory.
 #![tactic(auto)]
@@ -11,10 +11,12 @@ mod hearing;
 mod known;
 mod laws;
 mod letter;
+mod mail;
 mod reason;
 mod receiving;
 mod reporting;
 mod rights;
+mod routes;
 mod saying;
 mod session_state;
 mod sessions;
@@ -29,6 +31,7 @@ pub use hearing::tells_others;
 pub use known::Train;
 pub use laws::{a_section_is_released, a_section_is_taken_back};
 pub use letter::Letter;
+pub use mail::Mail;
 pub use reason::Reason;
 pub use saying::Saying;
 pub use train::{TrainPage, TrainState};

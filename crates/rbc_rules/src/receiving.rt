@@ -1,14 +1,14 @@
-//! A frame of another centre, at a radio block centre whose missions no other centre has a part in.
+//! A frame of another centre, at a radio block centre.
 
-ghost use Rattle.std.specs.Prelude.{◌≡◌, ◌<◌, ◌≤◌, ℕ, false, true, is_none, length, IfSome};
+ghost use Rattle.std.specs.Prelude.{◌≡◌, ◌<◌, false, is_none, length};
 ghost use Rattle.rbc_spec.specs.Centre as spec;
-ghost use Rattle.rbc_spec.specs.Line.{is_centre, is_linked, train_number};
+ghost use Rattle.rbc_spec.specs.Line.{train_number};
 ghost use Rattle.rbc_spec.specs.Reach as reach;
 ghost use Rattle.rbc_spec.specs.Step as step;
+ghost use Rattle.rbc_spec.specs.Frame.{HasBodyRange};
 ghost use Rattle.rbc_linkmsg.specs.Bodies.{body_of, engine_in};
 ghost use Rattle.rbc_wait.specs.Waits.{IsCovered};
-ghost use Rattle.rbc_rules.specs.Desk.{HasParts, KeepsTrain, KeepsDesk, with_parts, reply_left};
-ghost use Rattle.rbc_rules.specs.Letters.{MaySend};
+ghost use Rattle.rbc_rules.specs.Desk.{HasParts, IsHeld, KeepsTrain, KeepsDesk, with_parts, reply_left};
 
 use crate::heard::Heard;
 use crate::train::TrainState;
@@ -32,26 +32,28 @@ impl TrainState {
         requires train { self.old.waiting.engine ≡ self.old.supervision.engine }
         requires number { self.old.supervision.number < length registrar.old }
         requires count { self.old.said < 4294967294 }
+        requires range { HasBodyRange (body_of body) }
         ensures exact { (k : spec.Centre) → HasParts line.now centre k self.old book.old registrar.old → is_none (train_number line.now self.old.supervision.engine) ≡ false
-            → step.body_taken reach.Rights line.now centre from (body_of body) k ≡ reply_left (with_parts self.new book.new registrar.new k) result }
+            → step.body_taken reach.Routes line.now centre from (body_of body) k ≡ reply_left line.now centre self.old.supervision.engine (with_parts self.new book.new registrar.new k) result }
         ensures kept { KeepsTrain self.old self.new }
+        ensures held { IsHeld line.now centre self.old → IsHeld line.now centre self.new }
         ensures session { self.new.session_state ≡ self.old.session_state }
         ensures covers { IsCovered line.now self.old.waiting → IsCovered line.now self.new.waiting }
         ensures desk { KeepsDesk self.old.supervision.number book.old book.new registrar.old registrar.new }
-        ensures may { is_linked line.now centre from ≡ true → is_centre line.now centre ≡ true → self.old.supervision.engine ≤ 16777215
-            → IfSome result.letter (MaySend line.now centre) }
     {
         match body {
             Body::AskRight { .. } => self.right_asked(line, centre, registrar, from),
             Body::GiveRight { .. } => self.right_given(line, centre, registrar),
             Body::RefuseRight { .. } => self.right_refused(book),
             Body::ReturnRight { .. } => self.right_returned(line, centre, registrar),
-            // No section is lent and no mission handed over yet.
-            Body::RouteAsk { .. }
-            | Body::RouteInfo { .. }
-            | Body::RouteWithdraw { .. }
-            | Body::RouteReturn { .. }
-            | Body::Announce { .. }
+            Body::RouteAsk { first, most, .. } => {
+                self.route_asked(line, centre, book, from, first, most)
+            }
+            Body::RouteInfo { run, .. } => self.route_told(line, from, run),
+            Body::RouteWithdraw { section, .. } => self.route_withdrawn(line, section),
+            Body::RouteReturn { run, .. } => self.route_returned(line, centre, book, from, run),
+            // No mission is handed over yet.
+            Body::Announce { .. }
             | Body::Cancel { .. }
             | Body::TakingOver { .. }
             | Body::Yield { .. } => Heard::nothing(),

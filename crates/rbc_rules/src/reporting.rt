@@ -1,22 +1,22 @@
 //! A train position report (3.6.5) and the end of mission (5.5): what the train has cleared leaves its hand.
 
-ghost use Rattle.std.specs.Prelude.{◌≡◌, ◌<◌, ◌≤◌, ℕ, length, true, Some, IfOk, IfSome};
+ghost use Rattle.std.specs.Prelude.{◌≡◌, ◌<◌, ℕ, length, Some, None, is_some, true};
 ghost use Rattle.rbc_spec.specs.Centre as spec;
-ghost use Rattle.rbc_spec.specs.Line.{is_centre};
 ghost use Rattle.rbc_spec.specs.Message.{Report, EndOfMission};
 ghost use Rattle.rbc_spec.specs.Reach as reach;
 ghost use Rattle.rbc_spec.specs.Step as step;
 ghost use Rattle.rbc_msgs.specs.StepMessage.{position_of};
-ghost use Rattle.rbc_rules.specs.Letters.{MaySend};
-ghost use Rattle.rbc_rules.specs.Desk.{HearsTrain, KeepsTrain, KeepsDesk, IsKeptAt, with_parts, effect_left, Does};
+ghost use Rattle.rbc_rules.specs.Desk.{HearsTrain, KeepsTrain, KeepsDesk, IsKeptAt, IsHeld, with_parts, effect_left, Does};
 ghost use Rattle.rbc_spec.specs.Rules as rules;
+ghost use Rattle.rbc_rules.specs.Desks.{IsBookOf};
+ghost use Rattle.rbc_rules.specs.Letters.{mail_home};
 ghost use Rattle.rbc_place.specs.Places.{place_of};
-ghost use Rattle.rbc_rules.specs.Sayings.{sayings_of};
 
 use crate::heard::Heard;
 use crate::reason::Reason;
 use crate::train::TrainState;
 use rbc_book::Book;
+use rbc_hand::SectionRun;
 use rbc_line::Line;
 use rbc_packets::Position;
 use rbc_place::{Place, cleared, place_on};
@@ -35,14 +35,16 @@ impl TrainState {
         position: &Position,
     ) -> Result<Heard, Reason>
         requires number { self.old.supervision.number < length registrar.old }
+        requires book { IsBookOf line.now centre book.old }
+        requires held { IsHeld line.now centre self.old }
         ensures exact { (k : spec.Centre) → HearsTrain line.now centre k t_train self.old book.old registrar.old
-            → step.effect reach.Rights line.now centre k (step.Train (record { t_train = t_train; nid_engine = self.old.supervision.engine; body = Report (position_of position.now) }))
-            ≡ effect_left (with_parts self.new book.new registrar.new k) result }
+            → step.effect reach.Routes line.now centre k (step.Train (record { t_train = t_train; nid_engine = self.old.supervision.engine; body = Report (position_of position.now) }))
+            ≡ effect_left line.now centre self.old.supervision.engine (with_parts self.new book.new registrar.new k) result }
         ensures kept { KeepsTrain self.old self.new }
+        ensures held { IsHeld line.now centre self.new }
         ensures session { self.new.session_state ≡ self.old.session_state }
         ensures waiting { self.new.waiting ≡ self.old.waiting }
         ensures desk { KeepsDesk self.old.supervision.number book.old book.new registrar.old registrar.new }
-        ensures may { is_centre line.now centre ≡ true → self.old.supervision.engine ≤ 16777215 → IfOk result (λ h. IfSome h.letter (MaySend line.now centre)) }
     {
         let known = self.known();
         match known.phase {
@@ -60,7 +62,8 @@ impl TrainState {
         Ok(self.clear(line, centre, book, registrar, place))
     }
 
-    /// Message 150: what the train has cleared is given back, where its report has a place; then its mission is ended.
+    /// Message 150: what the train has cleared is given back, where its report has a place; then its mission is ended, and its pool goes
+    /// home.
     pub(crate) fn end_of_mission(
         &mut self,
         line: &Line,
@@ -71,14 +74,16 @@ impl TrainState {
         position: &Position,
     ) -> Result<Heard, Reason>
         requires number { self.old.supervision.number < length registrar.old }
+        requires book { IsBookOf line.now centre book.old }
+        requires held { IsHeld line.now centre self.old }
         ensures exact { (k : spec.Centre) → HearsTrain line.now centre k t_train self.old book.old registrar.old
-            → step.effect reach.Rights line.now centre k (step.Train (record { t_train = t_train; nid_engine = self.old.supervision.engine; body = EndOfMission (position_of position.now) }))
-            ≡ effect_left (with_parts self.new book.new registrar.new k) result }
+            → step.effect reach.Routes line.now centre k (step.Train (record { t_train = t_train; nid_engine = self.old.supervision.engine; body = EndOfMission (position_of position.now) }))
+            ≡ effect_left line.now centre self.old.supervision.engine (with_parts self.new book.new registrar.new k) result }
         ensures kept { KeepsTrain self.old self.new }
+        ensures held { IsHeld line.now centre self.new }
         ensures session { self.new.session_state ≡ self.old.session_state }
         ensures waiting { self.new.waiting ≡ self.old.waiting }
         ensures desk { KeepsDesk self.old.supervision.number book.old book.new registrar.old registrar.new }
-        ensures may { is_centre line.now centre ≡ true → self.old.supervision.engine ≤ 16777215 → IfOk result (λ h. IfSome h.letter (MaySend line.now centre)) }
     {
         let known = self.known();
         match known.phase {
@@ -93,9 +98,11 @@ impl TrainState {
             return Err(Reason::MissionEnded);
         }
         self.heard = Some(t_train);
-        let heard = self.report_here(line, centre, book, registrar, mission.place.track, position);
+        let track = mission.place.track;
+        let heard = self.report_here(line, centre, book, registrar, track, position);
+        let pool = self.supervision.return_pool();
         self.supervision.end_mission();
-        Ok(heard)
+        Ok(heard.with_second(pool))
     }
 
     // What the train has cleared leaves its hand, where the report has a place on this track.
@@ -109,18 +116,23 @@ impl TrainState {
         position: &Position,
     ) -> Heard
         requires number { self.old.supervision.number < length registrar.old }
+        requires book { IsBookOf line.now centre book.old }
+        requires held { IsHeld line.now centre self.old }
         ensures exact { (m : spec.Mission) → self.old.supervision.mission ≡ Some m → m.place.track ≡ track
-            → Does line.now centre (rules.report_here line.now centre self.old.supervision.engine (position_of position.now) m) self.old book.old registrar.old self.new book.new registrar.new (sayings_of result.saying) result.told result.letter }
+            → Does line.now centre (rules.report_here line.now centre self.old.supervision.engine (position_of position.now) m) self.old book.old registrar.old self.new book.new registrar.new result }
         ensures stays { IsKeptAt line.now centre self.old → IsKeptAt line.now centre self.new }
+        ensures mail { result.mail ≡ mail_home track result.mail.first result.mail.letter }
+        ensures track { (m n : spec.Mission) → self.old.supervision.mission ≡ Some m → m.place.track ≡ track → self.new.supervision.mission ≡ Some n → n.place.track ≡ track }
+        ensures letter { is_some self.new.supervision.mission ≡ true → result.mail.letter ≡ None }
         ensures kept { KeepsTrain self.old self.new }
+        ensures held { IsHeld line.now centre self.new }
         ensures session { self.new.session_state ≡ self.old.session_state }
         ensures waiting { self.new.waiting ≡ self.old.waiting }
         ensures desk { KeepsDesk self.old.supervision.number book.old book.new registrar.old registrar.new }
-        ensures may { is_centre line.now centre ≡ true → self.old.supervision.engine ≤ 16777215 → IfSome result.letter (MaySend line.now centre) }
     {
         match place_on(line, track, position) {
             Some(place) => self.clear(line, centre, book, registrar, place),
-            None => Heard::nothing(),
+            None => Heard::returned(track, SectionRun { first: 0, count: 0 }),
         }
     }
 
@@ -134,17 +146,22 @@ impl TrainState {
         place: Place,
     ) -> Heard
         requires number { self.old.supervision.number < length registrar.old }
-        ensures exact { (m : spec.Mission) → self.old.supervision.mission ≡ Some m
-            → Does line.now centre (rules.clear line.now centre self.old.supervision.engine m (place_of place)) self.old book.old registrar.old self.new book.new registrar.new (sayings_of result.saying) result.told result.letter }
+        requires book { IsBookOf line.now centre book.old }
+        requires held { IsHeld line.now centre self.old }
+        ensures exact { (m : spec.Mission) → self.old.supervision.mission ≡ Some m → m.place.track ≡ place.track
+            → Does line.now centre (rules.clear line.now centre self.old.supervision.engine m (place_of place)) self.old book.old registrar.old self.new book.new registrar.new result }
         ensures stays { IsKeptAt line.now centre self.old → IsKeptAt line.now centre self.new }
+        ensures mail { result.mail ≡ mail_home place.track result.mail.first result.mail.letter }
+        ensures track { (m : spec.Mission) → self.new.supervision.mission ≡ Some m → m.place.track ≡ place.track }
+        ensures letter { is_some self.new.supervision.mission ≡ true → result.mail.letter ≡ None }
         ensures kept { KeepsTrain self.old self.new }
+        ensures held { IsHeld line.now centre self.new }
         ensures session { self.new.session_state ≡ self.old.session_state }
         ensures waiting { self.new.waiting ≡ self.old.waiting }
         ensures desk { KeepsDesk self.old.supervision.number book.old book.new registrar.old registrar.new }
-        ensures may { is_centre line.now centre ≡ true → self.old.supervision.engine ≤ 16777215 → IfSome result.letter (MaySend line.now centre) }
     {
         let count = cleared(line, self.hand(), &place);
         let released = self.supervision.clear_front(place, count, book);
-        self.released(line, centre, registrar, released)
+        self.released(line, centre, registrar, place.track, released)
     }
 }

@@ -1,21 +1,22 @@
 //! The right to supervise a train goes between its registrar and the centres where it starts (profile).
 
-ghost use Rattle.std.specs.Prelude.{◌≡◌, ◌<◌, ◌≤◌, ℕ, IfSome, None, length, true};
+ghost use Rattle.std.specs.Prelude.{◌≡◌, ◌<◌, ℕ, None, length};
 ghost use Rattle.rbc_spec.specs.Centre as spec;
 ghost use Rattle.rbc_spec.specs.Line as track;
-ghost use Rattle.rbc_spec.specs.Line.{is_centre, is_linked};
 ghost use Rattle.rbc_spec.specs.Links as links;
 ghost use Rattle.rbc_book.specs.Book.{Pages, is_own};
 ghost use Rattle.rbc_right.specs.Rights.{Rights};
 ghost use Rattle.rbc_wait.specs.Waits.{IsCovered};
-ghost use Rattle.rbc_rules.specs.Desk.{HasParts, KeepsTrain, KeepsRights, with_parts, reply_left};
+ghost use Rattle.rbc_rules.specs.Desk.{HasParts, IsHeld, KeepsTrain, KeepsRights, with_parts, reply_left};
 ghost use Rattle.rbc_rules.specs.Homes.{GoesHome};
-ghost use Rattle.rbc_rules.specs.Letters.{MaySend};
+ghost use Rattle.rbc_rules.specs.Letters.{mail_home};
 
 use crate::heard::Heard;
 use crate::letter::{Letter, go_home};
+use crate::mail::Mail;
 use crate::train::TrainState;
 use rbc_book::Book;
+use rbc_hand::SectionRun;
 use rbc_line::Line;
 use rbc_linkmsg::Body;
 use rbc_mission::{HeldRight, Released, Told};
@@ -32,10 +33,9 @@ impl TrainState {
         from: u8,
     ) -> Heard
         ensures exact { (book : Pages) (k : spec.Centre) → HasParts line.now centre k self.old book registrar.old
-            → links.right_asked line.now centre from self.old.supervision.engine k ≡ reply_left (with_parts self.new book registrar.new k) result }
+            → links.right_asked line.now centre from self.old.supervision.engine k ≡ reply_left line.now centre self.old.supervision.engine (with_parts self.new book registrar.new k) result }
         ensures same { self.new ≡ self.old }
         ensures rights { KeepsRights self.old.supervision.number registrar.old registrar.new }
-        ensures may { is_linked line.now centre from ≡ true → self.old.supervision.engine ≤ 16777215 → IfSome result.letter (MaySend line.now centre) }
     {
         let engine = self.nid_engine();
         if line.registrar(engine) != Some(centre) {
@@ -62,12 +62,12 @@ impl TrainState {
         requires train { self.old.waiting.engine ≡ self.old.supervision.engine }
         requires number { self.old.supervision.number < length registrar.old }
         ensures exact { (book : Pages) (k : spec.Centre) → HasParts line.now centre k self.old book registrar.old
-            → links.right_given line.now centre self.old.supervision.engine k ≡ reply_left (with_parts self.new book registrar.new k) result }
+            → links.right_given line.now centre self.old.supervision.engine k ≡ reply_left line.now centre self.old.supervision.engine (with_parts self.new book registrar.new k) result }
         ensures kept { KeepsTrain self.old self.new }
+        ensures held { (line : track.Line) (c : ℕ) → IsHeld line c self.old → IsHeld line c self.new }
         ensures session { self.new.session_state ≡ self.old.session_state }
         ensures covers { (line : track.Line) → IsCovered line self.old.waiting → IsCovered line self.new.waiting }
         ensures rights { KeepsRights self.old.supervision.number registrar.old registrar.new }
-        ensures may { is_centre line.now centre ≡ true → self.old.supervision.engine ≤ 16777215 → IfSome result.letter (MaySend line.now centre) }
     {
         if !self.waiting.has_asked() {
             return Heard::nothing();
@@ -81,20 +81,21 @@ impl TrainState {
         let released = Released {
             told: Told::nothing(),
             right: HeldRight::Held(right),
+            returned: SectionRun { first: 0, count: 0 },
         };
-        self.released(line, centre, registrar, released)
+        self.released(line, centre, registrar, 0, released)
     }
 
     /// RefuseRight: a start that waits is dropped, and the train is rejected.
     pub(crate) fn right_refused(&mut self, book: &mut Book) -> Heard
         requires count { self.old.said < 4294967294 }
         ensures exact { (line : track.Line) (c : ℕ) (rights : Rights) (k : spec.Centre) → HasParts line c k self.old book.old rights
-            → links.right_refused line c self.old.supervision.engine k ≡ reply_left (with_parts self.new book.new rights k) result }
+            → links.right_refused line c self.old.supervision.engine k ≡ reply_left line c self.old.supervision.engine (with_parts self.new book.new rights k) result }
         ensures kept { KeepsTrain self.old self.new }
+        ensures supervision { self.new.supervision ≡ self.old.supervision }
         ensures session { self.new.session_state ≡ self.old.session_state }
         ensures covers { (line : track.Line) → IsCovered line self.old.waiting → IsCovered line self.new.waiting }
         ensures homes { (s : ℕ) → is_own book.new s ≡ is_own book.old s }
-        ensures letter { result.letter ≡ None }
     {
         let Some(told) = self.waiting.give_up(book) else {
             return Heard::nothing();
@@ -112,10 +113,9 @@ impl TrainState {
     ) -> Heard
         requires number { self.old.supervision.number < length registrar.old }
         ensures exact { (book : Pages) (k : spec.Centre) → HasParts line.now centre k self.old book registrar.old
-            → links.right_returned line.now centre self.old.supervision.engine k ≡ reply_left (with_parts self.new book registrar.new k) result }
+            → links.right_returned line.now centre self.old.supervision.engine k ≡ reply_left line.now centre self.old.supervision.engine (with_parts self.new book registrar.new k) result }
         ensures same { self.new ≡ self.old }
         ensures rights { KeepsRights self.old.supervision.number registrar.old registrar.new }
-        ensures letter { result.letter ≡ None }
     {
         let is_registrar = line.registrar(self.nid_engine()) == Some(centre);
         if is_registrar && self.supervision.mission().is_none() {
@@ -124,23 +124,29 @@ impl TrainState {
         Heard::nothing()
     }
 
-    // What a mission gives back is told, and its right goes home.
+    // What leaves a mission on this track: what it gives back is told, and lent sections and its right go home.
     pub(crate) fn released(
         &self,
         line: &Line,
         centre: u8,
         registrar: &mut Registrar,
+        track: u8,
         released: Released,
     ) -> Heard
         ensures saying { result.saying ≡ None }
         ensures told { result.told ≡ released.told }
-        ensures right { GoesHome line.now centre self.now.supervision.engine released.right result.letter registrar.old registrar.new }
+        ensures mail { result.mail ≡ mail_home track released.returned result.mail.letter }
+        ensures right { GoesHome line.now centre self.now.supervision.engine released.right result.mail.letter registrar.old registrar.new }
     {
-        let Released { told, right } = released;
+        let Released {
+            told,
+            right,
+            returned,
+        } = released;
         let letter = go_home(line, centre, self.nid_engine(), right, registrar);
         Heard {
             saying: None,
-            letter,
+            mail: Mail::home(track, returned, letter),
             told,
         }
     }

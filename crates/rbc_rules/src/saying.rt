@@ -1,6 +1,7 @@
 ghost use Rattle.std.specs.Prelude.{◌≡◌, ◌<◌, ◌+◌, [], ◌∷◌, None};
 ghost use Rattle.rbc_spec.specs.Message.{unknown_group};
 ghost use Rattle.rbc_msgs.specs.Bodies.{track_body};
+ghost use Rattle.rbc_rules.specs.Letters.{mail_of};
 ghost use Rattle.rbc_rules.specs.Sayings.{saying_of, sayings_of};
 
 use crate::heard::Heard;
@@ -56,7 +57,7 @@ impl TrainState {
     pub(crate) fn answered(&mut self, body: TrackBody) -> Heard
         requires { self.old.said < 4294967294 }
         ensures said { sayings_of result.saying ≡ record { nid_engine = self.old.supervision.engine; message = record { t_train = self.old.said + 1; nid_lrbg = unknown_group; body = track_body body } } ∷ [] }
-        ensures letter { result.letter ≡ None }
+        ensures mail { result.mail ≡ mail_of None }
         ensures told { result.told ≡ [] }
         ensures counted { self.new ≡ record self.old { said = self.old.said + 1 } }
     {

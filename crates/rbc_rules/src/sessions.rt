@@ -1,6 +1,6 @@
 //! The train opens, confirms and closes its communication session (3.5.3, 3.5.5).
 
-ghost use Rattle.std.specs.Prelude.{◌≡◌, ◌<◌, ℕ, None, IfOk};
+ghost use Rattle.std.specs.Prelude.{◌≡◌, ◌<◌, ℕ};
 ghost use Rattle.rbc_spec.specs.Centre as spec;
 ghost use Rattle.rbc_spec.specs.Line as track;
 ghost use Rattle.rbc_spec.specs.Message.{InitiationOfSession, SessionEstablished, TerminationOfSession};
@@ -15,6 +15,7 @@ ghost use Rattle.rbc_rules.specs.Desk.{HearsTrain, KeepsTrain, with_parts, effec
 ghost use Rattle.rbc_rules.specs.SessionStates.{Enters};
 
 use crate::heard::Heard;
+use crate::mail::Mail;
 use crate::reason::Reason;
 use crate::session_state::{close, establish, open};
 use crate::train::TrainState;
@@ -35,10 +36,10 @@ impl TrainState {
         requires room { HasRoom sessions.old }
         requires count { self.old.said < 4294967294 }
         ensures exact { (line : track.Line) (c : ℕ) (rights : Rights) (k : spec.Centre) → HearsTrain line c k t_train self.old book.old rights
-            → step.effect reach.Rights line c k (step.Train (record { t_train = t_train; nid_engine = self.old.supervision.engine; body = InitiationOfSession }))
-            ≡ effect_left (with_parts self.new book.new rights k) result }
+            → step.effect reach.Routes line c k (step.Train (record { t_train = t_train; nid_engine = self.old.supervision.engine; body = InitiationOfSession }))
+            ≡ effect_left line c self.old.supervision.engine (with_parts self.new book.new rights k) result }
         ensures kept { KeepsTrain self.old self.new }
-        ensures letter { IfOk result (λ h. h.letter ≡ None) }
+        ensures hand { self.new.supervision.hand ≡ self.old.supervision.hand }
         ensures covers { (line : track.Line) → IsCovered line self.old.waiting → IsCovered line self.new.waiting }
         ensures homes { (s : ℕ) → is_own book.new s ≡ is_own book.old s }
         ensures stands { Enters sessions.old sessions.new self.new.session_state self.old.supervision.engine (session_phase self.new.session_state) }
@@ -51,7 +52,7 @@ impl TrainState {
         let saying = self.answer(NID_LRBG_UNKNOWN, TrackBody::SystemVersion);
         Ok(Heard {
             saying: Some(saying),
-            letter: None,
+            mail: Mail::of(None),
             told,
         })
     }
@@ -64,10 +65,10 @@ impl TrainState {
     ) -> Result<Heard, Reason>
         requires stands { StandsFor sessions.old self.old.session_state self.old.supervision.engine }
         ensures exact { (line : track.Line) (c : ℕ) (book : Pages) (rights : Rights) (k : spec.Centre) → HearsTrain line c k t_train self.old book rights
-            → step.effect reach.Rights line c k (step.Train (record { t_train = t_train; nid_engine = self.old.supervision.engine; body = SessionEstablished }))
-            ≡ effect_left (with_parts self.new book rights k) result }
+            → step.effect reach.Routes line c k (step.Train (record { t_train = t_train; nid_engine = self.old.supervision.engine; body = SessionEstablished }))
+            ≡ effect_left line c self.old.supervision.engine (with_parts self.new book rights k) result }
         ensures kept { KeepsTrain self.old self.new }
-        ensures letter { IfOk result (λ h. h.letter ≡ None) }
+        ensures hand { self.new.supervision.hand ≡ self.old.supervision.hand }
         ensures waiting { self.new.waiting ≡ self.old.waiting }
         ensures stands { Enters sessions.old sessions.new self.new.session_state self.old.supervision.engine (session_phase self.new.session_state) }
     {
@@ -92,10 +93,10 @@ impl TrainState {
         requires stands { StandsFor sessions.old self.old.session_state self.old.supervision.engine }
         requires count { self.old.said < 4294967294 }
         ensures exact { (line : track.Line) (c : ℕ) (rights : Rights) (k : spec.Centre) → HearsTrain line c k t_train self.old book.old rights
-            → step.effect reach.Rights line c k (step.Train (record { t_train = t_train; nid_engine = self.old.supervision.engine; body = TerminationOfSession }))
-            ≡ effect_left (with_parts self.new book.new rights k) result }
+            → step.effect reach.Routes line c k (step.Train (record { t_train = t_train; nid_engine = self.old.supervision.engine; body = TerminationOfSession }))
+            ≡ effect_left line c self.old.supervision.engine (with_parts self.new book.new rights k) result }
         ensures kept { KeepsTrain self.old self.new }
-        ensures letter { IfOk result (λ h. h.letter ≡ None) }
+        ensures hand { self.new.supervision.hand ≡ self.old.supervision.hand }
         ensures covers { (line : track.Line) → IsCovered line self.old.waiting → IsCovered line self.new.waiting }
         ensures homes { (s : ℕ) → is_own book.new s ≡ is_own book.old s }
         ensures stands { Enters sessions.old sessions.new self.new.session_state self.old.supervision.engine (session_phase self.new.session_state) }
@@ -112,7 +113,7 @@ impl TrainState {
         let saying = self.answer(NID_LRBG_UNKNOWN, TrackBody::TerminationAcknowledged);
         Ok(Heard {
             saying: Some(saying),
-            letter: None,
+            mail: Mail::of(None),
             told,
         })
     }

@@ -1,16 +1,15 @@
 //! The train answers the request to shorten its movement authority (3.8.6).
 
-ghost use Rattle.std.specs.Prelude.{◌≡◌, ◌<◌, ◌≤◌, ℕ, option_map, length, true, None, IfOk, IfSome};
+ghost use Rattle.std.specs.Prelude.{◌≡◌, ◌<◌, ℕ, option_map, length};
 ghost use Rattle.rbc_spec.specs.Centre as spec;
 ghost use Rattle.rbc_spec.specs.Message.{ShorteningGranted, ShorteningRejected};
 ghost use Rattle.rbc_spec.specs.Place as place;
 ghost use Rattle.rbc_spec.specs.Reach as reach;
 ghost use Rattle.rbc_spec.specs.Step as step;
 ghost use Rattle.rbc_msgs.specs.StepMessage.{position_of};
-ghost use Rattle.rbc_rules.specs.Letters.{MaySend};
-ghost use Rattle.rbc_rules.specs.Desk.{HearsTrain, KeepsTrain, KeepsDesk, with_parts, effect_left};
+ghost use Rattle.rbc_rules.specs.Desk.{HearsTrain, IsHeld, KeepsTrain, KeepsDesk, with_parts, effect_left};
 ghost use Rattle.rbc_spec.specs.Line as track;
-ghost use Rattle.rbc_spec.specs.Line.{is_centre};
+ghost use Rattle.rbc_rules.specs.Desks.{IsBookOf};
 ghost use Rattle.rbc_book.specs.Book.{Pages};
 ghost use Rattle.rbc_right.specs.Rights.{Rights};
 
@@ -40,14 +39,16 @@ impl TrainState {
         position: &Position,
     ) -> Result<Heard, Reason>
         requires number { self.old.supervision.number < length registrar.old }
+        requires book { IsBookOf line.now centre book.old }
+        requires held { IsHeld line.now centre self.old }
         ensures exact { (k : spec.Centre) → HearsTrain line.now centre k t_train self.old book.old registrar.old
-            → step.effect reach.Rights line.now centre k (step.Train (record { t_train = t_train; nid_engine = self.old.supervision.engine; body = ShorteningGranted request (position_of position.now) }))
-            ≡ effect_left (with_parts self.new book.new registrar.new k) result }
+            → step.effect reach.Routes line.now centre k (step.Train (record { t_train = t_train; nid_engine = self.old.supervision.engine; body = ShorteningGranted request (position_of position.now) }))
+            ≡ effect_left line.now centre self.old.supervision.engine (with_parts self.new book.new registrar.new k) result }
         ensures kept { KeepsTrain self.old self.new }
+        ensures held { IsHeld line.now centre self.new }
         ensures session { self.new.session_state ≡ self.old.session_state }
         ensures waiting { self.new.waiting ≡ self.old.waiting }
         ensures desk { KeepsDesk self.old.supervision.number book.old book.new registrar.old registrar.new }
-        ensures may { is_centre line.now centre ≡ true → self.old.supervision.engine ≤ 16777215 → IfOk result (λ h. IfSome h.letter (MaySend line.now centre)) }
     {
         let known = self.known();
         match known.phase {
@@ -69,7 +70,7 @@ impl TrainState {
             Ok(Cut::Keep(keep)) => {
                 self.heard = Some(t_train);
                 let released = self.supervision.shorten(keep, book);
-                Ok(self.released(line, centre, registrar, released))
+                Ok(self.released(line, centre, registrar, mission.place.track, released))
             }
             Ok(Cut::Nothing) => {
                 self.heard = Some(t_train);
@@ -88,10 +89,10 @@ impl TrainState {
     ) -> Result<Heard, Reason>
         ensures exact { (line : track.Line) (c : ℕ) (book : Pages) (rights : Rights) (k : spec.Centre) (position : place.Position)
             → HearsTrain line c k t_train self.old book rights
-            → step.effect reach.Rights line c k (step.Train (record { t_train = t_train; nid_engine = self.old.supervision.engine; body = ShorteningRejected request position }))
-            ≡ effect_left (with_parts self.new book rights k) result }
+            → step.effect reach.Routes line c k (step.Train (record { t_train = t_train; nid_engine = self.old.supervision.engine; body = ShorteningRejected request position }))
+            ≡ effect_left line c self.old.supervision.engine (with_parts self.new book rights k) result }
         ensures kept { KeepsTrain self.old self.new }
-        ensures letter { IfOk result (λ h. h.letter ≡ None) }
+        ensures hand { self.new.supervision.hand ≡ self.old.supervision.hand }
         ensures session { self.new.session_state ≡ self.old.session_state }
         ensures waiting { self.new.waiting ≡ self.old.waiting }
     {

@@ -1,9 +1,8 @@
 //! Start of mission (5.4).
 
-ghost use Rattle.std.specs.Prelude.{◌≡◌, ◌≢◌, ◌<◌, ◌≤◌, ◌+◌, ℕ, true, None, Some, IfOk, IfSome};
+ghost use Rattle.std.specs.Prelude.{◌≡◌, ◌<◌, ◌≤◌, ◌+◌, ℕ, true, None};
 ghost use Rattle.rbc_spec.specs.Centre as spec;
 ghost use Rattle.rbc_spec.specs.Line as track;
-ghost use Rattle.rbc_spec.specs.Line.{is_centre, registrar};
 ghost use Rattle.rbc_spec.specs.Message.{StartOfMission};
 ghost use Rattle.rbc_spec.specs.Place.{covered, is_fit};
 ghost use Rattle.rbc_spec.specs.Reach as reach;
@@ -16,13 +15,13 @@ ghost use Rattle.rbc_right.specs.Rights.{Rights};
 ghost use Rattle.rbc_place.specs.Places.{place_of};
 ghost use Rattle.rbc_wait.specs.Waits.{IsCovered};
 ghost use Rattle.rbc_claims.specs.Sections.{IsAllOpen};
-ghost use Rattle.rbc_rules.specs.Desk.{HasParts, HearsTrain, KeepsTrain, KeepsDesk, with_parts, effect_left};
+ghost use Rattle.rbc_rules.specs.Desk.{HasParts, HearsTrain, IsHeld, KeepsTrain, KeepsDesk, with_parts, effect_left};
 ghost use Rattle.rbc_rules.specs.Desks.{IsBookOf};
-ghost use Rattle.rbc_rules.specs.Letters.{MaySend};
-ghost use Rattle.rbc_rules.specs.Starts.{started, letter_of};
+ghost use Rattle.rbc_rules.specs.Starts.{started};
 
 use crate::heard::Heard;
 use crate::letter::{Letter, to_registrar};
+use crate::mail::Mail;
 use crate::reason::Reason;
 use crate::starting::{are_free, has_all, place_of_start};
 use crate::train::TrainState;
@@ -53,13 +52,13 @@ impl TrainState {
         requires count { self.old.said < 4294967294 }
         requires book { IsBookOf line.now centre book.old }
         ensures exact { (k : spec.Centre) → HearsTrain line.now centre k t_train self.old book.old registrar.old
-            → step.effect reach.Rights line.now centre k (step.Train (record { t_train = t_train; nid_engine = self.old.supervision.engine; body = StartOfMission (is_valid q_status) (position_of position.now) }))
-            ≡ effect_left (with_parts self.new book.new registrar.new k) result }
+            → step.effect reach.Routes line.now centre k (step.Train (record { t_train = t_train; nid_engine = self.old.supervision.engine; body = StartOfMission (is_valid q_status) (position_of position.now) }))
+            ≡ effect_left line.now centre self.old.supervision.engine (with_parts self.new book.new registrar.new k) result }
         ensures kept { KeepsTrain self.old self.new }
+        ensures held { IsHeld line.now centre self.old → IsHeld line.now centre self.new }
         ensures covers { IsCovered line.now self.old.waiting → IsCovered line.now self.new.waiting }
         ensures session { self.new.session_state ≡ self.old.session_state }
         ensures desk { KeepsDesk self.old.supervision.number book.old book.new registrar.old registrar.new }
-        ensures may { is_centre line.now centre ≡ true → self.old.supervision.engine ≤ 16777215 → IfOk result (λ h. IfSome h.letter (MaySend line.now centre)) }
     {
         let known = self.known();
         match known.phase {
@@ -76,7 +75,7 @@ impl TrainState {
             Start::Rejected => Ok(self.answered(TrackBody::TrainRejected)),
             Start::Waiting(letter) => Ok(Heard {
                 saying: None,
-                letter,
+                mail: Mail::of(letter),
                 told: Told::nothing(),
             }),
         }
@@ -96,13 +95,13 @@ impl TrainState {
         requires book { IsBookOf line.now centre book.old }
         requires none { self.old.waiting.wait ≡ None }
         ensures exact { (k : spec.Centre) → HasParts line.now centre k self.old book.old registrar.old
-            → rules.start_mission reach.Rights line.now centre self.old.supervision.engine (is_valid q_status) (position_of position.now) k
+            → rules.start_mission reach.Routes line.now centre self.old.supervision.engine (is_valid q_status) (position_of position.now) k
             ≡ started self.old.supervision.engine result (with_parts self.new book.new registrar.new k) }
         ensures same { self.new ≡ record self.old { supervision = self.new.supervision; waiting = self.new.waiting } }
         ensures kept { KeepsTrain self.old self.new }
+        ensures held { IsHeld line.now centre self.old → IsHeld line.now centre self.new }
         ensures covers { IsCovered line.now self.old.waiting → IsCovered line.now self.new.waiting }
         ensures desk { KeepsDesk self.old.supervision.number book.old book.new registrar.old registrar.new }
-        ensures may { is_centre line.now centre ≡ true → self.old.supervision.engine ≤ 16777215 → IfSome (letter_of result) (MaySend line.now centre) }
     {
         let Some(place) = place_of_start(line, q_status, position) else {
             return Start::Rejected;
@@ -141,9 +140,9 @@ impl TrainState {
         ensures exact { (line : track.Line) (c : ℕ) (k : spec.Centre) → HasParts line c k self.old book.old registrar.old → run_of run ≡ covered line (place_of place)
             → rules.start_here line self.old.supervision.engine (place_of place) k
             ≡ started self.old.supervision.engine result (with_parts self.new book.new registrar.new k) }
-        ensures answer { letter_of result ≡ None }
         ensures same { self.new ≡ record self.old { supervision = self.new.supervision } }
         ensures kept { KeepsTrain self.old self.new }
+        ensures held { (line : track.Line) (c : ℕ) → IsHeld line c self.old → IsHeld line c self.new }
         ensures desk { KeepsDesk self.old.supervision.number book.old book.new registrar.old registrar.new }
     {
         match registrar.ask(self.supervision.number()) {
@@ -168,8 +167,6 @@ impl TrainState {
         ensures kept { KeepsTrain self.old self.new }
         ensures covers { IsCovered line.now self.old.waiting → IsCovered line.now self.new.waiting }
         ensures homes { (s : ℕ) → is_own book.new s ≡ is_own book.old s }
-        ensures may { (c : ℕ) → is_centre line.now c ≡ true → registrar line.now self.old.supervision.engine ≢ Some c → self.old.supervision.engine ≤ 16777215
-            → IfSome (letter_of result) (MaySend line.now c) }
     {
         if !self.waiting.start(line, place, book) {
             return Start::Waiting(None);

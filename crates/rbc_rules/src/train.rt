@@ -5,7 +5,7 @@ ghost use Rattle.rbc_spec.specs.Acts.{propose_if_so};
 ghost use Rattle.rbc_hand.specs.SectionRuns.{run_of};
 ghost use Rattle.rbc_place.specs.Places.{place_of};
 ghost use Rattle.rbc_session.specs.SessionStates.{phase_of, session_phase};
-ghost use Rattle.rbc_mission.specs.Supervisions.{HasLocalForm, hand_of};
+ghost use Rattle.rbc_mission.specs.Supervisions.{HasRouteForm, hand_of};
 ghost use Rattle.rbc_rules.specs.Desks.{mission_by};
 ghost use Rattle.rbc_rules.specs.Trains.{asked, unknown_state, HasTrain};
 ghost use Rattle.rbc_rules.specs.Sayings.{sayings_of};
@@ -38,6 +38,8 @@ pub struct TrainPage {
     pub mission: Option<MissionFacts>,
     /// The sections of its movement authority, none where there is no mission.
     pub hand: SectionRun,
+    /// The lent sections that follow them, none where there is no mission.
+    pub pool: SectionRun,
     /// The place of a start of mission that waits for the right to supervise the train.
     pub waiting: Option<Place>,
 }
@@ -104,7 +106,7 @@ impl TrainState {
         ensures phase { phase_of result.phase ≡ session_phase self.now.session_state }
         ensures heard { result.heard ≡ self.now.heard }
         ensures said { result.said ≡ self.now.said }
-        ensures mission { mission_by result.mission result.hand ≡ self.now.supervision.mission }
+        ensures mission { mission_by result.mission result.hand result.pool ≡ self.now.supervision.mission }
         ensures waiting { option_map place_of result.waiting ≡ self.now.waiting.wait }
     {
         TrainPage {
@@ -113,6 +115,7 @@ impl TrainState {
             said: self.said,
             mission: self.supervision.mission(),
             hand: self.supervision.hand(),
+            pool: self.supervision.pool(),
             waiting: self.waiting.place(),
         }
     }
@@ -122,8 +125,8 @@ impl TrainState {
         ensures number { result.number ≡ self.now.supervision.number }
         ensures engine { result.nid_engine ≡ self.now.supervision.engine }
         ensures phase { phase_of result.phase ≡ session_phase self.now.session_state }
-        ensures mission { mission_by result.mission result.hand ≡ self.now.supervision.mission }
-        ensures local { (m : spec.Mission) → mission_by result.mission result.hand ≡ Some m → HasLocalForm m }
+        ensures mission { mission_by result.mission result.hand result.pool ≡ self.now.supervision.mission }
+        ensures route { (m : spec.Mission) → mission_by result.mission result.hand result.pool ≡ Some m → HasRouteForm m }
     {
         Train {
             number: self.supervision.number(),
@@ -131,6 +134,7 @@ impl TrainState {
             phase: self.session_state.phase(),
             mission: self.supervision.mission(),
             hand: self.supervision.hand(),
+            pool: self.supervision.pool(),
         }
     }
 
@@ -165,6 +169,8 @@ impl TrainState {
             → propose_if_so line.now self.old.supervision.engine s k ≡ asked self.old.supervision.engine self.new (sayings_of result) k }
         ensures session_state { self.new.session_state ≡ self.old.session_state }
         ensures heard { self.new.heard ≡ self.old.heard }
+        ensures question { self.new.supervision.asked ≡ self.old.supervision.asked }
+        ensures hand { self.new.supervision.hand ≡ self.old.supervision.hand }
         ensures number { self.new.supervision.number ≡ self.old.supervision.number }
         ensures engine { self.new.supervision.engine ≡ self.old.supervision.engine }
         ensures waiting { self.new.waiting ≡ self.old.waiting }

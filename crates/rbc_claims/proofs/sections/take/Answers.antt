@@ -1,5 +1,9 @@
-use Rattle.rbc_claims.proofs.Runs.{takes_one}
+use Rattle.rbc_claims.proofs.Runs.{takes_one, taken_in}
 use Rattle.rbc_claims.proofs.sections.take.Goals as goal
+
+pub returns-in_default-extend-clause-hand : goal.returns-in_default-extend-clause-hand
+returns-in_default-extend-clause-hand c =
+    taken_in c.args.hand.now c.extend.new.self c.args.s c.args.nid_engine _ c.take.result c.in-Some.claim c.take.ensures.claim c.in-Some.is c.requires.room c.extend.ensures.hand
 
 pub returns-in_default-extend-clause-book : goal.returns-in_default-extend-clause-book
 returns-in_default-extend-clause-book c =

@@ -3,4 +3,4 @@ use Rattle.rbc_claims.proofs.Runs.{HasTaken}
 use Rattle.rbc_claims.proofs.sections.take_run.Given as goal
 
 abbrev pub invariant-loop-k : goal.invariant-loop-k
-invariant-loop-k l = HasTaken l.nid_engine l.sections.first (length l.fn.hand.holds) l.k l.hand l.fn.book l.book
+invariant-loop-k l = HasTaken l.nid_engine l.sections.first (length l.fn.hand.holds) l.k l.fn.hand.holds l.hand l.fn.book l.book

@@ -8,17 +8,17 @@ use Rattle.rbc_grant.proofs.follow.following.Goals as goal
 
 pub returns-then-not-may_follow-clause-value : goal.returns-then-not-may_follow-clause-value
 returns-then-not-may_follow-clause-value c =
-    stops (may_follow c.args.line.now c.args.book.now (place_of c.args.place.now)) (behind (run_of c.args.hand)) c.saturating_sub-room.result c.loop-k.k (c.behind.result + c.from.result)
+    stops (may_follow c.args.line.now c.args.book.now (run_of c.args.pool) (place_of c.args.place.now)) (behind (run_of c.args.hand)) c.saturating_sub-room.result c.loop-k.k (c.behind.result + c.from.result)
     (omega (arith, c.behind.ensures, c.from.ensures)) (sym c.may_follow.ensures ∙ c.if-not-may_follow.true) c.loop-k.invariant
-    ∙ ap (longest (may_follow c.args.line.now c.args.book.now (place_of c.args.place.now)) (behind (run_of c.args.hand))) c.saturating_sub-room.ensures
+    ∙ ap (longest (may_follow c.args.line.now c.args.book.now (run_of c.args.pool) (place_of c.args.place.now)) (behind (run_of c.args.hand))) c.saturating_sub-room.ensures
 
 pub loop-k-preserved : goal.loop-k-preserved
 loop-k-preserved c =
-    one_more (may_follow c.args.line.now c.args.book.now (place_of c.args.place.now)) (behind (run_of c.args.hand)) c.saturating_sub-room.result c.loop-k.k (c.behind.result + c.from.result)
+    one_more (may_follow c.args.line.now c.args.book.now (run_of c.args.pool) (place_of c.args.place.now)) (behind (run_of c.args.hand)) c.saturating_sub-room.result c.loop-k.k (c.behind.result + c.from.result)
     c.loop-k-test.true (omega (arith, c.behind.ensures, c.from.ensures)) (sym c.may_follow.ensures ∙ c.if-not-may_follow.false) c.loop-k.invariant
 
 pub returns-clause-value : goal.returns-clause-value
 returns-clause-value c =
-    all_passed (may_follow c.args.line.now c.args.book.now (place_of c.args.place.now)) (behind (run_of c.args.hand)) c.saturating_sub-room.result c.loop-k.k
+    all_passed (may_follow c.args.line.now c.args.book.now (run_of c.args.pool) (place_of c.args.place.now)) (behind (run_of c.args.hand)) c.saturating_sub-room.result c.loop-k.k
     c.loop-k-test.false c.loop-k.invariant
-    ∙ ap (longest (may_follow c.args.line.now c.args.book.now (place_of c.args.place.now)) (behind (run_of c.args.hand))) c.saturating_sub-room.ensures
+    ∙ ap (longest (may_follow c.args.line.now c.args.book.now (run_of c.args.pool) (place_of c.args.place.now)) (behind (run_of c.args.hand))) c.saturating_sub-room.ensures

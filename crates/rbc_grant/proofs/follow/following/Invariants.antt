@@ -6,4 +6,4 @@ use Rattle.rbc_grant.specs.Grants.{may_follow}
 use Rattle.rbc_grant.proofs.follow.following.Given as goal
 
 abbrev pub invariant-loop-k : goal.invariant-loop-k
-invariant-loop-k l = HasPassed (may_follow l.line l.book (place_of l.place)) (behind (run_of l.hand)) l.room l.k
+invariant-loop-k l = HasPassed (may_follow l.line l.book (run_of l.pool) (place_of l.place)) (behind (run_of l.hand)) l.room l.k

@@ -1,30 +1,60 @@
-use Rattle.std.proofs.Common.{◌≤◌, ◌∙◌, ap, sym, subst}
+use Rattle.std.proofs.Common.{◌≤◌, ◌∙◌, ap, sym, refl, subst}
 use Rattle.rbc_spec.specs.SectionRuns.{SectionRun, passing}
+use Rattle.rbc_spec.specs.Line.{is_home}
 use Rattle.rbc_spec.specs.Place.{is_cleared}
+use Rattle.rbc_book.specs.Book.{is_own}
 use Rattle.rbc_place.specs.Places.{place_of}
+use Rattle.rbc_claims.specs.Sections.{hand_rest}
 use Rattle.rbc_mission.specs.Supervisions.{SupervisionState, hand_of, right_left}
 use Rattle.rbc_rules.specs.Desk.{with_parts}
+use Rattle.rbc_rules.specs.Letters.{mail_home}
 use Rattle.rbc_rules.proofs.Clears.{clears}
-use Rattle.rbc_rules.proofs.Kept.{kept_cleared}
+use Rattle.rbc_rules.proofs.Kept.{kept_cleared, cleared_place, none_left, held_as}
 use Rattle.rbc_rules.proofs.Letters.{goes_as}
 use Rattle.rbc_rules.proofs.RightFrames.{released_as}
 use Rattle.rbc_rules.proofs.train.TrainState.clear.Goals as goal
 
+pub clear_front-released-requires-clause-some : goal.clear_front-released-requires-clause-some
+clear_front-released-requires-clause-some c = subst (λ (r : SectionRun). c.cleared-count.result ≤ r.count) c.hand.ensures c.cleared-count.ensures.bound
+
+pub clear_front-released-requires-clause-held : goal.clear_front-released-requires-clause-held
+clear_front-released-requires-clause-held c =
+    let old = c.args.self.now in
+    held_as old.supervision.engine old.supervision.engine (is_home c.args.line.now c.args.centre) (is_own c.args.book.now) old.supervision.hand refl c.requires.book c.requires.held
+
 pub returns-clause-exact : goal.returns-clause-exact
-returns-clause-exact c = λ m there k has.
+returns-clause-exact c = λ m there on k has.
     let line = c.args.line.now in
     let old = c.args.self.now in
     let place = place_of c.args.place in
     let left = c.clear_front-released.new.self in
-    clears line c.args.centre k old c.args.book.now c.args.registrar.now has m there place c.requires.number left c.clear_front-released.new.book c.released.new.registrar c.clear_front-released.result.told c.released.result.letter
+    let sections = c.clear_front-released.result.returned in
+    let letter = c.released.result.mail.letter in
+    clears line c.args.centre k old c.args.book.now c.args.registrar.now has m there place c.requires.number left (hand_rest c.cleared-count.result old.supervision.hand) c.clear_front-released.new.book c.released.new.registrar c.clear_front-released.result.told letter
     c.cleared-count.result
     (c.cleared-count.ensures.value ∙ ap (passing (is_cleared line place)) c.hand.ensures ∙ ap (λ (x : SupervisionState). passing (is_cleared line place) (hand_of x)) (λ i. record old.supervision { mission = there i }))
-    c.clear_front-released.ensures.supervision c.clear_front-released.ensures.book c.clear_front-released.ensures.told
-    (goes_as line c.args.centre old.supervision.engine left.engine c.clear_front-released.result.right (right_left old.supervision left) c.released.result.letter c.args.registrar.now c.released.new.registrar
+    c.clear_front-released.ensures.supervision c.clear_front-released.ensures.book c.clear_front-released.ensures.told sections c.clear_front-released.ensures.returned
+    (goes_as line c.args.centre old.supervision.engine left.engine c.clear_front-released.result.right (right_left old.supervision left) letter c.args.registrar.now c.released.new.registrar
     (ap (λ (x : SupervisionState). x.engine) c.clear_front-released.ensures.supervision) c.clear_front-released.ensures.right c.released.ensures.right)
-    ∙ sym (released_as (with_parts (record old { supervision = left }) c.clear_front-released.new.book c.released.new.registrar k) c.released.result c.clear_front-released.result.told c.released.ensures.saying c.released.ensures.told)
+    ∙ sym (released_as line c.args.centre old.supervision.engine (with_parts (record old { supervision = left }) c.clear_front-released.new.book c.released.new.registrar k) c.released.result c.clear_front-released.result.told
+    (mail_home m.place.track sections letter) c.released.ensures.saying (c.released.ensures.mail ∙ ap (λ track. mail_home track sections letter) (sym on)) c.released.ensures.told)
 
 pub returns-clause-stays : goal.returns-clause-stays
 returns-clause-stays c = λ kept.
-    kept_cleared c.args.line.now c.args.centre c.args.self.now c.clear_front-released.new.self (place_of c.args.place) c.cleared-count.result
+    kept_cleared c.args.line.now c.args.centre c.args.self.now c.clear_front-released.new.self (hand_rest c.cleared-count.result c.args.self.now.supervision.hand) (place_of c.args.place) c.cleared-count.result
     (subst (λ (r : SectionRun). c.cleared-count.result ≤ r.count) c.hand.ensures c.cleared-count.ensures.bound) c.clear_front-released.ensures.supervision kept
+
+pub returns-clause-track : goal.returns-clause-track
+returns-clause-track c = λ m there.
+    cleared_place (place_of c.args.place) c.cleared-count.result c.args.self.now.supervision.mission m (ap (λ (x : SupervisionState). x.mission) (sym c.clear_front-released.ensures.supervision) ∙ there)
+
+pub returns-clause-letter : goal.returns-clause-letter
+returns-clause-letter c = λ stands.
+    (c.released.ensures.right.nothing (c.clear_front-released.ensures.right ∙ none_left c.args.self.now.supervision c.clear_front-released.new.self stands)).0
+
+pub returns-clause-held : goal.returns-clause-held
+returns-clause-held c =
+    let old = c.args.self.now in
+    let left = c.clear_front-released.new.self in
+    held_as old.supervision.engine left.engine (is_own c.clear_front-released.new.book) (is_home c.args.line.now c.args.centre) left.hand (sym (ap (λ (x : SupervisionState). x.engine) c.clear_front-released.ensures.supervision))
+    (λ s. sym (c.clear_front-released.ensures.book.homes s ∙ c.requires.book s)) c.clear_front-released.ensures.held

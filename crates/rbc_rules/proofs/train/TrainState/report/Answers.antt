@@ -5,26 +5,27 @@ use Rattle.rbc_hand.specs.SectionRuns.{run_of}
 use Rattle.rbc_place.specs.Places.{place_of}
 use Rattle.rbc_mission.specs.Supervisions.{mission_of}
 use Rattle.rbc_rules.specs.Desks.{mission_by}
-use Rattle.rbc_rules.specs.Sayings.{sayings_of}
-use Rattle.rbc_rules.proofs.Desk.{parts_heard}
+use Rattle.rbc_rules.proofs.Turns.{parts_heard}
 use Rattle.rbc_rules.proofs.Kept.{unhanded}
-use Rattle.rbc_rules.proofs.Reports.{not_supervised, reports}
+use Rattle.rbc_rules.proofs.Reports.{not_supervised, reports, on_track}
 use Rattle.rbc_rules.proofs.train.TrainState.report.Goals as goal
 
 pub returns-in_default-clause-exact : goal.returns-in_default-clause-exact
 returns-in_default-clause-exact c = λ k h.
     not_supervised c.args.line.now c.args.centre k c.args.t_train c.args.self.now c.args.book.now c.args.registrar.now (position_of c.args.position.now) h
-    (sym c.known-known.ensures.phase ∙ ap phase_of c.in-Up.is) (sym c.known-known.ensures.mission ∙ ap (λ o. mission_by o c.known-known.result.hand) c.in_default.is)
+    (sym c.known-known.ensures.phase ∙ ap phase_of c.in-Up.is) (sym c.known-known.ensures.mission ∙ ap (λ o. mission_by o c.known-known.result.hand c.known-known.result.pool) c.in_default.is)
 
 pub returns-clause-exact : goal.returns-clause-exact
 returns-clause-exact c = λ k h.
     let line = c.args.line.now in
     let old = c.args.self.now in
     let hand = c.known-known.result.hand in
-    let m = mission_of (run_of hand) c.in-Some.mission in
-    let there = sym c.known-known.ensures.mission ∙ ap (λ o. mission_by o hand) c.in-Some.is in
+    let pool = c.known-known.result.pool in
+    let m = mission_of (run_of hand) (run_of pool) c.in-Some.mission in
+    let there = sym c.known-known.ensures.mission ∙ ap (λ o. mission_by o hand pool) c.in-Some.is in
     let kept = c.clear.ensures.stays (parts_heard line c.args.centre k c.args.t_train old c.args.book.now c.args.registrar.now h.parts).kept in
     reports line c.args.centre k c.args.t_train old c.args.book.now c.args.registrar.now (position_of c.args.position.now) h
-    m (place_of c.in-Some-place_on.place) c.clear.new.self c.clear.new.book c.clear.new.registrar (sayings_of c.clear.result.saying) c.clear.result.told c.clear.result.letter
+    m (place_of c.in-Some-place_on.place) c.clear.new.self c.clear.new.book c.clear.new.registrar c.clear.result
     (sym c.known-known.ensures.phase ∙ ap phase_of c.in-Up.is) there
-    (sym c.place_on.ensures.value ∙ ap (option_map place_of) c.in-Some-place_on.is) c.clear.ensures.kept.engine (unhanded line c.args.centre c.clear.new.self kept) (c.clear.ensures.exact m there)
+    (sym c.place_on.ensures.value ∙ ap (option_map place_of) c.in-Some-place_on.is) c.clear.ensures.kept.engine (unhanded line c.args.centre c.clear.new.self kept)
+    (c.clear.ensures.exact m there (sym (on_track line m.place.track (position_of c.args.position.now) (place_of c.in-Some-place_on.place) (sym c.place_on.ensures.value ∙ ap (option_map place_of) c.in-Some-place_on.is))))

@@ -6,6 +6,7 @@ use Rattle.rbc_lemmas.proofs.Puts.{put_there}
 use Rattle.rbc_linkmsg.specs.declared.body.Body.TheVariants.{GiveRight, RefuseRight}
 use Rattle.rbc_right.specs.Rights.{is_here}
 use Rattle.rbc_rules.specs.Desk.{with_parts, reply_left}
+use Rattle.rbc_rules.specs.Letters.{mail_of}
 use Rattle.rbc_rules.specs.declared.heard.Heard.{Heard}
 use Rattle.rbc_rules.proofs.Runs.{is_registered}
 use Rattle.rbc_rules.proofs.RightFrames.{not_so, was_here, was_gone, gives, refuses}
@@ -25,10 +26,10 @@ returns-clause-exact c = λ book k has.
     elim c.match-ask.branch [
       | in-Given w ↦
           gives line c.args.centre k p book rights has c.args.from c.ask.new.self here (sym (ap (is_here rights) c.number.ensures) ∙ was_here _ _ _ w.in-Given.ensures.answer) gone
-          ∙ ap (λ (h : Heard). reply_left (with_parts p book c.ask.new.self k) h)
-          (sym (c.told.ensures ∙ (λ l. record { saying = None; letter = Some (record { to = c.args.from; body = (w.body-is ∙ ap (λ (u : ℕ). GiveRight u) c.nid_engine-engine.ensures) l }); told = [] })))
+          ∙ ap (λ (h : Heard). reply_left line c.args.centre t (with_parts p book c.ask.new.self k) h)
+          (sym (c.told.ensures ∙ (λ l. record { saying = None; mail = mail_of (Some (record { to = c.args.from; body = (w.body-is ∙ ap (λ (u : ℕ). GiveRight u) c.nid_engine-engine.ensures) l })); told = [] })))
       | in-NotHere w ↦
           refuses line c.args.centre k p book rights has c.args.from c.ask.new.self here (sym (ap (is_here rights) c.number.ensures) ∙ was_gone _ _ w.in-NotHere.ensures.answer) gone
-          ∙ ap (λ (h : Heard). reply_left (with_parts p book c.ask.new.self k) h)
-          (sym (c.told.ensures ∙ (λ l. record { saying = None; letter = Some (record { to = c.args.from; body = (w.body-is ∙ ap (λ (u : ℕ). RefuseRight u) c.nid_engine-engine.ensures) l }); told = [] })))
+          ∙ ap (λ (h : Heard). reply_left line c.args.centre t (with_parts p book c.ask.new.self k) h)
+          (sym (c.told.ensures ∙ (λ l. record { saying = None; mail = mail_of (Some (record { to = c.args.from; body = (w.body-is ∙ ap (λ (u : ℕ). RefuseRight u) c.nid_engine-engine.ensures) l })); told = [] })))
     ]

@@ -14,7 +14,7 @@ returns-clause-exact c = λ book k has.
     let line = c.args.line.now in
     let p = c.args.self.now in
     let t = p.supervision.engine in
-    let said = ap (reply_left (with_parts p book c.if-is_registrar.registrar k)) (sym c.nothing.ensures) in
+    let said = ap (reply_left line c.args.centre t (with_parts p book c.if-is_registrar.registrar k)) (sym c.nothing.ensures) in
     let there = c.registrar.ensures ∙ ap (registrar line) c.nid_engine.ensures in
     elim c.if-is_registrar.branch [
       | then-is_registrar+then-is_none w ↦

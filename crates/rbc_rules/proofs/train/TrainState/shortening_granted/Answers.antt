@@ -1,15 +1,20 @@
 use Rattle.std.proofs.Common.{◌∙◌, ap, sym, refl, Some, ℕ, option_map}
 use Rattle.rbc_spec.specs.Message.{ShorteningGranted}
+use Rattle.rbc_spec.specs.Line.{is_home}
 use Rattle.rbc_spec.specs.Step.{is_unasked}
+use Rattle.rbc_book.specs.Book.{is_own}
 use Rattle.rbc_msgs.specs.StepMessage.{position_of}
 use Rattle.rbc_session.specs.SessionStates.{phase_of}
 use Rattle.rbc_hand.specs.SectionRuns.{run_of}
 use Rattle.rbc_shorten.specs.Facts.{proposal_of}
 use Rattle.rbc_shorten.specs.Answers.{cut_of, act_of}
+use Rattle.rbc_claims.specs.Sections.{hand_front}
 use Rattle.rbc_mission.specs.Supervisions.{SupervisionState, mission_of, right_left}
 use Rattle.rbc_rules.specs.Desks.{mission_by}
 use Rattle.rbc_rules.specs.Desk.{with_parts, reply_left}
+use Rattle.rbc_rules.specs.Letters.{mail_home}
 use Rattle.rbc_rules.proofs.Desk.{by_reply}
+use Rattle.rbc_rules.proofs.Kept.{held_as, still_held}
 use Rattle.rbc_rules.proofs.Letters.{goes_as}
 use Rattle.rbc_rules.proofs.RightFrames.{released_as}
 use Rattle.rbc_rules.proofs.Shortened.{asked_is, kept_is, keeps_all, gives_back}
@@ -20,38 +25,58 @@ returns-in-Ok-Keep-clause-exact c = λ k h.
     let line = c.args.line.now in
     let old = c.args.self.now in
     let hand = c.known-known.result.hand in
+    let pool = c.known-known.result.pool in
     let front = c.front_on-front.result in
-    let m = mission_of (run_of hand) c.in-Some.mission in
+    let m = mission_of (run_of hand) (run_of pool) c.in-Some.mission in
     let position = position_of c.args.position.now in
     let left = c.shorten-released.new.self in
     let asked = asked_is (cut_of line (run_of hand) front) c.in-Some.mission.proposal c.value.result c.in-Ok-Keep.field-0 (sym c.granted.ensures.exact ∙ c.in-Ok-Keep.is) in
     let p = proposal_of asked.0 in
     let standing = ap (option_map proposal_of) asked.1 in
     gives_back line c.args.centre k c.args.t_train old c.args.book.now c.args.registrar.now c.args.request position h m p
-    (sym c.known-known.ensures.phase ∙ ap phase_of c.in-Up.is) (sym c.known-known.ensures.mission ∙ ap (λ o. mission_by o hand) c.in-Some.is) standing
+    (sym c.known-known.ensures.phase ∙ ap phase_of c.in-Up.is) (sym c.known-known.ensures.mission ∙ ap (λ o. mission_by o hand pool) c.in-Some.is) standing
     (ap (λ (s : ℕ). is_unasked (Some m) (ShorteningGranted s position)) (sym c.value.ensures.value) ∙ sym (c.in-Ok-Keep.ensures.reason m position refl))
-    c.in-Ok-Keep.keep left c.shorten-released.new.book c.released.new.registrar c.shorten-released.result.told c.released.result.letter
+    c.in-Ok-Keep.keep left (hand_front c.in-Ok-Keep.keep old.supervision.hand) c.shorten-released.new.book c.released.new.registrar c.shorten-released.result.told c.released.result.mail.letter c.shorten-released.result.returned
     (c.in-Ok-Keep.ensures.rules c.args.centre old.supervision.engine position m p (record { proposal = standing; place = c.front_on-front.ensures })
     ∙ ap (act_of line c.args.centre old.supervision.engine m p) c.in-Ok-Keep.field-0-is)
     (kept_is line (run_of hand) front asked.0 c.in-Ok-Keep.keep (asked.2 ∙ c.in-Ok-Keep.field-0-is)) c.requires.number
-    c.shorten-released.ensures.supervision c.shorten-released.ensures.book c.shorten-released.ensures.told
-    (goes_as line c.args.centre old.supervision.engine left.engine c.shorten-released.result.right (right_left old.supervision left) c.released.result.letter c.args.registrar.now c.released.new.registrar
+    c.shorten-released.ensures.supervision c.shorten-released.ensures.book c.shorten-released.ensures.told c.shorten-released.ensures.returned
+    (goes_as line c.args.centre old.supervision.engine left.engine c.shorten-released.result.right (right_left old.supervision left) c.released.result.mail.letter c.args.registrar.now c.released.new.registrar
     (ap (λ (x : SupervisionState). x.engine) c.shorten-released.ensures.supervision) c.shorten-released.ensures.right c.released.ensures.right)
-    ∙ ap by_reply (sym (released_as (with_parts (record old { heard = Some c.args.t_train; supervision = left }) c.shorten-released.new.book c.released.new.registrar k) c.released.result c.shorten-released.result.told c.released.ensures.saying c.released.ensures.told))
+    ∙ ap by_reply (sym (released_as line c.args.centre old.supervision.engine (with_parts (record old { heard = Some c.args.t_train; supervision = left }) c.shorten-released.new.book c.released.new.registrar k) c.released.result c.shorten-released.result.told
+    (mail_home m.place.track c.shorten-released.result.returned c.released.result.mail.letter) c.released.ensures.saying c.released.ensures.mail c.released.ensures.told))
 
 pub returns-in-Ok-Nothing-clause-exact : goal.returns-in-Ok-Nothing-clause-exact
 returns-in-Ok-Nothing-clause-exact c = λ k h.
     let line = c.args.line.now in
     let old = c.args.self.now in
     let hand = c.known-known.result.hand in
-    let m = mission_of (run_of hand) c.in-Some.mission in
+    let pool = c.known-known.result.pool in
+    let m = mission_of (run_of hand) (run_of pool) c.in-Some.mission in
     let position = position_of c.args.position.now in
     let asked = asked_is (cut_of line (run_of hand) c.front_on-front.result) c.in-Some.mission.proposal c.value.result c.in-Ok-Nothing.field-0 (sym c.granted.ensures.exact ∙ c.in-Ok-Nothing.is) in
     let p = proposal_of asked.0 in
     let standing = ap (option_map proposal_of) asked.1 in
     keeps_all line c.args.centre k c.args.t_train old c.args.book.now c.args.registrar.now c.args.request position h m p
-    (sym c.known-known.ensures.phase ∙ ap phase_of c.in-Up.is) (sym c.known-known.ensures.mission ∙ ap (λ o. mission_by o hand) c.in-Some.is) standing
+    (sym c.known-known.ensures.phase ∙ ap phase_of c.in-Up.is) (sym c.known-known.ensures.mission ∙ ap (λ o. mission_by o hand pool) c.in-Some.is) standing
     (ap (λ (s : ℕ). is_unasked (Some m) (ShorteningGranted s position)) (sym c.value.ensures.value) ∙ sym (c.in-Ok-Nothing.ensures.reason m position refl))
     (c.in-Ok-Nothing.ensures.rules c.args.centre old.supervision.engine position m p (record { proposal = standing; place = c.front_on-front.ensures })
     ∙ ap (act_of line c.args.centre old.supervision.engine m p) c.in-Ok-Nothing.field-0-is)
-    ∙ (λ i. by_reply (reply_left (with_parts (record old { heard = Some c.args.t_train; supervision = sym c.forget_proposal.ensures i }) c.args.book.now c.args.registrar.now k) (sym c.nothing.ensures i)))
+    ∙ (λ i. by_reply (reply_left line c.args.centre old.supervision.engine (with_parts (record old { heard = Some c.args.t_train; supervision = sym c.forget_proposal.ensures i }) c.args.book.now c.args.registrar.now k) (sym c.nothing.ensures i)))
+
+pub shorten-released-requires-clause-held : goal.shorten-released-requires-clause-held
+shorten-released-requires-clause-held c =
+    let old = c.args.self.now in
+    held_as old.supervision.engine old.supervision.engine (is_home c.args.line.now c.args.centre) (is_own c.args.book.now) old.supervision.hand refl c.requires.book c.requires.held
+
+pub returns-in-Ok-Keep-clause-held : goal.returns-in-Ok-Keep-clause-held
+returns-in-Ok-Keep-clause-held c =
+    let old = c.args.self.now in
+    let left = c.shorten-released.new.self in
+    held_as old.supervision.engine left.engine (is_own c.shorten-released.new.book) (is_home c.args.line.now c.args.centre) left.hand (sym (ap (λ (x : SupervisionState). x.engine) c.shorten-released.ensures.supervision))
+    (λ s. sym (c.shorten-released.ensures.book.homes s ∙ c.requires.book s)) c.shorten-released.ensures.held
+
+pub returns-in-Ok-Nothing-clause-held : goal.returns-in-Ok-Nothing-clause-held
+returns-in-Ok-Nothing-clause-held c =
+    let old = c.args.self.now in
+    still_held c.args.line.now c.args.centre old (record old { supervision = c.forget_proposal.new.self }) (ap (λ (x : SupervisionState). x.engine) c.forget_proposal.ensures) (ap (λ (x : SupervisionState). x.hand) c.forget_proposal.ensures) c.requires.held

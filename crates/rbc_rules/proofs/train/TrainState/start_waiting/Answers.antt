@@ -26,4 +26,4 @@ returns-clause-exact c = λ n rights k has.
     (ap (λ (x : WaitState). x.engine) c.start.ensures.waits)
     (c.start.ensures.exact n k (has_waiting line n k old book rights has))
     (sends_ask line n k old book rights has letter
-    (c.to_registrar.ensures.value ∙ ap (λ (e : ℕ). option_map (λ (r : ℕ). record { to = r; body = code.AskRight e }) (registrar line e)) c.nid_engine-engine.ensures) ∙ ap (asks line old.supervision.engine) (sym c.if-not-start.false))
+    (c.to_registrar.ensures ∙ ap (λ (e : ℕ). option_map (λ (r : ℕ). record { to = r; body = code.AskRight e }) (registrar line e)) c.nid_engine-engine.ensures) ∙ ap (asks line old.supervision.engine) (sym c.if-not-start.false))

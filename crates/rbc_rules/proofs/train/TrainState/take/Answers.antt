@@ -1,6 +1,7 @@
 use Rattle.std.proofs.Common.{◌∙◌, ap, sym, ℕ}
 use Rattle.rbc_spec.specs.Message.{is_stale}
 use Rattle.rbc_msgs.specs.StepMessage.{step_message, step_body, position_of}
+use Rattle.rbc_rules.proofs.Kept.{still_held}
 use Rattle.rbc_rules.proofs.Takes.{stale_left, heard_as}
 use Rattle.rbc_rules.proofs.train.TrainState.take.Goals as goal
 
@@ -42,7 +43,7 @@ returns-in-TrainData-clause-exact c = λ k has known.
 
 pub returns-in-Request-clause-exact : goal.returns-in-Request-clause-exact
 returns-in-Request-clause-exact c = λ k has known.
-    heard_as c.args.line.now c.args.centre k (step_message c.args.message.now) _ _ (c.request.ensures.exact c.args.centre c.args.registrar.now k (record { parts = has; known = known; timely = sym c.is_stale.ensures ∙ c.if-is_stale.false }))
+    heard_as c.args.line.now c.args.centre k (step_message c.args.message.now) _ _ (c.request.ensures.exact c.args.registrar.now k (record { parts = has; known = known; timely = sym c.is_stale.ensures ∙ c.if-is_stale.false }))
     (λ i. record { t_train = sym c.t_train-t_train.ensures.value i; nid_engine = c.requires.engine i; body = step_body ((sym c.body.ensures.value ∙ c.in-Request.is) i) })
 
 pub returns-in-Report-clause-exact : goal.returns-in-Report-clause-exact
@@ -64,3 +65,18 @@ pub returns-in-EndOfMission-clause-exact : goal.returns-in-EndOfMission-clause-e
 returns-in-EndOfMission-clause-exact c = λ k has known.
     heard_as c.args.line.now c.args.centre k (step_message c.args.message.now) _ _ (c.end_of_mission.ensures.exact k (record { parts = has; known = known; timely = sym c.is_stale.ensures ∙ c.if-is_stale.false }))
     (λ i. record { t_train = sym c.t_train-t_train.ensures.value i; nid_engine = c.requires.engine i; body = step_body ((sym c.body.ensures.value ∙ c.in-EndOfMission.is) i) })
+
+pub returns-in-InitiationOfSession-clause-held : goal.returns-in-InitiationOfSession-clause-held
+returns-in-InitiationOfSession-clause-held c = still_held c.args.line.now c.args.centre c.args.self.now c.initiation_of_session.new.self c.initiation_of_session.ensures.kept.engine c.initiation_of_session.ensures.hand c.requires.held
+
+pub returns-in-TerminationOfSession-clause-held : goal.returns-in-TerminationOfSession-clause-held
+returns-in-TerminationOfSession-clause-held c = still_held c.args.line.now c.args.centre c.args.self.now c.termination_of_session.new.self c.termination_of_session.ensures.kept.engine c.termination_of_session.ensures.hand c.requires.held
+
+pub returns-in-SessionEstablished-clause-held : goal.returns-in-SessionEstablished-clause-held
+returns-in-SessionEstablished-clause-held c = still_held c.args.line.now c.args.centre c.args.self.now c.session_established.new.self c.session_established.ensures.kept.engine c.session_established.ensures.hand c.requires.held
+
+pub returns-in-TrainData-clause-held : goal.returns-in-TrainData-clause-held
+returns-in-TrainData-clause-held c = still_held c.args.line.now c.args.centre c.args.self.now c.train_data.new.self c.train_data.ensures.kept.engine c.train_data.ensures.hand c.requires.held
+
+pub returns-in-ShorteningRejected-clause-held : goal.returns-in-ShorteningRejected-clause-held
+returns-in-ShorteningRejected-clause-held c = still_held c.args.line.now c.args.centre c.args.self.now c.shortening_rejected.new.self c.shortening_rejected.ensures.kept.engine c.shortening_rejected.ensures.hand c.requires.held

@@ -6,6 +6,7 @@ use Rattle.rbc_hand.specs.Hands.{run}
 use Rattle.rbc_place.specs.Places.{place_of}
 use Rattle.rbc_wait.specs.Waits.{WaitState}
 use Rattle.rbc_claims.specs.Sections.{IsAllTaken, TakesRun}
+use Rattle.rbc_claims.proofs.Held.{own_more}
 use Rattle.rbc_wait.proofs.Waits.{none_waits, run_is, all_taken, few}
 use Rattle.rbc_wait.proofs.waiting_start.WaitingStart.begin.Goals as goal
 
@@ -19,7 +20,7 @@ pub invariant_of-self : goal.invariant_of-self
 invariant_of-self c =
     let held = taken c in
     record {
-      own = c.take_run.ensures.own;
+      own = own_more c.self.inside.nid_engine c.covered-run.result.count c.self.inside.claims c.take_run.new.hand c.self.invariant.own c.take_run.ensures.holds;
       none = λ e. absurd (false≢true (sym (ap is_some e)));
       some = λ _. subst (λ (r : SectionRun). 1 ≤ r.count) (sym held) c.requires.some;
       most = subst (λ (r : SectionRun). r.count ≤ 32) (sym held) (few c.args.line.now (place_of c.args.place) c.requires.fit);

@@ -1,9 +1,29 @@
-use Rattle.std.proofs.Common.{◌≡◌, sym, ap, subst, ◌∙◌}
-use Rattle.rbc_spec.specs.SectionRuns.{SectionRun}
+use Rattle.std.proofs.Common.{◌≡◌, ◌+◌, ◌≤◌, length, sym, ap, subst, ◌∙◌, arith, eq-eqb}
+use Rattle.std.proofs.lemmas.Bool.{cond-true, false≢true}
+use Rattle.rbc_spec.specs.SectionRuns.{SectionRun, is_empty}
+use Rattle.rbc_book.specs.Book.{is_own}
+use Rattle.rbc_hand.specs.Hands.{Holding, run, nothing, IsAllOwn}
 use Rattle.rbc_wait.specs.Waits.{WaitState, nothing_waits, with_wait, telling}
 use Rattle.rbc_claims.specs.Sections.{FreesRun, wished}
+use Rattle.rbc_claims.proofs.Held.{own_held}
 use Rattle.rbc_wait.proofs.Waits.{none_waits, drops}
 use Rattle.rbc_wait.proofs.waiting_start.WaitingStart.drop_start.Goals as goal
+
+pub clear-told-requires-clause-held : goal.clear-told-requires-clause-held
+clear-told-requires-clause-held c = own_held c.self.inside.nid_engine (is_own c.args.book.now) c.self.inside.claims c.self.invariant.own
+
+pub invariant_of-self : goal.invariant_of-self
+invariant_of-self c =
+    let all : c.claims-run.result.count ≡ length c.self.inside.claims.holds = ap (λ (r : SectionRun). r.count) c.claims-run.ensures ∙ ap (λ (w : WaitState). w.sections.count) (sym c.self.view_is) in
+    let left : length c.clear-told.new.hand.holds ≡ 0 = let cut = ap (λ (r : SectionRun). r.count) c.clear-told.ensures.run in omega (arith, cut, all) in
+    let gone : c.forget_end.new.self ≡ nothing = c.forget_end.ensures.hand ∙ cond-true (is_empty (run c.clear-told.new.hand)) nothing c.clear-told.new.hand (eq-eqb (length c.clear-told.new.hand.holds) 0 left) in
+    record {
+      own = subst (IsAllOwn c.self.inside.nid_engine) (sym gone) tt;
+      none = λ e. ap run gone;
+      some = λ e. absurd (false≢true e);
+      most = subst (λ (h : Holding). length h.holds ≤ 32) (sym gone) (omega arith);
+      numbers = subst (λ (h : Holding). h.first + length h.holds ≤ 65535) (sym gone) (omega arith);
+    }
 
 frees : (c : goal.After-self-1) → FreesRun c.args.self.now.engine c.args.self.now.sections c.args.book.now c.clear-told.new.book
 frees c =
