@@ -1,13 +1,11 @@
 -- Two outcomes that say the same.
-use Rattle.std.proofs.Common.{◌≡◌, ◌==◌, Bool, if◌then◌else◌, List, [], ◌∷◌, map, Option, Some, None, ap, refl, sym, ◌∙◌, inl, inr, eq-eqb}
+use Rattle.std.proofs.Common.{◌≡◌, Bool, List, [], ◌∷◌, map, ap, refl}
 use Rattle.std.specs.Bool.{Decides}
 use Rattle.std.specs.Cmp.Lexicographic.{pointwise}
 use Rattle.std.proofs.lemmas.Slice.Eq.{slice_eq-Decides}
-use Rattle.std.proofs.lemmas.Bool.Decides.{eqb_tells}
 use Rattle.rbc_rules.specs.Sayings.{saying_of}
-use Rattle.rbc_centre.specs.Views.{word_of, frames_to}
+use Rattle.rbc_centre.specs.Views.{word_of}
 use Rattle.rbc_rules.specs.declared.saying.Saying.{Saying}
-use Rattle.rbc_centre.specs.declared.posted.Posted.{Posted}
 use Rattle.rbc_centre.specs.declared.outcome.Word.{Word}
 use Rattle.rbc_centre.specs.declared.outcome.Word.TheVariants.{Done, Asked, NotHome, Told}
 
@@ -47,23 +45,3 @@ words_apart (Told s) (Told t) e = cc
 
 pub sayings_apart : (a b : Saying) → saying_of a ≡ saying_of b → a ≡ b
 sayings_apart a b e = λ i. record { nid_engine = (ap (λ s. s.nid_engine) e) i; message = (ap (λ s. s.message) e) i }
-
--- one frame is sent to one centre
-pub frames_apart : (a b : Option Posted) → frames_to a ≡ frames_to b → a ≡ b
-frames_apart None None e = refl
-frames_apart None (Some q) e =
-    let there : [] ≡ q.frame ∷ [] = ap (λ f. f q.to) e ∙ rw (eq-eqb q.to q.to refl) refl in cc
-frames_apart (Some p) None e =
-    let there : p.frame ∷ [] ≡ [] = sym (rw (eq-eqb p.to p.to refl) refl) ∙ ap (λ f. f p.to) e in cc
-frames_apart (Some p) (Some q) e =
-    let here : p.frame ∷ [] ≡ (if p.to == q.to then q.frame ∷ [] else []) = sym (first p) ∙ ap (λ f. f p.to) e in
-    elim (eqb_tells p.to q.to) [
-      | inl same ↦
-          let both : p.frame ∷ [] ≡ q.frame ∷ [] = rw (same.0) at here in
-          let frame : p.frame ≡ q.frame = cc in
-          λ i. Some (record { to = same.1 i; frame = frame i })
-      | inr other ↦ let none : p.frame ∷ [] ≡ [] = rw (other.0) at here in cc
-    ]
-  where
-    first : (p : Posted) → frames_to (Some p) p.to ≡ p.frame ∷ []
-    first p = rw (eq-eqb p.to p.to refl) refl

@@ -6,7 +6,7 @@ use Rattle.std.proofs.lemmas.Bool.Decides.{eqb_tells}
 use Rattle.std.proofs.lemmas.Option.{slice_get_past}
 use Rattle.std.proofs.lemmas.List.Elements.{All-nil}
 use Rattle.std.proofs.lemmas.List.Quantifiers.{position-Some}
-use Rattle.rbc_spec.specs.Line.{Line, Train, train_number}
+use Rattle.rbc_spec.specs.Line.{Line, Train, is_home, train_number}
 use Rattle.rbc_spec.specs.Frame.{HasFrameRanges}
 use Rattle.rbc_spec.specs.Centre as centre
 use Rattle.rbc_spec.specs.Centre.{is_registrar_of}
@@ -21,16 +21,18 @@ use Rattle.rbc_linkmsg.specs.declared.body.Body.{Body}
 use Rattle.rbc_right.specs.Rights.{Rights, is_here}
 use Rattle.rbc_session.specs.Sessions.{Records, phase_at}
 use Rattle.rbc_session.specs.SessionStates.{session_phase}
+use Rattle.rbc_hand.specs.Hands.{Holding}
+use Rattle.rbc_claims.specs.Sections.{IsHeldAt}
 use Rattle.rbc_rules.specs.SessionStates.{Stands}
 use Rattle.rbc_rules.specs.Trains.{unknown_state}
 use Rattle.rbc_centre.specs.State.{stands_for, of_trains, right_at, IsOfTrain, IsUnknown}
 use Rattle.rbc_rules.specs.declared.train.TrainState.{TrainState}
 
-slice_get-last : {X : Type 0} (xs : List X) (x : X) → slice_get (xs ++ x ∷ []) (length xs) ≡ Some x
+pub slice_get-last : {X : Type 0} (xs : List X) (x : X) → slice_get (xs ++ x ∷ []) (length xs) ≡ Some x
 slice_get-last [] x = refl
 slice_get-last (y ∷ ys) x = slice_get-last ys x
 
-slice_get-before : {X : Type 0} (xs ys : List X) (i : ℕ) → i < length xs → slice_get (xs ++ ys) i ≡ slice_get xs i
+pub slice_get-before : {X : Type 0} (xs ys : List X) (i : ℕ) → i < length xs → slice_get (xs ++ ys) i ≡ slice_get xs i
 slice_get-before [] ys i h = absurd (let no : ⊥ = omega arith in no)
 slice_get-before (x ∷ xs) ys zero h = refl
 slice_get-before (x ∷ xs) ys (suc i) h = slice_get-before xs ys i (omega arith)
@@ -72,6 +74,7 @@ module _ (line : Line) (states : List TrainState) (each : (i : ℕ) (p : TrainSt
     heard = λ t. of_all (λ p. p.heard) None (λ j u. refl) t i;
     said = λ t. of_all (λ p. p.said) 0 (λ j u. refl) t i;
     mission = λ t. of_all (λ p. p.supervision.mission) None (λ j u. refl) t i;
+    route_ask = λ t. of_all (λ p. p.supervision.asked) None (λ j u. refl) t i;
     wait = λ t. of_all (λ p. p.waiting.wait) None (λ j u. refl) t i;
     has_asked = λ t. of_all (λ p. p.waiting.has_asked) false (λ j u. refl) t i;
     has_right = λ t. right_at_home c t rights here i;
@@ -95,9 +98,9 @@ module _ (line : Line) (states : List TrainState) (each : (i : ℕ) (p : TrainSt
       sym same ∙ eqb-true q.nid_engine t passes
 
   -- no session stands with a train that was never heard, and no start of it waits
-  pub each_begins : (sessions : Records) → ((u : ℕ) → phase_at sessions u ≡ centre.Closed)
-      → (t i : ℕ) (p : TrainState) → train_number line t ≡ Some i → slice_get states i ≡ Some p → IsOfTrain line sessions t i p
-  each_begins sessions closed t i p number at =
+  pub each_begins : (c : ℕ) (sessions : Records) → ((u : ℕ) → phase_at sessions u ≡ centre.Closed)
+      → (t i : ℕ) (p : TrainState) → train_number line t ≡ Some i → slice_get states i ≡ Some p → IsOfTrain line c sessions t i p
+  each_begins c sessions closed t i p number at =
       let is = (each i p at).state in
       let engine : p.supervision.engine ≡ t = engine_at t i p.supervision.engine (slice_get line.trains i) number refl ((each i p at).engine) in
       record {
@@ -105,6 +108,7 @@ module _ (line : Line) (states : List TrainState) (each : (i : ℕ) (p : TrainSt
         engine = engine;
         waiting = ap (λ (q : TrainState). q.waiting.engine) is ∙ engine;
         covers = λ place waits. let no : None ≡ Some place = sym (ap (λ (q : TrainState). q.waiting.wait) is) ∙ waits in cc;
+        held = subst (λ (h : Holding). IsHeldAt p.supervision.engine (is_home line c) h) (sym (ap (λ (q : TrainState). q.supervision.hand) is)) (λ n x there. cc);
         session = subst (λ (q : TrainState). Stands sessions q.session_state t) (sym is) (closed t, λ key absent. cc);
       }
 

@@ -1,12 +1,10 @@
 -- What stays true of a centre.
-use Rattle.std.proofs.Common.{◌≡◌, ℕ, ◌+◌, ◌-◌, ◌≤◌, ◌==◌, true, length, Some, get_or, refl, sym, subst, arith, eqb-true}
-use Rattle.std.proofs.Math.Logic.{∥∥₁_elim}
+use Rattle.std.proofs.Common.{◌≡◌, ℕ, ◌+◌, ◌-◌, ◌≤◌, length, Some, None, refl, sym, subst, arith, All}
+use Rattle.std.proofs.Math.Logic.{∥∥₁_elim, ∥∥₁_map₂}
 use Rattle.std.proofs.Props.{props}
-use Rattle.std.proofs.lemmas.List.Quantifiers.{position-Some}
 use Rattle.std.specs.Coded.{le_prop}
-use Rattle.rbc_spec.specs.Reach.{Rights as ToRights}
-use Rattle.rbc_spec.specs.SectionRuns.{within}
-use Rattle.rbc_spec.specs.Line.{Line, Train, IsLine, is_home, train_number}
+use Rattle.rbc_spec.specs.Reach.{Routes as ToRoutes}
+use Rattle.rbc_spec.specs.Line.{Line, IsLine}
 use Rattle.rbc_spec.specs.Outcome.{Outcome}
 use Rattle.rbc_spec.specs.Centre as centre
 use Rattle.rbc_spec.specs.Centre.{Mission}
@@ -21,7 +19,10 @@ use Rattle.rbc_sound.specs.Stays.{IsInRange}
 use Rattle.rbc_sound.proofs.Events.{stays_sound}
 use Rattle.rbc_own.specs.Own.{IsOwnAt, MayCome}
 use Rattle.rbc_own.proofs.Stays.{stays_own}
-use Rattle.rbc_mission.specs.Supervisions.{HasLocalForm}
+use Rattle.rbc_ranges.specs.Ranges.{HasEventRanges, HasStateRanges, IsSentInRange}
+use Rattle.rbc_ranges.proofs.Steps.{stays_in_range}
+use Rattle.rbc_mission.specs.Supervisions.{HasRouteForm}
+use Rattle.rbc_centre.specs.Ranges.{AreSent-prop}
 
 -- ## The line
 
@@ -31,22 +32,12 @@ ordered_line line rules = let one : IsProp (IsOrdered line) = hlevel props in �
 few_sections : (line : Line) → ∥ IsLine line ∥₁ → length line.sections ≤ 512
 few_sections line rules = ∥∥₁_elim rules le_prop (λ ok. ok.limits.sections)
 
-no_train : Train
-no_train = record { nid_engine = 0; registrar = 0 }
+-- ## A mission
 
--- a train of the line has an NID_ENGINE in its range
-pub engine_in_range : (line : Line) (t i : ℕ) → ∥ IsLine line ∥₁ → train_number line t ≡ Some i → t ≤ 16777215
-engine_in_range line t i rules number = ∥∥₁_elim rules le_prop (λ ok.
-    let found = position-Some (λ (p : Train). p.nid_engine == t) line.trains i no_train number in
-    let same : (get_or line.trains i no_train).nid_engine ≡ t = eqb-true (get_or line.trains i no_train).nid_engine t found.1 in
-    let low : (get_or line.trains i no_train).nid_engine ≤ 16777215 = (ok.ranges.trains i no_train found.0).0 in
-    omega (arith, same, low))
-
--- ## A mission at a centre that keeps to its own
-
-module _ (line : Line) (c : ℕ) (k : centre.Centre) (rules : ∥ IsLine line ∥₁) (sound : IsCentreSound line c k) (own : IsOwnAt ToRights line c k) (t : ℕ) (m : Mission) (at : k.mission t ≡ Some m) where
-  pub local_form : HasLocalForm m
-  local_form =
+module _ (line : Line) (c : ℕ) (k : centre.Centre) (rules : ∥ IsLine line ∥₁) (sound : IsCentreSound line c k) (own : IsOwnAt ToRoutes line c k)
+    (ranged : ∥ HasStateRanges line c k ∥₁) (t : ℕ) (m : Mission) (at : k.mission t ≡ Some m) where
+  pub route_form : HasRouteForm m
+  route_form =
       let hand = (sound.mission t m at).hand in
       let last = m.hand.first + m.hand.count - 1 in
       let some : 1 ≤ m.hand.count = hand.some in
@@ -56,30 +47,38 @@ module _ (line : Line) (c : ℕ) (k : centre.Centre) (rules : ∥ IsLine line �
         some = hand.some;
         most = hand.few;
         numbers = omega (arith, some, low, few);
-        pool = (own.mission t m at).no_pool refl;
+        few = ∥∥₁_elim ranged le_prop (λ r. (r.mission t m at).pool);
         handing = (own.mission t m at).no_handing refl;
       }
-
-  pub hand_at_home : (s : ℕ) → within m.hand s ≡ true → is_home line c s ≡ true
-  hand_at_home = (own.mission t m at).at_home refl
 
 -- ## A step
 
 -- where rights are asked for each event may come
-comes : (event : Event) → MayCome ToRights event
+comes : (event : Event) → MayCome ToRoutes event
 comes (TrainEvent m) = tt
 comes (Set s) = tt
 comes (Unset s) = tt
 comes (Deliver d f) = refl
 
 module _ (line : Line) (c : ℕ) (k left : centre.Centre) (event : Event) (outcome : Outcome) (rules : ∥ IsLine line ∥₁) (range : IsInRange event)
-    (is : (outcome, left) ≡ step.taken ToRights line c event k) where
+    (is : (outcome, left) ≡ step.taken ToRoutes line c event k) where
   pub sound_left : IsCentreSound line c k → IsCentreSound line c left
   sound_left sound =
       let one : IsProp (IsCentreSound line c left) = hlevel props in
-      ∥∥₁_elim rules one (λ ok. subst (λ (p : Outcome × centre.Centre). IsCentreSound line c p.1) (sym is) (stays_sound line ok c ToRights k event range sound).centre)
+      ∥∥₁_elim rules one (λ ok. subst (λ (p : Outcome × centre.Centre). IsCentreSound line c p.1) (sym is) (stays_sound line ok c ToRoutes k event range sound).centre)
 
-  pub own_left : IsCentreSound line c k → IsOwnAt ToRights line c k → IsOwnAt ToRights line c left
+  pub own_left : IsCentreSound line c k → IsOwnAt ToRoutes line c k → IsOwnAt ToRoutes line c left
   own_left sound own =
-      let one : IsProp (IsOwnAt ToRights line c left) = hlevel props in
-      ∥∥₁_elim rules one (λ ok. subst (λ (p : Outcome × centre.Centre). IsOwnAt ToRights line c p.1) (sym is) (stays_own line ok c ToRights k event (comes event) sound own).state)
+      let one : IsProp (IsOwnAt ToRoutes line c left) = hlevel props in
+      ∥∥₁_elim rules one (λ ok. subst (λ (p : Outcome × centre.Centre). IsOwnAt ToRoutes line c p.1) (sym is) (stays_own line ok c ToRoutes k event (comes event) sound own).state)
+
+  -- and one that is not refused leaves a centre in its ranges
+  pub ranged_left : step.refusal line c k event ≡ None → HasEventRanges line c event → ∥ HasStateRanges line c k ∥₁ → ∥ HasStateRanges line c left ∥₁
+  ranged_left allowed ranges ranged = ∥∥₁_map₂ rules ranged (λ ok old. subst (λ (p : Outcome × centre.Centre). HasStateRanges line c p.1) (sym is) (stays_in_range line ok c ToRoutes k event ranges old allowed).centre)
+
+-- what it sends goes on links, and each field has its range
+pub sent_in : (line : Line) (c : ℕ) (k : centre.Centre) (event : Event) → ∥ IsLine line ∥₁ → step.refusal line c k event ≡ None → HasEventRanges line c event → ∥ HasStateRanges line c k ∥₁
+    → (d : ℕ) → All (IsSentInRange line c d) ((step.effect ToRoutes line c (step.ticked (step.stamp_of k event) k) event).reply.frames d)
+sent_in line c k event rules allowed ranges ranged d =
+    let one : IsProp (All (IsSentInRange line c d) ((step.effect ToRoutes line c (step.ticked (step.stamp_of k event) k) event).reply.frames d)) = AreSent-prop line c d _ in
+    ∥∥₁_elim rules one (λ ok. ∥∥₁_elim ranged one (λ old. (stays_in_range line ok c ToRoutes k event ranges old allowed).bodies d))

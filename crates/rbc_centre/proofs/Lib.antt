@@ -2,10 +2,16 @@ pub mod States
 pub mod Kept
 pub mod Trains
 pub mod Begins
+pub mod Rows
+pub mod Homes
 pub mod Posts
+pub mod SentFrames
+pub mod Silent
+pub mod Messages
 pub mod Steps
 pub mod Turns
 pub mod Deliveries
 pub mod Wishes
-pub mod Frames
+pub mod Withdrawn
+pub mod SameFrames
 pub mod Alike

@@ -4,12 +4,15 @@ use Rattle.std.proofs.lemmas.Bool.Decides.{eqb_tells, nat_tests}
 use Rattle.std.proofs.lemmas.List.Quantifiers.{position-Some}
 use Rattle.std.specs.Option.{option_map_or}
 use Rattle.rbc_spec.specs.Maps.{put}
-use Rattle.rbc_spec.specs.Line.{Line, Train, train_number}
+use Rattle.rbc_spec.specs.Line.{Line, Train, is_home, train_number}
+use Rattle.rbc_hand.specs.Hands.{Holding}
+use Rattle.rbc_claims.specs.Sections.{IsHeldAt}
 use Rattle.rbc_right.specs.Rights.{Rights, is_here}
 use Rattle.rbc_session.specs.Sessions.{Records}
 use Rattle.rbc_spec.specs.Centre.{Phase}
 use Rattle.rbc_session.specs.declared.session.SessionState.{SessionState}
 use Rattle.rbc_wait.specs.Waits.{WaitState, IsCovered}
+use Rattle.rbc_rules.specs.Desk.{IsHeld}
 use Rattle.rbc_rules.specs.SessionStates.{Enters, Stands}
 use Rattle.rbc_centre.specs.State.{of_trains, right_at, IsOfTrain}
 use Rattle.rbc_rules.proofs.SessionStates.{stands_for_train, stands_with_train}
@@ -129,41 +132,45 @@ each_train_after P line states t i state within at_t here each u j p at_u found 
     j p found at_u
 
 -- what stands with another train, where one has changed
-stands_beside : (line : Line) (old new : Records) (s : SessionState) (t u j : ℕ) (p : TrainState) (phase : Phase) → Enters old new s t phase → u ≢ t
-    → IsOfTrain line old u j p → IsOfTrain line new u j p
-stands_beside line old new s t u j p phase enters apart is = record {
+stands_beside : (line : Line) (c : ℕ) (old new : Records) (s : SessionState) (t u j : ℕ) (p : TrainState) (phase : Phase) → Enters old new s t phase → u ≢ t
+    → IsOfTrain line c old u j p → IsOfTrain line c new u j p
+stands_beside line c old new s t u j p phase enters apart is = record {
   number = is.number;
   engine = is.engine;
   waiting = is.waiting;
   covers = is.covers;
+  held = is.held;
   session = stands_with_train new p.session_state u (enters.others p.session_state u apart (stands_for_train old p.session_state u is.session));
 }
 
 -- what is kept of each train, behind a message of one
-pub each_of_train_after : (line : Line) (old new : Records) (states : List TrainState) (t i : ℕ) (state : TrainState) (phase : Phase) → i < length states → train_number line t ≡ Some i
-    → Enters old new state.session_state t phase → state.supervision.number ≡ i → state.supervision.engine ≡ t → state.waiting.engine ≡ t → IsCovered line state.waiting
-    → ((u j : ℕ) (p : TrainState) → train_number line u ≡ Some j → slice_get states j ≡ Some p → IsOfTrain line old u j p)
-    → (u j : ℕ) (p : TrainState) → train_number line u ≡ Some j → slice_get (set states i state) j ≡ Some p → IsOfTrain line new u j p
-each_of_train_after line old new states t i state phase within at_t enters number engine waiting covers each =
-    each_train_after (IsOfTrain line new) line states t i state within at_t
-    (record { number = number; engine = engine; waiting = waiting; covers = covers; session = stands_with_train new state.session_state t enters.stands })
-    (λ u j p apart at_u at. stands_beside line old new state.session_state t u j p phase enters apart (each u j p at_u at))
+pub each_of_train_after : (line : Line) (c : ℕ) (old new : Records) (states : List TrainState) (t i : ℕ) (state : TrainState) (phase : Phase) → i < length states → train_number line t ≡ Some i
+    → Enters old new state.session_state t phase → state.supervision.number ≡ i → state.supervision.engine ≡ t → state.waiting.engine ≡ t → IsCovered line state.waiting → IsHeld line c state
+    → ((u j : ℕ) (p : TrainState) → train_number line u ≡ Some j → slice_get states j ≡ Some p → IsOfTrain line c old u j p)
+    → (u j : ℕ) (p : TrainState) → train_number line u ≡ Some j → slice_get (set states i state) j ≡ Some p → IsOfTrain line c new u j p
+each_of_train_after line c old new states t i state phase within at_t enters number engine waiting covers held each =
+    each_train_after (IsOfTrain line c new) line states t i state within at_t
+    (record { number = number; engine = engine; waiting = waiting; covers = covers; held = held; session = stands_with_train new state.session_state t enters.stands })
+    (λ u j p apart at_u at. stands_beside line c old new state.session_state t u j p phase enters apart (each u j p at_u at))
 
 -- the same, where no session has changed
-pub each_of_train_still : (line : Line) (sessions : Records) (states : List TrainState) (t i : ℕ) (state : TrainState) → i < length states → train_number line t ≡ Some i
-    → IsOfTrain line sessions t i state
-    → ((u j : ℕ) (p : TrainState) → train_number line u ≡ Some j → slice_get states j ≡ Some p → IsOfTrain line sessions u j p)
-    → (u j : ℕ) (p : TrainState) → train_number line u ≡ Some j → slice_get (set states i state) j ≡ Some p → IsOfTrain line sessions u j p
-each_of_train_still line sessions states t i state within at_t here each =
-    each_train_after (IsOfTrain line sessions) line states t i state within at_t here (λ u j p apart. each u j p)
+pub each_of_train_still : (line : Line) (c : ℕ) (sessions : Records) (states : List TrainState) (t i : ℕ) (state : TrainState) → i < length states → train_number line t ≡ Some i
+    → IsOfTrain line c sessions t i state
+    → ((u j : ℕ) (p : TrainState) → train_number line u ≡ Some j → slice_get states j ≡ Some p → IsOfTrain line c sessions u j p)
+    → (u j : ℕ) (p : TrainState) → train_number line u ≡ Some j → slice_get (set states i state) j ≡ Some p → IsOfTrain line c sessions u j p
+each_of_train_still line c sessions states t i state within at_t here each =
+    each_train_after (IsOfTrain line c sessions) line states t i state within at_t here (λ u j p apart. each u j p)
 
 -- a train that is asked for a section stays the one that it was
-pub asked_train : (line : Line) (sessions : Records) (t i : ℕ) (before after : TrainState) → IsOfTrain line sessions t i before → after.supervision.number ≡ before.supervision.number
-    → after.supervision.engine ≡ before.supervision.engine → after.waiting ≡ before.waiting → after.session_state ≡ before.session_state → IsOfTrain line sessions t i after
-asked_train line sessions t i before after was number engine waiting session_state = record {
+pub asked_train : (line : Line) (c : ℕ) (sessions : Records) (t i : ℕ) (before after : TrainState) → IsOfTrain line c sessions t i before → after.supervision.number ≡ before.supervision.number
+    → after.supervision.engine ≡ before.supervision.engine → after.waiting ≡ before.waiting → after.session_state ≡ before.session_state
+    → after.supervision.hand ≡ before.supervision.hand → IsOfTrain line c sessions t i after
+asked_train line c sessions t i before after was number engine waiting session_state hand = record {
   number = number ∙ was.number;
   engine = engine ∙ was.engine;
   waiting = ap (λ (w : WaitState). w.engine) waiting ∙ was.waiting;
   covers = subst (IsCovered line) (sym waiting) was.covers;
+  held = subst (λ (u : ℕ). IsHeldAt u (is_home line c) after.supervision.hand) (sym engine)
+      (subst (λ (h : Holding). IsHeldAt before.supervision.engine (is_home line c) h) (sym hand) was.held);
   session = subst (λ (x : SessionState). Stands sessions x t) (sym session_state) was.session;
 }

@@ -1,18 +1,17 @@
 -- The whole step of a centre.
-use Rattle.std.proofs.Common.{◌≡◌, ℕ, ◌+◌, ◌<◌, ◌≤◌, Bool, true, false, if◌then◌else◌, List, [], ◌++◌, length, max, Option, Some, None, refl, sym, ap, ◌∙◌, subst, arith, rules, inl, inr, ◌⊎◌, nat_cmp, Result, Ok, Err, nat_lt}
-use Rattle.std.specs.Ordering.{ord_max}
+use Rattle.std.proofs.Common.{◌≡◌, ℕ, ◌+◌, ◌<◌, ◌≤◌, Bool, true, false, if◌then◌else◌, List, [], ◌++◌, length, Option, Some, None, refl, sym, ap, ◌∙◌, subst, arith, inl, inr, ◌⊎◌, Result, Ok, Err, nat_lt}
 use Rattle.std.specs.Result.{OnOk, IfErr}
 use Rattle.std.proofs.lemmas.Bool.{ltb-false}
 use Rattle.std.proofs.lemmas.Bool.Decides.{nat_tests}
 use Rattle.std.proofs.lemmas.List.{length-map}
 use Rattle.rbc_spec.specs.Line.{Line}
-use Rattle.rbc_spec.specs.Reach.{Rights as ToRights}
-use Rattle.rbc_spec.specs.Frame.{Frame}
+use Rattle.rbc_spec.specs.Reach.{Routes as ToRoutes}
+use Rattle.rbc_spec.specs.Frame.{Frame, Body as BodySent}
 use Rattle.rbc_spec.specs.Outcome.{Reason, Saying, Word, Outcome, Taken}
 use Rattle.rbc_spec.specs.Centre as centre
 use Rattle.rbc_spec.specs.Acts.{Reply}
 use Rattle.rbc_spec.specs.Step as step
-use Rattle.rbc_spec.specs.Step.{Event, Train, Set, Unset, Deliver, Effect, numbered}
+use Rattle.rbc_spec.specs.Step.{Event, Train, Set, Unset, Effect, numbered}
 use Rattle.rbc_msgs.specs.TrainText.{TrainText}
 use Rattle.rbc_book.specs.Book.{Pages}
 use Rattle.rbc_link.specs.declared.link.Link.{Link}
@@ -23,8 +22,6 @@ use Rattle.rbc_link.proofs.Posted.{posted_none}
 use Rattle.rbc_linkmsg.specs.Bodies.{body_of}
 use Rattle.rbc_linkmsg.specs.declared.body.Body.{Body}
 use Rattle.rbc_right.specs.Rights.{Rights}
-use Rattle.rbc_rules.specs.Letters.{letters}
-use Rattle.rbc_rules.specs.declared.letter.Letter.{Letter}
 use Rattle.rbc_rules.specs.declared.train.TrainState.{TrainState}
 use Rattle.rbc_centre.specs.Answer.{IsRefusal, IsRefusalOf}
 use Rattle.rbc_centre.specs.State.{stands_for}
@@ -53,9 +50,9 @@ stands_kept line c clock pages rights old new states keeps = λ i. record (stand
 
 -- ## What an event comes to
 
--- a reply that leaves this state, sends a letter or none, and says and tells this
-abbrev pub replied : centre.Centre → Option Letter → List Saying → List Word → Reply
-replied k letter sayings words = record { state = k; frames = letters letter; sayings = sayings; words = words }
+-- a reply that leaves this state, sends each centre this, and says and tells this
+abbrev pub replied : centre.Centre → (ℕ → List BodySent) → List Saying → List Word → Reply
+replied k bodies sayings words = record { state = k; frames = bodies; sayings = sayings; words = words }
 
 abbrev pub effect_of : Reply → Option Taken → Option Reason → Effect
 effect_of reply link silence = record { reply = reply; link = link; silence = silence }
@@ -65,7 +62,7 @@ outcome_with stamp frames sayings words link silence =
     record { stamp = stamp; sayings = sayings; frames = frames; words = words; link = link; silence = silence }
 
 module _ (line : Line) (c before clock : ℕ) (old_book new_book : Pages) (old_rights new_rights : Rights) (old mid new : List (Link Body)) (old_states new_states : List TrainState)
-    (letter : Option Letter) (event : Event) where
+    (bodies : ℕ → List BodySent) (event : Event) where
   abbrev k : centre.Centre
   k = stands_for line c before old_book old_rights old old_states
 
@@ -78,35 +75,35 @@ module _ (line : Line) (c before clock : ℕ) (old_book new_book : Pages) (old_r
   counted same d = ap length (same d) ∙ sym (length-map (sent_to old d) (frame_by body_of))
 
   -- what the code answers, and the state that it leaves, are those of the step: it had posted nothing in between
-  pub answers : step.stamp_of k event ≡ clock → ((d : ℕ) → sent_to mid d ≡ sent_to old d) → HasPosted body_of clock (letters letter) mid new
+  pub answers : step.stamp_of k event ≡ clock → ((d : ℕ) → sent_to mid d ≡ sent_to old d) → HasPosted body_of clock bodies mid new
       → (sayings : List Saying) (words : List Word) (link : Option Taken) (silence : Option Reason)
-      → step.effect ToRights line c (step.ticked clock k) event ≡ effect_of (replied (stands_for line c clock new_book new_rights mid new_states) letter sayings words) link silence
-      → (frames : ℕ → List Frame) → ((d : ℕ) → frames d ≡ numbered clock (length (sent_to mid d)) (letters letter d))
+      → step.effect ToRoutes line c (step.ticked clock k) event ≡ effect_of (replied (stands_for line c clock new_book new_rights mid new_states) bodies sayings words) link silence
+      → (frames : ℕ → List Frame) → ((d : ℕ) → frames d ≡ numbered clock (length (sent_to mid d)) (bodies d))
       → (outcome : Outcome) → outcome ≡ outcome_with clock frames sayings words link silence
-      → (outcome, left) ≡ step.taken ToRights line c event k
+      → (outcome, left) ≡ step.taken ToRoutes line c event k
   unfolding stands_for
   answers stamp same posted sayings words link silence effect frames numbers outcome is =
-      let frames_are : (d : ℕ) → frames d ≡ numbered clock (length (k.sent d)) (letters letter d) = λ d. numbers d ∙ ap (λ n. numbered clock n (letters letter d)) (counted same d) in
-      let sent_are : (d : ℕ) → frames_by body_of (sent_to new d) ≡ k.sent d ++ numbered clock (length (k.sent d)) (letters letter d) =
-      λ d. posted.sent d ∙ (λ i. frames_by body_of (same d i) ++ numbered clock (counted same d i) (letters letter d)) in
+      let frames_are : (d : ℕ) → frames d ≡ numbered clock (length (k.sent d)) (bodies d) = λ d. numbers d ∙ ap (λ n. numbered clock n (bodies d)) (counted same d) in
+      let sent_are : (d : ℕ) → frames_by body_of (sent_to new d) ≡ k.sent d ++ numbered clock (length (k.sent d)) (bodies d) =
+      λ d. posted.sent d ∙ (λ i. frames_by body_of (same d i) ++ numbered clock (counted same d i) (bodies d)) in
       ap (λ (o : Outcome). (o, left)) is
       ∙ (λ i. (
         outcome_with clock (λ d. frames_are d i) sayings words link silence,
         record left { sent = λ d. sent_are d i; taken = λ d. posted.taken d i },
       ))
       ∙ ap (λ (e : Effect). (step.outcome_of clock k e, step.state_after clock k e)) (sym effect)
-      ∙ ap (λ n. (step.outcome_of n k (step.effect ToRights line c (step.ticked n k) event), step.state_after n k (step.effect ToRights line c (step.ticked n k) event))) (sym stamp)
+      ∙ ap (λ n. (step.outcome_of n k (step.effect ToRoutes line c (step.ticked n k) event), step.state_after n k (step.effect ToRoutes line c (step.ticked n k) event))) (sym stamp)
 
 -- a step that sends nothing
 module _ (line : Line) (c before clock : ℕ) (old_book new_book : Pages) (old_rights new_rights : Rights) (links mid : List (Link Body)) (old_states new_states : List TrainState) (event : Event) where
   pub says : step.stamp_of (stands_for line c before old_book old_rights links old_states) event ≡ clock → ((d : ℕ) → sent_to mid d ≡ sent_to links d)
       → (sayings : List Saying) (words : List Word) (link : Option Taken) (silence : Option Reason)
-      → step.effect ToRights line c (step.ticked clock (stands_for line c before old_book old_rights links old_states)) event
-      ≡ effect_of (replied (stands_for line c clock new_book new_rights mid new_states) None sayings words) link silence
+      → step.effect ToRoutes line c (step.ticked clock (stands_for line c before old_book old_rights links old_states)) event
+      ≡ effect_of (replied (stands_for line c clock new_book new_rights mid new_states) (λ d. []) sayings words) link silence
       → (outcome : Outcome) → outcome ≡ outcome_with clock (λ d. []) sayings words link silence
-      → (outcome, stands_for line c clock new_book new_rights mid new_states) ≡ step.taken ToRights line c event (stands_for line c before old_book old_rights links old_states)
+      → (outcome, stands_for line c clock new_book new_rights mid new_states) ≡ step.taken ToRoutes line c event (stands_for line c before old_book old_rights links old_states)
   says stamp same sayings words link silence effect outcome is =
-      answers line c before clock old_book new_book old_rights new_rights links mid mid old_states new_states None event stamp same (posted_none body_of clock mid)
+      answers line c before clock old_book new_book old_rights new_rights links mid mid old_states new_states (λ d. []) event stamp same (posted_none body_of clock mid)
       sayings words link silence effect (λ d. []) (λ d. refl) outcome is
 
 -- what the interlocking says
@@ -121,14 +118,14 @@ module _ (line : Line) (c clock : ℕ) (old_book new_book : Pages) (rights : Rig
   is_later : step.ticked (clock + 1) at ≡ later
   is_later = ticked_is line c clock (clock + 1) old_book rights links old_states
 
-  pub set_stands : replied (stands_for line c (clock + 1) new_book rights links new_states) None sayings words ≡ step.set line c s later
-      → (outcome, stands_for line c (clock + 1) new_book rights links new_states) ≡ step.taken ToRights line c (Set s) at
+  pub set_stands : replied (stands_for line c (clock + 1) new_book rights links new_states) (λ d. []) sayings words ≡ step.set line c s later
+      → (outcome, stands_for line c (clock + 1) new_book rights links new_states) ≡ step.taken ToRoutes line c (Set s) at
   unfolding stands_for
   set_stands r = says line c clock (clock + 1) old_book new_book rights rights links links old_states new_states (Set s) refl (λ d. refl) sayings words None None
       (ap (λ (x : Reply). effect_of x None None) (ap (step.set line c s) is_later ∙ sym r)) outcome is
 
-  pub unset_stands : replied (stands_for line c (clock + 1) new_book rights links new_states) None sayings words ≡ step.unset line c s later
-      → (outcome, stands_for line c (clock + 1) new_book rights links new_states) ≡ step.taken ToRights line c (Unset s) at
+  pub unset_stands : replied (stands_for line c (clock + 1) new_book rights links new_states) (λ d. []) sayings words ≡ step.unset line c s later
+      → (outcome, stands_for line c (clock + 1) new_book rights links new_states) ≡ step.taken ToRoutes line c (Unset s) at
   unfolding stands_for
   unset_stands r = says line c clock (clock + 1) old_book new_book rights rights links links old_states new_states (Unset s) refl (λ d. refl) sayings words None None
       (ap (λ (x : Reply). effect_of x None None) (ap (step.unset line c s) is_later ∙ sym r)) outcome is
@@ -159,11 +156,11 @@ pub refusal_by : (line : Line) (c : ℕ) (k : centre.Centre) (event : Event) (st
     → (if nat_lt 1073741823 (stamp + 1) then Some step.ClockEnd else (if step.has_full_link line c k then Some step.LinkFull else None)) ≡ step.refusal line c k event
 refusal_by line c k event stamp is = rw is refl
 
-pub taken_step : (line : Line) (c : ℕ) (k : centre.Centre) (event : Event) → step.refusal line c k event ≡ None → step.step ToRights line c event k ≡ Ok (step.taken ToRights line c event k)
+pub taken_step : (line : Line) (c : ℕ) (k : centre.Centre) (event : Event) → step.refusal line c k event ≡ None → step.step ToRoutes line c event k ≡ Ok (step.taken ToRoutes line c event k)
 unfolding step.step
 taken_step line c k event none = rw none refl
 
-pub refused_step : (line : Line) (c : ℕ) (k : centre.Centre) (event : Event) (f : StepFault) → IsRefusalOf f (step.refusal line c k event) → IsRefusal f (step.step ToRights line c event k)
+pub refused_step : (line : Line) (c : ℕ) (k : centre.Centre) (event : Event) (f : StepFault) → IsRefusalOf f (step.refusal line c k event) → IsRefusal f (step.step ToRoutes line c event k)
 unfolding step.step
 refused_step line c k event fault.Memory is = absurd is
 refused_step line c k event fault.LinkFull is = rw is refl
@@ -187,7 +184,3 @@ pub next_stamp : (k : centre.Centre) (event : EventCode)
 next_stamp k event (inl is) = ap (λ (e : EventCode). step.stamp_of k (event_of e)) is.1
 next_stamp k event (inr (inl is)) = ap (λ (e : EventCode). step.stamp_of k (event_of e)) is.1
 next_stamp k event (inr (inr is)) = ap (λ (e : EventCode). step.stamp_of k (event_of e)) is.1
-
--- the later of two numbers, by their order
-pub later_of : (a b : ℕ) → ord_max nat_cmp a b ≡ max a b
-later_of a b = search rules

@@ -1,7 +1,7 @@
 -- One train at a centre, and the centre that is left where a message or a frame has changed it.
 use Rattle.std.proofs.Common.{◌≡◌, ℕ, ◌<◌, List, length, Some, None, slice_get, set, sym, ap, ◌∙◌, false, refl}
 use Rattle.std.specs.Option.{option_map_or}
-use Rattle.rbc_spec.specs.Reach.{Rights as ToRights}
+use Rattle.rbc_spec.specs.Reach.{Routes as ToRoutes}
 use Rattle.rbc_spec.specs.Maps.{put}
 use Rattle.rbc_spec.specs.Line.{Line, IsLine, is_home, train_number}
 use Rattle.rbc_spec.specs.Centre as centre
@@ -10,13 +10,14 @@ use Rattle.rbc_flow.specs.Sound.{IsCentreSound}
 use Rattle.rbc_link.specs.declared.link.Link.{Link}
 use Rattle.rbc_linkmsg.specs.declared.body.Body.{Body}
 use Rattle.rbc_own.specs.Own.{IsOwnAt}
+use Rattle.rbc_ranges.specs.Ranges.{HasStateRanges}
 use Rattle.rbc_right.specs.Rights.{Rights, is_here}
 use Rattle.rbc_session.specs.Sessions.{Records}
 use Rattle.rbc_session.specs.SessionStates.{session_phase}
 use Rattle.rbc_rules.specs.Desk.{IsKeptAt, HasParts, KeepsTrain, KeepsDesk, with_parts}
 use Rattle.rbc_rules.specs.declared.train.TrainState.{TrainState}
 use Rattle.rbc_centre.specs.State.{stands_for, of_trains, IsOfTrain}
-use Rattle.rbc_centre.proofs.Kept.{ordered_line, local_form, hand_at_home}
+use Rattle.rbc_centre.proofs.Kept.{ordered_line, route_form}
 use Rattle.rbc_centre.proofs.States.{of_trains-set, right_turned, part_of_train}
 
 -- the last T_TRAIN heard of a train of the line
@@ -31,13 +32,16 @@ pub mission_of : (line : Line) (c clock t i : ℕ) (book : Pages) (rights : Righ
 unfolding stands_for
 mission_of line c clock t i book rights links states state number at = sym (part_of_train (λ p. p.supervision.mission) None line states t i state number at)
 
--- what holds of the train at a centre that keeps to its own
-pub kept_at : (line : Line) (c : ℕ) (k : centre.Centre) (sessions : Records) (t i : ℕ) (p : TrainState) → ∥ IsLine line ∥₁ → IsCentreSound line c k → IsOwnAt ToRights line c k
-    → IsOfTrain line sessions t i p → k.mission t ≡ p.supervision.mission → IsKeptAt line c p
-kept_at line c k sessions t i p rules sound own of_train mission = record {
+-- what holds of the train at the centre
+pub kept_at : (line : Line) (c : ℕ) (k : centre.Centre) (sessions : Records) (t i : ℕ) (p : TrainState) → ∥ IsLine line ∥₁ → IsCentreSound line c k → IsOwnAt ToRoutes line c k → ∥ HasStateRanges line c k ∥₁
+    → IsOfTrain line c sessions t i p → k.mission t ≡ p.supervision.mission → IsKeptAt line c p
+kept_at line c k sessions t i p rules sound own ranged of_train mission = record {
   one_train = of_train.waiting ∙ sym of_train.engine;
-  form = λ m at. local_form line c k rules sound own t m (mission ∙ at);
-  at_home = λ m at. hand_at_home line c k rules sound own t m (mission ∙ at);
+  form = λ m at. route_form line c k rules sound own ranged t m (mission ∙ at);
+  pool = record {
+    follows = λ m at some. (sound.mission t m (mission ∙ at)).pool_follows some;
+    away = λ m at. (sound.mission t m (mission ∙ at)).pool_away;
+  };
   covers = of_train.covers;
 }
 
@@ -63,6 +67,7 @@ module _ (line : Line) (c clock t i : ℕ) (book : Pages) (rights : Rights) (lin
     has_heard = part_at (λ p. p.heard) None;
     has_said = part_at (λ p. p.said) 0;
     has_mission = part_at (λ p. p.supervision.mission) None;
+    has_route_ask = part_at (λ p. p.supervision.asked) None;
     has_wait = part_at (λ p. p.waiting.wait) None;
     has_ask = part_at (λ p. p.waiting.has_asked) false;
     has_right = ap (λ o. option_map_or (is_here rights) o false) (ap (train_number line) engine ∙ number) ∙ ap (is_here rights) (sym place);
@@ -79,6 +84,7 @@ module _ (line : Line) (c clock t i : ℕ) (book : Pages) (rights : Rights) (lin
     heard = λ u. changed (λ p. p.heard) None u j;
     said = λ u. changed (λ p. p.said) 0 u j;
     mission = λ u. changed (λ p. p.supervision.mission) None u j;
+    route_ask = λ u. changed (λ p. p.supervision.asked) None u j;
     wait = λ u. changed (λ p. p.waiting.wait) None u j;
     has_asked = λ u. changed (λ p. p.waiting.has_asked) false u j;
     has_right = λ u. ((λ l. put k.has_right (is_train l) (is_here new_rights ((kept.number ∙ place) l)) u) ∙ sym (right_turned line rights new_rights t i (is_here new_rights i) number turned u)) j;

@@ -1,44 +1,47 @@
 -- A centre behind the message or the frame of one train.
-use Rattle.std.proofs.Common.{◌≡◌, ℕ, ◌+◌, ◌<◌, ◌≤◌, Bool, false, true, List, Option, Some, None, length, slice_get, set, is_none, sym, ap, ◌∙◌, refl, subst, arith, All, Result, Ok, Err}
+use Rattle.std.proofs.Common.{◌≡◌, ℕ, ◌+◌, ◌<◌, ◌≤◌, Bool, false, true, List, [], Option, Some, None, length, map, slice_get, set, is_none, sym, ap, ◌∙◌, refl, subst, arith, All, Result, Ok, Err}
 use Rattle.std.proofs.Math.Logic.{∥∥₁_elim}
-use Rattle.std.specs.Option.{IfSome}
 use Rattle.std.specs.Result.{OnErr}
-use Rattle.std.proofs.Math.ListN.{length-set}
-use Rattle.rbc_spec.specs.Line.{is_centre, is_linked, is_home, train_number}
-use Rattle.rbc_spec.specs.Reach.{Rights as ToRights}
-use Rattle.rbc_spec.specs.Frame.{Frame, HasFrameRanges}
-use Rattle.rbc_spec.specs.Outcome.{Saying, Word, Taken, Reason}
+use Rattle.rbc_spec.specs.Line.{Line, is_linked, is_home, train_number}
+use Rattle.rbc_spec.specs.Reach.{Routes as ToRoutes}
+use Rattle.rbc_spec.specs.Frame.{Frame, HasFrameRanges, Body as BodySent}
+use Rattle.rbc_spec.specs.Outcome.{Saying, Word, Taken, Reason, Told}
 use Rattle.rbc_spec.specs.Centre as centre
 use Rattle.rbc_spec.specs.Step as step
-use Rattle.rbc_spec.specs.Step.{Event, Train, numbered}
+use Rattle.rbc_spec.specs.Step.{Event, Train, Set, Unset, Effect, numbered}
 use Rattle.rbc_spec.specs.Message.{TrainMessage}
 use Rattle.rbc_flow.specs.Sound.{IsCentreSound}
 use Rattle.rbc_sound.specs.Stays.{IsInRange}
 use Rattle.rbc_own.specs.Own.{IsOwnAt}
+use Rattle.rbc_ranges.specs.Ranges.{HasMessageRanges, HasEventRanges, HasStateRanges, IsSentInRange}
 use Rattle.rbc_book.specs.Book.{Pages, is_own}
 use Rattle.rbc_link.specs.declared.link.Link.{Link}
 use Rattle.rbc_link.specs.declared.sent.Sent.{Sent}
-use Rattle.rbc_link.specs.Links.{has_link, sent_to, KeepsLinks, HasRoom}
+use Rattle.rbc_link.specs.Links.{has_link, sent_to, room_to, KeepsLinks, HasRoom}
 use Rattle.rbc_link.specs.Outgoing.{frames_by}
 use Rattle.rbc_link.specs.Posted.{HasPosted}
 use Rattle.rbc_linkmsg.specs.Bodies.{body_of}
 use Rattle.rbc_linkmsg.specs.declared.body.Body.{Body}
 use Rattle.rbc_right.specs.Rights.{Rights}
-use Rattle.rbc_rules.specs.Desk.{HasParts, KeepsTrain, KeepsDesk, with_parts, effect_left}
-use Rattle.rbc_rules.specs.Letters.{letters, MaySend}
+use Rattle.rbc_rules.specs.Desk.{IsKeptAt, HasParts, KeepsTrain, KeepsDesk, with_parts, effect_left}
+use Rattle.rbc_rules.specs.Letters.{tells_others, mail_to}
+use Rattle.rbc_rules.specs.Sayings.{sayings_of}
+use Rattle.rbc_rules.specs.declared.mail.Mail.{Mail}
 use Rattle.rbc_rules.specs.declared.heard.Heard.{Heard}
 use Rattle.rbc_rules.specs.declared.reason.Reason.{Reason as ReasonCode}
-use Rattle.rbc_rules.specs.declared.letter.Letter.{Letter}
 use Rattle.rbc_rules.specs.declared.train.TrainState.{TrainState}
 use Rattle.rbc_centre.specs.Posts.{MayPost}
 use Rattle.rbc_centre.specs.Ranges.{AreInRange-prop}
 use Rattle.rbc_centre.specs.State.{stands_for, IsOfTrain}
 use Rattle.rbc_centre.specs.States.{state_of, IsSame}
 use Rattle.rbc_centre.specs.declared.centre.Centre.{Centre as CentreCode}
-use Rattle.rbc_centre.proofs.Kept.{engine_in_range, sound_left, own_left}
-use Rattle.rbc_centre.proofs.Posts.{may_post, each_frame_after}
+use Rattle.rbc_centre.proofs.Kept.{sound_left, own_left, ranged_left, sent_in}
+use Rattle.rbc_centre.proofs.Posts.{mail_few, may_post}
+use Rattle.rbc_centre.proofs.SentFrames.{each_frame_after}
+use Rattle.rbc_centre.proofs.Silent.{sends_nothing}
 use Rattle.rbc_centre.proofs.States.{number_within, counted_after}
-use Rattle.rbc_centre.proofs.Steps.{ticked_is, stands_kept, replied, effect_of, outcome_with, answers}
+use Rattle.rbc_centre.proofs.Steps as Steps
+use Rattle.rbc_centre.proofs.Steps.{ticked_is, stands_kept, replied, effect_of, outcome_with, answers, no_refusal}
 use Rattle.rbc_centre.proofs.Trains.{mission_of, kept_at, has_train, train_left}
 
 -- the frames that were sent are in their ranges
@@ -50,14 +53,11 @@ module _ (k : CentreCode) (t i : ℕ) (old : TrainState) (number : train_number 
   pub within : i < length k.trains.items
   within = number_within k.line k.trains.items t i number k.train_count
 
-  pub of_train : IsOfTrain k.line k.sessions t i old
+  pub of_train : IsOfTrain k.line k.number k.sessions t i old
   of_train = k.each_train t i old number at
 
   pub is_known : is_none (train_number k.line old.supervision.engine) ≡ false
   is_known = ap (λ (n : ℕ). is_none (train_number k.line n)) of_train.engine ∙ ap is_none number
-
-  pub in_range : old.supervision.engine ≤ 16777215
-  in_range = let low = engine_in_range k.line t i k.line_rules number in omega (arith, low, of_train.engine)
 
   pub has_number : old.supervision.number < length k.registrar
   has_number = omega (arith, of_train.number, within, k.train_count, k.each_right)
@@ -65,13 +65,17 @@ module _ (k : CentreCode) (t i : ℕ) (old : TrainState) (number : train_number 
   pub has_count : k.clock < 1073741823 → old.said < 4294967294
   has_count early = let few = k.counted i old at in omega (arith, few, early)
 
+  pub kept_train : IsKeptAt k.line k.number old
+  kept_train =
+      kept_at k.line k.number (state_of k) k.sessions t i old k.line_rules k.sound k.own k.ranged of_train
+      (mission_of k.line k.number k.clock t i k.book k.registrar k.links k.trains.items old number at)
+
   module _ (clock : ℕ) (mid : List (Link Body)) where
     -- what the centre has of it, by its next clock and these links
     pub parts : HasParts k.line k.number (stands_for k.line k.number clock k.book k.registrar mid k.trains.items) old k.book k.registrar
     parts =
         has_train k.line k.number clock t i k.book k.registrar mid k.trains.items old number at within of_train.engine of_train.number k.line_rules
-        (kept_at k.line k.number (state_of k) k.sessions t i old k.line_rules k.sound k.own of_train
-        (mission_of k.line k.number k.clock t i k.book k.registrar k.links k.trains.items old number at)) k.own_sections
+        kept_train k.own_sections
 
     module _ (new : TrainState) (book : Pages) (rights : Rights) (kept : KeepsTrain old new) (desk : KeepsDesk old.supervision.number k.book book k.registrar rights) where
       abbrev states : List TrainState
@@ -87,7 +91,7 @@ module _ (k : CentreCode) (t i : ℕ) (old : TrainState) (number : train_number 
           let more = kept.said in
           counted_after k.trains.items i k.clock clock new within (omega (arith, few, more, later)) (omega (arith, later)) k.counted
 
--- what stays true of a centre that sends this letter, or none
+-- what stays true of a centre behind a step
 pub record Stays (k : CentreCode) (clock : ℕ) (book : Pages) (rights : Rights) (links : List (Link Body)) (states : List TrainState) : Type 0 where
   pub own_sections : (s : ℕ) → is_own book s ≡ is_home k.line k.number s
   pub each_right : length rights ≡ length k.line.trains
@@ -96,33 +100,47 @@ pub record Stays (k : CentreCode) (clock : ℕ) (book : Pages) (rights : Rights)
   pub each_frame : (d : ℕ) → All HasFrameRanges (frames_by body_of (sent_to links d))
   pub train_count : length states ≡ length k.line.trains
   pub sound : IsCentreSound k.line k.number (stands_for k.line k.number clock book rights links states)
-  pub own : IsOwnAt ToRights k.line k.number (stands_for k.line k.number clock book rights links states)
+  pub own : IsOwnAt ToRoutes k.line k.number (stands_for k.line k.number clock book rights links states)
+  pub ranged : ∥ HasStateRanges k.line k.number (stands_for k.line k.number clock book rights links states) ∥₁
 
-module _ (k : CentreCode) (event : Event) (clock i : ℕ) (mid new : List (Link Body)) (book : Pages) (rights : Rights) (old after : TrainState)
-    (letter : Option Letter) (sayings : List Saying) (words : List Word) (link : Option Taken) (silence : Option Reason)
-    (stamp : step.stamp_of (state_of k) event ≡ clock) (same : (d : ℕ) → sent_to mid d ≡ sent_to k.links d) (posted : HasPosted body_of clock (letters letter) mid new)
-    (effect : step.effect ToRights k.line k.number (step.ticked clock (state_of k)) event
-    ≡ effect_of (replied (stands_for k.line k.number clock book rights mid (set k.trains.items i after)) letter sayings words) link silence)
-    (frames : ℕ → List Frame) (numbers : (d : ℕ) → frames d ≡ numbered clock (length (sent_to mid d)) (letters letter d)) where
+-- what a step sends to each centre, on links that are no different, may be posted: there is room for it, or there is none
+pub may_be_sent : (k : CentreCode) (event : Event) (clock : ℕ) (mid : List (Link Body)) (x : centre.Centre) (bodies : ℕ → List BodySent) (sayings : List Saying) (words : List Word) (link : Option Taken) (silence : Option Reason)
+    → step.stamp_of (state_of k) event ≡ clock → ((d : ℕ) → sent_to mid d ≡ sent_to k.links d)
+    → step.effect ToRoutes k.line k.number (step.ticked clock (state_of k)) event ≡ effect_of (replied x bodies sayings words) link silence
+    → step.refusal k.line k.number (state_of k) event ≡ None → HasEventRanges k.line k.number event → ((d : ℕ) → has_link mid d ≡ is_linked k.line k.number d)
+    → ((d : ℕ) → length (bodies d) ≤ 3) → ((d : ℕ) → has_link mid d ≡ true → length (bodies d) ≤ room_to mid d) → (d : ℕ) → MayPost mid d (bodies d)
+may_be_sent k event clock mid x bodies sayings words link silence stamp same effect allowed ranges linked few room d =
+    let sent : All (IsSentInRange k.line k.number d) (bodies d) =
+    subst (λ (xs : List BodySent). All (IsSentInRange k.line k.number d) xs) ((λ i. (step.effect ToRoutes k.line k.number (step.ticked (stamp i) (state_of k)) event).reply.frames d) ∙ ap (λ (e : Effect). e.reply.frames d) effect)
+    (sent_in k.line k.number (state_of k) event k.line_rules allowed ranges k.ranged d) in
+    may_post k.line k.number k.clock k.book k.registrar k.links mid k.trains.items d (bodies d) (Steps.allowed k.line k.number (state_of k) event allowed).1 (linked d) (same d) sent (few d) (room d)
+
+module _ (k : CentreCode) (event : Event) (clock : ℕ) (mid new : List (Link Body)) (book : Pages) (rights : Rights) (states : List TrainState)
+    (bodies : ℕ → List BodySent) (sayings : List Saying) (words : List Word) (link : Option Taken) (silence : Option Reason)
+    (stamp : step.stamp_of (state_of k) event ≡ clock) (same : (d : ℕ) → sent_to mid d ≡ sent_to k.links d) (posted : HasPosted body_of clock bodies mid new)
+    (effect : step.effect ToRoutes k.line k.number (step.ticked clock (state_of k)) event
+    ≡ effect_of (replied (stands_for k.line k.number clock book rights mid states) bodies sayings words) link silence)
+    (frames : ℕ → List Frame) (numbers : (d : ℕ) → frames d ≡ numbered clock (length (sent_to mid d)) (bodies d)) where
   -- the answer of the step, and the state that it leaves
-  pub turns : (outcome_with clock frames sayings words link silence, stands_for k.line k.number clock book rights new (set k.trains.items i after))
-      ≡ step.taken ToRights k.line k.number event (state_of k)
+  pub turns : (outcome_with clock frames sayings words link silence, stands_for k.line k.number clock book rights new states)
+      ≡ step.taken ToRoutes k.line k.number event (state_of k)
   turns =
-      answers k.line k.number k.clock clock k.book book k.registrar rights k.links mid new k.trains.items (set k.trains.items i after) letter event
+      answers k.line k.number k.clock clock k.book book k.registrar rights k.links mid new k.trains.items states bodies event
       stamp same posted sayings words link silence effect frames numbers _ refl
 
-  pub stays : 1 ≤ clock → clock ≤ 1073741823 → IsInRange event → IfSome letter (MayPost mid) → KeepsDesk old.supervision.number k.book book k.registrar rights
-      → length mid ≡ length k.links → ((d : ℕ) → has_link mid d ≡ has_link k.links d)
-      → Stays k clock book rights new (set k.trains.items i after)
-  stays low high range may desk count linked = record {
-    own_sections = λ s. desk.homes s ∙ k.own_sections s;
-    each_right = desk.rights.count ∙ k.each_right;
-    link_count = posted.count ∙ count ∙ k.link_count;
+  pub stays : 1 ≤ clock → clock ≤ 1073741823 → IsInRange event → step.refusal k.line k.number (state_of k) event ≡ None → HasEventRanges k.line k.number event → ((d : ℕ) → MayPost mid d (bodies d))
+      → ((s : ℕ) → is_own book s ≡ is_own k.book s) → length rights ≡ length k.registrar → length states ≡ length k.trains.items → length mid ≡ length k.links → ((d : ℕ) → has_link mid d ≡ has_link k.links d)
+      → Stays k clock book rights new states
+  stays low high range allowed ranges may homes count trains links linked = record {
+    own_sections = λ s. homes s ∙ k.own_sections s;
+    each_right = count ∙ k.each_right;
+    link_count = posted.count ∙ links ∙ k.link_count;
     each_link = λ d. posted.linked d ∙ linked d ∙ k.each_link d;
-    each_frame = each_frame_after clock letter mid new low high may posted (λ d. subst (λ (fs : List (Sent Body)). All HasFrameRanges (frames_by body_of fs)) (sym (same d)) (sent_in_range k d));
-    train_count = length-set k.trains.items i after ∙ k.train_count;
+    each_frame = each_frame_after clock bodies mid new low high may posted (λ d. subst (λ (fs : List (Sent Body)). All HasFrameRanges (frames_by body_of fs)) (sym (same d)) (sent_in_range k d));
+    train_count = trains ∙ k.train_count;
     sound = sound_left k.line k.number (state_of k) _ event _ k.line_rules range turns k.sound;
     own = own_left k.line k.number (state_of k) _ event _ k.line_rules range turns k.sound k.own;
+    ranged = ranged_left k.line k.number (state_of k) _ event _ k.line_rules range turns allowed ranges k.ranged;
   }
 
 -- the stamp of a message
@@ -130,16 +148,21 @@ pub heard_stamp : (k : CentreCode) (m : TrainMessage) → step.stamp_of (state_o
 unfolding stands_for
 heard_stamp k m = refl
 
+-- and of what the interlocking says
+pub unset_stamp : (k : CentreCode) (s : ℕ) → step.stamp_of (state_of k) (Unset s) ≡ k.clock + 1
+unfolding stands_for
+unset_stamp k s = refl
+
 -- a message or a frame that its train takes, as the effect of the step
 pub takes : (k : CentreCode) (event : Event) (t i : ℕ) (old : TrainState) (number : train_number k.line t ≡ Some i) (at : slice_get k.trains.items i ≡ Some old) (clock : ℕ)
     (new : TrainState) (book : Pages) (rights : Rights) (kept : KeepsTrain old new) (desk : KeepsDesk old.supervision.number k.book book k.registrar rights) (r : Result Heard ReasonCode)
     → ((x : centre.Centre) → HasParts k.line k.number x old k.book k.registrar → is_none (train_number k.line old.supervision.engine) ≡ false
-    → step.effect ToRights k.line k.number x event ≡ effect_left (with_parts new book rights x) r)
-    → step.effect ToRights k.line k.number (step.ticked clock (state_of k)) event ≡ effect_left (stands_for k.line k.number clock book rights k.links (set k.trains.items i new)) r
+    → step.effect ToRoutes k.line k.number x event ≡ effect_left k.line k.number old.supervision.engine (with_parts new book rights x) r)
+    → step.effect ToRoutes k.line k.number (step.ticked clock (state_of k)) event ≡ effect_left k.line k.number old.supervision.engine (stands_for k.line k.number clock book rights k.links (set k.trains.items i new)) r
 takes k event t i old number at clock new book rights kept desk r exact =
-    ap (λ (x : centre.Centre). step.effect ToRights k.line k.number x event) (ticked_is k.line k.number k.clock clock k.book k.registrar k.links k.trains.items)
+    ap (λ (x : centre.Centre). step.effect ToRoutes k.line k.number x event) (ticked_is k.line k.number k.clock clock k.book k.registrar k.links k.trains.items)
     ∙ exact (stands_for k.line k.number clock k.book k.registrar k.links k.trains.items) (parts k t i old number at clock k.links) (is_known k t i old number at)
-    ∙ ap (λ (x : centre.Centre). effect_left x r) (left k t i old number at clock k.links new book rights kept desk)
+    ∙ ap (λ (x : centre.Centre). effect_left k.line k.number old.supervision.engine x r) (left k t i old number at clock k.links new book rights kept desk)
 
 -- ## Room
 
@@ -161,7 +184,8 @@ stays_with k links keeps =
       each_frame = λ d. subst (λ (fs : List (Sent Body)). All HasFrameRanges (frames_by body_of fs)) (sym (keeps.sent d)) (sent_in_range k d);
       train_count = k.train_count;
       sound = subst (IsCentreSound k.line k.number) (sym is) k.sound;
-      own = subst (IsOwnAt ToRights k.line k.number) (sym is) k.own;
+      own = subst (IsOwnAt ToRoutes k.line k.number) (sym is) k.own;
+      ranged = subst (λ (x : centre.Centre). ∥ HasStateRanges k.line k.number x ∥₁) (sym is) k.ranged;
     }
 
 -- what holds in any case holds where a call fails
@@ -169,10 +193,60 @@ pub on_err : {T E P : Type 0} (r : Result T E) → P → OnErr r P
 on_err (Ok x) h = tt
 on_err (Err e) h = h
 
--- a letter may be posted where no link is full: there is room for it, or there is none
-pub letter_may : (k : CentreCode) (t i : ℕ) (old : TrainState) (number : train_number k.line t ≡ Some i) (at : slice_get k.trains.items i ≡ Some old) (tells : Bool) (letter : Option Letter)
-    → step.has_full_link k.line k.number (state_of k) ≡ false → (tells ≡ true → HasRoom k.links 1)
-    → (is_centre k.line k.number ≡ true → old.supervision.engine ≤ 16777215 → IfSome letter (MaySend k.line k.number)) → (tells ≡ false → letter ≡ None) → IfSome letter (MayPost k.links)
-letter_may k t i old number at true letter none room may silent =
-    may_post k.line k.number k.clock k.book k.registrar k.links k.links k.trains.items letter none k.each_link (λ d. refl) (room refl) (may k.of_line (in_range k t i old number at))
-letter_may k t i old number at false letter none room may silent = subst (λ (o : Option Letter). IfSome o (MayPost k.links)) (sym (silent refl)) tt
+-- ## What is not refused
+
+module _ (k : CentreCode) (early : k.clock < 1073741823) (room : step.has_full_link k.line k.number (state_of k) ≡ false) where
+  pub heard_allowed : (m : TrainMessage) → step.refusal k.line k.number (state_of k) (Train m) ≡ None
+  heard_allowed m = no_refusal k.line k.number (state_of k) (Train m) k.clock (heard_stamp k m) early room
+
+  pub set_allowed : (s : ℕ) → step.refusal k.line k.number (state_of k) (Set s) ≡ None
+  unfolding stands_for
+  set_allowed s = no_refusal k.line k.number (state_of k) (Set s) k.clock refl early room
+
+  pub unset_allowed : (s : ℕ) → step.refusal k.line k.number (state_of k) (Unset s) ≡ None
+  unfolding stands_for
+  unset_allowed s = no_refusal k.line k.number (state_of k) (Unset s) k.clock refl early room
+
+-- ## Room for what a message sends
+
+-- where it tells no other centre it needs none
+pub heard_room : (k : CentreCode) (m : TrainMessage) (clock : ℕ) (x : centre.Centre) (bodies : ℕ → List BodySent) (sayings : List Saying) (words : List Word) (link : Option Taken) (silence : Option Reason)
+    → step.effect ToRoutes k.line k.number (step.ticked clock (state_of k)) (Train m) ≡ effect_of (replied x bodies sayings words) link silence → ((d : ℕ) → length (bodies d) ≤ 3)
+    → (tells_others m.body ≡ true → HasRoom k.links 3) → (d : ℕ) → has_link k.links d ≡ true → length (bodies d) ≤ room_to k.links d
+heard_room k m clock x bodies sayings words link silence effect few room d linked = by (tells_others m.body) refl
+  where
+    by : (b : Bool) → tells_others m.body ≡ b → length (bodies d) ≤ room_to k.links d
+    by true tells = let most = room tells d linked in let count = few d in omega (arith, most, count)
+    by false silent =
+        let none : bodies d ≡ [] = sym (ap (λ (e : Effect). e.reply.frames d) effect) ∙ sends_nothing d k.line k.number m (step.ticked clock (state_of k)) silent in
+        let count = ap length none in omega (arith, count)
+
+-- so what a message is heard to leave for other centres may be posted
+pub heard_may : (k : CentreCode) (m : TrainMessage) (t i : ℕ) (old : TrainState) (number : train_number k.line t ≡ Some i) (at : slice_get k.trains.items i ≡ Some old)
+    (new : TrainState) (book : Pages) (rights : Rights) (kept : KeepsTrain old new) (desk : KeepsDesk old.supervision.number k.book book k.registrar rights) (heard : Heard)
+    → ((x : centre.Centre) → HasParts k.line k.number x old k.book k.registrar → is_none (train_number k.line old.supervision.engine) ≡ false
+    → step.effect ToRoutes k.line k.number x (Train m) ≡ effect_left k.line k.number old.supervision.engine (with_parts new book rights x) (Ok heard))
+    → k.clock < 1073741823 → step.has_full_link k.line k.number (state_of k) ≡ false → HasMessageRanges m → (tells_others m.body ≡ true → HasRoom k.links 3)
+    → (d : ℕ) → MayPost k.links d (mail_to k.line k.number old.supervision.engine heard.mail d)
+heard_may k m t i old number at new book rights kept desk heard exact early none ranges room =
+    let bodies = mail_to k.line k.number old.supervision.engine heard.mail in
+    let sayings = sayings_of heard.saying in
+    let words : List Word = map (λ s. Told s) heard.told in
+    let few = mail_few k.line k.number old.supervision.engine heard.mail in
+    let effect = takes k (Train m) t i old number at (k.clock + 1) new book rights kept desk (Ok heard) exact in
+    may_be_sent k (Train m) (k.clock + 1) k.links _ bodies sayings words None None (heard_stamp k m) (λ d. refl) effect (heard_allowed k early none m) (k.of_line, ranges) k.each_link few
+    (heard_room k m (k.clock + 1) _ bodies sayings words None None effect few room)
+
+-- ## What was posted
+
+-- the mail of a train went on the links, and these are its frames
+pub record IsSent (line : Line) (c t stamp : ℕ) (mail : Mail) (old new : List (Link Body)) (frames : ℕ → List Frame) : Type 0 where
+  pub links : HasPosted body_of stamp (mail_to line c t mail) old new
+  pub each : (d : ℕ) → frames d ≡ numbered stamp (length (sent_to old d)) (mail_to line c t mail d)
+
+-- by another name of the train
+pub sent_by : (line : Line) (c t u stamp : ℕ) (mail : Mail) (old new : List (Link Body)) (frames : ℕ → List Frame) → t ≡ u → HasPosted body_of stamp (mail_to line c t mail) old new
+    → ((d : ℕ) → frames d ≡ numbered stamp (length (sent_to old d)) (mail_to line c t mail d)) → IsSent line c u stamp mail old new frames
+sent_by line c t u stamp mail old new frames same links each =
+    let first : IsSent line c t stamp mail old new frames = record { links = links; each = each } in
+    subst (λ (x : ℕ). IsSent line c x stamp mail old new frames) same first

@@ -1,20 +1,23 @@
 -- What the interlocking says of a section, as the change of the book and of a train's state.
 use Rattle.std.proofs.Common.{◌≡◌, ℕ, ◌==◌, ◌<◌, ◌&&◌, Bool, true, false, not, if◌then◌else◌, List, [], ◌∷◌, length, Some, None, slice_get, set, refl, sym, ap, ◌∙◌, arith, inl, inr, eq-eqb}
 use Rattle.std.proofs.lemmas.Bool.{cases_Bool}
-use Rattle.rbc_spec.specs.Reach.{Rights as ToRights}
 use Rattle.rbc_spec.specs.Maps.{put}
 use Rattle.rbc_spec.specs.Line.{Line, is_home, train_number}
 use Rattle.rbc_spec.specs.Outcome.{Saying, Done, Asked, NotHome}
 use Rattle.rbc_spec.specs.Centre as centre
-use Rattle.rbc_spec.specs.Centre.{Entry, Shut, Open, Taken, Out, is_unused, is_taken_for, is_out_for}
-use Rattle.rbc_spec.specs.Acts.{propose_if_so}
+use Rattle.rbc_spec.specs.Centre.{Entry, Shut, Open, Taken, Out, is_unused, is_taken_for}
+use Rattle.rbc_spec.specs.Frame.{RouteWithdraw}
+use Rattle.rbc_spec.specs.Acts.{propose_if_so, ◌>>◌}
 use Rattle.rbc_spec.specs.Step as step
 use Rattle.rbc_local.specs.Local.{hand_has}
 use Rattle.rbc_flow.specs.Counts.{wait_has}
 use Rattle.rbc_flow.specs.Sound.{IsCentreSound}
-use Rattle.rbc_own.specs.Own.{IsOwnAt}
 use Rattle.rbc_book.specs.Book.{Pages, is_own, entry_at, wish_at}
 use Rattle.rbc_book.specs.Answers.{unset_answer}
+use Rattle.rbc_book.specs.Entries.{entry_of}
+use Rattle.rbc_book.specs.declared.page.Entry.{Entry as EntryCode}
+use Rattle.rbc_book.specs.declared.page.Entry.TheVariants as entries
+use Rattle.rbc_book.proofs.Pages.{foreign_is_shut}
 use Rattle.rbc_book.specs.declared.answer.Unset.TheVariants as Unset
 use Rattle.rbc_link.specs.declared.link.Link.{Link}
 use Rattle.rbc_linkmsg.specs.declared.body.Body.{Body}
@@ -30,6 +33,26 @@ use Rattle.rbc_centre.specs.declared.centre.Centre.{Centre as CentreCode}
 use Rattle.rbc_centre.proofs.States.{of_trains-set, part_of_train, part_of_foreign, number_within}
 use Rattle.rbc_centre.proofs.Steps.{replied}
 
+-- a section that is out is withdrawn
+withdrawn : (line : Line) (c s t d : ℕ) (k : centre.Centre) → is_home line c s ≡ true → k.book s ≡ Out t d
+    → step.unset line c s k ≡ replied (wishing s k) (λ e. if e == d then RouteWithdraw t s ∷ [] else []) [] (Asked s ∷ [])
+unfolding ◌>>◌
+withdrawn line c s t d k home out = rw (home, out) refl
+
+-- and is of the home
+pub out_at_home : (pages : Pages) (s t d : ℕ) → entry_at pages s ≡ Out t d → is_own pages s ≡ true
+out_at_home pages s t d out = elim (cases_Bool (is_own pages s)) [
+  | inl own ↦ own
+  | inr foreign ↦ let no : Shut ≡ Out t d = sym (foreign_is_shut pages s foreign) ∙ out in cc
+]
+
+-- what the page of a section shows of it
+pub shown_out : (e : EntryCode) → ((t d : ℕ) → e ≡ entries.Out t d → ⊥) → (t d : ℕ) → entry_of e ≡ Out t d → ⊥
+shown_out entries.Shut apart t d is = cc
+shown_out entries.Open apart t d is = cc
+shown_out (entries.Taken u) apart t d is = cc
+shown_out (entries.Out u e) apart t d is = apart u e refl
+
 module _ (line : Line) (c clock : ℕ) (old new : Pages) (rights : Rights) (links : List (Link Body)) (states : List TrainState) (s : ℕ) (home : is_own old s ≡ is_home line c s) where
   abbrev k : centre.Centre
   k = stands_for line c clock old rights links states
@@ -39,44 +62,56 @@ module _ (line : Line) (c clock : ℕ) (old new : Pages) (rights : Rights) (link
 
   pub set_turns : ((n : ℕ) → entry_at new n ≡ (if (is_own old s && is_unused (entry_at old s)) && (n == s) then Open else entry_at old n))
       → ((n : ℕ) → wish_at new n ≡ (if is_own old s && (n == s) then false else wish_at old n))
-      → (own unused : Bool) → is_own old s ≡ own → is_unused (entry_at old s) ≡ unused → replied left None [] ((if own then Done s else NotHome s) ∷ []) ≡ step.set line c s k
+      → (own unused : Bool) → is_own old s ≡ own → is_unused (entry_at old s) ≡ unused → replied left (λ d. []) [] ((if own then Done s else NotHome s) ∷ []) ≡ step.set line c s k
   unfolding stands_for
   set_turns entry wish true true own unused =
       let entries : (n : ℕ) → entry_at new n ≡ put (entry_at old) s Open n = λ n. rw (own, unused) at (entry n) in
       let wishes : (n : ℕ) → wish_at new n ≡ put (wish_at old) s false n = λ n. rw own at (wish n) in
-      (λ i. replied (record k { book = λ n. entries n i; wish = λ n. wishes n i }) None [] (Done s ∷ []))
+      (λ i. replied (record k { book = λ n. entries n i; wish = λ n. wishes n i }) (λ d. []) [] (Done s ∷ []))
       ∙ sym (opened_at_once line c s k (sym home ∙ own) unused)
   set_turns entry wish true false own unused =
       let entries : (n : ℕ) → entry_at new n ≡ entry_at old n = λ n. rw (own, unused) at (entry n) in
       let wishes : (n : ℕ) → wish_at new n ≡ put (wish_at old) s false n = λ n. rw own at (wish n) in
-      (λ i. replied (record k { book = λ n. entries n i; wish = λ n. wishes n i }) None [] (Done s ∷ []))
+      (λ i. replied (record k { book = λ n. entries n i; wish = λ n. wishes n i }) (λ d. []) [] (Done s ∷ []))
       ∙ sym (kept_in_use line c s k (sym home ∙ own) unused)
   set_turns entry wish false unused own used =
       let entries : (n : ℕ) → entry_at new n ≡ entry_at old n = λ n. rw own at (entry n) in
       let wishes : (n : ℕ) → wish_at new n ≡ wish_at old n = λ n. rw own at (wish n) in
-      (λ i. replied (record k { book = λ n. entries n i; wish = λ n. wishes n i }) None [] (NotHome s ∷ []))
+      (λ i. replied (record k { book = λ n. entries n i; wish = λ n. wishes n i }) (λ d. []) [] (NotHome s ∷ []))
       ∙ sym (left_at_set line c s k (sym home ∙ own))
 
   module _ (entry : (n : ℕ) → entry_at new n ≡ (if (is_own old s && is_unused (entry_at old s)) && (n == s) then Shut else entry_at old n))
       (wish : (n : ℕ) → wish_at new n ≡ (if is_own old s && (n == s) then not (is_unused (entry_at old s)) else wish_at old n)) where
-    pub unset_turns : (own : Bool) → is_own old s ≡ own → (own ≡ true → is_unused (entry_at old s) ≡ true) → replied left None [] ((if own then Done s else NotHome s) ∷ []) ≡ step.unset line c s k
+    pub unset_turns : (own : Bool) → is_own old s ≡ own → (own ≡ true → is_unused (entry_at old s) ≡ true) → replied left (λ d. []) [] ((if own then Done s else NotHome s) ∷ []) ≡ step.unset line c s k
     unfolding stands_for
     unset_turns true own never =
         let unused : is_unused (entry_at old s) ≡ true = never refl in
         let entries : (n : ℕ) → entry_at new n ≡ put (entry_at old) s Shut n = λ n. rw (own, unused) at (entry n) in
         let wishes : (n : ℕ) → wish_at new n ≡ put (wish_at old) s false n = λ n. rw (own, unused) at (wish n) in
-        (λ i. replied (record k { book = λ n. entries n i; wish = λ n. wishes n i }) None [] (Done s ∷ []))
+        (λ i. replied (record k { book = λ n. entries n i; wish = λ n. wishes n i }) (λ d. []) [] (Done s ∷ []))
         ∙ sym (shut_at_once line c s k (sym home ∙ own) unused)
     unset_turns false own never =
         let entries : (n : ℕ) → entry_at new n ≡ entry_at old n = λ n. rw own at (entry n) in
         let wishes : (n : ℕ) → wish_at new n ≡ wish_at old n = λ n. rw own at (wish n) in
-        (λ i. replied (record k { book = λ n. entries n i; wish = λ n. wishes n i }) None [] (NotHome s ∷ []))
+        (λ i. replied (record k { book = λ n. entries n i; wish = λ n. wishes n i }) (λ d. []) [] (NotHome s ∷ []))
         ∙ sym (left_at_unset line c s k (sym home ∙ own))
+
+    -- a section that is out
+    pub out_turns : (t d : ℕ) → is_own old s ≡ true → entry_at old s ≡ Out t d
+        → replied left (λ e. if e == d then RouteWithdraw t s ∷ [] else []) [] (Asked s ∷ []) ≡ step.unset line c s k
+    unfolding stands_for
+    out_turns t d own out =
+        let used : is_unused (entry_at old s) ≡ false = ap is_unused out in
+        let entries : (n : ℕ) → entry_at new n ≡ entry_at old n = λ n. rw (own, used) at (entry n) in
+        let wishes : (n : ℕ) → wish_at new n ≡ put (wish_at old) s true n = λ n. rw (own, used) at (wish n) in
+        (λ j. replied (record k { book = λ n. entries n j; wish = λ n. wishes n j }) (λ e. if e == d then RouteWithdraw t s ∷ [] else []) [] (Asked s ∷ []))
+        ∙ sym (withdrawn line c s t d k (sym home ∙ own) out)
 
     -- a section that is in use for a train
     module _ (t i : ℕ) (before after : TrainState) (sayings : List Saying) (own : is_own old s ≡ true) (taken : entry_at old s ≡ Taken t)
         (number : train_number line t ≡ Some i) (at : slice_get states i ≡ Some before) (within : i < length states)
-        (session_state : after.session_state ≡ before.session_state) (heard : after.heard ≡ before.heard) (waiting : after.waiting ≡ before.waiting)
+        (session_state : after.session_state ≡ before.session_state) (heard : after.heard ≡ before.heard) (question : after.supervision.asked ≡ before.supervision.asked)
+        (waiting : after.waiting ≡ before.waiting)
         (asks : (j : centre.Centre) → HasTrain j t before → propose_if_so line t s j ≡ asked t after sayings j) where
       wishing_is : HasTrain (wishing s k) t before
       unfolding stands_for
@@ -92,7 +127,7 @@ module _ (line : Line) (c clock : ℕ) (old new : Pages) (rights : Rights) (link
           of_trains-set part none line states t i after number within u
           ∙ put_same t (part after) (of_trains part none line states) (sym (part_of_train part none line states t i before number at) ∙ sym same) u
 
-      pub asked_turns : replied (stands_for line c clock new rights links (set states i after)) None sayings (Asked s ∷ []) ≡ step.unset line c s k
+      pub asked_turns : replied (stands_for line c clock new rights links (set states i after)) (λ d. []) sayings (Asked s ∷ []) ≡ step.unset line c s k
       unfolding stands_for
       asked_turns =
           let used : is_unused (entry_at old s) ≡ false = ap is_unused taken in
@@ -105,22 +140,13 @@ module _ (line : Line) (c clock : ℕ) (old new : Pages) (rights : Rights) (link
             heard = λ u. same_part (λ p. p.heard) None heard u j;
             said = λ u. of_trains-set (λ p. p.said) 0 line states t i after number within u j;
             mission = λ u. of_trains-set (λ p. p.supervision.mission) None line states t i after number within u j;
+            route_ask = λ u. same_part (λ p. p.supervision.asked) None question u j;
             wait = λ u. same_part (λ p. p.waiting.wait) None (λ l. (waiting l).wait) u j;
             has_asked = λ u. same_part (λ p. p.waiting.has_asked) false (λ l. (waiting l).has_asked) u j;
-          }) None sayings (Asked s ∷ []))
+          }) (λ d. []) sayings (Asked s ∷ []))
           ∙ sym (asked_of_taken line c s t k (asked t after sayings (wishing s k)) (sym home ∙ own) taken (asks (wishing s k) wishing_is))
 
-  -- at a centre that keeps to its own, a section in use is so for a train
-  pub user_stands : IsOwnAt ToRights line c k → (e : Entry) → entry_at old s ≡ e → is_unused e ≡ false → (t : ℕ) × (e ≡ Taken t)
-  unfolding stands_for
-  user_stands own Shut is used = cc
-  user_stands own Open is used = cc
-  user_stands own (Taken t) is used = (t, refl)
-  user_stands own (Out t d) is used =
-      let out : is_out_for t d (Out t d) ≡ false = ap (is_out_for t d) (sym is) ∙ own.not_out refl s t d in
-      let no = rw (eq-eqb t t refl, eq-eqb d d refl) at out in cc
-
-  -- and where the centre is sound, that is one of the line
+  -- where the centre is sound, a train that a section is in use for is one of the line
   pub user_number : IsCentreSound line c k → (t : ℕ) → entry_at old s ≡ Taken t → train_number line t ≡ None → ⊥
   unfolding stands_for
   user_number sound t taken foreign = elim (cases_Bool (is_home line c s)) [
@@ -132,6 +158,13 @@ module _ (line : Line) (c clock : ℕ) (old new : Pages) (rights : Rights) (link
         omega (arith, claims)
     | inr away ↦ let no : Shut ≡ Taken t = sym (sound.foreign s away) ∙ taken in cc
   ]
+
+-- a section that is in use and not out is so for a train
+pub user_stands : (e : Entry) → ((t d : ℕ) → e ≡ Out t d → ⊥) → is_unused e ≡ false → (t : ℕ) × (e ≡ Taken t)
+user_stands Shut here used = cc
+user_stands Open here used = cc
+user_stands (Taken t) here used = (t, refl)
+user_stands (Out t d) here used = absurd (here t d refl)
 
 -- what a book answers to an unset says whether the section is in use
 pub done_unused : (e : Entry) → Unset.Done ≡ unset_answer e → is_unused e ≡ true
@@ -156,18 +189,18 @@ pub record IsUser (k : CentreCode) (s i : ℕ) (before : TrainState) (t : ℕ) :
   pub at : slice_get k.trains.items i ≡ Some before
   pub engine : before.supervision.engine ≡ t
 
-pub user_of : (k : CentreCode) (s : ℕ) → Unset.Asked ≡ unset_answer (entry_at k.book s) → (t : ℕ) × (entry_at k.book s ≡ Taken t)
-user_of k s asked = user_stands k.line k.number k.clock k.book k.book k.registrar k.links k.trains.items s (k.own_sections s) k.own (entry_at k.book s) refl (asked_used (entry_at k.book s) asked)
+pub user_of : (k : CentreCode) (s : ℕ) → ((t d : ℕ) → entry_at k.book s ≡ Out t d → ⊥) → Unset.Asked ≡ unset_answer (entry_at k.book s) → (t : ℕ) × (entry_at k.book s ≡ Taken t)
+user_of k s here asked = user_stands (entry_at k.book s) here (asked_used (entry_at k.book s) asked)
 
-pub user_at : (k : CentreCode) (s i : ℕ) (before : TrainState) (asked : Unset.Asked ≡ unset_answer (entry_at k.book s)) → ((t : ℕ) → entry_at k.book s ≡ Taken t → train_number k.line t ≡ Some i)
-    → (i < length k.trains.items → slice_get k.trains.items i ≡ Some before) → IsUser k s i before (user_of k s asked).0
-user_at k s i before asked found read =
-    let u = user_of k s asked in
+pub user_at : (k : CentreCode) (s i : ℕ) (before : TrainState) (here : (t d : ℕ) → entry_at k.book s ≡ Out t d → ⊥) (asked : Unset.Asked ≡ unset_answer (entry_at k.book s)) → ((t : ℕ) → entry_at k.book s ≡ Taken t → train_number k.line t ≡ Some i)
+    → (i < length k.trains.items → slice_get k.trains.items i ≡ Some before) → IsUser k s i before (user_of k s here asked).0
+user_at k s i before here asked found read =
+    let u = user_of k s here asked in
     let number = found u.0 u.1 in
     let within = number_within k.line k.trains.items u.0 i number k.train_count in
     record { taken = u.1; number = number; within = within; at = read within; engine = (k.each_train u.0 i before number (read within)).engine }
 
-pub no_user : (k : CentreCode) (s : ℕ) (asked : Unset.Asked ≡ unset_answer (entry_at k.book s)) → ((t : ℕ) → entry_at k.book s ≡ Taken t → train_number k.line t ≡ None) → ⊥
-no_user k s asked none =
-    let u = user_of k s asked in
+pub no_user : (k : CentreCode) (s : ℕ) (here : (t d : ℕ) → entry_at k.book s ≡ Out t d → ⊥) (asked : Unset.Asked ≡ unset_answer (entry_at k.book s)) → ((t : ℕ) → entry_at k.book s ≡ Taken t → train_number k.line t ≡ None) → ⊥
+no_user k s here asked none =
+    let u = user_of k s here asked in
     user_number k.line k.number k.clock k.book k.book k.registrar k.links k.trains.items s (k.own_sections s) k.sound u.0 u.1 (none u.0 u.1)

@@ -1,6 +1,7 @@
 -- The step's definition, seen from the code.
-use Rattle.std.specs.Prelude.{◌≡◌, ◌⊎◌, true, Option, Some, Result, Ok, Err, IsOk}
+use Rattle.std.specs.Prelude.{◌≡◌, ◌⊎◌, ℕ, true, Option, Some, Result, Ok, Err, IsOk}
 use Rattle.rbc_spec.specs.Message.{InitiationOfSession}
+use Rattle.rbc_spec.specs.Centre.{Centre, Out}
 use Rattle.rbc_spec.specs.Step as step
 use Rattle.rbc_rules.specs.Letters.{tells_others}
 use Rattle.rbc_centre.specs.declared.fault.StepFault.{StepFault}
@@ -23,12 +24,14 @@ abbrev pub Steps : {X Y : Type 0} → (X → Y) → Result X StepFault → Resul
 Steps view (Ok x) r = r ≡ Ok (view x)
 Steps view (Err fault) r = IsRefusal fault r
 
--- memory is wanted only where a train opens a session, and where another centre may have to be told something
-abbrev pub TakesMemory : step.Event → Type 0
-TakesMemory (step.Train m) = (m.body ≡ InitiationOfSession) ⊎ (tells_others m.body ≡ true)
-TakesMemory (step.Deliver from frame) = Unit {0}
-TakesMemory event = ⊥
+-- memory is wanted only where a train opens a session, where a section is taken back that is out, and where another centre may have to be
+-- told something
+abbrev pub TakesMemory : Centre → step.Event → Type 0
+TakesMemory k (step.Train m) = (m.body ≡ InitiationOfSession) ⊎ (tells_others m.body ≡ true)
+TakesMemory k (step.Unset s) = (t : ℕ) × (d : ℕ) × (k.book s ≡ Out t d)
+TakesMemory k (step.Deliver from frame) = Unit {0}
+TakesMemory k event = ⊥
 
-abbrev pub IsWantedBy : {X : Type 0} → step.Event → Result X StepFault → Type 0
-IsWantedBy event (Err Memory) = TakesMemory event
-IsWantedBy event result = Unit {0}
+abbrev pub IsWantedBy : {X : Type 0} → Centre → step.Event → Result X StepFault → Type 0
+IsWantedBy k event (Err Memory) = TakesMemory k event
+IsWantedBy k event result = Unit {0}

@@ -1,6 +1,7 @@
+pub mod Posts
+pub mod Sent
 pub mod Views
 pub mod State
 pub mod States
 pub mod Answer
-pub mod Posts
 pub mod Ranges

@@ -2,7 +2,9 @@
 use Rattle.std.specs.Prelude.{ℕ, List, All}
 use Rattle.std.proofs.Props.{props}
 use Rattle.rbc_spec.specs.SectionRuns.{SectionRun}
+use Rattle.rbc_spec.specs.Line.{Line}
 use Rattle.rbc_spec.specs.Frame.{Frame, Body, YieldedPlace, AskRight, GiveRight, RefuseRight, ReturnRight, RouteAsk, RouteInfo, RouteWithdraw, RouteReturn, Announce, Cancel, TakingOver, Yield, HasRunRange, HasPlaceRange, HasBodyRange, HasFrameRanges}
+use Rattle.rbc_ranges.specs.Ranges.{IsSentInRange}
 
 HasRunRange-prop : (least most : ℕ) (run : SectionRun) → IsProp (HasRunRange least most run)
 HasRunRange-prop least most run = hlevel props
@@ -30,3 +32,10 @@ HasFrameRanges-prop f = let body : IsProp (HasBodyRange f.body) = HasBodyRange-p
 -- of all frames that go to each centre
 pub AreInRange-prop : (frames : ℕ → List Frame) → IsProp ((d : ℕ) → All HasFrameRanges (frames d))
 AreInRange-prop frames = hlevel (props, HasFrameRanges-prop)
+
+IsSentInRange-prop : (line : Line) (c d : ℕ) (f : Body) → IsProp (IsSentInRange line c d f)
+IsSentInRange-prop line c d f = let body : IsProp (HasBodyRange f) = HasBodyRange-prop f in hlevel props
+
+-- of all bodies that a step sends to a centre
+pub AreSent-prop : (line : Line) (c d : ℕ) (bodies : List Body) → IsProp (All (IsSentInRange line c d) bodies)
+AreSent-prop line c d bodies = hlevel (props, IsSentInRange-prop)

@@ -13,6 +13,7 @@ use Rattle.rbc_link.specs.Links.{sent_to, taken_from}
 use Rattle.rbc_link.specs.Outgoing.{frames_by}
 use Rattle.rbc_linkmsg.specs.Bodies.{body_of}
 use Rattle.rbc_linkmsg.specs.declared.body.Body.{Body}
+use Rattle.rbc_rules.specs.Desk.{IsHeld}
 use Rattle.rbc_rules.specs.SessionStates.{Stands}
 use Rattle.rbc_rules.specs.declared.train.TrainState.{TrainState}
 use Rattle.rbc_rules.specs.Trains.{unknown_state}
@@ -29,7 +30,7 @@ of_trains part none line trains t = option_map_or part (state_at line trains t) 
 abbrev pub right_at : Line → Rights → ℕ → Bool
 right_at line rights t = option_map_or (is_here rights) (train_number line t) false
 
--- What a centre's number, clock, pages, rights, links and states of trains stand for. It expects no handover, and has asked for no section
+-- What a centre's number, clock, pages, rights, links and states of trains stand for. It expects no handover
 unfoldable pub stands_for : Line → ℕ → ℕ → Pages → Rights → List (Link Body) → List TrainState → centre.Centre
 stands_for line number clock pages rights links trains = record (centre.beginning line number) {
   clock = clock;
@@ -39,6 +40,7 @@ stands_for line number clock pages rights links trains = record (centre.beginnin
   heard = of_trains (λ p. p.heard) None line trains;
   said = of_trains (λ p. p.said) 0 line trains;
   mission = of_trains (λ p. p.supervision.mission) None line trains;
+  route_ask = of_trains (λ p. p.supervision.asked) None line trains;
   wait = of_trains (λ p. p.waiting.wait) None line trains;
   has_asked = of_trains (λ p. p.waiting.has_asked) false line trains;
   has_right = right_at line rights;
@@ -46,12 +48,13 @@ stands_for line number clock pages rights links trains = record (centre.beginnin
   taken = taken_from links;
 }
 
--- what is kept of the train with this NID_ENGINE, at its place in the line file
-pub record IsOfTrain (line : Line) (sessions : Records) (t i : ℕ) (p : TrainState) : Type 0 where
+-- what centre c keeps of the train with this NID_ENGINE, at its place in the line file
+pub record IsOfTrain (line : Line) (c : ℕ) (sessions : Records) (t i : ℕ) (p : TrainState) : Type 0 where
   pub number : p.supervision.number ≡ i
   pub engine : p.supervision.engine ≡ t
   pub waiting : p.waiting.engine ≡ t
   pub covers : IsCovered line p.waiting
+  pub held : IsHeld line c p
   pub session : Stands sessions p.session_state t
 
 -- the state is of the train at place i of the line file, which was never heard

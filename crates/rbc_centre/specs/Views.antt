@@ -15,7 +15,7 @@ use Rattle.rbc_centre.specs.declared.fault.StepFault.TheVariants as fault
 use Rattle.rbc_rules.specs.declared.reason.Reason.{Reason as ReasonCode}
 use Rattle.rbc_centre.specs.declared.link_answer.LinkAnswer.{LinkAnswer}
 use Rattle.rbc_centre.specs.declared.link_answer.LinkAnswer.TheVariants as link
-use Rattle.rbc_centre.specs.declared.posted.Posted.{Posted}
+use Rattle.rbc_centre.specs.Sent.{frames_to}
 use Rattle.rbc_centre.specs.declared.outcome.Word.{Word}
 use Rattle.rbc_centre.specs.declared.outcome.Word.TheVariants as word
 use Rattle.rbc_centre.specs.declared.outcome.Outcome.{Outcome as OutcomeCode}
@@ -38,11 +38,6 @@ abbrev pub words_of : Option Word → List spec.Word
 words_of (Some w) = word_of w ∷ []
 words_of None = []
 
--- what a frame that was sent, or none, brings to each centre
-abbrev pub frames_to : Option Posted → ℕ → List Frame
-frames_to None d = []
-frames_to (Some p) d = if d == p.to then p.frame ∷ [] else []
-
 -- the frame of this number, from 1
 abbrev pub frame_number : List Frame → ℕ → Option Frame
 frame_number frames number = if number == 0 then None else slice_get frames (number - 1)
@@ -58,18 +53,18 @@ abbrev pub outcome_of : OutcomeCode → Outcome
 outcome_of o = record {
   stamp = o.stamp;
   sayings = map saying_of o.sayings.items;
-  frames = frames_to o.frame;
+  frames = frames_to o.frames;
   words = words_of o.word ++ map (λ s. spec.Told s) o.told;
   link = option_map link_of o.link;
   silence = option_map reason_of o.silence;
 }
 
--- what a step answers by a message or a frame that came to this
-abbrev pub outcome_heard : ℕ → Option LinkAnswer → Option Posted → Heard → Outcome
-outcome_heard stamp answer frame h = record {
+-- what a step answers by a message or a frame that came to this, of which each centre was sent these frames
+abbrev pub outcome_heard : ℕ → Option LinkAnswer → (ℕ → List Frame) → Heard → Outcome
+outcome_heard stamp answer frames h = record {
   stamp = stamp;
   sayings = sayings_of h.saying;
-  frames = frames_to frame;
+  frames = frames;
   words = map (λ s. spec.Told s) h.told;
   link = option_map link_of answer;
   silence = None;

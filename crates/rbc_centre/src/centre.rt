@@ -7,6 +7,7 @@ ghost use Rattle.rbc_spec.specs.Step.{refusal, has_full_link};
 ghost use Rattle.rbc_spec.specs.Reach as reach;
 ghost use Rattle.rbc_flow.specs.Sound.{IsCentreSound};
 ghost use Rattle.rbc_own.specs.Own.{IsOwnAt};
+ghost use Rattle.rbc_ranges.specs.Ranges.{HasStateRanges};
 ghost use Rattle.rbc_book.specs.Book.{is_own};
 ghost use Rattle.rbc_book.specs.Entries.{entry_of};
 ghost use Rattle.rbc_link.specs.Links.{has_link, sent_to};
@@ -46,6 +47,7 @@ const UNKNOWN: TrainPage = TrainPage {
     said: 0,
     mission: None,
     hand: SectionRun { first: 0, count: 0 },
+    pool: SectionRun { first: 0, count: 0 },
     waiting: None,
 };
 
@@ -74,10 +76,11 @@ pub struct Centre {
     ghost each_link: { (d : ℕ) → has_link links d ≡ is_linked line number d },
     ghost each_frame: { ∥ ((d : ℕ) → All HasFrameRanges (frames_by body_of (sent_to links d))) ∥₁ },
     ghost train_count: { length trains.items ≡ length line.trains },
-    ghost each_train: { (t i : ℕ) → (p : TrainState) → train_number line t ≡ Some i → slice_get trains.items i ≡ Some p → IsOfTrain line sessions t i p },
+    ghost each_train: { (t i : ℕ) → (p : TrainState) → train_number line t ≡ Some i → slice_get trains.items i ≡ Some p → IsOfTrain line number sessions t i p },
     ghost counted: { (i : ℕ) → (p : TrainState) → slice_get trains.items i ≡ Some p → p.said ≤ clock },
     ghost sound: { IsCentreSound line number (stands_for line number clock book registrar links trains.items) },
-    ghost own: { IsOwnAt reach.Rights line number (stands_for line number clock book registrar links trains.items) },
+    ghost own: { IsOwnAt reach.Routes line number (stands_for line number clock book registrar links trains.items) },
+    ghost ranged: { ∥ HasStateRanges line number (stands_for line number clock book registrar links trains.items) ∥₁ },
 }
 
 impl Drop for Centre {
@@ -145,7 +148,7 @@ impl Centre {
         ensures phase { phase_of result.phase ≡ (state_of self.now).phase nid_engine }
         ensures heard { result.heard ≡ (state_of self.now).heard nid_engine }
         ensures said { result.said ≡ (state_of self.now).said nid_engine }
-        ensures mission { mission_by result.mission result.hand ≡ (state_of self.now).mission nid_engine }
+        ensures mission { mission_by result.mission result.hand result.pool ≡ (state_of self.now).mission nid_engine }
         ensures waiting { option_map place_of result.waiting ≡ (state_of self.now).wait nid_engine }
     {
         match self.line.train_number(nid_engine) {
@@ -195,15 +198,15 @@ impl Centre {
         ensures line { line_of self.new ≡ line_of self.old }
         ensures number { number_of self.new ≡ number_of self.old }
         ensures exact { Steps (λ o. (outcome_of o, state_of self.new)) result
-            (spec.step reach.Rights (line_of self.old) (number_of self.old) (event_of event.now) (state_of self.old)) }
-        ensures memory { IsWantedBy (event_of event.now) result }
+            (spec.step reach.Routes (line_of self.old) (number_of self.old) (event_of event.now) (state_of self.old)) }
+        ensures memory { IsWantedBy (state_of self.old) (event_of event.now) result }
         ensures err { OnErr result (state_of self.new ≡ state_of self.old) }
     {
         self.may_step(event)?;
         match event {
             Event::Train(message) => Ok(self.take(message)?),
             Event::Set(s) => Ok(self.set(*s)),
-            Event::Unset(s) => Ok(self.unset(*s)),
+            Event::Unset(s) => Ok(self.unset(*s)?),
             Event::Deliver { from, frame } => Ok(self.deliver(*from, frame)?),
         }
     }
@@ -213,8 +216,8 @@ impl Centre {
         ensures line { line_of self.new ≡ line_of self.old }
         ensures number { number_of self.new ≡ number_of self.old }
         ensures exact { Steps (λ o. (outcome_of o, state_of self.new)) result
-            (spec.step reach.Rights (line_of self.old) (number_of self.old) (spec.Train (step_message message.now)) (state_of self.old)) }
-        ensures memory { IsWantedBy (spec.Train (step_message message.now)) result }
+            (spec.step reach.Routes (line_of self.old) (number_of self.old) (spec.Train (step_message message.now)) (state_of self.old)) }
+        ensures memory { IsWantedBy (state_of self.old) (spec.Train (step_message message.now)) result }
         ensures err { OnErr result (state_of self.new ≡ state_of self.old) }
     {
         self.may_take(self.clock)?;

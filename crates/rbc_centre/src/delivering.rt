@@ -9,6 +9,7 @@ ghost use Rattle.rbc_centre.specs.States.{line_of, number_of, state_of};
 ghost use Rattle.rbc_centre.specs.Views.{outcome_of};
 
 use crate::centre::Centre;
+use crate::frames::{Frames, MOST_TO_ONE};
 use crate::link_answer::LinkAnswer;
 use crate::outcome::Outcome;
 use crate::posted::post;
@@ -18,17 +19,17 @@ use std::alloc::AllocError;
 use std::cmp::max;
 
 impl Centre {
-    /// The step of a frame, at a centre that does not refuse it. Room for a frame in return is made first.
+    /// The step of a frame, at a centre that does not refuse it. Room for the frames in return is made first.
     pub(crate) fn deliver(&mut self, from: u8, frame: &Frame) -> Result<Outcome, AllocError>
         requires time { max self.old.clock frame.now.stamp < 1073741823 }
         requires numbers { has_full_link (line_of self.old) (number_of self.old) (state_of self.old) ≡ false }
         ensures line { line_of self.new ≡ line_of self.old }
         ensures number { number_of self.new ≡ number_of self.old }
         ensures exact { IfOk result (λ o. (outcome_of o, state_of self.new)
-            ≡ spec.taken reach.Rights (line_of self.old) (number_of self.old) (spec.Deliver from frame.now) (state_of self.old)) }
+            ≡ spec.taken reach.Routes (line_of self.old) (number_of self.old) (spec.Deliver from frame.now) (state_of self.old)) }
         ensures err { OnErr result (state_of self.new ≡ state_of self.old) }
     {
-        self.links.reserve(1)?;
+        self.links.reserve(MOST_TO_ONE)?;
         Ok(self.take_frame(from, frame))
     }
 
@@ -36,20 +37,30 @@ impl Centre {
     fn take_frame(&mut self, from: u8, frame: &Frame) -> Outcome
         requires time { max self.old.clock frame.now.stamp < 1073741823 }
         requires numbers { has_full_link (line_of self.old) (number_of self.old) (state_of self.old) ≡ false }
-        requires frames { links.HasRoom self.old.links 1 }
+        requires frames { links.HasRoom self.old.links 3 }
         ensures line { line_of self.new ≡ line_of self.old }
         ensures number { number_of self.new ≡ number_of self.old }
         ensures exact { (outcome_of result, state_of self.new)
-            ≡ spec.taken reach.Rights (line_of self.old) (number_of self.old) (spec.Deliver from frame.now) (state_of self.old) }
+            ≡ spec.taken reach.Routes (line_of self.old) (number_of self.old) (spec.Deliver from frame.now) (state_of self.old) }
     {
         let body = frame.body();
         self.clock = max(self.clock, frame.stamp()) + 1;
         let answer = LinkAnswer::of(self.links.offer(from, frame.number()));
         let LinkAnswer::Next = answer else {
-            return Outcome::heard(self.clock, Some(answer), None, Heard::nothing());
+            return Outcome::heard(
+                self.clock,
+                Some(answer),
+                Frames::nothing(),
+                Heard::nothing(),
+            );
         };
         let Some(i) = self.line.train_number(body.engine()) else {
-            return Outcome::heard(self.clock, Some(answer), None, Heard::nothing());
+            return Outcome::heard(
+                self.clock,
+                Some(answer),
+                Frames::nothing(),
+                Heard::nothing(),
+            );
         };
         let heard = self.trains[i as usize].receive(
             &self.line,
@@ -59,7 +70,14 @@ impl Centre {
             from,
             body,
         );
-        let posted = post(&mut self.links, self.clock, heard.letter);
-        Outcome::heard(self.clock, Some(answer), posted, heard)
+        let frames = post(
+            &mut self.links,
+            &self.line,
+            self.number,
+            body.engine(),
+            self.clock,
+            &heard.mail,
+        );
+        Outcome::heard(self.clock, Some(answer), frames, heard)
     }
 }

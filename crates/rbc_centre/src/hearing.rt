@@ -1,4 +1,4 @@
-//! The step of a train's message: room is made, and then the train takes it.
+//! The step of a train's message: room is made, then the train takes it, and what it leaves for other centres is sent.
 
 ghost use Rattle.std.specs.Prelude.{◌≡◌, ◌<◌, IfOk, OnOk, OnErr, true, false, Some};
 ghost use Rattle.rbc_spec.specs.Line.{train_number};
@@ -10,30 +10,34 @@ ghost use Rattle.rbc_msgs.specs.StepMessage.{step_message};
 ghost use Rattle.rbc_msgs.specs.declared.train_body.TrainBody.TheVariants.{InitiationOfSession};
 ghost use Rattle.rbc_session.specs.Sessions as sessions;
 ghost use Rattle.rbc_link.specs.Links as links;
+ghost use Rattle.rbc_ranges.specs.Ranges.{HasMessageRanges};
 ghost use Rattle.rbc_rules.specs.Letters.{tells_others};
 ghost use Rattle.rbc_centre.specs.Answer.{TakesMemory};
 ghost use Rattle.rbc_centre.specs.States.{line_of, number_of, state_of, IsSame};
 ghost use Rattle.rbc_centre.specs.Views.{outcome_of};
 
 use crate::centre::Centre;
+use crate::frames::MOST_TO_ONE;
 use crate::outcome::Outcome;
 use crate::posted::post;
+use crate::ranges::look_at_ranges;
 use rbc_msgs::{TrainBody, TrainMsg};
 use rbc_rules::{Reason, tells_others};
 use std::alloc::AllocError;
 
 impl Centre {
-    /// The step of a train's message, at a centre that refuses none. Room for a session and a frame is made first.
+    /// The step of a train's message, at a centre that refuses none. Room for a session and for frames is made first.
     pub(crate) fn take(&mut self, message: &TrainMsg) -> Result<Outcome, AllocError>
         requires time { self.old.clock < 1073741823 }
         requires numbers { has_full_link (line_of self.old) (number_of self.old) (state_of self.old) ≡ false }
         ensures line { line_of self.new ≡ line_of self.old }
         ensures number { number_of self.new ≡ number_of self.old }
         ensures exact { IfOk result (λ o. (outcome_of o, state_of self.new)
-            ≡ spec.taken reach.Rights (line_of self.old) (number_of self.old) (spec.Train (step_message message.now)) (state_of self.old)) }
-        ensures memory { OnErr result (TakesMemory (spec.Train (step_message message.now))) }
+            ≡ spec.taken reach.Routes (line_of self.old) (number_of self.old) (spec.Train (step_message message.now)) (state_of self.old)) }
+        ensures memory { OnErr result (TakesMemory (state_of self.old) (spec.Train (step_message message.now))) }
         ensures err { OnErr result (state_of self.new ≡ state_of self.old) }
     {
+        look_at_ranges(message);
         let Some(i) = self.line.train_number(message.nid_engine()) else {
             self.clock += 1;
             return Ok(Outcome::silent(self.clock, Reason::ForeignEngine));
@@ -42,17 +46,17 @@ impl Centre {
         Ok(self.hear_train(i as usize, message))
     }
 
-    // Room for a frame, and for the session that the message of train number i of the line opens. Nothing else changes.
+    // Room for the frames that a message sends, and for the session that the message of train number i of the line opens. Nothing else changes.
     fn make_room(&mut self, i: usize, message: &TrainMsg) -> Result<(), AllocError>
         requires number { train_number (line_of self.old) message.now.nid_engine ≡ Some i }
         ensures same { IsSame self.old self.new }
-        ensures frames { OnOk result (tells_others (step_message message.now).body ≡ true → links.HasRoom self.new.links 1) }
+        ensures frames { OnOk result (tells_others (step_message message.now).body ≡ true → links.HasRoom self.new.links 3) }
         ensures session { OnOk result (message.now.body ≡ InitiationOfSession → is_stale message.now.t_train ((state_of self.new).heard message.now.nid_engine) ≡ false
             → sessions.HasRoom self.new.sessions) }
-        ensures memory { OnErr result (TakesMemory (spec.Train (step_message message.now))) }
+        ensures memory { OnErr result (TakesMemory (state_of self.old) (spec.Train (step_message message.now))) }
     {
         if tells_others(message.body()) {
-            self.links.reserve(1)?;
+            self.links.reserve(MOST_TO_ONE)?;
             return Ok(());
         }
         let TrainBody::InitiationOfSession = message.body() else {
@@ -64,18 +68,19 @@ impl Centre {
         self.sessions.reserve()
     }
 
-    // The step of a message of train number i of the line.
+    // The step of a message of train number i of the line, in its ranges.
     fn hear_train(&mut self, i: usize, message: &TrainMsg) -> Outcome
         requires time { self.old.clock < 1073741823 }
         requires numbers { has_full_link (line_of self.old) (number_of self.old) (state_of self.old) ≡ false }
         requires number { train_number (line_of self.old) message.now.nid_engine ≡ Some i }
-        requires frames { tells_others (step_message message.now).body ≡ true → links.HasRoom self.old.links 1 }
+        requires ranges { HasMessageRanges (step_message message.now) }
+        requires frames { tells_others (step_message message.now).body ≡ true → links.HasRoom self.old.links 3 }
         requires session { message.now.body ≡ InitiationOfSession → is_stale message.now.t_train ((state_of self.old).heard message.now.nid_engine) ≡ false
             → sessions.HasRoom self.old.sessions }
         ensures line { line_of self.new ≡ line_of self.old }
         ensures number { number_of self.new ≡ number_of self.old }
         ensures exact { (outcome_of result, state_of self.new)
-            ≡ spec.taken reach.Rights (line_of self.old) (number_of self.old) (spec.Train (step_message message.now)) (state_of self.old) }
+            ≡ spec.taken reach.Routes (line_of self.old) (number_of self.old) (spec.Train (step_message message.now)) (state_of self.old) }
     {
         self.clock += 1;
         let heard = self.trains[i].take(
@@ -88,8 +93,15 @@ impl Centre {
         );
         match heard {
             Ok(heard) => {
-                let frame = post(&mut self.links, self.clock, heard.letter);
-                Outcome::heard(self.clock, None, frame, heard)
+                let frames = post(
+                    &mut self.links,
+                    &self.line,
+                    self.number,
+                    message.nid_engine(),
+                    self.clock,
+                    &heard.mail,
+                );
+                Outcome::heard(self.clock, None, frames, heard)
             }
             Err(why) => Outcome::silent(self.clock, why),
         }

@@ -1,26 +1,35 @@
 //! The step of what the interlocking says of a section.
 
-ghost use Rattle.std.specs.Prelude.{◌≡◌, ◌<◌, ℕ, IfSome, length};
+ghost use Rattle.std.specs.Prelude.{◌≡◌, ◌<◌, ℕ, IfSome, IfOk, OnErr, length, false};
 ghost use Rattle.rbc_spec.specs.Centre as spec;
 ghost use Rattle.rbc_spec.specs.Line.{train_number};
 ghost use Rattle.rbc_spec.specs.Step as step;
+ghost use Rattle.rbc_spec.specs.Step.{has_full_link};
 ghost use Rattle.rbc_spec.specs.Reach as reach;
 ghost use Rattle.rbc_book.specs.Book.{entry_at};
+ghost use Rattle.rbc_link.specs.Links as links;
+ghost use Rattle.rbc_centre.specs.Answer.{TakesMemory};
 ghost use Rattle.rbc_centre.specs.States.{line_of, number_of, state_of};
 ghost use Rattle.rbc_centre.specs.Views.{outcome_of};
 
 use crate::centre::Centre;
+use crate::frames::MOST_TO_ONE;
 use crate::outcome::{Outcome, Word};
+use crate::posted::post;
 use rbc_book::{Entry, NotHome, Unset};
+use rbc_linkmsg::Body;
+use rbc_rules::{Letter, Mail};
+use std::alloc::AllocError;
 
 impl Centre {
     /// The interlocking releases a section.
     pub(crate) fn set(&mut self, s: u16) -> Outcome
-        requires { self.old.clock < 1073741823 }
+        requires time { self.old.clock < 1073741823 }
+        requires numbers { has_full_link (line_of self.old) (number_of self.old) (state_of self.old) ≡ false }
         ensures line { line_of self.new ≡ line_of self.old }
         ensures number { number_of self.new ≡ number_of self.old }
         ensures exact { (outcome_of result, state_of self.new)
-            ≡ step.taken reach.Rights (line_of self.old) (number_of self.old) (step.Set s) (state_of self.old) }
+            ≡ step.taken reach.Routes (line_of self.old) (number_of self.old) (step.Set s) (state_of self.old) }
     {
         self.clock += 1;
         match self.book.set(s) {
@@ -29,13 +38,63 @@ impl Centre {
         }
     }
 
-    /// The interlocking takes a section back. A train that has it in its movement authority is asked for it.
-    pub(crate) fn unset(&mut self, s: u16) -> Outcome
-        requires { self.old.clock < 1073741823 }
+    /// The interlocking takes a section back. A train that has it in its movement authority is asked for it, and the centre that it is
+    /// lent to. Room for the frame is made first.
+    pub(crate) fn unset(&mut self, s: u16) -> Result<Outcome, AllocError>
+        requires time { self.old.clock < 1073741823 }
+        requires numbers { has_full_link (line_of self.old) (number_of self.old) (state_of self.old) ≡ false }
+        ensures line { line_of self.new ≡ line_of self.old }
+        ensures number { number_of self.new ≡ number_of self.old }
+        ensures exact { IfOk result (λ o. (outcome_of o, state_of self.new)
+            ≡ step.taken reach.Routes (line_of self.old) (number_of self.old) (step.Unset s) (state_of self.old)) }
+        ensures memory { OnErr result (TakesMemory (state_of self.old) (step.Unset s)) }
+        ensures err { OnErr result (state_of self.new ≡ state_of self.old) }
+    {
+        let Entry::Out { nid_engine, centre } = self.book.page(s).entry else {
+            return Ok(self.unset_here(s));
+        };
+        self.links.reserve(MOST_TO_ONE)?;
+        Ok(self.withdraw(s, nid_engine, centre))
+    }
+
+    // A section is taken back that is out at this centre, which is asked for it.
+    fn withdraw(&mut self, s: u16, nid_engine: u32, to: u8) -> Outcome
+        requires time { self.old.clock < 1073741823 }
+        requires numbers { has_full_link (line_of self.old) (number_of self.old) (state_of self.old) ≡ false }
+        requires out { entry_at self.old.book s ≡ spec.Out nid_engine to }
+        requires frames { links.HasRoom self.old.links 3 }
         ensures line { line_of self.new ≡ line_of self.old }
         ensures number { number_of self.new ≡ number_of self.old }
         ensures exact { (outcome_of result, state_of self.new)
-            ≡ step.taken reach.Rights (line_of self.old) (number_of self.old) (step.Unset s) (state_of self.old) }
+            ≡ step.taken reach.Routes (line_of self.old) (number_of self.old) (step.Unset s) (state_of self.old) }
+    {
+        self.clock += 1;
+        let _asked = self.book.unset(s);
+        let body = Body::RouteWithdraw {
+            engine: nid_engine,
+            section: s,
+        };
+        let mail = Mail::of(Some(Letter { to, body }));
+        let frames = post(
+            &mut self.links,
+            &self.line,
+            self.number,
+            nid_engine,
+            self.clock,
+            &mail,
+        );
+        Outcome::sent(self.clock, Word::Asked(s), frames)
+    }
+
+    // A section is taken back that is not out.
+    fn unset_here(&mut self, s: u16) -> Outcome
+        requires time { self.old.clock < 1073741823 }
+        requires here { (t d : ℕ) → entry_at self.old.book s ≡ spec.Out t d → ⊥ }
+        requires numbers { has_full_link (line_of self.old) (number_of self.old) (state_of self.old) ≡ false }
+        ensures line { line_of self.new ≡ line_of self.old }
+        ensures number { number_of self.new ≡ number_of self.old }
+        ensures exact { (outcome_of result, state_of self.new)
+            ≡ step.taken reach.Routes (line_of self.old) (number_of self.old) (step.Unset s) (state_of self.old) }
     {
         let user = self.user_of(s);
         self.clock += 1;

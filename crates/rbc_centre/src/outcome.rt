@@ -1,9 +1,10 @@
 ghost use Rattle.std.specs.Prelude.{◌≡◌, [], ◌∷◌, None, map};
 ghost use Rattle.rbc_rules.specs.Sayings.{saying_of, sayings_of};
+ghost use Rattle.rbc_centre.specs.Sent.{frames_to};
 ghost use Rattle.rbc_centre.specs.Views.{word_of};
 
+use crate::frames::Frames;
 use crate::link_answer::LinkAnswer;
-use crate::posted::Posted;
 use arrayvec::ArrayVec;
 use rbc_mission::Told;
 use rbc_rules::{Heard, Reason, Saying};
@@ -35,8 +36,8 @@ pub struct Outcome {
     pub stamp: u32,
     /// The messages to trains, in order.
     pub sayings: ArrayVec<Saying, 2>,
-    /// The frame to another centre.
-    pub frame: Option<Posted>,
+    /// The frames to other centres.
+    pub frames: Frames,
     /// What the interlocking is answered.
     pub word: Option<Word>,
     /// The sections that were wished back and are shut now, of which the interlocking is told behind that.
@@ -57,7 +58,7 @@ impl Outcome {
         Outcome {
             stamp,
             sayings: ArrayVec::new(),
-            frame: None,
+            frames: Frames::nothing(),
             word: None,
             told: Told::nothing(),
             link: None,
@@ -65,19 +66,19 @@ impl Outcome {
         }
     }
 
-    /// A step whose message or frame came to this, of which this frame was sent. The link has said this to a frame.
+    /// A step whose message or frame came to this, of which these frames were sent. The link has said this to a frame.
     pub(crate) fn heard(
         stamp: u32,
         link: Option<LinkAnswer>,
-        frame: Option<Posted>,
+        frames: Frames,
         heard: Heard,
     ) -> Outcome
-        ensures { outcome_of result ≡ outcome_heard stamp link frame heard }
+        ensures { outcome_of result ≡ outcome_heard stamp link (frames_to frames) heard }
     {
         Outcome {
             stamp,
             sayings: one_or_none(heard.saying),
-            frame,
+            frames,
             word: None,
             told: heard.told,
             link,
@@ -92,7 +93,22 @@ impl Outcome {
         Outcome {
             stamp,
             sayings: one_or_none(saying),
-            frame: None,
+            frames: Frames::nothing(),
+            word: Some(word),
+            told: Told::nothing(),
+            link: None,
+            silence: None,
+        }
+    }
+
+    /// A step that answers the interlocking with one word, by these frames.
+    pub(crate) fn sent(stamp: u32, word: Word, frames: Frames) -> Outcome
+        ensures { outcome_of result ≡ record { stamp = stamp; sayings = []; frames = frames_to frames; words = word_of word ∷ []; link = None; silence = None } }
+    {
+        Outcome {
+            stamp,
+            sayings: ArrayVec::new(),
+            frames,
             word: Some(word),
             told: Told::nothing(),
             link: None,
@@ -101,7 +117,7 @@ impl Outcome {
     }
 
     /// The words to the interlocking, in order.
-    pub fn words(&self) -> ArrayVec<Word, 33>
+    pub fn words(&self) -> ArrayVec<Word, 65>
         ensures { map word_of result.items ≡ (outcome_of self.now).words }
     {
         let mut words = ArrayVec::new();

@@ -1,12 +1,11 @@
 ghost use Rattle.std.specs.Prelude.{◌≡◌, ◌↔◌, map, option_map, IsTrue, IfOk};
 ghost use Rattle.rbc_rules.specs.Reasons.{reason_of};
 ghost use Rattle.rbc_rules.specs.Sayings.{saying_of};
-ghost use Rattle.rbc_centre.specs.Views.{word_of, link_of, frames_to, outcome_of};
+ghost use Rattle.rbc_centre.specs.Views.{word_of, link_of, outcome_of};
 
 use crate::event::Event;
 use crate::link_answer::LinkAnswer;
 use crate::outcome::{Outcome, Word};
-use crate::posted::Posted;
 use arrayvec::ArrayVec;
 use rbc_rules::{Reason, Saying};
 use std::alloc::{AllocError, Global};
@@ -69,13 +68,6 @@ fn same_words(words: &[Word], others: &[Word]) -> bool
     words == others
 }
 
-// Whether the same frame was sent to the same centre.
-fn same_frame(frame: Option<Posted>, other: Option<Posted>) -> bool
-    ensures { IsTrue result ↔ (frames_to frame ≡ frames_to other) }
-{
-    frame == other
-}
-
 // Whether the link has said the same.
 fn same_link(link: Option<LinkAnswer>, other: Option<LinkAnswer>) -> bool
     ensures { IsTrue result ↔ (option_map link_of link ≡ option_map link_of other) }
@@ -97,7 +89,7 @@ impl Outcome {
     {
         self.stamp == other.stamp
             && same_sayings(self.sayings.as_slice(), other.sayings.as_slice())
-            && same_frame(self.frame, other.frame)
+            && self.frames.is_same(&other.frames)
             && same_words(self.words().as_slice(), other.words().as_slice())
             && same_link(self.link, other.link)
             && same_silence(self.silence, other.silence)
@@ -114,7 +106,7 @@ impl Outcome {
         Outcome {
             stamp: self.stamp,
             sayings,
-            frame: self.frame,
+            frames: self.frames.copied(),
             word: self.word,
             told: self.told.copied(),
             link: self.link,

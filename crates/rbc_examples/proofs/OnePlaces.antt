@@ -13,7 +13,7 @@ use Rattle.rbc_examples.specs.Starts.{right_comes, right_goes_back, right_serves
 use Rattle.rbc_examples.specs.Requests.{request_asks_over_the_border, asks_again_each_round, report_clears, no_integrity_frees_nothing, request_extends_over_the_border, early_frame, end_of_mission}
 use Rattle.rbc_examples.specs.Shortening.{unset_in_a_hand, shortening_and_a_late_route, answer_to_another_proposal, granted_past_the_proposed_end, another_answer_at_the_border, asking_again_tries_again}
 use Rattle.rbc_examples.specs.Handover.{handover, return_after_handover, yield_carries_the_last_stamp_heard, cancelled_before_taking_over}
-use Rattle.rbc_examples.specs.Races.{withdrawn_from_the_pool, route_for_an_ended_mission, end_of_mission_with_a_pool, awaited, route_after_the_yield, wish_at_the_yield, cleared_elsewhere, cleared_with_a_pool, cleared_over_the_border, whole_hand_is_cut, session_opens_over_a_waiting_start}
+use Rattle.rbc_examples.specs.Races.{withdrawn_from_the_pool, first_of_the_pool_withdrawn, last_of_the_pool_withdrawn, route_for_an_ended_mission, end_of_mission_with_a_pool, awaited, route_after_the_yield, wish_at_the_yield, cleared_elsewhere, cleared_with_a_pool, cleared_over_the_border, whole_hand_is_cut, session_opens_over_a_waiting_start}
 use Rattle.rbc_examples.specs.Conditions.{yield_with_a_pool, cut_with_a_pool, cut_behind_the_border, request_again_over_the_border, request_while_asked, proposal_ends_with_the_mission}
 use Rattle.rbc_examples.specs.ThreeCentres.{border_of_the_first, second_takes_over, third_home_holds_the_yield_back, withdraw_goes_to_one_centre, yields_once_cleared, end_of_mission_yields}
 use Rattle.rbc_examples.specs.NotAllowed.{one_yield, two_yields}
@@ -35,7 +35,7 @@ pub handovers_keep : list_all (keeps_one_place line) (handover ∷ return_after_
 unfolding within longest line_start end extent beginning ◌>>◌ step new_world world_step keeps_one_place keeps_from
 handovers_keep = refl
 
-pub late_frames_keep : list_all (keeps_one_place line) (withdrawn_from_the_pool ∷ route_for_an_ended_mission ∷ end_of_mission_with_a_pool ∷ awaited ∷ route_after_the_yield ∷ wish_at_the_yield ∷ cleared_elsewhere ∷ cleared_with_a_pool ∷ cleared_over_the_border ∷ whole_hand_is_cut ∷ session_opens_over_a_waiting_start ∷ []) ≡ true
+pub late_frames_keep : list_all (keeps_one_place line) (withdrawn_from_the_pool ∷ first_of_the_pool_withdrawn ∷ last_of_the_pool_withdrawn ∷ route_for_an_ended_mission ∷ end_of_mission_with_a_pool ∷ awaited ∷ route_after_the_yield ∷ wish_at_the_yield ∷ cleared_elsewhere ∷ cleared_with_a_pool ∷ cleared_over_the_border ∷ whole_hand_is_cut ∷ session_opens_over_a_waiting_start ∷ []) ≡ true
 unfolding within longest line_start end extent beginning ◌>>◌ step new_world world_step keeps_one_place keeps_from
 late_frames_keep = refl
 

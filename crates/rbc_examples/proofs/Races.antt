@@ -8,11 +8,19 @@ use Rattle.rbc_spec.specs.Acts.{◌>>◌}
 use Rattle.rbc_spec.specs.Step.{step}
 use Rattle.rbc_spec.specs.World.{new_world, world_step}
 use Rattle.rbc_examples.specs.Scene.{line, seen, seen_from}
-use Rattle.rbc_examples.specs.Races.{withdrawn_from_the_pool, withdrawn_from_the_pool_shows, route_for_an_ended_mission, route_for_an_ended_mission_shows, end_of_mission_with_a_pool, end_of_mission_with_a_pool_shows, awaited, awaited_shows, route_after_the_yield, route_after_the_yield_shows, wish_at_the_yield, wish_at_the_yield_shows, cleared_elsewhere, cleared_elsewhere_shows, cleared_with_a_pool, cleared_with_a_pool_shows, cleared_over_the_border, cleared_over_the_border_shows, whole_hand_is_cut, whole_hand_is_cut_shows, session_opens_over_a_waiting_start, session_opens_over_a_waiting_start_shows}
+use Rattle.rbc_examples.specs.Races.{withdrawn_from_the_pool, withdrawn_from_the_pool_shows, first_of_the_pool_withdrawn, first_of_the_pool_withdrawn_shows, last_of_the_pool_withdrawn, last_of_the_pool_withdrawn_shows, route_for_an_ended_mission, route_for_an_ended_mission_shows, end_of_mission_with_a_pool, end_of_mission_with_a_pool_shows, awaited, awaited_shows, route_after_the_yield, route_after_the_yield_shows, wish_at_the_yield, wish_at_the_yield_shows, cleared_elsewhere, cleared_elsewhere_shows, cleared_with_a_pool, cleared_with_a_pool_shows, cleared_over_the_border, cleared_over_the_border_shows, whole_hand_is_cut, whole_hand_is_cut_shows, session_opens_over_a_waiting_start, session_opens_over_a_waiting_start_shows}
 
 pub withdrawn_from_the_pool_comes_out : seen line withdrawn_from_the_pool ≡ withdrawn_from_the_pool_shows
 unfolding within longest line_start end extent beginning ◌>>◌ step new_world world_step seen seen_from
 withdrawn_from_the_pool_comes_out = refl
+
+pub first_of_the_pool_withdrawn_comes_out : seen line first_of_the_pool_withdrawn ≡ first_of_the_pool_withdrawn_shows
+unfolding within longest line_start end extent beginning ◌>>◌ step new_world world_step seen seen_from
+first_of_the_pool_withdrawn_comes_out = refl
+
+pub last_of_the_pool_withdrawn_comes_out : seen line last_of_the_pool_withdrawn ≡ last_of_the_pool_withdrawn_shows
+unfolding within longest line_start end extent beginning ◌>>◌ step new_world world_step seen seen_from
+last_of_the_pool_withdrawn_comes_out = refl
 
 pub route_for_an_ended_mission_comes_out : seen line route_for_an_ended_mission ≡ route_for_an_ended_mission_shows
 unfolding within longest line_start end extent beginning ◌>>◌ step new_world world_step seen seen_from

@@ -13,14 +13,22 @@ use Rattle.rbc_examples.specs.Turns.{quiet_turns}
 use Rattle.rbc_examples.specs.Moves.{play}
 use Rattle.rbc_examples.specs.Pieces.{centres_show, line_shows, IsMetByRun}
 use Rattle.rbc_examples.specs.Scene.{line}
-use Rattle.rbc_examples.specs.Races.{withdrawn_from_the_pool, route_for_an_ended_mission, end_of_mission_with_a_pool, awaited, route_after_the_yield, wish_at_the_yield, cleared_elsewhere, cleared_with_a_pool, cleared_over_the_border, whole_hand_is_cut, session_opens_over_a_waiting_start}
+use Rattle.rbc_examples.specs.Races.{withdrawn_from_the_pool, first_of_the_pool_withdrawn, last_of_the_pool_withdrawn, route_for_an_ended_mission, end_of_mission_with_a_pool, awaited, route_after_the_yield, wish_at_the_yield, cleared_elsewhere, cleared_with_a_pool, cleared_over_the_border, whole_hand_is_cut, session_opens_over_a_waiting_start}
 use Rattle.rbc_examples.specs.SceneMoves.{plain}
-use Rattle.rbc_examples.specs.LateMoves.{withdrawn_from_the_pool_moves, route_for_an_ended_mission_moves, end_of_mission_with_a_pool_moves, awaited_moves, route_after_the_yield_moves, wish_at_the_yield_moves, cleared_elsewhere_moves, cleared_with_a_pool_moves, cleared_over_the_border_moves, whole_hand_is_cut_moves}
+use Rattle.rbc_examples.specs.LateMoves.{withdrawn_from_the_pool_moves, first_of_the_pool_withdrawn_moves, last_of_the_pool_withdrawn_moves, route_for_an_ended_mission_moves, end_of_mission_with_a_pool_moves, awaited_moves, route_after_the_yield_moves, wish_at_the_yield_moves, cleared_elsewhere_moves, cleared_with_a_pool_moves, cleared_over_the_border_moves, whole_hand_is_cut_moves}
 use Rattle.rbc_examples.proofs.Pieces.{met_by_run}
 
 pub withdrawn_from_the_pool_is_met : IsMetByRun line withdrawn_from_the_pool withdrawn_from_the_pool_moves
 unfolding within longest line_start end extent beginning ◌>>◌ step new_world world_step line_beginning read_off quiet_turns play centres_show line_shows
 withdrawn_from_the_pool_is_met = met_by_run line withdrawn_from_the_pool withdrawn_from_the_pool_moves refl refl refl
+
+pub first_of_the_pool_withdrawn_is_met : IsMetByRun line first_of_the_pool_withdrawn first_of_the_pool_withdrawn_moves
+unfolding within longest line_start end extent beginning ◌>>◌ step new_world world_step line_beginning read_off quiet_turns play centres_show line_shows
+first_of_the_pool_withdrawn_is_met = met_by_run line first_of_the_pool_withdrawn first_of_the_pool_withdrawn_moves refl refl refl
+
+pub last_of_the_pool_withdrawn_is_met : IsMetByRun line last_of_the_pool_withdrawn last_of_the_pool_withdrawn_moves
+unfolding within longest line_start end extent beginning ◌>>◌ step new_world world_step line_beginning read_off quiet_turns play centres_show line_shows
+last_of_the_pool_withdrawn_is_met = met_by_run line last_of_the_pool_withdrawn last_of_the_pool_withdrawn_moves refl refl refl
 
 pub route_for_an_ended_mission_is_met : IsMetByRun line route_for_an_ended_mission route_for_an_ended_mission_moves
 unfolding within longest line_start end extent beginning ◌>>◌ step new_world world_step line_beginning read_off quiet_turns play centres_show line_shows

@@ -17,6 +17,20 @@ withdrawn_from_the_pool_moves =
     ++ followed (Happens (Delivery 0 1 2)) (Unkeep 1 5 ∷ Unkeep 1 6 ∷ [])
     ++ extends 1 (train 1 0 6 (Request in_section_1)) (Order 1 0 ∷ [])
 
+abbrev pub first_of_the_pool_withdrawn_moves : List Move
+first_of_the_pool_withdrawn_moves =
+    route_moves
+    ++ plain (Happens (Delivery 1 0 1) ∷ Happens (Unset 1 4) ∷ Happens (Delivery 1 0 2) ∷ [])
+    ++ followed (Happens (Delivery 0 1 2)) (Unkeep 1 4 ∷ Unkeep 1 5 ∷ Unkeep 1 6 ∷ [])
+    ++ extends 0 (train 1 0 6 (Request in_section_1)) []
+
+abbrev pub last_of_the_pool_withdrawn_moves : List Move
+last_of_the_pool_withdrawn_moves =
+    route_moves
+    ++ plain (Happens (Delivery 1 0 1) ∷ Happens (Unset 1 6) ∷ Happens (Delivery 1 0 2) ∷ [])
+    ++ followed (Happens (Delivery 0 1 2)) (Unkeep 1 6 ∷ [])
+    ++ extends 2 (train 1 0 6 (Request in_section_1)) (Order 1 0 ∷ [])
+
 abbrev pub route_for_an_ended_mission_moves : List Move
 route_for_an_ended_mission_moves =
     route_moves

@@ -16,7 +16,7 @@ shows_b of_b wished supervisors = shows (IsShut ∷ times 3 (Given 1) ++ of_b) w
 
 -- ## The route
 
--- a section of the pool is wished back: it goes home with all behind it, and the rest is given
+-- a section in the middle of the pool is wished back: it goes home with all behind it, and the rest is given
 abbrev pub withdrawn_from_the_pool : List Scene
 withdrawn_from_the_pool =
     route_on_the_way
@@ -33,6 +33,41 @@ withdrawn_from_the_pool_shows =
     ∷ (Says 1 5 group_1 (Authority 4000) ∷ Says 1 6 group_1 (Transition 3000 5 2)
     ∷ Sends 1 3 (Announce 1 1 0) ∷ Sends 1 4 (RouteAsk 1 5 28) ∷ [])
     ∷ shows_b (Given 1 ∷ IsShut ∷ IsOpen ∷ IsShut ∷ []) [] (0 ∷ []) ∷ []
+
+-- the first section of the pool is wished back: the whole pool goes home, and the next request asks for sections again
+abbrev pub first_of_the_pool_withdrawn : List Scene
+first_of_the_pool_withdrawn =
+    route_on_the_way
+    ++ Happens (Delivery 1 0 1) ∷ Happens (Unset 1 4) ∷ Happens (Delivery 1 0 2) ∷ Look ∷ Happens (Delivery 0 1 2) ∷ Look
+    ∷ train 1 0 6 (Request in_section_1) ∷ Look ∷ []
+
+abbrev pub first_of_the_pool_withdrawn_shows : List (List Item)
+first_of_the_pool_withdrawn_shows =
+    route_on_the_way_shows
+    ++ (Link Next ∷ []) ∷ (Sends 0 2 (RouteWithdraw 1 4) ∷ Tells (Asked 4) ∷ [])
+    ∷ (Link Next ∷ Sends 1 2 (RouteReturn 1 (record { first = 4; count = 3 })) ∷ [])
+    ∷ shows_b (times 3 (Kept 1) ++ IsShut ∷ []) (4 ∷ []) (0 ∷ [])
+    ∷ (Link Next ∷ Tells (Told 4) ∷ []) ∷ shows_b (IsShut ∷ times 2 IsOpen ++ IsShut ∷ []) [] (0 ∷ [])
+    ∷ (Says 1 5 group_1 (Authority 3000) ∷ Sends 1 3 (RouteAsk 1 4 29) ∷ [])
+    ∷ shows_b (IsShut ∷ times 2 IsOpen ++ IsShut ∷ []) [] (0 ∷ []) ∷ []
+
+-- the last section of the pool is wished back: it alone goes home, and the rest is given
+abbrev pub last_of_the_pool_withdrawn : List Scene
+last_of_the_pool_withdrawn =
+    route_on_the_way
+    ++ Happens (Delivery 1 0 1) ∷ Happens (Unset 1 6) ∷ Happens (Delivery 1 0 2) ∷ Look ∷ Happens (Delivery 0 1 2) ∷ Look
+    ∷ train 1 0 6 (Request in_section_1) ∷ Look ∷ []
+
+abbrev pub last_of_the_pool_withdrawn_shows : List (List Item)
+last_of_the_pool_withdrawn_shows =
+    route_on_the_way_shows
+    ++ (Link Next ∷ []) ∷ (Sends 0 2 (RouteWithdraw 1 6) ∷ Tells (Asked 6) ∷ [])
+    ∷ (Link Next ∷ Sends 1 2 (RouteReturn 1 (record { first = 6; count = 1 })) ∷ [])
+    ∷ shows_b (times 3 (Kept 1) ++ IsShut ∷ []) (6 ∷ []) (0 ∷ [])
+    ∷ (Link Next ∷ Tells (Told 6) ∷ []) ∷ shows_b (times 2 (Kept 1) ++ IsShut ∷ IsShut ∷ []) [] (0 ∷ [])
+    ∷ (Says 1 5 group_1 (Authority 5000) ∷ Says 1 6 group_1 (Transition 3000 5 2)
+    ∷ Sends 1 3 (Announce 1 1 0) ∷ Sends 1 4 (RouteAsk 1 6 27) ∷ [])
+    ∷ shows_b (times 2 (Given 1) ++ IsShut ∷ IsShut ∷ []) [] (0 ∷ []) ∷ []
 
 -- the mission is ended before the route comes: it goes home
 abbrev pub route_for_an_ended_mission : List Scene

@@ -5,6 +5,7 @@
 //! functions here do nothing.
 #![tactic(auto)]
 
+mod late;
 mod not_allowed;
 mod one_places;
 
@@ -19,11 +20,10 @@ ghost use Rattle.rbc_examples.specs.Starts.{nothing_happens, nothing_happens_sho
 ghost use Rattle.rbc_examples.specs.Requests.{request_asks_over_the_border, request_asks_over_the_border_shows, asks_again_each_round, asks_again_each_round_shows, end_of_the_track, end_of_the_track_shows, report_clears, report_clears_shows, no_integrity_frees_nothing, no_integrity_frees_nothing_shows, request_extends_over_the_border, request_extends_over_the_border_shows, early_frame, early_frame_shows, hand_of_32_sections, hand_of_32_sections_shows, end_within_reach_of_the_message, end_within_reach_of_the_message_shows, longest_authority, longest_authority_shows, one_metre_too_far, one_metre_too_far_shows, end_of_mission, end_of_mission_shows};
 ghost use Rattle.rbc_examples.specs.Shortening.{unset_in_a_hand, unset_in_a_hand_shows, start_drops_the_proposal, start_drops_the_proposal_shows, shortening_in_one_centre, shortening_in_one_centre_shows, shortening_and_a_late_route, shortening_and_a_late_route_shows, answer_to_another_proposal, answer_to_another_proposal_shows, granted_past_the_proposed_end, granted_past_the_proposed_end_shows, another_answer_at_the_border, another_answer_at_the_border_shows, asking_again_tries_again, asking_again_tries_again_shows};
 ghost use Rattle.rbc_examples.specs.Handover.{handover, handover_shows, return_after_handover, return_after_handover_shows, yield_carries_the_last_stamp_heard, yield_carries_the_last_stamp_heard_shows, cancelled_before_taking_over, cancelled_before_taking_over_shows};
-ghost use Rattle.rbc_examples.specs.Races.{withdrawn_from_the_pool, withdrawn_from_the_pool_shows, route_for_an_ended_mission, route_for_an_ended_mission_shows, end_of_mission_with_a_pool, end_of_mission_with_a_pool_shows, awaited, awaited_shows, route_after_the_yield, route_after_the_yield_shows, wish_at_the_yield, wish_at_the_yield_shows, cleared_elsewhere, cleared_elsewhere_shows, cleared_with_a_pool, cleared_with_a_pool_shows, cleared_over_the_border, cleared_over_the_border_shows, whole_hand_is_cut, whole_hand_is_cut_shows, session_opens_over_a_waiting_start, session_opens_over_a_waiting_start_shows};
 ghost use Rattle.rbc_examples.specs.ThreeCentres.{border_of_the_first, border_of_the_first_shows, second_takes_over, second_takes_over_shows, third_home_holds_the_yield_back, third_home_holds_the_yield_back_shows, withdraw_goes_to_one_centre, withdraw_goes_to_one_centre_shows, first_and_third_not_linked, first_and_third_not_linked_shows, yields_once_cleared, yields_once_cleared_shows, end_of_mission_yields, end_of_mission_yields_shows};
 ghost use Rattle.rbc_examples.specs.Pieces.{IsMetByRun, IsMetByForcedRun, IsLineRunOf};
 ghost use Rattle.rbc_examples.specs.SceneMoves.{another_answer_at_the_border_moves, answer_to_another_proposal_moves, ask_delivered_twice_moves, asking_again_tries_again_moves, asks_again_each_round_moves, cancelled_moves, early_frame_moves, end_of_mission_moves, end_of_the_track_moves, end_within_reach_of_the_message_moves, granted_past_the_proposed_end_moves, hand_of_32_sections_moves, handed_over_moves, last_stamp_heard_moves, late_route_moves, longest_authority_moves, no_integrity_moves, one_metre_too_far_moves, over_the_border_moves, plain, report_clears_moves, return_moves, right_comes_moves, right_is_refused_moves, right_serves_a_later_start_moves, shortening_in_one_centre_moves, start_drops_the_proposal_moves, start_moves, to_the_border_moves, trains_are_named_moves, unset_in_a_hand_moves};
-ghost use Rattle.rbc_examples.specs.LateMoves.{awaited_moves, cleared_elsewhere_moves, cleared_over_the_border_moves, cleared_with_a_pool_moves, end_of_mission_with_a_pool_moves, end_of_mission_yields_moves, first_and_third_not_linked_moves, from_the_first_moves, from_the_second_moves, route_after_the_yield_moves, route_for_an_ended_mission_moves, third_home_holds_the_yield_back_moves, whole_hand_is_cut_moves, wish_at_the_yield_moves, withdraw_goes_to_one_centre_moves, withdrawn_from_the_pool_moves, yields_once_cleared_moves};
+ghost use Rattle.rbc_examples.specs.LateMoves.{end_of_mission_yields_moves, first_and_third_not_linked_moves, from_the_first_moves, from_the_second_moves, third_home_holds_the_yield_back_moves, withdraw_goes_to_one_centre_moves, yields_once_cleared_moves};
 ghost use Rattle.rbc_examples.specs.Conditions.{unset_without_a_session, unset_without_a_session_shows, unset_after_the_end, unset_after_the_end_shows, unset_again, unset_again_shows, front_before_the_hand, front_before_the_hand_shows, front_in_the_section, front_in_the_section_shows, section_out_of_reach, section_out_of_reach_shows, yield_with_a_pool, yield_with_a_pool_shows, cut_with_a_pool, cut_with_a_pool_shows, cut_behind_the_border, cut_behind_the_border_shows, proposal_ends_with_the_session, proposal_ends_with_the_session_shows, start_outside_the_hand, start_outside_the_hand_shows, request_again_over_the_border, request_again_over_the_border_shows, request_while_asked, request_while_asked_shows, full_hand_at_the_border, full_hand_at_the_border_shows, pool_out_of_reach, pool_out_of_reach_shows, proposal_ends_with_the_mission, proposal_ends_with_the_mission_shows};
 ghost use Rattle.rbc_examples.specs.ConditionMoves.{unset_without_a_session_moves, unset_again_moves, front_before_the_hand_moves, front_in_the_section_moves, section_out_of_reach_moves, yield_with_a_pool_moves, cut_with_a_pool_moves, cut_behind_the_border_moves, proposal_ends_with_the_session_moves, request_again_over_the_border_moves, request_while_asked_moves, full_hand_at_the_border_moves, pool_out_of_reach_moves, proposal_ends_with_the_mission_moves};
 ghost use Rattle.rbc_examples.specs.StrayFrames.{asking, announcing, expecting, taking_over, effects, deliveries, strays_to_a, strays_from_c, strays_to_the_announcing, strays_to_the_expecting, strays_to_the_taking, fronts_before_the_track, taken_without_effect, calm_asking, calm_announcing, calm_expecting, calm_taking, missions_taken, mission_at};
@@ -32,6 +32,7 @@ ghost use Rattle.rbc_examples.specs.PlaceMoves.{requests_without_place_moves, ha
 ghost use Rattle.rbc_spec.specs.World.{new_world, world_run};
 ghost use Rattle.rbc_examples.specs.Limits.{asks_behind, run_items, set_and_session, set_and_session_shows, stamps, having_sent, last_stamp_is_taken, last_stamp_is_taken_shows, stamp_past_the_last, stamp_past_the_last_shows, frame_without_a_link, frame_without_a_link_shows};
 
+pub use late::{late_frames, races_met};
 pub use not_allowed::{moves_not_allowed, two_yields_on_the_way};
 pub use one_places::each_thing_stays_in_one_place;
 
@@ -95,21 +96,6 @@ pub fn trains_handed_over()
     ensures return_after_handover { seen line return_after_handover ≡ return_after_handover_shows }
     ensures yield_carries_the_last_stamp_heard { seen line yield_carries_the_last_stamp_heard ≡ yield_carries_the_last_stamp_heard_shows }
     ensures cancelled_before_taking_over { seen line cancelled_before_taking_over ≡ cancelled_before_taking_over_shows }
-{}
-
-/// What comes of frames that are late, with a wish, an end or a yield meanwhile.
-pub fn late_frames()
-    ensures withdrawn_from_the_pool { seen line withdrawn_from_the_pool ≡ withdrawn_from_the_pool_shows }
-    ensures route_for_an_ended_mission { seen line route_for_an_ended_mission ≡ route_for_an_ended_mission_shows }
-    ensures end_of_mission_with_a_pool { seen line end_of_mission_with_a_pool ≡ end_of_mission_with_a_pool_shows }
-    ensures awaited { seen line awaited ≡ awaited_shows }
-    ensures route_after_the_yield { seen line route_after_the_yield ≡ route_after_the_yield_shows }
-    ensures wish_at_the_yield { seen line wish_at_the_yield ≡ wish_at_the_yield_shows }
-    ensures cleared_elsewhere { seen line cleared_elsewhere ≡ cleared_elsewhere_shows }
-    ensures cleared_with_a_pool { seen line cleared_with_a_pool ≡ cleared_with_a_pool_shows }
-    ensures cleared_over_the_border { seen line cleared_over_the_border ≡ cleared_over_the_border_shows }
-    ensures whole_hand_is_cut { seen line whole_hand_is_cut ≡ whole_hand_is_cut_shows }
-    ensures session_opens_over_a_waiting_start { seen line session_opens_over_a_waiting_start ≡ session_opens_over_a_waiting_start_shows }
 {}
 
 /// How a train goes over three centres.
@@ -197,21 +183,6 @@ pub fn handovers_met()
     ensures return_after_handover { IsMetByRun line return_after_handover return_moves }
     ensures yield_carries_the_last_stamp_heard { IsMetByRun line yield_carries_the_last_stamp_heard last_stamp_heard_moves }
     ensures cancelled_before_taking_over { IsMetByRun line cancelled_before_taking_over cancelled_moves }
-{}
-
-/// The scenes of late frames, met.
-pub fn races_met()
-    ensures withdrawn_from_the_pool { IsMetByRun line withdrawn_from_the_pool withdrawn_from_the_pool_moves }
-    ensures route_for_an_ended_mission { IsMetByRun line route_for_an_ended_mission route_for_an_ended_mission_moves }
-    ensures end_of_mission_with_a_pool { IsMetByRun line end_of_mission_with_a_pool end_of_mission_with_a_pool_moves }
-    ensures awaited { IsMetByRun line awaited awaited_moves }
-    ensures route_after_the_yield { IsMetByRun line route_after_the_yield route_after_the_yield_moves }
-    ensures wish_at_the_yield { IsMetByRun line wish_at_the_yield wish_at_the_yield_moves }
-    ensures cleared_elsewhere { IsMetByRun line cleared_elsewhere cleared_elsewhere_moves }
-    ensures cleared_with_a_pool { IsMetByRun line cleared_with_a_pool cleared_with_a_pool_moves }
-    ensures cleared_over_the_border { IsMetByRun line cleared_over_the_border cleared_over_the_border_moves }
-    ensures whole_hand_is_cut { IsMetByRun line whole_hand_is_cut whole_hand_is_cut_moves }
-    ensures session_opens_over_a_waiting_start { IsMetByRun line session_opens_over_a_waiting_start (plain session_opens_over_a_waiting_start) }
 {}
 
 /// The scenes of three centres, met.

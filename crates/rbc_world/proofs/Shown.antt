@@ -1,20 +1,25 @@
 -- What is shown of a world.
-use Rattle.std.proofs.Common.{◌≡◌, ℕ, zero, suc, ◌+◌, ◌-◌, ◌<◌, ◌≤◌, Bool, true, false, cond, List, [], ◌∷◌, ◌++◌, length, Option, Some, None, option_map, is_some, length-append, slice_get, refl, sym, ap, ◌∙◌, subst, arith}
+use Rattle.std.proofs.Common.{◌≡◌, ℕ, zero, suc, ◌+◌, ◌-◌, ◌==◌, ◌<◌, ◌≤◌, Bool, true, false, cond, List, [], ◌∷◌, ◌++◌, length, Option, Some, None, option_map, is_some, length-append, slice_get, refl, sym, ap, ◌∙◌, subst, arith}
 use Rattle.std.specs.List.{find, range_with_len}
 use Rattle.std.specs.Option.{option_map_or, option_and_then, IfSome}
-use Rattle.std.proofs.lemmas.Option.{slice_get_past}
+use Rattle.std.proofs.lemmas.Bool.Decides.{nat_tests}
+use Rattle.std.proofs.lemmas.Option.{slice_get_past, same_Some}
+use Rattle.rbc_spec.specs.Maps.{has}
+use Rattle.rbc_spec.specs.SectionRuns.{SectionRun, within}
 use Rattle.rbc_spec.specs.Line.{Line, Section}
-use Rattle.rbc_spec.specs.LineCentre.{LineState, IsHand}
+use Rattle.rbc_spec.specs.LineCentre.{IsHand}
 use Rattle.rbc_spec.specs.Centre as centre
+use Rattle.rbc_spec.specs.Centre.{Mission}
 use Rattle.rbc_spec.specs.World.{World, frame_sent}
 use Rattle.rbc_spec.specs.ReadOff.{read_off, seen}
-use Rattle.rbc_seen.specs.Seen.{supervisor_of, seen_off, AreMissionsSeen}
+use Rattle.rbc_local.specs.Local.{hand_has}
+use Rattle.rbc_seen.specs.Seen.{supervisor_of, mission_found, AreMissionsSeen}
 use Rattle.rbc_hand.specs.SectionRuns.{run_of}
 use Rattle.rbc_centre.specs.States as one
 use Rattle.rbc_centre.specs.Views.{frame_number}
 use Rattle.rbc_centre.specs.declared.centre.Centre.{Centre}
 use Rattle.rbc_world.specs.States.{stands_for}
-use Rattle.rbc_world.specs.View.{mission_shown, mission_kept, EachOf}
+use Rattle.rbc_world.specs.View.{mission_shown, EachOf}
 use Rattle.rbc_world.specs.declared.view.MissionView.{MissionView}
 use Rattle.rbc_world.proofs.Centres.{centre_at}
 use Rattle.rbc_world.proofs.Known.{none_at}
@@ -46,15 +51,15 @@ module _ (line : Line) (cs : List Centre) (trains : List ℕ) (c : ℕ) where
   unfolding centre.beginning
   unsent_past to number past = none_at number ∙ seen_past (λ k. frame_number (k.sent to) number) past
 
--- ## What is read of a section at its home
+-- ## The home of a section
 
-pub at_home : {X : Type 0} (f : ℕ → X) (none : X) (o : Option Section) (home : ℕ) → option_map (λ p. p.home) o ≡ Some home → f home ≡ option_map_or (λ p. f p.home) o none
-at_home f none (Some p) home e = let same : p.home ≡ home = cc in ap f (sym same)
-at_home f none None home e = cc
+pub has_home : (o : Option Section) (home : ℕ) → option_map (λ p. p.home) o ≡ Some home → has (λ p. p.home == home) o ≡ true
+has_home (Some p) home e = let same : p.home ≡ home = cc in grind (arith, nat_tests)
+has_home None home e = cc
 
-pub at_no_home : {X : Type 0} (f : ℕ → X) (none : X) (o : Option Section) → option_map (λ p. p.home) o ≡ None → none ≡ option_map_or (λ p. f p.home) o none
-at_no_home f none (Some p) e = cc
-at_no_home f none None e = refl
+pub no_section : (o : Option Section) → option_map (λ p. p.home) o ≡ None → o ≡ None
+no_section (Some p) e = cc
+no_section None e = refl
 
 -- ## The centre that has a mission
 
@@ -77,34 +82,52 @@ found_later test c n within is = from_one test c n within ∙ ap (λ b. cond b (
 pub found_nowhere : (test : ℕ → Bool) (c n : ℕ) → n ≤ c → first_from test c n ≡ None
 found_nowhere test c n past = let none : n - c ≡ 0 = omega arith in ap (λ k. find test (range_with_len c k)) none
 
--- there is one exactly where one was seen
-pub same_test : {X Y : Type 0} (f : X → Y) (o : Option X) (m : Option Y) → option_map f o ≡ m → is_some m ≡ is_some o
-same_test f (Some x) m is = ap (λ (p : Option _). is_some p) (sym is)
-same_test f None m is = ap (λ (p : Option _). is_some p) (sym is)
+-- there is one exactly where one is shown
+pub same_test : {X Y Z : Type 0} (f : X → Z) (g : Y → Z) (o : Option X) (m : Option Y) → option_map f o ≡ option_map g m → is_some m ≡ is_some o
+same_test f g (Some x) (Some y) is = refl
+same_test f g (Some x) None is = cc
+same_test f g None (Some y) is = cc
+same_test f g None None is = refl
 
 -- ## The mission of a train
 
+abbrev pub hand_shown : MissionView → SectionRun
+hand_shown m = run_of m.hand
+
 module _ (line : Line) (w : World) (t c : ℕ) (found : supervisor_of line w t ≡ Some c) where
-  at_supervisor : (seen_off line w).mission t ≡ option_map (seen c) ((w.at c).mission t)
-  at_supervisor = ap (λ (o : Option ℕ). option_and_then (λ d. option_map (seen d) ((w.at d).mission t)) o) found
+  -- what is shown of it is what is read off
+  pub mission_is : AreMissionsSeen line w → (shown : Option MissionView) → option_map mission_shown shown ≡ option_map (seen c) ((w.at c).mission t)
+      → option_map mission_shown shown ≡ (read_off line w).mission t
+  mission_is missions shown is = is ∙ sym (missions.mission t ∙ ap (λ (o : Option ℕ). option_and_then (λ d. option_map (seen d) ((w.at d).mission t)) o) found)
 
-  -- what is shown of it
-  pub mission_is : (shown : Option MissionView) → option_map mission_kept shown ≡ (w.at c).mission t → IfSome shown (λ m. m.supervisor ≡ c) → option_map mission_shown shown ≡ (seen_off line w).mission t
-  mission_is shown kept here = same shown here ∙ ap (option_map (seen c)) kept ∙ sym at_supervisor
-    where
-      same : (o : Option MissionView) → IfSome o (λ m. m.supervisor ≡ c) → option_map mission_shown o ≡ option_map (seen c) (option_map mission_kept o)
-      same (Some m) here = ap (λ (d : ℕ). Some (seen d (mission_kept m))) here
-      same None here = refl
+  -- its hand is that of the mission that is found
+  pub hand_found : (shown : Option MissionView) → option_map hand_shown shown ≡ option_map (λ m. m.hand) ((w.at c).mission t)
+      → option_map hand_shown shown ≡ option_map (λ m. m.hand) (mission_found line w t)
+  hand_found shown is = is ∙ sym (ap (λ (o : Option ℕ). option_map (λ (m : Mission). m.hand) (option_and_then (λ d. (w.at d).mission t) o)) found)
 
--- its hand has the sections that are given to the train
-pub hand_is : (line : Line) (w : World) (t c : ℕ) → AreMissionsSeen line w → read_off line w ≡ seen_off line w
-    → (shown : Option MissionView) → option_map mission_kept shown ≡ (w.at c).mission t → IfSome shown (λ m. IsHand (seen_off line w) t (run_of m.hand))
-hand_is line w t c missions read (Some m) kept = subst (λ (v : LineState). IsHand v t (run_of m.hand)) read (missions.hand t c (mission_kept m) (sym kept))
-hand_is line w t c missions read None kept = tt
+-- and has the sections that are given to the train
+pub hand_is : (line : Line) (w : World) (t c : ℕ) → AreMissionsSeen line w → (shown : Option MissionView) (o : Option Mission) → (w.at c).mission t ≡ o
+    → option_map hand_shown shown ≡ option_map (λ m. m.hand) o → IfSome shown (λ m. IsHand (read_off line w) t (run_of m.hand))
+hand_is line w t c missions (Some m) (Some k) at is =
+    subst (λ (run : SectionRun). IsHand (read_off line w) t run) (sym (same_Some (hand_shown m) k.hand is)) (missions.hand t c k at)
+hand_is line w t c missions (Some m) None at is = cc
+hand_is line w t c missions None o at is = tt
 
 -- a train that no centre supervises has none
-pub no_mission : (line : Line) (w : World) (t : ℕ) → supervisor_of line w t ≡ None → None ≡ (seen_off line w).mission t
-no_mission line w t none = sym (ap (λ (o : Option ℕ). option_and_then (λ d. option_map (seen d) ((w.at d).mission t)) o) none)
+module _ (line : Line) (w : World) (t : ℕ) (none : supervisor_of line w t ≡ None) where
+  pub no_mission : AreMissionsSeen line w → None ≡ (read_off line w).mission t
+  no_mission missions = sym (missions.mission t ∙ ap (λ (o : Option ℕ). option_and_then (λ d. option_map (seen d) ((w.at d).mission t)) o) none)
+
+  pub no_hand : None ≡ option_map (λ m. m.hand) (mission_found line w t)
+  no_hand = sym (ap (λ (o : Option ℕ). option_map (λ (m : Mission). m.hand) (option_and_then (λ d. (w.at d).mission t) o)) none)
+
+-- a section is in a mission's hand where it is in the hand that is shown
+pub in_hand_shown : (shown : Option MissionView) (o : Option Mission) (s : ℕ) → option_map hand_shown shown ≡ option_map (λ m. m.hand) o
+    → option_map_or (λ m. within (hand_shown m) s) shown false ≡ hand_has o s
+in_hand_shown (Some m) (Some k) s is = ap (λ (run : SectionRun). within run s) (same_Some (hand_shown m) k.hand is)
+in_hand_shown (Some m) None s is = cc
+in_hand_shown None (Some k) s is = cc
+in_hand_shown None None s is = refl
 
 -- ## Rows of what is shown
 

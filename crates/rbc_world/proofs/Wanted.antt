@@ -7,12 +7,28 @@ use Rattle.rbc_msgs.specs.StepMessage.{step_message}
 use Rattle.rbc_msgs.specs.Kept.{kept_packets, MayKeep}
 use Rattle.rbc_msgs.specs.declared.fault.MsgFault.{MsgFault}
 use Rattle.rbc_msgs.specs.declared.fault.MsgFault.TheVariants as of_message
+use Rattle.rbc_spec.specs.Centre as centre
+use Rattle.rbc_spec.specs.Step as step
+use Rattle.rbc_centre.specs.Answer.{IsWantedBy}
 use Rattle.rbc_centre.specs.declared.centre.Centre.{Centre}
 use Rattle.rbc_centre.specs.declared.fault.StepFault.{StepFault}
 use Rattle.rbc_centre.specs.declared.fault.StepFault.TheVariants.{Memory, LinkFull, ClockEnd}
 use Rattle.rbc_world.specs.Answers.{IfWanted, MakesRoom, BytesTakeMemory}
 use Rattle.rbc_world.specs.declared.event.Answer.{Answer}
 use Rattle.rbc_world.proofs.Steps.{is_centre_within}
+
+-- a fault is wanted by the same, whatever would be returned else
+pub fault_wants : (X Y : Type 0) (k : centre.Centre) (event : step.Event) (fault : StepFault) → IsWantedBy {X = X} k event (Err fault) → IsWantedBy {X = Y} k event (Err fault)
+fault_wants X Y k event Memory h = h
+fault_wants X Y k event LinkFull h = tt
+fault_wants X Y k event ClockEnd h = tt
+
+-- a section that is taken back
+pub unset_wants : (k : centre.Centre) (s : ℕ) (result : Result Answer StepFault) → IsWantedBy k (step.Unset s) result → IfWanted result ((t : ℕ) × (d : ℕ) × (k.book s ≡ centre.Out t d))
+unset_wants k s (Ok a) h = tt
+unset_wants k s (Err Memory) h = h
+unset_wants k s (Err LinkFull) h = tt
+unset_wants k s (Err ClockEnd) h = tt
 
 kept_wants : (line : Line) (trains : List ℕ) (read : Result TrainText MsgFault) → MayKeep kept_packets read → BytesTakeMemory line trains read
 kept_wants line trains (Ok m) h = inl h

@@ -1,7 +1,8 @@
 -- What the calls of a world answer, beside their definitions.
 use Rattle.std.specs.Prelude.{◌≡◌, ◌≢◌, ◌⊎◌, ℕ, true, List, [], ◌∷◌, ◌++◌, Result, Ok, Err, is_some}
-use Rattle.rbc_spec.specs.Reach.{Rights}
+use Rattle.rbc_spec.specs.Reach.{Routes}
 use Rattle.rbc_spec.specs.Line.{Line, is_centre}
+use Rattle.rbc_spec.specs.Centre.{Out}
 use Rattle.rbc_spec.specs.World.{Event, World, new_world, mention, frame_sent, IsRefused}
 use Rattle.rbc_spec.specs.Step.{Refusal, ClockEnd as AtClockEnd, LinkFull as AtLinkFull}
 use Rattle.rbc_spec.specs.Message.{TrainMessage, InitiationOfSession}
@@ -37,10 +38,12 @@ abbrev pub BytesTakeMemory : Line → List ℕ → Result TrainText MsgFault →
 BytesTakeMemory line trains (Ok m) = (kept_packets m ≢ []) ⊎ MakesRoom line trains (step_message m)
 BytesTakeMemory line trains (Err fault) = IsBehindPackets fault
 
--- an event wants memory only where it is such bytes, at a centre of the line, or brings a frame that was sent
+-- an event wants memory only where it is such bytes, at a centre of the line, takes a section back that is out at its home, or brings a
+-- frame that was sent
 abbrev pub TakesMemory : Line → World → WorldEvent → Type 0
 TakesMemory line w (event.Train c bytes) = (is_centre line c ≡ true) × BytesTakeMemory line w.trains (read_train bytes.items)
 TakesMemory line w (event.Deliver from to number) = is_some (frame_sent w from to number) ≡ true
+TakesMemory line w (event.Unset c s) = (t : ℕ) × (d : ℕ) × ((w.at c).book s ≡ Out t d)
 TakesMemory line w other = ⊥
 
 -- where memory was wanted, this holds
@@ -51,5 +54,5 @@ IfWanted result so = Unit {0}
 -- a whole run is refused for want of memory, or as one of its steps is
 abbrev pub IsRefusedRun : Line → List Event → StepFault → Type 0
 IsRefusedRun line events Memory = Unit {0}
-IsRefusedRun line events LinkFull = IsRefused Rights line (new_world line) events AtLinkFull
-IsRefusedRun line events ClockEnd = IsRefused Rights line (new_world line) events AtClockEnd
+IsRefusedRun line events LinkFull = IsRefused Routes line (new_world line) events AtLinkFull
+IsRefusedRun line events ClockEnd = IsRefused Routes line (new_world line) events AtClockEnd

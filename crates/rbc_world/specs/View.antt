@@ -1,13 +1,11 @@
 -- When what is shown of a line is a state of it.
 use Rattle.std.specs.Prelude.{◌≡◌, ℕ, List, length, slice_get, Some, IfSome, option_map}
 use Rattle.rbc_spec.specs.Line.{Line}
-use Rattle.rbc_spec.specs.Centre as centre
 use Rattle.rbc_spec.specs.LineCentre as line_centre
 use Rattle.rbc_spec.specs.LineCentre.{LineState, At, IsHand}
 use Rattle.rbc_hand.specs.SectionRuns.{run_of}
 use Rattle.rbc_place.specs.Places.{place_of}
 use Rattle.rbc_shorten.specs.Facts.{standing_of}
-use Rattle.rbc_mission.specs.Supervisions.{mission_of}
 use Rattle.rbc_session.specs.SessionStates.{phase_of}
 use Rattle.rbc_world.specs.declared.view.Mark.{Mark}
 use Rattle.rbc_world.specs.declared.view.Mark.TheVariants as mark
@@ -32,10 +30,6 @@ mission_shown m = record {
   proposal = standing_of m.facts.proposal;
   supervisor = At m.supervisor;
 }
-
--- as its supervisor has it: no other centre has a part in it
-abbrev pub mission_kept : MissionView → centre.Mission
-mission_kept m = mission_of (run_of m.hand) m.facts
 
 -- there are n items, and each at its place is as wanted
 pub record EachOf {X : Type 0} (P : ℕ → X → Type 0) (n : ℕ) (xs : List X) : Type 0 where

@@ -1,16 +1,16 @@
 ghost use Rattle.std.specs.Prelude.{◌≡◌, ◌<◌, length, slice_get, IfOk, IfSome, Some, option_map};
-ghost use Rattle.rbc_spec.specs.Reach.{Rights};
+ghost use Rattle.rbc_spec.specs.Reach.{Routes};
 ghost use Rattle.rbc_spec.specs.Line.{section};
 ghost use Rattle.rbc_spec.specs.LineCentre.{IsHand};
-ghost use Rattle.rbc_spec.specs.ReadOff.{StandsFor, read_off};
+ghost use Rattle.rbc_spec.specs.ReadOff.{StandsFor, read_off, seen};
 ghost use Rattle.rbc_local.specs.Local.{hand_has};
 ghost use Rattle.rbc_flow.specs.Shows.{shown};
-ghost use Rattle.rbc_seen.specs.Seen.{supervisor_of, seen_off};
+ghost use Rattle.rbc_seen.specs.Seen.{supervisor_of, mission_found};
 ghost use Rattle.rbc_book.specs.Entries.{entry_of};
 ghost use Rattle.rbc_hand.specs.SectionRuns.{run_of};
 ghost use Rattle.rbc_world.specs.Reached.{WasReached};
 ghost use Rattle.rbc_world.specs.World.{line_of, state_of};
-ghost use Rattle.rbc_world.specs.View.{mark_shown, mission_shown, mission_kept, EachOf, ShowsSection, ShowsSession, ShowsTrain, Shows};
+ghost use Rattle.rbc_world.specs.View.{mark_shown, mission_shown, EachOf, ShowsSection, ShowsSession, ShowsTrain, Shows};
 
 use crate::world::{World, known_line};
 use rbc_book::{Entry, Page};
@@ -89,7 +89,7 @@ impl World {
         // That state stands for the centres.
         ensures stands { StandsFor (line_of self.now) (state_of self.now) (read_off (line_of self.now) (state_of self.now)) }
         // Some list of events led from the line's beginning to the centres as they are.
-        ensures reached { ∥ WasReached Rights (line_of self.now) (state_of self.now) ∥₁ }
+        ensures reached { ∥ WasReached Routes (line_of self.now) (state_of self.now) ∥₁ }
     {
         known_line(&self.line);
         Ok(LineView {
@@ -99,7 +99,7 @@ impl World {
     }
 
     fn section_views(&self, alloc: Global) -> Result<Vec<SectionView>, AllocError>
-        ensures { IfOk result (λ views. EachOf (λ s p. ShowsSection (seen_off (line_of self.now) (state_of self.now)) s p) (length (line_of self.now).sections) views.items) }
+        ensures { IfOk result (λ views. EachOf (λ s p. ShowsSection (read_off (line_of self.now) (state_of self.now)) s p) (length (line_of self.now).sections) views.items) }
     {
         let count = self.line.section_count();
         let mut views = Vec::with_capacity(alloc, count as usize)?;
@@ -109,10 +109,11 @@ impl World {
         Ok(views)
     }
 
-    // A section, as its home has it.
+    // A section, as its home has it, and the hand of its train wherever that is supervised.
     fn section_view(&self, s: u16) -> SectionView
-        ensures { ShowsSection (seen_off (line_of self.now) (state_of self.now)) s result }
+        ensures { ShowsSection (read_off (line_of self.now) (state_of self.now)) s result }
     {
+        known_line(&self.line);
         match home_of(&self.line, s) {
             Some(home) => self.seen_at(home, s),
             None => SectionView {
@@ -122,27 +123,27 @@ impl World {
         }
     }
 
-    // What centre c has of a section.
+    // A section of home c.
     fn seen_at(&self, c: u8, s: u16) -> SectionView
-        ensures mark { mark_shown result.mark ≡ shown (((state_of self.now).at c).book s) (λ t. hand_has (((state_of self.now).at c).mission t) s) }
+        ensures mark { mark_shown result.mark ≡ shown (((state_of self.now).at c).book s) (λ t. hand_has (mission_found (line_of self.now) (state_of self.now) t) s) }
         ensures wish { result.is_wished ≡ ((state_of self.now).at c).wish s }
     {
         let page = self.page_at(c, s);
         SectionView {
-            mark: self.mark_at(c, s, page.entry),
+            mark: self.mark_at(s, page.entry),
             is_wished: page.is_wished,
         }
     }
 
-    // What a section is used for of which the book of centre c has this. In use, it is in its train's movement authority, or kept for it.
-    fn mark_at(&self, c: u8, s: u16, entry: Entry) -> Mark
-        ensures { mark_shown result ≡ shown (entry_of entry) (λ t. hand_has (((state_of self.now).at c).mission t) s) }
+    // What a section is used for of which its home's book has this. In use, it is in its train's movement authority, or kept for it.
+    fn mark_at(&self, s: u16, entry: Entry) -> Mark
+        ensures { mark_shown result ≡ shown (entry_of entry) (λ t. hand_has (mission_found (line_of self.now) (state_of self.now) t) s) }
     {
         match entry {
             Entry::Shut => Mark::Shut,
             Entry::Open => Mark::Open,
             Entry::Taken { nid_engine } | Entry::Out { nid_engine, .. } => {
-                if self.is_given(c, s, nid_engine) {
+                if self.is_given(s, nid_engine) {
                     Mark::Given { nid_engine }
                 } else {
                     Mark::Kept { nid_engine }
@@ -151,11 +152,11 @@ impl World {
         }
     }
 
-    // Whether a section is in the movement authority that centre c has given the train.
-    fn is_given(&self, c: u8, s: u16, nid_engine: u32) -> bool
-        ensures { result ≡ hand_has (((state_of self.now).at c).mission nid_engine) s }
+    // Whether a section is in the movement authority of the train, whichever centre supervises it.
+    fn is_given(&self, s: u16, nid_engine: u32) -> bool
+        ensures { result ≡ hand_has (mission_found (line_of self.now) (state_of self.now) nid_engine) s }
     {
-        match self.mission_at(c, nid_engine) {
+        match self.mission_view(nid_engine) {
             Some(mission) => mission.hand.contains(s),
             None => false,
         }
@@ -174,7 +175,7 @@ impl World {
     }
 
     fn train_views(&self, alloc: Global) -> Result<Vec<TrainView>, AllocError>
-        ensures { IfOk result (λ views. EachOf (λ i p. ShowsTrain (line_of self.now) (seen_off (line_of self.now) (state_of self.now)) i p) (length (line_of self.now).trains) views.items) }
+        ensures { IfOk result (λ views. EachOf (λ i p. ShowsTrain (line_of self.now) (read_off (line_of self.now) (state_of self.now)) i p) (length (line_of self.now).trains) views.items) }
     {
         let count = self.line.train_count();
         let mut views = Vec::with_capacity(alloc, count as usize)?;
@@ -191,7 +192,7 @@ impl World {
     }
 
     fn session_views(&self, alloc: Global, nid_engine: u32) -> Result<Vec<SessionView>, AllocError>
-        ensures { IfOk result (λ views. EachOf (λ c p. ShowsSession (seen_off (line_of self.now) (state_of self.now)) nid_engine c p) (length (line_of self.now).centres) views.items) }
+        ensures { IfOk result (λ views. EachOf (λ c p. ShowsSession (read_off (line_of self.now) (state_of self.now)) nid_engine c p) (length (line_of self.now).centres) views.items) }
     {
         let mut views = Vec::with_capacity(alloc, self.centres.len())?;
         for c in 0..self.centres.len() {
@@ -202,7 +203,7 @@ impl World {
 
     fn session_view(&self, c: usize, nid_engine: u32) -> SessionView
         requires { c < length self.now.centres.items }
-        ensures { ShowsSession (seen_off (line_of self.now) (state_of self.now)) nid_engine c result }
+        ensures { ShowsSession (read_off (line_of self.now) (state_of self.now)) nid_engine c result }
     {
         let state = self.centres[c].train(nid_engine);
         SessionView {
@@ -215,8 +216,9 @@ impl World {
 
     // The mission of a train, as its supervisor has it.
     fn mission_view(&self, nid_engine: u32) -> Option<MissionView>
-        ensures mission { option_map mission_shown result ≡ (seen_off (line_of self.now) (state_of self.now)).mission nid_engine }
-        ensures hand { IfSome result (λ m. IsHand (seen_off (line_of self.now) (state_of self.now)) nid_engine (run_of m.hand)) }
+        ensures mission { option_map mission_shown result ≡ (read_off (line_of self.now) (state_of self.now)).mission nid_engine }
+        ensures found { option_map (λ m. run_of m.hand) result ≡ option_map (λ m. m.hand) (mission_found (line_of self.now) (state_of self.now) nid_engine) }
+        ensures hand { IfSome result (λ m. IsHand (read_off (line_of self.now) (state_of self.now)) nid_engine (run_of m.hand)) }
     {
         known_line(&self.line);
         match self.supervisor(nid_engine) {
@@ -239,8 +241,8 @@ impl World {
 
     // The mission that centre c has of a train.
     fn mission_at(&self, c: u8, nid_engine: u32) -> Option<MissionView>
-        ensures mission { option_map mission_kept result ≡ ((state_of self.now).at c).mission nid_engine }
-        ensures supervisor { IfSome result (λ m. m.supervisor ≡ c) }
+        ensures mission { option_map mission_shown result ≡ option_map (seen c) (((state_of self.now).at c).mission nid_engine) }
+        ensures hand { option_map (λ m. run_of m.hand) result ≡ option_map (λ m. m.hand) (((state_of self.now).at c).mission nid_engine) }
     {
         if c as usize >= self.centres.len() {
             return None;

@@ -1,5 +1,5 @@
 use Rattle.std.proofs.Common.{◌∙◌}
-use Rattle.rbc_spec.specs.Reach.{Rights as ToRights}
+use Rattle.rbc_spec.specs.Reach.{Routes as ToRoutes}
 use Rattle.rbc_spec.specs.Step.{Deliver, taken, has_full_link}
 use Rattle.rbc_centre.proofs.Turns.{stays_with, on_err}
 use Rattle.rbc_centre.proofs.Steps.{stands_kept}
@@ -23,6 +23,7 @@ invariant_of-self c =
       counted = k.counted;
       sound = s.sound;
       own = s.own;
+      ranged = s.ranged;
     }
 
 pub returns-in_err-reserve-clause-err : goal.returns-in_err-reserve-clause-err
@@ -39,5 +40,5 @@ pub returns-clause-exact : goal.returns-clause-exact
 returns-clause-exact c =
     let k = c.args.self.now in
     c.take_frame.ensures.exact
-    ∙ (λ i. taken ToRights k.line k.number (Deliver c.args.from c.args.frame.now)
+    ∙ (λ i. taken ToRoutes k.line k.number (Deliver c.args.from c.args.frame.now)
     (stands_kept k.line k.number k.clock k.book k.registrar k.links c.reserve.new.self k.trains.items c.reserve.ensures.keeps i))

@@ -6,7 +6,7 @@ use Rattle.rbc_link.specs.Outgoing.{frame_by}
 use Rattle.rbc_linkmsg.specs.Bodies.{body_of}
 use Rattle.rbc_linkmsg.specs.declared.body.Body.{Body}
 use Rattle.rbc_centre.specs.State.{stands_for}
-use Rattle.rbc_centre.proofs.Posts.{frame_number-by, frame_in_range}
+use Rattle.rbc_centre.proofs.SentFrames.{frame_number-by, frame_in_range}
 use Rattle.rbc_centre.proofs.Turns.{sent_in_range}
 use Rattle.rbc_centre.proofs.centre.Centre.frame.Goals.{In_ok-sent}
 use Rattle.rbc_centre.proofs.centre.Centre.frame.Goals as goal

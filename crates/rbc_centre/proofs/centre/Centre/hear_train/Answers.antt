@@ -1,4 +1,5 @@
 use Rattle.std.proofs.Common.{◌+◌, ◌∙◌, ap, sym, refl, set, Some, None, Ok, Err, arith, subst, ℕ, [], map}
+use Rattle.std.proofs.Math.ListN.{length-set}
 use Rattle.std.proofs.lemmas.Option.{slice_get_read}
 use Rattle.rbc_spec.specs.Message.{is_stale}
 use Rattle.rbc_spec.specs.Outcome.{Outcome, Told}
@@ -7,16 +8,17 @@ use Rattle.rbc_msgs.specs.StepMessage.{step_message}
 use Rattle.rbc_link.proofs.Posted.{posted_none}
 use Rattle.rbc_linkmsg.specs.Bodies.{body_of}
 use Rattle.rbc_session.specs.SessionStates.{StandsFor, session_phase}
-use Rattle.rbc_rules.specs.Letters.{tells_others}
+use Rattle.rbc_rules.specs.Letters.{mail_to}
 use Rattle.rbc_rules.specs.Reasons.{reason_of}
 use Rattle.rbc_rules.specs.Sayings.{sayings_of}
 use Rattle.rbc_rules.specs.SessionStates.{Enters}
 use Rattle.rbc_rules.proofs.SessionStates.{stands_for_train}
 use Rattle.rbc_centre.specs.State.{stands_for}
-use Rattle.rbc_centre.specs.Views.{frames_to}
+use Rattle.rbc_centre.specs.Posts.{MayPost}
+use Rattle.rbc_centre.specs.Sent.{frames_to}
 use Rattle.rbc_centre.proofs.States.{number_within, each_of_train_after}
 use Rattle.rbc_centre.proofs.Trains.{heard_of}
-use Rattle.rbc_centre.proofs.Turns.{within, of_train, has_number, has_count, each_counted, takes, turns, stays, heard_stamp, letter_may}
+use Rattle.rbc_centre.proofs.Turns.{within, of_train, kept_train, has_number, has_count, each_counted, takes, turns, stays, heard_stamp, heard_allowed, heard_may, may_be_sent, sent_by}
 use Rattle.rbc_centre.proofs.centre.Centre.hear_train.Goals as goal
 
 -- ## The train that the message is from, in the list of trains
@@ -54,16 +56,36 @@ take-heard-requires-clause-count c =
     let at = slice_get_read _ _ _ _ refl (number_within k.line k.trains.items _ c.args.i c.requires.number k.train_count) c.index_mut.ensures.value in
     has_count k _ c.args.i c.index_mut.result.now c.requires.number at c.requires.time
 
--- ## The letter
+pub take-heard-requires-clause-kept : goal.take-heard-requires-clause-kept
+take-heard-requires-clause-kept c =
+    let k = c.args.self.now in
+    let at = slice_get_read _ _ _ _ refl (number_within k.line k.trains.items _ c.args.i c.requires.number k.train_count) c.index_mut.ensures.value in
+    kept_train k _ c.args.i c.index_mut.result.now c.requires.number at
 
--- there is room for it: a message that tells no other centre sends none
-pub post-frame-requires-clause-may : goal.post-frame-requires-clause-may
-post-frame-requires-clause-may c =
+pub take-heard-requires-clause-held : goal.take-heard-requires-clause-held
+take-heard-requires-clause-held c =
+    let k = c.args.self.now in
+    let at = slice_get_read _ _ _ _ refl (number_within k.line k.trains.items _ c.args.i c.requires.number k.train_count) c.index_mut.ensures.value in
+    (of_train k _ c.args.i c.index_mut.result.now c.requires.number at).held
+
+-- ## What goes to other centres
+
+pub post-frames-requires-clause-linked : goal.post-frames-requires-clause-linked
+post-frames-requires-clause-linked c = c.args.self.now.each_link
+
+pub post-frames-requires-clause-may : goal.post-frames-requires-clause-may
+post-frames-requires-clause-may c =
     let k = c.args.self.now in
     let m = step_message c.args.message.now in
+    let i = c.args.i in
+    let number = c.requires.number in
     let old = c.index_mut.result.now in
-    let at = slice_get_read _ _ _ _ refl (number_within k.line k.trains.items _ c.args.i c.requires.number k.train_count) c.index_mut.ensures.value in
-    letter_may k _ c.args.i old c.requires.number at (tells_others m.body) c.in-Ok.heard.letter c.requires.numbers c.requires.frames c.in-Ok.ensures.may c.in-Ok.ensures.silent
+    let at = slice_get_read _ _ _ _ refl (number_within k.line k.trains.items _ i number k.train_count) c.index_mut.ensures.value in
+    let heard = c.in-Ok.heard in
+    let engine = c.nid_engine.ensures.value ∙ sym (of_train k _ i old number at).engine in
+    subst (λ (t : ℕ). (d : ℕ) → MayPost k.links d (mail_to k.line k.number t heard.mail d)) (sym engine)
+    (heard_may k m _ i old number at c.take-heard.new.self c.take-heard.new.book c.take-heard.new.registrar c.take-heard.ensures.kept c.take-heard.ensures.desk heard c.in-Ok.ensures.exact
+    c.requires.time c.requires.numbers c.requires.ranges c.requires.frames)
 
 -- ## The centre that is left
 
@@ -83,10 +105,11 @@ invariant_of-self c =
     let desk = c.take-heard.ensures.desk in
     let is = of_train k t i old number at in
     let effect = takes k (Train m) t i old number at now new c.take-heard.new.book c.take-heard.new.registrar kept desk (Ok heard) c.in-Ok.ensures.exact in
-    let s = stays k (Train m) now i k.links c.post-frame.new.links c.take-heard.new.book c.take-heard.new.registrar old new heard.letter (sayings_of heard.saying) (map (λ s. Told s) heard.told) None None
-    (heard_stamp k m) (λ d. refl) c.post-frame.ensures.links effect (frames_to c.post-frame.result) c.post-frame.ensures.frames
-    (omega arith) (omega (arith, c.requires.time)) tt
-    (letter_may k t i old number at (tells_others m.body) heard.letter c.requires.numbers c.requires.frames c.in-Ok.ensures.may c.in-Ok.ensures.silent) desk refl (λ d. refl) in
+    let sent = sent_by k.line k.number c.nid_engine.result old.supervision.engine now heard.mail k.links c.post-frames.new.links (frames_to c.post-frames.result) (c.nid_engine.ensures.value ∙ sym is.engine) c.post-frames.ensures.posted c.post-frames.ensures.frames in
+    let s = stays k (Train m) now k.links c.post-frames.new.links c.take-heard.new.book c.take-heard.new.registrar (set k.trains.items i new) (mail_to k.line k.number old.supervision.engine heard.mail) (sayings_of heard.saying) (map (λ s. Told s) heard.told) None None
+    (heard_stamp k m) (λ d. refl) sent.links effect (frames_to c.post-frames.result) sent.each
+    (omega arith) (omega (arith, c.requires.time)) tt (heard_allowed k c.requires.time c.requires.numbers m) (k.of_line, c.requires.ranges)
+    (heard_may k m t i old number at new c.take-heard.new.book c.take-heard.new.registrar kept desk heard c.in-Ok.ensures.exact c.requires.time c.requires.numbers c.requires.ranges c.requires.frames) desk.homes desk.rights.count (length-set k.trains.items i new) refl (λ d. refl) in
     let enters : Enters k.sessions c.take-heard.new.sessions new.session_state t (session_phase new.session_state) =
     subst (λ (n : ℕ). Enters k.sessions c.take-heard.new.sessions new.session_state n (session_phase new.session_state)) is.engine c.take-heard.ensures.stands in
     record {
@@ -99,11 +122,12 @@ invariant_of-self c =
       each_link = s.each_link;
       each_frame = ∣ s.each_frame ∣₁;
       train_count = s.train_count;
-      each_train = each_of_train_after k.line k.sessions c.take-heard.new.sessions k.trains.items t i new (session_phase new.session_state) (within k t i old number at) number enters
-          (kept.number ∙ is.number) (kept.engine ∙ is.engine) (kept.waiting ∙ is.waiting) (c.take-heard.ensures.covers is.covers) k.each_train;
+      each_train = each_of_train_after k.line k.number k.sessions c.take-heard.new.sessions k.trains.items t i new (session_phase new.session_state) (within k t i old number at) number enters
+          (kept.number ∙ is.number) (kept.engine ∙ is.engine) (kept.waiting ∙ is.waiting) (c.take-heard.ensures.covers is.covers) c.take-heard.ensures.held k.each_train;
       counted = each_counted k t i old number at now k.links new c.take-heard.new.book c.take-heard.new.registrar kept desk (omega arith);
       sound = s.sound;
       own = s.own;
+      ranged = s.ranged;
     }
 
 pub invariant_of-self-in-Err-1 : goal.invariant_of-self-in-Err-1
@@ -121,9 +145,11 @@ invariant_of-self-in-Err-1 c =
     let desk = c.take-heard.ensures.desk in
     let is = of_train k t i old number at in
     let effect = takes k (Train m) t i old number at now new c.take-heard.new.book c.take-heard.new.registrar kept desk (Err c.in-Err.why) c.in-Err.ensures.exact in
-    let s = stays k (Train m) now i k.links k.links c.take-heard.new.book c.take-heard.new.registrar old new None [] [] None (Some (reason_of c.in-Err.why))
+    let s = stays k (Train m) now k.links k.links c.take-heard.new.book c.take-heard.new.registrar (set k.trains.items i new) (λ d. []) [] [] None (Some (reason_of c.in-Err.why))
     (heard_stamp k m) (λ d. refl) (posted_none body_of now k.links) effect (λ d. []) (λ d. refl)
-    (omega arith) (omega (arith, c.requires.time)) tt tt desk refl (λ d. refl) in
+    (omega arith) (omega (arith, c.requires.time)) tt (heard_allowed k c.requires.time c.requires.numbers m) (k.of_line, c.requires.ranges)
+    (may_be_sent k (Train m) now k.links _ (λ d. []) [] [] None (Some (reason_of c.in-Err.why)) (heard_stamp k m) (λ d. refl) effect (heard_allowed k c.requires.time c.requires.numbers m) (k.of_line, c.requires.ranges)
+    k.each_link (λ d. omega arith) (λ d has. omega arith)) desk.homes desk.rights.count (length-set k.trains.items i new) refl (λ d. refl) in
     let enters : Enters k.sessions c.take-heard.new.sessions new.session_state t (session_phase new.session_state) =
     subst (λ (n : ℕ). Enters k.sessions c.take-heard.new.sessions new.session_state n (session_phase new.session_state)) is.engine c.take-heard.ensures.stands in
     record {
@@ -136,11 +162,12 @@ invariant_of-self-in-Err-1 c =
       each_link = s.each_link;
       each_frame = ∣ s.each_frame ∣₁;
       train_count = s.train_count;
-      each_train = each_of_train_after k.line k.sessions c.take-heard.new.sessions k.trains.items t i new (session_phase new.session_state) (within k t i old number at) number enters
-          (kept.number ∙ is.number) (kept.engine ∙ is.engine) (kept.waiting ∙ is.waiting) (c.take-heard.ensures.covers is.covers) k.each_train;
+      each_train = each_of_train_after k.line k.number k.sessions c.take-heard.new.sessions k.trains.items t i new (session_phase new.session_state) (within k t i old number at) number enters
+          (kept.number ∙ is.number) (kept.engine ∙ is.engine) (kept.waiting ∙ is.waiting) (c.take-heard.ensures.covers is.covers) c.take-heard.ensures.held k.each_train;
       counted = each_counted k t i old number at now k.links new c.take-heard.new.book c.take-heard.new.registrar kept desk (omega arith);
       sound = s.sound;
       own = s.own;
+      ranged = s.ranged;
     }
 
 -- ## The answer
@@ -158,10 +185,12 @@ returns-in-Ok-clause-exact c =
     let new = c.take-heard.new.self in
     let heard = c.in-Ok.heard in
     let effect = takes k (Train m) t i old number at now new c.take-heard.new.book c.take-heard.new.registrar c.take-heard.ensures.kept c.take-heard.ensures.desk (Ok heard) c.in-Ok.ensures.exact in
-    let left = stands_for k.line k.number now c.take-heard.new.book c.take-heard.new.registrar c.post-frame.new.links (set k.trains.items i new) in
+    let left = stands_for k.line k.number now c.take-heard.new.book c.take-heard.new.registrar c.post-frames.new.links (set k.trains.items i new) in
+    let sent = sent_by k.line k.number c.nid_engine.result old.supervision.engine now heard.mail k.links c.post-frames.new.links (frames_to c.post-frames.result)
+    (c.nid_engine.ensures.value ∙ sym (of_train k t i old number at).engine) c.post-frames.ensures.posted c.post-frames.ensures.frames in
     ap (λ (o : Outcome). (o, left)) c.heard.ensures
-    ∙ turns k (Train m) now i k.links c.post-frame.new.links c.take-heard.new.book c.take-heard.new.registrar old new heard.letter (sayings_of heard.saying) (map (λ s. Told s) heard.told) None None
-    (heard_stamp k m) (λ d. refl) c.post-frame.ensures.links effect (frames_to c.post-frame.result) c.post-frame.ensures.frames
+    ∙ turns k (Train m) now k.links c.post-frames.new.links c.take-heard.new.book c.take-heard.new.registrar (set k.trains.items i new) (mail_to k.line k.number old.supervision.engine heard.mail) (sayings_of heard.saying) (map (λ s. Told s) heard.told) None None
+    (heard_stamp k m) (λ d. refl) sent.links effect (frames_to c.post-frames.result) sent.each
 
 pub returns-in-Err-clause-exact : goal.returns-in-Err-clause-exact
 returns-in-Err-clause-exact c =
@@ -177,5 +206,5 @@ returns-in-Err-clause-exact c =
     let effect = takes k (Train m) t i old number at now new c.take-heard.new.book c.take-heard.new.registrar c.take-heard.ensures.kept c.take-heard.ensures.desk (Err c.in-Err.why) c.in-Err.ensures.exact in
     let left = stands_for k.line k.number now c.take-heard.new.book c.take-heard.new.registrar k.links (set k.trains.items i new) in
     ap (λ (o : Outcome). (o, left)) c.silent.ensures
-    ∙ turns k (Train m) now i k.links k.links c.take-heard.new.book c.take-heard.new.registrar old new None [] [] None (Some (reason_of c.in-Err.why))
+    ∙ turns k (Train m) now k.links k.links c.take-heard.new.book c.take-heard.new.registrar (set k.trains.items i new) (λ d. []) [] [] None (Some (reason_of c.in-Err.why))
     (heard_stamp k m) (λ d. refl) (posted_none body_of now k.links) effect (λ d. []) (λ d. refl)

@@ -27,6 +27,7 @@ invariant_of-self c =
       counted = k.counted;
       sound = s.sound;
       own = s.own;
+      ranged = s.ranged;
     }
 
 pub invariant_of-self-2 : goal.invariant_of-self-2
@@ -49,11 +50,13 @@ invariant_of-self-2 c =
             engine = is.engine;
             waiting = is.waiting;
             covers = is.covers;
+            held = is.held;
             session = (c.reserve-2.ensures.phases t ∙ is.session.0, λ key e. c.reserve-2.ensures.keys key ∙ is.session.1 key e);
           };
       counted = k.counted;
       sound = k.sound;
       own = k.own;
+      ranged = k.ranged;
     }
 
 -- a message that opens a session tells no other centre

@@ -4,7 +4,8 @@ use Rattle.rbc_centre.specs.State.{stands_for}
 use Rattle.rbc_centre.specs.States.{state_of}
 use Rattle.rbc_centre.specs.Views.{event_of}
 use Rattle.rbc_centre.specs.declared.event.Event.{Event}
-use Rattle.rbc_centre.proofs.Steps.{ok_allowed, err_refused, next_stamp, later_of}
+use Rattle.rbc_centre.proofs.Rows.{later_of}
+use Rattle.rbc_centre.proofs.Steps.{ok_allowed, err_refused, next_stamp}
 use Rattle.rbc_centre.proofs.centre.Centre.may_step.Goals.{After-may_take, After-may_take-in-Train}
 use Rattle.rbc_centre.proofs.centre.Centre.may_step.Goals as goal
 

@@ -1,11 +1,13 @@
 use Rattle.std.proofs.Common.{◌≡◌, ◌∙◌, ap, sym, arith, subst, true}
-use Rattle.rbc_spec.specs.Reach.{Rights as ToRights}
+use Rattle.rbc_spec.specs.Reach.{Routes as ToRoutes}
 use Rattle.rbc_spec.specs.Line.{is_centre}
 use Rattle.rbc_spec.specs.Centre.{beginning}
 use Rattle.rbc_flow.specs.Sound.{IsCentreSound}
 use Rattle.rbc_flow.proofs.Begins.{centre_begins}
 use Rattle.rbc_own.specs.Own.{IsOwnAt}
 use Rattle.rbc_own.proofs.Stays.{begins_own}
+use Rattle.rbc_ranges.specs.Ranges.{HasStateRanges}
+use Rattle.rbc_ranges.proofs.Steps.{begins_in_range}
 use Rattle.rbc_book.specs.Book.{Pages, is_own}
 use Rattle.rbc_session.specs.Sessions.{phase_at}
 use Rattle.rbc_centre.specs.State.{stands_for}
@@ -36,8 +38,9 @@ invariant_of-result c =
       each_link = c.in_ok-links.ensures.linked;
       each_frame = ∣ none_in_range c.in_ok-links.links c.in_ok-links.ensures.sent ∣₁;
       train_count = c.in_ok-trains.ensures.count;
-      each_train = each_begins c.in_ok-line.line c.in_ok-trains.trains.items c.in_ok-trains.ensures.each _ (λ u. ap (λ r. phase_at r u) c.in_ok-trains.ensures.sessions ∙ c.new-sessions.ensures.phases u);
+      each_train = each_begins c.in_ok-line.line c.in_ok-trains.trains.items c.in_ok-trains.ensures.each c.args.number _ (λ u. ap (λ r. phase_at r u) c.in_ok-trains.ensures.sessions ∙ c.new-sessions.ensures.phases u);
       counted = none_said c.in_ok-line.line c.in_ok-trains.trains.items c.in_ok-trains.ensures.each;
       sound = subst (IsCentreSound c.in_ok-line.line c.args.number) (sym is) (centre_begins c.in_ok-line.line c.args.number);
-      own = subst (IsOwnAt ToRights c.in_ok-line.line c.args.number) (sym is) (begins_own ToRights c.in_ok-line.line c.args.number);
+      own = subst (IsOwnAt ToRoutes c.in_ok-line.line c.args.number) (sym is) (begins_own ToRoutes c.in_ok-line.line c.args.number);
+      ranged = ∣ subst (HasStateRanges c.in_ok-line.line c.args.number) (sym is) (begins_in_range c.in_ok-line.line c.args.number) ∣₁;
     }

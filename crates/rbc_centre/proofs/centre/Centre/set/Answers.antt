@@ -4,9 +4,10 @@ use Rattle.rbc_spec.specs.Centre.{is_unused}
 use Rattle.rbc_spec.specs.Step.{Set}
 use Rattle.rbc_book.specs.Book.{is_own, entry_at}
 use Rattle.rbc_centre.specs.States.{state_of}
-use Rattle.rbc_centre.proofs.Kept.{sound_left, own_left}
+use Rattle.rbc_centre.proofs.Kept.{sound_left, own_left, ranged_left}
 use Rattle.rbc_centre.proofs.States.{counted_later}
 use Rattle.rbc_centre.proofs.Steps.{outcome_with, set_stands}
+use Rattle.rbc_centre.proofs.Turns.{set_allowed}
 use Rattle.rbc_centre.proofs.Wishes.{set_turns}
 use Rattle.rbc_centre.proofs.centre.Centre.set.Goals as goal
 
@@ -22,7 +23,7 @@ invariant_of-self c =
     record {
       line_rules = k.line_rules;
       of_line = k.of_line;
-      in_time = omega (arith, c.requires);
+      in_time = omega (arith, c.requires.time);
       own_sections = λ n. c.set.ensures.homes n ∙ k.own_sections n;
       each_right = k.each_right;
       link_count = k.link_count;
@@ -33,6 +34,7 @@ invariant_of-self c =
       counted = counted_later k.trains.items k.clock (k.clock + 1) (omega arith) k.counted;
       sound = sound_left k.line k.number (state_of k) _ (Set s) _ k.line_rules tt is k.sound;
       own = own_left k.line k.number (state_of k) _ (Set s) _ k.line_rules tt is k.sound k.own;
+      ranged = ranged_left k.line k.number (state_of k) _ (Set s) _ k.line_rules tt is (set_allowed k c.requires.time c.requires.numbers s) tt k.ranged;
     }
 
 pub returns-in-Ok-clause-exact : goal.returns-in-Ok-clause-exact

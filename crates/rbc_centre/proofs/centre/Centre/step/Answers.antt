@@ -1,6 +1,6 @@
 use Rattle.std.proofs.Common.{◌≡◌, ◌∙◌, ◌+◌, ap, sym, refl, arith, Ok, inl, inr}
 use Rattle.std.proofs.lemmas.Result.{err_from_is_err_and}
-use Rattle.rbc_spec.specs.Reach.{Rights as ToRights}
+use Rattle.rbc_spec.specs.Reach.{Routes as ToRoutes}
 use Rattle.rbc_spec.specs.Step.{taken, stamp_of}
 use Rattle.rbc_centre.specs.State.{stands_for}
 use Rattle.rbc_centre.specs.States.{state_of}
@@ -31,21 +31,31 @@ take-requires-clause-numbers c =
     let k = c.args.self.now in
     (allowed k.line k.number (state_of k) (event_of c.args.event.now) c.in_ok-may_step.ensures.ok).1
 
-pub set-requires : goal.set-requires
+pub set-requires-clause-time : goal.set-requires-clause-time
 unfolding stands_for
-set-requires c =
+set-requires-clause-time c =
     let k = c.args.self.now in
     let stamp : stamp_of (state_of k) (event_of c.args.event.now) ≡ k.clock + 1 = next_stamp (state_of k) c.args.event.now (inr (inl (_, c.in-Set.is))) in
     let low = (allowed k.line k.number (state_of k) (event_of c.args.event.now) c.in_ok-may_step.ensures.ok).0 in
     omega (arith, stamp, low)
 
-pub unset-requires : goal.unset-requires
+pub set-requires-clause-numbers : goal.set-requires-clause-numbers
+set-requires-clause-numbers c =
+    let k = c.args.self.now in
+    (allowed k.line k.number (state_of k) (event_of c.args.event.now) c.in_ok-may_step.ensures.ok).1
+
+pub unset-requires-clause-time : goal.unset-requires-clause-time
 unfolding stands_for
-unset-requires c =
+unset-requires-clause-time c =
     let k = c.args.self.now in
     let stamp : stamp_of (state_of k) (event_of c.args.event.now) ≡ k.clock + 1 = next_stamp (state_of k) c.args.event.now (inr (inr (_, c.in-Unset.is))) in
     let low = (allowed k.line k.number (state_of k) (event_of c.args.event.now) c.in_ok-may_step.ensures.ok).0 in
     omega (arith, stamp, low)
+
+pub unset-requires-clause-numbers : goal.unset-requires-clause-numbers
+unset-requires-clause-numbers c =
+    let k = c.args.self.now in
+    (allowed k.line k.number (state_of k) (event_of c.args.event.now) c.in_ok-may_step.ensures.ok).1
 
 pub deliver-requires-clause-time : goal.deliver-requires-clause-time
 deliver-requires-clause-time c =
@@ -78,22 +88,28 @@ pub returns-in_ok-take-in-Train-clause-exact : goal.returns-in_ok-take-in-Train-
 returns-in_ok-take-in-Train-clause-exact c =
     let k = c.args.self.now in
     taken_step k.line k.number (state_of k) (event_of c.args.event.now) c.in_ok-may_step.ensures.ok
-    ∙ ap (λ x. Ok x) (ap (λ (e : Event). taken ToRights k.line k.number (event_of e) (state_of k)) c.in-Train.is ∙ sym c.in_ok-take-in-Train.ensures.exact)
+    ∙ ap (λ x. Ok x) (ap (λ (e : Event). taken ToRoutes k.line k.number (event_of e) (state_of k)) c.in-Train.is ∙ sym c.in_ok-take-in-Train.ensures.exact)
 
 pub returns-in-Set-clause-exact : goal.returns-in-Set-clause-exact
 returns-in-Set-clause-exact c =
     let k = c.args.self.now in
     taken_step k.line k.number (state_of k) (event_of c.args.event.now) c.in_ok-may_step.ensures.ok
-    ∙ ap (λ x. Ok x) (ap (λ (e : Event). taken ToRights k.line k.number (event_of e) (state_of k)) c.in-Set.is ∙ sym c.set.ensures.exact)
+    ∙ ap (λ x. Ok x) (ap (λ (e : Event). taken ToRoutes k.line k.number (event_of e) (state_of k)) c.in-Set.is ∙ sym c.set.ensures.exact)
 
-pub returns-in-Unset-clause-exact : goal.returns-in-Unset-clause-exact
-returns-in-Unset-clause-exact c =
+pub returns-in_err-unset-in-Unset-clause-exact : goal.returns-in_err-unset-in-Unset-clause-exact
+returns-in_err-unset-in-Unset-clause-exact c =
+    let k = c.args.self.now in
+    let p = err_from_is_err_and c.from_residual-in_err-unset-in-Unset.result c.from_residual-in_err-unset-in-Unset.ensures.1 in
+    rw (p.1, p.2, taken_step k.line k.number (state_of k) (event_of c.args.event.now) c.in_ok-may_step.ensures.ok) refl
+
+pub returns-in_ok-unset-in-Unset-clause-exact : goal.returns-in_ok-unset-in-Unset-clause-exact
+returns-in_ok-unset-in-Unset-clause-exact c =
     let k = c.args.self.now in
     taken_step k.line k.number (state_of k) (event_of c.args.event.now) c.in_ok-may_step.ensures.ok
-    ∙ ap (λ x. Ok x) (ap (λ (e : Event). taken ToRights k.line k.number (event_of e) (state_of k)) c.in-Unset.is ∙ sym c.unset.ensures.exact)
+    ∙ ap (λ x. Ok x) (ap (λ (e : Event). taken ToRoutes k.line k.number (event_of e) (state_of k)) c.in-Unset.is ∙ sym c.in_ok-unset-in-Unset.ensures.exact)
 
 pub returns-in_ok-deliver-in-Deliver-clause-exact : goal.returns-in_ok-deliver-in-Deliver-clause-exact
 returns-in_ok-deliver-in-Deliver-clause-exact c =
     let k = c.args.self.now in
     taken_step k.line k.number (state_of k) (event_of c.args.event.now) c.in_ok-may_step.ensures.ok
-    ∙ ap (λ x. Ok x) (ap (λ (e : Event). taken ToRights k.line k.number (event_of e) (state_of k)) c.in-Deliver.is ∙ sym c.in_ok-deliver-in-Deliver.ensures.exact)
+    ∙ ap (λ x. Ok x) (ap (λ (e : Event). taken ToRoutes k.line k.number (event_of e) (state_of k)) c.in-Deliver.is ∙ sym c.in_ok-deliver-in-Deliver.ensures.exact)

@@ -1,161 +1,57 @@
-use Rattle.std.proofs.Common.{◌≡◌, ◌∙◌, ◌+◌, ◌≤◌, sym, arith, true, false, refl, subst, ℕ, List, None, set, [], ◌∷◌}
-use Rattle.std.proofs.Math.ListN.{length-set}
-use Rattle.std.proofs.lemmas.Option.{slice_get_read}
-use Rattle.rbc_spec.specs.Centre as centre
-use Rattle.rbc_spec.specs.Acts.{propose_if_so}
-use Rattle.rbc_spec.specs.Outcome.{Word, Done, Asked, NotHome}
-use Rattle.rbc_spec.specs.Step.{Unset}
-use Rattle.rbc_book.specs.Book.{entry_at}
-use Rattle.rbc_rules.specs.Trains.{asked, HasTrain}
-use Rattle.rbc_rules.specs.Sayings.{sayings_of}
-use Rattle.rbc_centre.specs.States.{state_of}
-use Rattle.rbc_centre.specs.Views.{outcome_of}
-use Rattle.rbc_centre.proofs.Kept.{sound_left, own_left}
-use Rattle.rbc_centre.proofs.States.{counted_later, counted_after, each_of_train_still, asked_train}
-use Rattle.rbc_centre.proofs.Steps.{outcome_with, unset_stands}
-use Rattle.rbc_centre.proofs.Wishes.{unset_turns, asked_turns, user_of, user_at, no_user, done_unused}
-use Rattle.rbc_centre.proofs.centre.Centre.unset.Goals.{in-Some, in-None}
+use Rattle.std.proofs.Common.{◌∙◌, ap, sym}
+use Rattle.rbc_spec.specs.Reach.{Routes as ToRoutes}
+use Rattle.rbc_spec.specs.Step.{Unset, taken, has_full_link}
+use Rattle.rbc_book.specs.Entries.{entry_of}
+use Rattle.rbc_centre.specs.State.{stands_for}
+use Rattle.rbc_centre.proofs.Steps.{stands_kept}
+use Rattle.rbc_centre.proofs.Turns.{stays_with, on_err}
+use Rattle.rbc_centre.proofs.Wishes.{shown_out}
 use Rattle.rbc_centre.proofs.centre.Centre.unset.Goals as goal
+
+pub unset_here-requires-clause-here : goal.unset_here-requires-clause-here
+unset_here-requires-clause-here c = λ t d out. shown_out c.page.result.entry c.in_default.not-Out t d (c.page.ensures.entry ∙ out)
 
 pub invariant_of-self : goal.invariant_of-self
 invariant_of-self c =
     let k = c.args.self.now in
-    let s = c.args.s in
-    let words : List Word = Done s ∷ [] in
-    let is = unset_stands k.line k.number k.clock k.book c.unset.new.self k.registrar k.links k.trains.items k.trains.items [] words
-    (outcome_with (k.clock + 1) (λ d. []) [] words None None) s refl
-    (unset_turns k.line k.number (k.clock + 1) k.book c.unset.new.self k.registrar k.links k.trains.items s (k.own_sections s) c.unset.ensures.entry c.unset.ensures.wish true c.in-Ok-Done.ensures.own
-    (λ _. done_unused (entry_at k.book s) (sym c.in-Ok-Done.field-0-is ∙ c.in-Ok-Done.ensures.answer))) in
+    let s = stays_with k c.reserve.new.self c.reserve.ensures.keeps in
     record {
       line_rules = k.line_rules;
       of_line = k.of_line;
-      in_time = omega (arith, c.requires);
-      own_sections = λ n. c.unset.ensures.homes n ∙ k.own_sections n;
+      in_time = k.in_time;
+      own_sections = k.own_sections;
       each_right = k.each_right;
-      link_count = k.link_count;
-      each_link = k.each_link;
-      each_frame = k.each_frame;
+      link_count = s.link_count;
+      each_link = s.each_link;
+      each_frame = ∣ s.each_frame ∣₁;
       train_count = k.train_count;
       each_train = k.each_train;
-      counted = counted_later k.trains.items k.clock (k.clock + 1) (omega arith) k.counted;
-      sound = sound_left k.line k.number (state_of k) _ (Unset s) _ k.line_rules tt is k.sound;
-      own = own_left k.line k.number (state_of k) _ (Unset s) _ k.line_rules tt is k.sound k.own;
+      counted = k.counted;
+      sound = s.sound;
+      own = s.own;
+      ranged = s.ranged;
     }
 
-pub invariant_of-self-in-Err : goal.invariant_of-self-in-Err
-invariant_of-self-in-Err c =
+pub returns-in_err-reserve-clause-err : goal.returns-in_err-reserve-clause-err
+returns-in_err-reserve-clause-err c =
     let k = c.args.self.now in
-    let s = c.args.s in
-    let words : List Word = NotHome s ∷ [] in
-    let is = unset_stands k.line k.number k.clock k.book c.unset.new.self k.registrar k.links k.trains.items k.trains.items [] words
-    (outcome_with (k.clock + 1) (λ d. []) [] words None None) s refl
-    (unset_turns k.line k.number (k.clock + 1) k.book c.unset.new.self k.registrar k.links k.trains.items s (k.own_sections s) c.unset.ensures.entry c.unset.ensures.wish false c.in-Err.ensures.own (λ e. cc)) in
-    record {
-      line_rules = k.line_rules;
-      of_line = k.of_line;
-      in_time = omega (arith, c.requires);
-      own_sections = λ n. c.unset.ensures.homes n ∙ k.own_sections n;
-      each_right = k.each_right;
-      link_count = k.link_count;
-      each_link = k.each_link;
-      each_frame = k.each_frame;
-      train_count = k.train_count;
-      each_train = k.each_train;
-      counted = counted_later k.trains.items k.clock (k.clock + 1) (omega arith) k.counted;
-      sound = sound_left k.line k.number (state_of k) _ (Unset s) _ k.line_rules tt is k.sound;
-      own = own_left k.line k.number (state_of k) _ (Unset s) _ k.line_rules tt is k.sound k.own;
-    }
+    on_err c.from_residual.result (stands_kept k.line k.number k.clock k.book k.registrar k.links c.reserve.new.self k.trains.items c.reserve.ensures.keeps)
 
-pub returns-in-Ok-Done-clause-exact : goal.returns-in-Ok-Done-clause-exact
-returns-in-Ok-Done-clause-exact c =
+pub returns-in_err-reserve-clause-memory : goal.returns-in_err-reserve-clause-memory
+unfolding stands_for
+returns-in_err-reserve-clause-memory c = on_err c.from_residual.result (c.in-Out.nid_engine, c.in-Out.centre, sym c.page.ensures.entry ∙ ap entry_of c.in-Out.is)
+
+pub withdraw-requires-clause-out : goal.withdraw-requires-clause-out
+withdraw-requires-clause-out c = sym c.page.ensures.entry ∙ ap entry_of c.in-Out.is
+
+pub withdraw-requires-clause-numbers : goal.withdraw-requires-clause-numbers
+withdraw-requires-clause-numbers c =
     let k = c.args.self.now in
-    let s = c.args.s in
-    unset_stands k.line k.number k.clock k.book c.unset.new.self k.registrar k.links k.trains.items k.trains.items _ _ _ s c.told.ensures
-    (unset_turns k.line k.number (k.clock + 1) k.book c.unset.new.self k.registrar k.links k.trains.items s (k.own_sections s) c.unset.ensures.entry c.unset.ensures.wish true c.in-Ok-Done.ensures.own
-    (λ _. done_unused (entry_at k.book s) (sym c.in-Ok-Done.field-0-is ∙ c.in-Ok-Done.ensures.answer)))
+    (λ i. has_full_link k.line k.number (stands_kept k.line k.number k.clock k.book k.registrar k.links c.reserve.new.self k.trains.items c.reserve.ensures.keeps i)) ∙ c.requires.numbers
 
-pub returns-in-Err-clause-exact : goal.returns-in-Err-clause-exact
-returns-in-Err-clause-exact c =
+pub returns-clause-exact : goal.returns-clause-exact
+returns-clause-exact c =
     let k = c.args.self.now in
-    let s = c.args.s in
-    unset_stands k.line k.number k.clock k.book c.unset.new.self k.registrar k.links k.trains.items k.trains.items _ _ _ s c.told-in-Err.ensures
-    (unset_turns k.line k.number (k.clock + 1) k.book c.unset.new.self k.registrar k.links k.trains.items s (k.own_sections s) c.unset.ensures.entry c.unset.ensures.wish false c.in-Err.ensures.own (λ e. cc))
-
--- ## A section in use
-
-pub ask_back-request-requires : goal.ask_back-request-requires
-ask_back-request-requires c =
-    let k = c.args.self.now in
-    let user = user_at k c.args.s c.in-Some.i c.index_mut.result.now (sym c.in-Ok-Asked.field-0-is ∙ c.in-Ok-Asked.ensures.answer) (λ t taken. sym (c.user_of-user.ensures.value t taken) ∙ c.in-Some.is)
-    (λ within. slice_get_read _ _ _ _ refl within c.index_mut.ensures.value) in
-    let few = k.counted c.in-Some.i c.index_mut.result.now user.at in
-    record { count = omega (arith, few, c.requires) }
-
-pub invariant_of-self-in-Some : goal.invariant_of-self-in-Some
-invariant_of-self-in-Some c =
-    let k = c.args.self.now in
-    let s = c.args.s in
-    let i = c.in-Some.i in
-    let states = k.trains.items in
-    let before = c.index_mut.result.now in
-    let after = c.ask_back-request.new.self in
-    let ask = c.ask_back-request.ensures in
-    let asked_for = sym c.in-Ok-Asked.field-0-is ∙ c.in-Ok-Asked.ensures.answer in
-    let user = user_at k s i before asked_for (λ t taken. sym (c.user_of-user.ensures.value t taken) ∙ c.in-Some.is) (λ within. slice_get_read _ _ _ _ refl within c.index_mut.ensures.value) in
-    let t = (user_of k s asked_for).0 in
-    let sayings = sayings_of c.ask_back-request.result in
-    let asks : (j : centre.Centre) → HasTrain j t before → propose_if_so k.line t s j ≡ asked t after sayings j =
-    subst (λ (n : ℕ). (j : centre.Centre) → HasTrain j n before → propose_if_so k.line n s j ≡ asked n after sayings j) user.engine ask.exact
-    in
-    let words : List Word = Asked s ∷ [] in
-    let is = unset_stands k.line k.number k.clock k.book c.unset.new.self k.registrar k.links states (set states i after) sayings words
-    (outcome_with (k.clock + 1) (λ d. []) sayings words None None) s refl
-    (asked_turns k.line k.number (k.clock + 1) k.book c.unset.new.self k.registrar k.links states s (k.own_sections s) c.unset.ensures.entry c.unset.ensures.wish
-    t i before after sayings c.in-Ok-Asked.ensures.own user.taken user.number user.at user.within ask.session_state ask.heard ask.waiting asks) in
-    let few : before.said ≤ k.clock = k.counted i before user.at in
-    let said : after.said ≤ before.said + 1 = ask.said in
-    let was = k.each_train t i before user.number user.at in
-    record {
-      line_rules = k.line_rules;
-      of_line = k.of_line;
-      in_time = omega (arith, c.requires);
-      own_sections = λ n. c.unset.ensures.homes n ∙ k.own_sections n;
-      each_right = k.each_right;
-      link_count = k.link_count;
-      each_link = k.each_link;
-      each_frame = k.each_frame;
-      train_count = length-set states i after ∙ k.train_count;
-      each_train = each_of_train_still k.line k.sessions states t i after user.within user.number
-          (asked_train k.line k.sessions t i before after was ask.number ask.engine ask.waiting ask.session_state) k.each_train;
-      counted = counted_after states i k.clock (k.clock + 1) after user.within (omega (arith, few, said)) (omega arith) k.counted;
-      sound = sound_left k.line k.number (state_of k) _ (Unset s) _ k.line_rules tt is k.sound;
-      own = own_left k.line k.number (state_of k) _ (Unset s) _ k.line_rules tt is k.sound k.own;
-    }
-
-pub invariant_of-self-in-None : goal.invariant_of-self-in-None
-invariant_of-self-in-None c =
-    absurd (no_user c.args.self.now c.args.s (sym c.in-Ok-Asked.field-0-is ∙ c.in-Ok-Asked.ensures.answer) (λ t taken. sym (c.user_of-user.ensures.value t taken) ∙ c.in-None.is))
-
-pub returns-after-user-clause-exact : goal.returns-after-user-clause-exact
-returns-after-user-clause-exact c = elim c.match-user.branch [
-  | in-Some w ↦
-      let k = c.args.self.now in
-      let s = c.args.s in
-      let states = k.trains.items in
-      let before = w.index_mut.result.now in
-      let after = w.ask_back-request.new.self in
-      let asked_for = sym c.in-Ok-Asked.field-0-is ∙ c.in-Ok-Asked.ensures.answer in
-      let user = user_at k s w.in-Some.i before asked_for (λ t taken. sym (c.user_of-user.ensures.value t taken) ∙ w.in-Some.is) (λ within. slice_get_read _ _ _ _ refl within w.index_mut.ensures.value) in
-      let t = (user_of k s asked_for).0 in
-      let ask = w.ask_back-request.ensures in
-      let sayings = sayings_of w.ask_back-request.result in
-      let asks : (j : centre.Centre) → HasTrain j t before → propose_if_so k.line t s j ≡ asked t after sayings j =
-      subst (λ (n : ℕ). (j : centre.Centre) → HasTrain j n before → propose_if_so k.line n s j ≡ asked n after sayings j) user.engine ask.exact
-      in
-      (λ i. (outcome_of c.told-in-Ok-Asked.result, state_of (w.self-is i)))
-      ∙ unset_stands k.line k.number k.clock k.book c.unset.new.self k.registrar k.links states (set states w.in-Some.i after) sayings (Asked s ∷ []) _ s
-      (c.told-in-Ok-Asked.ensures ∙ (λ i. outcome_with ((w.self-is i).clock) (λ d. []) (sayings_of (w.request-is i)) (Asked s ∷ []) None None))
-      (asked_turns k.line k.number (k.clock + 1) k.book c.unset.new.self k.registrar k.links states s (k.own_sections s) c.unset.ensures.entry c.unset.ensures.wish
-      t w.in-Some.i before after sayings c.in-Ok-Asked.ensures.own user.taken user.number user.at user.within ask.session_state ask.heard ask.waiting asks)
-  | in-None w ↦ absurd (no_user c.args.self.now c.args.s (sym c.in-Ok-Asked.field-0-is ∙ c.in-Ok-Asked.ensures.answer) (λ t taken. sym (c.user_of-user.ensures.value t taken) ∙ w.in-None.is))
-]
+    c.withdraw.ensures.exact
+    ∙ (λ i. taken ToRoutes k.line k.number (Unset c.args.s)
+    (stands_kept k.line k.number k.clock k.book k.registrar k.links c.reserve.new.self k.trains.items c.reserve.ensures.keeps i))

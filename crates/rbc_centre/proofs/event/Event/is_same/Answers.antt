@@ -1,7 +1,7 @@
 use Rattle.std.proofs.Common.{◌≡◌, rules}
 use Rattle.std.specs.Bool.{Decides}
 use Rattle.rbc_centre.specs.declared.event.Event.TheVariants.{Deliver}
-use Rattle.rbc_centre.proofs.Frames.{same_frames}
+use Rattle.rbc_centre.proofs.SameFrames.{same_frames}
 use Rattle.rbc_centre.proofs.event.Event.is_same.Goals as goal
 
 pub returns-then-from-another : goal.returns-then-from-another

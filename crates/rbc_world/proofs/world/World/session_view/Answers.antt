@@ -1,9 +1,11 @@
 use Rattle.std.proofs.Common.{◌≡◌, ◌∙◌, refl, slice_get, Some}
 use Rattle.std.proofs.lemmas.Option.{slice_get_read}
+use Rattle.rbc_spec.specs.ReadOff.{read_off}
 use Rattle.rbc_world.proofs.Shown.{seen_at}
 use Rattle.rbc_world.proofs.world.World.session_view.Goals as goal
 
 pub returns : goal.returns
+unfolding read_off
 returns c =
     let line = c.args.self.now.line in
     let cs = c.args.self.now.centres.items in

@@ -5,7 +5,11 @@ use Rattle.rbc_world.specs.Views.{answer_of}
 use Rattle.rbc_world.specs.Answers.{Gives}
 use Rattle.rbc_world.specs.World.{state_of}
 use Rattle.rbc_world.proofs.Steps.{set_told, unset_told}
+use Rattle.rbc_world.proofs.Wanted.{unset_wants}
 use Rattle.rbc_world.proofs.world.World.take.Goals as goal
+
+pub returns-in-Unset-clause-memory : goal.returns-in-Unset-clause-memory
+returns-in-Unset-clause-memory c = rw c.in-Unset.is (unset_wants ((state_of c.args.self.now).at c.in-Unset.centre) c.in-Unset.section c.tell-in-Unset.result c.tell-in-Unset.ensures.memory)
 
 pub returns-in-Deliver-clause-exact : goal.returns-in-Deliver-clause-exact
 returns-in-Deliver-clause-exact c = rw c.in-Deliver.is c.deliver.ensures.exact

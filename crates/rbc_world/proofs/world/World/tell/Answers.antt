@@ -1,10 +1,16 @@
-use Rattle.std.proofs.Common.{◌≡◌, ◌∙◌, ◌<◌, refl, rules, length, slice_get, Some}
+use Rattle.std.proofs.Common.{◌≡◌, ◌∙◌, ◌<◌, refl, rules, length, slice_get, Some, Err, subst}
 use Rattle.std.proofs.Math.ListN.{length-set}
 use Rattle.std.proofs.lemmas.Option.{slice_get_read}
 use Rattle.std.proofs.lemmas.Result.{err_from_is_err_and}
 use Rattle.rbc_centre.specs.States as one
 use Rattle.rbc_centre.specs.Views.{event_of as one_event}
 use Rattle.rbc_world.specs.States.{stands_for}
+use Rattle.rbc_spec.specs.Centre as centre
+use Rattle.rbc_centre.specs.Answer.{IsWantedBy}
+use Rattle.rbc_centre.specs.declared.outcome.Outcome.{Outcome}
+use Rattle.rbc_world.specs.declared.event.Answer.{Answer}
+use Rattle.rbc_world.proofs.Shown.{seen_at}
+use Rattle.rbc_world.proofs.Wanted.{fault_wants}
 use Rattle.rbc_world.proofs.Centres.{each_kept}
 use Rattle.rbc_world.proofs.Steps.{told_ok, told_err, world_kept}
 use Rattle.rbc_world.proofs.Reached.{reached_by_word}
@@ -24,6 +30,15 @@ returns-in_err-outcome-clause-err c =
     let within : c.args.c < length c.args.self.now.centres.items = search rules in
     let at : slice_get c.args.self.now.centres.items c.args.c ≡ Some c.index_mut.result.now = slice_get_read _ _ _ _ refl within c.index_mut.ensures.value in
     rw (p.1) (world_kept c.args.self.now.line c.args.self.now.centres.items c.args.self.now.trains.keys c.args.c c.index_mut.result.now c.step.new.self at within c.in_err-outcome.ensures.err)
+
+pub returns-in_err-outcome-clause-memory : goal.returns-in_err-outcome-clause-memory
+returns-in_err-outcome-clause-memory c =
+    let p = err_from_is_err_and c.from_residual.result c.from_residual.ensures.1 in
+    let w = c.args.self.now in
+    let within : c.args.c < length w.centres.items = search rules in
+    let at : slice_get w.centres.items c.args.c ≡ Some c.index_mut.result.now = slice_get_read _ _ _ _ refl within c.index_mut.ensures.value in
+    rw (p.1, p.2) (fault_wants Outcome Answer ((stands_for w.line w.centres.items w.trains.keys).at c.args.c) (one_event c.args.event.now) c.in_err-outcome.field-0.0 (subst (λ (x : centre.Centre). IsWantedBy {X = Outcome} x (one_event c.args.event.now) (Err c.in_err-outcome.field-0.0))
+    (seen_at w.line w.centres.items w.trains.keys c.args.c (λ k. k) c.index_mut.result.now at) c.in_err-outcome.ensures.memory))
 
 pub invariant_of-self : goal.invariant_of-self
 invariant_of-self c =

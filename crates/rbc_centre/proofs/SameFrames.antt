@@ -1,7 +1,6 @@
 -- Two frames are one exactly where `==` says so.
-use Rattle.std.proofs.Common.{◌≡◌, true, Option, refl, sym, ap, ◌∙◌, subst, rules, eq-eqb}
+use Rattle.std.proofs.Common.{◌≡◌, true, refl, sym, ap, ◌∙◌, subst, rules, eq-eqb}
 use Rattle.std.specs.Bool.{Decides}
-use Rattle.std.specs.Option.{option_eq}
 use Rattle.std.specs.Cmp.{booleans_Decides}
 use Rattle.std.proofs.lemmas.Bool.{and_parts, and_from, eqb-true}
 use Rattle.rbc_spec.specs.Frame as spec
@@ -14,8 +13,6 @@ use Rattle.rbc_linkmsg.specs.declared.body.YieldedPlace.{YieldedPlace}
 use Rattle.rbc_linkmsg.specs.contracts.body.YieldedPlacePartialEq.TheImpl as places
 use Rattle.rbc_linkmsg.specs.contracts.body.BodyPartialEq.TheImpl as bodies
 use Rattle.rbc_linkmsg.specs.contracts.frame.FramePartialEq.TheImpl as frames
-use Rattle.rbc_centre.specs.declared.posted.Posted.{Posted}
-use Rattle.rbc_centre.specs.contracts.posted.PostedPartialEq.TheImpl as posts
 
 pub same_places : (a b : YieldedPlace) → Decides (places.eq-value.it a b) (a ≡ b)
 same_places a b = search rules
@@ -106,19 +103,3 @@ frame_itself a = and_from _ _ (eq-eqb a.number a.number refl) (and_from _ _ (eq-
 
 pub same_frames : (a b : spec.Frame) → Decides (frames.eq-value.it a b) (a ≡ b)
 same_frames a b = (one_frame a b, λ e. subst (λ (x : spec.Frame). frames.eq-value.it a x ≡ true) e (frame_itself a))
-
-one_post : (a b : Posted) → posts.eq-value.it a b ≡ true → a ≡ b
-one_post a b e =
-    let both = and_parts _ _ e in
-    let to : a.to ≡ b.to = eqb-true a.to b.to both.0 in
-    let frame : a.frame ≡ b.frame = one_frame a.frame b.frame both.1 in
-    λ i. record { to = to i; frame = frame i }
-
-post_itself : (a : Posted) → posts.eq-value.it a a ≡ true
-post_itself a = and_from _ _ (eq-eqb a.to a.to refl) (frame_itself a.frame)
-
-same_posts : (a b : Posted) → Decides (posts.eq-value.it a b) (a ≡ b)
-same_posts a b = (one_post a b, λ e. subst (λ (x : Posted). posts.eq-value.it a x ≡ true) e (post_itself a))
-
-pub same_options : (a b : Option Posted) → Decides (option_eq posts.eq-value.it a b) (a ≡ b)
-same_options a b = search (rules, same_posts)

@@ -1,0 +1,55 @@
+use Rattle.std.proofs.Common.{◌∙◌, ◌+◌, [], ◌∷◌, ap, refl, None, arith}
+use Rattle.rbc_spec.specs.Outcome.{Outcome, Asked}
+use Rattle.rbc_spec.specs.Step.{Unset}
+use Rattle.rbc_rules.specs.Letters.{mail_to}
+use Rattle.rbc_centre.specs.Sent.{frames_to}
+use Rattle.rbc_centre.specs.State.{stands_for}
+use Rattle.rbc_centre.proofs.States.{counted_later}
+use Rattle.rbc_centre.proofs.Turns.{turns, stays, unset_allowed, unset_stamp}
+use Rattle.rbc_centre.proofs.Withdrawn.{withdraws, may_withdraw}
+use Rattle.rbc_centre.proofs.centre.Centre.withdraw.Goals as goal
+
+pub post-frames-requires-clause-linked : goal.post-frames-requires-clause-linked
+post-frames-requires-clause-linked c = c.args.self.now.each_link
+
+pub post-frames-requires-clause-may : goal.post-frames-requires-clause-may
+post-frames-requires-clause-may c =
+    may_withdraw c.args.self.now c.args.s c.args.nid_engine c.args.to c.unset-asked.new.self c.of-mail.result c.requires.out c.unset-asked.ensures.entry c.unset-asked.ensures.wish c.of-mail.ensures
+    c.requires.time c.requires.numbers c.requires.frames
+
+pub invariant_of-self : goal.invariant_of-self
+invariant_of-self c =
+    let k = c.args.self.now in
+    let s = stays k (Unset c.args.s) (k.clock + 1) k.links c.post-frames.new.links c.unset-asked.new.self k.registrar k.trains.items (mail_to k.line k.number c.args.nid_engine c.of-mail.result) [] (Asked c.args.s ∷ []) None None
+    (unset_stamp k c.args.s) (λ d. refl) c.post-frames.ensures.posted
+    (withdraws k c.args.s c.args.nid_engine c.args.to c.unset-asked.new.self c.of-mail.result c.requires.out c.unset-asked.ensures.entry c.unset-asked.ensures.wish c.of-mail.ensures)
+    (frames_to c.post-frames.result) c.post-frames.ensures.frames
+    (omega arith) (omega (arith, c.requires.time)) tt (unset_allowed k c.requires.time c.requires.numbers c.args.s) tt
+    (may_withdraw k c.args.s c.args.nid_engine c.args.to c.unset-asked.new.self c.of-mail.result c.requires.out c.unset-asked.ensures.entry c.unset-asked.ensures.wish c.of-mail.ensures
+    c.requires.time c.requires.numbers c.requires.frames) c.unset-asked.ensures.homes refl refl refl (λ d. refl) in
+    record {
+      line_rules = k.line_rules;
+      of_line = k.of_line;
+      in_time = omega (arith, c.requires.time);
+      own_sections = s.own_sections;
+      each_right = s.each_right;
+      link_count = s.link_count;
+      each_link = s.each_link;
+      each_frame = ∣ s.each_frame ∣₁;
+      train_count = s.train_count;
+      each_train = k.each_train;
+      counted = counted_later k.trains.items k.clock (k.clock + 1) (omega arith) k.counted;
+      sound = s.sound;
+      own = s.own;
+      ranged = s.ranged;
+    }
+
+pub returns-clause-exact : goal.returns-clause-exact
+returns-clause-exact c =
+    let k = c.args.self.now in
+    let left = stands_for k.line k.number (k.clock + 1) c.unset-asked.new.self k.registrar c.post-frames.new.links k.trains.items in
+    ap (λ (o : Outcome). (o, left)) c.sent.ensures
+    ∙ turns k (Unset c.args.s) (k.clock + 1) k.links c.post-frames.new.links c.unset-asked.new.self k.registrar k.trains.items (mail_to k.line k.number c.args.nid_engine c.of-mail.result) [] (Asked c.args.s ∷ []) None None
+    (unset_stamp k c.args.s) (λ d. refl) c.post-frames.ensures.posted
+    (withdraws k c.args.s c.args.nid_engine c.args.to c.unset-asked.new.self c.of-mail.result c.requires.out c.unset-asked.ensures.entry c.unset-asked.ensures.wish c.of-mail.ensures)
+    (frames_to c.post-frames.result) c.post-frames.ensures.frames
