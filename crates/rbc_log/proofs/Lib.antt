@@ -1,2 +1,6 @@
 pub mod Growing
 pub mod Refusals
+pub mod SameLines
+pub mod Sent
+pub mod Sides
+pub mod Merged

@@ -1,4 +1,5 @@
-pub mod Replay
+pub mod Built
 pub mod Entries
 pub mod Log
 pub mod Faults
+pub mod Merge

@@ -1,4 +1,7 @@
+ghost use Rattle.std.specs.Prelude.{◌≡◌, IfOk};
+
 use rbc_centre::{Event, Outcome};
+use std::alloc::{AllocError, Global};
 
 /// An event that a centre took, and what it answered.
 #[derive(Debug, Drop)]
@@ -7,4 +10,19 @@ pub struct Entry {
     pub centre: u8,
     pub event: Event,
     pub outcome: Outcome,
+}
+
+impl Entry {
+    ghost use Rattle.rbc_log.specs.Entries.{written_of};
+
+    /// Another entry that says the same.
+    pub fn copied(&self, alloc: Global) -> Result<Entry, AllocError>
+        ensures { IfOk result (λ e. written_of e ≡ written_of self.now) }
+    {
+        Ok(Entry {
+            centre: self.centre,
+            event: self.event.copied(alloc)?,
+            outcome: self.outcome.copied(),
+        })
+    }
 }

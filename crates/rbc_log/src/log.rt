@@ -1,12 +1,15 @@
-ghost use Rattle.std.specs.Prelude.{◌≡◌, true, [], IfOk, IfErr, OnErr};
+ghost use Rattle.std.specs.Prelude.{◌≡◌, ◌↔◌, true, [], map, IsTrue, IfOk, IfErr, OnErr};
 ghost use Rattle.rbc_spec.specs.Line.{is_centre};
 ghost use Rattle.rbc_centre.specs.States.{line_of, number_of};
-ghost use Rattle.rbc_centre.specs.Views.{event_of, outcome_of};
+ghost use Rattle.rbc_centre.specs.Views.{event_of, outcome_of, frame_number};
+ghost use Rattle.rbc_family.specs.Logs.{sent_to};
+ghost use Rattle.rbc_log.specs.Entries.{entry_of};
 ghost use Rattle.rbc_log.specs.Log.{IsReplaying, Appends, IsUnchanged, IsRefusal};
 
 use crate::entry::Entry;
 use crate::fault::CommitFault;
-use rbc_centre::{Centre, Event, Outcome};
+use crate::lines::is_same_line;
+use rbc_centre::{Centre, Event, Frame, Outcome};
 use rbc_line::Line;
 use std::alloc::{AllocError, Global};
 use std::marker::Model;
@@ -17,22 +20,25 @@ pub const MOST_ENTRIES: usize = 1_000_000;
 /// A centre, and the log of all that it took.
 #[derive(Drop)]
 pub struct CentreLog {
+    line: Line,
     core: Centre,
     entries: Vec<Entry>,
 }
 
 impl Model for CentreLog {
+    ghost use Rattle.std.specs.Prelude.{◌≡◌};
+    ghost use Rattle.rbc_centre.specs.States.{line_of};
     ghost use Rattle.rbc_log.specs.Log.{LogValue, IsReplaying};
 
     ghost Value = { LogValue };
 
     ghost view = { λ l. record { core = l.core; entries = l.entries.items } };
 
-    ghost invariant = { λ l. IsReplaying (record { core = l.core; entries = l.entries.items }) };
+    ghost invariant = { λ l. IsReplaying (record { core = l.core; entries = l.entries.items }) × (l.line ≡ line_of l.core) };
 }
 
 impl CentreLog {
-    /// A centre of the line at its beginning, which has taken nothing.
+    /// A centre of the line at its beginning, which has taken nothing. A copy of the line is kept.
     pub fn new(alloc: Global, line: &Line, centre: u8) -> Result<CentreLog, AllocError>
         requires { is_centre line.now centre ≡ true }
         ensures line { IfOk result (λ l. line_of l.core ≡ line.now) }
@@ -41,9 +47,32 @@ impl CentreLog {
         ensures replays { IfOk result IsReplaying }
     {
         Ok(CentreLog {
+            line: line.copied(alloc)?,
             core: Centre::new(alloc, line, centre)?,
             entries: Vec::new(alloc),
         })
+    }
+
+    /// The line that the centre is of.
+    pub fn line(&self) -> &Line
+        ensures value { result.now ≡ line_of self.now.core }
+        ensures replays { IsReplaying self.now }
+    {
+        &self.line
+    }
+
+    /// Whether the centre is of this line: all that a line file says is the same.
+    pub fn is_of_line(&self, line: &Line) -> bool
+        ensures { IsTrue result ↔ (line_of self.now.core ≡ line.now) }
+    {
+        is_same_line(&self.line, line)
+    }
+
+    /// The number of the centre.
+    pub fn number(&self) -> u8
+        ensures { result ≡ number_of self.now.core }
+    {
+        self.core.number()
     }
 
     /// The centre.
@@ -60,6 +89,14 @@ impl CentreLog {
         ensures replays { IsReplaying self.now }
     {
         self.entries.as_slice()
+    }
+
+    /// The frame of this number that the centre has sent to another. None exactly for 0 and for a number that was not sent yet.
+    pub fn frame(&self, to: u8, number: u32) -> Option<Frame>
+        ensures value { result ≡ frame_number (sent_to to (map entry_of self.now.entries)) number }
+        ensures replays { IsReplaying self.now }
+    {
+        self.core.frame(to, number)
     }
 
     /// The centre takes the event, and the log has it with what was answered. Room for the entry is made first.

@@ -1,10 +1,10 @@
-use Rattle.std.proofs.Common.{◌≡◌, ◌∙◌, ◌++◌, ◌∷◌, ◌<◌, [], List, length, None, ap, map, subst, arith}
+use Rattle.std.proofs.Common.{◌≡◌, ◌∙◌, ◌++◌, ◌∷◌, ◌<◌, [], List, length, None, ap, map, subst, sym, arith}
 use Rattle.std.proofs.lemmas.Result.{err_from_is_err_and}
 use Rattle.rbc_spec.specs.Step.{refusal}
 use Rattle.rbc_centre.specs.Answer.{IsRefusalOf}
 use Rattle.rbc_centre.specs.States.{line_of, number_of, state_of}
 use Rattle.rbc_centre.specs.Views.{event_of, outcome_of}
-use Rattle.rbc_log.specs.Replay.{LogEntry}
+use Rattle.rbc_family.specs.Logs.{LogEntry}
 use Rattle.rbc_log.specs.Log.{LogValue}
 use Rattle.rbc_log.specs.Entries.{entry_of}
 use Rattle.rbc_log.proofs.Growing.{grown, map_push}
@@ -18,9 +18,11 @@ invariant_of-self-2 c =
     let grows : map entry_of c.push_reserved.new.self.items ≡ front ++ record { centre = number_of old; event = event_of c.args.event; outcome = outcome_of c.in_ok-outcome.outcome } ∷ [] =
     ap (map entry_of) c.push_reserved.ensures.items ∙ map_push entry_of c.reserve.new.self.items _
     ∙ (λ i. map entry_of (c.in_ok-reserve.ensures.items i) ++ record { centre = (c.number.ensures ∙ c.in_ok-outcome.ensures.number) i; event = event_of c.args.event; outcome = c.copied.ensures i } ∷ [])
-    in
-    grown (line_of old) (line_of c.step.new.self) (number_of old) (number_of c.step.new.self) (state_of old) (state_of c.step.new.self) front (map entry_of c.push_reserved.new.self.items)
-    (event_of c.args.event) (outcome_of c.in_ok-outcome.outcome) c.self.invariant c.in_ok-outcome.ensures.exact grows c.in_ok-outcome.ensures.line c.in_ok-outcome.ensures.number
+    in (
+      grown (line_of old) (line_of c.step.new.self) (number_of old) (number_of c.step.new.self) (state_of old) (state_of c.step.new.self) front (map entry_of c.push_reserved.new.self.items)
+          (event_of c.args.event) (outcome_of c.in_ok-outcome.outcome) c.self.invariant.0 c.in_ok-outcome.ensures.exact grows c.in_ok-outcome.ensures.line c.in_ok-outcome.ensures.number,
+      c.self.invariant.1 ∙ sym c.in_ok-outcome.ensures.line,
+    )
 
 pub returns-clause-replays : goal.returns-clause-replays
 returns-clause-replays c =
@@ -31,7 +33,7 @@ returns-clause-replays c =
     ∙ (λ i. map entry_of (c.in_ok-reserve.ensures.items i) ++ record { centre = (c.number.ensures ∙ c.in_ok-outcome.ensures.number) i; event = event_of c.args.event; outcome = c.copied.ensures i } ∷ [])
     in
     grown (line_of old) (line_of c.step.new.self) (number_of old) (number_of c.step.new.self) (state_of old) (state_of c.step.new.self) front (map entry_of c.push_reserved.new.self.items)
-    (event_of c.args.event) (outcome_of c.in_ok-outcome.outcome) c.self.invariant c.in_ok-outcome.ensures.exact grows c.in_ok-outcome.ensures.line c.in_ok-outcome.ensures.number
+    (event_of c.args.event) (outcome_of c.in_ok-outcome.outcome) c.self.invariant.0 c.in_ok-outcome.ensures.exact grows c.in_ok-outcome.ensures.line c.in_ok-outcome.ensures.number
 
 pub returns-in_err-may_step-clause-refused : goal.returns-in_err-may_step-clause-refused
 returns-in_err-may_step-clause-refused c =

@@ -1,0 +1,75 @@
+-- Two lines are the same where they say the same of everything at each number.
+use Rattle.std.proofs.Common.{◌≡◌, ℕ, zero, suc, ◌+◌, ◌<◌, ◌==◌, List, [], ◌∷◌, length, take, Option, Some, None, slice_get, option_map, refl, sym, ap, ◌∙◌, arith, below_more}
+use Rattle.std.specs.List.{filter, sum_by}
+use Rattle.std.specs.Option.{option_map_or}
+use Rattle.std.proofs.lemmas.Option.{same_Some}
+use Rattle.rbc_spec.specs.Line.{Line, Centre, Section, Train, section, start}
+use Rattle.rbc_line.specs.declared.parts.Section.{Section as SectionRow}
+use Rattle.rbc_line.specs.declared.parts.Train.{Train as TrainRow}
+use Rattle.rbc_line.specs.Views.{section_of, train_of, placed_section, listed_train}
+
+-- ## Lists
+
+pub same_list : {X : Type 0} (xs ys : List X) → length ys ≡ length xs → ((k : ℕ) → k < length xs → slice_get xs k ≡ slice_get ys k) → xs ≡ ys
+same_list [] [] long each = refl
+same_list [] (y ∷ ys) long each = absurd (let wrong : ⊥ = omega (arith, long) in wrong)
+same_list (x ∷ xs) [] long each = absurd (let wrong : ⊥ = omega (arith, long) in wrong)
+same_list (x ∷ xs) (y ∷ ys) long each =
+    let first : x ≡ y = same_Some x y (each 0 (omega arith)) in
+    let rest : xs ≡ ys = same_list xs ys (omega (arith, long)) (λ k within. each (suc k) (omega (arith, within))) in
+    ap (λ z. z ∷ xs) first ∙ ap (λ zs. y ∷ zs) rest
+
+-- one item more that is the same
+pub same_more : {X : Type 0} (xs ys : List X) (n : ℕ) → ((k : ℕ) → k < n → slice_get xs k ≡ slice_get ys k) → slice_get xs n ≡ slice_get ys n
+    → (k : ℕ) → k < n + 1 → slice_get xs k ≡ slice_get ys k
+same_more xs ys n below here = below_more (λ k. slice_get xs k ≡ slice_get ys k) n below here
+
+-- ## Parts
+
+pub same_centre : (p q : Option Centre) → option_map (λ (c : Centre). c.nid_rbc) p ≡ option_map (λ (c : Centre). c.nid_rbc) q
+    → option_map (λ (c : Centre). c.name) p ≡ option_map (λ (c : Centre). c.name) q → p ≡ q
+same_centre None None e f = refl
+same_centre None (Some q) e f = absurd cc
+same_centre (Some p) None e f = absurd cc
+same_centre (Some p) (Some q) e f =
+    let number : p.nid_rbc ≡ q.nid_rbc = same_Some p.nid_rbc q.nid_rbc e in
+    let name : p.name ≡ q.name = same_Some p.name q.name f in
+    λ i. Some (record { name = name i; nid_rbc = number i })
+
+abbrev placed_at : ℕ → Section → SectionRow
+placed_at n p = record { track = p.track; start = n; metres = p.metres; home = p.home; balise = p.balise }
+
+bare : (n : ℕ) (o : Option Section) → option_map section_of (option_map (placed_at n) o) ≡ o
+bare n None = refl
+bare n (Some p) = refl
+
+same_start : (a b : Line) (s : ℕ) → a.sections ≡ b.sections → start a s ≡ start b s
+unfolding start
+same_start a b s e =
+    ap (λ (ps : List Section). option_map_or (λ (p : Section). sum_by (λ (q : Section). q.metres) (filter (λ (q : Section). q.track == p.track) (take s ps))) (slice_get ps s) 0) e
+
+-- what a getter says of a section tells the section, and the sections of the line tell what it says
+pub same_section : (a b : Line) (s : ℕ) → placed_section a s ≡ placed_section b s → slice_get a.sections s ≡ slice_get b.sections s
+same_section a b s e = sym (bare (start a s) (section a s)) ∙ ap (option_map section_of) e ∙ bare (start b s) (section b s)
+
+pub same_placed : (a b : Line) (s : ℕ) → a.sections ≡ b.sections → placed_section a s ≡ placed_section b s
+same_placed a b s e = λ i. option_map (placed_at (same_start a b s e i)) (slice_get (e i) s)
+
+abbrev listed_at : Train → TrainRow
+listed_at p = record { nid_engine = p.nid_engine; registrar = p.registrar }
+
+bare_train : (o : Option Train) → option_map train_of (option_map listed_at o) ≡ o
+bare_train None = refl
+bare_train (Some p) = refl
+
+pub same_train : (a b : Line) (i : ℕ) → listed_train a i ≡ listed_train b i → slice_get a.trains i ≡ slice_get b.trains i
+same_train a b i e = sym (bare_train (slice_get a.trains i)) ∙ ap (option_map train_of) e ∙ bare_train (slice_get b.trains i)
+
+pub same_listed : (a b : Line) (i : ℕ) → a.trains ≡ b.trains → listed_train a i ≡ listed_train b i
+same_listed a b i e = ap (λ (ps : List Train). option_map listed_at (slice_get ps i)) e
+
+-- ## The whole line
+
+pub same_line : (a b : Line) → a.nid_c ≡ b.nid_c → a.centres ≡ b.centres → a.tracks ≡ b.tracks → a.sections ≡ b.sections → a.trains ≡ b.trains → a ≡ b
+same_line a b nid_c centres tracks sections trains =
+    λ i. record { nid_c = nid_c i; centres = centres i; tracks = tracks i; sections = sections i; trains = trains i }

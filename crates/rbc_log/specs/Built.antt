@@ -1,0 +1,5 @@
+-- How far the rules are built into a centre whose log is kept. Nothing else about logs names a reach.
+use Rattle.rbc_spec.specs.Reach.{Reach, Routes}
+
+abbrev pub built : Reach
+built = Routes

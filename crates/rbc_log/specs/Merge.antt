@@ -1,0 +1,74 @@
+-- What it is to merge logs.
+use Rattle.std.specs.Prelude.{◌≡◌, ℕ, ◌==◌, List, [], map, Option, All}
+use Rattle.std.specs.List.{find, flat_map}
+use Rattle.std.specs.List.Sorted.{IsPermutation}
+use Rattle.std.specs.Option.{option_map_or}
+use Rattle.rbc_spec.specs.Line.{Line, IsLine, AreDistinct}
+use Rattle.rbc_spec.specs.Centre.{Centre, beginning}
+use Rattle.rbc_spec.specs.ReadOff.{IsLineRun}
+use Rattle.rbc_spec.specs.Promises.{IsSound}
+use Rattle.rbc_family.specs.Logs.{LogEntry, IsLegal, IsMerge, IsWorldRun, happened, answered}
+use Rattle.rbc_centre.specs.States.{line_of, number_of, state_of}
+use Rattle.rbc_log.specs.Built.{built}
+use Rattle.rbc_log.specs.Entries.{entry_of, written_of}
+use Rattle.rbc_log.specs.Log.{LogValue}
+use Rattle.rbc_log.specs.declared.entry.Entry.{Entry}
+use Rattle.rbc_log.specs.declared.merge_fault.MergeFault.{MergeFault}
+use Rattle.rbc_log.specs.declared.merge_fault.MergeFault.TheVariants.{Memory, Twice, OtherLine}
+
+-- ## Logs side by side
+
+-- no two of them are of one centre
+abbrev pub AreOfCentres : List LogValue → Type 0
+AreOfCentres logs = AreDistinct (λ l. number_of l.core) logs
+
+-- all of them are of this line
+abbrev pub AreOfLine : Line → List LogValue → Type 0
+AreOfLine line logs = All (λ l. line_of l.core ≡ line) logs
+
+-- all of them are of one line
+abbrev pub AreOfOneLine : List LogValue → Type 0
+AreOfOneLine logs = (line : Line) × AreOfLine line logs
+
+-- the one that is of centre c, if there is one
+abbrev pub log_of : ℕ → List LogValue → Option LogValue
+log_of c logs = find (λ l. number_of l.core == c) logs
+
+-- the log of each centre; a centre that has none has taken nothing
+abbrev pub logs_by : List LogValue → ℕ → List LogEntry
+logs_by logs c = option_map_or (λ l. map entry_of l.entries) (log_of c logs) []
+
+-- and where each ends; a centre that has none is at its beginning
+abbrev pub ends_by : Line → List LogValue → ℕ → Centre
+ends_by line logs c = option_map_or (λ l. state_of l.core) (log_of c logs) (beginning line c)
+
+-- all their entries, log by log
+abbrev pub all_entries : List LogValue → List Entry
+all_entries logs = flat_map (λ l. l.entries) logs
+
+-- ## The merged list
+
+-- Each entry of each log stands in the list once, with its event whole. It is a merge of the logs: each log's entries have their order, and
+-- all are in the order of stamps, of one stamp by centre
+pub record IsMerged (logs : List LogValue) (es : List Entry) : Type 0 where
+  pub centres : AreOfCentres logs
+  pub line : AreOfOneLine logs
+  pub once : IsPermutation (map written_of (all_entries logs)) (map written_of es)
+  pub merge : IsMerge (logs_by logs) (map entry_of es)
+
+-- The entries are one run. The world answers their events as they have it, from its beginning, and each centre ends where its log does. That
+-- is a run of the one line centre, and the world is sound: no section and no right is lost or in two places
+pub record IsOneRun (line : Line) (es : List LogEntry) (ends : ℕ → Centre) : Type 0 where
+  pub world : IsWorldRun built line es ends
+  pub line_centre : IsLineRun line (map happened es) (map answered es) world.last
+  pub sound : IsSound line world.last
+
+-- so it is where each frame that was delivered stands in its sender's log
+abbrev pub MakesOneRun : List LogValue → List Entry → Type 0
+MakesOneRun logs es = (line : Line) → IsLine line → AreOfLine line logs → IsLegal (logs_by logs) → IsOneRun line (map entry_of es) (ends_by line logs)
+
+-- when a fault comes: Twice is looked for first, then OtherLine
+abbrev pub IsMergeRefusal : List LogValue → MergeFault → Type 0
+IsMergeRefusal logs Memory = AreOfCentres logs × AreOfOneLine logs
+IsMergeRefusal logs Twice = AreOfCentres logs → ⊥
+IsMergeRefusal logs OtherLine = AreOfCentres logs × (AreOfOneLine logs → ⊥)
