@@ -1,1 +1,6 @@
 pub mod Refusals
+pub mod Places
+pub mod Receipts
+pub mod Legal
+pub mod Counting
+pub mod Gathered

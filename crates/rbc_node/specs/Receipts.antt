@@ -25,5 +25,8 @@ abbrev pub last_receipt : ShareValue → Option Receipt
 last_receipt share = slice_get share.receipts (length share.receipts - 1)
 
 -- the entry at the receipt's place has its event and its outcome
-abbrev pub Has : List Entry → Receipt → Type 0
-Has entries r = (e : Entry) × (slice_get entries r.place ≡ Some e) × (e.event ≡ r.event) × (outcome_of e.outcome ≡ outcome_of r.outcome)
+pub record Has (entries : List Entry) (r : Receipt) : Type 0 where
+  pub entry : Entry
+  pub there : slice_get entries r.place ≡ Some entry
+  pub event : entry.event ≡ r.event
+  pub outcome : outcome_of entry.outcome ≡ outcome_of r.outcome

@@ -1,14 +1,22 @@
-//! A centre that several threads commit to: its log under a lock, and what each of them has of what it committed.
+//! A centre that several threads commit to: its log under a lock, and what each of them has of what it committed. What the threads have,
+//! held against the logs, makes these a family.
 #![tactic(auto)]
 
+mod counts;
+mod family;
 mod fault;
 mod gate;
+mod gather_fault;
+mod gathering;
 mod node;
 mod receipt;
 mod share;
 
+pub use family::Family;
 pub use fault::ShareFault;
 pub use gate::{Gate, Open};
+pub use gather_fault::GatherFault;
+pub use gathering::{gather, unite};
 pub use node::Node;
 pub use receipt::Receipt;
 pub use share::Share;

@@ -1,18 +1,19 @@
 ghost use Rattle.std.specs.Prelude.{◌≡◌, true, [], IfOk, IfErr, OnErr};
+ghost use Rattle.std.specs.Sync.Mutex.{mutex_guard_value};
 ghost use Rattle.rbc_spec.specs.Line.{is_centre};
+ghost use Rattle.rbc_centre.specs.States.{number_of};
 ghost use Rattle.rbc_centre.specs.Views.{outcome_of};
-ghost use Rattle.rbc_log.specs.Log.{LogValue, IsReplaying};
-ghost use Rattle.rbc_node.specs.Commit.{Commits, Refuses};
-ghost use Rattle.rbc_node.specs.Node.{centre_of};
+ghost use Rattle.rbc_log.specs.Log.{IsReplaying};
+ghost use Rattle.rbc_node.specs.Node.{centre_of, CommitsAt, RefusesAt, IsFrameOf};
 
 use crate::fault::ShareFault;
 use crate::gate::Gate;
 use crate::share::Share;
-use rbc_centre::{Event, Outcome};
+use rbc_centre::{Event, Frame, Outcome};
 use rbc_line::Line;
 use rbc_log::CentreLog;
 use std::alloc::{AllocError, Global};
-use std::sync::{Mutex, Wait};
+use std::sync::{Mutex, MutexGuard, Wait};
 
 /// A centre that many threads commit to: its log under a lock.
 #[derive(Drop)]
@@ -44,7 +45,8 @@ impl Node {
     }
 
     /// Takes the lock of the log once, and makes one commit of the share under it. The gate is told while the lock is held, and
-    /// once it is free. No clause can name the log under the lock: the commit is one to some log that replays.
+    /// once it is free. No clause can name the log under the lock: the commit is one to some log of the centre that replays. So it is Stray
+    /// only where the share is of another centre, or has a receipt that the log lacks.
     pub fn commit<R: Wait, G: Gate>(
         &self,
         rt: &R,
@@ -52,15 +54,59 @@ impl Node {
         share: &mut Share,
         event: Event,
     ) -> Result<Outcome, ShareFault>
-        ensures commits { IfOk result (λ o. (before after : LogValue) × IsReplaying before × Commits share.old share.new before after event (outcome_of o)) }
-        ensures refused { IfErr result (λ fault. (before : LogValue) × IsReplaying before × Refuses share.old before event fault) }
+        ensures commits { IfOk result (λ o. CommitsAt (centre_of self.now) share.old share.new event (outcome_of o)) }
+        ensures refused { IfErr result (RefusesAt (centre_of self.now) share.old event) }
         ensures err { OnErr result (share.new ≡ share.old) }
     {
-        let mut log = self.log.lock(rt);
+        let mut log = self.locked(rt);
         gate.inside(self.centre);
         let answer = share.commit(&mut log, event);
         drop(log);
         gate.after(self.centre);
         answer
     }
+
+    /// The frame of this number that the centre has sent to another, of some log of the centre that replays. None where that log has not sent
+    /// it yet. It takes the lock once.
+    pub fn frame<R: Wait>(&self, rt: &R, to: u8, number: u32) -> Option<Frame>
+        ensures { IsFrameOf (centre_of self.now) to number result }
+    {
+        let log = self.locked(rt);
+        log.frame(to, number)
+    }
+
+    /// The log that it held.
+    pub(crate) fn into_log(self) -> CentreLog
+        ensures { IsReplaying result }
+    {
+        let Node {
+            centre: _,
+            alloc: _,
+            log,
+        } = self;
+        let log = log.into_inner();
+        known_log(&log);
+        log
+    }
+
+    // Takes the lock of the log. No fact spans the lock and the number beside it, so the number is looked at under the lock: it is that of
+    // the node, and the first turn is the last.
+    fn locked<R: Wait>(&self, rt: &R) -> MutexGuard<'_, CentreLog>
+        ensures { number_of (mutex_guard_value result).core ≡ centre_of self.now }
+    {
+        for _ in rt.forever() {
+            let log = self.log.lock(rt);
+            if log.number() == self.centre {
+                return log;
+            }
+        }
+        unreachable!()
+    }
+}
+
+// Each log replays.
+fn known_log(log: &CentreLog)
+    ensures { IsReplaying log.now }
+{
+    log.entries();
 }

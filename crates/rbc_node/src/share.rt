@@ -36,6 +36,13 @@ impl Share {
         }
     }
 
+    /// The number of its centre.
+    pub fn centre(&self) -> u8
+        ensures { result ≡ self.now.centre }
+    {
+        self.centre
+    }
+
     /// Its receipts, in the order of its commits.
     pub fn receipts(&self) -> &[Receipt]
         ensures { result.now ≡ self.now.receipts }
