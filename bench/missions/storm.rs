@@ -9,16 +9,15 @@ use crate::world::{Event, World};
 
 const FOREIGN: u32 = 999_999;
 
-/// Two centres, three tracks of twelve short sections; each centre has some of the sections, and trains.
+/// Three tracks of twelve short sections and four trains, all of the first of two centres: the plain peer has no rules between centres.
 pub fn line_of(draw: &mut Draw) -> Line {
     let mut list: Vec<Section> = Vec::new();
     for s in 0..36 {
         let track = (s / 12) as u8;
         let start = list.last().filter(|before| before.track == track).map_or(0, |before| before.end);
-        let home = u8::from(s % 12 >= 9);
-        list.push(Section { track, home, balise: 7 * s, start, end: start + draw.between(100, 400) });
+        list.push(Section { track, home: 0, balise: 7 * s, start, end: start + draw.between(100, 400) });
     }
-    let trains = (0..4).map(|i| Train { engine: 10 + i, registrar: u8::from(i == 3) }).collect();
+    let trains = (0..4).map(|i| Train { engine: 10 + i, registrar: 0 }).collect();
     Line::new(1023, 2, list, trains)
 }
 

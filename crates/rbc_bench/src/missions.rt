@@ -50,7 +50,8 @@ pub fn measure_steps(rt: &HostRuntime, line: &str, script: &str, turns: u32) -> 
     Ok(())
 }
 
-fn line_in(rt: &HostRuntime, file: &str) -> anyhow::Result<Line> {
+/// The line of a file.
+pub fn line_in(rt: &HostRuntime, file: &str) -> anyhow::Result<Line> {
     let text = fs::read_to_string(rt, file)?;
     match Line::from_toml(rt.alloc(), text.as_str()) {
         Ok(line) => Ok(line),

@@ -1,6 +1,6 @@
 //! What `run` prints: events, what they lead to, and the line.
 
-use rbc_centre::{Body, LinkAnswer, Outcome, Posted, Saying, StepFault, Word};
+use rbc_centre::{Body, Frames, LinkAnswer, Outcome, Saying, StepFault, Word};
 use rbc_line::Line;
 use rbc_msgs::encode_track;
 use rbc_status::Fault;
@@ -77,8 +77,8 @@ fn print_outcome<W: Write>(
     for saying in outcome.sayings.as_slice() {
         print_saying(alloc, out, centre, saying)?;
     }
-    if let Some(posted) = &outcome.frame {
-        print_frame(out, line, centre, posted)?;
+    for to in 0..line.centre_count() {
+        print_frames(out, line, centre, to, &outcome.frames)?;
     }
     for word in outcome.words().as_slice() {
         print_word(out, centre, word)?;
@@ -95,19 +95,23 @@ fn print_outcome<W: Write>(
 
 // Whether a step has nothing to say to a train, to another centre or to the interlocking.
 fn says_nothing(outcome: &Outcome) -> bool {
-    outcome.sayings.is_empty() && outcome.frame.is_none() && outcome.words().is_empty()
+    outcome.sayings.is_empty() && outcome.frames.is_empty() && outcome.words().is_empty()
 }
 
-fn print_frame<W: Write>(
+// The frames to one centre.
+fn print_frames<W: Write>(
     out: &mut W,
     line: &Line,
     centre: &str,
-    posted: &Posted,
+    to: u8,
+    frames: &Frames,
 ) -> Result<(), Fault<'static>> {
-    let to = name_of(line, posted.to);
-    let number = posted.frame.number();
-    let name = body_name(posted.frame.body());
-    writeln!(out, "{centre} => {to} {number} {name}")?;
+    let name = name_of(line, to);
+    for frame in frames.to(to).as_slice() {
+        let number = frame.number();
+        let body = body_name(frame.body());
+        writeln!(out, "{centre} => {name} {number} {body}")?;
+    }
     Ok(())
 }
 

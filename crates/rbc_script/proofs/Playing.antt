@@ -1,17 +1,14 @@
 -- Entries that are played one after another.
-use Rattle.std.proofs.Common.{◌≡◌, ℕ, ◌+◌, ◌<◌, List, [], ◌∷◌, ◌++◌, length, get_or, drop, Ok, Err, refl, sym, ap, ◌∙◌, subst, append_assoc}
+use Rattle.std.proofs.Common.{◌≡◌, ℕ, ◌+◌, ◌<◌, List, [], ◌∷◌, ◌++◌, length, get_or, drop, Err, refl, sym, ap, ◌∙◌, subst, append_assoc}
 use Rattle.std.proofs.lemmas.List.{drop_more}
-use Rattle.rbc_spec.specs.Reach.{Rights}
 use Rattle.rbc_spec.specs.Line.{Line}
-use Rattle.rbc_spec.specs.World.{World, Answer, world_step}
+use Rattle.rbc_spec.specs.World.{World}
 use Rattle.rbc_centre.specs.declared.fault.StepFault.{StepFault}
-use Rattle.rbc_world.specs.Views.{event_of}
-use Rattle.rbc_world.specs.declared.event.WorldEvent.{WorldEvent}
 use Rattle.rbc_script.specs.declared.script.Entry.{Entry}
 use Rattle.rbc_script.specs.declared.script.Entry.TheVariants as entry
 use Rattle.rbc_script.specs.declared.play.PlayFault.{PlayFault}
 use Rattle.rbc_script.specs.declared.play.PlayFault.TheVariants.{Refused, Untold}
-use Rattle.rbc_script.specs.Played.{Telling, Showing, Coming, Answering, IsPlayed, IsStopped, Leaves}
+use Rattle.rbc_script.specs.Played.{Telling, IsPlayed, IsStopped, Leaves}
 
 -- whatever the entries that are left lead to from here, all entries lead to from the beginning
 pub record Goes {T : Type 0} (tells : T → Telling → T → Type 0) (line : Line) (w : World) (t : T) (entries left : List Entry) (x : World) (s : T) : Type 0 where

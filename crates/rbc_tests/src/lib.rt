@@ -1,7 +1,10 @@
-//! Tests of what no clause says and no row of `rbc_rows` reaches: threads at a node, streams, frames as bytes and between two
-//! centres, a whole list of events, and how calls end where an allocation fails. What the program prints is data of `rbc_rows`.
+//! Tests of what no clause says and no row of `rbc_rows` reaches: threads at a node, logs gathered and merged, streams, frames as
+//! bytes and between two centres, a whole list of events, and how calls end where an allocation fails. What the program prints is
+//! data of `rbc_rows`.
 #![tactic(auto)]
 
+#[cfg(test)]
+mod board;
 #[cfg(test)]
 mod bytes;
 #[cfg(test)]
@@ -12,9 +15,15 @@ mod frame;
 #[cfg(test)]
 mod frame_bytes;
 #[cfg(test)]
+mod gather;
+#[cfg(test)]
 mod line;
 #[cfg(test)]
+mod logs;
+#[cfg(test)]
 mod node;
+#[cfg(test)]
+mod nodes;
 #[cfg(test)]
 mod stream;
 #[cfg(test)]

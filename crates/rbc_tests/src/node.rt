@@ -1,25 +1,10 @@
 use crate::line::two_centres;
+use crate::nodes::{Held, both};
 use rbc_centre::{Event, Word};
-use rbc_line::Line;
-use rbc_node::{Gate, Node, Open, ShareFault};
-use std::alloc::Global;
-use std::sync::atomic::{AtomicBool, AtomicU32, Ordering};
+use rbc_node::{Open, ShareFault};
+use std::sync::atomic::Ordering;
 use std::test::*;
 use std::thread;
-
-const A: u8 = 0;
-
-const B: u8 = 1;
-
-/// A node of each centre.
-fn both(alloc: Global, line: &Line) -> Result<(Node, Node), Fail> {
-    if line.centre_count() < 2 {
-        return Err("there are two centres".into());
-    }
-    let a = Node::new(alloc, line, A)?;
-    let b = Node::new(alloc, line, B)?;
-    Ok((a, b))
-}
 
 #[test]
 fn a_share_of_another_centre_is_stray(rt: HostRuntime) -> Result<(), Fail> {
@@ -70,61 +55,13 @@ fn a_share_is_stray_where_its_last_receipt_is_not(rt: HostRuntime) -> Result<(),
     Ok(())
 }
 
-/// Holds the commit of A back under its lock until the commit of B is answered, and once more behind its lock until another commit
-/// of A is answered: each time at most so many turns. Counts the commits that are over.
-#[derive(Drop)]
-struct Held {
-    is_begun: AtomicBool,
-    is_other_answered: AtomicBool,
-    is_next_answered: AtomicBool,
-    gave_up: AtomicBool,
-    over: AtomicU32,
-}
-
-const TURNS: u32 = 10_000_000;
-
-impl Held {
-    /// Waits until the flag is set, or gives up.
-    fn wait_for(&self, flag: &AtomicBool) {
-        for _ in 0..TURNS {
-            if flag.load(Ordering::SeqCst) {
-                return;
-            }
-            thread::yield_now();
-        }
-        self.gave_up.store(true, Ordering::SeqCst);
-    }
-}
-
-impl Gate for Held {
-    fn inside(&self, centre: u8) {
-        if centre == A {
-            self.is_begun.store(true, Ordering::SeqCst);
-            self.wait_for(&self.is_other_answered);
-        }
-    }
-
-    fn after(&self, centre: u8) {
-        self.over.fetch_add(1, Ordering::SeqCst);
-        if centre == A {
-            self.wait_for(&self.is_next_answered);
-        }
-    }
-}
-
 #[test]
 fn a_commit_waits_for_the_lock_of_its_centre_alone(rt: HostRuntime) -> Result<(), Fail> {
     let line = two_centres(rt.alloc())?;
     let (a, b) = both(rt.alloc(), &line)?;
     let mut of_a = a.share();
     let mut of_b = b.share();
-    let gate = Held {
-        is_begun: AtomicBool::new(false),
-        is_other_answered: AtomicBool::new(false),
-        is_next_answered: AtomicBool::new(false),
-        gave_up: AtomicBool::new(false),
-        over: AtomicU32::new(0),
-    };
+    let gate = Held::new();
     let (first, second) = thread::join(
         &rt,
         || a.commit(&rt, &gate, &mut of_a, Event::Set(0)),

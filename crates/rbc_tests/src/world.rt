@@ -52,19 +52,17 @@ fn a_right_is_asked_for_and_given_between_centres(rt: HostRuntime) -> Result<(),
         let bytes = bytes_of(rt.alloc(), text)?;
         asks = taken(&mut world, &WorldEvent::Train { centre: 0, bytes })?;
     }
-    let asked = asks.frame.ok_or("the right is asked for")?;
-    assert_eq!(rt; asked.to, 1);
-    assert!(rt; asked.frame == Frame::new(1, 4, Body::AskRight { engine: 2 }));
+    let asked = asks.frames.to(1);
+    assert!(rt; asked.as_slice() == [Frame::new(1, 4, Body::AskRight { engine: 2 })].as_slice());
     let gives = taken(&mut world, &delivery(0, 1))?;
     assert!(rt; gives.link == Some(LinkAnswer::Next));
-    let given = gives.frame.ok_or("the right is given")?;
-    assert_eq!(rt; given.to, 0);
-    assert!(rt; given.frame == Frame::new(1, 5, Body::GiveRight { engine: 2 }));
+    let given = gives.frames.to(0);
+    assert!(rt; given.as_slice() == [Frame::new(1, 5, Body::GiveRight { engine: 2 })].as_slice());
     let accepts = taken(&mut world, &delivery(1, 0))?;
     assert_eq!(rt; accepts.sayings.as_slice().len(), 1);
     let again = taken(&mut world, &delivery(0, 1))?;
     assert!(rt; again.link == Some(LinkAnswer::Old));
-    assert!(rt; again.frame.is_none());
+    assert!(rt; again.frames.is_empty());
     Ok(())
 }
 
