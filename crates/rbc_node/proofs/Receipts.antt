@@ -1,5 +1,5 @@
 -- Whether the entry at a receipt's place has its event and its outcome.
-use Rattle.std.proofs.Common.{◌≡◌, ◌↔◌, Bool, true, false, IsTrue, List, Option, Some, None, slice_get, sym, subst, ◌∙◌}
+use Rattle.std.proofs.Common.{◌≡◌, ◌↔◌, Bool, true, false, IsTrue, List, Some, None, slice_get, sym, subst, ◌∙◌}
 use Rattle.std.proofs.lemmas.Option.{none-some, same_Some}
 use Rattle.rbc_centre.specs.Views.{outcome_of}
 use Rattle.rbc_log.specs.declared.entry.Entry.{Entry}

@@ -1,6 +1,7 @@
 ghost use Rattle.std.specs.Prelude.{◌≡◌, ◌↔◌, IsTrue, All, IfOk, IfErr, OnOk, vec_len};
 ghost use Rattle.rbc_log.specs.Log.{IsReplaying};
 ghost use Rattle.rbc_node.specs.Gather.{AreAtPlaces, AreCentres, IsOrdered, StandIn, Rises, IsFound, AreShared, IsFamily, IsGatherFault, Unites, Gathers};
+ghost use Rattle.rbc_node.specs.Receipts.{Has};
 ghost use Rattle.rbc_node.specs.Sent.{IsSent, TakesSent, AllTakeSent};
 
 use crate::counts::have_each_once;
@@ -128,7 +129,19 @@ fn is_found(logs: &[CentreLog], share: &Share) -> bool
 fn stand_in(entries: &[Entry], receipts: &[Receipt]) -> bool
     ensures { IsTrue result ↔ StandIn entries.now receipts.now }
 {
-    receipts.iter().all(|receipt| receipt.is_in(entries)) && rise(receipts)
+    are_there(entries, receipts) && rise(receipts)
+}
+
+// Whether each receipt stands at its place among the entries.
+fn are_there(entries: &[Entry], receipts: &[Receipt]) -> bool
+    ensures { IsTrue result ↔ All (Has entries.now) receipts.now }
+{
+    for receipt in receipts {
+        if !receipt.is_in(entries) {
+            return false;
+        }
+    }
+    true
 }
 
 // Whether each receipt names a place above that of the one before.
