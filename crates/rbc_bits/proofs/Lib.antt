@@ -1,5 +1,7 @@
 pub mod Fields
 pub mod Bytes
 pub mod Taking
+mod Parted
 mod Window
+mod Words
 mod Written

@@ -3,9 +3,12 @@
 #![tactic(auto)]
 
 mod fault;
+mod part;
 mod reader;
+mod word;
 mod writer;
 
 pub use fault::BitFault;
+pub use part::BitPart;
 pub use reader::BitReader;
 pub use writer::BitWriter;

@@ -1,8 +1,10 @@
-ghost use Rattle.std.specs.Prelude.{ℕ, ◌≡◌, ◌+◌, ◌*◌, ◌^◌, ◌<◌, ◌≤◌, ◌++◌, length, take, drop, IfOk, OnErr, MatchResult};
+ghost use Rattle.std.specs.Prelude.{ℕ, ◌≡◌, ◌+◌, ◌*◌, ◌^◌, ◌<◌, ◌≤◌, ◌++◌, length, take, drop, IfOk, IfSome, OnErr, MatchResult};
 ghost use Rattle.rbc_bits.specs.Bits.{field, bits_of};
 ghost use Rattle.rbc_bits.specs.Reading.{field_at, part_at};
 
 use crate::fault::BitFault;
+use crate::part::BitPart;
+use crate::word::{BitWord, number_of_sixteen};
 use std::marker::Model;
 
 /// The bits of a message that are still to be read. A refusal moves nothing.
@@ -84,7 +86,43 @@ impl<'a> BitReader<'a> {
         self.left -= n;
         Ok(part)
     }
+
+    /// The bits that are left, to be read to the last of them.
+    #[inline(always)]
+    pub fn part(self) -> BitPart<'a>
+        ensures { result ≡ self.entry }
+    {
+        match self.word() {
+            Some(word) => {
+                let others = BitReader {
+                    bytes: self.bytes,
+                    used: self.used,
+                    left: 0,
+                };
+                BitPart::new(word, others)
+            }
+            None => BitPart::new(BitWord::empty(), self),
+        }
+    }
+
+    // The bits that are left as one word, where they are few, and so many bytes stand before their end.
+    #[inline(always)]
+    fn word(&self) -> Option<BitWord>
+        ensures { IfSome result (λ word. word ≡ self.now) }
+    {
+        let end = self.used + self.left;
+        let last = ((end + 7) / 8) as usize;
+        if self.left == 0 || self.left > MOST_IN_A_WORD || last < 16 {
+            return None;
+        }
+        let number = number_of_sixteen(&self.bytes[last - 16..last])?;
+        let after = 8 * last as u32 - end;
+        Some(BitWord::of(number, self.left, after))
+    }
 }
+
+// How many bits stand in sixteen bytes that end with the last of them, wherever that is.
+const MOST_IN_A_WORD: u32 = 121;
 
 // The field of n bits behind the first `used` bits: out of eight bytes, where it lies in them.
 #[inline(always)]

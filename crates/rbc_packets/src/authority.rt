@@ -7,7 +7,7 @@ ghost use Rattle.rbc_packets.specs.TrackReading.{authority_at, authority_fields_
 use crate::fault::PacketFault;
 use crate::reading::{end, take, take_fixed, track_part};
 use crate::writing::put_track_header;
-use rbc_bits::{BitReader, BitWriter};
+use rbc_bits::{BitPart, BitReader, BitWriter};
 use rbc_vars::LEndsection;
 
 /// Packet 15, Level 2/3 Movement Authority, of one section and without timers, danger point or overlap (7.4.2.4, profile).
@@ -44,7 +44,8 @@ impl Authority {
         ensures taken { IfOk result (λ a. reader.old ≡ joined (track_packet (authority_fields a)) ++ reader.new) }
         ensures fits { IfOk result AuthorityFits }
     {
-        let mut part = track_part(reader)?;
+        let bits = track_part(reader)?;
+        let mut part = bits.part();
         let authority = Authority::fields(&mut part)?;
         end(part)?;
         Ok(authority)
@@ -52,7 +53,7 @@ impl Authority {
 
     #[tactic(auto, unfolding(crate::specs::TrackReading::authority_fields_at, crate::specs::Layout::joined))]
     #[inline(always)]
-    fn fields(part: &mut BitReader) -> Result<Self, PacketFault>
+    fn fields(part: &mut BitPart) -> Result<Self, PacketFault>
         ensures exact { Takes (λ x. x) result part.new (authority_fields_at part.old) }
         ensures taken { IfOk result (λ a. part.old ≡ joined (authority_fields a) ++ part.new) }
         ensures fits { IfOk result AuthorityFits }
@@ -82,7 +83,7 @@ impl Authority {
 // Q_SCALE (1 m), END_SPEED (0), END_TIME (1 023, no limit) and N_ITER (0): one section.
 #[tactic(auto, unfolding(crate::specs::TrackReading::sections_at, crate::specs::Layout::joined))]
 #[inline(always)]
-fn take_sections(part: &mut BitReader) -> Result<(), PacketFault>
+fn take_sections(part: &mut BitPart) -> Result<(), PacketFault>
     ensures exact { Takes (λ x. x) result part.new (sections_at part.old) }
     ensures taken { OnOk result (part.old ≡ joined ((2, 1) ∷ (7, 0) ∷ (10, 1023) ∷ (5, 0) ∷ []) ++ part.new) }
 {
@@ -95,7 +96,7 @@ fn take_sections(part: &mut BitReader) -> Result<(), PacketFault>
 // Q_SECTIONTIMER, Q_ENDTIMER, Q_DANGERPOINT and Q_OVERLAP: none.
 #[tactic(auto, unfolding(crate::specs::TrackReading::no_more_at, crate::specs::Layout::joined))]
 #[inline(always)]
-fn take_no_more(part: &mut BitReader) -> Result<(), PacketFault>
+fn take_no_more(part: &mut BitPart) -> Result<(), PacketFault>
     ensures exact { Takes (λ x. x) result part.new (no_more_at part.old) }
     ensures taken { OnOk result (part.old ≡ joined ((1, 0) ∷ (1, 0) ∷ (1, 0) ∷ (1, 0) ∷ []) ++ part.new) }
 {

@@ -6,7 +6,7 @@ ghost use Rattle.rbc_packets.specs.PositionReading.{level_at};
 
 use crate::fault::PacketFault;
 use crate::reading::{m_level, take};
-use rbc_bits::{BitReader, BitWriter};
+use rbc_bits::{BitPart, BitWriter};
 use rbc_vars::{MLevel, NidNtc};
 
 /// M_LEVEL and NID_NTC: the level under which the train runs, and the national system where it is level NTC.
@@ -33,7 +33,7 @@ pub enum Level {
 impl Level {
     #[tactic(auto, unfolding(crate::specs::PositionReading::level_at, crate::specs::Layout::joined))]
     #[inline(always)]
-    pub(crate) fn read(part: &mut BitReader) -> Result<Self, PacketFault>
+    pub(crate) fn read(part: &mut BitPart) -> Result<Self, PacketFault>
         ensures exact { Takes (λ x. x) result part.new (level_at part.old) }
         ensures taken { IfOk result (λ l. part.old ≡ joined (level_fields l) ++ part.new) }
         ensures fits { IfOk result LevelFits }

@@ -6,7 +6,7 @@ ghost use Rattle.rbc_packets.specs.PositionReading.{location_at};
 
 use crate::fault::PacketFault;
 use crate::reading::{direction, q_scale, take};
-use rbc_bits::{BitReader, BitWriter};
+use rbc_bits::{BitPart, BitWriter};
 use rbc_vars::{DLrbg, Direction, LDoubtover, LDoubtunder, NidLrbg, QScale};
 
 /// Where the train is: its estimated front end from a balise group, and how far it may be behind and ahead of it.
@@ -31,7 +31,7 @@ pub struct Location {
 impl Location {
     #[tactic(auto, unfolding(crate::specs::PositionReading::location_at, crate::specs::Layout::joined))]
     #[inline(always)]
-    pub(crate) fn read(part: &mut BitReader) -> Result<Self, PacketFault>
+    pub(crate) fn read(part: &mut BitPart) -> Result<Self, PacketFault>
         ensures exact { Takes (λ x. x) result part.new (location_at part.old) }
         ensures taken { IfOk result (λ l. part.old ≡ joined (location_fields l) ++ part.new) }
         ensures fits { IfOk result LocationFits }

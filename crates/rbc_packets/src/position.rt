@@ -10,7 +10,7 @@ use crate::location::Location;
 use crate::reading::{direction, end, take, train_part};
 use crate::train_length::TrainLength;
 use crate::writing::put_train_header;
-use rbc_bits::{BitReader, BitWriter};
+use rbc_bits::{BitPart, BitReader, BitWriter};
 use rbc_vars::{Direction, MMode, VTrain};
 
 /// Packet 0, position report (7.4.3.1).
@@ -57,7 +57,8 @@ impl Position {
         ensures taken { IfOk result (λ p. reader.old ≡ joined (train_packet (position_fields p)) ++ reader.new) }
         ensures fits { IfOk result PositionFits }
     {
-        let mut part = train_part(reader)?;
+        let bits = train_part(reader)?;
+        let mut part = bits.part();
         let position = Position::fields(&mut part)?;
         end(part)?;
         Ok(position)
@@ -65,7 +66,7 @@ impl Position {
 
     #[tactic(auto, unfolding(crate::specs::PositionReading::position_fields_at, crate::specs::Layout::joined))]
     #[inline(always)]
-    fn fields(part: &mut BitReader) -> Result<Self, PacketFault>
+    fn fields(part: &mut BitPart) -> Result<Self, PacketFault>
         ensures exact { Takes (λ x. x) result part.new (position_fields_at part.old) }
         ensures taken { IfOk result (λ p. part.old ≡ joined (position_fields p) ++ part.new) }
         ensures fits { IfOk result PositionFits }

@@ -11,7 +11,7 @@ ghost use Rattle.rbc_packets.specs.TrackSpelling.{no_radio};
 ghost use Rattle.rbc_packets.specs.Layout.{joined};
 
 use crate::fault::PacketFault;
-use rbc_bits::BitReader;
+use rbc_bits::{BitPart, BitReader};
 use rbc_vars::{Direction, MLevel, QLength, QScale};
 
 // NID_PACKET and L_PACKET.
@@ -60,7 +60,7 @@ pub(crate) fn track_part<'a>(reader: &mut BitReader<'a>) -> Result<BitReader<'a>
 /// Behind the last field of a packet nothing may stand.
 #[tactic(auto, unfolding(crate::specs::Reading::none_left))]
 #[inline(always)]
-pub(crate) fn end(part: BitReader) -> Result<(), PacketFault>
+pub(crate) fn end(part: BitPart) -> Result<(), PacketFault>
     ensures exact { result ≡ none_left part.entry }
     ensures none { OnOk result (part.entry ≡ []) }
 {
@@ -73,8 +73,8 @@ pub(crate) fn end(part: BitReader) -> Result<(), PacketFault>
 /// A field of n bits that is given one value.
 #[tactic(auto, unfolding(crate::specs::Reading::fixed_at))]
 #[inline(always)]
-pub(crate) fn take_fixed(part: &mut BitReader, n: u32, value: u64) -> Result<(), PacketFault>
-    requires { n ≤ 64 }
+pub(crate) fn take_fixed(part: &mut BitPart, n: u32, value: u64) -> Result<(), PacketFault>
+    requires { (1 ≤ n) × (n ≤ 64) }
     ensures exact { Takes (λ x. x) result part.new (fixed_at n value part.old) }
     ensures taken { OnOk result (part.old ≡ field n value ++ part.new) }
 {
@@ -88,7 +88,7 @@ pub(crate) fn take_fixed(part: &mut BitReader, n: u32, value: u64) -> Result<(),
 /// Q_SCALE.
 #[tactic(auto, unfolding(crate::specs::Reading::q_scale_at))]
 #[inline(always)]
-pub(crate) fn q_scale(part: &mut BitReader) -> Result<QScale, PacketFault>
+pub(crate) fn q_scale(part: &mut BitPart) -> Result<QScale, PacketFault>
     ensures exact { Takes (λ x. x) result part.new (q_scale_at part.old) }
     ensures taken { IfOk result (λ v. part.old ≡ field 2 (q_scale_value v) ++ part.new) }
 {
@@ -101,7 +101,7 @@ pub(crate) fn q_scale(part: &mut BitReader) -> Result<QScale, PacketFault>
 /// Q_DIRLRBG, Q_DLRBG or Q_DIRTRAIN.
 #[tactic(auto, unfolding(crate::specs::Reading::direction_at))]
 #[inline(always)]
-pub(crate) fn direction(part: &mut BitReader) -> Result<Direction, PacketFault>
+pub(crate) fn direction(part: &mut BitPart) -> Result<Direction, PacketFault>
     ensures exact { Takes (λ x. x) result part.new (direction_at part.old) }
     ensures taken { IfOk result (λ v. part.old ≡ field 2 (direction_value v) ++ part.new) }
 {
@@ -114,7 +114,7 @@ pub(crate) fn direction(part: &mut BitReader) -> Result<Direction, PacketFault>
 /// Q_LENGTH.
 #[tactic(auto, unfolding(crate::specs::Reading::q_length_at))]
 #[inline(always)]
-pub(crate) fn q_length(part: &mut BitReader) -> Result<QLength, PacketFault>
+pub(crate) fn q_length(part: &mut BitPart) -> Result<QLength, PacketFault>
     ensures exact { Takes (λ x. x) result part.new (q_length_at part.old) }
     ensures taken { IfOk result (λ v. part.old ≡ field 2 (q_length_value v) ++ part.new) }
 {
@@ -127,7 +127,7 @@ pub(crate) fn q_length(part: &mut BitReader) -> Result<QLength, PacketFault>
 /// M_LEVEL.
 #[tactic(auto, unfolding(crate::specs::Reading::m_level_at))]
 #[inline(always)]
-pub(crate) fn m_level(part: &mut BitReader) -> Result<MLevel, PacketFault>
+pub(crate) fn m_level(part: &mut BitPart) -> Result<MLevel, PacketFault>
     ensures exact { Takes (λ x. x) result part.new (m_level_at part.old) }
     ensures taken { IfOk result (λ v. part.old ≡ field 3 (m_level_value v) ++ part.new) }
 {
@@ -140,7 +140,7 @@ pub(crate) fn m_level(part: &mut BitReader) -> Result<MLevel, PacketFault>
 /// NID_RADIO, without a number, and Q_SLEEPSESSION, which is not asked for.
 #[tactic(auto, unfolding(crate::specs::TrackReading::radio_at, crate::specs::Layout::joined))]
 #[inline(always)]
-pub(crate) fn take_radio(part: &mut BitReader) -> Result<(), PacketFault>
+pub(crate) fn take_radio(part: &mut BitPart) -> Result<(), PacketFault>
     ensures exact { Takes (λ x. x) result part.new (radio_at part.old) }
     ensures taken { OnOk result (part.old ≡ joined ((64, no_radio) ∷ (1, 0) ∷ []) ++ part.new) }
 {
@@ -150,8 +150,8 @@ pub(crate) fn take_radio(part: &mut BitReader) -> Result<(), PacketFault>
 
 /// A field of n bits, which has to lie whole within L_PACKET.
 #[inline(always)]
-pub(crate) fn take(part: &mut BitReader, n: u32) -> Result<u64, PacketFault>
-    requires { n ≤ 64 }
+pub(crate) fn take(part: &mut BitPart, n: u32) -> Result<u64, PacketFault>
+    requires { (1 ≤ n) × (n ≤ 64) }
     ensures exact { Takes (λ x. x) result part.new (field_at PacketFault.Length n part.old) }
     ensures taken { IfOk result (λ v. part.old ≡ field n v ++ part.new) }
     ensures fits { IfOk result (λ v. v < 2 ^ n) }

@@ -7,7 +7,7 @@ ghost use Rattle.rbc_packets.specs.TrackReading.{session_order_at, session_order
 use crate::fault::PacketFault;
 use crate::reading::{end, take, take_fixed, take_radio, track_part};
 use crate::writing::{put_radio, put_track_header};
-use rbc_bits::{BitReader, BitWriter};
+use rbc_bits::{BitPart, BitReader, BitWriter};
 use rbc_vars::{NidC, NidRbc};
 
 /// Packet 42, session management: the session with this centre is to be terminated (7.4.2.11, profile).
@@ -46,7 +46,8 @@ impl SessionOrder {
         ensures taken { IfOk result (λ s. reader.old ≡ joined (track_packet (session_order_fields s)) ++ reader.new) }
         ensures fits { IfOk result SessionOrderFits }
     {
-        let mut part = track_part(reader)?;
+        let bits = track_part(reader)?;
+        let mut part = bits.part();
         let session_order = SessionOrder::fields(&mut part)?;
         end(part)?;
         Ok(session_order)
@@ -54,7 +55,7 @@ impl SessionOrder {
 
     #[tactic(auto, unfolding(crate::specs::TrackReading::session_order_fields_at, crate::specs::Layout::joined))]
     #[inline(always)]
-    fn fields(part: &mut BitReader) -> Result<Self, PacketFault>
+    fn fields(part: &mut BitPart) -> Result<Self, PacketFault>
         ensures exact { Takes (λ x. x) result part.new (session_order_fields_at part.old) }
         ensures taken { IfOk result (λ s. part.old ≡ joined (session_order_fields s) ++ part.new) }
         ensures fits { IfOk result SessionOrderFits }

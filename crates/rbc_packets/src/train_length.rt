@@ -6,7 +6,7 @@ ghost use Rattle.rbc_packets.specs.PositionReading.{train_length_at};
 
 use crate::fault::PacketFault;
 use crate::reading::{q_length, take};
-use rbc_bits::{BitReader, BitWriter};
+use rbc_bits::{BitPart, BitWriter};
 use rbc_vars::{LTrainint, QLength};
 
 /// Q_LENGTH and L_TRAININT: what is known of the train's integrity, and its length where it is confirmed.
@@ -25,7 +25,7 @@ pub enum TrainLength {
 impl TrainLength {
     #[tactic(auto, unfolding(crate::specs::PositionReading::train_length_at, crate::specs::Layout::joined))]
     #[inline(always)]
-    pub(crate) fn read(part: &mut BitReader) -> Result<Self, PacketFault>
+    pub(crate) fn read(part: &mut BitPart) -> Result<Self, PacketFault>
         ensures exact { Takes (λ x. x) result part.new (train_length_at part.old) }
         ensures taken { IfOk result (λ l. part.old ≡ joined (train_length_fields l) ++ part.new) }
         ensures fits { IfOk result TrainLengthFits }

@@ -7,7 +7,7 @@ ghost use Rattle.rbc_packets.specs.TrackReading.{transition_at, transition_field
 use crate::fault::PacketFault;
 use crate::reading::{end, take, take_fixed, take_radio, track_part};
 use crate::writing::{put_radio, put_track_header};
-use rbc_bits::{BitReader, BitWriter};
+use rbc_bits::{BitPart, BitReader, BitWriter};
 use rbc_vars::{DRbctr, NidC, NidRbc};
 
 /// Packet 131, RBC transition order: where another centre takes over, and which one (7.4.2.38, profile).
@@ -48,7 +48,8 @@ impl Transition {
         ensures taken { IfOk result (λ t. reader.old ≡ joined (track_packet (transition_fields t)) ++ reader.new) }
         ensures fits { IfOk result TransitionFits }
     {
-        let mut part = track_part(reader)?;
+        let bits = track_part(reader)?;
+        let mut part = bits.part();
         let transition = Transition::fields(&mut part)?;
         end(part)?;
         Ok(transition)
@@ -56,7 +57,7 @@ impl Transition {
 
     #[tactic(auto, unfolding(crate::specs::TrackReading::transition_fields_at, crate::specs::Layout::joined))]
     #[inline(always)]
-    fn fields(part: &mut BitReader) -> Result<Self, PacketFault>
+    fn fields(part: &mut BitPart) -> Result<Self, PacketFault>
         ensures exact { Takes (λ x. x) result part.new (transition_fields_at part.old) }
         ensures taken { IfOk result (λ t. part.old ≡ joined (transition_fields t) ++ part.new) }
         ensures fits { IfOk result TransitionFits }
