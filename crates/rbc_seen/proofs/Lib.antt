@@ -1,11 +1,8 @@
-pub mod Bodies
+pub mod Decided
+pub mod Reached
+pub mod Known
 pub mod Missions
 pub mod Marks
-pub mod Off
-pub mod Reached
+pub mod AtCentres
 pub mod Forced
-pub mod Named
-pub mod NamedEvents
-pub mod Sent
-pub mod Known
 pub mod Whole

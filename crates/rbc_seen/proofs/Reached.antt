@@ -15,6 +15,7 @@ use Rattle.rbc_pairs.specs.Worlds.{IsWorldSound}
 use Rattle.rbc_pairs.proofs.Worlds.{world_begins, world_step_sound}
 use Rattle.rbc_kept.proofs.Worlds.{never_lost}
 use Rattle.rbc_whole.specs.Meets.{Meets}
+use Rattle.rbc_whole.specs.Announced.{IsAnnounced}
 use Rattle.rbc_whole.proofs.Lines.{run_read, stands_read}
 use Rattle.rbc_whole.proofs.Waits.{WaitsAtCentres, begins_so, event_so}
 
@@ -44,6 +45,9 @@ module _ (reach : Reach) (line : Line) (ok : IsLine line) where
   module _ (events : List Event) (answers : List Answer) (w : World) (is : world_run reach line (new_world line) events ≡ Ok (answers, w)) where
     pub meets : Meets reach line w (read_off line w)
     meets = (run_read reach line ok events answers w is).1
+
+    pub announced : IsAnnounced reach line w
+    announced = (run_read reach line ok events answers w is).2
 
     pub loses_nothing : LosesNothing line (flow_of w)
     loses_nothing = never_lost reach line ok events answers w is
