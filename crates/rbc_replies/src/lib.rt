@@ -1,0 +1,8 @@
+//! What goes to a train over one connection: replies that come over a channel, and the writer that writes them one behind another.
+#![tactic(auto)]
+
+mod reply;
+mod writer;
+
+pub use reply::Reply;
+pub use writer::{WriteFailed, run_writer};
