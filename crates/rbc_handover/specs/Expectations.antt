@@ -1,13 +1,13 @@
 -- What a centre has of the handovers of one train that other centres have announced to it, by their numbers.
-use Rattle.std.specs.Prelude.{◌≡◌, ℕ, ◌==◌, Bool, false, ◌&&◌, if◌then◌else◌, List, [], length, map, slice_index_or, Option, Some, None, is_none, option_map, option_and_then}
-use Rattle.std.specs.List.{filter, filter_map, range_with_len}
+use Rattle.std.specs.Prelude.{◌≡◌, ℕ, ◌==◌, Bool, false, ◌&&◌, not, if◌then◌else◌, List, [], ◌∷◌, length, slice_index_or, Option, Some, None, is_none}
+use Rattle.std.specs.Option.{option_map_or}
 use Rattle.rbc_spec.specs.Maps.{has, put}
 use Rattle.rbc_spec.specs.Line.{Line}
-use Rattle.rbc_spec.specs.Frame.{TakingOver}
+use Rattle.rbc_spec.specs.Frame.{Body, TakingOver}
 use Rattle.rbc_spec.specs.Centre.{Centre, Expectation}
 use Rattle.rbc_spec.specs.Acts.{Reply}
 use Rattle.rbc_spec.specs.Links.{is_under}
-use Rattle.rbc_handover.specs.declared.expectations.Announcer.{Announcer}
+use Rattle.rbc_handover.specs.declared.announcers.Announcers.{Announcers}
 
 -- what is expected from centre d; from one that is none of the line, nothing
 unfoldable pub expected_from : List (Option Expectation) → ℕ → Option Expectation
@@ -25,17 +25,13 @@ ended_under number o = if is_under number o then None else o
 abbrev pub is_taking_under : ℕ → Option Expectation → Bool
 is_taking_under number o = has (λ e. (e.number == number) && e.is_taking) o
 
--- the number under which its announcer is to be told that this centre is taking over: none where it was told
-abbrev pub to_be_told : Expectation → Option ℕ
-to_be_told e = if e.is_taking then None else Some e.number
+-- it is expected, and its announcer was not told that this centre is taking over
+abbrev pub is_to_be_told : Option Expectation → Bool
+is_to_be_told o = has (λ e. not e.is_taking) o
 
--- centre d, where it is to be told
-abbrev pub announcer : List (Option Expectation) → ℕ → Option Announcer
-announcer e d = option_map (λ number. record { centre = d; number = number }) (option_and_then to_be_told (expected_from e d))
-
--- the centres that are to be told, in rising order
-abbrev pub announcers : List (Option Expectation) → List Announcer
-announcers e = filter_map (announcer e) (range_with_len 0 (length e))
+-- centre d is one of those that are told
+abbrev pub is_told : Announcers → ℕ → Bool
+is_told told d = slice_index_or told.are_told d false
 
 -- ## A centre that has it
 
@@ -50,11 +46,10 @@ with_expectations t e k = record k { expects = λ d. put (k.expects d) t (expect
 
 -- ## What it replies
 
--- these centres are told that this one is taking over
-abbrev pub telling : ℕ → List Announcer → Centre → Reply
-telling t told k = record {
-  state = k;
-  frames = λ d. map (λ a. TakingOver a.number t) (filter (λ a. a.centre == d) told);
-  sayings = [];
-  words = [];
-}
+-- what these centres are told of train t that expect it so: that this one is taking over
+abbrev pub claims : ℕ → Announcers → (ℕ → Option Expectation) → ℕ → List Body
+claims t told e d = if is_told told d then option_map_or (λ (x : Expectation). TakingOver x.number t ∷ []) (e d) [] else []
+
+-- these centres are told so, and nothing else
+abbrev pub telling : ℕ → Announcers → (ℕ → Option Expectation) → Centre → Reply
+telling t told e k = record { state = k; frames = claims t told e; sayings = []; words = [] }

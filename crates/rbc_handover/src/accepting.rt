@@ -1,8 +1,8 @@
-ghost use Rattle.std.specs.Prelude.{◌≡◌, None, is_some, option_map, option_and_then};
+ghost use Rattle.std.specs.Prelude.{◌≡◌, None, is_some, option_map};
 ghost use Rattle.rbc_spec.specs.Rules.{taking};
 ghost use Rattle.rbc_spec.specs.Links.{is_under};
 ghost use Rattle.rbc_handover.specs.Acceptings.{accepted_number, expectation_of};
-ghost use Rattle.rbc_handover.specs.Expectations.{announced_as, ended_under, to_be_told, is_taking_under};
+ghost use Rattle.rbc_handover.specs.Expectations.{announced_as, ended_under, is_to_be_told, is_taking_under};
 
 use std::mem;
 
@@ -119,20 +119,30 @@ impl AcceptingState {
         }
     }
 
-    // This centre says that it is taking over: the number under which it does. None where nothing is expected, and where it has said so.
-    pub(crate) fn take_over(&mut self) -> Option<u32>
-        ensures number { result ≡ option_and_then to_be_told (expectation_of self.old) }
+    // Its number, where it is expected.
+    pub(crate) fn number(&self) -> Option<u32>
+        ensures { result ≡ option_map (λ e. e.number) (expectation_of self.now) }
+    {
+        match self {
+            AcceptingState::Nothing => None,
+            AcceptingState::Expected(accepting) => Some(accepting.number()),
+            AcceptingState::Taking(accepting) => Some(accepting.number()),
+        }
+    }
+
+    // This centre says that it is taking over. Whether it says so now: not where nothing is expected, nor where it has said so.
+    pub(crate) fn take_over(&mut self) -> bool
+        ensures told { result ≡ is_to_be_told (expectation_of self.old) }
         ensures state { expectation_of self.new ≡ option_map taking (expectation_of self.old) }
     {
         match mem::replace(self, AcceptingState::Nothing) {
             AcceptingState::Expected(accepting) => {
-                let number = accepting.number();
                 hold(self, AcceptingState::Taking(accepting.take_over()));
-                Some(number)
+                true
             }
             other => {
                 hold(self, other);
-                None
+                false
             }
         }
     }

@@ -10,19 +10,10 @@ ghost use Rattle.rbc_handover.specs.Acceptings as accepting;
 ghost use Rattle.rbc_handover.specs.Expectations as expected;
 
 use crate::accepting::AcceptingState;
-use arrayvec::ArrayVec;
+use crate::announcers::Announcers;
 use rbc_line::Line;
 use std::alloc::{AllocError, Global};
 use std::marker::Model;
-
-/// A centre that has announced a handover, and the number of that.
-#[derive(Clone, Copy, Debug, Default, PartialEq, Eq)]
-pub struct Announcer {
-    /// The number of the centre in the line file, from 0.
-    pub centre: u8,
-    /// The handover's number at that centre, from 1.
-    pub number: u32,
-}
 
 /// What a centre has of the handovers of one train that other centres have announced to it: of each centre of the line one at the
 /// most. Room is made at the beginning, and no call takes memory after that. It can't be copied, and not be dropped.
@@ -46,7 +37,7 @@ impl Model for Expectations {
 }
 
 impl Expectations {
-    ghost use Rattle.rbc_handover.specs.Expectations.{expected_from, announced_as, ended_under, is_taking_under, announcers, HasExpectations, with_expectations, telling};
+    ghost use Rattle.rbc_handover.specs.Expectations.{expected_from, announced_as, ended_under, is_taking_under, is_to_be_told, is_told, HasExpectations, with_expectations, telling};
 
     /// Of a train on this line: nothing is expected.
     pub fn new(alloc: Global, line: &Line) -> Result<Expectations, AllocError>
@@ -97,14 +88,21 @@ impl Expectations {
         self.states[from as usize].cancelled(number);
     }
 
-    /// The train has reported in this centre's area (3.15.1): the centres that are to be told that this one is taking over, in rising order,
-    /// each with the number that it gave. They are those that have announced the train, and were not told before.
-    pub fn take_over(&mut self) -> ArrayVec<Announcer, 8>
-        ensures told { result.items ≡ announcers self.old }
+    /// The number under which the train is expected from the centre. None exactly where it is not expected from there.
+    pub fn number(&self, from: u8) -> Option<u32>
+        ensures { result ≡ option_map (λ e. e.number) (expected_from self.now from) }
+    {
+        number_at(self.states.as_slice(), from as usize)
+    }
+
+    /// The train has reported in this centre's area (3.15.1): the centres that are told now that this one is taking over, each under the
+    /// number that it gave. They are those that have announced the train, and were not told before.
+    pub fn take_over(&mut self) -> Announcers
+        ensures told { (d : ℕ) → is_told result d ≡ is_to_be_told (expected_from self.old d) }
         ensures count { length self.new ≡ length self.old }
         ensures expected { (d : ℕ) → expected_from self.new d ≡ option_map rules.taking (expected_from self.old d) }
         ensures exact { (line : track.Line) (t : ℕ) (k : spec.Centre) → HasExpectations line t k self.old
-            → rules.take_over line t k ≡ telling t result.items (with_expectations t self.new k) }
+            → rules.take_over line t k ≡ telling t result (expected_from self.new) (with_expectations t self.new k) }
     {
         take_over_each(&mut self.states)
     }
@@ -159,20 +157,27 @@ fn may_take_at(states: &[AcceptingState], i: usize, number: u32) -> bool
     }
 }
 
+// The number under which the train is expected from the centre at this place.
+fn number_at(states: &[AcceptingState], i: usize) -> Option<u32>
+    ensures { result ≡ option_map (λ e. e.number) (option_and_then accepting.expectation_of (slice_get states.now i)) }
+{
+    match states.get(i) {
+        Some(state) => state.number(),
+        None => None,
+    }
+}
+
 // This centre says to each centre that has announced the train, and was not told, that it is taking over: those centres.
-fn take_over_each(states: &mut Vec<AcceptingState>) -> ArrayVec<Announcer, 8>
+fn take_over_each(states: &mut Vec<AcceptingState>) -> Announcers
     requires { length states.old.items ≤ 8 }
-    ensures told { result.items ≡ expected.announcers (map accepting.expectation_of states.old.items) }
+    ensures told { (d : ℕ) → expected.is_told result d ≡ expected.is_to_be_told (expected.expected_from (map accepting.expectation_of states.old.items) d) }
     ensures count { length states.new.items ≡ length states.old.items }
     ensures expected { (d : ℕ) → expected.expected_from (map accepting.expectation_of states.new.items) d
         ≡ option_map rules.taking (expected.expected_from (map accepting.expectation_of states.old.items) d) }
 {
-    let mut told = ArrayVec::new();
+    let mut are_told = [false; 8];
     for i in 0..states.len() {
-        if let Some(number) = states[i].take_over() {
-            let centre = i as u8;
-            told.push(Announcer { centre, number });
-        }
+        are_told[i] = states[i].take_over();
     }
-    told
+    Announcers { are_told }
 }

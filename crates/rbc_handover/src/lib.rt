@@ -5,13 +5,15 @@
 #![tactic(auto)]
 
 mod accepting;
+mod announcers;
 mod count;
 mod expectations;
 mod handing;
 mod handover;
 
 pub use accepting::{Accepting, AcceptingState, Expected, Taking};
+pub use announcers::Announcers;
 pub use count::HandoverCount;
-pub use expectations::{Announcer, Expectations};
+pub use expectations::Expectations;
 pub use handing::{Announced, Claimed, Handing, HandoverName};
 pub use handover::Handover;

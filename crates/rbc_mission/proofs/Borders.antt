@@ -5,7 +5,7 @@ use Rattle.std.proofs.lemmas.Option.{none-some, same_Some}
 use Rattle.rbc_spec.specs.Maps.{put}
 use Rattle.rbc_spec.specs.SectionRuns.{SectionRun, no_run, within, part_before}
 use Rattle.rbc_spec.specs.Line.{Line}
-use Rattle.rbc_spec.specs.Centre.{Centre, Mission}
+use Rattle.rbc_spec.specs.Centre.{Centre, Mission, Handing}
 use Rattle.rbc_lemmas.proofs.Runs.{within_none}
 use Rattle.rbc_hand.specs.Hands.{Holding, run}
 use Rattle.rbc_border.specs.Border.{BorderState, HasBorder, with_border, GoesOn, answers, wants}
@@ -16,12 +16,12 @@ use Rattle.rbc_mission.specs.Supervisions.{SupervisionState, supervision_state, 
 
 -- ## A centre that has it
 
-module _ (k : Centre) (number engine : ℕ) (facts : Option MissionFacts) (hand : Holding) (b : BorderState) (c : SupervisionState)
-    (view : supervision_state number engine facts hand b ≡ c) (train : b.engine ≡ engine) (has : HasSupervision k c) where
+module _ (k : Centre) (number engine : ℕ) (facts : Option MissionFacts) (hand : Holding) (b : BorderState) (g : Option Handing) (c : SupervisionState)
+    (view : supervision_state number engine facts hand b g ≡ c) (train : b.engine ≡ engine) (has : HasSupervision k c) where
   pub train_is : b.engine ≡ c.engine
   train_is = train ∙ ap (λ (x : SupervisionState). x.engine) view
 
-  pub there : k.mission b.engine ≡ option_map (mission_of (run hand) b.pool) facts
+  pub there : k.mission b.engine ≡ option_map (mission_of (run hand) b.pool g) facts
   there = ap k.mission train_is ∙ has.has_mission ∙ ap (λ (x : SupervisionState). x.mission) (sym view)
 
   pub has_border : HasBorder k b
@@ -30,22 +30,22 @@ module _ (k : Centre) (number engine : ℕ) (facts : Option MissionFacts) (hand 
     has_ask = ap k.route_ask train_is ∙ has.has_question ∙ ap (λ (x : SupervisionState). x.asked) (sym view);
   }
     where
-      of_pool : (o : Option MissionFacts) (m : Mission) → option_map (mission_of (run hand) b.pool) o ≡ Some m → m.pool ≡ b.pool
+      of_pool : (o : Option MissionFacts) (m : Mission) → option_map (mission_of (run hand) b.pool g) o ≡ Some m → m.pool ≡ b.pool
       of_pool None m e = absurd (none-some m e)
       of_pool (Some f) m e = ap (λ (x : Mission). x.pool) (sym (same_Some _ m e))
 
   -- and as it is left
-  pub border_after : (b' : BorderState) → b'.engine ≡ b.engine → with_border b' k ≡ with_supervision (supervision_state number engine facts hand b') k
+  pub border_after : (b' : BorderState) → b'.engine ≡ b.engine → with_border b' k ≡ with_supervision (supervision_state number engine facts hand b' g) k
   border_after b' same = λ i. record k {
     mission = put k.mission ((same ∙ train) i) (mission i);
     route_ask = put k.route_ask ((same ∙ train) i) b'.asked;
   }
     where
-      by : (o : Option MissionFacts) → option_map (λ (m : Mission). record m { pool = b'.pool }) (option_map (mission_of (run hand) b.pool) o) ≡ option_map (mission_of (run hand) b'.pool) o
+      by : (o : Option MissionFacts) → option_map (λ (m : Mission). record m { pool = b'.pool }) (option_map (mission_of (run hand) b.pool g) o) ≡ option_map (mission_of (run hand) b'.pool g) o
       by None = refl
       by (Some f) = refl
 
-      mission : option_map (λ (m : Mission). record m { pool = b'.pool }) (k.mission b'.engine) ≡ option_map (mission_of (run hand) b'.pool) facts
+      mission : option_map (λ (m : Mission). record m { pool = b'.pool }) (k.mission b'.engine) ≡ option_map (mission_of (run hand) b'.pool g) facts
       mission = ap (λ t. option_map (λ (m : Mission). record m { pool = b'.pool }) (k.mission t)) same ∙ ap (option_map (λ (m : Mission). record m { pool = b'.pool })) there ∙ by facts
 
 -- ## What a call leaves
@@ -59,8 +59,8 @@ pub record KeepsBorder (facts : Option MissionFacts) (b b' : BorderState) : Type
 keeps_pool : (facts : Option MissionFacts) (b b' : BorderState) → b'.engine ≡ b.engine → b'.pool ≡ b.pool → KeepsBorder facts b b'
 keeps_pool facts b b' train pool = record { train = train; none = λ e. pool; few = λ few. subst (λ (r : SectionRun). r.count ≤ 31) (sym pool) few }
 
-pub kept : (number engine : ℕ) (facts : Option MissionFacts) (hand : Holding) (right : HeldRight) (b b' : BorderState) → IsSupervision number engine facts hand right b → KeepsBorder facts b b' → IsSupervision number engine facts hand right b'
-kept number engine facts hand right b b' is keeps = record {
+pub kept : (number engine : ℕ) (facts : Option MissionFacts) (hand : Holding) (right : HeldRight) (b b' : BorderState) (g : Option Handing) → IsSupervision number engine facts hand right b g → KeepsBorder facts b b' → IsSupervision number engine facts hand right b' g
+kept number engine facts hand right b b' g is keeps = record {
   right = is.right;
   some = is.some;
   most = is.most;
@@ -68,6 +68,7 @@ kept number engine facts hand right b b' is keeps = record {
   train = keeps.train ∙ is.train;
   none = λ e. keeps.none e ∙ is.none e;
   few = keeps.few is.few;
+  handed = is.handed;
 }
 
 -- what was told

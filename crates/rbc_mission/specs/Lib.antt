@@ -1,1 +1,3 @@
 pub mod Supervisions
+pub mod Passing
+pub mod Handovers

@@ -1,11 +1,13 @@
 -- What a centre has of a train's mission, in memory and by the rules.
-use Rattle.std.specs.Prelude.{◌≡◌, ℕ, ◌+◌, ◌==◌, ◌≤◌, ◌<◌, ◌&&◌, true, false, if◌then◌else◌, length, replicate, Option, Some, None, option_map, is_some, is_none}
+use Rattle.std.specs.Prelude.{◌≡◌, ℕ, ◌+◌, ◌==◌, ◌≤◌, ◌<◌, ◌&&◌, true, false, if◌then◌else◌, length, replicate, Option, Some, None, option_map, option_and_then, is_some, is_none}
 use Rattle.std.specs.Option.{option_map_or}
-use Rattle.rbc_spec.specs.Maps.{put}
+use Rattle.rbc_spec.specs.Maps.{has, put}
+use Rattle.rbc_spec.specs.Line.{Line}
 use Rattle.rbc_spec.specs.Place.{Place}
 use Rattle.rbc_spec.specs.SectionRuns.{SectionRun, no_run, within, behind, is_empty, joined, part_before}
 use Rattle.rbc_spec.specs.Centre as spec
 use Rattle.rbc_spec.specs.Centre.{is_open}
+use Rattle.rbc_spec.specs.Acts.{part_at}
 use Rattle.rbc_spec.specs.Rules.{extended_by}
 use Rattle.rbc_hand.specs.Tokens.{Own}
 use Rattle.rbc_hand.specs.Hands.{Holding, run, nothing}
@@ -15,6 +17,8 @@ use Rattle.rbc_shorten.specs.Facts.{standing_of}
 use Rattle.rbc_book.specs.Book.{Pages, is_own, entry_at}
 use Rattle.rbc_claims.specs.Sections.{front_of, rest_of, next_of}
 use Rattle.rbc_border.specs.Border.{BorderState}
+use Rattle.rbc_handover.specs.Handings.{handover_name}
+use Rattle.rbc_handover.specs.declared.handing.HandoverName.{HandoverName}
 use Rattle.rbc_mission.specs.declared.facts.MissionFacts.{MissionFacts}
 use Rattle.rbc_mission.specs.declared.held.HeldRight.{HeldRight}
 use Rattle.rbc_mission.specs.declared.held.HeldRight.TheVariants.{Nothing, Held}
@@ -32,16 +36,16 @@ pub record SupervisionState : Type 0 where
 abbrev pub no_mission : ℕ → ℕ → SupervisionState
 no_mission number t = record { number = number; engine = t; mission = None; hand = nothing; asked = None }
 
--- the facts, the hand and the pool of a mission that is not handed over
-abbrev pub mission_of : SectionRun → SectionRun → MissionFacts → spec.Mission
-mission_of hand pool m = record {
+-- the facts, the hand, the pool and the handover of a mission
+abbrev pub mission_of : SectionRun → SectionRun → Option spec.Handing → MissionFacts → spec.Mission
+mission_of hand pool handing m = record {
   place = place_of m.place;
   hand = hand;
   pool = pool;
   has_data = m.has_data;
   is_ended = m.is_ended;
   proposal = standing_of m.proposal;
-  handing = None;
+  handing = handing;
 }
 
 -- the sections of its movement authority, and those of its pool; none where no mission stands
@@ -51,13 +55,16 @@ hand_of c = option_map_or (λ m. m.hand) c.mission no_run
 abbrev pub pool_of : SupervisionState → SectionRun
 pool_of c = option_map_or (λ m. m.pool) c.mission no_run
 
+-- its handover, where one stands
+abbrev pub handing_in : SupervisionState → Option spec.Handing
+handing_in c = option_and_then (λ (m : spec.Mission). m.handing) c.mission
+
 -- what holds of each mission that stands so
 pub record HasRouteForm (m : spec.Mission) : Type 0 where
   pub some : 1 ≤ m.hand.count
   pub most : m.hand.count ≤ 32
   pub numbers : behind m.hand ≤ 65535
   pub few : m.pool.count ≤ 31
-  pub handing : m.handing ≡ None
 
 -- ## What is done to it
 
@@ -73,9 +80,15 @@ claims_on t r = record { first = r.first; holds = replicate r.count (Own t) }
 abbrev pub without_front : Place → ℕ → spec.Mission → Option spec.Mission
 without_front place count m = if count == m.hand.count then None else Some (record m { place = place; hand = rest_of count m.hand })
 
+-- the handover that stands of a mission on this track with this hand: none where the hand has no section of the accepting centre
+abbrev pub still_handing : Line → ℕ → SectionRun → Option spec.Handing → Option spec.Handing
+still_handing line track hand handing = if has (λ (h : spec.Handing). is_empty (part_at line h.to track hand)) handing then None else handing
+
 -- the mission with so many of its first sections alone, and neither pool nor request; none where no section is left
-abbrev pub with_front : ℕ → spec.Mission → Option spec.Mission
-with_front count m = if count == 0 then None else Some (record m { hand = front_of count m.hand; pool = no_run; proposal = None })
+abbrev pub with_front : Line → ℕ → spec.Mission → Option spec.Mission
+with_front line count m =
+    if count == 0 then None
+    else Some (record m { hand = front_of count m.hand; pool = no_run; proposal = None; handing = still_handing line m.place.track (front_of count m.hand) m.handing })
 
 -- the mission at this place, with so many sections behind its hand: first those of its pool
 abbrev pub with_next : Place → ℕ → spec.Mission → spec.Mission
@@ -106,6 +119,14 @@ cut_run keep c = joined (rest_of keep (hand_of c)) (pool_of c)
 abbrev pub right_left : SupervisionState → SupervisionState → HeldRight
 right_left old new = if is_some old.mission && is_none new.mission then Held (right_of old.number) else Nothing
 
+-- what the handover goes by that stood and stands no more
+abbrev pub handover_left : SupervisionState → SupervisionState → Option HandoverName
+handover_left old new = if is_some (handing_in new) then None else option_map handover_name (handing_in old)
+
+-- with another handover or none, where a mission stands
+abbrev pub with_handing : Option spec.Handing → SupervisionState → SupervisionState
+with_handing handing c = record c { mission = option_map (λ (m : spec.Mission). record m { handing = handing }) c.mission }
+
 -- with another pool, where a mission stands
 abbrev pub with_pool : SectionRun → SupervisionState → SupervisionState
 with_pool pool c = record c { mission = option_map (λ (m : spec.Mission). record m { pool = pool }) c.mission }
@@ -127,17 +148,17 @@ with_supervision c k = record k { mission = put k.mission c.engine c.mission; ro
 
 -- ## In memory
 
-abbrev pub supervision_state : ℕ → ℕ → Option MissionFacts → Holding → BorderState → SupervisionState
-supervision_state number engine mission hand border =
-    record { number = number; engine = engine; mission = option_map (mission_of (run hand) border.pool) mission; hand = hand; asked = border.asked }
+abbrev pub supervision_state : ℕ → ℕ → Option MissionFacts → Holding → BorderState → Option spec.Handing → SupervisionState
+supervision_state number engine mission hand border handing =
+    record { number = number; engine = engine; mission = option_map (mission_of (run hand) border.pool handing) mission; hand = hand; asked = border.asked }
 
 -- the right is held exactly where a mission stands
 abbrev pub held_for : ℕ → Option MissionFacts → HeldRight
 held_for number None = Nothing
 held_for number (Some m) = Held (right_of number)
 
--- and so are sections; the border is that of the train, with a pool where a mission stands alone
-pub record IsSupervision (number engine : ℕ) (mission : Option MissionFacts) (hand : Holding) (held : HeldRight) (border : BorderState) : Type 0 where
+-- and so are sections; the border is that of the train, with a pool where a mission stands alone, and so is a handover
+pub record IsSupervision (number engine : ℕ) (mission : Option MissionFacts) (hand : Holding) (held : HeldRight) (border : BorderState) (handing : Option spec.Handing) : Type 0 where
   pub right : held ≡ held_for number mission
   pub some : is_empty (run hand) ≡ is_none mission
   pub most : length hand.holds ≤ 32
@@ -145,3 +166,4 @@ pub record IsSupervision (number engine : ℕ) (mission : Option MissionFacts) (
   pub train : border.engine ≡ engine
   pub none : mission ≡ None → border.pool ≡ no_run
   pub few : border.pool.count ≤ 31
+  pub handed : mission ≡ None → handing ≡ None

@@ -6,19 +6,21 @@ ghost use Rattle.rbc_hand.specs.SectionRuns.{run_of};
 ghost use Rattle.rbc_place.specs.Places.{place_of};
 ghost use Rattle.rbc_shorten.specs.Facts.{proposal_of};
 
+use crate::cancelling::{cancel_unless, keeps_border};
 use crate::facts::MissionFacts;
 use crate::held;
 use crate::released::{Released, leaving};
 use crate::supervision::Supervision;
 use rbc_book::Book;
 use rbc_hand::SectionRun;
+use rbc_line::Line;
 use rbc_place::Place;
 use rbc_right::Right;
 use rbc_shorten::Proposal;
 use rbc_wait::WaitingStart;
 
 impl Supervision {
-    ghost use Rattle.rbc_mission.specs.Supervisions.{hand_of, mission_at, claims_on, with_next, next_sections, without_front, with_front, cleared_run, cut_run, right_left, MayGrow};
+    ghost use Rattle.rbc_mission.specs.Supervisions.{hand_of, mission_at, claims_on, with_next, next_sections, without_front, with_front, cleared_run, cut_run, right_left, handover_left, MayGrow};
     ghost use Rattle.rbc_claims.specs.Sections.{TakesRun, FreesRun, wished, front_of, rest_of, hand_rest, hand_front, IsAllOpen, IsHeldAt, IsHeldBy};
 
     /// A mission begins at this place, with these sections, which are open, and with the right to supervise the train.
@@ -127,8 +129,8 @@ impl Supervision {
         }
     }
 
-    /// The train is at this place, and so many of its first sections leave. Where no section is left the mission closes, and its pool
-    /// leaves too.
+    /// The train is at this place, and so many of its first sections leave. Where no section is left the mission closes, its pool
+    /// leaves too, and its handover is cancelled.
     pub fn clear_front(&mut self, place: Place, count: u16, book: &mut Book) -> Released
         requires some { count ≤ (hand_of self.old).count }
         requires held { IsHeldBy self.old.engine self.old.hand book.old }
@@ -138,6 +140,7 @@ impl Supervision {
         ensures told { result.told ≡ wished self.old.engine (front_of count (hand_of self.old)) book.old }
         ensures right { result.right ≡ right_left self.old self.new }
         ensures returned { run_of result.returned ≡ cleared_run count self.old }
+        ensures cancelled { result.cancelled ≡ handover_left self.old self.new }
     {
         let Some(mission) = self.mission else {
             return Released::nothing();
@@ -148,24 +151,27 @@ impl Supervision {
         self.mission = MissionFacts { place, ..mission }.stay(is_left);
         let right = held::let_go(&mut self.right, is_left);
         let returned = leaving(SectionRun { first, count }, &mut self.border, is_left);
+        let cancelled = cancel_unless(&mut self.handover, is_left);
         Released {
             told,
             right,
             returned,
+            cancelled,
         }
     }
 
     /// All but so many of the first sections leave (3.8.6), and so does the pool; no request to shorten stands. Where no section is left
-    /// the mission closes.
-    pub fn shorten(&mut self, keep: u16, book: &mut Book) -> Released
+    /// the mission closes. Its handover is cancelled where no section of the accepting centre is left.
+    pub fn shorten(&mut self, line: &Line, keep: u16, book: &mut Book) -> Released
         requires some { keep ≤ (hand_of self.old).count }
         requires held { IsHeldBy self.old.engine self.old.hand book.old }
-        ensures supervision { self.new ≡ record self.old { mission = option_and_then (with_front keep) self.old.mission; hand = hand_front keep self.old.hand } }
+        ensures supervision { self.new ≡ record self.old { mission = option_and_then (with_front line.now keep) self.old.mission; hand = hand_front keep self.old.hand } }
         ensures held { IsHeldBy self.old.engine self.new.hand book.new }
         ensures book { FreesRun self.old.engine (rest_of keep (hand_of self.old)) book.old book.new }
         ensures told { result.told ≡ wished self.old.engine (rest_of keep (hand_of self.old)) book.old }
         ensures right { result.right ≡ right_left self.old self.new }
         ensures returned { run_of result.returned ≡ cut_run keep self.old }
+        ensures cancelled { result.cancelled ≡ handover_left self.old self.new }
     {
         let Some(mission) = self.mission else {
             return Released::nothing();
@@ -184,10 +190,14 @@ impl Supervision {
         self.mission = facts.stay(is_left);
         let right = held::let_go(&mut self.right, is_left);
         let returned = leaving(tail, &mut self.border, false);
+        let track = mission.place.track;
+        let is_handed = is_left && keeps_border(line, &self.handover, track, self.hand.run());
+        let cancelled = cancel_unless(&mut self.handover, is_handed);
         Released {
             told,
             right,
             returned,
+            cancelled,
         }
     }
 }

@@ -1,4 +1,4 @@
-ghost use Rattle.std.specs.Prelude.{◌≡◌, ◌≤◌, [], if◌then◌else◌};
+ghost use Rattle.std.specs.Prelude.{◌≡◌, ◌≤◌, [], None, if◌then◌else◌};
 ghost use Rattle.rbc_spec.specs.SectionRuns.{no_run, joined};
 ghost use Rattle.rbc_hand.specs.SectionRuns.{run_of};
 
@@ -6,16 +6,19 @@ use crate::held::HeldRight;
 use rbc_border::Border;
 use rbc_claims::Told;
 use rbc_hand::SectionRun;
+use rbc_handover::HandoverName;
 
 /// What leaves a mission: the sections that were wished back and are shut now, of which the interlocking is to be told, in rising
-/// order; the right to supervise the train, where the mission has closed; and the run of sections that left, hand before pool, of which
-/// those of other homes have to be returned. The right can't be dropped: it goes home.
+/// order; the right to supervise the train, where the mission has closed; the run of sections that left, hand before pool, of which
+/// those of other homes have to be returned; and what its handover goes by, where it has to be cancelled. The right can't be dropped: it
+/// goes home.
 #[must_use]
 #[derive(Debug)]
 pub struct Released {
     pub told: Told,
     pub right: HeldRight,
     pub returned: SectionRun,
+    pub cancelled: Option<HandoverName>,
 }
 
 impl Released {
@@ -24,11 +27,13 @@ impl Released {
         ensures told { result.told ≡ [] }
         ensures right { result.right ≡ HeldRight.Nothing }
         ensures returned { run_of result.returned ≡ no_run }
+        ensures cancelled { result.cancelled ≡ None }
     {
         Released {
             told: Told::nothing(),
             right: HeldRight::Nothing,
             returned: SectionRun { first: 0, count: 0 },
+            cancelled: None,
         }
     }
 }

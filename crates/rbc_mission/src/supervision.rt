@@ -7,11 +7,13 @@ use crate::held::HeldRight;
 use rbc_book::Book;
 use rbc_border::Border;
 use rbc_hand::{Hand, SectionRun};
+use rbc_handover::Handover;
 use std::alloc::{AllocError, Global};
 use std::marker::Model;
 
-/// What a centre supervises of one train of the line: its mission (the facts, the sections of its movement authority, those of its pool
-/// and the right to supervise it), or that no mission stands; and whether sections were asked for over the border without an answer.
+/// What a centre supervises of one train of the line: its mission (the facts, the sections of its movement authority, those of its pool,
+/// the right to supervise it, and its handover where one stands), or that no mission stands; and whether sections were asked for over
+/// the border without an answer.
 /// Room for 32 sections of the hand and for the pool is made at the beginning, and no call takes memory after that. It can't be
 /// copied, and not be dropped: its sections go back to the book or home, and its right to the registrar.
 #[must_use]
@@ -24,20 +26,22 @@ pub struct Supervision {
     pub(crate) hand: Hand,
     pub(crate) right: HeldRight,
     pub(crate) border: Border,
+    pub(crate) handover: Handover,
 }
 
 impl Model for Supervision {
+    ghost use Rattle.rbc_handover.specs.Handings.{handing_of};
     ghost use Rattle.rbc_mission.specs.Supervisions.{SupervisionState, supervision_state, IsSupervision};
 
     ghost Value = { SupervisionState };
 
-    ghost view = { λ c. supervision_state c.number c.nid_engine c.mission c.hand c.border };
+    ghost view = { λ c. supervision_state c.number c.nid_engine c.mission c.hand c.border (handing_of c.handover) };
 
-    ghost invariant = { λ c. IsSupervision c.number c.nid_engine c.mission c.hand c.right c.border };
+    ghost invariant = { λ c. IsSupervision c.number c.nid_engine c.mission c.hand c.right c.border (handing_of c.handover) };
 }
 
 impl Supervision {
-    ghost use Rattle.rbc_mission.specs.Supervisions.{no_mission, mission_of, hand_of, pool_of, HasRouteForm};
+    ghost use Rattle.rbc_mission.specs.Supervisions.{no_mission, mission_of, hand_of, pool_of, handing_in, HasRouteForm};
 
     /// A train with this place in the line file and this NID_ENGINE, without a mission.
     pub fn new(alloc: Global, number: u8, nid_engine: u32) -> Result<Supervision, AllocError>
@@ -52,6 +56,7 @@ impl Supervision {
                 hand,
                 right: HeldRight::Nothing,
                 border,
+                handover: Handover::None,
             }),
             Err(error) => {
                 hand.end();
@@ -76,7 +81,7 @@ impl Supervision {
 
     /// The facts of the mission. None exactly where none stands.
     pub fn mission(&self) -> Option<MissionFacts>
-        ensures value { option_map (mission_of (hand_of self.now) (pool_of self.now)) result ≡ self.now.mission }
+        ensures value { option_map (mission_of (hand_of self.now) (pool_of self.now) (handing_in self.now)) result ≡ self.now.mission }
         ensures route { (m : spec.Mission) → self.now.mission ≡ Some m → HasRouteForm m }
     {
         self.mission
@@ -100,7 +105,7 @@ impl Supervision {
         self.border.pool()
     }
 
-    /// Ends it, where its centre does: its sections go back to the book, and the names of lent ones end.
+    /// Ends it, where its centre does: its sections go back to the book, and the names of lent ones end, and so does its handover.
     pub fn end(self, book: &mut Book) {
         let Supervision {
             number: _,
@@ -109,9 +114,11 @@ impl Supervision {
             hand,
             right,
             border,
+            handover,
         } = self;
         rbc_claims::end_hand(hand, book);
         border.end();
         right.end();
+        handover.end();
     }
 }

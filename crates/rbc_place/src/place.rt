@@ -1,4 +1,4 @@
-ghost use Rattle.std.specs.Prelude.{◌<◌, ◌^◌};
+ghost use Rattle.std.specs.Prelude.{◌<◌, ◌≤◌, ◌^◌};
 
 /// Where a train is. Its ends are in decimetres from the start of its track.
 #[derive(Clone, Copy, Debug, PartialEq, Eq)]
@@ -7,11 +7,12 @@ pub struct Place {
     pub track: u8,
     /// NID_LRBG of the balise group that the report names: 24 bits.
     pub group: u32,
-    /// The safe front end.
+    /// The safe front end: 31 bits.
     pub front: u32,
     /// The safe rear end, known only where the train's integrity is confirmed. It may lie before the start of the track.
     pub rear: Option<i32>,
     pub ghost of_24_bits: { group < 2 ^ 24 },
+    pub ghost of_31_bits: { front ≤ 2147483647 },
 }
 
 impl Place {
