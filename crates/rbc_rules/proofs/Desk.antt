@@ -1,15 +1,14 @@
 -- What a message of a train comes to at a centre, by the parts of its state that it changes.
-use Rattle.std.proofs.Common.{◌≡◌, ℕ, false, List, [], ◌∷◌, length, is_some, Option, Some, None, refl, sym, ap, ◌∙◌, option_map}
+use Rattle.std.proofs.Common.{◌≡◌, ℕ, List, [], ◌∷◌, Option, Some, None, refl, sym, ap, ◌∙◌, option_map}
 use Rattle.rbc_spec.specs.Maps.{put}
-use Rattle.rbc_spec.specs.Reach.{Routes as ToRoutes}
+use Rattle.rbc_spec.specs.Reach.{Whole as ToWhole}
 use Rattle.rbc_spec.specs.Line.{Line}
 use Rattle.rbc_spec.specs.Message.{TrainMessage, TrackBody, unknown_group}
 use Rattle.rbc_spec.specs.Outcome.{Reason, Saying}
-use Rattle.rbc_spec.specs.Centre.{Centre, Phase, Mission, is_expected}
+use Rattle.rbc_spec.specs.Centre.{Centre, Phase, Mission, Expectation}
 use Rattle.rbc_spec.specs.Acts.{Act, Reply, rest, ◌>>◌, hear}
 use Rattle.rbc_spec.specs.Rules.{answered}
 use Rattle.rbc_spec.specs.Step.{Effect, Train, silence, effect}
-use Rattle.rbc_lemmas.proofs.Lists.{any-range_none}
 use Rattle.rbc_lemmas.proofs.Puts.{put_same}
 use Rattle.rbc_book.specs.Book.{Pages, entry_at, wish_at}
 use Rattle.rbc_right.specs.Rights.{Rights, is_here}
@@ -19,10 +18,11 @@ use Rattle.rbc_hand.specs.Hands.{Holding}
 use Rattle.rbc_mission.specs.Supervisions.{SupervisionState, HasSupervision, with_supervision}
 use Rattle.rbc_session.specs.SessionStates.{session_phase}
 use Rattle.rbc_session.specs.declared.session.SessionState.{SessionState}
-use Rattle.rbc_rules.specs.Desk.{HasParts, with_parts, replied, posted, reply_left}
+use Rattle.rbc_handover.specs.Expectations.{expected_from, HasExpectations, with_expectations}
+use Rattle.rbc_rules.specs.Desk.{HasParts, HasTurn, with_parts, replied, posted, reply_left}
 use Rattle.rbc_rules.specs.Letters.{mail_of, mail_to}
 use Rattle.rbc_rules.specs.Trains.{HasTrain, asked}
-use Rattle.rbc_rules.specs.Sayings.{sayings_of}
+use Rattle.rbc_rules.specs.Sayings.{sayings_of, told_train}
 use Rattle.rbc_rules.specs.declared.heard.Heard.{Heard}
 use Rattle.rbc_rules.specs.declared.train.TrainState.{TrainState}
 
@@ -37,19 +37,19 @@ abbrev pub by_reply : Reply → Effect
 by_reply r = record { reply = r; link = None; silence = None }
 
 pub silent_effect : (line : Line) (c : ℕ) (k : Centre) (m : TrainMessage) (why : Reason) → silence line c k m ≡ Some why
-    → effect ToRoutes line c k (Train m) ≡ record { reply = rest k; link = None; silence = Some why }
+    → effect ToWhole line c k (Train m) ≡ record { reply = rest k; link = None; silence = Some why }
 silent_effect line c k m why s = rw s refl
 
 -- a message without a reason of silence comes to what is answered where it was heard
-pub answered_effect : (line : Line) (c : ℕ) (k : Centre) (m : TrainMessage) (r : Reply) → silence line c k m ≡ None → answered ToRoutes line c m m.body (hear m k).state ≡ r
-    → effect ToRoutes line c k (Train m) ≡ by_reply r
-answered_effect line c k m r s e = rw s (ap by_reply (hear_then m (answered ToRoutes line c m m.body) k ∙ e))
+pub answered_effect : (line : Line) (c : ℕ) (k : Centre) (m : TrainMessage) (r : Reply) → silence line c k m ≡ None → answered ToWhole line c m m.body (hear m k).state ≡ r
+    → effect ToWhole line c k (Train m) ≡ by_reply r
+answered_effect line c k m r s e = rw s (ap by_reply (hear_then m (answered ToWhole line c m m.body) k ∙ e))
 
 -- ## Parts
 
 -- the train with this session, this T_TRAIN heard, so many messages said and this mission
 abbrev pub turned : TrainState → SessionState → Option ℕ → ℕ → Option Mission → TrainState
-turned p session heard said mission = record { session_state = session; heard = heard; said = said; supervision = record p.supervision { mission = mission }; waiting = p.waiting }
+turned p session heard said mission = record { session_state = session; heard = heard; said = said; supervision = record p.supervision { mission = mission }; waiting = p.waiting; expectations = p.expectations }
 
 -- the train with this mission
 abbrev pub with_mission : TrainState → Option Mission → TrainState
@@ -83,6 +83,9 @@ module _ (line : Line) (c : ℕ) (k : Centre) (p : TrainState) (book : Pages) (r
   pub same_ask : (u : ℕ) → k.has_asked u ≡ put k.has_asked t p.waiting.has_asked u
   same_ask u = sym (put_same t p.waiting.has_asked k.has_asked has.has_ask u)
 
+  pub same_expects : (d u : ℕ) → k.expects d u ≡ put (k.expects d) t (expected_from p.expectations d) u
+  same_expects d u = sym (put_same t (expected_from p.expectations d) (k.expects d) (has.has_expects d) u)
+
   -- of what waits of the train alone something has changed, and the book
   pub wait_left : (w : WaitState) (book' : Pages) → w.engine ≡ t → with_wait w book' k ≡ with_parts (record p { waiting = w }) book' rights k
   wait_left w book' engine = λ i. record k {
@@ -96,6 +99,7 @@ module _ (line : Line) (c : ℕ) (k : Centre) (p : TrainState) (book : Pages) (r
     wait = put k.wait (engine i) w.wait;
     has_asked = put k.has_asked (engine i) w.has_asked;
     has_right = λ u. same_right u i;
+    expects = λ d u. same_expects d u i;
   }
 
   -- what the centre has of a start of the train that waits
@@ -165,12 +169,13 @@ module _ (line : Line) (c : ℕ) (k : Centre) (p : TrainState) (book : Pages) (r
         wait = put k.wait (sym engine i) p.waiting.wait;
         has_asked = put k.has_asked (sym engine i) p.waiting.has_asked;
         has_right = put k.has_right (sym engine i) (is_here rights (sym number i));
+        expects = λ d. put (k.expects d) (sym engine i) (expected_from p.expectations d);
       })
 
   -- the train was asked to shorten its authority, or was not
   pub asked_is : (q : TrainState) (sayings : List Saying) → q.supervision.engine ≡ t → q.supervision.number ≡ p.supervision.number → q.supervision.asked ≡ p.supervision.asked → q.session_state ≡ p.session_state
-      → q.heard ≡ p.heard → q.waiting ≡ p.waiting → asked t q sayings k ≡ replied (with_parts q book rights k) sayings []
-  asked_is q sayings engine number question session heard waiting =
+      → q.heard ≡ p.heard → q.waiting ≡ p.waiting → q.expectations ≡ p.expectations → asked t q sayings k ≡ replied (with_parts q book rights k) sayings []
+  asked_is q sayings engine number question session heard waiting expectations =
       (λ i. replied (record (same_state i) { said = put k.said t q.said; mission = put k.mission t q.supervision.mission }) sayings [])
       ∙ (λ i. replied (record k {
         book = entry_at book;
@@ -183,6 +188,7 @@ module _ (line : Line) (c : ℕ) (k : Centre) (p : TrainState) (book : Pages) (r
         wait = put k.wait (sym engine i) (sym waiting i).wait;
         has_asked = put k.has_asked (sym engine i) (sym waiting i).has_asked;
         has_right = put k.has_right (sym engine i) (is_here rights (sym number i));
+        expects = λ d. put (k.expects d) (sym engine i) (expected_from (sym expectations i) d);
       }) sayings [])
 
   -- of the book alone something has changed
@@ -196,9 +202,21 @@ module _ (line : Line) (c : ℕ) (k : Centre) (p : TrainState) (book : Pages) (r
   pub has_train : HasTrain k t p
   has_train = record { phase_is = has.has_phase; mission_is = has.has_mission; said_is = has.has_said }
 
-  -- no train is expected
-  pub unexpected : is_expected line k t ≡ false
-  unexpected = any-range_none (λ d. is_some (k.expects d t)) 0 (length line.centres) (λ d low high. ap is_some (has.not_expected d t))
+  -- of the train what is expected alone is looked at
+  pub has_expectations : HasExpectations line t k p.expectations
+  has_expectations = record { count = has.kept.expected; has = has.has_expects }
+
+  -- of what is expected of the train alone something has changed
+  pub expects_left : (e : List (Option Expectation)) → with_expectations t e k ≡ with_parts (record p { expectations = e }) book rights k
+  expects_left e = λ i. record (same_state i) { expects = λ d. put (k.expects d) t (expected_from e d) }
+
+  -- what follows in a step goes by its turn
+  pub has_turn : HasTurn k p
+  has_turn = record { supervision = has_supervision; phase = has.has_phase; heard = has.has_heard; said = has.has_said }
+
+-- a train that is asked nothing
+pub asked_nothing : (t : ℕ) (k : Centre) (p : TrainState) → HasTrain k t p → asked t p [] k ≡ rest k
+asked_nothing t k p has = λ i. replied (record k { said = λ u. put_same t p.said k.said has.said_is u i; mission = λ u. put_same t p.supervision.mission k.mission has.mission_is u i }) [] []
 
 -- one message to a train, from no balise group
 abbrev pub answer_to : ℕ → ℕ → TrackBody → List Saying
@@ -210,6 +228,8 @@ pub left_as : (k : Centre) (p q : TrainState) (book : Pages) (rights : Rights) (
 left_as k p q book rights sayings sayings' told told' a b d = λ i. by_reply (replied (with_parts (a i) book rights k) (b i) (d i))
 
 -- and what was heard, which says this and tells nothing
-pub heard_said : (line : Line) (c t : ℕ) (k : Centre) (p q : TrainState) (book : Pages) (rights : Rights) (h : Heard) (sayings : List Saying) → p ≡ q → sayings_of h.saying ≡ sayings → h.mail ≡ mail_of None → h.told ≡ []
+pub heard_said : (line : Line) (c t : ℕ) (k : Centre) (p q : TrainState) (book : Pages) (rights : Rights) (h : Heard) (sayings : List Saying) → p ≡ q → sayings_of h.saying ≡ sayings → h.order ≡ None → h.mail ≡ mail_of None → h.told ≡ []
     → reply_left line c t (with_parts p book rights k) h ≡ replied (with_parts q book rights k) sayings []
-heard_said line c t k p q book rights h sayings left says mail told = λ i. posted (mail_to line c t (mail i)) (replied (with_parts (left i) book rights k) (says i) (told i))
+heard_said line c t k p q book rights h sayings left says order mail told =
+    (λ i. posted (mail_to line c t (λ d. (with_parts p book rights k).expects d t) (mail i)) (replied (with_parts p book rights k) (told_train h.saying (order i)) (told i)))
+    ∙ (λ i. replied (with_parts (left i) book rights k) (says i) [])

@@ -2,72 +2,62 @@
 use Rattle.std.proofs.Common.{◌≡◌, ℕ, ◌++◌, true, false, List, [], map, Option, Some, None, is_some, option_map, refl, sym, ap, ◌∙◌}
 use Rattle.std.specs.Option.{option_map_or}
 use Rattle.std.proofs.lemmas.List.{append-nil}
-use Rattle.std.proofs.lemmas.Option.{same_Some}
-use Rattle.rbc_spec.specs.Reach.{Routes as ToRoutes}
+use Rattle.rbc_spec.specs.Reach.{Whole as ToWhole}
 use Rattle.rbc_spec.specs.SectionRuns.{SectionRun, no_run}
 use Rattle.rbc_spec.specs.Line.{Line}
 use Rattle.rbc_spec.specs.Place.{Position}
 use Rattle.rbc_spec.specs.Message.{TrainMessage, EndOfMission}
 use Rattle.rbc_spec.specs.Frame.{Body}
 use Rattle.rbc_spec.specs.Outcome.{Told}
-use Rattle.rbc_spec.specs.Centre.{Centre, Up, Mission}
-use Rattle.rbc_spec.specs.Acts.{Act, rest, with_some, ◌>>◌, change_mission, return_pool, returned}
+use Rattle.rbc_spec.specs.Centre.{Centre, Up, Mission, Expectation}
+use Rattle.rbc_spec.specs.Acts.{Act, rest, with_some, ◌>>◌, change_mission, return_pool, returned, yield_if_due}
 use Rattle.rbc_spec.specs.Rules.{report_here}
 use Rattle.rbc_spec.specs.Step.{Train, effect}
 use Rattle.rbc_spec.specs.Maps.{put}
 use Rattle.rbc_lemmas.proofs.Puts.{put_there, put_over}
-use Rattle.rbc_local.proofs.Simple.{HasNoHanding}
 use Rattle.rbc_book.specs.Book.{Pages, is_own}
 use Rattle.rbc_right.specs.Rights.{Rights}
+use Rattle.rbc_border.specs.Lending.{HasBook}
 use Rattle.rbc_hand.specs.SectionRuns.{run_of}
 use Rattle.rbc_hand.specs.declared.section_run.SectionRun.{SectionRun as SectionRunCode}
 use Rattle.rbc_session.specs.SessionStates.{session_phase}
-use Rattle.rbc_mission.specs.Supervisions.{SupervisionState, with_pool, pool_of}
-use Rattle.rbc_rules.specs.Letters.{letters, going_home, mail_home, mail_to}
-use Rattle.rbc_rules.specs.Sayings.{sayings_of}
-use Rattle.rbc_rules.specs.Desk.{HasParts, HearsTrain, IsKeptAt, with_parts, posted, replied, reply_left, Does}
+use Rattle.rbc_mission.specs.Supervisions.{pool_of}
+use Rattle.rbc_rules.specs.Letters.{letters, notices, going_home, mail_home, mail_to}
+use Rattle.rbc_rules.specs.Sayings.{told_train}
+use Rattle.rbc_rules.specs.Desk.{HasParts, HasTurn, HearsTrain, IsKeptAt, with_parts, with_turn, followed, posted, replied, reply_left, Does}
 use Rattle.rbc_rules.specs.declared.heard.Heard.{Heard}
 use Rattle.rbc_rules.specs.declared.letter.Letter.{Letter}
 use Rattle.rbc_rules.specs.declared.mail.Mail.{Mail}
+use Rattle.rbc_rules.specs.declared.mail.Notice.{Notice}
+use Rattle.rbc_rules.specs.declared.mail.Notice.TheVariants as notices_of
 use Rattle.rbc_rules.specs.declared.train.TrainState.{TrainState}
 use Rattle.rbc_rules.proofs.Desk.{by_reply, answered_effect, same_state}
 use Rattle.rbc_rules.proofs.Turns.{in_turn, parts_over, has_left, heard_at, parts_heard, left_heard}
-use Rattle.rbc_rules.proofs.Kept.{unhanded, yields_nothing}
+use Rattle.rbc_rules.proofs.Yields.{ended, finished, then_yields}
 use Rattle.rbc_rules.proofs.Letters.{sends_home}
-
-abbrev pub ended : Mission → Mission
-ended m = record m { is_ended = true; proposal = None }
-
--- the pool has gone, and the mission is ended
-abbrev pub finished : SupervisionState → SupervisionState
-finished s = record s { mission = option_map ended (with_pool no_run s).mission }
-
-unhanded_end : (o : Option Mission) → HasNoHanding o → HasNoHanding (option_map ended (option_map (λ (m : Mission). record m { pool = no_run }) o))
-unhanded_end (Some y) none x is = ap (λ (z : Mission). z.handing) (sym (same_Some (ended (record y { pool = no_run })) x is)) ∙ none y refl
-unhanded_end None none x is = cc
 
 abbrev finishing : Line → ℕ → ℕ → Act
 finishing line c t = with_some (λ i. i.mission t) (λ x. return_pool line c t x >> change_mission t ended)
 
 -- ## What goes home
 
-module _ (line : Line) (c t track : ℕ) (first pool : SectionRunCode) (letter : Option Letter) where
+module _ (line : Line) (c t track : ℕ) (x : ℕ → Option Expectation) (first pool : SectionRunCode) (notice : Notice) (letter : Option Letter) where
   abbrev sent : Mail
-  sent = mail_home track first letter
+  sent = mail_home track first notice letter
 
   -- nothing more
-  no_more : run_of pool ≡ no_run → (d : ℕ) → mail_to line c t sent d ++ [] ≡ mail_to line c t (record sent { second = pool }) d
+  no_more : run_of pool ≡ no_run → (d : ℕ) → mail_to line c t x sent d ++ [] ≡ mail_to line c t x (record sent { second = pool }) d
   no_more none d =
-      append-nil (mail_to line c t sent d) ∙ ap (λ (r : SectionRun). going_home line c t track (run_of first) d ++ (going_home line c t track r d ++ letters letter d)) (sym none)
+      append-nil (mail_to line c t x sent d) ∙ ap (λ (r : SectionRun). going_home line c t track (run_of first) d ++ (going_home line c t track r d ++ (notices t x notice d ++ letters letter d))) (sym none)
 
-  -- or a pool, where no letter goes
-  and_pool : (r : SectionRun) → run_of pool ≡ r → letter ≡ None → (d : ℕ) → mail_to line c t sent d ++ going_home line c t track r d ≡ mail_to line c t (record sent { second = pool }) d
+  -- or a pool, where neither notice nor letter goes
+  and_pool : (r : SectionRun) → run_of pool ≡ r → (letter ≡ None) × (notice ≡ notices_of.Nothing) → (d : ℕ) → mail_to line c t x sent d ++ going_home line c t track r d ≡ mail_to line c t x (record sent { second = pool }) d
   and_pool r is none d =
       let goes : List Body = going_home line c t track (run_of first) d in
-      (λ i. (goes ++ letters (none i) d) ++ going_home line c t track r d)
+      (λ i. (goes ++ (notices t x (none.1 i) d ++ letters (none.0 i) d)) ++ going_home line c t track r d)
       ∙ ap (λ (xs : List Body). xs ++ going_home line c t track r d) (append-nil goes)
       ∙ (λ i. goes ++ sym (append-nil (going_home line c t track (sym is i) d)) i)
-      ∙ (λ i. goes ++ (going_home line c t track (run_of pool) d ++ letters (sym none i) d))
+      ∙ (λ i. goes ++ (going_home line c t track (run_of pool) d ++ (notices t x (sym none.1 i) d ++ letters (sym none.0 i) d)))
 
 -- ## The mission, if it still stands, is ended
 
@@ -130,56 +120,66 @@ module _ (line : Line) (c : ℕ) (k : Centre) (stamp : ℕ) (old : TrainState) (
 
   module _ (n : Mission) (mid : TrainState) (book' : Pages) (rights' : Rights) (heard : Heard) (pool : SectionRunCode) (up : session_phase old.session_state ≡ Up) (there : old.supervision.mission ≡ Some n) (goes_on : n.is_ended ≡ false)
       (engine : mid.supervision.engine ≡ e) (homes : (s : ℕ) → is_own book' s ≡ is_own book s) (kept : IsKeptAt line c mid) (does : Does line c (report_here line c e position n) (record old { heard = Some stamp }) book rights mid book' rights' heard)
-      (mail : heard.mail ≡ mail_home n.place.track heard.mail.first heard.mail.letter) (silent : is_some mid.supervision.mission ≡ true → heard.mail.letter ≡ None)
+      (order : heard.order ≡ None) (mail : heard.mail ≡ mail_home n.place.track heard.mail.first heard.mail.notice heard.mail.letter)
+      (silent : is_some mid.supervision.mission ≡ true → (heard.mail.letter ≡ None) × (heard.mail.notice ≡ notices_of.Nothing))
       (on : (x : Mission) → mid.supervision.mission ≡ Some x → x.place.track ≡ n.place.track) (returns : run_of pool ≡ pool_of mid.supervision) where
     abbrev mid_at : Centre
     mid_at = with_parts mid book' rights' at
 
-    abbrev new : TrainState
-    new = record mid { supervision = finished mid.supervision }
+    abbrev ended_train : TrainState
+    ended_train = record mid { supervision = finished mid.supervision }
+
+    -- what is expected of the train
+    abbrev x : ℕ → Option Expectation
+    x d = mid_at.expects d e
 
     has_mid : HasParts line c mid_at mid book' rights'
     has_mid = has_left line c at (record old { heard = Some stamp }) mid book book' rights rights' (parts_heard line c k stamp old book rights h.parts) homes kept
 
     abbrev home : Mail
-    home = mail_home n.place.track heard.mail.first heard.mail.letter
+    home = mail_home n.place.track heard.mail.first heard.mail.notice heard.mail.letter
+
+    abbrev pub both_heard : Heard
+    both_heard = record heard { mail = record heard.mail { second = pool } }
 
     -- what is finished, and what goes home with it
     abbrev Finishes : Option Mission → Type 0
-    Finishes o = (frames : ℕ → List Body) × (finishing line c e mid_at ≡ posted frames (replied (with_parts new book' rights' mid_at) [] []))
-        × ((d : ℕ) → mail_to line c e home d ++ frames d ≡ mail_to line c e (record home { second = pool }) d)
+    Finishes o = (frames : ℕ → List Body) × (finishing line c e mid_at ≡ posted frames (replied (with_parts ended_train book' rights' mid_at) [] []))
+        × ((d : ℕ) → mail_to line c e x home d ++ frames d ≡ mail_to line c e x (record home { second = pool }) d)
 
     finishes : (o : Option Mission) → mid.supervision.mission ≡ o → Finishes o
     finishes None none = (
       (λ d. []),
       ap (λ (u : ℕ). finishing line c u mid_at) (sym engine) ∙ ends_none line c mid_at mid book' rights' has_mid none,
-      no_more line c e n.place.track heard.mail.first pool heard.mail.letter (returns ∙ ap (λ o. option_map_or (λ (x : Mission). x.pool) o no_run) none),
+      no_more line c e n.place.track x heard.mail.first pool heard.mail.notice heard.mail.letter (returns ∙ ap (λ o. option_map_or (λ (y : Mission). y.pool) o no_run) none),
     )
-    finishes (Some x) stands = (
-      going_home line c e n.place.track x.pool,
-      ap (λ (u : ℕ). finishing line c u mid_at) (sym engine) ∙ ends_some line c mid_at mid book' rights' has_mid x stands
-          ∙ (λ i. posted (going_home line c (engine i) (on x stands i) x.pool) (replied (with_parts new book' rights' mid_at) [] [])),
-      and_pool line c e n.place.track heard.mail.first pool heard.mail.letter x.pool (returns ∙ ap (λ o. option_map_or (λ (y : Mission). y.pool) o no_run) stands) (silent (ap is_some stands)),
+    finishes (Some y) stands = (
+      going_home line c e n.place.track y.pool,
+      ap (λ (u : ℕ). finishing line c u mid_at) (sym engine) ∙ ends_some line c mid_at mid book' rights' has_mid y stands
+          ∙ (λ i. posted (going_home line c (engine i) (on y stands i) y.pool) (replied (with_parts ended_train book' rights' mid_at) [] [])),
+      and_pool line c e n.place.track x heard.mail.first pool heard.mail.notice heard.mail.letter y.pool (returns ∙ ap (λ o. option_map_or (λ (z : Mission). z.pool) o no_run) stands) (silent (ap is_some stands)),
     )
 
-    both : (with_some (λ i. i.mission e) (report_here line c e position) >> finishing line c e) at
-        ≡ posted (mail_to line c e (record home { second = pool })) (replied (with_parts new book' rights' at) (sayings_of heard.saying) heard.told)
+    both : (with_some (λ i. i.mission e) (report_here line c e position) >> finishing line c e) at ≡ reply_left line c e (with_parts ended_train book' rights' at) both_heard
     both =
         let f = finishes mid.supervision.mission refl in
         let stands : k.mission e ≡ Some n = h.parts.has_mission ∙ there in
-        in_turn (with_some (λ i. i.mission e) (report_here line c e position)) (finishing line c e) at (reply_left line c e mid_at heard) (posted f.0 (replied (with_parts new book' rights' mid_at) [] []))
-        (ap (λ o. option_map_or (λ x. report_here line c e position x at) o (rest at)) stands ∙ does at (parts_heard line c k stamp old book rights h.parts)) f.1
+        in_turn (with_some (λ i. i.mission e) (report_here line c e position)) (finishing line c e) at (reply_left line c e mid_at heard) (posted f.0 (replied (with_parts ended_train book' rights' mid_at) [] []))
+        (ap (λ o. option_map_or (λ y. report_here line c e position y at) o (rest at)) stands ∙ does at (parts_heard line c k stamp old book rights h.parts)) f.1
         ∙ (λ i. record {
-          state = parts_over mid new book' book' rights' rights' at refl i;
-          frames = λ d. (ap (λ (x : Mail). mail_to line c e x d ++ f.0 d) mail ∙ f.2 d) i;
-          sayings = append-nil (sayings_of heard.saying) i;
+          state = parts_over mid ended_train book' book' rights' rights' at refl i;
+          frames = λ d. (ap (λ (y : Mail). mail_to line c e x y d ++ f.0 d) mail ∙ f.2 d ∙ ap (λ (y : Mail). mail_to line c e x (record y { second = pool }) d) (sym mail)) i;
+          sayings = (append-nil (told_train heard.saying heard.order)) i;
           words = append-nil (map (λ s. Told s) heard.told) i;
         })
 
-    pub ends : effect ToRoutes line c k (Train m) ≡ by_reply (reply_left line c e (with_parts new book' rights' k) (record heard { mail = record heard.mail { second = pool } }))
-    ends =
+    pub ends : (new : TrainState) (book'' : Pages) (last : Heard)
+        → ((j : Centre) → HasTurn j ended_train → HasBook line c j book'
+        → followed (reply_left line c mid.supervision.engine j both_heard) (yield_if_due line c mid.supervision.engine) ≡ reply_left line c mid.supervision.engine (with_turn new book'' j) last)
+        → new ≡ record ended_train { said = new.said; supervision = record ended_train.supervision { mission = new.supervision.mission; hand = new.supervision.hand } }
+        → effect ToWhole line c k (Train m) ≡ by_reply (reply_left line c e (with_parts new book'' rights' k) last)
+    ends new book'' last yields is =
         let stands : k.mission e ≡ Some n = h.parts.has_mission ∙ there in
         answered_effect line c k m _ (rw (h.known, h.parts.has_heard, h.timely, h.parts.has_phase, up, stands, goes_on) refl)
-        (yields_nothing line c e (with_some (λ i. i.mission e) (report_here line c e position) >> finishing line c e) at new book' rights' (sayings_of heard.saying) heard.told (mail_to line c e (record home { second = pool })) engine
-        (unhanded_end mid.supervision.mission (unhanded line c mid kept)) both
-        ∙ (λ i. posted (mail_to line c e (record (sym mail i) { second = pool })) (replied (left_heard line c k stamp old book rights h.parts new book' rights' engine i) (sayings_of heard.saying) heard.told)))
+        (then_yields line c e (with_some (λ i. i.mission e) (report_here line c e position) >> finishing line c e) at ended_train new book' book'' rights' both_heard last engine (λ s. homes s ∙ h.parts.homes s) both yields is
+        ∙ ap (λ (y : Centre). reply_left line c e y last) (left_heard line c k stamp old book rights h.parts new book'' rights' (ap (λ (p : TrainState). p.supervision.engine) is ∙ engine)))

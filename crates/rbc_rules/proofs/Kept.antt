@@ -1,43 +1,22 @@
--- What stays of a train's mission and of its start that waits: its pool follows its hand, what is held is held, and no handover is yielded.
-use Rattle.std.proofs.Common.{◌≡◌, ◌+◌, ℕ, ◌≤◌, ◌==◌, if◌then◌else◌, Bool, true, false, List, Option, Some, None, is_some, is_none, ◌&&◌, option_map, option_and_then, refl, sym, ap, ◌∙◌, subst, arith}
+-- What stays of a train's mission and of its start that waits: its pool follows its hand, and what is held is held.
+use Rattle.std.proofs.Common.{◌≡◌, ◌+◌, ℕ, ◌≤◌, ◌==◌, if◌then◌else◌, Bool, true, false, Option, Some, None, is_some, is_none, ◌&&◌, option_map, option_and_then, refl, sym, ap, ◌∙◌, subst, arith}
 use Rattle.std.specs.Option.{option_map_or}
 use Rattle.std.proofs.lemmas.Bool.{eqb-false}
 use Rattle.std.proofs.lemmas.Option.{same_Some}
-use Rattle.rbc_spec.specs.Maps.{put}
 use Rattle.rbc_spec.specs.Line.{Line, is_home}
 use Rattle.rbc_spec.specs.Place.{Place}
 use Rattle.rbc_spec.specs.SectionRuns.{SectionRun, no_run, within, behind, is_empty}
-use Rattle.rbc_spec.specs.Frame.{Body}
-use Rattle.rbc_spec.specs.Outcome.{Saying}
-use Rattle.rbc_spec.specs.Centre.{Centre, Mission}
-use Rattle.rbc_spec.specs.Acts.{Act, Reply, rest, ◌>>◌, yield_if_due}
-use Rattle.rbc_lemmas.proofs.Acts.{then_resting}
-use Rattle.rbc_lemmas.proofs.Puts.{put_there}
-use Rattle.rbc_local.proofs.Simple.{HasNoHanding, no_yield}
-use Rattle.rbc_book.specs.Book.{Pages}
-use Rattle.rbc_right.specs.Rights.{Rights, right_of}
+use Rattle.rbc_spec.specs.Centre.{Mission, Handing}
+use Rattle.rbc_book.specs.Book.{Pages, is_own}
+use Rattle.rbc_right.specs.Rights.{right_of}
 use Rattle.rbc_hand.specs.Hands.{Holding}
-use Rattle.rbc_claims.specs.Sections.{rest_of, is_held_as, IsHeldAt}
-use Rattle.rbc_mission.specs.Supervisions.{SupervisionState, HasRouteForm, hand_of, without_front, right_left}
+use Rattle.rbc_claims.specs.Sections.{rest_of, is_held_as, IsHeldAt, IsHeldBy}
+use Rattle.rbc_mission.specs.Supervisions.{SupervisionState, HasRouteForm, hand_of, handing_in, without_front, right_left, handover_left}
+use Rattle.rbc_handover.specs.Handings.{handover_name}
 use Rattle.rbc_mission.specs.declared.held.HeldRight.TheVariants.{Nothing, Held}
-use Rattle.rbc_rules.specs.Desk.{IsKeptAt, IsHeld, with_parts, posted, replied}
+use Rattle.rbc_rules.specs.Desk.{IsKeptAt, IsHeld}
 use Rattle.rbc_rules.specs.declared.train.TrainState.{TrainState}
 use Rattle.rbc_rules.proofs.Desk.{with_mission}
-
--- ## Handovers
-
--- a train of this form has none
-pub unhanded : (line : Line) (c : ℕ) (p : TrainState) → IsKeptAt line c p → HasNoHanding p.supervision.mission
-unhanded line c p kept m is = (kept.form m is).handing
-
--- none is yielded behind an act that leaves none
-pub yields_nothing : (line : Line) (c t : ℕ) (act : Act) (k : Centre) (p : TrainState) (book : Pages) (rights : Rights) (sayings : List Saying) (told : List ℕ) (frames : ℕ → List Body) → p.supervision.engine ≡ t
-    → HasNoHanding p.supervision.mission → act k ≡ posted frames (replied (with_parts p book rights k) sayings told)
-    → (act >> yield_if_due line c t) k ≡ posted frames (replied (with_parts p book rights k) sayings told)
-yields_nothing line c t act k p book rights sayings told frames engine none is =
-    let left : HasNoHanding (put k.mission p.supervision.engine p.supervision.mission t) =
-    subst HasNoHanding (sym (put_there k.mission p.supervision.engine p.supervision.mission) ∙ ap (put k.mission p.supervision.engine p.supervision.mission) engine) none in
-    then_resting act (yield_if_due line c t) k (subst (λ (r : Reply). yield_if_due line c t r.state ≡ rest r.state) (sym is) (no_yield line c t (with_parts p book rights k) left)) ∙ is
 
 -- ## Missions
 
@@ -60,6 +39,7 @@ kept_changed line c p change form hand pool kept = record {
         kept.pool.away n.0 n.1 s (ap (λ r. within r s) (same_runs m n.0 n.2).0 ∙ here);
   };
   covers = kept.covers;
+  expected = kept.expected;
 }
   where
     same_runs : (m n : Mission) → change n ≡ m → (n.pool ≡ m.pool) × (n.hand ≡ m.hand)
@@ -82,7 +62,6 @@ rest_form place count n form few apart = record {
   most = let most = form.most in omega (arith, most);
   numbers = let numbers = form.numbers in omega (arith, numbers, few);
   few = form.few;
-  handing = form.handing;
 }
 
 -- its first sections have left it
@@ -99,6 +78,7 @@ kept_cleared line c p left hand place count few is kept = subst (λ (x : Supervi
         kept.pool.away n.0 n.1 s (ap (λ (x : Mission). within x.pool s) n.3 ∙ in_pool);
   };
   covers = kept.covers;
+  expected = kept.expected;
 })
   where
     within_hand : (n : Mission) → p.supervision.mission ≡ Some n → count ≤ n.hand.count
@@ -117,6 +97,25 @@ none_left old new stands = by (is_some old.mission) new.mission stands
     by false (Some m) is = refl
     by b None is = cc
 
+-- the handover stays of a mission whose handover stays
+pub not_left : (old new : SupervisionState) → handing_in new ≡ handing_in old → handover_left old new ≡ None
+not_left old new same = (λ i. if is_some (same i) then None else option_map handover_name (handing_in old)) ∙ by (handing_in old)
+  where
+    by : (o : Option Handing) → (if is_some o then None else option_map handover_name o) ≡ None
+    by None = refl
+    by (Some h) = refl
+
+-- the mission that is left of one behind its first sections has its handover
+pub cleared_handing : (place : Place) (count : ℕ) (o : Option Mission) → is_some (option_and_then (without_front place count) o) ≡ true
+    → option_and_then (λ (m : Mission). m.handing) (option_and_then (without_front place count) o) ≡ option_and_then (λ (m : Mission). m.handing) o
+cleared_handing place count None some = cc
+cleared_handing place count (Some n) some = by (count == n.hand.count) some
+  where
+    by : (b : Bool) → is_some (if b then None else Some (record n { place = place; hand = rest_of count n.hand })) ≡ true
+        → option_and_then (λ (m : Mission). m.handing) (if b then None else Some (record n { place = place; hand = rest_of count n.hand })) ≡ n.handing
+    by true e = cc
+    by false e = refl
+
 -- ## What is held
 
 -- at the sections of the line as by the book of its home, and back
@@ -128,3 +127,13 @@ held_as t u is_home is_home' hand train same so i held at =
 pub still_held : (line : Line) (c : ℕ) (p q : TrainState) → q.supervision.engine ≡ p.supervision.engine → q.supervision.hand ≡ p.supervision.hand → IsHeld line c p → IsHeld line c q
 still_held line c p q engine hand held =
     subst (λ (h : Holding). IsHeldAt q.supervision.engine (is_home line c) h) (sym hand) (subst (λ (t : ℕ). IsHeldAt t (is_home line c) p.supervision.hand) (sym engine) held)
+
+-- by the book of its home, as the same train
+pub held_hand : (line : Line) (c : ℕ) (p : TrainState) (left : SupervisionState) (book : Pages) → left.engine ≡ p.supervision.engine → left.hand ≡ p.supervision.hand → ((s : ℕ) → is_own book s ≡ is_home line c s)
+    → IsHeld line c p → IsHeldBy left.engine left.hand book
+held_hand line c p left book engine hand homes held =
+    subst (λ (h : Holding). IsHeldAt left.engine (is_own book) h) (sym hand) (held_as p.supervision.engine left.engine (is_home line c) (is_own book) p.supervision.hand (sym engine) homes held)
+
+-- and back
+pub held_again : (line : Line) (c t : ℕ) (q : TrainState) (book : Pages) → t ≡ q.supervision.engine → ((s : ℕ) → is_own book s ≡ is_home line c s) → IsHeldBy t q.supervision.hand book → IsHeld line c q
+held_again line c t q book engine homes held = held_as t q.supervision.engine (is_own book) (is_home line c) q.supervision.hand engine (λ s. sym (homes s)) held

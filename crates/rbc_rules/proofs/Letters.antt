@@ -12,8 +12,11 @@ use Rattle.rbc_right.specs.Rights.{Rights, is_here}
 use Rattle.rbc_mission.specs.declared.held.HeldRight.{HeldRight}
 use Rattle.rbc_rules.specs.Desk.{KeepsRights}
 use Rattle.rbc_rules.specs.Homes.{GoesHome}
-use Rattle.rbc_rules.specs.Letters.{going_home}
+use Rattle.rbc_rules.specs.Letters.{going_home, mail_home}
+use Rattle.rbc_hand.specs.declared.section_run.SectionRun.{SectionRun as SectionRunCode}
 use Rattle.rbc_rules.specs.declared.letter.Letter.{Letter}
+use Rattle.rbc_rules.specs.declared.mail.Mail.{Mail}
+use Rattle.rbc_rules.specs.declared.mail.Notice.{Notice}
 
 -- no right has come or gone
 pub rights_same : (rights : Rights) (i : ℕ) → KeepsRights i rights rights
@@ -34,3 +37,7 @@ sends_home line c t track r k d = elim (cases_Bool (is_empty r)) [
       (or_right (d == c) _ (eq-eqb (shared r (home_run line d track)).count 0 (omega (arith, count)))))
   | inr some ↦ cond-false (is_empty r) [] ((returned line c t track r (beginning line c)).frames d) some
 ]
+
+-- mail of sections, a notice and a letter is made of these
+pub sent_home : (track : ℕ) (sections : SectionRunCode) (notice : Notice) (mail : Mail) → mail ≡ mail_home track sections notice mail.letter → mail ≡ mail_home track mail.first mail.notice mail.letter
+sent_home track sections notice mail is = is ∙ (λ i. mail_home track (sym is i).first (sym is i).notice mail.letter)

@@ -8,6 +8,10 @@ pub mod Turns
 pub mod Letters
 pub mod RightFrames
 pub mod Kept
+pub mod Fronts
+pub mod Arrivals
+pub mod Borders
+pub mod Yields
 pub mod Received
 pub mod ShorteningRejected
 pub mod SessionMessages

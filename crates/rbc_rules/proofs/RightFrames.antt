@@ -21,7 +21,7 @@ use Rattle.rbc_hand.specs.Hands.{Holding}
 use Rattle.rbc_mission.specs.Supervisions.{SupervisionState, mission_at}
 use Rattle.rbc_mission.specs.declared.held.HeldRight.TheVariants.{Held}
 use Rattle.rbc_rules.specs.Desk.{HasParts, with_parts, with_right, posted, replied, reply_left}
-use Rattle.rbc_rules.specs.Sayings.{sayings_of}
+use Rattle.rbc_rules.specs.Sayings.{told_train}
 use Rattle.rbc_rules.specs.declared.heard.Heard.{Heard}
 use Rattle.rbc_rules.specs.Homes.{GoesHome}
 use Rattle.rbc_rules.specs.Letters.{letters, mail_to}
@@ -36,6 +36,10 @@ use Rattle.rbc_rules.proofs.Turns.{says}
 pub not_so : (b : Bool) → false ≡ not b → b ≡ true
 not_so true is = refl
 not_so false is = cc
+
+pub so_not : (b : Bool) → true ≡ not b → b ≡ false
+so_not true is = cc
+so_not false is = refl
 
 -- whether there is one, by a value that was read
 pub none_told : {A B : Type 0} (f : A → B) (o : Option A) (x : Option B) (b : Bool) → option_map f o ≡ x → is_some o ≡ not b → is_none x ≡ b
@@ -62,9 +66,9 @@ is_back rights rights' i right is few back =
     back i ∙ ap (λ (r : Right). put (is_here rights) r.train (nat_lt r.train (length rights)) i) is ∙ put_there (is_here rights) i (nat_lt i (length rights)) ∙ lt-ltb i (length rights) few
 
 -- what was released says nothing
-pub released_as : (line : Line) (c t : ℕ) (k : Centre) (h : Heard) (told : List ℕ) (mail : Mail) → h.saying ≡ None → h.mail ≡ mail → h.told ≡ told
-    → reply_left line c t k h ≡ posted (mail_to line c t mail) (replied k [] told)
-released_as line c t k h told mail saying sends is = λ i. posted (mail_to line c t (sends i)) (replied k (sayings_of (saying i)) (is i))
+pub released_as : (line : Line) (c t : ℕ) (k : Centre) (h : Heard) (told : List ℕ) (mail : Mail) → h.saying ≡ None → h.order ≡ None → h.mail ≡ mail → h.told ≡ told
+    → reply_left line c t k h ≡ posted (mail_to line c t (λ d. k.expects d t) mail) (replied k [] told)
+released_as line c t k h told mail saying order sends is = λ i. posted (mail_to line c t (λ d. k.expects d t) (sends i)) (replied k (told_train (saying i) (order i)) (is i))
 
 -- ## The frames
 

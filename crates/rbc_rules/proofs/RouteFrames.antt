@@ -21,6 +21,7 @@ use Rattle.rbc_rules.specs.Desk.{HasParts, with_parts, posted, replied, reply_le
 use Rattle.rbc_rules.specs.Letters.{going_home, mail_of, mail_home}
 use Rattle.rbc_rules.specs.Trains.{HasTrain, asked}
 use Rattle.rbc_rules.specs.declared.heard.Heard.{Heard}
+use Rattle.rbc_rules.specs.declared.mail.Notice.TheVariants as notice
 use Rattle.rbc_rules.specs.declared.train.TrainState.{TrainState}
 use Rattle.rbc_rules.proofs.Desk.{same_parts, same_mission, same_question, book_left, has_train, asked_is}
 use Rattle.rbc_rules.proofs.Turns.{in_turn, parts_over, has_left}
@@ -28,13 +29,13 @@ use Rattle.rbc_rules.proofs.Letters.{sends_home}
 use Rattle.rbc_rules.proofs.Runs.{all_each, all_fails}
 
 -- a centre is told something of the train, by the number that was read of it
-pub told_as : (line : Line) (c t d u : ℕ) (make : ℕ → Body) (k : Centre) (h : Heard) → u ≡ t → h ≡ record { saying = None; mail = mail_of (Some (record { to = d; body = make u })); told = [] }
+pub told_as : (line : Line) (c t d u : ℕ) (make : ℕ → Body) (k : Centre) (h : Heard) → u ≡ t → h ≡ record { saying = None; order = None; mail = mail_of (Some (record { to = d; body = make u })); told = [] }
     → send d (body_of (make t)) k ≡ reply_left line c t k h
 told_as line c t d u make k h same is = λ i. reply_left line c t k
-    ((ap (λ (e : ℕ). record { saying = None; mail = mail_of (Some (record { to = d; body = make e })); told = [] }) (sym same) ∙ sym is) i)
+    ((ap (λ (e : ℕ). record { saying = None; order = None; mail = mail_of (Some (record { to = d; body = make e })); told = [] }) (sym same) ∙ sym is) i)
 
 -- sections go home, and nothing is said
-pub goes_back : (line : Line) (c t track : ℕ) (sections : SectionRunCode) (k : Centre) (h : Heard) → h ≡ record { saying = None; mail = mail_home track sections None; told = [] }
+pub goes_back : (line : Line) (c t track : ℕ) (sections : SectionRunCode) (k : Centre) (h : Heard) → h ≡ record { saying = None; order = None; mail = mail_home track sections notice.Nothing None; told = [] }
     → returned line c t track (run_of sections) k ≡ reply_left line c t k h
 goes_back line c t track sections k h is =
     (λ i. posted (λ d. (sym (sends_home line c t track (run_of sections) k d) ∙ sym (append-nil (going_home line c t track (run_of sections) d))) i) (replied k [] []))
@@ -111,12 +112,12 @@ module _ (line : Line) (c : ℕ) (k : Centre) (p : TrainState) (book : Pages) (r
 
   pub asks_back : (s : ℕ) (left : SupervisionState) (q : TrainState) (sayings : List Saying) → left ≡ p.supervision → route_withdrawn line c t s k ≡ propose_if_so line t s (with_supervision left k)
       → ((j : Centre) → HasTrain j left.engine (record p { supervision = left }) → propose_if_so line left.engine s j ≡ asked left.engine q sayings j)
-      → q.supervision.engine ≡ left.engine → q.supervision.number ≡ left.number → q.supervision.asked ≡ left.asked → q.session_state ≡ p.session_state → q.heard ≡ p.heard → q.waiting ≡ p.waiting
+      → q.supervision.engine ≡ left.engine → q.supervision.number ≡ left.number → q.supervision.asked ≡ left.asked → q.session_state ≡ p.session_state → q.heard ≡ p.heard → q.waiting ≡ p.waiting → q.expectations ≡ p.expectations
       → route_withdrawn line c t s k ≡ replied (with_parts q book rights k) sayings []
-  asks_back s left q sayings same is asks engine number question session heard waiting =
+  asks_back s left q sayings same is asks engine number question session heard waiting expectations =
       is ∙ (λ i. propose_if_so line t s (with_supervision (same i) k)) ∙ ap (propose_if_so line t s) same_supervision
       ∙ subst (λ (x : SupervisionState). (j : Centre) → HasTrain j x.engine (record p { supervision = x }) → propose_if_so line x.engine s j ≡ asked x.engine q sayings j) same asks k (has_train line c k p book rights has)
-      ∙ asked_is line c k p book rights has q sayings (engine ∙ ap (λ (x : SupervisionState). x.engine) same) (number ∙ ap (λ (x : SupervisionState). x.number) same) (question ∙ ap (λ (x : SupervisionState). x.asked) same) session heard waiting
+      ∙ asked_is line c k p book rights has q sayings (engine ∙ ap (λ (x : SupervisionState). x.engine) same) (number ∙ ap (λ (x : SupervisionState). x.number) same) (question ∙ ap (λ (x : SupervisionState). x.asked) same) session heard waiting expectations
 
   -- ## Sections come home
 

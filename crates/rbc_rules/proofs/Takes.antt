@@ -1,6 +1,6 @@
 -- A message of a train: late or again, of a foreign engine, or one that is taken.
-use Rattle.std.proofs.Common.{◌≡◌, ℕ, true, false, List, [], ◌∷◌, Some, None, is_none, refl, sym, ap, ◌∙◌}
-use Rattle.rbc_spec.specs.Reach.{Routes as ToRoutes}
+use Rattle.std.proofs.Common.{◌≡◌, ℕ, true, false, List, [], ◌∷◌, Result, Some, None, is_none, refl, sym, ap, ◌∙◌}
+use Rattle.rbc_spec.specs.Reach.{Whole as ToWhole}
 use Rattle.rbc_spec.specs.Line.{Line, train_number}
 use Rattle.rbc_spec.specs.Message.{TrainMessage, TrainBody, TrainData, Request, Report, ShorteningGranted, ShorteningRejected, EndOfMission, InitiationOfSession, TerminationOfSession, StartOfMission, SessionEstablished, is_stale}
 use Rattle.rbc_spec.specs.Outcome.{Reason, StaleStamp, ForeignEngine, reasons_of}
@@ -11,11 +11,14 @@ use Rattle.std.specs.List.{find}
 use Rattle.rbc_book.specs.Book.{Pages, is_own}
 use Rattle.rbc_right.specs.Rights.{Rights, is_here}
 use Rattle.rbc_lemmas.proofs.Puts.{put_same}
+use Rattle.rbc_handover.specs.Giving.{with_count}
 use Rattle.rbc_session.specs.Sessions.{Records}
 use Rattle.rbc_session.specs.SessionStates.{StandsFor, session_phase}
 use Rattle.rbc_session.specs.declared.session.SessionState.{SessionState}
 use Rattle.rbc_session.proofs.SessionStates.{phase_at-session_state}
-use Rattle.rbc_rules.specs.Desk.{HasParts, KeepsDesk, with_parts, replied}
+use Rattle.rbc_rules.specs.Desk.{HasParts, KeepsDesk, with_parts, replied, effect_left}
+use Rattle.rbc_rules.specs.declared.heard.Heard.{Heard}
+use Rattle.rbc_rules.specs.declared.reason.Reason.{Reason as ReasonCode}
 use Rattle.rbc_rules.specs.SessionStates.{Enters}
 use Rattle.rbc_rules.specs.declared.train.TrainState.{TrainState}
 use Rattle.rbc_rules.proofs.SessionStates.{stays}
@@ -41,18 +44,27 @@ pub stale_silence : (line : Line) (c : ℕ) (k : Centre) (m : TrainMessage) → 
     → silence line c k m ≡ Some StaleStamp
 stale_silence line c k m known stale = ap (find (holds line c k m)) (reasons_begin m.body).1 ∙ rw (known, stale) refl
 
+-- no handover more was announced
+pub announced_same : (k : Centre) (count : ℕ) → k.announced ≡ count → k ≡ with_count count k
+announced_same k count is = λ i. record k { announced = is i }
+
 -- a message late or again leaves the parts as they are
 pub stale_left : (line : Line) (c : ℕ) (k : Centre) (p : TrainState) (book : Pages) (rights : Rights) (m : TrainMessage) → HasParts line c k p book rights → m.nid_engine ≡ p.supervision.engine
-    → is_none (train_number line p.supervision.engine) ≡ false → is_stale m.t_train p.heard ≡ true
-    → effect ToRoutes line c k (Train m) ≡ record { reply = replied (with_parts p book rights k) [] []; link = None; silence = Some StaleStamp }
-stale_left line c k p book rights m has engine known stale =
+    → is_none (train_number line p.supervision.engine) ≡ false → is_stale m.t_train p.heard ≡ true → (count : ℕ) → k.announced ≡ count
+    → effect ToWhole line c k (Train m) ≡ record { reply = replied (with_count count (with_parts p book rights k)) [] []; link = None; silence = Some StaleStamp }
+stale_left line c k p book rights m has engine known stale count is =
     silent_effect line c k m StaleStamp (stale_silence line c k m (ap (λ (t : ℕ). is_none (train_number line t)) engine ∙ known)
     (ap (is_stale m.t_train) (ap k.heard engine ∙ has.has_heard) ∙ stale))
-    ∙ ap (λ (r : Reply). record { reply = r; link = None; silence = Some StaleStamp }) (same_parts line c k p book rights has)
+    ∙ ap (λ (r : Reply). record { reply = r; link = None; silence = Some StaleStamp }) (same_parts line c k p book rights has ∙ ap (λ (x : Centre). replied x [] []) (announced_same (with_parts p book rights k) count is))
 
 -- one message and the same
-pub heard_as : (line : Line) (c : ℕ) (k : Centre) (m n : TrainMessage) (e : Effect) → effect ToRoutes line c k (Train n) ≡ e → m ≡ n → effect ToRoutes line c k (Train m) ≡ e
-heard_as line c k m n e is same = ap (λ (x : TrainMessage). effect ToRoutes line c k (Train x)) same ∙ is
+pub heard_same : (line : Line) (c : ℕ) (k : Centre) (m n : TrainMessage) (e : Effect) → effect ToWhole line c k (Train n) ≡ e → m ≡ n → effect ToWhole line c k (Train m) ≡ e
+heard_same line c k m n e is same = ap (λ (x : TrainMessage). effect ToWhole line c k (Train x)) same ∙ is
+
+-- by which no handover is announced
+pub heard_as : (line : Line) (c : ℕ) (k : Centre) (m n : TrainMessage) (t : ℕ) (left : Centre) (r : Result Heard ReasonCode) (count : ℕ)
+    → effect ToWhole line c k (Train n) ≡ effect_left line c t left r → m ≡ n → left.announced ≡ count → effect ToWhole line c k (Train m) ≡ effect_left line c t (with_count count left) r
+heard_as line c k m n t left r count comes same is = heard_same line c k m n _ comes same ∙ ap (λ (x : Centre). effect_left line c t x r) (announced_same left count is)
 
 -- what stays where nothing was changed
 pub same_rights : (i : ℕ) (book book' : Pages) (rights : Rights) → ((s : ℕ) → is_own book' s ≡ is_own book s) → KeepsDesk i book book' rights rights

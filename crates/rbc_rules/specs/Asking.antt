@@ -2,7 +2,7 @@
 use Rattle.std.specs.Prelude.{◌≡◌, ℕ, ◌+◌, [], ◌∷◌, Option, Some, None, option_map}
 use Rattle.rbc_spec.specs.Maps.{put}
 use Rattle.rbc_spec.specs.Message.{ShorteningRequest}
-use Rattle.rbc_spec.specs.Centre.{Centre, Mission}
+use Rattle.rbc_spec.specs.Centre.{Centre, Mission, Handing}
 use Rattle.rbc_spec.specs.Acts.{Reply}
 use Rattle.rbc_session.specs.SessionStates.{phase_of}
 use Rattle.rbc_shorten.specs.Facts.{proposal_of}
@@ -10,10 +10,10 @@ use Rattle.rbc_rules.specs.Desks.{mission_by}
 use Rattle.rbc_rules.specs.declared.known.Train.{Train}
 use Rattle.rbc_rules.specs.declared.asking.Asking.{Asking}
 
--- centre k has this session and this mission of the train, and its next message to it has this T_TRAIN
-pub record IsTrain (k : Centre) (train : Train) (stamp : ℕ) : Type 0 where
+-- centre k has this session and this mission of the train, with this handover, and its next message to it has this T_TRAIN
+pub record IsTrain (k : Centre) (handing : Option Handing) (train : Train) (stamp : ℕ) : Type 0 where
   pub has_phase : k.phase train.nid_engine ≡ phase_of train.phase
-  pub has_mission : k.mission train.nid_engine ≡ mission_by train.mission train.hand train.pool
+  pub has_mission : k.mission train.nid_engine ≡ mission_by train.mission train.hand train.pool handing
   pub counts : k.said train.nid_engine + 1 ≡ stamp
 
 -- the whole reply of centre k: message 9 to train t, which stands from then on; or nothing

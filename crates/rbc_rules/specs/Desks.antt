@@ -1,7 +1,7 @@
 -- What a decision is made by, and the state of a centre that it shows.
 use Rattle.std.specs.Prelude.{◌≡◌, ℕ, Option, option_map}
 use Rattle.rbc_spec.specs.Line.{Line, is_home}
-use Rattle.rbc_spec.specs.Centre.{Centre, Mission}
+use Rattle.rbc_spec.specs.Centre.{Centre, Mission, Handing}
 use Rattle.rbc_book.specs.Book.{Pages, is_own, entry_at}
 use Rattle.rbc_hand.specs.SectionRuns.{run_of}
 use Rattle.rbc_hand.specs.declared.section_run.SectionRun.{SectionRun}
@@ -16,6 +16,6 @@ IsBookOf line c book = (s : ℕ) → is_own book s ≡ is_home line c s
 abbrev pub HasBook : Centre → Pages → Type 0
 HasBook k book = (s : ℕ) → k.book s ≡ entry_at book s
 
--- the mission by its facts, its hand and its pool, if there is one
-abbrev pub mission_by : Option Facts → SectionRun → SectionRun → Option Mission
-mission_by facts hand pool = option_map (mission_of (run_of hand) (run_of pool)) facts
+-- the mission by its facts, its hand, its pool and its handover, if there is one
+abbrev pub mission_by : Option Facts → SectionRun → SectionRun → Option Handing → Option Mission
+mission_by facts hand pool handing = option_map (mission_of (run_of hand) (run_of pool) handing) facts

@@ -7,5 +7,7 @@ pub mod Sayings
 pub mod Letters
 pub mod Trains
 pub mod Desk
+pub mod Bordering
+pub mod Arriving
 pub mod Starts
 pub mod Homes

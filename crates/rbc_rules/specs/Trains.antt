@@ -1,5 +1,5 @@
 -- What a centre keeps of a train.
-use Rattle.std.specs.Prelude.{◌≡◌, ℕ, List, [], None, false}
+use Rattle.std.specs.Prelude.{◌≡◌, ℕ, List, [], Option, None, false}
 use Rattle.rbc_spec.specs.Maps.{put}
 use Rattle.rbc_spec.specs.Outcome.{Saying}
 use Rattle.rbc_spec.specs.Centre as centre
@@ -10,9 +10,16 @@ use Rattle.rbc_session.specs.SessionStates.{session_phase}
 use Rattle.rbc_session.specs.declared.session.SessionState.TheVariants as session_state
 use Rattle.rbc_rules.specs.declared.train.TrainState.{TrainState}
 
--- what is kept of a train that was never heard, by its place in the line file and its NID_ENGINE
-abbrev pub unknown_state : ℕ → ℕ → TrainState
-unknown_state i t = record { session_state = session_state.Closed; heard = None; said = 0; supervision = no_mission i t; waiting = nothing_waits t false }
+-- what is kept of a train that was never heard, by its place in the line file and its NID_ENGINE, with what is expected of it
+abbrev pub unknown_state : ℕ → ℕ → List (Option centre.Expectation) → TrainState
+unknown_state i t e = record {
+  session_state = session_state.Closed;
+  heard = None;
+  said = 0;
+  supervision = no_mission i t;
+  waiting = nothing_waits t false;
+  expectations = e;
+}
 
 -- centre k has this session and this mission of train t, and has said so many messages to it
 pub record HasTrain (k : centre.Centre) (t : ℕ) (p : TrainState) : Type 0 where

@@ -1,32 +1,27 @@
 //! Validated train data (3.18), and a request for a movement authority (3.8).
 
-ghost use Rattle.std.specs.Prelude.{◌≡◌, ◌<◌, ℕ, []};
-ghost use Rattle.std.specs.Option.{option_map_or};
+ghost use Rattle.std.specs.Prelude.{◌≡◌, ◌+◌, ◌<◌, ◌≤◌, ℕ};
 ghost use Rattle.rbc_spec.specs.Centre as spec;
 ghost use Rattle.rbc_spec.specs.Line as track;
-ghost use Rattle.rbc_spec.specs.Line.{next_centre};
 ghost use Rattle.rbc_spec.specs.Place as place;
 ghost use Rattle.rbc_spec.specs.Message.{TrainData, Request};
 ghost use Rattle.rbc_spec.specs.Reach as reach;
-ghost use Rattle.rbc_spec.specs.Acts.{rest};
-ghost use Rattle.rbc_spec.specs.Rules.{ask_route_if_due};
 ghost use Rattle.rbc_spec.specs.Step as step;
 ghost use Rattle.rbc_book.specs.Book.{Pages, is_own};
 ghost use Rattle.rbc_right.specs.Rights.{Rights};
-ghost use Rattle.rbc_rules.specs.Desk.{HearsTrain, IsKeptAt, IsHeld, KeepsTrain, with_parts, posted, replied, effect_left};
+ghost use Rattle.rbc_rules.specs.Desk.{HearsTrain, IsKeptAt, IsOnTrack, IsHeld, KeepsTrain, with_parts, effect_left};
 ghost use Rattle.rbc_msgs.specs.StepMessage.{position_of};
-ghost use Rattle.rbc_mission.specs.Supervisions.{HasSupervision, with_supervision};
+ghost use Rattle.rbc_handover.specs.Giving.{with_count};
 ghost use Rattle.rbc_rules.specs.Desks.{IsBookOf};
-ghost use Rattle.rbc_rules.specs.Letters.{letters};
 
+use crate::bordering::Bordering;
 use crate::heard::Heard;
-use crate::letter::Letter;
 use crate::reason::Reason;
 use crate::train::TrainState;
 use rbc_book::Book;
 use rbc_grant::{answer_request, may_request};
+use rbc_handover::HandoverCount;
 use rbc_line::Line;
-use rbc_linkmsg::Body;
 use rbc_msgs::{NID_LRBG_UNKNOWN, TrackBody};
 use rbc_packets::{Authority, Position};
 use rbc_place::place_on;
@@ -39,9 +34,10 @@ impl TrainState {
         requires count { self.old.said < 4294967294 }
         ensures exact { (line : track.Line) (c : ℕ) (book : Pages) (rights : Rights) (k : spec.Centre) (position : place.Position)
             → HearsTrain line c k t_train self.old book rights
-            → step.effect reach.Routes line c k (step.Train (record { t_train = t_train; nid_engine = self.old.supervision.engine; body = TrainData position }))
+            → step.effect reach.Whole line c k (step.Train (record { t_train = t_train; nid_engine = self.old.supervision.engine; body = TrainData position }))
             ≡ effect_left line c self.old.supervision.engine (with_parts self.new book rights k) result }
         ensures kept { KeepsTrain self.old self.new }
+        ensures expectations { self.new.expectations ≡ self.old.expectations }
         ensures hand { self.new.supervision.hand ≡ self.old.supervision.hand }
         ensures waiting { self.new.waiting ≡ self.old.waiting }
         ensures session { self.new.session_state ≡ self.old.session_state }
@@ -66,23 +62,28 @@ impl TrainState {
     }
 
     /// Message 132: the hand is extended by the sections that may follow it, first those of the pool, and the authority is given up to
-    /// its end. At a border the next centre is asked for the sections behind it, where they are due.
+    /// its end. At a border a handover is announced, and the next centre is asked for the sections behind it, where they are due.
     pub(crate) fn request(
         &mut self,
         line: &Line,
         centre: u8,
         book: &mut Book,
+        count: &mut HandoverCount,
         t_train: u32,
         position: &Position,
     ) -> Result<Heard, Reason>
-        requires count { self.old.said < 4294967294 }
+        requires count { self.old.said < 4294967293 }
+        requires announced { count.old < 1073741823 }
         requires book { IsBookOf line.now centre book.old }
         requires kept { IsKeptAt line.now centre self.old }
+        requires on { IsOnTrack line.now self.old }
         requires held { IsHeld line.now centre self.old }
-        ensures exact { (rights : Rights) (k : spec.Centre) → HearsTrain line.now centre k t_train self.old book.old rights
-            → step.effect reach.Routes line.now centre k (step.Train (record { t_train = t_train; nid_engine = self.old.supervision.engine; body = Request (position_of position.now) }))
-            ≡ effect_left line.now centre self.old.supervision.engine (with_parts self.new book.new rights k) result }
+        ensures exact { (rights : Rights) (k : spec.Centre) → HearsTrain line.now centre k t_train self.old book.old rights → k.announced ≡ count.old
+            → step.effect reach.Whole line.now centre k (step.Train (record { t_train = t_train; nid_engine = self.old.supervision.engine; body = Request (position_of position.now) }))
+            ≡ effect_left line.now centre self.old.supervision.engine (with_count count.new (with_parts self.new book.new rights k)) result }
         ensures kept { KeepsTrain self.old self.new }
+        ensures announced { (count.old ≤ count.new) × (count.new ≤ count.old + 1) }
+        ensures expectations { self.new.expectations ≡ self.old.expectations }
         ensures held { IsHeld line.now centre self.new }
         ensures waiting { self.new.waiting ≡ self.old.waiting }
         ensures session { self.new.session_state ≡ self.old.session_state }
@@ -119,27 +120,11 @@ impl TrainState {
             l_endsection: LEndsection::new(u64::from(grant.end)),
         });
         let saying = self.answer(place.group, authority);
-        let letter = self.ask_route(line, centre, place.track);
-        Ok(Heard::said_and_told(saying, letter))
-    }
-
-    // The next centre on the track is asked for the sections behind the hand, where they are due.
-    fn ask_route(&mut self, line: &Line, centre: u8, track: u8) -> Option<Letter>
-        ensures exact { (k : spec.Centre) → HasSupervision k self.old.supervision
-            → option_map_or (ask_route_if_due line.now self.old.supervision.engine) (next_centre line.now centre track) rest k
-            ≡ posted (letters result) (replied (with_supervision self.new.supervision k) [] []) }
-        ensures left { self.new ≡ record self.old { supervision = record self.old.supervision { asked = self.new.supervision.asked } } }
-    {
-        let next = line.next_centre(centre, track)?;
-        let engine = self.nid_engine();
-        let question = self.supervision.ask(line, next)?;
-        Some(Letter {
-            to: next,
-            body: Body::RouteAsk {
-                engine,
-                first: question.first,
-                most: question.most,
-            },
-        })
+        let Bordering {
+            order,
+            notice,
+            letter,
+        } = self.at_border(line, centre, count, place.track);
+        Ok(Heard::bordering(saying, order, notice, letter))
     }
 }

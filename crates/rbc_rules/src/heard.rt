@@ -1,17 +1,22 @@
-ghost use Rattle.std.specs.Prelude.{◌≡◌, [], Some, None};
-ghost use Rattle.rbc_rules.specs.Letters.{mail_of, mail_home};
+ghost use Rattle.std.specs.Prelude.{◌≡◌, [], Some, None, if◌then◌else◌};
+ghost use Rattle.rbc_spec.specs.SectionRuns.{is_empty};
+ghost use Rattle.rbc_hand.specs.SectionRuns.{run_of};
+ghost use Rattle.rbc_rules.specs.Letters.{mail_of, mail_home, no_sections};
 
 use crate::letter::Letter;
-use crate::mail::Mail;
+use crate::mail::{Mail, Notice};
 use crate::saying::Saying;
 use rbc_hand::SectionRun;
+use rbc_handover::Announcers;
 use rbc_mission::Told;
 
-/// What a message comes to that is not left without an answer, or a frame: what the train is answered, what is left for other centres,
-/// and the sections that were wished back and are shut now, of which the interlocking is told, in rising order.
+/// What a message comes to that is not left without an answer, or a frame: what the train is answered, and what it is ordered behind that; what is
+/// left for other centres; and the sections that were wished back and are shut now, of which the interlocking is told, in rising order.
 #[derive(Debug, Drop)]
 pub struct Heard {
     pub saying: Option<Saying>,
+    /// Where the next centre takes over (packet 131), or that the session with this one is to end (packet 42).
+    pub order: Option<Saying>,
     pub mail: Mail,
     pub told: Told,
 }
@@ -19,36 +24,44 @@ pub struct Heard {
 impl Heard {
     /// Nothing is said.
     pub fn nothing() -> Heard
-        ensures { result ≡ record { saying = None; mail = mail_of None; told = [] } }
+        ensures { result ≡ record { saying = None; order = None; mail = mail_of None; told = [] } }
     {
         Heard::of(None)
     }
 
     /// The train is answered.
     pub(crate) fn said(saying: Saying) -> Heard
-        ensures { result ≡ record { saying = Some saying; mail = mail_of None; told = [] } }
+        ensures { result ≡ record { saying = Some saying; order = None; mail = mail_of None; told = [] } }
     {
         Heard::of(Some(saying))
     }
 
-    /// The train is told this, or nothing.
-    pub(crate) fn of(saying: Option<Saying>) -> Heard
-        ensures { result ≡ record { saying = saying; mail = mail_of None; told = [] } }
+    /// The train is answered and ordered this, and other centres are told this.
+    pub(crate) fn bordering(
+        saying: Saying,
+        order: Option<Saying>,
+        notice: Notice,
+        letter: Option<Letter>,
+    ) -> Heard
+        ensures { result ≡ record { saying = Some saying; order = order; mail = mail_home 0 no_sections notice letter; told = [] } }
     {
+        let none = SectionRun { first: 0, count: 0 };
         Heard {
-            saying,
-            mail: Mail::of(None),
-            told: Told::nothing(),
+            order,
+            mail: Mail::home(0, none, notice, letter),
+            ..Heard::said(saying)
         }
     }
 
-    /// The train is answered, and another centre is told, or none.
-    pub(crate) fn said_and_told(saying: Saying, letter: Option<Letter>) -> Heard
-        ensures { result ≡ record { saying = Some saying; mail = mail_of letter; told = [] } }
+    /// The train is told this, or nothing.
+    pub(crate) fn of(saying: Option<Saying>) -> Heard
+        ensures { result ≡ record { saying = saying; order = None; mail = mail_of None; told = [] } }
     {
         Heard {
-            mail: Mail::of(letter),
-            ..Heard::said(saying)
+            saying,
+            order: None,
+            mail: Mail::of(None),
+            told: Told::nothing(),
         }
     }
 
@@ -56,29 +69,79 @@ impl Heard {
     pub(crate) fn with_second(self, sections: SectionRun) -> Heard
         ensures { result ≡ record self { mail = record self.mail { second = sections } } }
     {
+        let Heard {
+            saying,
+            order,
+            mail,
+            told,
+        } = self;
         let mail = Mail {
             second: sections,
-            ..self.mail
+            ..mail
         };
-        Heard { mail, ..self }
+        Heard {
+            saying,
+            order,
+            mail,
+            told,
+        }
+    }
+
+    /// Then the mission is yielded: this pool goes home too, behind the others of the track, the letter takes the mission, and the train is
+    /// ordered this or nothing.
+    pub(crate) fn and_yields(self, pool: SectionRun, letter: Letter, order: Option<Saying>) -> Heard
+        ensures { result ≡ record self {
+          order = order;
+          mail = record self.mail { second = (if is_empty (run_of pool) then self.mail.second else pool); letter = Some letter };
+        } }
+    {
+        let Heard {
+            saying,
+            order: _,
+            mail,
+            told,
+        } = self;
+        let second = if pool.is_empty() { mail.second } else { pool };
+        let mail = Mail {
+            second,
+            letter: Some(letter),
+            ..mail
+        };
+        Heard {
+            saying,
+            order,
+            mail,
+            told,
+        }
     }
 
     /// Sections of this track go home.
     pub(crate) fn returned(track: u8, sections: SectionRun) -> Heard
-        ensures { result ≡ record { saying = None; mail = mail_home track sections None; told = [] } }
+        ensures { result ≡ record { saying = None; order = None; mail = mail_home track sections Notice.Nothing None; told = [] } }
     {
         Heard {
-            mail: Mail::home(track, sections, None),
+            mail: Mail::home(track, sections, Notice::Nothing, None),
             ..Heard::nothing()
         }
     }
 
     /// Another centre is told.
     pub(crate) fn told(letter: Letter) -> Heard
-        ensures { result ≡ record { saying = None; mail = mail_of (Some letter); told = [] } }
+        ensures { result ≡ record { saying = None; order = None; mail = mail_of (Some letter); told = [] } }
     {
         Heard {
             mail: Mail::of(Some(letter)),
+            ..Heard::nothing()
+        }
+    }
+
+    /// These centres are told that this one is taking over.
+    pub(crate) fn taking_over(told: Announcers) -> Heard
+        ensures { result ≡ record { saying = None; order = None; mail = mail_home 0 no_sections (Notice.TakingOver told) None; told = [] } }
+    {
+        let none = SectionRun { first: 0, count: 0 };
+        Heard {
+            mail: Mail::home(0, none, Notice::TakingOver(told), None),
             ..Heard::nothing()
         }
     }

@@ -1,6 +1,6 @@
 //! A message of a train, at a radio block centre.
 
-ghost use Rattle.std.specs.Prelude.{◌≡◌, ◌<◌, ℕ, true, false, is_none, length};
+ghost use Rattle.std.specs.Prelude.{◌≡◌, ◌+◌, ◌<◌, ◌≤◌, ℕ, true, false, is_none, length};
 ghost use Rattle.rbc_spec.specs.Centre as spec;
 ghost use Rattle.rbc_spec.specs.Line.{train_number};
 ghost use Rattle.rbc_spec.specs.Message.{is_stale};
@@ -12,7 +12,8 @@ ghost use Rattle.rbc_msgs.specs.declared.train_body.TrainBody.TheVariants.{Initi
 ghost use Rattle.rbc_wait.specs.Waits.{IsCovered};
 ghost use Rattle.rbc_session.specs.Sessions.{HasRoom};
 ghost use Rattle.rbc_session.specs.SessionStates.{session_phase, StandsFor};
-ghost use Rattle.rbc_rules.specs.Desk.{HasParts, IsKeptAt, IsHeld, KeepsTrain, KeepsDesk, with_parts, effect_left};
+ghost use Rattle.rbc_rules.specs.Desk.{HasParts, IsKeptAt, IsOnTrack, IsHeld, KeepsTrain, KeepsDesk, with_parts, effect_left};
+ghost use Rattle.rbc_handover.specs.Giving.{with_count};
 ghost use Rattle.rbc_rules.specs.Desks.{IsBookOf};
 ghost use Rattle.rbc_rules.specs.Letters.{tells_others};
 ghost use Rattle.rbc_rules.specs.SessionStates.{Enters};
@@ -21,20 +22,22 @@ use crate::heard::Heard;
 use crate::reason::Reason;
 use crate::train::TrainState;
 use rbc_book::Book;
+use rbc_handover::HandoverCount;
 use rbc_line::Line;
 use rbc_msgs::{TrainBody, TrainMsg};
 use rbc_right::Registrar;
 use rbc_session::Sessions;
 
 impl TrainState {
-    /// Takes a message of this train, at centre c with this book, these rights and these sessions: what it comes to, or why it is
-    /// left without an answer, which changes nothing. There is room for a session that it opens.
+    /// Takes a message of this train, at centre c with this book, these rights, these sessions and so many handovers announced: what it
+    /// comes to, or why it is left without an answer, which changes nothing. There is room for a session that it opens.
     pub fn take(
         &mut self,
         line: &Line,
         centre: u8,
         book: &mut Book,
         registrar: &mut Registrar,
+        count: &mut HandoverCount,
         sessions: &mut Sessions,
         message: &TrainMsg,
     ) -> Result<Heard, Reason>
@@ -42,15 +45,19 @@ impl TrainState {
         requires number { self.old.supervision.number < length registrar.old }
         requires book { IsBookOf line.now centre book.old }
         requires kept { IsKeptAt line.now centre self.old }
+        requires on { IsOnTrack line.now self.old }
         requires held { IsHeld line.now centre self.old }
         requires stands { StandsFor sessions.old self.old.session_state self.old.supervision.engine }
         requires room { message.now.body ≡ InitiationOfSession → is_stale message.now.t_train self.old.heard ≡ false → HasRoom sessions.old }
-        requires count { self.old.said < 4294967294 }
+        requires count { self.old.said < 4294967293 }
+        requires announced { count.old < 1073741823 }
         ensures exact { (k : spec.Centre) → HasParts line.now centre k self.old book.old registrar.old → is_none (train_number line.now self.old.supervision.engine) ≡ false
-            → step.effect reach.Routes line.now centre k (step.Train (step_message message.now)) ≡ effect_left line.now centre self.old.supervision.engine (with_parts self.new book.new registrar.new k) result }
+            → k.announced ≡ count.old → step.effect reach.Whole line.now centre k (step.Train (step_message message.now)) ≡ effect_left line.now centre self.old.supervision.engine (with_count count.new (with_parts self.new book.new registrar.new k)) result }
         ensures kept { KeepsTrain self.old self.new }
         ensures held { IsHeld line.now centre self.new }
         ensures covers { IsCovered line.now self.old.waiting → IsCovered line.now self.new.waiting }
+        ensures announced { (count.old ≤ count.new) × (count.new ≤ count.old + 1) }
+        ensures expected { length self.new.expectations ≡ length self.old.expectations }
         ensures desk { KeepsDesk self.old.supervision.number book.old book.new registrar.old registrar.new }
         ensures stands { Enters sessions.old sessions.new self.new.session_state self.old.supervision.engine (session_phase self.new.session_state) }
     {
@@ -67,7 +74,7 @@ impl TrainState {
             }
             TrainBody::TrainData { .. } => self.train_data(t_train),
             TrainBody::Request { position, .. } => {
-                self.request(line, centre, book, t_train, position)
+                self.request(line, centre, book, count, t_train, position)
             }
             TrainBody::Report { position } => {
                 self.report(line, centre, book, registrar, t_train, position)
@@ -85,7 +92,8 @@ impl TrainState {
     }
 }
 
-/// Whether another centre may have to be told something by a train's message: the right or sections may be asked for, or go home.
+/// Whether another centre may have to be told something by a train's message: the right or sections may be asked for, or go home, and a
+/// handover is announced, claimed, cancelled or yielded.
 pub fn tells_others(body: &TrainBody) -> bool
     ensures { (m : TrainText) → m.body ≡ body.now → result ≡ tells_others (step_message m).body }
 {

@@ -1,8 +1,9 @@
 //! What one other centre is told.
 
-ghost use Rattle.std.specs.Prelude.{◌≡◌, option_map};
+ghost use Rattle.std.specs.Prelude.{◌≡◌, Some, option_map};
 ghost use Rattle.rbc_spec.specs.Line.{registrar};
 ghost use Rattle.rbc_rules.specs.Homes.{GoesHome};
+ghost use Rattle.rbc_rules.specs.Letters.{bodies_in, letters};
 
 use rbc_line::Line;
 use rbc_linkmsg::Body;
@@ -15,6 +16,19 @@ pub struct Letter {
     /// The number of the centre that it goes to.
     pub to: u8,
     pub body: Body,
+}
+
+impl Letter {
+    /// What it tells this centre.
+    pub fn to_centre(self, centre: u8) -> Option<Body>
+        ensures { bodies_in result ≡ letters (Some self) centre }
+    {
+        if self.to == centre {
+            Some(self.body)
+        } else {
+            None
+        }
+    }
 }
 
 /// A letter to the registrar of a train. None where the train is not of the line.

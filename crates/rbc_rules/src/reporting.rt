@@ -1,4 +1,4 @@
-//! A train position report (3.6.5) and the end of mission (5.5): what the train has cleared leaves its hand.
+//! A train position report (3.6.5) and the end of mission (5.5): what the train has cleared leaves its hand, and then a handover may be due.
 
 ghost use Rattle.std.specs.Prelude.{◌≡◌, ◌<◌, ℕ, length, Some, None, is_some, true};
 ghost use Rattle.rbc_spec.specs.Centre as spec;
@@ -13,6 +13,7 @@ ghost use Rattle.rbc_rules.specs.Letters.{mail_home};
 ghost use Rattle.rbc_place.specs.Places.{place_of};
 
 use crate::heard::Heard;
+use crate::mail::Notice;
 use crate::reason::Reason;
 use crate::train::TrainState;
 use rbc_book::Book;
@@ -24,7 +25,8 @@ use rbc_right::Registrar;
 use rbc_session::Phase;
 
 impl TrainState {
-    /// Message 136: the sections of the hand that the train has cleared are given back, and a mission without a section closes.
+    /// Message 136: the sections of the hand that the train has cleared are given back, and a mission without a section closes; then it is
+    /// yielded, where that is due. Of a train that another centre hands over to this one, its announcers are told that this one takes over.
     pub(crate) fn report(
         &mut self,
         line: &Line,
@@ -34,16 +36,18 @@ impl TrainState {
         t_train: u32,
         position: &Position,
     ) -> Result<Heard, Reason>
+        requires count { self.old.said < 4294967294 }
         requires number { self.old.supervision.number < length registrar.old }
         requires book { IsBookOf line.now centre book.old }
         requires held { IsHeld line.now centre self.old }
         ensures exact { (k : spec.Centre) → HearsTrain line.now centre k t_train self.old book.old registrar.old
-            → step.effect reach.Routes line.now centre k (step.Train (record { t_train = t_train; nid_engine = self.old.supervision.engine; body = Report (position_of position.now) }))
+            → step.effect reach.Whole line.now centre k (step.Train (record { t_train = t_train; nid_engine = self.old.supervision.engine; body = Report (position_of position.now) }))
             ≡ effect_left line.now centre self.old.supervision.engine (with_parts self.new book.new registrar.new k) result }
         ensures kept { KeepsTrain self.old self.new }
         ensures held { IsHeld line.now centre self.new }
         ensures session { self.new.session_state ≡ self.old.session_state }
         ensures waiting { self.new.waiting ≡ self.old.waiting }
+        ensures count { length self.new.expectations ≡ length self.old.expectations }
         ensures desk { KeepsDesk self.old.supervision.number book.old book.new registrar.old registrar.new }
     {
         let known = self.known();
@@ -53,17 +57,18 @@ impl TrainState {
             Phase::Up => {}
         }
         let Some(mission) = known.mission else {
-            return Err(Reason::NotSupervised);
+            return self.report_elsewhere(line, centre, t_train, position);
         };
         let Some(place) = place_on(line, mission.place.track, position) else {
             return Err(Reason::NoPlace);
         };
         self.heard = Some(t_train);
-        Ok(self.clear(line, centre, book, registrar, place))
+        let heard = self.clear(line, centre, book, registrar, place);
+        Ok(self.yield_if_due(line, centre, book, heard))
     }
 
     /// Message 150: what the train has cleared is given back, where its report has a place; then its mission is ended, and its pool goes
-    /// home.
+    /// home; then it is yielded, where that is due.
     pub(crate) fn end_of_mission(
         &mut self,
         line: &Line,
@@ -73,16 +78,18 @@ impl TrainState {
         t_train: u32,
         position: &Position,
     ) -> Result<Heard, Reason>
+        requires count { self.old.said < 4294967294 }
         requires number { self.old.supervision.number < length registrar.old }
         requires book { IsBookOf line.now centre book.old }
         requires held { IsHeld line.now centre self.old }
         ensures exact { (k : spec.Centre) → HearsTrain line.now centre k t_train self.old book.old registrar.old
-            → step.effect reach.Routes line.now centre k (step.Train (record { t_train = t_train; nid_engine = self.old.supervision.engine; body = EndOfMission (position_of position.now) }))
+            → step.effect reach.Whole line.now centre k (step.Train (record { t_train = t_train; nid_engine = self.old.supervision.engine; body = EndOfMission (position_of position.now) }))
             ≡ effect_left line.now centre self.old.supervision.engine (with_parts self.new book.new registrar.new k) result }
         ensures kept { KeepsTrain self.old self.new }
         ensures held { IsHeld line.now centre self.new }
         ensures session { self.new.session_state ≡ self.old.session_state }
         ensures waiting { self.new.waiting ≡ self.old.waiting }
+        ensures count { length self.new.expectations ≡ length self.old.expectations }
         ensures desk { KeepsDesk self.old.supervision.number book.old book.new registrar.old registrar.new }
     {
         let known = self.known();
@@ -102,7 +109,7 @@ impl TrainState {
         let heard = self.report_here(line, centre, book, registrar, track, position);
         let pool = self.supervision.return_pool();
         self.supervision.end_mission();
-        Ok(heard.with_second(pool))
+        Ok(self.yield_if_due(line, centre, book, heard.with_second(pool)))
     }
 
     // What the train has cleared leaves its hand, where the report has a place on this track.
@@ -121,9 +128,11 @@ impl TrainState {
         ensures exact { (m : spec.Mission) → self.old.supervision.mission ≡ Some m → m.place.track ≡ track
             → Does line.now centre (rules.report_here line.now centre self.old.supervision.engine (position_of position.now) m) self.old book.old registrar.old self.new book.new registrar.new result }
         ensures stays { IsKeptAt line.now centre self.old → IsKeptAt line.now centre self.new }
-        ensures mail { result.mail ≡ mail_home track result.mail.first result.mail.letter }
+        ensures order { result.order ≡ None }
+        ensures mail { result.mail ≡ mail_home track result.mail.first result.mail.notice result.mail.letter }
         ensures track { (m n : spec.Mission) → self.old.supervision.mission ≡ Some m → m.place.track ≡ track → self.new.supervision.mission ≡ Some n → n.place.track ≡ track }
-        ensures letter { is_some self.new.supervision.mission ≡ true → result.mail.letter ≡ None }
+        ensures letter { is_some self.new.supervision.mission ≡ true → (result.mail.letter ≡ None) × (result.mail.notice ≡ Notice.Nothing) }
+        ensures left { self.new ≡ record self.old { supervision = self.new.supervision } }
         ensures kept { KeepsTrain self.old self.new }
         ensures held { IsHeld line.now centre self.new }
         ensures session { self.new.session_state ≡ self.old.session_state }
@@ -151,9 +160,11 @@ impl TrainState {
         ensures exact { (m : spec.Mission) → self.old.supervision.mission ≡ Some m → m.place.track ≡ place.track
             → Does line.now centre (rules.clear line.now centre self.old.supervision.engine m (place_of place)) self.old book.old registrar.old self.new book.new registrar.new result }
         ensures stays { IsKeptAt line.now centre self.old → IsKeptAt line.now centre self.new }
-        ensures mail { result.mail ≡ mail_home place.track result.mail.first result.mail.letter }
+        ensures order { result.order ≡ None }
+        ensures mail { result.mail ≡ mail_home place.track result.mail.first result.mail.notice result.mail.letter }
         ensures track { (m : spec.Mission) → self.new.supervision.mission ≡ Some m → m.place.track ≡ place.track }
-        ensures letter { is_some self.new.supervision.mission ≡ true → result.mail.letter ≡ None }
+        ensures letter { is_some self.new.supervision.mission ≡ true → (result.mail.letter ≡ None) × (result.mail.notice ≡ Notice.Nothing) }
+        ensures left { self.new ≡ record self.old { supervision = self.new.supervision } }
         ensures kept { KeepsTrain self.old self.new }
         ensures held { IsHeld line.now centre self.new }
         ensures session { self.new.session_state ≡ self.old.session_state }

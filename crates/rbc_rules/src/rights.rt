@@ -9,11 +9,11 @@ ghost use Rattle.rbc_right.specs.Rights.{Rights};
 ghost use Rattle.rbc_wait.specs.Waits.{IsCovered};
 ghost use Rattle.rbc_rules.specs.Desk.{HasParts, IsHeld, KeepsTrain, KeepsRights, with_parts, reply_left};
 ghost use Rattle.rbc_rules.specs.Homes.{GoesHome};
-ghost use Rattle.rbc_rules.specs.Letters.{mail_home};
+ghost use Rattle.rbc_rules.specs.Letters.{cancel_of, mail_home};
 
 use crate::heard::Heard;
 use crate::letter::{Letter, go_home};
-use crate::mail::Mail;
+use crate::mail::{Mail, Notice};
 use crate::train::TrainState;
 use rbc_book::Book;
 use rbc_hand::SectionRun;
@@ -64,6 +64,7 @@ impl TrainState {
         ensures exact { (book : Pages) (k : spec.Centre) → HasParts line.now centre k self.old book registrar.old
             → links.right_given line.now centre self.old.supervision.engine k ≡ reply_left line.now centre self.old.supervision.engine (with_parts self.new book registrar.new k) result }
         ensures kept { KeepsTrain self.old self.new }
+        ensures expectations { self.new.expectations ≡ self.old.expectations }
         ensures held { (line : track.Line) (c : ℕ) → IsHeld line c self.old → IsHeld line c self.new }
         ensures session { self.new.session_state ≡ self.old.session_state }
         ensures covers { (line : track.Line) → IsCovered line self.old.waiting → IsCovered line self.new.waiting }
@@ -82,6 +83,7 @@ impl TrainState {
             told: Told::nothing(),
             right: HeldRight::Held(right),
             returned: SectionRun { first: 0, count: 0 },
+            cancelled: None,
         };
         self.released(line, centre, registrar, 0, released)
     }
@@ -92,6 +94,7 @@ impl TrainState {
         ensures exact { (line : track.Line) (c : ℕ) (rights : Rights) (k : spec.Centre) → HasParts line c k self.old book.old rights
             → links.right_refused line c self.old.supervision.engine k ≡ reply_left line c self.old.supervision.engine (with_parts self.new book.new rights k) result }
         ensures kept { KeepsTrain self.old self.new }
+        ensures expectations { self.new.expectations ≡ self.old.expectations }
         ensures supervision { self.new.supervision ≡ self.old.supervision }
         ensures session { self.new.session_state ≡ self.old.session_state }
         ensures covers { (line : track.Line) → IsCovered line self.old.waiting → IsCovered line self.new.waiting }
@@ -124,7 +127,7 @@ impl TrainState {
         Heard::nothing()
     }
 
-    // What leaves a mission on this track: what it gives back is told, and lent sections and its right go home.
+    // What leaves a mission on this track: what it gives back is told, lent sections and its right go home, and its handover is cancelled.
     pub(crate) fn released(
         &self,
         line: &Line,
@@ -134,19 +137,22 @@ impl TrainState {
         released: Released,
     ) -> Heard
         ensures saying { result.saying ≡ None }
+        ensures order { result.order ≡ None }
         ensures told { result.told ≡ released.told }
-        ensures mail { result.mail ≡ mail_home track released.returned result.mail.letter }
+        ensures mail { result.mail ≡ mail_home track released.returned (cancel_of released.cancelled) result.mail.letter }
         ensures right { GoesHome line.now centre self.now.supervision.engine released.right result.mail.letter registrar.old registrar.new }
     {
         let Released {
             told,
             right,
             returned,
+            cancelled,
         } = released;
         let letter = go_home(line, centre, self.nid_engine(), right, registrar);
         Heard {
             saying: None,
-            mail: Mail::home(track, returned, letter),
+            order: None,
+            mail: Mail::home(track, returned, Notice::cancel(cancelled), letter),
             told,
         }
     }

@@ -2,6 +2,7 @@
 //! SUBSET-039: Route Related Information).
 
 ghost use Rattle.std.specs.Prelude.{◌≡◌, ◌+◌, ◌<◌, ◌≤◌, ◌&&◌, ℕ, not, if◌then◌else◌, is_some, is_none, []};
+ghost use Rattle.std.specs.List.{list_any};
 ghost use Rattle.rbc_spec.specs.Acts.{rest, where_so, end_order};
 ghost use Rattle.rbc_spec.specs.Centre as spec;
 ghost use Rattle.rbc_spec.specs.Line.{section};
@@ -12,12 +13,11 @@ ghost use Rattle.rbc_spec.specs.Sections.{nid_rbc};
 ghost use Rattle.rbc_book.specs.Book.{Pages, is_own};
 ghost use Rattle.rbc_hand.specs.SectionRuns.{run_of};
 ghost use Rattle.rbc_msgs.specs.Bodies.{track_body};
+ghost use Rattle.rbc_msgs.specs.declared.track.TrackBody.TheVariants as code;
 ghost use Rattle.rbc_right.specs.Rights.{Rights};
-ghost use Rattle.rbc_session.specs.SessionStates.{session_phase};
 ghost use Rattle.rbc_rules.specs.Desk.{HasParts, KeepsTrain, with_parts, replied, reply_left};
 ghost use Rattle.rbc_rules.specs.Sayings.{sayings_of};
 
-use crate::asking::is_up;
 use crate::heard::Heard;
 use crate::letter::Letter;
 use crate::saying::Saying;
@@ -27,7 +27,6 @@ use rbc_border::{bring_back, lend, uses_some};
 use rbc_hand::SectionRun;
 use rbc_line::Line;
 use rbc_linkmsg::Body;
-use rbc_msgs::{NID_LRBG_UNKNOWN, TrackBody};
 use rbc_packets::SessionOrder;
 use rbc_vars::{NidC, NidRbc};
 
@@ -63,6 +62,7 @@ impl TrainState {
         ensures exact { (c : ℕ) (book : Pages) (rights : Rights) (k : spec.Centre) → HasParts line.now c k self.old book rights
             → links.route_told line.now c from self.old.supervision.engine (run_of sections) k ≡ reply_left line.now c self.old.supervision.engine (with_parts self.new book rights k) result }
         ensures kept { KeepsTrain self.old self.new }
+        ensures expectations { self.new.expectations ≡ self.old.expectations }
         ensures hand { self.new.supervision.hand ≡ self.old.supervision.hand }
         ensures session { self.new.session_state ≡ self.old.session_state }
         ensures waiting { self.new.waiting ≡ self.old.waiting }
@@ -85,6 +85,7 @@ impl TrainState {
             → (if is_some (section line.now s) then links.route_withdrawn line.now c self.old.supervision.engine s else rest) k
             ≡ reply_left line.now c self.old.supervision.engine (with_parts self.new book rights k) result }
         ensures kept { KeepsTrain self.old self.new }
+        ensures expectations { self.new.expectations ≡ self.old.expectations }
         ensures hand { self.new.supervision.hand ≡ self.old.supervision.hand }
         ensures session { self.new.session_state ≡ self.old.session_state }
         ensures waiting { self.new.waiting ≡ self.old.waiting }
@@ -119,6 +120,7 @@ impl TrainState {
             → (if all_of (λ s. is_some (section line.now s)) (run_of sections) then links.route_returned line.now centre from self.old.supervision.engine (run_of sections) else rest) k
             ≡ reply_left line.now centre self.old.supervision.engine (with_parts self.new book.new rights k) result }
         ensures kept { KeepsTrain self.old self.new }
+        ensures expectations { self.new.expectations ≡ self.old.expectations }
         ensures supervision { self.new.supervision ≡ self.old.supervision }
         ensures session { self.new.session_state ≡ self.old.session_state }
         ensures waiting { self.new.waiting ≡ self.old.waiting }
@@ -152,23 +154,22 @@ impl TrainState {
         if uses_some(line, book, self.nid_engine()) {
             return None;
         }
-        let order = TrackBody::EndSession(session_order(line, centre));
-        Some(self.answer(NID_LRBG_UNKNOWN, order))
+        self.order_end(line, centre)
     }
 
-    // Whether the train's session is up, and neither a mission nor a start that waits is here.
+    // Whether neither a mission of the train nor a start that waits is here, and it is not expected.
     fn is_gone(&self) -> bool
-        ensures { result ≡ ((is_none self.now.supervision.mission && is_none self.now.waiting.wait) && spec.is_up (session_phase self.now.session_state)) }
+        ensures { result ≡ ((is_none self.now.supervision.mission && is_none self.now.waiting.wait) && not (list_any is_some self.now.expectations)) }
     {
         self.supervision.mission().is_none()
             && self.waiting.place().is_none()
-            && is_up(self.session_state.phase())
+            && !self.expectations.is_expected()
     }
 }
 
-// The order to end the session with this centre (3.5.5).
-fn session_order(line: &Line, centre: u8) -> SessionOrder
-    ensures { track_body (TrackBody.EndSession result) ≡ message.EndSession line.now.nid_c (nid_rbc line.now centre) }
+/// The order to end the session with this centre (3.5.5).
+pub(crate) fn session_order(line: &Line, centre: u8) -> SessionOrder
+    ensures { track_body (code.EndSession result) ≡ message.EndSession line.now.nid_c (nid_rbc line.now centre) }
 {
     let nid_c = line.nid_c();
     let nid_rbc = match line.nid_rbc(centre) {

@@ -57,6 +57,7 @@ impl TrainState {
     pub(crate) fn answered(&mut self, body: TrackBody) -> Heard
         requires { self.old.said < 4294967294 }
         ensures said { sayings_of result.saying ≡ record { nid_engine = self.old.supervision.engine; message = record { t_train = self.old.said + 1; nid_lrbg = unknown_group; body = track_body body } } ∷ [] }
+        ensures order { result.order ≡ None }
         ensures mail { result.mail ≡ mail_of None }
         ensures told { result.told ≡ [] }
         ensures counted { self.new ≡ record self.old { said = self.old.said + 1 } }

@@ -36,9 +36,10 @@ impl TrainState {
         requires room { HasRoom sessions.old }
         requires count { self.old.said < 4294967294 }
         ensures exact { (line : track.Line) (c : ℕ) (rights : Rights) (k : spec.Centre) → HearsTrain line c k t_train self.old book.old rights
-            → step.effect reach.Routes line c k (step.Train (record { t_train = t_train; nid_engine = self.old.supervision.engine; body = InitiationOfSession }))
+            → step.effect reach.Whole line c k (step.Train (record { t_train = t_train; nid_engine = self.old.supervision.engine; body = InitiationOfSession }))
             ≡ effect_left line c self.old.supervision.engine (with_parts self.new book.new rights k) result }
         ensures kept { KeepsTrain self.old self.new }
+        ensures expectations { self.new.expectations ≡ self.old.expectations }
         ensures hand { self.new.supervision.hand ≡ self.old.supervision.hand }
         ensures covers { (line : track.Line) → IsCovered line self.old.waiting → IsCovered line self.new.waiting }
         ensures homes { (s : ℕ) → is_own book.new s ≡ is_own book.old s }
@@ -52,6 +53,7 @@ impl TrainState {
         let saying = self.answer(NID_LRBG_UNKNOWN, TrackBody::SystemVersion);
         Ok(Heard {
             saying: Some(saying),
+            order: None,
             mail: Mail::of(None),
             told,
         })
@@ -65,9 +67,10 @@ impl TrainState {
     ) -> Result<Heard, Reason>
         requires stands { StandsFor sessions.old self.old.session_state self.old.supervision.engine }
         ensures exact { (line : track.Line) (c : ℕ) (book : Pages) (rights : Rights) (k : spec.Centre) → HearsTrain line c k t_train self.old book rights
-            → step.effect reach.Routes line c k (step.Train (record { t_train = t_train; nid_engine = self.old.supervision.engine; body = SessionEstablished }))
+            → step.effect reach.Whole line c k (step.Train (record { t_train = t_train; nid_engine = self.old.supervision.engine; body = SessionEstablished }))
             ≡ effect_left line c self.old.supervision.engine (with_parts self.new book rights k) result }
         ensures kept { KeepsTrain self.old self.new }
+        ensures expectations { self.new.expectations ≡ self.old.expectations }
         ensures hand { self.new.supervision.hand ≡ self.old.supervision.hand }
         ensures waiting { self.new.waiting ≡ self.old.waiting }
         ensures stands { Enters sessions.old sessions.new self.new.session_state self.old.supervision.engine (session_phase self.new.session_state) }
@@ -93,9 +96,10 @@ impl TrainState {
         requires stands { StandsFor sessions.old self.old.session_state self.old.supervision.engine }
         requires count { self.old.said < 4294967294 }
         ensures exact { (line : track.Line) (c : ℕ) (rights : Rights) (k : spec.Centre) → HearsTrain line c k t_train self.old book.old rights
-            → step.effect reach.Routes line c k (step.Train (record { t_train = t_train; nid_engine = self.old.supervision.engine; body = TerminationOfSession }))
+            → step.effect reach.Whole line c k (step.Train (record { t_train = t_train; nid_engine = self.old.supervision.engine; body = TerminationOfSession }))
             ≡ effect_left line c self.old.supervision.engine (with_parts self.new book.new rights k) result }
         ensures kept { KeepsTrain self.old self.new }
+        ensures expectations { self.new.expectations ≡ self.old.expectations }
         ensures hand { self.new.supervision.hand ≡ self.old.supervision.hand }
         ensures covers { (line : track.Line) → IsCovered line self.old.waiting → IsCovered line self.new.waiting }
         ensures homes { (s : ℕ) → is_own book.new s ≡ is_own book.old s }
@@ -113,6 +117,7 @@ impl TrainState {
         let saying = self.answer(NID_LRBG_UNKNOWN, TrackBody::TerminationAcknowledged);
         Ok(Heard {
             saying: Some(saying),
+            order: None,
             mail: Mail::of(None),
             told,
         })

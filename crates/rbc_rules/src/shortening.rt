@@ -17,6 +17,7 @@ use crate::heard::Heard;
 use crate::reason::Reason;
 use crate::train::TrainState;
 use rbc_book::Book;
+use rbc_hand::SectionRun;
 use rbc_line::Line;
 use rbc_packets::Position;
 use rbc_place::place_on;
@@ -27,7 +28,7 @@ use rbc_vars::TTrain;
 
 impl TrainState {
     /// Message 137: the request that is answered stands no more. A train that has not run past the proposed end gives back what
-    /// is behind it, and a mission without a section closes.
+    /// is behind it, and a mission without a section closes; then it is yielded, where that is due.
     pub(crate) fn shortening_granted(
         &mut self,
         line: &Line,
@@ -38,16 +39,18 @@ impl TrainState {
         request: TTrain,
         position: &Position,
     ) -> Result<Heard, Reason>
+        requires count { self.old.said < 4294967294 }
         requires number { self.old.supervision.number < length registrar.old }
         requires book { IsBookOf line.now centre book.old }
         requires held { IsHeld line.now centre self.old }
         ensures exact { (k : spec.Centre) → HearsTrain line.now centre k t_train self.old book.old registrar.old
-            → step.effect reach.Routes line.now centre k (step.Train (record { t_train = t_train; nid_engine = self.old.supervision.engine; body = ShorteningGranted request (position_of position.now) }))
+            → step.effect reach.Whole line.now centre k (step.Train (record { t_train = t_train; nid_engine = self.old.supervision.engine; body = ShorteningGranted request (position_of position.now) }))
             ≡ effect_left line.now centre self.old.supervision.engine (with_parts self.new book.new registrar.new k) result }
         ensures kept { KeepsTrain self.old self.new }
         ensures held { IsHeld line.now centre self.new }
         ensures session { self.new.session_state ≡ self.old.session_state }
         ensures waiting { self.new.waiting ≡ self.old.waiting }
+        ensures expectations { self.new.expectations ≡ self.old.expectations }
         ensures desk { KeepsDesk self.old.supervision.number book.old book.new registrar.old registrar.new }
     {
         let known = self.known();
@@ -69,13 +72,17 @@ impl TrainState {
         ) {
             Ok(Cut::Keep(keep)) => {
                 self.heard = Some(t_train);
-                let released = self.supervision.shorten(keep, book);
-                Ok(self.released(line, centre, registrar, mission.place.track, released))
+                let released = self.supervision.shorten(line, keep, book);
+                let track = mission.place.track;
+                let heard = self.released(line, centre, registrar, track, released);
+                Ok(self.yield_if_due(line, centre, book, heard))
             }
             Ok(Cut::Nothing) => {
                 self.heard = Some(t_train);
                 self.supervision.forget_proposal();
-                Ok(Heard::nothing())
+                let none = SectionRun { first: 0, count: 0 };
+                let heard = Heard::returned(mission.place.track, none);
+                Ok(self.yield_if_due(line, centre, book, heard))
             }
             Err(_) => Err(Reason::Unasked),
         }
@@ -89,9 +96,10 @@ impl TrainState {
     ) -> Result<Heard, Reason>
         ensures exact { (line : track.Line) (c : ℕ) (book : Pages) (rights : Rights) (k : spec.Centre) (position : place.Position)
             → HearsTrain line c k t_train self.old book rights
-            → step.effect reach.Routes line c k (step.Train (record { t_train = t_train; nid_engine = self.old.supervision.engine; body = ShorteningRejected request position }))
+            → step.effect reach.Whole line c k (step.Train (record { t_train = t_train; nid_engine = self.old.supervision.engine; body = ShorteningRejected request position }))
             ≡ effect_left line c self.old.supervision.engine (with_parts self.new book rights k) result }
         ensures kept { KeepsTrain self.old self.new }
+        ensures expectations { self.new.expectations ≡ self.old.expectations }
         ensures hand { self.new.supervision.hand ≡ self.old.supervision.hand }
         ensures session { self.new.session_state ≡ self.old.session_state }
         ensures waiting { self.new.waiting ≡ self.old.waiting }

@@ -52,9 +52,10 @@ impl TrainState {
         requires count { self.old.said < 4294967294 }
         requires book { IsBookOf line.now centre book.old }
         ensures exact { (k : spec.Centre) → HearsTrain line.now centre k t_train self.old book.old registrar.old
-            → step.effect reach.Routes line.now centre k (step.Train (record { t_train = t_train; nid_engine = self.old.supervision.engine; body = StartOfMission (is_valid q_status) (position_of position.now) }))
+            → step.effect reach.Whole line.now centre k (step.Train (record { t_train = t_train; nid_engine = self.old.supervision.engine; body = StartOfMission (is_valid q_status) (position_of position.now) }))
             ≡ effect_left line.now centre self.old.supervision.engine (with_parts self.new book.new registrar.new k) result }
         ensures kept { KeepsTrain self.old self.new }
+        ensures expectations { self.new.expectations ≡ self.old.expectations }
         ensures held { IsHeld line.now centre self.old → IsHeld line.now centre self.new }
         ensures covers { IsCovered line.now self.old.waiting → IsCovered line.now self.new.waiting }
         ensures session { self.new.session_state ≡ self.old.session_state }
@@ -75,6 +76,7 @@ impl TrainState {
             Start::Rejected => Ok(self.answered(TrackBody::TrainRejected)),
             Start::Waiting(letter) => Ok(Heard {
                 saying: None,
+                order: None,
                 mail: Mail::of(letter),
                 told: Told::nothing(),
             }),
@@ -95,7 +97,7 @@ impl TrainState {
         requires book { IsBookOf line.now centre book.old }
         requires none { self.old.waiting.wait ≡ None }
         ensures exact { (k : spec.Centre) → HasParts line.now centre k self.old book.old registrar.old
-            → rules.start_mission reach.Routes line.now centre self.old.supervision.engine (is_valid q_status) (position_of position.now) k
+            → rules.start_mission reach.Whole line.now centre self.old.supervision.engine (is_valid q_status) (position_of position.now) k
             ≡ started self.old.supervision.engine result (with_parts self.new book.new registrar.new k) }
         ensures same { self.new ≡ record self.old { supervision = self.new.supervision; waiting = self.new.waiting } }
         ensures kept { KeepsTrain self.old self.new }

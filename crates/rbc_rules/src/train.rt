@@ -1,11 +1,13 @@
-ghost use Rattle.std.specs.Prelude.{◌≡◌, ◌+◌, ◌<◌, ◌≤◌, ℕ, IfOk, IfSome, None, Some, option_map};
+ghost use Rattle.std.specs.Prelude.{◌≡◌, ◌+◌, ◌<◌, ◌≤◌, ℕ, length, IfOk, IfSome, None, Some, false, option_map};
 ghost use Rattle.rbc_spec.specs.Message.{is_stale};
 ghost use Rattle.rbc_spec.specs.Centre as spec;
 ghost use Rattle.rbc_spec.specs.Acts.{propose_if_so};
 ghost use Rattle.rbc_hand.specs.SectionRuns.{run_of};
 ghost use Rattle.rbc_place.specs.Places.{place_of};
 ghost use Rattle.rbc_session.specs.SessionStates.{phase_of, session_phase};
-ghost use Rattle.rbc_mission.specs.Supervisions.{HasRouteForm, hand_of};
+ghost use Rattle.rbc_mission.specs.Supervisions.{HasRouteForm, hand_of, handing_in};
+ghost use Rattle.rbc_handover.specs.Expectations.{expected_from};
+ghost use Rattle.rbc_wait.specs.Waits.{nothing_waits};
 ghost use Rattle.rbc_rules.specs.Desks.{mission_by};
 ghost use Rattle.rbc_rules.specs.Trains.{asked, unknown_state, HasTrain};
 ghost use Rattle.rbc_rules.specs.Sayings.{sayings_of};
@@ -15,6 +17,7 @@ use crate::known::Train;
 use crate::saying::Saying;
 use rbc_book::Book;
 use rbc_hand::SectionRun;
+use rbc_handover::Expectations;
 use rbc_line::Line;
 use rbc_mission::{MissionFacts, Supervision};
 use rbc_msgs::TrackBody;
@@ -57,28 +60,34 @@ pub struct TrainState {
     pub supervision: Supervision,
     /// Its start of mission that waits, and whether its right is asked for.
     pub waiting: WaitingStart,
+    /// The handovers of it that other centres have announced.
+    pub expectations: Expectations,
 }
 
 impl TrainState {
-    /// What is kept of a train that was never heard, with this place in the line file.
+    /// What is kept of a train of this line that was never heard, with this place in the line file.
     /// For want of memory the book ends what was made.
     pub fn unknown(
         alloc: Global,
+        line: &Line,
         number: u8,
         nid_engine: u32,
         book: &mut Book,
     ) -> Result<TrainState, AllocError>
-        ensures state { IfOk result (λ p. p ≡ unknown_state number nid_engine) }
+        ensures state { IfOk result (λ p. p ≡ unknown_state number nid_engine p.expectations) }
+        ensures count { IfOk result (λ p. length p.expectations ≡ length line.now.centres) }
+        ensures none { IfOk result (λ p. (d : ℕ) → expected_from p.expectations d ≡ None) }
         ensures book { IfOk result (λ p. book.new ≡ book.old) }
     {
         let supervision = Supervision::new(alloc, number, nid_engine)?;
-        match WaitingStart::new(alloc, nid_engine) {
-            Ok(waiting) => Ok(TrainState {
+        match starts_and_handovers(alloc, line, nid_engine, book) {
+            Ok((waiting, expectations)) => Ok(TrainState {
                 session_state: SessionState::Closed,
                 heard: None,
                 said: 0,
                 supervision,
                 waiting,
+                expectations,
             }),
             Err(error) => {
                 supervision.end(book);
@@ -106,7 +115,7 @@ impl TrainState {
         ensures phase { phase_of result.phase ≡ session_phase self.now.session_state }
         ensures heard { result.heard ≡ self.now.heard }
         ensures said { result.said ≡ self.now.said }
-        ensures mission { mission_by result.mission result.hand result.pool ≡ self.now.supervision.mission }
+        ensures mission { mission_by result.mission result.hand result.pool (handing_in self.now.supervision) ≡ self.now.supervision.mission }
         ensures waiting { option_map place_of result.waiting ≡ self.now.waiting.wait }
     {
         TrainPage {
@@ -125,8 +134,8 @@ impl TrainState {
         ensures number { result.number ≡ self.now.supervision.number }
         ensures engine { result.nid_engine ≡ self.now.supervision.engine }
         ensures phase { phase_of result.phase ≡ session_phase self.now.session_state }
-        ensures mission { mission_by result.mission result.hand result.pool ≡ self.now.supervision.mission }
-        ensures route { (m : spec.Mission) → mission_by result.mission result.hand result.pool ≡ Some m → HasRouteForm m }
+        ensures mission { mission_by result.mission result.hand result.pool (handing_in self.now.supervision) ≡ self.now.supervision.mission }
+        ensures route { (m : spec.Mission) → mission_by result.mission result.hand result.pool (handing_in self.now.supervision) ≡ Some m → HasRouteForm m }
     {
         Train {
             number: self.supervision.number(),
@@ -146,10 +155,12 @@ impl TrainState {
             said: _,
             supervision,
             waiting,
+            expectations,
         } = self;
         sessions.end(session_state);
         supervision.end(book);
         waiting.end(book);
+        expectations.end();
     }
 
     /// Whether a message came late or again (3.16.3).
@@ -174,6 +185,7 @@ impl TrainState {
         ensures number { self.new.supervision.number ≡ self.old.supervision.number }
         ensures engine { self.new.supervision.engine ≡ self.old.supervision.engine }
         ensures waiting { self.new.waiting ≡ self.old.waiting }
+        ensures expectations { self.new.expectations ≡ self.old.expectations }
         ensures said { self.new.said ≤ self.old.said + 1 }
     {
         let known = self.known();
@@ -183,5 +195,27 @@ impl TrainState {
             l_endsection: LEndsection::new(u64::from(asking.l_endsection)),
         });
         Some(self.answer(asking.nid_lrbg, request))
+    }
+}
+
+// Room for a start of mission that waits, and for the handovers that other centres announce.
+fn starts_and_handovers(
+    alloc: Global,
+    line: &Line,
+    nid_engine: u32,
+    book: &mut Book,
+) -> Result<(WaitingStart, Expectations), AllocError>
+    ensures waiting { IfOk result (λ made. made.0 ≡ nothing_waits nid_engine false) }
+    ensures count { IfOk result (λ made. length made.1 ≡ length line.now.centres) }
+    ensures none { IfOk result (λ made. (d : ℕ) → expected_from made.1 d ≡ None) }
+    ensures book { IfOk result (λ made. book.new ≡ book.old) }
+{
+    let waiting = WaitingStart::new(alloc, nid_engine)?;
+    match Expectations::new(alloc, line) {
+        Ok(expectations) => Ok((waiting, expectations)),
+        Err(error) => {
+            waiting.end(book);
+            Err(error)
+        }
     }
 }

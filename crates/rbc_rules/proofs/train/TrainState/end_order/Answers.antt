@@ -1,6 +1,4 @@
-use Rattle.std.proofs.Common.{◌∙◌, ◌+◌, ◌∷◌, [], ap, sym}
-use Rattle.rbc_spec.specs.Message.{unknown_group}
-use Rattle.rbc_rules.specs.Desk.{with_parts, replied}
+use Rattle.std.proofs.Common.{◌∙◌, sym}
 use Rattle.rbc_rules.proofs.RouteFrames.{has_pages, same_use}
 use Rattle.rbc_rules.proofs.Gone.{stays_here, still_used, is_ordered}
 use Rattle.rbc_rules.proofs.train.TrainState.end_order.Goals as goal
@@ -22,5 +20,4 @@ returns-clause-exact c = λ rights k has.
     let p = c.args.self.now in
     is_ordered line c.args.centre k p c.args.book.now rights has (sym c.is_gone.ensures ∙ c.if-not-is_gone.false)
     (same_use line c.args.centre k c.nid_engine.result p.supervision.engine c.uses_some.result c.nid_engine.ensures (c.uses_some.ensures c.args.centre k (has_pages line c.args.centre k p c.args.book.now rights has)) ∙ c.if-uses_some.false)
-    ∙ (λ i. replied (with_parts (sym c.answer.ensures.counted i) c.args.book.now rights k)
-    ((ap (λ b. record { nid_engine = p.supervision.engine; message = record { t_train = p.said + 1; nid_lrbg = unknown_group; body = b } }) (sym c.session_order.ensures) ∙ sym c.answer.ensures.saying) i ∷ []) [])
+    c.order_end.new.self c.order_end.result c.order_end.ensures.said c.order_end.ensures.exact

@@ -14,7 +14,7 @@ returns-in-Some-clause-exact c = λ m there is k has.
 
 pub returns-in-Some-clause-mail : goal.returns-in-Some-clause-mail
 returns-in-Some-clause-mail c =
-    c.clear.ensures.mail ∙ ap (λ track. mail_home track c.clear.result.mail.first c.clear.result.mail.letter)
+    c.clear.ensures.mail ∙ ap (λ track. mail_home track c.clear.result.mail.first c.clear.result.mail.notice c.clear.result.mail.letter)
     (on_track c.args.line.now c.args.track (position_of c.args.position.now) (place_of c.in-Some.place) (sym c.place_on.ensures.value ∙ ap (option_map place_of) c.in-Some.is))
 
 pub returns-in-Some-clause-track : goal.returns-in-Some-clause-track

@@ -9,7 +9,7 @@ use Rattle.rbc_msgs.specs.StepMessage.{position_of, is_valid}
 use Rattle.rbc_hand.specs.SectionRuns.{run_of}
 use Rattle.rbc_place.specs.Places.{place_of}
 use Rattle.rbc_claims.specs.Sections.{IsAllOpen}
-use Rattle.rbc_mission.specs.Supervisions.{SupervisionState, mission_of, hand_of, pool_of}
+use Rattle.rbc_mission.specs.Supervisions.{SupervisionState, mission_of, hand_of, pool_of, handing_in}
 use Rattle.rbc_rules.specs.Desk.{with_parts}
 use Rattle.rbc_rules.proofs.Fits.{all_open, a_centre_of}
 use Rattle.rbc_rules.proofs.Kept.{still_held}
@@ -23,7 +23,7 @@ returns-then-is_some-clause-exact c = λ k has.
     let line = c.args.line.now in
     let old = c.args.self.now in
     let place = place_of c.in-Some.place in
-    let m = standing old.supervision.mission (ap is_some (sym c.mission.ensures.value) ∙ some_mapped (mission_of (hand_of old.supervision) (pool_of old.supervision)) c.mission.result ∙ sym c.is_some.ensures ∙ c.if-is_some.true) in
+    let m = standing old.supervision.mission (ap is_some (sym c.mission.ensures.value) ∙ some_mapped (mission_of (hand_of old.supervision) (pool_of old.supervision) (handing_in old.supervision)) c.mission.result ∙ sym c.is_some.ensures ∙ c.if-is_some.true) in
     let hand : hand_of old.supervision ≡ m.0.hand = ap (λ o. option_map_or (λ (x : Mission). x.hand) o no_run) m.1 in
     goes_on_again line c.args.centre k old c.args.book.now c.args.registrar.now has (is_valid c.args.q_status) (position_of c.args.position.now) place m.0
     (sym c.place_of_start.ensures.value ∙ ap (option_map place_of) c.in-Some.is) m.1
@@ -35,7 +35,7 @@ returns-then-not-has_all-clause-exact c = λ k has.
     let line = c.args.line.now in
     let old = c.args.self.now in
     let place = place_of c.in-Some.place in
-    let m = standing old.supervision.mission (ap is_some (sym c.mission.ensures.value) ∙ some_mapped (mission_of (hand_of old.supervision) (pool_of old.supervision)) c.mission.result ∙ sym c.is_some.ensures ∙ c.if-is_some.true) in
+    let m = standing old.supervision.mission (ap is_some (sym c.mission.ensures.value) ∙ some_mapped (mission_of (hand_of old.supervision) (pool_of old.supervision) (handing_in old.supervision)) c.mission.result ∙ sym c.is_some.ensures ∙ c.if-is_some.true) in
     let hand : hand_of old.supervision ≡ m.0.hand = ap (λ o. option_map_or (λ (x : Mission). x.hand) o no_run) m.1 in
     past_the_hand line c.args.centre k old c.args.book.now c.args.registrar.now has (is_valid c.args.q_status) (position_of c.args.position.now) place m.0
     (sym c.place_of_start.ensures.value ∙ ap (option_map place_of) c.in-Some.is) m.1
@@ -69,7 +69,7 @@ returns-then-eq-clause-exact c = λ k has.
     let old = c.args.self.now in
     starts_here line c.args.centre k old c.args.book.now c.args.registrar.now has (is_valid c.args.q_status) (position_of c.args.position.now) (place_of c.in-Some.place) _
     (sym c.place_of_start.ensures.value ∙ ap (option_map place_of) c.in-Some.is)
-    (sym c.mission.ensures.value ∙ none_there (mission_of (hand_of old.supervision) (pool_of old.supervision)) c.mission.result (sym c.is_some.ensures ∙ c.if-is_some.false))
+    (sym c.mission.ensures.value ∙ none_there (mission_of (hand_of old.supervision) (pool_of old.supervision) (handing_in old.supervision)) c.mission.result (sym c.is_some.ensures ∙ c.if-is_some.false))
     (ap (all_of (is_free line c.args.centre k)) (sym c.covered-run.ensures.value) ∙ sym (c.are_free.ensures k has.has_book) ∙ c.if-not-are_free.false)
     (ap (is_registrar_of line c.args.centre) (sym c.nid_engine.ensures) ∙ is_registered line c.args.centre c.nid_engine.result c.registrar.result c.registrar.ensures (sym c.eq.ensures ∙ c.if-eq.true))
     (c.start_here.ensures.exact line c.args.centre k has c.covered-run.ensures.value)
@@ -80,7 +80,7 @@ returns-else-eq-clause-exact c = λ k has.
     let old = c.args.self.now in
     starts_elsewhere line c.args.centre k old c.args.book.now c.args.registrar.now has (is_valid c.args.q_status) (position_of c.args.position.now) (place_of c.in-Some.place) _
     (sym c.place_of_start.ensures.value ∙ ap (option_map place_of) c.in-Some.is)
-    (sym c.mission.ensures.value ∙ none_there (mission_of (hand_of old.supervision) (pool_of old.supervision)) c.mission.result (sym c.is_some.ensures ∙ c.if-is_some.false))
+    (sym c.mission.ensures.value ∙ none_there (mission_of (hand_of old.supervision) (pool_of old.supervision) (handing_in old.supervision)) c.mission.result (sym c.is_some.ensures ∙ c.if-is_some.false))
     (ap (all_of (is_free line c.args.centre k)) (sym c.covered-run.ensures.value) ∙ sym (c.are_free.ensures k has.has_book) ∙ c.if-not-are_free.false)
     (ap (is_registrar_of line c.args.centre) (sym c.nid_engine.ensures) ∙ not_registered line c.args.centre c.nid_engine.result c.registrar.result c.registrar.ensures (sym c.eq.ensures ∙ c.if-eq.false))
     (c.start_waiting.ensures.exact c.args.centre c.args.registrar.now k has)
