@@ -18,6 +18,8 @@ use Rattle.rbc_link.specs.Links.{sent_to, taken_from}
 use Rattle.rbc_link.specs.Outgoing.{frames_by}
 use Rattle.rbc_linkmsg.specs.Bodies.{body_of}
 use Rattle.rbc_linkmsg.specs.declared.body.Body.{Body}
+use Rattle.rbc_spec.specs.Centre.{Expectation}
+use Rattle.rbc_handover.specs.Expectations.{expected_from}
 use Rattle.rbc_right.specs.Rights.{Rights, is_here}
 use Rattle.rbc_session.specs.Sessions.{Records, phase_at}
 use Rattle.rbc_session.specs.SessionStates.{session_phase}
@@ -26,6 +28,7 @@ use Rattle.rbc_claims.specs.Sections.{IsHeldAt}
 use Rattle.rbc_rules.specs.SessionStates.{Stands}
 use Rattle.rbc_rules.specs.Trains.{unknown_state}
 use Rattle.rbc_centre.specs.State.{stands_for, of_trains, right_at, IsOfTrain, IsUnknown}
+use Rattle.rbc_centre.specs.declared.desk.Desk.{Desk}
 use Rattle.rbc_rules.specs.declared.train.TrainState.{TrainState}
 
 pub slice_get-last : {X : Type 0} (xs : List X) (x : X) → slice_get (xs ++ x ∷ []) (length xs) ≡ Some x
@@ -44,11 +47,11 @@ get_at (y ∷ ys) (suc i) d x h = get_at ys i d x h
 
 module _ (line : Line) (states : List TrainState) (each : (i : ℕ) (p : TrainState) → slice_get states i ≡ Some p → IsUnknown line i p) where
   -- a part that is the same of each train
-  part_at_all : {X : Type 0} (part : TrainState → X) (none : X) → ((i t : ℕ) → part (unknown_state i t) ≡ none) → (i : ℕ) (o : Option TrainState) → slice_get states i ≡ o → option_map_or part o none ≡ none
-  part_at_all part none same i (Some p) at = ap part ((each i p at).state) ∙ same i p.supervision.engine
+  part_at_all : {X : Type 0} (part : TrainState → X) (none : X) → ((i t : ℕ) (e : List (Option Expectation)) → ((d : ℕ) → expected_from e d ≡ None) → part (unknown_state i t e) ≡ none) → (i : ℕ) (o : Option TrainState) → slice_get states i ≡ o → option_map_or part o none ≡ none
+  part_at_all part none same i (Some p) at = ap part ((each i p at).state) ∙ same i p.supervision.engine p.expectations ((each i p at).none_expected)
   part_at_all part none same i None at = refl
 
-  of_all : {X : Type 0} (part : TrainState → X) (none : X) → ((i t : ℕ) → part (unknown_state i t) ≡ none) → (t : ℕ) → of_trains part none line states t ≡ none
+  of_all : {X : Type 0} (part : TrainState → X) (none : X) → ((i t : ℕ) (e : List (Option Expectation)) → ((d : ℕ) → expected_from e d ≡ None) → part (unknown_state i t e) ≡ none) → (t : ℕ) → of_trains part none line states t ≡ none
   of_all part none same t = by_number (train_number line t)
     where
       by_number : (number : Option ℕ) → option_map_or part (option_and_then (λ j. slice_get states j) number) none ≡ none
@@ -62,22 +65,24 @@ module _ (line : Line) (states : List TrainState) (each : (i : ℕ) (p : TrainSt
       by_number (Some i) at = here t i at
       by_number None none = sym (ap (λ o. option_map_or (λ r. r == c) (option_map (λ (p : Train). p.registrar) o) false) (find-position_none (λ (p : Train). p.nid_engine == t) line.trains none))
 
-  pub stands_at_beginning : (c : ℕ) (pages : Pages) (rights : Rights) (links : List (Link Body)) → ((s : ℕ) → entry_at pages s ≡ centre.Shut) → ((s : ℕ) → wish_at pages s ≡ false)
-      → ((u j : ℕ) → train_number line u ≡ Some j → is_here rights j ≡ is_registrar_of line c u) → ((d : ℕ) → taken_from links d ≡ 0) → ((d : ℕ) → sent_to links d ≡ [])
-      → stands_for line c 0 pages rights links states ≡ centre.beginning line c
+  pub stands_at_beginning : (c : ℕ) (pages : Pages) (desk : Desk) (links : List (Link Body)) → ((s : ℕ) → entry_at pages s ≡ centre.Shut) → ((s : ℕ) → wish_at pages s ≡ false)
+      → ((u j : ℕ) → train_number line u ≡ Some j → is_here desk.registrar j ≡ is_registrar_of line c u) → desk.handovers ≡ 0 → ((d : ℕ) → taken_from links d ≡ 0) → ((d : ℕ) → sent_to links d ≡ [])
+      → stands_for line c 0 pages desk links states ≡ centre.beginning line c
   unfolding stands_for centre.beginning
-  stands_at_beginning c pages rights links shut unwished here taken sent = λ i. record (centre.beginning line c) {
+  stands_at_beginning c pages desk links shut unwished here none_announced taken sent = λ i. record (centre.beginning line c) {
     clock = 0;
     book = λ s. shut s i;
     wish = λ s. unwished s i;
-    phase = λ t. of_all (λ p. session_phase p.session_state) centre.Closed (λ j u. refl) t i;
-    heard = λ t. of_all (λ p. p.heard) None (λ j u. refl) t i;
-    said = λ t. of_all (λ p. p.said) 0 (λ j u. refl) t i;
-    mission = λ t. of_all (λ p. p.supervision.mission) None (λ j u. refl) t i;
-    route_ask = λ t. of_all (λ p. p.supervision.asked) None (λ j u. refl) t i;
-    wait = λ t. of_all (λ p. p.waiting.wait) None (λ j u. refl) t i;
-    has_asked = λ t. of_all (λ p. p.waiting.has_asked) false (λ j u. refl) t i;
-    has_right = λ t. right_at_home c t rights here i;
+    phase = λ t. of_all (λ p. session_phase p.session_state) centre.Closed (λ j u e none. refl) t i;
+    heard = λ t. of_all (λ p. p.heard) None (λ j u e none. refl) t i;
+    said = λ t. of_all (λ p. p.said) 0 (λ j u e none. refl) t i;
+    mission = λ t. of_all (λ p. p.supervision.mission) None (λ j u e none. refl) t i;
+    route_ask = λ t. of_all (λ p. p.supervision.asked) None (λ j u e none. refl) t i;
+    wait = λ t. of_all (λ p. p.waiting.wait) None (λ j u e none. refl) t i;
+    has_asked = λ t. of_all (λ p. p.waiting.has_asked) false (λ j u e none. refl) t i;
+    has_right = λ t. right_at_home c t desk.registrar here i;
+    expects = λ d t. of_all (λ p. expected_from p.expectations d) None (λ j u e none. none d) t i;
+    announced = none_announced i;
     sent = λ d. ap (frames_by body_of) (sent d) i;
     taken = λ d. taken d i;
   }
@@ -109,6 +114,7 @@ module _ (line : Line) (states : List TrainState) (each : (i : ℕ) (p : TrainSt
         waiting = ap (λ (q : TrainState). q.waiting.engine) is ∙ engine;
         covers = λ place waits. let no : None ≡ Some place = sym (ap (λ (q : TrainState). q.waiting.wait) is) ∙ waits in cc;
         held = subst (λ (h : Holding). IsHeldAt p.supervision.engine (is_home line c) h) (sym (ap (λ (q : TrainState). q.supervision.hand) is)) (λ n x there. cc);
+        expected = (each i p at).expected;
         session = subst (λ (q : TrainState). Stands sessions q.session_state t) (sym is) (closed t, λ key absent. cc);
       }
 
@@ -117,14 +123,16 @@ pub none_in_range : (links : List (Link Body)) → ((d : ℕ) → sent_to links 
 none_in_range links sent d = subst (λ (fs : List (Sent Body)). All HasFrameRanges (frames_by body_of fs)) (sym (sent d)) (All-nil HasFrameRanges)
 
 -- one more train
-pub each_more : (line : Line) (states more : List TrainState) (train : TrainState) (e : ℕ) → more ≡ states ++ train ∷ [] → train ≡ unknown_state (length states) e
+pub each_more : (line : Line) (states more : List TrainState) (train : TrainState) (e : ℕ) → more ≡ states ++ train ∷ [] → train ≡ unknown_state (length states) e train.expectations → length train.expectations ≡ length line.centres → ((d : ℕ) → expected_from train.expectations d ≡ None)
     → option_map (λ q. q.nid_engine) (slice_get line.trains (length states)) ≡ Some e
     → ((i : ℕ) (p : TrainState) → slice_get states i ≡ Some p → IsUnknown line i p) → (i : ℕ) (p : TrainState) → slice_get more i ≡ Some p → IsUnknown line i p
-each_more line states more train e pushed is engine each i p at = by_place i (sym (ap (λ xs. slice_get xs i) pushed) ∙ at)
+each_more line states more train e pushed is expected none engine each i p at = by_place i (sym (ap (λ xs. slice_get xs i) pushed) ∙ at)
   where
     last : IsUnknown line (length states) train
     last = record {
-      state = is ∙ ap (λ n. unknown_state (length states) n) (sym (ap (λ (q : TrainState). q.supervision.engine) is));
+      state = is ∙ ap (λ n. unknown_state (length states) n train.expectations) (sym (ap (λ (q : TrainState). q.supervision.engine) is));
+      expected = expected;
+      none_expected = none;
       engine = engine ∙ ap (λ n. Some n) (sym (ap (λ (q : TrainState). q.supervision.engine) is));
     }
 

@@ -1,8 +1,8 @@
 -- A frame of another centre, and the links that it leaves.
 use Rattle.std.proofs.Common.{◌≡◌, ℕ, ◌+◌, ◌<◌, Bool, true, false, if◌then◌else◌, List, [], length, map, set, slice_get, Option, Some, None, is_some, is_none, refl, sym, ap, ◌∙◌, subst, arith, max, All}
 use Rattle.rbc_spec.specs.Maps.{put}
-use Rattle.rbc_spec.specs.Line.{Line, train_number}
-use Rattle.rbc_spec.specs.Reach.{Routes as ToRoutes}
+use Rattle.rbc_spec.specs.Line.{Line, is_centre, train_number}
+use Rattle.rbc_spec.specs.Reach.{Whole as ToWhole}
 use Rattle.rbc_spec.specs.Frame.{Frame, Body, AskRight, GiveRight, RefuseRight, ReturnRight, RouteAsk, RouteInfo, RouteWithdraw, RouteReturn, Announce, Cancel, TakingOver, Yield, HasBodyRange, HasFrameRanges}
 use Rattle.rbc_spec.specs.Outcome.{Taken, Next, Old, Early, NoLink, Told}
 use Rattle.rbc_spec.specs.Centre as centre
@@ -21,9 +21,10 @@ use Rattle.rbc_link.specs.Outgoing.{frames_by}
 use Rattle.rbc_linkmsg.specs.Bodies.{body_of, engine_in}
 use Rattle.rbc_linkmsg.specs.declared.body.Body.{Body as BodyCode}
 use Rattle.rbc_right.specs.Rights.{Rights}
+use Rattle.rbc_handover.specs.Expectations.{expected_from}
 use Rattle.rbc_rules.specs.Desk.{HasParts, KeepsTrain, KeepsDesk, with_parts, reply_left}
 use Rattle.rbc_rules.specs.Letters.{mail_to}
-use Rattle.rbc_rules.specs.Sayings.{sayings_of}
+use Rattle.rbc_rules.specs.Sayings.{told_train}
 use Rattle.rbc_rules.specs.declared.heard.Heard.{Heard}
 use Rattle.rbc_rules.specs.declared.train.TrainState.{TrainState}
 use Rattle.rbc_centre.specs.Posts.{MayPost}
@@ -33,16 +34,17 @@ use Rattle.rbc_centre.specs.declared.centre.Centre.{Centre as CentreCode}
 use Rattle.rbc_centre.specs.declared.link_answer.LinkAnswer.{LinkAnswer}
 use Rattle.rbc_centre.specs.declared.link_answer.LinkAnswer.TheVariants as code
 use Rattle.rbc_centre.specs.Views.{link_of}
-use Rattle.rbc_centre.proofs.Kept.{sound_left, own_left, ranged_left}
+use Rattle.rbc_centre.proofs.Kept.{sound_left, ranged_left}
 use Rattle.rbc_centre.proofs.Steps.{ticked_is, stands_kept, replied, effect_of, outcome_with}
 use Rattle.rbc_centre.proofs.Steps as Steps
-use Rattle.rbc_centre.proofs.Posts.{mail_few}
-use Rattle.rbc_centre.proofs.Turns.{sent_in_range, Stays, parts, is_known, left, may_be_sent}
+use Rattle.rbc_centre.proofs.Posts.{mail_few, linked_centre}
+use Rattle.rbc_centre.proofs.Trains.{same_count}
+use Rattle.rbc_centre.proofs.Turns.{sent_in_range, Stays, parts, is_known, left, mail_left, may_be_sent}
 
 -- ## A frame
 
 -- a body of a train that is not of the line has no effect
-pub foreign_body : (line : Line) (c d : ℕ) (body : Body) (k : centre.Centre) → is_some (train_number line (engine_in body)) ≡ false → body_taken ToRoutes line c d body k ≡ rest k
+pub foreign_body : (line : Line) (c d : ℕ) (body : Body) (k : centre.Centre) → is_some (train_number line (engine_in body)) ≡ false → body_taken ToWhole line c d body k ≡ rest k
 foreign_body line c d (AskRight t) k foreign = rw foreign refl
 foreign_body line c d (GiveRight t) k foreign = rw foreign refl
 foreign_body line c d (RefuseRight t) k foreign = rw foreign refl
@@ -51,10 +53,10 @@ foreign_body line c d (RouteAsk t first most) k foreign = rw foreign refl
 foreign_body line c d (RouteInfo t run) k foreign = rw foreign refl
 foreign_body line c d (RouteWithdraw t s) k foreign = rw foreign refl
 foreign_body line c d (RouteReturn t run) k foreign = rw foreign refl
-foreign_body line c d (Announce number t track) k foreign = refl
-foreign_body line c d (Cancel number t) k foreign = refl
-foreign_body line c d (TakingOver number t) k foreign = refl
-foreign_body line c d (Yield number t heard has_data is_ended place hand) k foreign = refl
+foreign_body line c d (Announce number t track) k foreign = rw foreign refl
+foreign_body line c d (Cancel number t) k foreign = rw foreign refl
+foreign_body line c d (TakingOver number t) k foreign = rw foreign refl
+foreign_body line c d (Yield number t heard has_data is_ended place hand) k foreign = rw foreign refl
 
 -- a change, and then an act
 changed_then : (change : centre.Centre → centre.Centre) (act : Act) (k : centre.Centre) → (become change >> act) k ≡ act (change k)
@@ -113,10 +115,10 @@ delivered_allowed k d f early room = Steps.no_refusal k.line k.number (state_of 
 
 module _ (k : CentreCode) (clock d : ℕ) (f : Frame) (mid : List (Link BodyCode)) (answer : Taken) (is : IsOffered k d f mid answer) where
   abbrev old : centre.Centre
-  old = stands_for k.line k.number clock k.book k.registrar k.links k.trains.items
+  old = stands_for k.line k.number clock k.book k.desk k.links k.trains.items
 
   abbrev at : centre.Centre
-  at = stands_for k.line k.number clock k.book k.registrar mid k.trains.items
+  at = stands_for k.line k.number clock k.book k.desk mid k.trains.items
 
   says : step.link_answer k.line k.number old d f ≡ answer
   unfolding stands_for
@@ -132,17 +134,17 @@ module _ (k : CentreCode) (clock d : ℕ) (f : Frame) (mid : List (Link BodyCode
     room = λ e. let same = is.room e in omega (arith, same);
   }
 
-  by_answer : (a : Taken) → step.link_answer k.line k.number old d f ≡ a → is_next a ≡ false → step.effect ToRoutes k.line k.number old (Deliver d f) ≡ effect_of (replied old (λ e. []) [] []) (Some a) None
+  by_answer : (a : Taken) → step.link_answer k.line k.number old d f ≡ a → is_next a ≡ false → step.effect ToWhole k.line k.number old (Deliver d f) ≡ effect_of (replied old (λ e. []) [] []) (Some a) None
   by_answer Next said apart = cc
   by_answer Old said apart = rw said refl
   by_answer Early said apart = rw said refl
   by_answer NoLink said apart = rw said refl
 
-  pub untaken : is_next answer ≡ false → step.effect ToRoutes k.line k.number (step.ticked clock (state_of k)) (Deliver d f) ≡ effect_of (replied at (λ e. []) [] []) (Some answer) None
+  pub untaken : is_next answer ≡ false → step.effect ToWhole k.line k.number (step.ticked clock (state_of k)) (Deliver d f) ≡ effect_of (replied at (λ e. []) [] []) (Some answer) None
   untaken apart =
-      ap (λ (x : centre.Centre). step.effect ToRoutes k.line k.number x (Deliver d f)) (ticked_is k.line k.number k.clock clock k.book k.registrar k.links k.trains.items)
+      ap (λ (x : centre.Centre). step.effect ToWhole k.line k.number x (Deliver d f)) (ticked_is k.line k.number k.clock clock k.book k.desk k.links k.trains.items)
       ∙ by_answer answer says apart
-      ∙ ap (λ (x : centre.Centre). effect_of (replied x (λ e. []) [] []) (Some answer) None) (sym (stands_kept k.line k.number clock k.book k.registrar k.links mid k.trains.items (keeps apart)))
+      ∙ ap (λ (x : centre.Centre). effect_of (replied x (λ e. []) [] []) (Some answer) None) (sym (stands_kept k.line k.number clock k.book k.desk k.links mid k.trains.items (keeps apart)))
 
   -- the next one is counted, and comes to what its body comes to
   counted_is : answer ≡ Next → record old { taken = put (taken_from k.links) d f.number } ≡ at
@@ -152,30 +154,34 @@ module _ (k : CentreCode) (clock d : ℕ) (f : Frame) (mid : List (Link BodyCode
     taken = λ e. (ap (λ (a : Taken). put (taken_from k.links) d (taken_after a (taken_from k.links d) f.number) e) (sym next) ∙ sym (is.taken e)) i;
   }
 
-  pub taken : answer ≡ Next → step.effect ToRoutes k.line k.number (step.ticked clock (state_of k)) (Deliver d f)
-      ≡ record { reply = body_taken ToRoutes k.line k.number d f.body at; link = Some Next; silence = None }
+  pub taken : answer ≡ Next → step.effect ToWhole k.line k.number (step.ticked clock (state_of k)) (Deliver d f)
+      ≡ record { reply = body_taken ToWhole k.line k.number d f.body at; link = Some Next; silence = None }
   unfolding stands_for
   taken next =
-      ap (λ (x : centre.Centre). step.effect ToRoutes k.line k.number x (Deliver d f)) (ticked_is k.line k.number k.clock clock k.book k.registrar k.links k.trains.items)
+      ap (λ (x : centre.Centre). step.effect ToWhole k.line k.number x (Deliver d f)) (ticked_is k.line k.number k.clock clock k.book k.desk k.links k.trains.items)
       ∙ rw (says ∙ next) (ap (λ (r : Reply). record { reply = r; link = Some Next; silence = None })
-      (changed_then (λ j. record j { taken = put j.taken d f.number }) (body_taken ToRoutes k.line k.number d f.body) old ∙ ap (body_taken ToRoutes k.line k.number d f.body) (counted_is next)))
+      (changed_then (λ j. record j { taken = put j.taken d f.number }) (body_taken ToWhole k.line k.number d f.body) old ∙ ap (body_taken ToWhole k.line k.number d f.body) (counted_is next)))
 
   -- a train of the line takes what it says
   pub received : answer ≡ Next → (t i : ℕ) (train : TrainState) (number : train_number k.line t ≡ Some i) (here : slice_get k.trains.items i ≡ Some train)
-      → (new : TrainState) (book : Pages) (rights : Rights) (kept : KeepsTrain train new) (desk : KeepsDesk train.supervision.number k.book book k.registrar rights) (heard : Heard)
-      → ((x : centre.Centre) → HasParts k.line k.number x train k.book k.registrar → is_none (train_number k.line train.supervision.engine) ≡ false
-      → body_taken ToRoutes k.line k.number d f.body x ≡ reply_left k.line k.number train.supervision.engine (with_parts new book rights x) heard)
-      → step.effect ToRoutes k.line k.number (step.ticked clock (state_of k)) (Deliver d f)
-      ≡ effect_of (replied (stands_for k.line k.number clock book rights mid (set k.trains.items i new)) (mail_to k.line k.number train.supervision.engine heard.mail) (sayings_of heard.saying) (map (λ s. Told s) heard.told)) (Some answer) None
+      → (new : TrainState) (book : Pages) (rights : Rights) (kept : KeepsTrain train new) (desk : KeepsDesk train.supervision.number k.book book k.desk.registrar rights) (heard : Heard)
+      → ((x : centre.Centre) → HasParts k.line k.number x train k.book k.desk.registrar → is_none (train_number k.line train.supervision.engine) ≡ false
+      → body_taken ToWhole k.line k.number d f.body x ≡ reply_left k.line k.number train.supervision.engine (with_parts new book rights x) heard)
+      → step.effect ToWhole k.line k.number (step.ticked clock (state_of k)) (Deliver d f)
+      ≡ effect_of (replied (stands_for k.line k.number clock book (record { registrar = rights; handovers = k.desk.handovers }) mid (set k.trains.items i new))
+      (mail_to k.line k.number train.supervision.engine (expected_from new.expectations) heard.mail) (told_train heard.saying heard.order) (map (λ s. Told s) heard.told)) (Some answer) None
   received next t i train number here new book rights kept desk heard exact =
+      let now = stands_for k.line k.number clock book (record { registrar = rights; handovers = k.desk.handovers }) mid (set k.trains.items i new) in
       taken next
       ∙ ap (λ (r : Reply). record { reply = r; link = Some Next; silence = None })
-      (exact at (parts k t i train number here clock mid) (is_known k t i train number here) ∙ ap (λ (x : centre.Centre). reply_left k.line k.number train.supervision.engine x heard) (left k t i train number here clock mid new book rights kept desk))
-      ∙ ap (λ (a : Taken). effect_of (replied (stands_for k.line k.number clock book rights mid (set k.trains.items i new)) (mail_to k.line k.number train.supervision.engine heard.mail) (sayings_of heard.saying) (map (λ s. Told s) heard.told)) (Some a) None) (sym next)
+      (exact at (parts k t i train number here clock mid) (is_known k t i train number here)
+      ∙ ap (λ (x : centre.Centre). reply_left k.line k.number train.supervision.engine x heard)
+      (same_count k.line k.number clock k.book k.desk mid k.trains.items new book rights ∙ left k t i train number here clock mid new book rights k.desk.handovers kept desk))
+      ∙ (λ j. effect_of (replied now (λ e. mail_left k t i train number here clock mid new book rights k.desk.handovers kept desk heard.mail e j) (told_train heard.saying heard.order) (map (λ s. Told s) heard.told)) (Some (sym next j)) None)
 
   -- and a body of no train of the line has no effect
   pub ignored : answer ≡ Next → is_some (train_number k.line (engine_in f.body)) ≡ false
-      → step.effect ToRoutes k.line k.number (step.ticked clock (state_of k)) (Deliver d f) ≡ effect_of (replied at (λ e. []) [] []) (Some answer) None
+      → step.effect ToWhole k.line k.number (step.ticked clock (state_of k)) (Deliver d f) ≡ effect_of (replied at (λ e. []) [] []) (Some answer) None
   ignored next foreign =
       taken next
       ∙ ap (λ (r : Reply). record { reply = r; link = Some Next; silence = None }) (foreign_body k.line k.number d f.body at foreign)
@@ -183,12 +189,12 @@ module _ (k : CentreCode) (clock d : ℕ) (f : Frame) (mid : List (Link BodyCode
 
   -- what stays true of a centre that sends nothing, of whose trains none has changed
   module _ (stamp : step.stamp_of (state_of k) (Deliver d f) ≡ clock) (range : HasBodyRange f.body)
-      (effect : step.effect ToRoutes k.line k.number (step.ticked clock (state_of k)) (Deliver d f) ≡ effect_of (replied at (λ e. []) [] []) (Some answer) None) where
-    pub silent : (outcome_with clock (λ e. []) [] [] (Some answer) None, at) ≡ step.taken ToRoutes k.line k.number (Deliver d f) (state_of k)
+      (effect : step.effect ToWhole k.line k.number (step.ticked clock (state_of k)) (Deliver d f) ≡ effect_of (replied at (λ e. []) [] []) (Some answer) None) where
+    pub silent : (outcome_with clock (λ e. []) [] [] (Some answer) None, at) ≡ step.taken ToWhole k.line k.number (Deliver d f) (state_of k)
     silent =
-        Steps.says k.line k.number k.clock clock k.book k.book k.registrar k.registrar k.links mid k.trains.items k.trains.items (Deliver d f) stamp is.sent [] [] (Some answer) None effect _ refl
+        Steps.says k.line k.number k.clock clock k.book k.book k.desk k.desk k.links mid k.trains.items k.trains.items (Deliver d f) stamp is.sent [] [] (Some answer) None effect _ refl
 
-    pub stays_silent : step.refusal k.line k.number (state_of k) (Deliver d f) ≡ None → Stays k clock k.book k.registrar mid k.trains.items
+    pub stays_silent : step.refusal k.line k.number (state_of k) (Deliver d f) ≡ None → Stays k clock k.book k.desk mid k.trains.items
     stays_silent allowed = record {
       own_sections = k.own_sections;
       each_right = k.each_right;
@@ -197,19 +203,26 @@ module _ (k : CentreCode) (clock d : ℕ) (f : Frame) (mid : List (Link BodyCode
       each_frame = λ e. subst (λ (fs : List (Sent BodyCode)). All HasFrameRanges (frames_by body_of fs)) (sym (is.sent e)) (sent_in_range k e);
       train_count = k.train_count;
       sound = sound_left k.line k.number (state_of k) _ (Deliver d f) _ k.line_rules (range_hand f.body range) silent k.sound;
-      own = own_left k.line k.number (state_of k) _ (Deliver d f) _ k.line_rules (range_hand f.body range) silent k.sound k.own;
       ranged = ranged_left k.line k.number (state_of k) _ (Deliver d f) _ k.line_rules (range_hand f.body range) silent allowed range k.ranged;
     }
 
 -- what a frame is heard to leave for other centres may be posted
-pub received_may : (k : CentreCode) (d : ℕ) (f : Frame) (clock : ℕ) (mid : List (Link BodyCode)) (x : centre.Centre) (old : TrainState) (heard : Heard) (answer : Taken)
+pub received_may : (k : CentreCode) (d : ℕ) (f : Frame) (clock : ℕ) (mid : List (Link BodyCode)) (x : centre.Centre) (old : TrainState) (e : ℕ → Option centre.Expectation) (heard : Heard) (answer : Taken)
     → step.stamp_of (state_of k) (Deliver d f) ≡ clock → ((e : ℕ) → sent_to mid e ≡ sent_to k.links e)
-    → step.effect ToRoutes k.line k.number (step.ticked clock (state_of k)) (Deliver d f)
-    ≡ effect_of (replied x (mail_to k.line k.number old.supervision.engine heard.mail) (sayings_of heard.saying) (map (λ s. Told s) heard.told)) (Some answer) None
+    → step.effect ToWhole k.line k.number (step.ticked clock (state_of k)) (Deliver d f)
+    ≡ effect_of (replied x (mail_to k.line k.number old.supervision.engine e heard.mail) (told_train heard.saying heard.order) (map (λ s. Told s) heard.told)) (Some answer) None
     → step.refusal k.line k.number (state_of k) (Deliver d f) ≡ None → HasBodyRange f.body → ((e : ℕ) → has_link mid e ≡ has_link k.links e) → ((e : ℕ) → room_to mid e ≡ room_to k.links e)
-    → HasRoom k.links 3 → (e : ℕ) → MayPost mid e (mail_to k.line k.number old.supervision.engine heard.mail e)
-received_may k d f clock mid x old heard answer stamp sent effect allowed range linked same room =
-    let bodies = mail_to k.line k.number old.supervision.engine heard.mail in
-    let few = mail_few k.line k.number old.supervision.engine heard.mail in
-    may_be_sent k (Deliver d f) clock mid x bodies (sayings_of heard.saying) (map (λ s. Told s) heard.told) (Some answer) None stamp sent effect allowed range (λ e. linked e ∙ k.each_link e) few
-    (λ e has. let most = room e (sym (linked e) ∙ has) in let count = few e in let left = same e in omega (arith, most, count, left))
+    → HasRoom k.links 4 → (u : ℕ) → MayPost mid u (mail_to k.line k.number old.supervision.engine e heard.mail u)
+received_may k d f clock mid x old e heard answer stamp sent effect allowed range linked same room =
+    let bodies = mail_to k.line k.number old.supervision.engine e heard.mail in
+    let few = mail_few k.line k.number old.supervision.engine e heard.mail in
+    may_be_sent k (Deliver d f) clock mid x bodies (told_train heard.saying heard.order) (map (λ s. Told s) heard.told) (Some answer) None stamp sent effect allowed range (λ u. linked u ∙ k.each_link u) few
+    (λ u has. let most = room u (sym (linked u) ∙ has) in let count = few u in let left = same u in omega (arith, most, count, left))
+
+-- the frame of a link is of a centre of the line
+pub next_from : (k : CentreCode) (d : ℕ) (f : Frame) (mid : List (Link BodyCode)) (answer : Taken) → IsOffered k d f mid answer → answer ≡ Next → is_centre k.line d ≡ true
+next_from k d f mid answer is next = by (has_link k.links d) refl
+  where
+    by : (b : Bool) → has_link k.links d ≡ b → is_centre k.line d ≡ true
+    by true has = linked_centre k.line k.number d (sym (k.each_link d) ∙ has)
+    by false has = let no : Next ≡ NoLink = sym next ∙ is.offer ∙ ap (λ b. if b then offered (taken_from k.links d) f.number else NoLink) has in cc

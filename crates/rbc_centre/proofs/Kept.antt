@@ -1,9 +1,9 @@
 -- What stays true of a centre.
-use Rattle.std.proofs.Common.{◌≡◌, ℕ, ◌+◌, ◌-◌, ◌≤◌, length, Some, None, refl, sym, subst, arith, All}
+use Rattle.std.proofs.Common.{◌≡◌, ℕ, ◌+◌, ◌-◌, ◌≤◌, length, Some, None, sym, subst, arith, All}
 use Rattle.std.proofs.Math.Logic.{∥∥₁_elim, ∥∥₁_map₂}
 use Rattle.std.proofs.Props.{props}
 use Rattle.std.specs.Coded.{le_prop}
-use Rattle.rbc_spec.specs.Reach.{Routes as ToRoutes}
+use Rattle.rbc_spec.specs.Reach.{Whole as ToWhole}
 use Rattle.rbc_spec.specs.Line.{Line, IsLine}
 use Rattle.rbc_spec.specs.Outcome.{Outcome}
 use Rattle.rbc_spec.specs.Centre as centre
@@ -17,8 +17,6 @@ use Rattle.rbc_local.proofs.Ordered.{is_ordered}
 use Rattle.rbc_flow.specs.Sound.{IsCentreSound}
 use Rattle.rbc_sound.specs.Stays.{IsInRange}
 use Rattle.rbc_sound.proofs.Events.{stays_sound}
-use Rattle.rbc_own.specs.Own.{IsOwnAt, MayCome}
-use Rattle.rbc_own.proofs.Stays.{stays_own}
 use Rattle.rbc_ranges.specs.Ranges.{HasEventRanges, HasStateRanges, IsSentInRange}
 use Rattle.rbc_ranges.proofs.Steps.{stays_in_range}
 use Rattle.rbc_mission.specs.Supervisions.{HasRouteForm}
@@ -32,9 +30,12 @@ ordered_line line rules = let one : IsProp (IsOrdered line) = hlevel props in �
 few_sections : (line : Line) → ∥ IsLine line ∥₁ → length line.sections ≤ 512
 few_sections line rules = ∥∥₁_elim rules le_prop (λ ok. ok.limits.sections)
 
+pub few_centres : (line : Line) → ∥ IsLine line ∥₁ → length line.centres ≤ 8
+few_centres line rules = ∥∥₁_elim rules le_prop (λ ok. ok.limits.centres.1)
+
 -- ## A mission
 
-module _ (line : Line) (c : ℕ) (k : centre.Centre) (rules : ∥ IsLine line ∥₁) (sound : IsCentreSound line c k) (own : IsOwnAt ToRoutes line c k)
+module _ (line : Line) (c : ℕ) (k : centre.Centre) (rules : ∥ IsLine line ∥₁) (sound : IsCentreSound line c k)
     (ranged : ∥ HasStateRanges line c k ∥₁) (t : ℕ) (m : Mission) (at : k.mission t ≡ Some m) where
   pub route_form : HasRouteForm m
   route_form =
@@ -48,37 +49,24 @@ module _ (line : Line) (c : ℕ) (k : centre.Centre) (rules : ∥ IsLine line �
         most = hand.few;
         numbers = omega (arith, some, low, few);
         few = ∥∥₁_elim ranged le_prop (λ r. (r.mission t m at).pool);
-        handing = (own.mission t m at).no_handing refl;
       }
 
 -- ## A step
 
--- where rights are asked for each event may come
-comes : (event : Event) → MayCome ToRoutes event
-comes (TrainEvent m) = tt
-comes (Set s) = tt
-comes (Unset s) = tt
-comes (Deliver d f) = refl
-
 module _ (line : Line) (c : ℕ) (k left : centre.Centre) (event : Event) (outcome : Outcome) (rules : ∥ IsLine line ∥₁) (range : IsInRange event)
-    (is : (outcome, left) ≡ step.taken ToRoutes line c event k) where
+    (is : (outcome, left) ≡ step.taken ToWhole line c event k) where
   pub sound_left : IsCentreSound line c k → IsCentreSound line c left
   sound_left sound =
       let one : IsProp (IsCentreSound line c left) = hlevel props in
-      ∥∥₁_elim rules one (λ ok. subst (λ (p : Outcome × centre.Centre). IsCentreSound line c p.1) (sym is) (stays_sound line ok c ToRoutes k event range sound).centre)
-
-  pub own_left : IsCentreSound line c k → IsOwnAt ToRoutes line c k → IsOwnAt ToRoutes line c left
-  own_left sound own =
-      let one : IsProp (IsOwnAt ToRoutes line c left) = hlevel props in
-      ∥∥₁_elim rules one (λ ok. subst (λ (p : Outcome × centre.Centre). IsOwnAt ToRoutes line c p.1) (sym is) (stays_own line ok c ToRoutes k event (comes event) sound own).state)
+      ∥∥₁_elim rules one (λ ok. subst (λ (p : Outcome × centre.Centre). IsCentreSound line c p.1) (sym is) (stays_sound line ok c ToWhole k event range sound).centre)
 
   -- and one that is not refused leaves a centre in its ranges
   pub ranged_left : step.refusal line c k event ≡ None → HasEventRanges line c event → ∥ HasStateRanges line c k ∥₁ → ∥ HasStateRanges line c left ∥₁
-  ranged_left allowed ranges ranged = ∥∥₁_map₂ rules ranged (λ ok old. subst (λ (p : Outcome × centre.Centre). HasStateRanges line c p.1) (sym is) (stays_in_range line ok c ToRoutes k event ranges old allowed).centre)
+  ranged_left allowed ranges ranged = ∥∥₁_map₂ rules ranged (λ ok old. subst (λ (p : Outcome × centre.Centre). HasStateRanges line c p.1) (sym is) (stays_in_range line ok c ToWhole k event ranges old allowed).centre)
 
 -- what it sends goes on links, and each field has its range
 pub sent_in : (line : Line) (c : ℕ) (k : centre.Centre) (event : Event) → ∥ IsLine line ∥₁ → step.refusal line c k event ≡ None → HasEventRanges line c event → ∥ HasStateRanges line c k ∥₁
-    → (d : ℕ) → All (IsSentInRange line c d) ((step.effect ToRoutes line c (step.ticked (step.stamp_of k event) k) event).reply.frames d)
+    → (d : ℕ) → All (IsSentInRange line c d) ((step.effect ToWhole line c (step.ticked (step.stamp_of k event) k) event).reply.frames d)
 sent_in line c k event rules allowed ranges ranged d =
-    let one : IsProp (All (IsSentInRange line c d) ((step.effect ToRoutes line c (step.ticked (step.stamp_of k event) k) event).reply.frames d)) = AreSent-prop line c d _ in
-    ∥∥₁_elim rules one (λ ok. ∥∥₁_elim ranged one (λ old. (stays_in_range line ok c ToRoutes k event ranges old allowed).bodies d))
+    let one : IsProp (All (IsSentInRange line c d) ((step.effect ToWhole line c (step.ticked (step.stamp_of k event) k) event).reply.frames d)) = AreSent-prop line c d _ in
+    ∥∥₁_elim rules one (λ ok. ∥∥₁_elim ranged one (λ old. (stays_in_range line ok c ToWhole k event ranges old allowed).bodies d))

@@ -1,10 +1,8 @@
--- What a step sends: frames on the links, and the row of what goes to each centre.
-use Rattle.std.proofs.Common.{◌≡◌, ℕ, ◌+◌, ◌<◌, ◌≤◌, ◌==◌, ◌&&◌, ◌||◌, not, if◌then◌else◌, nat_lt, Bool, true, false, List, [], ◌∷◌, ◌++◌, length, length-append, append-nil, Option, Some, None, slice_get, refl, sym, ap, ◌∙◌, subst, arith, inl, inr, ⊎_elim, All, ltb-true}
+-- What a step sends: frames on the links, and the list of them.
+use Rattle.std.proofs.Common.{◌≡◌, ◌⊎◌, ℕ, ◌+◌, ◌<◌, ◌≤◌, ◌==◌, ◌&&◌, ◌||◌, not, if◌then◌else◌, nat_lt, Bool, true, false, List, [], ◌∷◌, ◌++◌, length, length-append, append-nil, append_assoc, Option, Some, None, refl, sym, ap, ◌∙◌, subst, arith, inl, inr, ⊎_elim, All, ltb-true}
 use Rattle.std.proofs.lemmas.Bool.{and_parts, and_from, both_ways, cases_Bool, cases_lt, ltb-false}
 use Rattle.std.proofs.lemmas.Bool.Decides.{eqb_tells, nat_tests}
 use Rattle.std.proofs.lemmas.List.{length-map}
-use Rattle.std.proofs.lemmas.Option.{slice_get_past}
-use Rattle.std.specs.Option.{option_map_or}
 use Rattle.std.proofs.lemmas.List.Elements.{All-head, All-weaker}
 use Rattle.rbc_spec.specs.SectionRuns.{is_empty, shared}
 use Rattle.rbc_spec.specs.Sections.{home_run}
@@ -19,22 +17,27 @@ use Rattle.rbc_link.specs.declared.link.Link.{Link}
 use Rattle.rbc_link.specs.Links.{has_link, sent_to, room_to}
 use Rattle.rbc_link.specs.Outgoing.{frame_by, frames_by}
 use Rattle.rbc_link.specs.Posted.{HasPosted}
-use Rattle.rbc_link.proofs.Posted.{posted_none, posted_count, posted_join}
+use Rattle.rbc_link.proofs.Posted.{posted_none, posted_count, posted_join, numbered_append}
 use Rattle.rbc_linkmsg.specs.Bodies.{body_of}
 use Rattle.rbc_linkmsg.specs.declared.body.Body.{Body}
 use Rattle.rbc_ranges.specs.Ranges.{IsSentInRange}
-use Rattle.rbc_right.specs.Rights.{Rights}
+use Rattle.rbc_centre.specs.declared.desk.Desk.{Desk}
 use Rattle.rbc_hand.specs.SectionRuns.{run_of}
 use Rattle.rbc_hand.specs.declared.section_run.SectionRun.{SectionRun as SectionRunCode}
-use Rattle.rbc_rules.specs.Letters.{letters, going_home, mail_to}
+use Rattle.rbc_spec.specs.Centre.{Expectation}
+use Rattle.std.specs.Option.{option_map_or}
+use Rattle.rbc_handover.specs.Expectations.{is_told}
+use Rattle.rbc_rules.specs.Letters.{letters, notices, going_home, mail_to}
+use Rattle.rbc_rules.specs.declared.mail.Notice.{Notice}
+use Rattle.rbc_rules.specs.declared.mail.Notice.TheVariants as notice
 use Rattle.rbc_rules.specs.declared.letter.Letter.{Letter}
 use Rattle.rbc_rules.specs.declared.mail.Mail.{Mail}
 use Rattle.rbc_rules.specs.declared.train.TrainState.{TrainState}
-use Rattle.rbc_centre.specs.Posts.{MayPost, IsFit, bodies_to, frames_in, only}
+use Rattle.rbc_centre.specs.Posts.{MayPost, IsFit, HasSent, only}
+use Rattle.rbc_centre.specs.Listed.{frames_in}
 use Rattle.rbc_centre.specs.State.{stands_for}
-use Rattle.rbc_centre.specs.declared.returned.Returned.{Returned}
-use Rattle.rbc_centre.proofs.Begins.{slice_get-before, slice_get-last}
-use Rattle.rbc_centre.proofs.Rows.{all_first, all_rest}
+use Rattle.rbc_centre.specs.declared.sent_frame.SentFrame.{SentFrame}
+use Rattle.rbc_centre.proofs.Rows.{all_first, all_rest, frames_more}
 
 -- ## Whether it may be sent
 
@@ -45,6 +48,11 @@ linked_below line c d linked =
     let both = (and_parts (is_centre line c && is_centre line d) (not (c == d)) apart).0 in
     ltb-true d (length line.centres) (and_parts (is_centre line c) (is_centre line d) both).1
 
+pub linked_centre : (line : Line) (c d : ℕ) → is_linked line c d ≡ true → is_centre line d ≡ true
+linked_centre line c d linked =
+    let apart = (and_parts ((is_centre line c && is_centre line d) && not (c == d)) _ linked).0 in
+    (and_parts (is_centre line c) (is_centre line d) (and_parts (is_centre line c && is_centre line d) (not (c == d)) apart).0).1
+
 -- where no link is full there are numbers left on each
 has_numbers : (line : Line) (c d : ℕ) (k : centre.Centre) → is_linked line c d ≡ true → has_full_link line c k ≡ false → length (k.sent d) ≤ 65532
 has_numbers line c d k linked none = elim (cases_Bool (nat_lt 65532 (length (k.sent d)))) [
@@ -54,44 +62,58 @@ has_numbers line c d k linked none = elim (cases_Bool (nat_lt 65532 (length (k.s
   | inr room ↦ ltb-false 65532 (length (k.sent d)) room
 ]
 
--- no mail has more than three bodies for a centre
-pub mail_few : (line : Line) (c t : ℕ) (mail : Mail) (d : ℕ) → length (mail_to line c t mail d) ≤ 3
-mail_few line c t mail d =
+-- no mail has more than four bodies for a centre
+pub mail_few : (line : Line) (c t : ℕ) (e : ℕ → Option Expectation) (mail : Mail) (d : ℕ) → length (mail_to line c t e mail d) ≤ 4
+mail_few line c t e mail d =
     let first = going_home line c t mail.track (run_of mail.first) d in
     let second = going_home line c t mail.track (run_of mail.second) d in
+    let third = notices t e mail.notice d in
     let one = home_few mail.first in
     let two = home_few mail.second in
+    let three = notice_few mail.notice in
     let last = letter_few mail.letter in
-    let inner = length-append second (letters mail.letter d) in
-    let all = length-append first (second ++ letters mail.letter d) in
-    omega (arith, one, two, last, inner, all)
+    let inmost = length-append third (letters mail.letter d) in
+    let inner = length-append second (third ++ letters mail.letter d) in
+    let all = length-append first (second ++ (third ++ letters mail.letter d)) in
+    omega (arith, one, two, three, last, inmost, inner, all)
   where
     one_at_most : (a b : Bool) (body : spec.Body) → length (if a then [] else (if b then [] else body ∷ [])) ≤ 1
     one_at_most true b body = omega arith
     one_at_most false true body = omega arith
     one_at_most false false body = omega arith
 
+    one_or_none : (a : Bool) (body : spec.Body) → length (if a then body ∷ [] else []) ≤ 1
+    one_or_none true body = omega arith
+    one_or_none false body = omega arith
+
     home_few : (r : SectionRunCode) → length (going_home line c t mail.track (run_of r) d) ≤ 1
     home_few r = one_at_most (is_empty (run_of r)) ((d == c) || is_empty (shared (run_of r) (home_run line d mail.track))) (RouteReturn t (shared (run_of r) (home_run line d mail.track)))
 
+    claim_few : (a : Bool) (o : Option Expectation) → length (if a then option_map_or (λ (x : Expectation). spec.TakingOver x.number t ∷ []) o [] else []) ≤ 1
+    claim_few true (Some x) = omega arith
+    claim_few true None = omega arith
+    claim_few false o = omega arith
+
+    notice_few : (n : Notice) → length (notices t e n d) ≤ 1
+    notice_few notice.Nothing = omega arith
+    notice_few (notice.Announce name track) = one_or_none (d == name.to) (spec.Announce name.number t track)
+    notice_few (notice.Cancel name) = one_or_none (d == name.to) (spec.Cancel name.number t)
+    notice_few (notice.TakingOver told) = claim_few (is_told told d) (e d)
+
     letter_few : (o : Option Letter) → length (letters o d) ≤ 1
     letter_few None = omega arith
-    letter_few (Some l) = by (d == l.to)
-      where
-        by : (b : Bool) → length (if b then body_of l.body ∷ [] else []) ≤ 1
-        by true = omega arith
-        by false = omega arith
+    letter_few (Some l) = one_or_none (d == l.to) (body_of l.body)
 
 -- bodies that go on links, each in its ranges, may be posted where no link is full and each has room for them
-pub may_post : (line : Line) (c clock : ℕ) (pages : Pages) (rights : Rights) (old links : List (Link Body)) (states : List TrainState) (d : ℕ) (bodies : List spec.Body)
-    → has_full_link line c (stands_for line c clock pages rights old states) ≡ false → has_link links d ≡ is_linked line c d → sent_to links d ≡ sent_to old d
-    → All (IsSentInRange line c d) bodies → length bodies ≤ 3 → (has_link links d ≡ true → length bodies ≤ room_to links d) → MayPost links d bodies
+pub may_post : (line : Line) (c clock : ℕ) (pages : Pages) (desk : Desk) (old links : List (Link Body)) (states : List TrainState) (d : ℕ) (bodies : List spec.Body)
+    → has_full_link line c (stands_for line c clock pages desk old states) ≡ false → has_link links d ≡ is_linked line c d → sent_to links d ≡ sent_to old d
+    → All (IsSentInRange line c d) bodies → length bodies ≤ 4 → (has_link links d ≡ true → length bodies ≤ room_to links d) → MayPost links d bodies
 unfolding stands_for
-may_post line c clock pages rights old links states d bodies none linked same sent few room = record {
+may_post line c clock pages desk old links states d bodies none linked same sent few room = record {
   each = All-weaker (IsSentInRange line c d) (IsFit links d) (λ b is. record { linked = linked ∙ is.linked; range = is.body }) bodies sent;
   room = room;
   numbers = λ has.
-      let numbers : length (frames_by body_of (sent_to old d)) ≤ 65532 = has_numbers line c d (stands_for line c clock pages rights old states) (sym linked ∙ has) none in
+      let numbers : length (frames_by body_of (sent_to old d)) ≤ 65532 = has_numbers line c d (stands_for line c clock pages desk old states) (sym linked ∙ has) none in
       let count : length (frames_by body_of (sent_to old d)) ≡ length (sent_to old d) = length-map (sent_to old d) (frame_by body_of) in
       let now : length (sent_to links d) ≡ length (sent_to old d) = ap length same in
       omega (arith, numbers, count, now, few);
@@ -125,34 +147,76 @@ may_after stamp sent old new d xs ys posted is may =
 pub only_here : (to : ℕ) (bodies : List spec.Body) → only to bodies to ≡ bodies
 only_here to bodies = elim (eqb_tells to to) as (λ _. only to bodies to ≡ bodies) [ inl e ↦ rw (e.0) refl | inr e ↦ absurd (e.1 refl) ]
 
-only_joined : (to : ℕ) (xs ys : List spec.Body) (d : ℕ) → only to xs d ++ only to ys d ≡ only to (xs ++ ys) d
-only_joined to xs ys d = by (d == to)
-  where
-    by : (b : Bool) → (if b then xs else []) ++ (if b then ys else []) ≡ (if b then xs ++ ys else [])
-    by true = refl
-    by false = refl
+-- where one of four parts has a body, they are not none
+pub some_of : {R : Type 0} (xs ys zs us : List spec.Body) → 1 ≤ length xs + (length ys + (length zs + length us)) → (xs ++ (ys ++ (zs ++ us)) ≡ []) ⊎ R → R
+some_of xs ys zs us some (inr r) = r
+some_of xs ys zs us some (inl none) =
+    let outer = length-append xs (ys ++ (zs ++ us)) in
+    let inner = length-append ys (zs ++ us) in
+    let inmost = length-append zs us in
+    let all = ap length none in
+    absurd (omega (arith, outer, inner, inmost, all, some))
 
-none_only : (to d : ℕ) → [] ≡ only to [] d
-none_only to d = by (d == to) []
-  where
-    by : (b : Bool) (xs : List spec.Body) → xs ≡ (if b then xs else xs)
-    by true xs = refl
-    by false xs = refl
+-- ## What was sent
 
--- ## What was posted
+module _ (stamp : ℕ) where
+  -- the same in other words
+  pub sent_as : (xs ys : ℕ → List spec.Body) (old new : List (Link Body)) (before after : List SentFrame) → ((d : ℕ) → xs d ≡ ys d) → HasSent stamp xs old new before after → HasSent stamp ys old new before after
+  sent_as xs ys old new before after same sent = subst (λ (bodies : ℕ → List spec.Body). HasSent stamp bodies old new before after) (λ i d. same d i) sent
 
--- the same in other words
-pub posted_as : (stamp : ℕ) (xs ys : ℕ → List spec.Body) (old new : List (Link Body)) → ((d : ℕ) → xs d ≡ ys d) → HasPosted body_of stamp xs old new → HasPosted body_of stamp ys old new
-posted_as stamp xs ys old new same posted = subst (λ (bodies : ℕ → List spec.Body). HasPosted body_of stamp bodies old new) (λ i d. same d i) posted
+  pub none_sent : (links : List (Link Body)) (list : List SentFrame) → HasSent stamp (λ d. []) links links list list
+  none_sent links list = record { posted = posted_none body_of stamp links; frames = λ d. sym (append-nil (frames_in list d)) }
 
-pub none_posted : (stamp to : ℕ) (links : List (Link Body)) → HasPosted body_of stamp (only to []) links links
-none_posted stamp to links = posted_as stamp (λ d. []) (only to []) links links (none_only to) (posted_none body_of stamp links)
+  -- some frames, and then others
+  pub sent_join : (xs ys : ℕ → List spec.Body) (old mid new : List (Link Body)) (a b c : List SentFrame) → HasSent stamp xs old mid a b → HasSent stamp ys mid new b c → HasSent stamp (λ d. xs d ++ ys d) old new a c
+  sent_join xs ys old mid new a b c first second = record {
+    posted = posted_join body_of stamp xs ys old mid new first.posted second.posted;
+    frames = λ d.
+        let count = posted_count body_of stamp xs old mid first.posted d in
+        let n = length (sent_to old d) in
+        second.frames d
+        ∙ (λ i. first.frames d i ++ numbered stamp (count i) (ys d))
+        ∙ append_assoc (frames_in a d) (numbered stamp n (xs d)) (numbered stamp (n + length (xs d)) (ys d))
+        ∙ ap (λ fs. frames_in a d ++ fs) (sym (numbered_append stamp n (xs d) (ys d)));
+  }
 
--- two parts for one centre
-pub posted_more : (stamp to : ℕ) (xs ys : List spec.Body) (old mid new : List (Link Body)) → HasPosted body_of stamp (only to xs) old mid → HasPosted body_of stamp (only to ys) mid new
-    → HasPosted body_of stamp (only to (xs ++ ys)) old new
-posted_more stamp to xs ys old mid new first second =
-    posted_as stamp (λ d. only to xs d ++ only to ys d) (only to (xs ++ ys)) old new (only_joined to xs ys) (posted_join body_of stamp (only to xs) (only to ys) old mid new first second)
+  none_only : (to d : ℕ) → [] ≡ only to [] d
+  none_only to d = by (d == to) []
+    where
+      by : (b : Bool) (xs : List spec.Body) → xs ≡ (if b then xs else xs)
+      by true xs = refl
+      by false xs = refl
+
+  -- no body for a centre
+  pub none_sent_to : (to : ℕ) (links : List (Link Body)) (list : List SentFrame) → HasSent stamp (only to []) links links list list
+  none_sent_to to links list = sent_as (λ d. []) (only to []) links links list list (none_only to) (none_sent links list)
+
+  only_joined : (to : ℕ) (xs ys : List spec.Body) (d : ℕ) → only to xs d ++ only to ys d ≡ only to (xs ++ ys) d
+  only_joined to xs ys d = by (d == to)
+    where
+      by : (b : Bool) → (if b then xs else []) ++ (if b then ys else []) ≡ (if b then xs ++ ys else [])
+      by true = refl
+      by false = refl
+
+  -- two parts for one centre
+  pub sent_more : (to : ℕ) (xs ys : List spec.Body) (old mid new : List (Link Body)) (a b c : List SentFrame) → HasSent stamp (only to xs) old mid a b → HasSent stamp (only to ys) mid new b c
+      → HasSent stamp (only to (xs ++ ys)) old new a c
+  sent_more to xs ys old mid new a b c first second =
+      sent_as (λ d. only to xs d ++ only to ys d) (only to (xs ++ ys)) old new a c (only_joined to xs ys) (sent_join (only to xs) (only to ys) old mid new a b c first second)
+
+  -- one frame
+  pub sent_one : (to : ℕ) (b : Body) (old new : List (Link Body)) (list more : List SentFrame) (f : SentFrame) → HasPosted body_of stamp (only to (body_of b ∷ [])) old new → more ≡ list ++ f ∷ [] → f.to ≡ to
+      → f.frame ≡ record { number = length (sent_to old to) + 1; stamp = stamp; body = body_of b } → HasSent stamp (only to (body_of b ∷ [])) old new list more
+  sent_one to b old new list more f posted is goes frame = record {
+    posted = posted;
+    frames = λ d. ap (λ fs. frames_in fs d) is ∙ frames_more list f d ∙ ap (λ fs. frames_in list d ++ fs) (ap (λ (n : ℕ). if d == n then f.frame ∷ [] else []) goes ∙ here d);
+  }
+    where
+      here : (d : ℕ) → (if d == to then f.frame ∷ [] else []) ≡ numbered stamp (length (sent_to old d)) (only to (body_of b ∷ []) d)
+      here d = elim (eqb_tells d to) as (λ _. (if d == to then f.frame ∷ [] else []) ≡ numbered stamp (length (sent_to old d)) (only to (body_of b ∷ []) d)) [
+        | inl e ↦ rw (e.0) (ap (λ x. x ∷ []) (frame ∙ ap (λ (n : ℕ). record { number = length (sent_to old n) + 1; stamp = stamp; body = body_of b }) (sym (e.1))))
+        | inr e ↦ rw (e.0) refl
+      ]
 
 -- ## One centre after another
 
@@ -160,19 +224,11 @@ posted_more stamp to xs ys old mid new first second =
 abbrev pub below : (ℕ → List spec.Body) → ℕ → ℕ → List spec.Body
 below bodies n d = if nat_lt d n then bodies d else []
 
--- the row has the frames to the centres below a number, of bodies that go on these links
-pub record HasRow (stamp t : ℕ) (letter : Option Letter) (bodies : ℕ → List spec.Body) (links : List (Link Body)) (n : ℕ) (row : List Returned) : Type 0 where
-  pub count : length row ≡ n
-  pub frames : (d : ℕ) → frames_in stamp t letter row d ≡ numbered stamp (length (sent_to links d)) (below bodies n d)
-
 none_before : (bodies : ℕ → List spec.Body) (d : ℕ) → [] ≡ below bodies 0 d
 none_before bodies d = let no : nat_lt d 0 ≡ false = grind (arith, nat_tests) in rw no refl
 
-pub none_below : (stamp : ℕ) (bodies : ℕ → List spec.Body) (links : List (Link Body)) → HasPosted body_of stamp (below bodies 0) links links
-none_below stamp bodies links = posted_as stamp (λ d. []) (below bodies 0) links links (none_before bodies) (posted_none body_of stamp links)
-
-pub no_row : (stamp t : ℕ) (letter : Option Letter) (bodies : ℕ → List spec.Body) (links : List (Link Body)) → HasRow stamp t letter bodies links 0 []
-no_row stamp t letter bodies links = record { count = refl; frames = λ d. ap (numbered stamp (length (sent_to links d))) (none_before bodies d) }
+pub none_below : (stamp : ℕ) (bodies : ℕ → List spec.Body) (links : List (Link Body)) (list : List SentFrame) → HasSent stamp (below bodies 0) links links list list
+none_below stamp bodies links list = sent_as stamp (λ d. []) (below bodies 0) links links list list (none_before bodies) (none_sent stamp links list)
 
 module _ (bodies : ℕ → List spec.Body) (n d : ℕ) where
   earlier : d < n → (nat_lt d n ≡ true) × (nat_lt d (n + 1) ≡ true)
@@ -191,10 +247,10 @@ module _ (bodies : ℕ → List spec.Body) (n d : ℕ) where
     | inr e ↦ let apart = e.1 in high (omega (arith, not, apart))
   ]) (cases_lt d n)
 
-pub one_more : (stamp : ℕ) (bodies : ℕ → List spec.Body) (n : ℕ) (old mid new : List (Link Body)) → HasPosted body_of stamp (below bodies n) old mid → HasPosted body_of stamp (only n (bodies n)) mid new
-    → HasPosted body_of stamp (below bodies (n + 1)) old new
-one_more stamp bodies n old mid new first second =
-    posted_as stamp (λ d. below bodies n d ++ only n (bodies n) d) (below bodies (n + 1)) old new same (posted_join body_of stamp (below bodies n) (only n (bodies n)) old mid new first second)
+pub one_more : (stamp : ℕ) (bodies : ℕ → List spec.Body) (n : ℕ) (old mid new : List (Link Body)) (a b c : List SentFrame) → HasSent stamp (below bodies n) old mid a b → HasSent stamp (only n (bodies n)) mid new b c
+    → HasSent stamp (below bodies (n + 1)) old new a c
+one_more stamp bodies n old mid new a b c first second =
+    sent_as stamp (λ d. below bodies n d ++ only n (bodies n) d) (below bodies (n + 1)) old new a c same (sent_join stamp (below bodies n) (only n (bodies n)) old mid new a b c first second)
   where
     same : (d : ℕ) → below bodies n d ++ only n (bodies n) d ≡ below bodies (n + 1) d
     same d = elim (eqb_tells d n) as (λ _. below bodies n d ++ only n (bodies n) d ≡ below bodies (n + 1) d) [
@@ -204,45 +260,6 @@ one_more stamp bodies n old mid new first second =
           (λ same. absurd (e.1 same))
           (λ high. let at = later bodies n d high in rw (at.0, at.1, e.0) refl)
     ]
-
--- and one centre more in the row
-pub row_more : (stamp t : ℕ) (letter : Option Letter) (bodies : ℕ → List spec.Body) (n : ℕ) (old mid : List (Link Body)) (row more : List Returned) (r : Returned) → HasPosted body_of stamp (below bodies n) old mid
-    → HasRow stamp t letter bodies old n row → r.before ≡ length (sent_to mid n) → bodies_to t letter n r ≡ bodies n → more ≡ row ++ r ∷ [] → HasRow stamp t letter bodies old (n + 1) more
-row_more stamp t letter bodies n old mid row more r posted has before sends is = record {
-  count = let sum = length-append row (r ∷ []) in let was = has.count in let all = ap length is in omega (arith, sum, was, all);
-  frames = λ d. ap (λ rs. frames_in stamp t letter rs d) is ∙ each d;
-}
-  where
-    -- nothing was posted to this centre before
-    counts : r.before ≡ length (sent_to old n)
-    counts =
-        let at = here bodies n n refl in
-        let none : below bodies n n ≡ [] = rw (at.0) refl in
-        let few = ap length none in
-        let sum = posted_count body_of stamp (below bodies n) old mid posted n in
-        omega (arith, before, few, sum)
-
-    each : (d : ℕ) → frames_in stamp t letter (row ++ r ∷ []) d ≡ numbered stamp (length (sent_to old d)) (below bodies (n + 1) d)
-    each d = where_is bodies n d (frames_in stamp t letter (row ++ r ∷ []) d ≡ numbered stamp (length (sent_to old d)) (below bodies (n + 1) d))
-        (λ low.
-        let at = earlier bodies n d low in
-        let was = has.count in
-        let got : slice_get (row ++ r ∷ []) d ≡ slice_get row d = slice_get-before row (r ∷ []) d (omega (arith, low, was)) in
-        let old_frames = has.frames d in
-        ap (λ o. option_map_or (λ q. numbered stamp q.before (bodies_to t letter d q)) o []) got ∙ old_frames ∙ rw (at.0, at.1) refl)
-        (λ same.
-        let at = here bodies n d same in
-        let got : slice_get (row ++ r ∷ []) d ≡ Some r = ap (slice_get (row ++ r ∷ [])) (same ∙ sym has.count) ∙ slice_get-last row r in
-        ap (λ o. option_map_or (λ q. numbered stamp q.before (bodies_to t letter d q)) o []) got
-        ∙ (λ i. numbered stamp (counts i) (bodies_to t letter (same i) r))
-        ∙ (λ i. numbered stamp (length (sent_to old (sym same i))) (sends i))
-        ∙ rw (at.1) (ap (λ (e : ℕ). numbered stamp (length (sent_to old d)) (bodies e)) (sym same)))
-        (λ high.
-        let at = later bodies n d high in
-        let was = has.count in
-        let sum = length-append row (r ∷ []) in
-        let got : slice_get (row ++ r ∷ []) d ≡ None = slice_get_past (row ++ r ∷ []) d (omega (arith, high, was, sum)) in
-        ap (λ o. option_map_or (λ q. numbered stamp q.before (bodies_to t letter d q)) o []) got ∙ rw (at.1) refl)
 
 -- no centre past the last is sent anything
 pub all_below : (line : Line) (c : ℕ) (bodies : ℕ → List spec.Body) (n : ℕ) (links : List (Link Body)) → length line.centres ≤ n → ((d : ℕ) → has_link links d ≡ is_linked line c d)

@@ -1,5 +1,5 @@
 -- Laws of what is kept of sections and trains.
-use Rattle.std.proofs.Common.{◌≡◌, ℕ, zero, suc, ◌==◌, ◌<◌, ◌≤◌, ◌≢◌, Bool, false, List, [], ◌∷◌, length, Option, Some, None, slice_get, set, refl, sym, ap, ◌∙◌, subst, inl, inr, arith, option_and_then}
+use Rattle.std.proofs.Common.{◌≡◌, ◌*◌, ℕ, zero, suc, ◌==◌, ◌<◌, ◌≤◌, ◌≢◌, Bool, false, List, [], ◌∷◌, length, Option, Some, None, slice_get, set, refl, sym, ap, ◌∙◌, subst, inl, inr, arith, option_and_then}
 use Rattle.std.proofs.lemmas.Bool.Decides.{eqb_tells, nat_tests}
 use Rattle.std.proofs.lemmas.List.Quantifiers.{position-Some}
 use Rattle.std.specs.Option.{option_map_or}
@@ -108,13 +108,13 @@ each_after P states i new within here others j p found = elim (eqb_tells j i) as
 ]
 
 -- what was said to each train is counted by the clock, also behind a change of one
-pub counted_after : (states : List TrainState) (i before clock : ℕ) (new : TrainState) → i < length states → new.said ≤ clock → before ≤ clock
-    → ((j : ℕ) (p : TrainState) → slice_get states j ≡ Some p → p.said ≤ before) → (j : ℕ) (p : TrainState) → slice_get (set states i new) j ≡ Some p → p.said ≤ clock
+pub counted_after : (states : List TrainState) (i before clock : ℕ) (new : TrainState) → i < length states → new.said ≤ 2 * clock → before ≤ clock
+    → ((j : ℕ) (p : TrainState) → slice_get states j ≡ Some p → p.said ≤ 2 * before) → (j : ℕ) (p : TrainState) → slice_get (set states i new) j ≡ Some p → p.said ≤ 2 * clock
 counted_after states i before clock new within few later each =
-    each_after (λ j p. p.said ≤ clock) states i new within few (λ j p apart at. let early = each j p at in omega (arith, early, later))
+    each_after (λ j p. p.said ≤ 2 * clock) states i new within few (λ j p apart at. let early = each j p at in omega (arith, early, later))
 
 pub counted_later : (states : List TrainState) (before clock : ℕ) → before ≤ clock
-    → ((j : ℕ) (p : TrainState) → slice_get states j ≡ Some p → p.said ≤ before) → (j : ℕ) (p : TrainState) → slice_get states j ≡ Some p → p.said ≤ clock
+    → ((j : ℕ) (p : TrainState) → slice_get states j ≡ Some p → p.said ≤ 2 * before) → (j : ℕ) (p : TrainState) → slice_get states j ≡ Some p → p.said ≤ 2 * clock
 counted_later states before clock later each j p at = let early = each j p at in omega (arith, early, later)
 
 -- the number of a train of the line is its own
@@ -140,17 +140,18 @@ stands_beside line c old new s t u j p phase enters apart is = record {
   waiting = is.waiting;
   covers = is.covers;
   held = is.held;
+  expected = is.expected;
   session = stands_with_train new p.session_state u (enters.others p.session_state u apart (stands_for_train old p.session_state u is.session));
 }
 
 -- what is kept of each train, behind a message of one
 pub each_of_train_after : (line : Line) (c : ℕ) (old new : Records) (states : List TrainState) (t i : ℕ) (state : TrainState) (phase : Phase) → i < length states → train_number line t ≡ Some i
-    → Enters old new state.session_state t phase → state.supervision.number ≡ i → state.supervision.engine ≡ t → state.waiting.engine ≡ t → IsCovered line state.waiting → IsHeld line c state
+    → Enters old new state.session_state t phase → state.supervision.number ≡ i → state.supervision.engine ≡ t → state.waiting.engine ≡ t → IsCovered line state.waiting → IsHeld line c state → length state.expectations ≡ length line.centres
     → ((u j : ℕ) (p : TrainState) → train_number line u ≡ Some j → slice_get states j ≡ Some p → IsOfTrain line c old u j p)
     → (u j : ℕ) (p : TrainState) → train_number line u ≡ Some j → slice_get (set states i state) j ≡ Some p → IsOfTrain line c new u j p
-each_of_train_after line c old new states t i state phase within at_t enters number engine waiting covers held each =
+each_of_train_after line c old new states t i state phase within at_t enters number engine waiting covers held expected each =
     each_train_after (IsOfTrain line c new) line states t i state within at_t
-    (record { number = number; engine = engine; waiting = waiting; covers = covers; held = held; session = stands_with_train new state.session_state t enters.stands })
+    (record { number = number; engine = engine; waiting = waiting; covers = covers; held = held; expected = expected; session = stands_with_train new state.session_state t enters.stands })
     (λ u j p apart at_u at. stands_beside line c old new state.session_state t u j p phase enters apart (each u j p at_u at))
 
 -- the same, where no session has changed
@@ -164,13 +165,14 @@ each_of_train_still line c sessions states t i state within at_t here each =
 -- a train that is asked for a section stays the one that it was
 pub asked_train : (line : Line) (c : ℕ) (sessions : Records) (t i : ℕ) (before after : TrainState) → IsOfTrain line c sessions t i before → after.supervision.number ≡ before.supervision.number
     → after.supervision.engine ≡ before.supervision.engine → after.waiting ≡ before.waiting → after.session_state ≡ before.session_state
-    → after.supervision.hand ≡ before.supervision.hand → IsOfTrain line c sessions t i after
-asked_train line c sessions t i before after was number engine waiting session_state hand = record {
+    → after.supervision.hand ≡ before.supervision.hand → after.expectations ≡ before.expectations → IsOfTrain line c sessions t i after
+asked_train line c sessions t i before after was number engine waiting session_state hand expects = record {
   number = number ∙ was.number;
   engine = engine ∙ was.engine;
   waiting = ap (λ (w : WaitState). w.engine) waiting ∙ was.waiting;
   covers = subst (IsCovered line) (sym waiting) was.covers;
   held = subst (λ (u : ℕ). IsHeldAt u (is_home line c) after.supervision.hand) (sym engine)
       (subst (λ (h : Holding). IsHeldAt before.supervision.engine (is_home line c) h) (sym hand) was.held);
+  expected = ap length expects ∙ was.expected;
   session = subst (λ (x : SessionState). Stands sessions x t) (sym session_state) was.session;
 }

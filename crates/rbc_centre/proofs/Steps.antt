@@ -5,7 +5,7 @@ use Rattle.std.proofs.lemmas.Bool.{ltb-false}
 use Rattle.std.proofs.lemmas.Bool.Decides.{nat_tests}
 use Rattle.std.proofs.lemmas.List.{length-map}
 use Rattle.rbc_spec.specs.Line.{Line}
-use Rattle.rbc_spec.specs.Reach.{Routes as ToRoutes}
+use Rattle.rbc_spec.specs.Reach.{Whole as ToWhole}
 use Rattle.rbc_spec.specs.Frame.{Frame, Body as BodySent}
 use Rattle.rbc_spec.specs.Outcome.{Reason, Saying, Word, Outcome, Taken}
 use Rattle.rbc_spec.specs.Centre as centre
@@ -21,7 +21,7 @@ use Rattle.rbc_link.specs.Posted.{HasPosted}
 use Rattle.rbc_link.proofs.Posted.{posted_none}
 use Rattle.rbc_linkmsg.specs.Bodies.{body_of}
 use Rattle.rbc_linkmsg.specs.declared.body.Body.{Body}
-use Rattle.rbc_right.specs.Rights.{Rights}
+use Rattle.rbc_centre.specs.declared.desk.Desk.{Desk}
 use Rattle.rbc_rules.specs.declared.train.TrainState.{TrainState}
 use Rattle.rbc_centre.specs.Answer.{IsRefusal, IsRefusalOf}
 use Rattle.rbc_centre.specs.State.{stands_for}
@@ -34,16 +34,16 @@ use Rattle.rbc_centre.specs.declared.fault.StepFault.TheVariants as fault
 -- ## What the parts of a centre stand for
 
 -- a clock that ticks changes nothing else
-pub ticked_is : (line : Line) (c old clock : ℕ) (pages : Pages) (rights : Rights) (links : List (Link Body)) (states : List TrainState)
-    → step.ticked clock (stands_for line c old pages rights links states) ≡ stands_for line c clock pages rights links states
+pub ticked_is : (line : Line) (c old clock : ℕ) (pages : Pages) (desk : Desk) (links : List (Link Body)) (states : List TrainState)
+    → step.ticked clock (stands_for line c old pages desk links states) ≡ stands_for line c clock pages desk links states
 unfolding stands_for
-ticked_is line c old clock pages rights links states = refl
+ticked_is line c old clock pages desk links states = refl
 
 -- links that are the same but for their room stand for the same
-pub stands_kept : (line : Line) (c clock : ℕ) (pages : Pages) (rights : Rights) (old new : List (Link Body)) (states : List TrainState) → KeepsLinks old new
-    → stands_for line c clock pages rights new states ≡ stands_for line c clock pages rights old states
+pub stands_kept : (line : Line) (c clock : ℕ) (pages : Pages) (desk : Desk) (old new : List (Link Body)) (states : List TrainState) → KeepsLinks old new
+    → stands_for line c clock pages desk new states ≡ stands_for line c clock pages desk old states
 unfolding stands_for
-stands_kept line c clock pages rights old new states keeps = λ i. record (stands_for line c clock pages rights old states) {
+stands_kept line c clock pages desk old new states keeps = λ i. record (stands_for line c clock pages desk old states) {
   sent = λ d. ap (frames_by body_of) (keeps.sent d) i;
   taken = λ d. keeps.taken d i;
 }
@@ -61,13 +61,13 @@ abbrev pub outcome_with : ℕ → (ℕ → List Frame) → List Saying → List 
 outcome_with stamp frames sayings words link silence =
     record { stamp = stamp; sayings = sayings; frames = frames; words = words; link = link; silence = silence }
 
-module _ (line : Line) (c before clock : ℕ) (old_book new_book : Pages) (old_rights new_rights : Rights) (old mid new : List (Link Body)) (old_states new_states : List TrainState)
+module _ (line : Line) (c before clock : ℕ) (old_book new_book : Pages) (old_desk new_desk : Desk) (old mid new : List (Link Body)) (old_states new_states : List TrainState)
     (bodies : ℕ → List BodySent) (event : Event) where
   abbrev k : centre.Centre
-  k = stands_for line c before old_book old_rights old old_states
+  k = stands_for line c before old_book old_desk old old_states
 
   abbrev left : centre.Centre
-  left = stands_for line c clock new_book new_rights new new_states
+  left = stands_for line c clock new_book new_desk new new_states
 
   -- as many frames were sent before as the links have, also behind an event that a link has taken
   counted : ((d : ℕ) → sent_to mid d ≡ sent_to old d) → (d : ℕ) → length (sent_to mid d) ≡ length (k.sent d)
@@ -77,10 +77,10 @@ module _ (line : Line) (c before clock : ℕ) (old_book new_book : Pages) (old_r
   -- what the code answers, and the state that it leaves, are those of the step: it had posted nothing in between
   pub answers : step.stamp_of k event ≡ clock → ((d : ℕ) → sent_to mid d ≡ sent_to old d) → HasPosted body_of clock bodies mid new
       → (sayings : List Saying) (words : List Word) (link : Option Taken) (silence : Option Reason)
-      → step.effect ToRoutes line c (step.ticked clock k) event ≡ effect_of (replied (stands_for line c clock new_book new_rights mid new_states) bodies sayings words) link silence
+      → step.effect ToWhole line c (step.ticked clock k) event ≡ effect_of (replied (stands_for line c clock new_book new_desk mid new_states) bodies sayings words) link silence
       → (frames : ℕ → List Frame) → ((d : ℕ) → frames d ≡ numbered clock (length (sent_to mid d)) (bodies d))
       → (outcome : Outcome) → outcome ≡ outcome_with clock frames sayings words link silence
-      → (outcome, left) ≡ step.taken ToRoutes line c event k
+      → (outcome, left) ≡ step.taken ToWhole line c event k
   unfolding stands_for
   answers stamp same posted sayings words link silence effect frames numbers outcome is =
       let frames_are : (d : ℕ) → frames d ≡ numbered clock (length (k.sent d)) (bodies d) = λ d. numbers d ∙ ap (λ n. numbered clock n (bodies d)) (counted same d) in
@@ -92,42 +92,42 @@ module _ (line : Line) (c before clock : ℕ) (old_book new_book : Pages) (old_r
         record left { sent = λ d. sent_are d i; taken = λ d. posted.taken d i },
       ))
       ∙ ap (λ (e : Effect). (step.outcome_of clock k e, step.state_after clock k e)) (sym effect)
-      ∙ ap (λ n. (step.outcome_of n k (step.effect ToRoutes line c (step.ticked n k) event), step.state_after n k (step.effect ToRoutes line c (step.ticked n k) event))) (sym stamp)
+      ∙ ap (λ n. (step.outcome_of n k (step.effect ToWhole line c (step.ticked n k) event), step.state_after n k (step.effect ToWhole line c (step.ticked n k) event))) (sym stamp)
 
 -- a step that sends nothing
-module _ (line : Line) (c before clock : ℕ) (old_book new_book : Pages) (old_rights new_rights : Rights) (links mid : List (Link Body)) (old_states new_states : List TrainState) (event : Event) where
-  pub says : step.stamp_of (stands_for line c before old_book old_rights links old_states) event ≡ clock → ((d : ℕ) → sent_to mid d ≡ sent_to links d)
+module _ (line : Line) (c before clock : ℕ) (old_book new_book : Pages) (old_desk new_desk : Desk) (links mid : List (Link Body)) (old_states new_states : List TrainState) (event : Event) where
+  pub says : step.stamp_of (stands_for line c before old_book old_desk links old_states) event ≡ clock → ((d : ℕ) → sent_to mid d ≡ sent_to links d)
       → (sayings : List Saying) (words : List Word) (link : Option Taken) (silence : Option Reason)
-      → step.effect ToRoutes line c (step.ticked clock (stands_for line c before old_book old_rights links old_states)) event
-      ≡ effect_of (replied (stands_for line c clock new_book new_rights mid new_states) (λ d. []) sayings words) link silence
+      → step.effect ToWhole line c (step.ticked clock (stands_for line c before old_book old_desk links old_states)) event
+      ≡ effect_of (replied (stands_for line c clock new_book new_desk mid new_states) (λ d. []) sayings words) link silence
       → (outcome : Outcome) → outcome ≡ outcome_with clock (λ d. []) sayings words link silence
-      → (outcome, stands_for line c clock new_book new_rights mid new_states) ≡ step.taken ToRoutes line c event (stands_for line c before old_book old_rights links old_states)
+      → (outcome, stands_for line c clock new_book new_desk mid new_states) ≡ step.taken ToWhole line c event (stands_for line c before old_book old_desk links old_states)
   says stamp same sayings words link silence effect outcome is =
-      answers line c before clock old_book new_book old_rights new_rights links mid mid old_states new_states (λ d. []) event stamp same (posted_none body_of clock mid)
+      answers line c before clock old_book new_book old_desk new_desk links mid mid old_states new_states (λ d. []) event stamp same (posted_none body_of clock mid)
       sayings words link silence effect (λ d. []) (λ d. refl) outcome is
 
 -- what the interlocking says
-module _ (line : Line) (c clock : ℕ) (old_book new_book : Pages) (rights : Rights) (links : List (Link Body)) (old_states new_states : List TrainState)
+module _ (line : Line) (c clock : ℕ) (old_book new_book : Pages) (desk : Desk) (links : List (Link Body)) (old_states new_states : List TrainState)
     (sayings : List Saying) (words : List Word) (outcome : Outcome) (s : ℕ) (is : outcome ≡ outcome_with (clock + 1) (λ d. []) sayings words None None) where
   abbrev at : centre.Centre
-  at = stands_for line c clock old_book rights links old_states
+  at = stands_for line c clock old_book desk links old_states
 
   abbrev later : centre.Centre
-  later = stands_for line c (clock + 1) old_book rights links old_states
+  later = stands_for line c (clock + 1) old_book desk links old_states
 
   is_later : step.ticked (clock + 1) at ≡ later
-  is_later = ticked_is line c clock (clock + 1) old_book rights links old_states
+  is_later = ticked_is line c clock (clock + 1) old_book desk links old_states
 
-  pub set_stands : replied (stands_for line c (clock + 1) new_book rights links new_states) (λ d. []) sayings words ≡ step.set line c s later
-      → (outcome, stands_for line c (clock + 1) new_book rights links new_states) ≡ step.taken ToRoutes line c (Set s) at
+  pub set_stands : replied (stands_for line c (clock + 1) new_book desk links new_states) (λ d. []) sayings words ≡ step.set line c s later
+      → (outcome, stands_for line c (clock + 1) new_book desk links new_states) ≡ step.taken ToWhole line c (Set s) at
   unfolding stands_for
-  set_stands r = says line c clock (clock + 1) old_book new_book rights rights links links old_states new_states (Set s) refl (λ d. refl) sayings words None None
+  set_stands r = says line c clock (clock + 1) old_book new_book desk desk links links old_states new_states (Set s) refl (λ d. refl) sayings words None None
       (ap (λ (x : Reply). effect_of x None None) (ap (step.set line c s) is_later ∙ sym r)) outcome is
 
-  pub unset_stands : replied (stands_for line c (clock + 1) new_book rights links new_states) (λ d. []) sayings words ≡ step.unset line c s later
-      → (outcome, stands_for line c (clock + 1) new_book rights links new_states) ≡ step.taken ToRoutes line c (Unset s) at
+  pub unset_stands : replied (stands_for line c (clock + 1) new_book desk links new_states) (λ d. []) sayings words ≡ step.unset line c s later
+      → (outcome, stands_for line c (clock + 1) new_book desk links new_states) ≡ step.taken ToWhole line c (Unset s) at
   unfolding stands_for
-  unset_stands r = says line c clock (clock + 1) old_book new_book rights rights links links old_states new_states (Unset s) refl (λ d. refl) sayings words None None
+  unset_stands r = says line c clock (clock + 1) old_book new_book desk desk links links old_states new_states (Unset s) refl (λ d. refl) sayings words None None
       (ap (λ (x : Reply). effect_of x None None) (ap (step.unset line c s) is_later ∙ sym r)) outcome is
 
 -- ## Whether an event is refused
@@ -156,11 +156,11 @@ pub refusal_by : (line : Line) (c : ℕ) (k : centre.Centre) (event : Event) (st
     → (if nat_lt 1073741823 (stamp + 1) then Some step.ClockEnd else (if step.has_full_link line c k then Some step.LinkFull else None)) ≡ step.refusal line c k event
 refusal_by line c k event stamp is = rw is refl
 
-pub taken_step : (line : Line) (c : ℕ) (k : centre.Centre) (event : Event) → step.refusal line c k event ≡ None → step.step ToRoutes line c event k ≡ Ok (step.taken ToRoutes line c event k)
+pub taken_step : (line : Line) (c : ℕ) (k : centre.Centre) (event : Event) → step.refusal line c k event ≡ None → step.step ToWhole line c event k ≡ Ok (step.taken ToWhole line c event k)
 unfolding step.step
 taken_step line c k event none = rw none refl
 
-pub refused_step : (line : Line) (c : ℕ) (k : centre.Centre) (event : Event) (f : StepFault) → IsRefusalOf f (step.refusal line c k event) → IsRefusal f (step.step ToRoutes line c event k)
+pub refused_step : (line : Line) (c : ℕ) (k : centre.Centre) (event : Event) (f : StepFault) → IsRefusalOf f (step.refusal line c k event) → IsRefusal f (step.step ToWhole line c event k)
 unfolding step.step
 refused_step line c k event fault.Memory is = absurd is
 refused_step line c k event fault.LinkFull is = rw is refl

@@ -1,18 +1,20 @@
 -- A centre behind the message or the frame of one train.
-use Rattle.std.proofs.Common.{◌≡◌, ℕ, ◌+◌, ◌<◌, ◌≤◌, Bool, false, true, List, [], Option, Some, None, length, map, slice_get, set, is_none, sym, ap, ◌∙◌, refl, subst, arith, All, Result, Ok, Err}
+use Rattle.std.proofs.Common.{◌≡◌, ◌*◌, ◌⊎◌, inl, inr, ℕ, ◌+◌, ◌<◌, ◌≤◌, Bool, false, true, List, [], Option, Some, None, length, map, slice_get, set, is_none, sym, ap, ◌∙◌, refl, subst, arith, All, Result, Ok, Err}
 use Rattle.std.proofs.Math.Logic.{∥∥₁_elim}
 use Rattle.std.specs.Result.{OnErr}
+use Rattle.rbc_spec.specs.SectionRuns.{within as within_run}
+use Rattle.rbc_spec.specs.Sections.{is_on}
 use Rattle.rbc_spec.specs.Line.{Line, is_linked, is_home, train_number}
-use Rattle.rbc_spec.specs.Reach.{Routes as ToRoutes}
+use Rattle.rbc_spec.specs.Reach.{Whole as ToWhole}
 use Rattle.rbc_spec.specs.Frame.{Frame, HasFrameRanges, Body as BodySent}
 use Rattle.rbc_spec.specs.Outcome.{Saying, Word, Taken, Reason, Told}
 use Rattle.rbc_spec.specs.Centre as centre
+use Rattle.rbc_spec.specs.Centre.{Expectation}
 use Rattle.rbc_spec.specs.Step as step
 use Rattle.rbc_spec.specs.Step.{Event, Train, Set, Unset, Effect, numbered}
 use Rattle.rbc_spec.specs.Message.{TrainMessage}
 use Rattle.rbc_flow.specs.Sound.{IsCentreSound}
 use Rattle.rbc_sound.specs.Stays.{IsInRange}
-use Rattle.rbc_own.specs.Own.{IsOwnAt}
 use Rattle.rbc_ranges.specs.Ranges.{HasMessageRanges, HasEventRanges, HasStateRanges, IsSentInRange}
 use Rattle.rbc_book.specs.Book.{Pages, is_own}
 use Rattle.rbc_link.specs.declared.link.Link.{Link}
@@ -23,26 +25,30 @@ use Rattle.rbc_link.specs.Posted.{HasPosted}
 use Rattle.rbc_linkmsg.specs.Bodies.{body_of}
 use Rattle.rbc_linkmsg.specs.declared.body.Body.{Body}
 use Rattle.rbc_right.specs.Rights.{Rights}
+use Rattle.rbc_handover.specs.Expectations.{expected_from}
+use Rattle.rbc_handover.specs.Giving.{with_count}
+use Rattle.rbc_centre.specs.declared.desk.Desk.{Desk}
 use Rattle.rbc_rules.specs.Desk.{IsKeptAt, HasParts, KeepsTrain, KeepsDesk, with_parts, effect_left}
 use Rattle.rbc_rules.specs.Letters.{tells_others, mail_to}
-use Rattle.rbc_rules.specs.Sayings.{sayings_of}
+use Rattle.rbc_rules.specs.Sayings.{told_train}
 use Rattle.rbc_rules.specs.declared.mail.Mail.{Mail}
 use Rattle.rbc_rules.specs.declared.heard.Heard.{Heard}
 use Rattle.rbc_rules.specs.declared.reason.Reason.{Reason as ReasonCode}
 use Rattle.rbc_rules.specs.declared.train.TrainState.{TrainState}
 use Rattle.rbc_centre.specs.Posts.{MayPost}
+use Rattle.rbc_centre.specs.Rooms.{HasFrameRoom}
 use Rattle.rbc_centre.specs.Ranges.{AreInRange-prop}
 use Rattle.rbc_centre.specs.State.{stands_for, IsOfTrain}
 use Rattle.rbc_centre.specs.States.{state_of, IsSame}
 use Rattle.rbc_centre.specs.declared.centre.Centre.{Centre as CentreCode}
-use Rattle.rbc_centre.proofs.Kept.{sound_left, own_left, ranged_left, sent_in}
+use Rattle.rbc_centre.proofs.Kept.{sound_left, ranged_left, sent_in}
 use Rattle.rbc_centre.proofs.Posts.{mail_few, may_post}
 use Rattle.rbc_centre.proofs.SentFrames.{each_frame_after}
 use Rattle.rbc_centre.proofs.Silent.{sends_nothing}
-use Rattle.rbc_centre.proofs.States.{number_within, counted_after}
+use Rattle.rbc_centre.proofs.States.{number_within, counted_after, part_of_train, slice_get-set_same}
 use Rattle.rbc_centre.proofs.Steps as Steps
 use Rattle.rbc_centre.proofs.Steps.{ticked_is, stands_kept, replied, effect_of, outcome_with, answers, no_refusal}
-use Rattle.rbc_centre.proofs.Trains.{mission_of, kept_at, has_train, train_left}
+use Rattle.rbc_centre.proofs.Trains.{mission_of, announced_of, kept_at, has_train, train_left}
 
 -- the frames that were sent are in their ranges
 pub sent_in_range : (k : CentreCode) (d : ℕ) → All HasFrameRanges (frames_by body_of (sent_to k.links d))
@@ -59,78 +65,94 @@ module _ (k : CentreCode) (t i : ℕ) (old : TrainState) (number : train_number 
   pub is_known : is_none (train_number k.line old.supervision.engine) ≡ false
   is_known = ap (λ (n : ℕ). is_none (train_number k.line n)) of_train.engine ∙ ap is_none number
 
-  pub has_number : old.supervision.number < length k.registrar
+  pub has_number : old.supervision.number < length k.desk.registrar
   has_number = omega (arith, of_train.number, within, k.train_count, k.each_right)
 
-  pub has_count : k.clock < 1073741823 → old.said < 4294967294
+  pub has_count : k.clock < 1073741823 → old.said < 4294967293
   has_count early = let few = k.counted i old at in omega (arith, few, early)
 
   pub kept_train : IsKeptAt k.line k.number old
   kept_train =
-      kept_at k.line k.number (state_of k) k.sessions t i old k.line_rules k.sound k.own k.ranged of_train
-      (mission_of k.line k.number k.clock t i k.book k.registrar k.links k.trains.items old number at)
+      kept_at k.line k.number (state_of k) k.sessions t i old k.line_rules k.sound k.ranged of_train
+      (mission_of k.line k.number k.clock t i k.book k.desk k.links k.trains.items old number at)
+
+  -- each section of its hand is on the track of its mission
+  pub on_track : (m : centre.Mission) → old.supervision.mission ≡ Some m → (s : ℕ) → within_run m.hand s ≡ true → is_on k.line m.place.track s ≡ true
+  on_track m stands s inside =
+      let mission = mission_of k.line k.number k.clock t i k.book k.desk k.links k.trains.items old number at in
+      (k.sound.mission t m (mission ∙ stands)).hand.on_track s inside
 
   module _ (clock : ℕ) (mid : List (Link Body)) where
     -- what the centre has of it, by its next clock and these links
-    pub parts : HasParts k.line k.number (stands_for k.line k.number clock k.book k.registrar mid k.trains.items) old k.book k.registrar
+    pub parts : HasParts k.line k.number (stands_for k.line k.number clock k.book k.desk mid k.trains.items) old k.book k.desk.registrar
     parts =
-        has_train k.line k.number clock t i k.book k.registrar mid k.trains.items old number at within of_train.engine of_train.number k.line_rules
+        has_train k.line k.number clock t i k.book k.desk mid k.trains.items old number at within of_train.engine of_train.number k.line_rules
         kept_train k.own_sections
 
-    module _ (new : TrainState) (book : Pages) (rights : Rights) (kept : KeepsTrain old new) (desk : KeepsDesk old.supervision.number k.book book k.registrar rights) where
+    module _ (new : TrainState) (book : Pages) (rights : Rights) (n : ℕ) (kept : KeepsTrain old new) (desk : KeepsDesk old.supervision.number k.book book k.desk.registrar rights) where
       abbrev states : List TrainState
       states = set k.trains.items i new
 
       -- the centre that is left, but for a frame that is sent
-      pub left : with_parts new book rights (stands_for k.line k.number clock k.book k.registrar mid k.trains.items) ≡ stands_for k.line k.number clock book rights mid states
-      left = train_left k.line k.number clock t i k.book k.registrar mid k.trains.items old number at within of_train.engine of_train.number new book rights kept desk
+      pub left : with_count n (with_parts new book rights (stands_for k.line k.number clock k.book k.desk mid k.trains.items))
+          ≡ stands_for k.line k.number clock book (record { registrar = rights; handovers = n }) mid states
+      left = train_left k.line k.number clock t i k.book k.desk mid k.trains.items old number at within of_train.engine of_train.number new book rights n kept desk
 
-      pub each_counted : k.clock < clock → (j : ℕ) (p : TrainState) → slice_get states j ≡ Some p → p.said ≤ clock
+      -- what is expected of the train then
+      pub expects_left : (d : ℕ) → (stands_for k.line k.number clock book (record { registrar = rights; handovers = n }) mid states).expects d old.supervision.engine ≡ expected_from new.expectations d
+      unfolding stands_for
+      expects_left d = sym (part_of_train (λ p. expected_from p.expectations d) None k.line states old.supervision.engine i new
+          (ap (train_number k.line) of_train.engine ∙ number) (slice_get-set_same k.trains.items i new within))
+
+      pub mail_left : (mail : Mail) (e : ℕ) → mail_to k.line k.number old.supervision.engine (λ d. (stands_for k.line k.number clock book (record { registrar = rights; handovers = n }) mid states).expects d old.supervision.engine) mail e
+          ≡ mail_to k.line k.number old.supervision.engine (expected_from new.expectations) mail e
+      mail_left mail e = λ j. mail_to k.line k.number old.supervision.engine (λ d. expects_left d j) mail e
+
+      pub each_counted : k.clock < clock → (j : ℕ) (p : TrainState) → slice_get states j ≡ Some p → p.said ≤ 2 * clock
       each_counted later =
           let few = k.counted i old at in
           let more = kept.said in
           counted_after k.trains.items i k.clock clock new within (omega (arith, few, more, later)) (omega (arith, later)) k.counted
 
 -- what stays true of a centre behind a step
-pub record Stays (k : CentreCode) (clock : ℕ) (book : Pages) (rights : Rights) (links : List (Link Body)) (states : List TrainState) : Type 0 where
+pub record Stays (k : CentreCode) (clock : ℕ) (book : Pages) (desk : Desk) (links : List (Link Body)) (states : List TrainState) : Type 0 where
   pub own_sections : (s : ℕ) → is_own book s ≡ is_home k.line k.number s
-  pub each_right : length rights ≡ length k.line.trains
+  pub each_right : length desk.registrar ≡ length k.line.trains
   pub link_count : length links ≡ length k.line.centres
   pub each_link : (d : ℕ) → has_link links d ≡ is_linked k.line k.number d
   pub each_frame : (d : ℕ) → All HasFrameRanges (frames_by body_of (sent_to links d))
   pub train_count : length states ≡ length k.line.trains
-  pub sound : IsCentreSound k.line k.number (stands_for k.line k.number clock book rights links states)
-  pub own : IsOwnAt ToRoutes k.line k.number (stands_for k.line k.number clock book rights links states)
-  pub ranged : ∥ HasStateRanges k.line k.number (stands_for k.line k.number clock book rights links states) ∥₁
+  pub sound : IsCentreSound k.line k.number (stands_for k.line k.number clock book desk links states)
+  pub ranged : ∥ HasStateRanges k.line k.number (stands_for k.line k.number clock book desk links states) ∥₁
 
 -- what a step sends to each centre, on links that are no different, may be posted: there is room for it, or there is none
 pub may_be_sent : (k : CentreCode) (event : Event) (clock : ℕ) (mid : List (Link Body)) (x : centre.Centre) (bodies : ℕ → List BodySent) (sayings : List Saying) (words : List Word) (link : Option Taken) (silence : Option Reason)
     → step.stamp_of (state_of k) event ≡ clock → ((d : ℕ) → sent_to mid d ≡ sent_to k.links d)
-    → step.effect ToRoutes k.line k.number (step.ticked clock (state_of k)) event ≡ effect_of (replied x bodies sayings words) link silence
+    → step.effect ToWhole k.line k.number (step.ticked clock (state_of k)) event ≡ effect_of (replied x bodies sayings words) link silence
     → step.refusal k.line k.number (state_of k) event ≡ None → HasEventRanges k.line k.number event → ((d : ℕ) → has_link mid d ≡ is_linked k.line k.number d)
-    → ((d : ℕ) → length (bodies d) ≤ 3) → ((d : ℕ) → has_link mid d ≡ true → length (bodies d) ≤ room_to mid d) → (d : ℕ) → MayPost mid d (bodies d)
+    → ((d : ℕ) → length (bodies d) ≤ 4) → ((d : ℕ) → has_link mid d ≡ true → length (bodies d) ≤ room_to mid d) → (d : ℕ) → MayPost mid d (bodies d)
 may_be_sent k event clock mid x bodies sayings words link silence stamp same effect allowed ranges linked few room d =
     let sent : All (IsSentInRange k.line k.number d) (bodies d) =
-    subst (λ (xs : List BodySent). All (IsSentInRange k.line k.number d) xs) ((λ i. (step.effect ToRoutes k.line k.number (step.ticked (stamp i) (state_of k)) event).reply.frames d) ∙ ap (λ (e : Effect). e.reply.frames d) effect)
+    subst (λ (xs : List BodySent). All (IsSentInRange k.line k.number d) xs) ((λ i. (step.effect ToWhole k.line k.number (step.ticked (stamp i) (state_of k)) event).reply.frames d) ∙ ap (λ (e : Effect). e.reply.frames d) effect)
     (sent_in k.line k.number (state_of k) event k.line_rules allowed ranges k.ranged d) in
-    may_post k.line k.number k.clock k.book k.registrar k.links mid k.trains.items d (bodies d) (Steps.allowed k.line k.number (state_of k) event allowed).1 (linked d) (same d) sent (few d) (room d)
+    may_post k.line k.number k.clock k.book k.desk k.links mid k.trains.items d (bodies d) (Steps.allowed k.line k.number (state_of k) event allowed).1 (linked d) (same d) sent (few d) (room d)
 
-module _ (k : CentreCode) (event : Event) (clock : ℕ) (mid new : List (Link Body)) (book : Pages) (rights : Rights) (states : List TrainState)
+module _ (k : CentreCode) (event : Event) (clock : ℕ) (mid new : List (Link Body)) (book : Pages) (desk : Desk) (states : List TrainState)
     (bodies : ℕ → List BodySent) (sayings : List Saying) (words : List Word) (link : Option Taken) (silence : Option Reason)
     (stamp : step.stamp_of (state_of k) event ≡ clock) (same : (d : ℕ) → sent_to mid d ≡ sent_to k.links d) (posted : HasPosted body_of clock bodies mid new)
-    (effect : step.effect ToRoutes k.line k.number (step.ticked clock (state_of k)) event
-    ≡ effect_of (replied (stands_for k.line k.number clock book rights mid states) bodies sayings words) link silence)
+    (effect : step.effect ToWhole k.line k.number (step.ticked clock (state_of k)) event
+    ≡ effect_of (replied (stands_for k.line k.number clock book desk mid states) bodies sayings words) link silence)
     (frames : ℕ → List Frame) (numbers : (d : ℕ) → frames d ≡ numbered clock (length (sent_to mid d)) (bodies d)) where
   -- the answer of the step, and the state that it leaves
-  pub turns : (outcome_with clock frames sayings words link silence, stands_for k.line k.number clock book rights new states)
-      ≡ step.taken ToRoutes k.line k.number event (state_of k)
+  pub turns : (outcome_with clock frames sayings words link silence, stands_for k.line k.number clock book desk new states)
+      ≡ step.taken ToWhole k.line k.number event (state_of k)
   turns =
-      answers k.line k.number k.clock clock k.book book k.registrar rights k.links mid new k.trains.items states bodies event
+      answers k.line k.number k.clock clock k.book book k.desk desk k.links mid new k.trains.items states bodies event
       stamp same posted sayings words link silence effect frames numbers _ refl
 
   pub stays : 1 ≤ clock → clock ≤ 1073741823 → IsInRange event → step.refusal k.line k.number (state_of k) event ≡ None → HasEventRanges k.line k.number event → ((d : ℕ) → MayPost mid d (bodies d))
-      → ((s : ℕ) → is_own book s ≡ is_own k.book s) → length rights ≡ length k.registrar → length states ≡ length k.trains.items → length mid ≡ length k.links → ((d : ℕ) → has_link mid d ≡ has_link k.links d)
-      → Stays k clock book rights new states
+      → ((s : ℕ) → is_own book s ≡ is_own k.book s) → length desk.registrar ≡ length k.desk.registrar → length states ≡ length k.trains.items → length mid ≡ length k.links → ((d : ℕ) → has_link mid d ≡ has_link k.links d)
+      → Stays k clock book desk new states
   stays low high range allowed ranges may homes count trains links linked = record {
     own_sections = λ s. homes s ∙ k.own_sections s;
     each_right = count ∙ k.each_right;
@@ -139,7 +161,6 @@ module _ (k : CentreCode) (event : Event) (clock : ℕ) (mid new : List (Link Bo
     each_frame = each_frame_after clock bodies mid new low high may posted (λ d. subst (λ (fs : List (Sent Body)). All HasFrameRanges (frames_by body_of fs)) (sym (same d)) (sent_in_range k d));
     train_count = trains ∙ k.train_count;
     sound = sound_left k.line k.number (state_of k) _ event _ k.line_rules range turns k.sound;
-    own = own_left k.line k.number (state_of k) _ event _ k.line_rules range turns k.sound k.own;
     ranged = ranged_left k.line k.number (state_of k) _ event _ k.line_rules range turns allowed ranges k.ranged;
   }
 
@@ -153,29 +174,43 @@ pub unset_stamp : (k : CentreCode) (s : ℕ) → step.stamp_of (state_of k) (Uns
 unfolding stands_for
 unset_stamp k s = refl
 
--- a message or a frame that its train takes, as the effect of the step
-pub takes : (k : CentreCode) (event : Event) (t i : ℕ) (old : TrainState) (number : train_number k.line t ≡ Some i) (at : slice_get k.trains.items i ≡ Some old) (clock : ℕ)
-    (new : TrainState) (book : Pages) (rights : Rights) (kept : KeepsTrain old new) (desk : KeepsDesk old.supervision.number k.book book k.registrar rights) (r : Result Heard ReasonCode)
-    → ((x : centre.Centre) → HasParts k.line k.number x old k.book k.registrar → is_none (train_number k.line old.supervision.engine) ≡ false
-    → step.effect ToRoutes k.line k.number x event ≡ effect_left k.line k.number old.supervision.engine (with_parts new book rights x) r)
-    → step.effect ToRoutes k.line k.number (step.ticked clock (state_of k)) event ≡ effect_left k.line k.number old.supervision.engine (stands_for k.line k.number clock book rights k.links (set k.trains.items i new)) r
-takes k event t i old number at clock new book rights kept desk r exact =
-    ap (λ (x : centre.Centre). step.effect ToRoutes k.line k.number x event) (ticked_is k.line k.number k.clock clock k.book k.registrar k.links k.trains.items)
-    ∙ exact (stands_for k.line k.number clock k.book k.registrar k.links k.trains.items) (parts k t i old number at clock k.links) (is_known k t i old number at)
-    ∙ ap (λ (x : centre.Centre). effect_left k.line k.number old.supervision.engine x r) (left k t i old number at clock k.links new book rights kept desk)
+-- what a message that is taken comes to, as the effect of the step
+module _ (k : CentreCode) (event : Event) (t i : ℕ) (old : TrainState) (number : train_number k.line t ≡ Some i) (at : slice_get k.trains.items i ≡ Some old) (clock : ℕ)
+    (new : TrainState) (book : Pages) (rights : Rights) (n : ℕ) (kept : KeepsTrain old new) (desk : KeepsDesk old.supervision.number k.book book k.desk.registrar rights) where
+  pub takes : (r : Result Heard ReasonCode)
+      → ((x : centre.Centre) → HasParts k.line k.number x old k.book k.desk.registrar → is_none (train_number k.line old.supervision.engine) ≡ false → x.announced ≡ k.desk.handovers
+      → step.effect ToWhole k.line k.number x event ≡ effect_left k.line k.number old.supervision.engine (with_count n (with_parts new book rights x)) r)
+      → step.effect ToWhole k.line k.number (step.ticked clock (state_of k)) event
+      ≡ effect_left k.line k.number old.supervision.engine (stands_for k.line k.number clock book (record { registrar = rights; handovers = n }) k.links (set k.trains.items i new)) r
+  takes r exact =
+      ap (λ (x : centre.Centre). step.effect ToWhole k.line k.number x event) (ticked_is k.line k.number k.clock clock k.book k.desk k.links k.trains.items)
+      ∙ exact (stands_for k.line k.number clock k.book k.desk k.links k.trains.items) (parts k t i old number at clock k.links) (is_known k t i old number at) (announced_of k.line k.number clock k.book k.desk k.links k.trains.items)
+      ∙ ap (λ (x : centre.Centre). effect_left k.line k.number old.supervision.engine x r) (left k t i old number at clock k.links new book rights n kept desk)
+
+  -- and one that is heard
+  pub hears : (heard : Heard)
+      → ((x : centre.Centre) → HasParts k.line k.number x old k.book k.desk.registrar → is_none (train_number k.line old.supervision.engine) ≡ false → x.announced ≡ k.desk.handovers
+      → step.effect ToWhole k.line k.number x event ≡ effect_left k.line k.number old.supervision.engine (with_count n (with_parts new book rights x)) (Ok heard))
+      → step.effect ToWhole k.line k.number (step.ticked clock (state_of k)) event
+      ≡ effect_of (replied (stands_for k.line k.number clock book (record { registrar = rights; handovers = n }) k.links (set k.trains.items i new))
+      (mail_to k.line k.number old.supervision.engine (expected_from new.expectations) heard.mail) (told_train heard.saying heard.order) (map (λ s. Told s) heard.told)) None None
+  hears heard exact =
+      takes (Ok heard) exact
+      ∙ (λ j. effect_of (replied (stands_for k.line k.number clock book (record { registrar = rights; handovers = n }) k.links (set k.trains.items i new))
+      (λ e. mail_left k t i old number at clock k.links new book rights n kept desk heard.mail e j) (told_train heard.saying heard.order) (map (λ s. Told s) heard.told)) None None)
 
 -- ## Room
 
 -- a centre that is the same but for the room of its parts stands for the same
 pub state_same : (old new : CentreCode) → IsSame old new → state_of new ≡ state_of old
 state_same old new same =
-    (λ i. stands_for (same.line i) (same.number i) (same.clock i) (same.book i) (same.registrar i) new.links ((same.trains i).items))
-    ∙ stands_kept old.line old.number old.clock old.book old.registrar old.links new.links old.trains.items same.links
+    (λ i. stands_for (same.line i) (same.number i) (same.clock i) (same.book i) (same.desk i) new.links ((same.trains i).items))
+    ∙ stands_kept old.line old.number old.clock old.book old.desk old.links new.links old.trains.items same.links
 
 -- and so does one whose links alone have other room
-pub stays_with : (k : CentreCode) (links : List (Link Body)) → KeepsLinks k.links links → Stays k k.clock k.book k.registrar links k.trains.items
+pub stays_with : (k : CentreCode) (links : List (Link Body)) → KeepsLinks k.links links → Stays k k.clock k.book k.desk links k.trains.items
 stays_with k links keeps =
-    let is = stands_kept k.line k.number k.clock k.book k.registrar k.links links k.trains.items keeps in
+    let is = stands_kept k.line k.number k.clock k.book k.desk k.links links k.trains.items keeps in
     record {
       own_sections = k.own_sections;
       each_right = k.each_right;
@@ -184,7 +219,6 @@ stays_with k links keeps =
       each_frame = λ d. subst (λ (fs : List (Sent Body)). All HasFrameRanges (frames_by body_of fs)) (sym (keeps.sent d)) (sent_in_range k d);
       train_count = k.train_count;
       sound = subst (IsCentreSound k.line k.number) (sym is) k.sound;
-      own = subst (IsOwnAt ToRoutes k.line k.number) (sym is) k.own;
       ranged = subst (λ (x : centre.Centre). ∥ HasStateRanges k.line k.number x ∥₁) (sym is) k.ranged;
     }
 
@@ -211,8 +245,8 @@ module _ (k : CentreCode) (early : k.clock < 1073741823) (room : step.has_full_l
 
 -- where it tells no other centre it needs none
 pub heard_room : (k : CentreCode) (m : TrainMessage) (clock : ℕ) (x : centre.Centre) (bodies : ℕ → List BodySent) (sayings : List Saying) (words : List Word) (link : Option Taken) (silence : Option Reason)
-    → step.effect ToRoutes k.line k.number (step.ticked clock (state_of k)) (Train m) ≡ effect_of (replied x bodies sayings words) link silence → ((d : ℕ) → length (bodies d) ≤ 3)
-    → (tells_others m.body ≡ true → HasRoom k.links 3) → (d : ℕ) → has_link k.links d ≡ true → length (bodies d) ≤ room_to k.links d
+    → step.effect ToWhole k.line k.number (step.ticked clock (state_of k)) (Train m) ≡ effect_of (replied x bodies sayings words) link silence → ((d : ℕ) → length (bodies d) ≤ 4)
+    → (tells_others m.body ≡ true → HasRoom k.links 4) → (d : ℕ) → has_link k.links d ≡ true → length (bodies d) ≤ room_to k.links d
 heard_room k m clock x bodies sayings words link silence effect few room d linked = by (tells_others m.body) refl
   where
     by : (b : Bool) → tells_others m.body ≡ b → length (bodies d) ≤ room_to k.links d
@@ -223,30 +257,47 @@ heard_room k m clock x bodies sayings words link silence effect few room d linke
 
 -- so what a message is heard to leave for other centres may be posted
 pub heard_may : (k : CentreCode) (m : TrainMessage) (t i : ℕ) (old : TrainState) (number : train_number k.line t ≡ Some i) (at : slice_get k.trains.items i ≡ Some old)
-    (new : TrainState) (book : Pages) (rights : Rights) (kept : KeepsTrain old new) (desk : KeepsDesk old.supervision.number k.book book k.registrar rights) (heard : Heard)
-    → ((x : centre.Centre) → HasParts k.line k.number x old k.book k.registrar → is_none (train_number k.line old.supervision.engine) ≡ false
-    → step.effect ToRoutes k.line k.number x (Train m) ≡ effect_left k.line k.number old.supervision.engine (with_parts new book rights x) (Ok heard))
-    → k.clock < 1073741823 → step.has_full_link k.line k.number (state_of k) ≡ false → HasMessageRanges m → (tells_others m.body ≡ true → HasRoom k.links 3)
-    → (d : ℕ) → MayPost k.links d (mail_to k.line k.number old.supervision.engine heard.mail d)
-heard_may k m t i old number at new book rights kept desk heard exact early none ranges room =
-    let bodies = mail_to k.line k.number old.supervision.engine heard.mail in
-    let sayings = sayings_of heard.saying in
+    (new : TrainState) (book : Pages) (rights : Rights) (n : ℕ) (kept : KeepsTrain old new) (desk : KeepsDesk old.supervision.number k.book book k.desk.registrar rights) (heard : Heard)
+    → ((x : centre.Centre) → HasParts k.line k.number x old k.book k.desk.registrar → is_none (train_number k.line old.supervision.engine) ≡ false → x.announced ≡ k.desk.handovers
+    → step.effect ToWhole k.line k.number x (Train m) ≡ effect_left k.line k.number old.supervision.engine (with_count n (with_parts new book rights x)) (Ok heard))
+    → k.clock < 1073741823 → step.has_full_link k.line k.number (state_of k) ≡ false → HasMessageRanges m → (tells_others m.body ≡ true → HasRoom k.links 4)
+    → (d : ℕ) → MayPost k.links d (mail_to k.line k.number old.supervision.engine (expected_from new.expectations) heard.mail d)
+heard_may k m t i old number at new book rights n kept desk heard exact early none ranges room =
+    let bodies = mail_to k.line k.number old.supervision.engine (expected_from new.expectations) heard.mail in
+    let sayings = told_train heard.saying heard.order in
     let words : List Word = map (λ s. Told s) heard.told in
-    let few = mail_few k.line k.number old.supervision.engine heard.mail in
-    let effect = takes k (Train m) t i old number at (k.clock + 1) new book rights kept desk (Ok heard) exact in
+    let few = mail_few k.line k.number old.supervision.engine (expected_from new.expectations) heard.mail in
+    let effect = hears k (Train m) t i old number at (k.clock + 1) new book rights n kept desk heard exact in
     may_be_sent k (Train m) (k.clock + 1) k.links _ bodies sayings words None None (heard_stamp k m) (λ d. refl) effect (heard_allowed k early none m) (k.of_line, ranges) k.each_link few
     (heard_room k m (k.clock + 1) _ bodies sayings words None None effect few room)
+
+-- and there is room for its frames, where it leaves some
+pub heard_frames : (k : CentreCode) (m : TrainMessage) (t i : ℕ) (old : TrainState) (number : train_number k.line t ≡ Some i) (at : slice_get k.trains.items i ≡ Some old)
+    (new : TrainState) (book : Pages) (rights : Rights) (n : ℕ) (kept : KeepsTrain old new) (desk : KeepsDesk old.supervision.number k.book book k.desk.registrar rights) (heard : Heard)
+    → ((x : centre.Centre) → HasParts k.line k.number x old k.book k.desk.registrar → is_none (train_number k.line old.supervision.engine) ≡ false → x.announced ≡ k.desk.handovers
+    → step.effect ToWhole k.line k.number x (Train m) ≡ effect_left k.line k.number old.supervision.engine (with_count n (with_parts new book rights x)) (Ok heard))
+    → (tells_others m.body ≡ true → HasFrameRoom k.room) → (d : ℕ) → (mail_to k.line k.number old.supervision.engine (expected_from new.expectations) heard.mail d ≡ []) ⊎ HasFrameRoom k.room
+heard_frames k m t i old number at new book rights n kept desk heard exact room d = by (tells_others m.body) refl
+  where
+    bodies : ℕ → List BodySent
+    bodies = mail_to k.line k.number old.supervision.engine (expected_from new.expectations) heard.mail
+
+    by : (b : Bool) → tells_others m.body ≡ b → (bodies d ≡ []) ⊎ HasFrameRoom k.room
+    by true tells = inr (room tells)
+    by false silent =
+        let effect = hears k (Train m) t i old number at (k.clock + 1) new book rights n kept desk heard exact in
+        inl (sym (ap (λ (e : Effect). e.reply.frames d) effect) ∙ sends_nothing d k.line k.number m (step.ticked (k.clock + 1) (state_of k)) silent)
 
 -- ## What was posted
 
 -- the mail of a train went on the links, and these are its frames
-pub record IsSent (line : Line) (c t stamp : ℕ) (mail : Mail) (old new : List (Link Body)) (frames : ℕ → List Frame) : Type 0 where
-  pub links : HasPosted body_of stamp (mail_to line c t mail) old new
-  pub each : (d : ℕ) → frames d ≡ numbered stamp (length (sent_to old d)) (mail_to line c t mail d)
+pub record IsSent (line : Line) (c t stamp : ℕ) (e : ℕ → Option Expectation) (mail : Mail) (old new : List (Link Body)) (frames : ℕ → List Frame) : Type 0 where
+  pub links : HasPosted body_of stamp (mail_to line c t e mail) old new
+  pub each : (d : ℕ) → frames d ≡ numbered stamp (length (sent_to old d)) (mail_to line c t e mail d)
 
 -- by another name of the train
-pub sent_by : (line : Line) (c t u stamp : ℕ) (mail : Mail) (old new : List (Link Body)) (frames : ℕ → List Frame) → t ≡ u → HasPosted body_of stamp (mail_to line c t mail) old new
-    → ((d : ℕ) → frames d ≡ numbered stamp (length (sent_to old d)) (mail_to line c t mail d)) → IsSent line c u stamp mail old new frames
-sent_by line c t u stamp mail old new frames same links each =
-    let first : IsSent line c t stamp mail old new frames = record { links = links; each = each } in
-    subst (λ (x : ℕ). IsSent line c x stamp mail old new frames) same first
+pub sent_by : (line : Line) (c t u stamp : ℕ) (e : ℕ → Option Expectation) (mail : Mail) (old new : List (Link Body)) (frames : ℕ → List Frame) → t ≡ u → HasPosted body_of stamp (mail_to line c t e mail) old new
+    → ((d : ℕ) → frames d ≡ numbered stamp (length (sent_to old d)) (mail_to line c t e mail d)) → IsSent line c u stamp e mail old new frames
+sent_by line c t u stamp e mail old new frames same links each =
+    let first : IsSent line c t stamp e mail old new frames = record { links = links; each = each } in
+    subst (λ (x : ℕ). IsSent line c x stamp e mail old new frames) same first

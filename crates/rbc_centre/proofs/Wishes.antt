@@ -21,7 +21,7 @@ use Rattle.rbc_book.proofs.Pages.{foreign_is_shut}
 use Rattle.rbc_book.specs.declared.answer.Unset.TheVariants as Unset
 use Rattle.rbc_link.specs.declared.link.Link.{Link}
 use Rattle.rbc_linkmsg.specs.declared.body.Body.{Body}
-use Rattle.rbc_right.specs.Rights.{Rights}
+use Rattle.rbc_centre.specs.declared.desk.Desk.{Desk}
 use Rattle.rbc_session.specs.SessionStates.{session_phase}
 use Rattle.rbc_rules.specs.Tellings.{wishing}
 use Rattle.rbc_rules.proofs.Tellings.{shut_at_once, asked_of_taken, left_at_unset, opened_at_once, kept_in_use, left_at_set}
@@ -29,6 +29,7 @@ use Rattle.rbc_rules.specs.Trains.{asked, HasTrain}
 use Rattle.rbc_centre.specs.State.{stands_for, of_trains}
 use Rattle.rbc_rules.specs.declared.train.TrainState.{TrainState}
 use Rattle.rbc_lemmas.proofs.Puts.{put_same}
+use Rattle.rbc_handover.specs.Expectations.{expected_from}
 use Rattle.rbc_centre.specs.declared.centre.Centre.{Centre as CentreCode}
 use Rattle.rbc_centre.proofs.States.{of_trains-set, part_of_train, part_of_foreign, number_within}
 use Rattle.rbc_centre.proofs.Steps.{replied}
@@ -53,12 +54,12 @@ shown_out entries.Open apart t d is = cc
 shown_out (entries.Taken u) apart t d is = cc
 shown_out (entries.Out u e) apart t d is = apart u e refl
 
-module _ (line : Line) (c clock : ℕ) (old new : Pages) (rights : Rights) (links : List (Link Body)) (states : List TrainState) (s : ℕ) (home : is_own old s ≡ is_home line c s) where
+module _ (line : Line) (c clock : ℕ) (old new : Pages) (desk : Desk) (links : List (Link Body)) (states : List TrainState) (s : ℕ) (home : is_own old s ≡ is_home line c s) where
   abbrev k : centre.Centre
-  k = stands_for line c clock old rights links states
+  k = stands_for line c clock old desk links states
 
   abbrev left : centre.Centre
-  left = stands_for line c clock new rights links states
+  left = stands_for line c clock new desk links states
 
   pub set_turns : ((n : ℕ) → entry_at new n ≡ (if (is_own old s && is_unused (entry_at old s)) && (n == s) then Open else entry_at old n))
       → ((n : ℕ) → wish_at new n ≡ (if is_own old s && (n == s) then false else wish_at old n))
@@ -111,7 +112,7 @@ module _ (line : Line) (c clock : ℕ) (old new : Pages) (rights : Rights) (link
     module _ (t i : ℕ) (before after : TrainState) (sayings : List Saying) (own : is_own old s ≡ true) (taken : entry_at old s ≡ Taken t)
         (number : train_number line t ≡ Some i) (at : slice_get states i ≡ Some before) (within : i < length states)
         (session_state : after.session_state ≡ before.session_state) (heard : after.heard ≡ before.heard) (question : after.supervision.asked ≡ before.supervision.asked)
-        (waiting : after.waiting ≡ before.waiting)
+        (waiting : after.waiting ≡ before.waiting) (expects : after.expectations ≡ before.expectations)
         (asks : (j : centre.Centre) → HasTrain j t before → propose_if_so line t s j ≡ asked t after sayings j) where
       wishing_is : HasTrain (wishing s k) t before
       unfolding stands_for
@@ -127,7 +128,7 @@ module _ (line : Line) (c clock : ℕ) (old new : Pages) (rights : Rights) (link
           of_trains-set part none line states t i after number within u
           ∙ put_same t (part after) (of_trains part none line states) (sym (part_of_train part none line states t i before number at) ∙ sym same) u
 
-      pub asked_turns : replied (stands_for line c clock new rights links (set states i after)) (λ d. []) sayings (Asked s ∷ []) ≡ step.unset line c s k
+      pub asked_turns : replied (stands_for line c clock new desk links (set states i after)) (λ d. []) sayings (Asked s ∷ []) ≡ step.unset line c s k
       unfolding stands_for
       asked_turns =
           let used : is_unused (entry_at old s) ≡ false = ap is_unused taken in
@@ -143,6 +144,7 @@ module _ (line : Line) (c clock : ℕ) (old new : Pages) (rights : Rights) (link
             route_ask = λ u. same_part (λ p. p.supervision.asked) None question u j;
             wait = λ u. same_part (λ p. p.waiting.wait) None (λ l. (waiting l).wait) u j;
             has_asked = λ u. same_part (λ p. p.waiting.has_asked) false (λ l. (waiting l).has_asked) u j;
+            expects = λ d u. same_part (λ p. expected_from p.expectations d) None (λ l. expected_from (expects l) d) u j;
           }) (λ d. []) sayings (Asked s ∷ []))
           ∙ sym (asked_of_taken line c s t k (asked t after sayings (wishing s k)) (sym home ∙ own) taken (asks (wishing s k) wishing_is))
 
@@ -203,4 +205,4 @@ user_at k s i before here asked found read =
 pub no_user : (k : CentreCode) (s : ℕ) (here : (t d : ℕ) → entry_at k.book s ≡ Out t d → ⊥) (asked : Unset.Asked ≡ unset_answer (entry_at k.book s)) → ((t : ℕ) → entry_at k.book s ≡ Taken t → train_number k.line t ≡ None) → ⊥
 no_user k s here asked none =
     let u = user_of k s here asked in
-    user_number k.line k.number k.clock k.book k.book k.registrar k.links k.trains.items s (k.own_sections s) k.sound u.0 u.1 (none u.0 u.1)
+    user_number k.line k.number k.clock k.book k.book k.desk k.links k.trains.items s (k.own_sections s) k.sound u.0 u.1 (none u.0 u.1)

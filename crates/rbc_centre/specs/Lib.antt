@@ -1,5 +1,7 @@
 pub mod Posts
+pub mod Listed
 pub mod Sent
+pub mod Rooms
 pub mod Views
 pub mod State
 pub mod States

@@ -2,8 +2,8 @@
 use Rattle.std.specs.Prelude.{ℕ, List}
 use Rattle.rbc_spec.specs.Frame.{Frame}
 use Rattle.rbc_centre.specs.declared.frames.Frames.{Frames}
-use Rattle.rbc_centre.specs.Posts.{frames_in}
+use Rattle.rbc_centre.specs.Listed.{frames_in, list_of}
 
 -- those to each centre
 unfoldable pub frames_to : Frames → ℕ → List Frame
-frames_to f d = frames_in f.stamp f.nid_engine f.letter f.row.items d
+frames_to f d = frames_in (list_of f.list) d

@@ -1,5 +1,5 @@
 -- What is kept of sections and trains, as functions of numbers.
-use Rattle.std.specs.Prelude.{◌≡◌, ℕ, List, Bool, false, Option, Some, None, option_and_then, option_map, slice_get}
+use Rattle.std.specs.Prelude.{◌≡◌, ℕ, List, Bool, false, length, Option, Some, None, option_and_then, option_map, slice_get}
 use Rattle.std.specs.Option.{option_map_or}
 use Rattle.rbc_spec.specs.Line.{Line, train_number}
 use Rattle.rbc_spec.specs.Centre as centre
@@ -8,6 +8,7 @@ use Rattle.rbc_right.specs.Rights.{Rights, is_here}
 use Rattle.rbc_session.specs.Sessions.{Records}
 use Rattle.rbc_session.specs.SessionStates.{session_phase}
 use Rattle.rbc_wait.specs.Waits.{IsCovered}
+use Rattle.rbc_handover.specs.Expectations.{expected_from}
 use Rattle.rbc_link.specs.declared.link.Link.{Link}
 use Rattle.rbc_link.specs.Links.{sent_to, taken_from}
 use Rattle.rbc_link.specs.Outgoing.{frames_by}
@@ -17,6 +18,7 @@ use Rattle.rbc_rules.specs.Desk.{IsHeld}
 use Rattle.rbc_rules.specs.SessionStates.{Stands}
 use Rattle.rbc_rules.specs.declared.train.TrainState.{TrainState}
 use Rattle.rbc_rules.specs.Trains.{unknown_state}
+use Rattle.rbc_centre.specs.declared.desk.Desk.{Desk}
 
 -- what is kept of a train of the line
 abbrev pub state_at : Line → List TrainState → ℕ → Option TrainState
@@ -30,9 +32,9 @@ of_trains part none line trains t = option_map_or part (state_at line trains t) 
 abbrev pub right_at : Line → Rights → ℕ → Bool
 right_at line rights t = option_map_or (is_here rights) (train_number line t) false
 
--- What a centre's number, clock, pages, rights, links and states of trains stand for. It expects no handover
-unfoldable pub stands_for : Line → ℕ → ℕ → Pages → Rights → List (Link Body) → List TrainState → centre.Centre
-stands_for line number clock pages rights links trains = record (centre.beginning line number) {
+-- What a centre's number, clock, pages, rights with the count of its handovers, links and states of trains stand for
+unfoldable pub stands_for : Line → ℕ → ℕ → Pages → Desk → List (Link Body) → List TrainState → centre.Centre
+stands_for line number clock pages desk links trains = record (centre.beginning line number) {
   clock = clock;
   book = entry_at pages;
   wish = wish_at pages;
@@ -43,7 +45,9 @@ stands_for line number clock pages rights links trains = record (centre.beginnin
   route_ask = of_trains (λ p. p.supervision.asked) None line trains;
   wait = of_trains (λ p. p.waiting.wait) None line trains;
   has_asked = of_trains (λ p. p.waiting.has_asked) false line trains;
-  has_right = right_at line rights;
+  has_right = right_at line desk.registrar;
+  expects = λ d. of_trains (λ p. expected_from p.expectations d) None line trains;
+  announced = desk.handovers;
   sent = λ d. frames_by body_of (sent_to links d);
   taken = taken_from links;
 }
@@ -55,9 +59,12 @@ pub record IsOfTrain (line : Line) (c : ℕ) (sessions : Records) (t i : ℕ) (p
   pub waiting : p.waiting.engine ≡ t
   pub covers : IsCovered line p.waiting
   pub held : IsHeld line c p
+  pub expected : length p.expectations ≡ length line.centres
   pub session : Stands sessions p.session_state t
 
 -- the state is of the train at place i of the line file, which was never heard
 pub record IsUnknown (line : Line) (i : ℕ) (p : TrainState) : Type 0 where
-  pub state : p ≡ unknown_state i p.supervision.engine
+  pub state : p ≡ unknown_state i p.supervision.engine p.expectations
+  pub expected : length p.expectations ≡ length line.centres
+  pub none_expected : (d : ℕ) → expected_from p.expectations d ≡ None
   pub engine : option_map (λ q. q.nid_engine) (slice_get line.trains i) ≡ Some p.supervision.engine

@@ -13,7 +13,7 @@ abbrev pub number_of : Centre → ℕ
 number_of k = k.number
 
 abbrev pub state_of : Centre → centre.Centre
-state_of k = stands_for k.line k.number k.clock k.book k.registrar k.links k.trains.items
+state_of k = stands_for k.line k.number k.clock k.book k.desk k.links k.trains.items
 
 -- all but the room for sessions and frames is the same
 pub record IsSame (old new : Centre) : Type 0 where
@@ -21,6 +21,6 @@ pub record IsSame (old new : Centre) : Type 0 where
   pub number : new.number ≡ old.number
   pub clock : new.clock ≡ old.clock
   pub book : new.book ≡ old.book
-  pub registrar : new.registrar ≡ old.registrar
+  pub desk : new.desk ≡ old.desk
   pub links : KeepsLinks old.links new.links
   pub trains : new.trains ≡ old.trains

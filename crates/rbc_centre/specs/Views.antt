@@ -1,12 +1,13 @@
 -- What the types of a step stand for.
-use Rattle.std.specs.Prelude.{ℕ, ◌==◌, ◌-◌, slice_get, if◌then◌else◌, List, [], ◌∷◌, ◌++◌, Option, Some, None, map, option_map}
+use Rattle.std.specs.Prelude.{ℕ, ◌==◌, ◌-◌, slice_get, if◌then◌else◌, List, [], ◌∷◌, ◌++◌, Option, Some, None, map, option_map, option_and_then}
 use Rattle.rbc_spec.specs.Frame.{Frame}
+use Rattle.rbc_spec.specs.Centre.{Mission, Handing}
 use Rattle.rbc_spec.specs.Outcome.{Outcome}
 use Rattle.rbc_spec.specs.Outcome as spec
 use Rattle.rbc_spec.specs.Step as step
 use Rattle.rbc_msgs.specs.StepMessage.{step_message}
 use Rattle.rbc_rules.specs.Reasons.{reason_of}
-use Rattle.rbc_rules.specs.Sayings.{saying_of, sayings_of}
+use Rattle.rbc_rules.specs.Sayings.{saying_of, told_train}
 use Rattle.rbc_rules.specs.declared.heard.Heard.{Heard}
 use Rattle.rbc_centre.specs.declared.event.Event.{Event}
 use Rattle.rbc_centre.specs.declared.event.Event.TheVariants.{Train, Set, Unset, Deliver}
@@ -63,7 +64,7 @@ outcome_of o = record {
 abbrev pub outcome_heard : ℕ → Option LinkAnswer → (ℕ → List Frame) → Heard → Outcome
 outcome_heard stamp answer frames h = record {
   stamp = stamp;
-  sayings = sayings_of h.saying;
+  sayings = told_train h.saying h.order;
   frames = frames;
   words = map (λ s. spec.Told s) h.told;
   link = option_map link_of answer;
@@ -73,6 +74,10 @@ outcome_heard stamp answer frames h = record {
 -- and by a message that is left without an answer
 abbrev pub outcome_silent : ℕ → ReasonCode → Outcome
 outcome_silent stamp why = record { stamp = stamp; sayings = []; frames = λ d. []; words = []; link = None; silence = Some (reason_of why) }
+
+-- the handover that stands with a mission, if there is one
+abbrev pub handing_at : Option Mission → Option Handing
+handing_at mission = option_and_then (λ m. m.handing) mission
 
 abbrev pub number_of_fault : StepFault → ℕ
 number_of_fault fault.Memory = 1

@@ -1,4 +1,4 @@
-ghost use Rattle.std.specs.Prelude.{◌≡◌, ◌≤◌, ◌<◌, ◌+◌, ℕ, slice_get, true, false, length, nat_lt, if◌then◌else◌, All, IfOk, IfErr, OnOk, OnErr, Some, None, option_map};
+ghost use Rattle.std.specs.Prelude.{◌≡◌, ◌≤◌, ◌<◌, ◌+◌, ◌*◌, ℕ, slice_get, true, false, length, nat_lt, if◌then◌else◌, All, IfOk, IfErr, OnOk, OnErr, Some, None, option_map};
 ghost use Rattle.rbc_spec.specs.Line.{IsLine, is_centre, is_home, is_linked, train_number};
 ghost use Rattle.rbc_spec.specs.Frame.{HasFrameRanges};
 ghost use Rattle.rbc_spec.specs.Centre.{beginning};
@@ -6,11 +6,11 @@ ghost use Rattle.rbc_spec.specs.Step as spec;
 ghost use Rattle.rbc_spec.specs.Step.{refusal, has_full_link};
 ghost use Rattle.rbc_spec.specs.Reach as reach;
 ghost use Rattle.rbc_flow.specs.Sound.{IsCentreSound};
-ghost use Rattle.rbc_own.specs.Own.{IsOwnAt};
 ghost use Rattle.rbc_ranges.specs.Ranges.{HasStateRanges};
 ghost use Rattle.rbc_book.specs.Book.{is_own};
 ghost use Rattle.rbc_book.specs.Entries.{entry_of};
 ghost use Rattle.rbc_link.specs.Links.{has_link, sent_to};
+ghost use Rattle.rbc_link.specs.Links as links;
 ghost use Rattle.rbc_link.specs.Outgoing.{frames_by};
 ghost use Rattle.rbc_linkmsg.specs.Bodies.{body_of};
 ghost use Rattle.rbc_place.specs.Places.{place_of};
@@ -18,15 +18,20 @@ ghost use Rattle.rbc_rules.specs.Desks.{mission_by};
 ghost use Rattle.rbc_msgs.specs.StepMessage.{step_message};
 ghost use Rattle.rbc_session.specs.SessionStates.{phase_of};
 ghost use Rattle.rbc_centre.specs.Answer.{Steps, IsWantedBy, IsRefusalOf};
-ghost use Rattle.rbc_centre.specs.State.{stands_for, IsOfTrain, IsUnknown};
-ghost use Rattle.rbc_centre.specs.Views.{event_of, outcome_of, frame_number};
+ghost use Rattle.rbc_centre.specs.State.{stands_for, IsOfTrain};
+ghost use Rattle.rbc_centre.specs.Views.{event_of, outcome_of, frame_number, handing_at};
 ghost use Rattle.rbc_rules.specs.declared.train.TrainState.{TrainState};
 
+use crate::desk::Desk;
 use crate::event::Event;
 use crate::fault::StepFault;
+use crate::frame_room::FrameRoom;
+use crate::frames::MOST_TO_ONE;
+use crate::keeping::{end_trains, unknown_trains};
 use crate::outcome::Outcome;
 use rbc_book::{Book, Page};
 use rbc_hand::SectionRun;
+use rbc_handover::HandoverCount;
 use rbc_line::Line;
 use rbc_link::Links;
 use rbc_linkmsg::{Body, Frame};
@@ -59,28 +64,30 @@ pub struct Centre {
     pub(crate) clock: u32,
     /// What its home sections are used for.
     pub(crate) book: Book,
-    /// The supervision rights that are here, and in no mission.
-    pub(crate) registrar: Registrar,
+    /// The supervision rights that are here, and the handovers that were announced.
+    pub(crate) desk: Desk,
     /// The communication sessions with its trains.
     pub(crate) sessions: Sessions,
     /// What came from the other centres, and what was sent to them.
     pub(crate) links: Links<Body>,
+    /// Room for the frames of one step.
+    pub(crate) room: FrameRoom,
     /// What is kept of each train, in the order of the line file.
     pub(crate) trains: Vec<TrainState>,
     ghost line_rules: { ∥ IsLine line ∥₁ },
     ghost of_line: { is_centre line number ≡ true },
     ghost in_time: { clock ≤ 1073741823 },
     ghost own_sections: { (s : ℕ) → is_own book s ≡ is_home line number s },
-    ghost each_right: { length registrar ≡ length line.trains },
+    ghost each_right: { length desk.registrar ≡ length line.trains },
     ghost link_count: { length links ≡ length line.centres },
     ghost each_link: { (d : ℕ) → has_link links d ≡ is_linked line number d },
     ghost each_frame: { ∥ ((d : ℕ) → All HasFrameRanges (frames_by body_of (sent_to links d))) ∥₁ },
     ghost train_count: { length trains.items ≡ length line.trains },
     ghost each_train: { (t i : ℕ) → (p : TrainState) → train_number line t ≡ Some i → slice_get trains.items i ≡ Some p → IsOfTrain line number sessions t i p },
-    ghost counted: { (i : ℕ) → (p : TrainState) → slice_get trains.items i ≡ Some p → p.said ≤ clock },
-    ghost sound: { IsCentreSound line number (stands_for line number clock book registrar links trains.items) },
-    ghost own: { IsOwnAt reach.Routes line number (stands_for line number clock book registrar links trains.items) },
-    ghost ranged: { ∥ HasStateRanges line number (stands_for line number clock book registrar links trains.items) ∥₁ },
+    ghost counted: { (i : ℕ) → (p : TrainState) → slice_get trains.items i ≡ Some p → p.said ≤ 2 * clock },
+    ghost announced: { desk.handovers ≤ clock },
+    ghost sound: { IsCentreSound line number (stands_for line number clock book desk links trains.items) },
+    ghost ranged: { ∥ HasStateRanges line number (stands_for line number clock book desk links trains.items) ∥₁ },
 }
 
 impl Drop for Centre {
@@ -91,9 +98,10 @@ impl Drop for Centre {
             number: _,
             clock: _,
             mut book,
-            registrar: _,
+            desk: _,
             mut sessions,
             links: _,
+            room: _,
             trains,
         } = self;
         end_trains(trains, &mut sessions, &mut book);
@@ -101,7 +109,8 @@ impl Drop for Centre {
 }
 
 impl Centre {
-    ghost use Rattle.rbc_centre.specs.States.{line_of, number_of, state_of};
+    ghost use Rattle.rbc_centre.specs.Rooms.{HasFrameRoom};
+    ghost use Rattle.rbc_centre.specs.States.{line_of, number_of, state_of, IsSame};
 
     /// A centre of the line at its beginning. It keeps a copy of the line.
     pub fn new(alloc: Global, line: &Line, number: u8) -> Result<Centre, AllocError>
@@ -113,6 +122,7 @@ impl Centre {
         let line = line.copied(alloc)?;
         let mut book = Book::new(alloc, &line, number)?;
         let registrar = Registrar::new(alloc, &line, number)?;
+        let handovers = HandoverCount::new();
         let mut sessions = Sessions::new(alloc);
         let links = Links::new(alloc, &line, number)?;
         let trains = unknown_trains(alloc, &line, &mut sessions, &mut book)?;
@@ -121,9 +131,13 @@ impl Centre {
             number,
             clock: 0,
             book,
-            registrar,
+            desk: Desk {
+                registrar,
+                handovers,
+            },
             sessions,
             links,
+            room: FrameRoom::new(alloc),
             trains,
         })
     }
@@ -148,7 +162,7 @@ impl Centre {
         ensures phase { phase_of result.phase ≡ (state_of self.now).phase nid_engine }
         ensures heard { result.heard ≡ (state_of self.now).heard nid_engine }
         ensures said { result.said ≡ (state_of self.now).said nid_engine }
-        ensures mission { mission_by result.mission result.hand result.pool ≡ (state_of self.now).mission nid_engine }
+        ensures mission { mission_by result.mission result.hand result.pool (handing_at ((state_of self.now).mission nid_engine)) ≡ (state_of self.now).mission nid_engine }
         ensures waiting { option_map place_of result.waiting ≡ (state_of self.now).wait nid_engine }
     {
         match self.line.train_number(nid_engine) {
@@ -165,6 +179,20 @@ impl Centre {
         Some(Frame::new(sent.number, sent.stamp, sent.body))
     }
 
+    /// How many frames were sent to a centre. It is the number of the last.
+    pub fn sent(&self, to: u8) -> u32
+        ensures { result ≡ length ((state_of self.now).sent to) }
+    {
+        self.links.sent(to)
+    }
+
+    /// How many frames of a centre were taken. It is the number of the last.
+    pub fn taken(&self, from: u8) -> u32
+        ensures { result ≡ (state_of self.now).taken from }
+    {
+        self.links.taken(from)
+    }
+
     /// Says whether an event may be taken: it is refused as `ClockEnd` where its stamp would pass the last one, and else as `LinkFull`
     /// where a link has fewer than four numbers left.
     pub fn may_step(&self, event: &Event) -> Result<(), StepFault>
@@ -177,7 +205,18 @@ impl Centre {
         }
     }
 
+    // Makes room for the frames of one step. A refusal changes nothing but the room.
+    pub(crate) fn reserve_frames(&mut self) -> Result<(), AllocError>
+        ensures same { IsSame self.old self.new }
+        ensures links { OnOk result (links.HasRoom self.new.links 4) }
+        ensures room { OnOk result (HasFrameRoom self.new.room) }
+    {
+        self.links.reserve(MOST_TO_ONE)?;
+        self.room.reserve()
+    }
+
     // Whether a step may be taken whose stamp is above this.
+    #[inline(always)]
     fn may_take(&self, stamp: u32) -> Result<(), StepFault>
         ensures ok { OnOk result ((stamp < 1073741823) × (has_full_link (line_of self.now) (number_of self.now) (state_of self.now) ≡ false)) }
         ensures err { IfErr result (λ fault. IsRefusalOf fault (if nat_lt 1073741823 (stamp + 1) then Some spec.ClockEnd
@@ -198,7 +237,7 @@ impl Centre {
         ensures line { line_of self.new ≡ line_of self.old }
         ensures number { number_of self.new ≡ number_of self.old }
         ensures exact { Steps (λ o. (outcome_of o, state_of self.new)) result
-            (spec.step reach.Routes (line_of self.old) (number_of self.old) (event_of event.now) (state_of self.old)) }
+            (spec.step reach.Whole (line_of self.old) (number_of self.old) (event_of event.now) (state_of self.old)) }
         ensures memory { IsWantedBy (state_of self.old) (event_of event.now) result }
         ensures err { OnErr result (state_of self.new ≡ state_of self.old) }
     {
@@ -212,60 +251,16 @@ impl Centre {
     }
 
     /// Takes a train's message: the step of that event.
+    #[inline(always)]
     pub fn hear(&mut self, message: &TrainMsg) -> Result<Outcome, StepFault>
         ensures line { line_of self.new ≡ line_of self.old }
         ensures number { number_of self.new ≡ number_of self.old }
         ensures exact { Steps (λ o. (outcome_of o, state_of self.new)) result
-            (spec.step reach.Routes (line_of self.old) (number_of self.old) (spec.Train (step_message message.now)) (state_of self.old)) }
+            (spec.step reach.Whole (line_of self.old) (number_of self.old) (spec.Train (step_message message.now)) (state_of self.old)) }
         ensures memory { IsWantedBy (state_of self.old) (spec.Train (step_message message.now)) result }
         ensures err { OnErr result (state_of self.new ≡ state_of self.old) }
     {
         self.may_take(self.clock)?;
         Ok(self.take(message)?)
     }
-}
-
-// What is kept of the trains of the line, none of which was ever heard. Where memory runs out, those made end.
-fn unknown_trains(
-    alloc: Global,
-    line: &Line,
-    sessions: &mut Sessions,
-    book: &mut Book,
-) -> Result<Vec<TrainState>, AllocError>
-    ensures count { IfOk result (λ trains. length trains.items ≡ length line.now.trains) }
-    ensures each { IfOk result (λ trains. (i : ℕ) → (p : TrainState) → slice_get trains.items i ≡ Some p → IsUnknown line.now i p) }
-    ensures sessions { IfOk result (λ trains. sessions.new ≡ sessions.old) }
-    ensures book { IfOk result (λ trains. book.new ≡ book.old) }
-{
-    let count = line.train_count();
-    let mut trains = Vec::with_capacity(alloc, count as usize)?;
-    for i in 0..count {
-        match TrainState::unknown(alloc, i, engine_of(line, i), book) {
-            Ok(train) => trains.push_reserved(train),
-            Err(error) => {
-                end_trains(trains, sessions, book);
-                return Err(error);
-            }
-        }
-    }
-    Ok(trains)
-}
-
-// The NID_ENGINE of the train at a place of the line file.
-fn engine_of(line: &Line, i: u8) -> u32
-    requires { i < length line.now.trains }
-    ensures { option_map (λ p. p.nid_engine) (slice_get line.now.trains i) ≡ Some result }
-{
-    match line.train(i) {
-        Some(train) => train.nid_engine,
-        None => unreachable!(),
-    }
-}
-
-// Ends each train with its centre.
-fn end_trains(mut trains: Vec<TrainState>, sessions: &mut Sessions, book: &mut Book) {
-    while let Some(train) = trains.pop() {
-        train.end(sessions, book);
-    }
-    trains.destroy_empty();
 }

@@ -5,11 +5,12 @@ ghost use Rattle.rbc_spec.specs.Step as spec;
 ghost use Rattle.rbc_spec.specs.Step.{has_full_link};
 ghost use Rattle.rbc_spec.specs.Reach as reach;
 ghost use Rattle.rbc_link.specs.Links as links;
+ghost use Rattle.rbc_centre.specs.Rooms.{HasFrameRoom};
 ghost use Rattle.rbc_centre.specs.States.{line_of, number_of, state_of};
 ghost use Rattle.rbc_centre.specs.Views.{outcome_of};
 
 use crate::centre::Centre;
-use crate::frames::{Frames, MOST_TO_ONE};
+use crate::frames::Frames;
 use crate::link_answer::LinkAnswer;
 use crate::outcome::Outcome;
 use crate::posted::post;
@@ -26,10 +27,10 @@ impl Centre {
         ensures line { line_of self.new ≡ line_of self.old }
         ensures number { number_of self.new ≡ number_of self.old }
         ensures exact { IfOk result (λ o. (outcome_of o, state_of self.new)
-            ≡ spec.taken reach.Routes (line_of self.old) (number_of self.old) (spec.Deliver from frame.now) (state_of self.old)) }
+            ≡ spec.taken reach.Whole (line_of self.old) (number_of self.old) (spec.Deliver from frame.now) (state_of self.old)) }
         ensures err { OnErr result (state_of self.new ≡ state_of self.old) }
     {
-        self.links.reserve(MOST_TO_ONE)?;
+        self.reserve_frames()?;
         Ok(self.take_frame(from, frame))
     }
 
@@ -37,11 +38,12 @@ impl Centre {
     fn take_frame(&mut self, from: u8, frame: &Frame) -> Outcome
         requires time { max self.old.clock frame.now.stamp < 1073741823 }
         requires numbers { has_full_link (line_of self.old) (number_of self.old) (state_of self.old) ≡ false }
-        requires frames { links.HasRoom self.old.links 3 }
+        requires frames { links.HasRoom self.old.links 4 }
+        requires room { HasFrameRoom self.old.room }
         ensures line { line_of self.new ≡ line_of self.old }
         ensures number { number_of self.new ≡ number_of self.old }
         ensures exact { (outcome_of result, state_of self.new)
-            ≡ spec.taken reach.Routes (line_of self.old) (number_of self.old) (spec.Deliver from frame.now) (state_of self.old) }
+            ≡ spec.taken reach.Whole (line_of self.old) (number_of self.old) (spec.Deliver from frame.now) (state_of self.old) }
     {
         let body = frame.body();
         self.clock = max(self.clock, frame.stamp()) + 1;
@@ -62,20 +64,23 @@ impl Centre {
                 Heard::nothing(),
             );
         };
-        let heard = self.trains[i as usize].receive(
+        let train = &mut self.trains[i as usize];
+        let heard = train.receive(
             &self.line,
             self.number,
             &mut self.book,
-            &mut self.registrar,
+            &mut self.desk.registrar,
             from,
             body,
         );
         let frames = post(
             &mut self.links,
+            &mut self.room,
             &self.line,
             self.number,
             body.engine(),
             self.clock,
+            &train.expectations,
             &heard.mail,
         );
         Outcome::heard(self.clock, Some(answer), frames, heard)

@@ -1,47 +1,49 @@
 //! The frames that a step sends to other centres.
 
-ghost use Rattle.std.specs.Prelude.{◌≡◌, ◌↔◌, ◌+◌, ◌≤◌, ◌<◌, ℕ, [], ◌++◌, All, IsTrue, length, slice_get};
-ghost use Rattle.arrayvec.specs.ArrayVec.{array_vec_len};
-ghost use Rattle.rbc_spec.specs.Frame.{HasFrameRanges};
-ghost use Rattle.rbc_spec.specs.Step.{numbered};
-ghost use Rattle.rbc_centre.specs.Posts.{bodies_in, frames_in};
+ghost use Rattle.std.specs.Prelude.{◌≡◌, ◌↔◌, ◌≤◌, ℕ, [], IsTrue, length};
+ghost use Rattle.rbc_centre.specs.Listed.{frames_in, list_of};
 
-use crate::returned::{Returned, home, letter_to};
+use crate::frame_room::FrameRoom;
+use crate::sent_frame::SentFrame;
 use arrayvec::ArrayVec;
-use rbc_linkmsg::{Body, Frame};
-use rbc_rules::Letter;
-use std::cmp::max;
+use rbc_linkmsg::Frame;
 
 /// How many centres a line has at the most.
 pub(crate) const MOST_CENTRES: usize = 8;
 
-/// How many frames a step sends to one centre at the most: two for sections that go home, and a letter.
-pub(crate) const MOST_TO_ONE: usize = 3;
+/// For how many frames to one centre a step makes room: two for sections that go home, one about a handover, and a letter.
+pub(crate) const MOST_TO_ONE: usize = 4;
 
-/// The frames that a step sent to other centres.
+/// The frames that a step sent to other centres. It takes no memory where there are none.
 #[derive(Debug, Drop)]
 pub struct Frames {
-    pub(crate) stamp: u32,
-    /// The NID_ENGINE of the train whose sections go home.
-    pub(crate) nid_engine: u32,
-    pub(crate) letter: Option<Letter>,
-    /// What goes home to each centre, by the centres' numbers. It is empty where the step sent nothing.
-    pub(crate) row: ArrayVec<Returned, MOST_CENTRES>,
-    ghost ranges: { ∥ ((d : ℕ) → All HasFrameRanges (frames_in stamp nid_engine letter row.items d)) ∥₁ },
+    /// By the numbers of the centres, and those to one centre by their numbers on the link.
+    pub(crate) list: Option<Vec<SentFrame>>,
+    ghost count: { length (list_of list) ≤ 32 },
+    ghost few: { (d : ℕ) → length (frames_in (list_of list) d) ≤ 4 },
+    ghost near: { (d : ℕ) → 8 ≤ d → frames_in (list_of list) d ≡ [] },
 }
 
 impl Frames {
     ghost use Rattle.rbc_centre.specs.Sent.{frames_to};
+    ghost use Rattle.rbc_centre.specs.Rooms.{HasFrameRoom};
 
     /// No frame was sent.
+    #[inline(always)]
     pub(crate) fn nothing() -> Frames
         ensures { frames_to result ≡ (λ d. []) }
     {
-        Frames {
-            stamp: 0,
-            nid_engine: 0,
-            letter: None,
-            row: ArrayVec::new(),
+        Frames { list: None }
+    }
+
+    /// All frames, by the numbers of their receivers, and those to one centre in the order of their numbers.
+    pub fn as_slice(&self) -> &[SentFrame]
+        ensures value { frames_in result.now ≡ frames_to self.now }
+        ensures list { result.now ≡ list_of self.now.list }
+    {
+        match &self.list {
+            Some(list) => list.as_slice(),
+            None => &[],
         }
     }
 
@@ -50,15 +52,11 @@ impl Frames {
         ensures { result.items ≡ frames_to self.now centre }
     {
         let mut frames = ArrayVec::new();
-        let Some(returned) = returned_to(self.row.as_slice(), centre) else {
-            return frames;
-        };
-        let first = home(self.nid_engine, returned.first);
-        let second = home(self.nid_engine, returned.second);
-        let letter = letter_to(self.letter, centre);
-        let sent = add(&mut frames, self.stamp, returned.before, first);
-        let sent_home = add(&mut frames, self.stamp, sent, second);
-        let _all = add(&mut frames, self.stamp, sent_home, letter);
+        for sent in self.as_slice() {
+            if sent.to == centre {
+                frames.push(sent.frame);
+            }
+        }
         frames
     }
 
@@ -66,19 +64,14 @@ impl Frames {
     pub fn is_empty(&self) -> bool
         ensures { IsTrue result ↔ ((d : ℕ) → frames_to self.now d ≡ []) }
     {
-        for to in 0..self.row.len() as u8 {
-            if !self.to(to).is_empty() {
-                return false;
-            }
-        }
-        true
+        self.as_slice().is_empty()
     }
 
     /// Whether each centre was sent the same frames.
     pub fn is_same(&self, other: &Frames) -> bool
         ensures { IsTrue result ↔ (frames_to self.now ≡ frames_to other.now) }
     {
-        for to in 0..max(self.row.len(), other.row.len()) as u8 {
+        for to in 0..MOST_CENTRES as u8 {
             if !same_frames(self.to(to).as_slice(), other.to(to).as_slice()) {
                 return false;
             }
@@ -86,43 +79,21 @@ impl Frames {
         true
     }
 
-    /// Others that are the same.
-    pub fn copied(&self) -> Frames
+    /// Others that are the same. They have memory of their own, or, where there is none, take the room.
+    pub fn copied(&self, room: &mut FrameRoom) -> Frames
+        requires { HasFrameRoom room.old }
         ensures { frames_to result ≡ frames_to self.now }
     {
-        let mut row = ArrayVec::new();
-        let Ok(()) = row.try_extend_from_slice(self.row.as_slice()) else {
-            unreachable!()
-        };
-        Frames {
-            stamp: self.stamp,
-            nid_engine: self.nid_engine,
-            letter: self.letter,
-            row,
+        let frames = self.as_slice();
+        if frames.is_empty() {
+            return Frames::nothing();
         }
+        let mut list = room.list_for(frames.len());
+        for frame in frames {
+            list.push_reserved(*frame);
+        }
+        Frames { list: Some(list) }
     }
-}
-
-// What goes home to a centre, where the row has it.
-fn returned_to(row: &[Returned], centre: u8) -> Option<Returned>
-    ensures { result ≡ slice_get row.now centre }
-{
-    row.get(centre as usize).copied()
-}
-
-// Adds a frame with this body, where there is one, behind so many that were sent to its receiver. The result is how many they are then.
-fn add(frames: &mut ArrayVec<Frame, MOST_TO_ONE>, stamp: u32, sent: u32, body: Option<Body>) -> u32
-    requires room { array_vec_len frames.old < 3 }
-    requires ranges { All HasFrameRanges (numbered stamp sent (bodies_in body)) }
-    ensures items { frames.new.items ≡ frames.old.items ++ numbered stamp sent (bodies_in body) }
-    ensures room { array_vec_len frames.new ≤ array_vec_len frames.old + 1 }
-    ensures count { result ≡ sent + length (bodies_in body) }
-{
-    let Some(body) = body else {
-        return sent;
-    };
-    frames.push(Frame::new(sent + 1, stamp, body));
-    sent + 1
 }
 
 // Whether these are the same frames in the same order.

@@ -13,11 +13,11 @@ ghost use Rattle.rbc_link.specs.Links as links;
 ghost use Rattle.rbc_ranges.specs.Ranges.{HasMessageRanges};
 ghost use Rattle.rbc_rules.specs.Letters.{tells_others};
 ghost use Rattle.rbc_centre.specs.Answer.{TakesMemory};
+ghost use Rattle.rbc_centre.specs.Rooms.{HasFrameRoom};
 ghost use Rattle.rbc_centre.specs.States.{line_of, number_of, state_of, IsSame};
 ghost use Rattle.rbc_centre.specs.Views.{outcome_of};
 
 use crate::centre::Centre;
-use crate::frames::MOST_TO_ONE;
 use crate::outcome::Outcome;
 use crate::posted::post;
 use crate::ranges::look_at_ranges;
@@ -27,13 +27,14 @@ use std::alloc::AllocError;
 
 impl Centre {
     /// The step of a train's message, at a centre that refuses none. Room for a session and for frames is made first.
+    #[inline(always)]
     pub(crate) fn take(&mut self, message: &TrainMsg) -> Result<Outcome, AllocError>
         requires time { self.old.clock < 1073741823 }
         requires numbers { has_full_link (line_of self.old) (number_of self.old) (state_of self.old) ≡ false }
         ensures line { line_of self.new ≡ line_of self.old }
         ensures number { number_of self.new ≡ number_of self.old }
         ensures exact { IfOk result (λ o. (outcome_of o, state_of self.new)
-            ≡ spec.taken reach.Routes (line_of self.old) (number_of self.old) (spec.Train (step_message message.now)) (state_of self.old)) }
+            ≡ spec.taken reach.Whole (line_of self.old) (number_of self.old) (spec.Train (step_message message.now)) (state_of self.old)) }
         ensures memory { OnErr result (TakesMemory (state_of self.old) (spec.Train (step_message message.now))) }
         ensures err { OnErr result (state_of self.new ≡ state_of self.old) }
     {
@@ -47,16 +48,18 @@ impl Centre {
     }
 
     // Room for the frames that a message sends, and for the session that the message of train number i of the line opens. Nothing else changes.
+    #[inline(always)]
     fn make_room(&mut self, i: usize, message: &TrainMsg) -> Result<(), AllocError>
         requires number { train_number (line_of self.old) message.now.nid_engine ≡ Some i }
         ensures same { IsSame self.old self.new }
-        ensures frames { OnOk result (tells_others (step_message message.now).body ≡ true → links.HasRoom self.new.links 3) }
+        ensures frames { OnOk result (tells_others (step_message message.now).body ≡ true → links.HasRoom self.new.links 4) }
+        ensures room { OnOk result (tells_others (step_message message.now).body ≡ true → HasFrameRoom self.new.room) }
         ensures session { OnOk result (message.now.body ≡ InitiationOfSession → is_stale message.now.t_train ((state_of self.new).heard message.now.nid_engine) ≡ false
             → sessions.HasRoom self.new.sessions) }
         ensures memory { OnErr result (TakesMemory (state_of self.old) (spec.Train (step_message message.now))) }
     {
         if tells_others(message.body()) {
-            self.links.reserve(MOST_TO_ONE)?;
+            self.reserve_frames()?;
             return Ok(());
         }
         let TrainBody::InitiationOfSession = message.body() else {
@@ -69,25 +72,29 @@ impl Centre {
     }
 
     // The step of a message of train number i of the line, in its ranges.
+    #[inline(always)]
     fn hear_train(&mut self, i: usize, message: &TrainMsg) -> Outcome
         requires time { self.old.clock < 1073741823 }
         requires numbers { has_full_link (line_of self.old) (number_of self.old) (state_of self.old) ≡ false }
         requires number { train_number (line_of self.old) message.now.nid_engine ≡ Some i }
         requires ranges { HasMessageRanges (step_message message.now) }
-        requires frames { tells_others (step_message message.now).body ≡ true → links.HasRoom self.old.links 3 }
+        requires frames { tells_others (step_message message.now).body ≡ true → links.HasRoom self.old.links 4 }
+        requires room { tells_others (step_message message.now).body ≡ true → HasFrameRoom self.old.room }
         requires session { message.now.body ≡ InitiationOfSession → is_stale message.now.t_train ((state_of self.old).heard message.now.nid_engine) ≡ false
             → sessions.HasRoom self.old.sessions }
         ensures line { line_of self.new ≡ line_of self.old }
         ensures number { number_of self.new ≡ number_of self.old }
         ensures exact { (outcome_of result, state_of self.new)
-            ≡ spec.taken reach.Routes (line_of self.old) (number_of self.old) (spec.Train (step_message message.now)) (state_of self.old) }
+            ≡ spec.taken reach.Whole (line_of self.old) (number_of self.old) (spec.Train (step_message message.now)) (state_of self.old) }
     {
         self.clock += 1;
-        let heard = self.trains[i].take(
+        let train = &mut self.trains[i];
+        let heard = train.take(
             &self.line,
             self.number,
             &mut self.book,
-            &mut self.registrar,
+            &mut self.desk.registrar,
+            &mut self.desk.handovers,
             &mut self.sessions,
             message,
         );
@@ -95,10 +102,12 @@ impl Centre {
             Ok(heard) => {
                 let frames = post(
                     &mut self.links,
+                    &mut self.room,
                     &self.line,
                     self.number,
                     message.nid_engine(),
                     self.clock,
+                    &train.expectations,
                     &heard.mail,
                 );
                 Outcome::heard(self.clock, None, frames, heard)

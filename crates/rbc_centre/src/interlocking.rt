@@ -9,16 +9,16 @@ ghost use Rattle.rbc_spec.specs.Reach as reach;
 ghost use Rattle.rbc_book.specs.Book.{entry_at};
 ghost use Rattle.rbc_link.specs.Links as links;
 ghost use Rattle.rbc_centre.specs.Answer.{TakesMemory};
+ghost use Rattle.rbc_centre.specs.Rooms.{HasFrameRoom};
 ghost use Rattle.rbc_centre.specs.States.{line_of, number_of, state_of};
 ghost use Rattle.rbc_centre.specs.Views.{outcome_of};
 
 use crate::centre::Centre;
-use crate::frames::MOST_TO_ONE;
 use crate::outcome::{Outcome, Word};
-use crate::posted::post;
+use crate::posted::post_letter;
 use rbc_book::{Entry, NotHome, Unset};
 use rbc_linkmsg::Body;
-use rbc_rules::{Letter, Mail};
+use rbc_rules::Letter;
 use std::alloc::AllocError;
 
 impl Centre {
@@ -29,7 +29,7 @@ impl Centre {
         ensures line { line_of self.new ≡ line_of self.old }
         ensures number { number_of self.new ≡ number_of self.old }
         ensures exact { (outcome_of result, state_of self.new)
-            ≡ step.taken reach.Routes (line_of self.old) (number_of self.old) (step.Set s) (state_of self.old) }
+            ≡ step.taken reach.Whole (line_of self.old) (number_of self.old) (step.Set s) (state_of self.old) }
     {
         self.clock += 1;
         match self.book.set(s) {
@@ -46,14 +46,14 @@ impl Centre {
         ensures line { line_of self.new ≡ line_of self.old }
         ensures number { number_of self.new ≡ number_of self.old }
         ensures exact { IfOk result (λ o. (outcome_of o, state_of self.new)
-            ≡ step.taken reach.Routes (line_of self.old) (number_of self.old) (step.Unset s) (state_of self.old)) }
+            ≡ step.taken reach.Whole (line_of self.old) (number_of self.old) (step.Unset s) (state_of self.old)) }
         ensures memory { OnErr result (TakesMemory (state_of self.old) (step.Unset s)) }
         ensures err { OnErr result (state_of self.new ≡ state_of self.old) }
     {
         let Entry::Out { nid_engine, centre } = self.book.page(s).entry else {
             return Ok(self.unset_here(s));
         };
-        self.links.reserve(MOST_TO_ONE)?;
+        self.reserve_frames()?;
         Ok(self.withdraw(s, nid_engine, centre))
     }
 
@@ -62,11 +62,12 @@ impl Centre {
         requires time { self.old.clock < 1073741823 }
         requires numbers { has_full_link (line_of self.old) (number_of self.old) (state_of self.old) ≡ false }
         requires out { entry_at self.old.book s ≡ spec.Out nid_engine to }
-        requires frames { links.HasRoom self.old.links 3 }
+        requires frames { links.HasRoom self.old.links 4 }
+        requires room { HasFrameRoom self.old.room }
         ensures line { line_of self.new ≡ line_of self.old }
         ensures number { number_of self.new ≡ number_of self.old }
         ensures exact { (outcome_of result, state_of self.new)
-            ≡ step.taken reach.Routes (line_of self.old) (number_of self.old) (step.Unset s) (state_of self.old) }
+            ≡ step.taken reach.Whole (line_of self.old) (number_of self.old) (step.Unset s) (state_of self.old) }
     {
         self.clock += 1;
         let _asked = self.book.unset(s);
@@ -74,15 +75,8 @@ impl Centre {
             engine: nid_engine,
             section: s,
         };
-        let mail = Mail::of(Some(Letter { to, body }));
-        let frames = post(
-            &mut self.links,
-            &self.line,
-            self.number,
-            nid_engine,
-            self.clock,
-            &mail,
-        );
+        let letter = Letter { to, body };
+        let frames = post_letter(&mut self.links, &mut self.room, self.clock, letter);
         Outcome::sent(self.clock, Word::Asked(s), frames)
     }
 
@@ -94,7 +88,7 @@ impl Centre {
         ensures line { line_of self.new ≡ line_of self.old }
         ensures number { number_of self.new ≡ number_of self.old }
         ensures exact { (outcome_of result, state_of self.new)
-            ≡ step.taken reach.Routes (line_of self.old) (number_of self.old) (step.Unset s) (state_of self.old) }
+            ≡ step.taken reach.Whole (line_of self.old) (number_of self.old) (step.Unset s) (state_of self.old) }
     {
         let user = self.user_of(s);
         self.clock += 1;

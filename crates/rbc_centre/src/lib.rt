@@ -4,26 +4,32 @@
 
 mod centre;
 mod delivering;
+mod desk;
 mod event;
 mod fault;
+mod frame_room;
 mod frames;
 mod hearing;
 mod interlocking;
+mod keeping;
 mod link_answer;
 mod outcome;
 mod posted;
 mod ranges;
 mod returned;
 mod same;
+mod sent_frame;
 
 pub use centre::{Centre, LAST_STAMP};
 pub use event::Event;
 pub use fault::StepFault;
+pub use frame_room::FrameRoom;
 pub use frames::Frames;
 pub use link_answer::LinkAnswer;
 pub use outcome::{Outcome, Word};
 pub use rbc_hand::SectionRun;
 pub use rbc_linkmsg::{Body, Frame};
 pub use rbc_mission::{MissionFacts, Told};
-pub use rbc_rules::{Letter, Mail, Reason, Saying, TrainPage};
+pub use rbc_rules::{Letter, Mail, Notice, Reason, Saying, TrainPage};
 pub use rbc_session::Phase;
+pub use sent_frame::SentFrame;

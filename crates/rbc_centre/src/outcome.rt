@@ -1,5 +1,5 @@
-ghost use Rattle.std.specs.Prelude.{◌≡◌, [], ◌∷◌, None, map};
-ghost use Rattle.rbc_rules.specs.Sayings.{saying_of, sayings_of};
+ghost use Rattle.std.specs.Prelude.{◌≡◌, ◌≤◌, [], ◌∷◌, None, map, length};
+ghost use Rattle.rbc_rules.specs.Sayings.{saying_of, sayings_of, told_train};
 ghost use Rattle.rbc_centre.specs.Sent.{frames_to};
 ghost use Rattle.rbc_centre.specs.Views.{word_of};
 
@@ -52,6 +52,7 @@ impl Outcome {
     ghost use Rattle.rbc_centre.specs.Views.{outcome_of, outcome_heard, outcome_silent};
 
     /// A step that does not answer.
+    #[inline(always)]
     pub(crate) fn silent(stamp: u32, why: Reason) -> Outcome
         ensures { outcome_of result ≡ outcome_silent stamp why }
     {
@@ -67,6 +68,7 @@ impl Outcome {
     }
 
     /// A step whose message or frame came to this, of which these frames were sent. The link has said this to a frame.
+    #[inline(always)]
     pub(crate) fn heard(
         stamp: u32,
         link: Option<LinkAnswer>,
@@ -77,7 +79,7 @@ impl Outcome {
     {
         Outcome {
             stamp,
-            sayings: one_or_none(heard.saying),
+            sayings: in_order(heard.saying, heard.order),
             frames,
             word: None,
             told: heard.told,
@@ -132,9 +134,23 @@ impl Outcome {
     }
 }
 
+// A row of the answer and the order behind it, where they are.
+#[inline(always)]
+fn in_order(saying: Option<Saying>, order: Option<Saying>) -> ArrayVec<Saying, 2>
+    ensures { map saying_of result.items ≡ told_train saying order }
+{
+    let mut sayings = one_or_none(saying);
+    if let Some(order) = order {
+        sayings.push(order);
+    }
+    sayings
+}
+
 // A row of one message, or of none.
+#[inline(always)]
 fn one_or_none(saying: Option<Saying>) -> ArrayVec<Saying, 2>
-    ensures { map saying_of result.items ≡ sayings_of saying }
+    ensures items { map saying_of result.items ≡ sayings_of saying }
+    ensures few { length result.items ≤ 1 }
 {
     let mut sayings = ArrayVec::new();
     if let Some(saying) = saying {

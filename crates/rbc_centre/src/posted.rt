@@ -1,98 +1,180 @@
 //! What a step leaves for other centres goes on its links.
 
-ghost use Rattle.std.specs.Prelude.{◌≡◌, ◌++◌, ◌≤◌, ℕ, IsTrue, [], length};
+ghost use Rattle.std.specs.Prelude.{◌≡◌, ◌⊎◌, ◌+◌, ◌≤◌, ◌<◌, ℕ, IsTrue, [], Option, Some, length};
+ghost use Rattle.std.specs.Vec.{vec_capacity};
 ghost use Rattle.rbc_spec.specs.Line.{is_linked};
 ghost use Rattle.rbc_spec.specs.Step.{numbered};
 ghost use Rattle.rbc_link.specs.Links.{has_link, sent_to};
 ghost use Rattle.rbc_link.specs.Posted.{HasPosted};
 ghost use Rattle.rbc_linkmsg.specs.Bodies.{body_of};
-ghost use Rattle.rbc_rules.specs.Letters.{mail_to};
-ghost use Rattle.rbc_centre.specs.Posts.{MayPost, bodies_in, bodies_to, only};
+ghost use Rattle.rbc_handover.specs.Expectations.{expected_from};
+ghost use Rattle.rbc_spec.specs.Centre.{Expectation};
+ghost use Rattle.rbc_linkmsg.specs.declared.body.Body.{Body as BodyCode};
+ghost use Rattle.rbc_rules.specs.Letters.{bodies_in, letters, mail_to};
+ghost use Rattle.rbc_centre.specs.Posts.{MayPost, HasSent, only};
+ghost use Rattle.rbc_centre.specs.Rooms.{HasFrameRoom};
 ghost use Rattle.rbc_centre.specs.Sent.{frames_to};
 
+use crate::frame_room::FrameRoom;
 use crate::frames::Frames;
-use crate::returned::{Returned, home, letter_to, part_to, stays};
-use arrayvec::ArrayVec;
+use crate::returned::{home, letter_to, part_to, stays};
+use crate::sent_frame::SentFrame;
+use rbc_handover::Expectations;
 use rbc_line::Line;
 use rbc_link::Links;
-use rbc_linkmsg::Body;
-use rbc_rules::Mail;
+use rbc_linkmsg::{Body, Frame};
+use rbc_rules::{Letter, Mail, Notice};
 
-/// Sends the mail of a step with this stamp, which is of this train: to each centre first the sections that go to its home, and then
-/// its letter.
+/// Sends the mail of a step with this stamp, which is of this train: to each centre first the sections that go to its home, then what it is
+/// told of a handover, and then its letter.
+#[inline(always)]
 pub(crate) fn post(
     links: &mut Links<Body>,
+    room: &mut FrameRoom,
     line: &Line,
     centre: u8,
     nid_engine: u32,
     stamp: u32,
+    expectations: &Expectations,
     mail: &Mail,
 ) -> Frames
     requires stamp { (1 ≤ stamp) × (stamp ≤ 1073741823) }
     requires linked { (d : ℕ) → has_link links.old d ≡ is_linked line.now centre d }
-    requires may { (d : ℕ) → MayPost links.old d (mail_to line.now centre nid_engine mail.now d) }
-    ensures posted { HasPosted body_of stamp (mail_to line.now centre nid_engine mail.now) links.old links.new }
-    ensures frames { (d : ℕ) → frames_to result d ≡ numbered stamp (length (sent_to links.old d)) (mail_to line.now centre nid_engine mail.now d) }
+    requires may { (d : ℕ) → MayPost links.old d (mail_to line.now centre nid_engine (expected_from expectations.now) mail.now d) }
+    requires room { (d : ℕ) → (mail_to line.now centre nid_engine (expected_from expectations.now) mail.now d ≡ []) ⊎ HasFrameRoom room.old }
+    ensures posted { HasPosted body_of stamp (mail_to line.now centre nid_engine (expected_from expectations.now) mail.now) links.old links.new }
+    ensures frames { (d : ℕ) → frames_to result d ≡ numbered stamp (length (sent_to links.old d)) (mail_to line.now centre nid_engine (expected_from expectations.now) mail.now d) }
 {
     if is_nothing(line, centre, mail) {
         return Frames::nothing();
     }
-    let mut row = ArrayVec::new();
-    for to in 0..line.centre_count() {
-        row.push(post_to(links, line, centre, nid_engine, stamp, mail, to));
-    }
-    Frames {
-        stamp,
+    post_all(
+        links,
+        room,
+        line,
+        centre,
         nid_engine,
-        letter: mail.letter,
-        row,
-    }
+        stamp,
+        expectations,
+        mail,
+    )
 }
 
 // Whether there is nothing to send.
+#[inline(always)]
 fn is_nothing(line: &Line, centre: u8, mail: &Mail) -> bool
-    ensures { IsTrue result → (t d : ℕ) → mail_to line.now centre t mail.now d ≡ [] }
+    ensures { IsTrue result → (t : ℕ) → (e : ℕ → Option Expectation) → (d : ℕ) → mail_to line.now centre t e mail.now d ≡ [] }
 {
-    mail.letter.is_none() && stays(line, centre, mail.first) && stays(line, centre, mail.second)
+    mail.notice == Notice::Nothing
+        && mail.letter.is_none()
+        && stays(line, centre, mail.first)
+        && stays(line, centre, mail.second)
+}
+
+// Sends each centre its part of the mail.
+fn post_all(
+    links: &mut Links<Body>,
+    room: &mut FrameRoom,
+    line: &Line,
+    centre: u8,
+    nid_engine: u32,
+    stamp: u32,
+    expectations: &Expectations,
+    mail: &Mail,
+) -> Frames
+    requires stamp { (1 ≤ stamp) × (stamp ≤ 1073741823) }
+    requires linked { (d : ℕ) → has_link links.old d ≡ is_linked line.now centre d }
+    requires may { (d : ℕ) → MayPost links.old d (mail_to line.now centre nid_engine (expected_from expectations.now) mail.now d) }
+    requires room { (d : ℕ) → (mail_to line.now centre nid_engine (expected_from expectations.now) mail.now d ≡ []) ⊎ HasFrameRoom room.old }
+    ensures posted { HasPosted body_of stamp (mail_to line.now centre nid_engine (expected_from expectations.now) mail.now) links.old links.new }
+    ensures frames { (d : ℕ) → frames_to result d ≡ numbered stamp (length (sent_to links.old d)) (mail_to line.now centre nid_engine (expected_from expectations.now) mail.now d) }
+{
+    let mut list = room.take();
+    for to in 0..line.centre_count() {
+        post_to(
+            links,
+            &mut list,
+            line,
+            centre,
+            nid_engine,
+            stamp,
+            expectations,
+            mail,
+            to,
+        );
+    }
+    Frames { list: Some(list) }
 }
 
 // Sends one centre its part of the mail.
 fn post_to(
     links: &mut Links<Body>,
+    list: &mut Vec<SentFrame>,
     line: &Line,
     centre: u8,
     nid_engine: u32,
     stamp: u32,
+    expectations: &Expectations,
     mail: &Mail,
     to: u8,
-) -> Returned
+)
     requires stamp { (1 ≤ stamp) × (stamp ≤ 1073741823) }
-    requires may { MayPost links.old to (mail_to line.now centre nid_engine mail.now to) }
-    ensures posted { HasPosted body_of stamp (only to (mail_to line.now centre nid_engine mail.now to)) links.old links.new }
-    ensures before { result.before ≡ length (sent_to links.old to) }
-    ensures bodies { bodies_to nid_engine mail.now.letter to result ≡ mail_to line.now centre nid_engine mail.now to }
+    requires may { MayPost links.old to (mail_to line.now centre nid_engine (expected_from expectations.now) mail.now to) }
+    requires room { (mail_to line.now centre nid_engine (expected_from expectations.now) mail.now to ≡ []) ⊎ (length list.old.items + 4 ≤ vec_capacity list.old) }
+    ensures sent { HasSent stamp (only to (mail_to line.now centre nid_engine (expected_from expectations.now) mail.now to)) links.old links.new list.old.items list.new.items }
+    ensures count { length list.new.items ≤ length list.old.items + 4 }
+    ensures capacity { vec_capacity list.new ≡ vec_capacity list.old }
 {
-    let before = links.sent(to);
     let first = part_to(line, centre, to, mail.track, mail.first);
     let second = part_to(line, centre, to, mail.track, mail.second);
-    post_one(links, stamp, to, home(nid_engine, first));
-    post_one(links, stamp, to, home(nid_engine, second));
-    post_one(links, stamp, to, letter_to(mail.letter, to));
-    Returned {
-        before,
-        first,
-        second,
-    }
+    let notice = mail.notice.to_centre(nid_engine, expectations, to);
+    let letter = letter_to(mail.letter, to);
+    post_one(links, list, stamp, to, home(nid_engine, first));
+    post_one(links, list, stamp, to, home(nid_engine, second));
+    post_one(links, list, stamp, to, notice);
+    post_one(links, list, stamp, to, letter);
+}
+
+/// Sends one letter in a step with this stamp.
+pub(crate) fn post_letter(
+    links: &mut Links<Body>,
+    room: &mut FrameRoom,
+    stamp: u32,
+    letter: Letter,
+) -> Frames
+    requires stamp { (1 ≤ stamp) × (stamp ≤ 1073741823) }
+    requires near { letter.to < 8 }
+    requires may { (d : ℕ) → MayPost links.old d (letters (Some letter) d) }
+    requires room { HasFrameRoom room.old }
+    ensures posted { HasPosted body_of stamp (letters (Some letter)) links.old links.new }
+    ensures frames { (d : ℕ) → frames_to result d ≡ numbered stamp (length (sent_to links.old d)) (letters (Some letter) d) }
+{
+    let mut list = room.take();
+    post_one(links, &mut list, stamp, letter.to, Some(letter.body));
+    Frames { list: Some(list) }
 }
 
 // Sends a centre this body, where there is one, as the next frame of its link.
-fn post_one(links: &mut Links<Body>, stamp: u32, to: u8, body: Option<Body>)
+fn post_one(
+    links: &mut Links<Body>,
+    list: &mut Vec<SentFrame>,
+    stamp: u32,
+    to: u8,
+    body: Option<Body>,
+)
     requires stamp { (1 ≤ stamp) × (stamp ≤ 1073741823) }
     requires may { MayPost links.old to (bodies_in body) }
-    ensures { HasPosted body_of stamp (only to (bodies_in body)) links.old links.new }
+    requires room { (b : BodyCode) → body ≡ Some b → length list.old.items < vec_capacity list.old }
+    ensures sent { HasSent stamp (only to (bodies_in body)) links.old links.new list.old.items list.new.items }
+    ensures count { length list.new.items ≤ length list.old.items + 1 }
+    ensures capacity { vec_capacity list.new ≡ vec_capacity list.old }
 {
     let Some(body) = body else {
         return;
     };
-    links.post(to, stamp, body);
+    let number = links.post(to, stamp, body);
+    list.push_reserved(SentFrame {
+        to,
+        frame: Frame::new(number, stamp, body),
+    });
 }

@@ -2,8 +2,8 @@
 
 ghost use Rattle.std.specs.Prelude.{◌≡◌, ℕ, [], IsTrue};
 ghost use Rattle.rbc_hand.specs.SectionRuns.{run_of};
-ghost use Rattle.rbc_rules.specs.Letters.{going_home, letters};
-ghost use Rattle.rbc_centre.specs.Posts.{bodies_in, run_home};
+ghost use Rattle.rbc_rules.specs.Letters.{bodies_in, going_home, letters};
+ghost use Rattle.rbc_centre.specs.Posts.{run_home};
 
 use rbc_border::part_of;
 use rbc_hand::SectionRun;
@@ -12,26 +12,6 @@ use rbc_linkmsg::Body;
 use rbc_rules::Letter;
 
 const NO_SECTION: SectionRun = SectionRun { first: 0, count: 0 };
-
-/// The sections that one centre is sent in a step: a frame for each of two runs that is not empty.
-#[derive(Clone, Copy, Debug, PartialEq, Eq)]
-pub(crate) struct Returned {
-    /// How many frames were sent to the centre before.
-    pub(crate) before: u32,
-    pub(crate) first: SectionRun,
-    pub(crate) second: SectionRun,
-}
-
-impl Default for Returned {
-    /// What fills the places of a row that are not in use.
-    fn default() -> Returned {
-        Returned {
-            before: 0,
-            first: NO_SECTION,
-            second: NO_SECTION,
-        }
-    }
-}
 
 /// Those sections of a run that go home to a centre: an empty run where there are none.
 pub(crate) fn part_to(line: &Line, centre: u8, to: u8, track: u8, run: SectionRun) -> SectionRun
@@ -79,8 +59,5 @@ pub(crate) fn home(nid_engine: u32, run: SectionRun) -> Option<Body>
 pub(crate) fn letter_to(letter: Option<Letter>, to: u8) -> Option<Body>
     ensures { bodies_in result ≡ letters letter to }
 {
-    match letter {
-        Some(letter) if letter.to == to => Some(letter.body),
-        _ => None,
-    }
+    letter?.to_centre(to)
 }

@@ -1,9 +1,11 @@
 ghost use Rattle.std.specs.Prelude.{◌≡◌, ◌↔◌, map, option_map, IsTrue, IfOk};
 ghost use Rattle.rbc_rules.specs.Reasons.{reason_of};
 ghost use Rattle.rbc_rules.specs.Sayings.{saying_of};
+ghost use Rattle.rbc_centre.specs.Rooms.{HasFrameRoom};
 ghost use Rattle.rbc_centre.specs.Views.{word_of, link_of, outcome_of};
 
 use crate::event::Event;
+use crate::frame_room::FrameRoom;
 use crate::link_answer::LinkAnswer;
 use crate::outcome::{Outcome, Word};
 use arrayvec::ArrayVec;
@@ -95,8 +97,9 @@ impl Outcome {
             && same_silence(self.silence, other.silence)
     }
 
-    /// Another outcome that says the same.
-    pub fn copied(&self) -> Outcome
+    /// Another outcome that says the same. Its frames have memory of their own, or, where there is none, take the room.
+    pub fn copied(&self, room: &mut FrameRoom) -> Outcome
+        requires { HasFrameRoom room.old }
         ensures { outcome_of result ≡ outcome_of self.now }
     {
         let mut sayings = ArrayVec::new();
@@ -106,7 +109,7 @@ impl Outcome {
         Outcome {
             stamp: self.stamp,
             sayings,
-            frames: self.frames.copied(),
+            frames: self.frames.copied(room),
             word: self.word,
             told: self.told.copied(),
             link: self.link,

@@ -9,7 +9,7 @@ use Rattle.rbc_link.specs.Outgoing.{frame_by, frames_by}
 use Rattle.rbc_link.specs.Links.{has_link, taken_from, sent_to, room_to, HasRoom}
 use Rattle.rbc_link.specs.Posted.{HasPosted}
 
-length_numbered : (stamp n : ℕ) (bodies : List Body) → length (numbered stamp n bodies) ≡ length bodies
+pub length_numbered : (stamp n : ℕ) (bodies : List Body) → length (numbered stamp n bodies) ≡ length bodies
 length_numbered stamp n [] = refl
 length_numbered stamp n (b ∷ bs) = ap suc (length_numbered stamp (n + 1) bs)
 

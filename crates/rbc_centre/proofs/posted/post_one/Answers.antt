@@ -1,30 +1,44 @@
-use Rattle.std.proofs.Common.{arith, []}
+use Rattle.std.proofs.Common.{◌∙◌, ℕ, ap, refl, arith, []}
 use Rattle.std.proofs.lemmas.List.Elements.{All-head}
 use Rattle.rbc_link.proofs.Posted.{posted_one}
 use Rattle.rbc_linkmsg.specs.Bodies.{body_of}
 use Rattle.rbc_centre.specs.Posts.{IsFit}
-use Rattle.rbc_centre.proofs.Posts.{none_posted}
+use Rattle.rbc_centre.proofs.Posts.{none_sent_to, sent_one}
 use Rattle.rbc_centre.proofs.posted.post_one.Goals as goal
 
-pub returns-in_default : goal.returns-in_default
-returns-in_default c = rw c.in_default.is (none_posted c.args.stamp c.args.to c.args.links.now)
+pub returns-in_default-clause-sent : goal.returns-in_default-clause-sent
+returns-in_default-clause-sent c = rw c.in_default.is (none_sent_to c.args.stamp c.args.to c.args.links.now c.args.list.now.items)
 
-pub post-requires-clause-linked : goal.post-requires-clause-linked
-post-requires-clause-linked c =
+pub post-number-requires-clause-linked : goal.post-number-requires-clause-linked
+post-number-requires-clause-linked c =
     let may = rw c.in-Some.is at c.requires.may in
     (All-head (IsFit c.args.links.now c.args.to) (body_of c.in-Some.body) [] may.each).linked
 
-pub post-requires-clause-room : goal.post-requires-clause-room
-post-requires-clause-room c =
+pub post-number-requires-clause-room : goal.post-number-requires-clause-room
+post-number-requires-clause-room c =
     let may = rw c.in-Some.is at c.requires.may in
     let room = may.room (All-head (IsFit c.args.links.now c.args.to) (body_of c.in-Some.body) [] may.each).linked in omega (arith, room)
 
-pub post-requires-clause-numbers : goal.post-requires-clause-numbers
-post-requires-clause-numbers c =
+pub post-number-requires-clause-numbers : goal.post-number-requires-clause-numbers
+post-number-requires-clause-numbers c =
     let may = rw c.in-Some.is at c.requires.may in
     let numbers = may.numbers (All-head (IsFit c.args.links.now c.args.to) (body_of c.in-Some.body) [] may.each).linked in omega (arith, numbers)
 
-pub returns : goal.returns
-returns c =
-    let post = c.post.ensures in
-    rw c.in-Some.is (posted_one body_of c.args.stamp c.args.to c.in-Some.body c.args.links.now c.post.new.self post.count post.linked post.taken (post.sent body_of) post.room)
+pub new-requires-clause-number : goal.new-requires-clause-number
+new-requires-clause-number c =
+    let may = rw c.in-Some.is at c.requires.may in
+    let numbers = may.numbers (All-head (IsFit c.args.links.now c.args.to) (body_of c.in-Some.body) [] may.each).linked in
+    let is = c.post-number.ensures.number in
+    (omega (arith, is), omega (arith, is, numbers))
+
+pub new-requires-clause-body : goal.new-requires-clause-body
+new-requires-clause-body c =
+    let may = rw c.in-Some.is at c.requires.may in
+    (All-head (IsFit c.args.links.now c.args.to) (body_of c.in-Some.body) [] may.each).range
+
+pub returns-clause-sent : goal.returns-clause-sent
+returns-clause-sent c =
+    let post = c.post-number.ensures in
+    let posted = posted_one body_of c.args.stamp c.args.to c.in-Some.body c.args.links.now c.post-number.new.self post.count post.linked post.taken (post.sent body_of) post.room in
+    rw c.in-Some.is (sent_one c.args.stamp c.args.to c.in-Some.body c.args.links.now c.post-number.new.self c.args.list.now.items c.push_reserved.new.self.items _ posted
+    c.push_reserved.ensures.items refl (c.new.ensures ∙ ap (λ (n : ℕ). record { number = n; stamp = c.args.stamp; body = body_of c.in-Some.body }) post.number))

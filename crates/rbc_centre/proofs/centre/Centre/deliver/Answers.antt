@@ -1,44 +1,19 @@
 use Rattle.std.proofs.Common.{◌∙◌}
-use Rattle.rbc_spec.specs.Reach.{Routes as ToRoutes}
+use Rattle.rbc_spec.specs.Reach.{Whole as ToWhole}
 use Rattle.rbc_spec.specs.Step.{Deliver, taken, has_full_link}
-use Rattle.rbc_centre.proofs.Turns.{stays_with, on_err}
-use Rattle.rbc_centre.proofs.Steps.{stands_kept}
+use Rattle.rbc_centre.proofs.Turns.{state_same, on_err}
 use Rattle.rbc_centre.proofs.centre.Centre.deliver.Goals as goal
 
-pub invariant_of-self : goal.invariant_of-self
-invariant_of-self c =
-    let k = c.args.self.now in
-    let s = stays_with k c.reserve.new.self c.reserve.ensures.keeps in
-    record {
-      line_rules = k.line_rules;
-      of_line = k.of_line;
-      in_time = k.in_time;
-      own_sections = k.own_sections;
-      each_right = k.each_right;
-      link_count = s.link_count;
-      each_link = s.each_link;
-      each_frame = ∣ s.each_frame ∣₁;
-      train_count = k.train_count;
-      each_train = k.each_train;
-      counted = k.counted;
-      sound = s.sound;
-      own = s.own;
-      ranged = s.ranged;
-    }
-
-pub returns-in_err-reserve-clause-err : goal.returns-in_err-reserve-clause-err
-returns-in_err-reserve-clause-err c =
-    let k = c.args.self.now in
-    on_err c.from_residual.result (stands_kept k.line k.number k.clock k.book k.registrar k.links c.reserve.new.self k.trains.items c.reserve.ensures.keeps)
+pub returns-in_err-reserve_frames-clause-err : goal.returns-in_err-reserve_frames-clause-err
+returns-in_err-reserve_frames-clause-err c = on_err c.from_residual.result (state_same c.args.self.now c.reserve_frames.new.self c.in_err-reserve_frames.ensures.same)
 
 pub take_frame-requires-clause-numbers : goal.take_frame-requires-clause-numbers
 take_frame-requires-clause-numbers c =
-    let k = c.args.self.now in
-    (λ i. has_full_link k.line k.number (stands_kept k.line k.number k.clock k.book k.registrar k.links c.reserve.new.self k.trains.items c.reserve.ensures.keeps i)) ∙ c.requires.numbers
+    let same = c.in_ok-reserve_frames.ensures.same in
+    (λ i. has_full_link (same.line i) (same.number i) (state_same c.args.self.now c.reserve_frames.new.self same i)) ∙ c.requires.numbers
 
 pub returns-clause-exact : goal.returns-clause-exact
 returns-clause-exact c =
-    let k = c.args.self.now in
+    let same = c.in_ok-reserve_frames.ensures.same in
     c.take_frame.ensures.exact
-    ∙ (λ i. taken ToRoutes k.line k.number (Deliver c.args.from c.args.frame.now)
-    (stands_kept k.line k.number k.clock k.book k.registrar k.links c.reserve.new.self k.trains.items c.reserve.ensures.keeps i))
+    ∙ (λ i. taken ToWhole (same.line i) (same.number i) (Deliver c.args.from c.args.frame.now) (state_same c.args.self.now c.reserve_frames.new.self same i))

@@ -6,32 +6,10 @@ use Rattle.rbc_msgs.specs.StepMessage.{step_message, step_body}
 use Rattle.rbc_rules.specs.Letters.{tells_others}
 use Rattle.rbc_centre.proofs.Trains.{heard_of}
 use Rattle.rbc_centre.proofs.States.{number_within}
-use Rattle.rbc_centre.proofs.Turns.{stays_with}
 use Rattle.rbc_centre.proofs.centre.Centre.make_room.Goals as goal
 
 pub invariant_of-self : goal.invariant_of-self
 invariant_of-self c =
-    let k = c.args.self.now in
-    let s = stays_with k c.reserve.new.self c.reserve.ensures.keeps in
-    record {
-      line_rules = k.line_rules;
-      of_line = k.of_line;
-      in_time = k.in_time;
-      own_sections = k.own_sections;
-      each_right = k.each_right;
-      link_count = s.link_count;
-      each_link = s.each_link;
-      each_frame = ∣ s.each_frame ∣₁;
-      train_count = k.train_count;
-      each_train = k.each_train;
-      counted = k.counted;
-      sound = s.sound;
-      own = s.own;
-      ranged = s.ranged;
-    }
-
-pub invariant_of-self-2 : goal.invariant_of-self-2
-invariant_of-self-2 c =
     let k = c.args.self.now in
     record {
       line_rules = k.line_rules;
@@ -51,11 +29,12 @@ invariant_of-self-2 c =
             waiting = is.waiting;
             covers = is.covers;
             held = is.held;
-            session = (c.reserve-2.ensures.phases t ∙ is.session.0, λ key e. c.reserve-2.ensures.keys key ∙ is.session.1 key e);
+            expected = is.expected;
+            session = (c.reserve.ensures.phases t ∙ is.session.0, λ key e. c.reserve.ensures.keys key ∙ is.session.1 key e);
           };
       counted = k.counted;
+      announced = k.announced;
       sound = k.sound;
-      own = k.own;
       ranged = k.ranged;
     }
 
@@ -77,4 +56,4 @@ returns-then-is_stale-clause-session c = λ opens timely.
     let at : slice_get states c.args.i ≡ Some train = slice_get_read _ _ _ _ refl (number_within k.line states m.nid_engine c.args.i c.requires.number k.train_count) c.index.ensures in
     let stale : is_stale m.t_train train.heard ≡ true = ap (λ (t : ℕ). is_stale t train.heard) (sym c.t_train.ensures.value) ∙ sym c.is_stale.ensures ∙ c.if-is_stale.true in
     absurd (both_ways (is_stale m.t_train train.heard)
-    (sym (ap (is_stale m.t_train) (heard_of k.line k.number k.clock m.nid_engine c.args.i k.book k.registrar k.links states train c.requires.number at)) ∙ timely) stale)
+    (sym (ap (is_stale m.t_train) (heard_of k.line k.number k.clock m.nid_engine c.args.i k.book k.desk k.links states train c.requires.number at)) ∙ timely) stale)

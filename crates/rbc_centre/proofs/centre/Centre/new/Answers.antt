@@ -1,26 +1,28 @@
 use Rattle.std.proofs.Common.{◌≡◌, ◌∙◌, ap, sym, arith, subst, true}
-use Rattle.rbc_spec.specs.Reach.{Routes as ToRoutes}
 use Rattle.rbc_spec.specs.Line.{is_centre}
 use Rattle.rbc_spec.specs.Centre.{beginning}
 use Rattle.rbc_flow.specs.Sound.{IsCentreSound}
 use Rattle.rbc_flow.proofs.Begins.{centre_begins}
-use Rattle.rbc_own.specs.Own.{IsOwnAt}
-use Rattle.rbc_own.proofs.Stays.{begins_own}
 use Rattle.rbc_ranges.specs.Ranges.{HasStateRanges}
 use Rattle.rbc_ranges.proofs.Steps.{begins_in_range}
 use Rattle.rbc_book.specs.Book.{Pages, is_own}
 use Rattle.rbc_session.specs.Sessions.{phase_at}
+use Rattle.rbc_centre.specs.declared.desk.Desk.{Desk}
 use Rattle.rbc_centre.specs.State.{stands_for}
 use Rattle.rbc_centre.proofs.Begins.{stands_at_beginning, none_said, each_begins, none_in_range}
 use Rattle.rbc_centre.proofs.centre.Centre.new.Goals.{In_ok-trains}
 use Rattle.rbc_centre.proofs.centre.Centre.new.Goals as goal
 
-begins : (c : In_ok-trains) → stands_for c.in_ok-line.line c.args.number 0 c.unknown_trains.new.book c.in_ok-registrar.registrar c.in_ok-links.links c.in_ok-trains.trains.items
+-- the rights of its trains, with no handover announced
+abbrev desk : In_ok-trains → Desk
+desk c = record { registrar = c.in_ok-registrar.registrar; handovers = c.new-handovers.result }
+
+begins : (c : In_ok-trains) → stands_for c.in_ok-line.line c.args.number 0 c.unknown_trains.new.book (desk c) c.in_ok-links.links c.in_ok-trains.trains.items
     ≡ beginning c.in_ok-line.line c.args.number
 begins c =
-    (λ i. stands_for c.in_ok-line.line c.args.number 0 (c.in_ok-trains.ensures.book i) c.in_ok-registrar.registrar c.in_ok-links.links c.in_ok-trains.trains.items)
-    ∙ stands_at_beginning c.in_ok-line.line c.in_ok-trains.trains.items c.in_ok-trains.ensures.each c.args.number c.in_ok-book.book c.in_ok-registrar.registrar c.in_ok-links.links
-    c.in_ok-book.ensures.entry c.in_ok-book.ensures.wish c.in_ok-registrar.ensures.engines c.in_ok-links.ensures.taken c.in_ok-links.ensures.sent
+    (λ i. stands_for c.in_ok-line.line c.args.number 0 (c.in_ok-trains.ensures.book i) (desk c) c.in_ok-links.links c.in_ok-trains.trains.items)
+    ∙ stands_at_beginning c.in_ok-line.line c.in_ok-trains.trains.items c.in_ok-trains.ensures.each c.args.number c.in_ok-book.book (desk c) c.in_ok-links.links
+    c.in_ok-book.ensures.entry c.in_ok-book.ensures.wish c.in_ok-registrar.ensures.engines c.new-handovers.ensures c.in_ok-links.ensures.taken c.in_ok-links.ensures.sent
 
 pub returns-clause-beginning : goal.returns-clause-beginning
 returns-clause-beginning c = begins (goal.at.returns-clause-beginning c).In_ok-trains ∙ ap (λ l. beginning l c.args.number) c.in_ok-line.ensures.value
@@ -40,7 +42,7 @@ invariant_of-result c =
       train_count = c.in_ok-trains.ensures.count;
       each_train = each_begins c.in_ok-line.line c.in_ok-trains.trains.items c.in_ok-trains.ensures.each c.args.number _ (λ u. ap (λ r. phase_at r u) c.in_ok-trains.ensures.sessions ∙ c.new-sessions.ensures.phases u);
       counted = none_said c.in_ok-line.line c.in_ok-trains.trains.items c.in_ok-trains.ensures.each;
+      announced = omega (arith, c.new-handovers.ensures);
       sound = subst (IsCentreSound c.in_ok-line.line c.args.number) (sym is) (centre_begins c.in_ok-line.line c.args.number);
-      own = subst (IsOwnAt ToRoutes c.in_ok-line.line c.args.number) (sym is) (begins_own ToRoutes c.in_ok-line.line c.args.number);
       ranged = ∣ subst (HasStateRanges c.in_ok-line.line c.args.number) (sym is) (begins_in_range c.in_ok-line.line c.args.number) ∣₁;
     }

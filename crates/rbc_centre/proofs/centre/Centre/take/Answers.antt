@@ -1,6 +1,6 @@
 use Rattle.std.proofs.Common.{◌≡◌, ◌∙◌, ◌+◌, ap, sym, None, Some, is_none, arith, refl, []}
 use Rattle.rbc_spec.specs.Line.{train_number}
-use Rattle.rbc_spec.specs.Reach.{Routes as ToRoutes}
+use Rattle.rbc_spec.specs.Reach.{Whole as ToWhole}
 use Rattle.rbc_spec.specs.Outcome.{ForeignEngine, Outcome}
 use Rattle.rbc_spec.specs.Centre as centre
 use Rattle.rbc_spec.specs.Step.{Train, effect, taken, ticked, has_full_link}
@@ -9,7 +9,7 @@ use Rattle.rbc_rules.proofs.Desk.{silent_effect}
 use Rattle.rbc_rules.proofs.Takes.{foreign_silence}
 use Rattle.rbc_centre.specs.State.{stands_for}
 use Rattle.rbc_centre.specs.States.{state_of}
-use Rattle.rbc_centre.proofs.Kept.{sound_left, own_left, ranged_left}
+use Rattle.rbc_centre.proofs.Kept.{sound_left, ranged_left}
 use Rattle.rbc_centre.proofs.States.{counted_later}
 use Rattle.rbc_centre.proofs.Steps.{ticked_is, says, replied, effect_of, outcome_with}
 use Rattle.rbc_centre.proofs.Turns.{heard_stamp, heard_allowed, state_same, on_err}
@@ -19,19 +19,19 @@ use Rattle.rbc_centre.proofs.centre.Centre.take.Goals as goal
 -- a foreign engine changes nothing but the clock
 foreign : (c : In_default) → (
   outcome_with (c.args.self.now.clock + 1) (λ d. []) [] [] None (Some ForeignEngine),
-  stands_for c.args.self.now.line c.args.self.now.number (c.args.self.now.clock + 1) c.args.self.now.book c.args.self.now.registrar c.args.self.now.links c.args.self.now.trains.items,
+  stands_for c.args.self.now.line c.args.self.now.number (c.args.self.now.clock + 1) c.args.self.now.book c.args.self.now.desk c.args.self.now.links c.args.self.now.trains.items,
 )
-    ≡ taken ToRoutes c.args.self.now.line c.args.self.now.number (Train (step_message c.args.message.now)) (state_of c.args.self.now)
+    ≡ taken ToWhole c.args.self.now.line c.args.self.now.number (Train (step_message c.args.message.now)) (state_of c.args.self.now)
 foreign c =
     let k = c.args.self.now in
     let m = step_message c.args.message.now in
     let now = k.clock + 1 in
     let none : train_number k.line m.nid_engine ≡ None = sym (c.train_number.ensures.value ∙ ap (train_number k.line) c.nid_engine.ensures.value) ∙ c.in_default.is in
-    let left = stands_for k.line k.number now k.book k.registrar k.links k.trains.items in
-    let is : effect ToRoutes k.line k.number (ticked now (state_of k)) (Train m) ≡ effect_of (replied left (λ d. []) [] []) None (Some ForeignEngine) =
+    let left = stands_for k.line k.number now k.book k.desk k.links k.trains.items in
+    let is : effect ToWhole k.line k.number (ticked now (state_of k)) (Train m) ≡ effect_of (replied left (λ d. []) [] []) None (Some ForeignEngine) =
     silent_effect k.line k.number (ticked now (state_of k)) m ForeignEngine (foreign_silence k.line k.number (ticked now (state_of k)) m (ap is_none none))
-    ∙ ap (λ (x : centre.Centre). effect_of (replied x (λ d. []) [] []) None (Some ForeignEngine)) (ticked_is k.line k.number k.clock now k.book k.registrar k.links k.trains.items) in
-    says k.line k.number k.clock now k.book k.book k.registrar k.registrar k.links k.links k.trains.items k.trains.items (Train m) (heard_stamp k m) (λ d. refl) [] [] None (Some ForeignEngine) is _ refl
+    ∙ ap (λ (x : centre.Centre). effect_of (replied x (λ d. []) [] []) None (Some ForeignEngine)) (ticked_is k.line k.number k.clock now k.book k.desk k.links k.trains.items) in
+    says k.line k.number k.clock now k.book k.book k.desk k.desk k.links k.links k.trains.items k.trains.items (Train m) (heard_stamp k m) (λ d. refl) [] [] None (Some ForeignEngine) is _ refl
 
 pub invariant_of-self : goal.invariant_of-self
 invariant_of-self c =
@@ -49,15 +49,15 @@ invariant_of-self c =
       train_count = k.train_count;
       each_train = k.each_train;
       counted = counted_later k.trains.items k.clock (k.clock + 1) (omega arith) k.counted;
+      announced = let few = k.announced in omega (arith, few);
       sound = sound_left k.line k.number (state_of k) _ (Train m) _ k.line_rules tt (foreign c) k.sound;
-      own = own_left k.line k.number (state_of k) _ (Train m) _ k.line_rules tt (foreign c) k.sound k.own;
       ranged = ranged_left k.line k.number (state_of k) _ (Train m) _ k.line_rules tt (foreign c) (heard_allowed k c.requires.time c.requires.numbers m) (k.of_line, c.look_at_ranges.ensures) k.ranged;
     }
 
 pub returns-in_default-clause-exact : goal.returns-in_default-clause-exact
 returns-in_default-clause-exact c =
     let k = c.args.self.now in
-    let left = stands_for k.line k.number (k.clock + 1) k.book k.registrar k.links k.trains.items in
+    let left = stands_for k.line k.number (k.clock + 1) k.book k.desk k.links k.trains.items in
     ap (λ (o : Outcome). (o, left)) c.silent.ensures ∙ foreign (goal.at.returns-in_default-clause-exact c).In_default
 
 pub returns-in_err-make_room-clause-err : goal.returns-in_err-make_room-clause-err
@@ -72,4 +72,4 @@ pub returns-clause-exact : goal.returns-clause-exact
 returns-clause-exact c =
     let same = c.in_ok-make_room.ensures.same in
     c.hear_train.ensures.exact
-    ∙ (λ i. taken ToRoutes (same.line i) (same.number i) (Train (step_message c.args.message.now)) (state_same c.args.self.now c.make_room.new.self same i))
+    ∙ (λ i. taken ToWhole (same.line i) (same.number i) (Train (step_message c.args.message.now)) (state_same c.args.self.now c.make_room.new.self same i))

@@ -1,23 +1,24 @@
-use Rattle.std.proofs.Common.{◌≡◌, ℕ, ◌+◌, ◌∙◌, ap, sym, refl, set, Some, None, is_some, false, arith, subst, map, max}
+use Rattle.std.proofs.Common.{inr, ◌≡◌, ℕ, ◌+◌, ◌∙◌, ap, sym, refl, set, Some, None, is_some, false, arith, subst, map, max}
 use Rattle.std.proofs.Math.Nat.{le-max_left}
 use Rattle.std.proofs.Math.ListN.{length-set}
 use Rattle.std.proofs.lemmas.Option.{slice_get_read}
 use Rattle.rbc_spec.specs.Frame.{Body, HasBodyRange}
 use Rattle.rbc_spec.specs.Line.{train_number}
 use Rattle.rbc_spec.specs.Outcome.{Outcome, Told}
-use Rattle.rbc_spec.specs.Reach.{Routes as ToRoutes}
+use Rattle.rbc_spec.specs.Reach.{Whole as ToWhole}
 use Rattle.rbc_spec.specs.Step.{Deliver, body_taken}
 use Rattle.rbc_sound.proofs.Ranges.{range_hand}
 use Rattle.rbc_linkmsg.specs.Bodies.{engine_in}
 use Rattle.rbc_session.specs.declared.session.SessionState.{SessionState}
 use Rattle.rbc_rules.specs.Letters.{mail_to}
-use Rattle.rbc_rules.specs.Sayings.{sayings_of}
+use Rattle.rbc_rules.specs.Sayings.{told_train}
+use Rattle.rbc_handover.specs.Expectations.{expected_from}
 use Rattle.rbc_rules.specs.SessionStates.{Stands}
 use Rattle.rbc_centre.specs.State.{stands_for}
 use Rattle.rbc_centre.specs.Posts.{MayPost}
 use Rattle.rbc_centre.specs.Sent.{frames_to}
 use Rattle.rbc_centre.specs.Views.{link_of, outcome_heard}
-use Rattle.rbc_centre.proofs.Deliveries.{not_next, deliver_stamp, delivered_allowed, received_may, offered_as, untaken, ignored, received, silent, stays_silent}
+use Rattle.rbc_centre.proofs.Deliveries.{not_next, deliver_stamp, delivered_allowed, received_may, offered_as, untaken, ignored, received, silent, stays_silent, next_from}
 use Rattle.rbc_centre.proofs.States.{number_within, counted_later, each_of_train_still}
 use Rattle.rbc_centre.proofs.Rows.{later_of}
 use Rattle.rbc_centre.proofs.Turns.{within, of_train, has_number, has_count, each_counted, turns, stays, sent_by}
@@ -48,8 +49,8 @@ invariant_of-self c =
       train_count = k.train_count;
       each_train = k.each_train;
       counted = counted_later k.trains.items k.clock clock (omega (arith, low, latest)) k.counted;
+      announced = let few = k.announced in omega (arith, few, low, latest);
       sound = s.sound;
-      own = s.own;
       ranged = s.ranged;
     }
 
@@ -62,7 +63,7 @@ returns-in_default-clause-exact c =
     let latest : max k.clock f.stamp ≡ c.max.result = ap (λ n. max k.clock n) (sym c.stamp.ensures.value) ∙ sym (later_of k.clock c.stamp.result) ∙ sym c.max.ensures in
     let is = offered_as k d f c.offer.new.self c.of-answer.result c.offer.result c.number.result c.of-answer.ensures c.number.ensures.value
     c.offer.ensures.answer c.offer.ensures.count c.offer.ensures.linked c.offer.ensures.taken c.offer.ensures.sent c.offer.ensures.room in
-    let left = stands_for k.line k.number clock k.book k.registrar c.offer.new.self k.trains.items in
+    let left = stands_for k.line k.number clock k.book k.desk c.offer.new.self k.trains.items in
     (ap (λ (o : Outcome). (o, left)) (c.heard.ensures ∙ (λ i. outcome_heard clock (Some c.of-answer.result) (c.nothing.ensures i) (c.nothing-in_default.ensures i))))
     ∙ silent k clock d f c.offer.new.self (link_of c.of-answer.result) is (deliver_stamp k d f ∙ ap (λ n. n + 1) latest) (subst HasBodyRange c.body-body.ensures.value c.body-body.ensures.range)
     (untaken k clock d f c.offer.new.self (link_of c.of-answer.result) is (not_next c.of-answer.result c.in_default.not-Next))
@@ -97,8 +98,8 @@ invariant_of-self-in_default-train_number c =
       train_count = k.train_count;
       each_train = k.each_train;
       counted = counted_later k.trains.items k.clock clock (omega (arith, low, latest)) k.counted;
+      announced = let few = k.announced in omega (arith, few, low, latest);
       sound = s.sound;
-      own = s.own;
       ranged = s.ranged;
     }
 
@@ -115,7 +116,7 @@ returns-in_default-train_number-clause-exact c =
     ap (λ (b : Body). is_some (train_number k.line (engine_in b))) (sym c.body-body.ensures.value) ∙ ap (λ n. is_some (train_number k.line n)) (sym c.engine.ensures)
     ∙ ap is_some (sym c.train_number.ensures.value ∙ c.in_default-train_number.is) in
     let effect = ignored k clock d f c.offer.new.self (link_of c.of-answer.result) is (ap link_of c.in-Next.is) foreign in
-    let left = stands_for k.line k.number clock k.book k.registrar c.offer.new.self k.trains.items in
+    let left = stands_for k.line k.number clock k.book k.desk c.offer.new.self k.trains.items in
     (ap (λ (o : Outcome). (o, left)) (c.heard-in_default-train_number.ensures ∙ (λ i. outcome_heard clock (Some c.of-answer.result) (c.nothing-in_default-train_number.ensures i) (c.nothing-in_default-train_number-2.ensures i))))
     ∙ silent k clock d f c.offer.new.self (link_of c.of-answer.result) is (deliver_stamp k d f ∙ ap (λ n. n + 1) latest) (subst HasBodyRange c.body-body.ensures.value c.body-body.ensures.range) effect
 
@@ -127,8 +128,8 @@ receive-heard-requires-clause-engine c =
     let t = c.engine.result in
     let i = c.in-Some.i in
     let number : train_number k.line t ≡ Some i = sym c.train_number.ensures.value ∙ c.in-Some.is in
-    let old = c.index_mut.result.now in
-    let at = slice_get_read _ _ _ _ refl (number_within k.line k.trains.items t i number k.train_count) c.index_mut.ensures.value in
+    let old = c.index_mut-train.result.now in
+    let at = slice_get_read _ _ _ _ refl (number_within k.line k.trains.items t i number k.train_count) c.index_mut-train.ensures.value in
     sym c.engine.ensures ∙ sym (of_train k t i old number at).engine
 
 pub receive-heard-requires-clause-train : goal.receive-heard-requires-clause-train
@@ -137,9 +138,41 @@ receive-heard-requires-clause-train c =
     let t = c.engine.result in
     let i = c.in-Some.i in
     let number : train_number k.line t ≡ Some i = sym c.train_number.ensures.value ∙ c.in-Some.is in
-    let old = c.index_mut.result.now in
-    let at = slice_get_read _ _ _ _ refl (number_within k.line k.trains.items t i number k.train_count) c.index_mut.ensures.value in
+    let old = c.index_mut-train.result.now in
+    let at = slice_get_read _ _ _ _ refl (number_within k.line k.trains.items t i number k.train_count) c.index_mut-train.ensures.value in
     (of_train k t i old number at).waiting ∙ sym (of_train k t i old number at).engine
+
+pub receive-heard-requires-clause-book : goal.receive-heard-requires-clause-book
+receive-heard-requires-clause-book c = c.args.self.now.own_sections
+
+pub receive-heard-requires-clause-held : goal.receive-heard-requires-clause-held
+receive-heard-requires-clause-held c =
+    let k = c.args.self.now in
+    let t = c.engine.result in
+    let i = c.in-Some.i in
+    let number : train_number k.line t ≡ Some i = sym c.train_number.ensures.value ∙ c.in-Some.is in
+    let old = c.index_mut-train.result.now in
+    let at = slice_get_read _ _ _ _ refl (number_within k.line k.trains.items t i number k.train_count) c.index_mut-train.ensures.value in
+    (of_train k t i old number at).held
+
+pub receive-heard-requires-clause-expected : goal.receive-heard-requires-clause-expected
+receive-heard-requires-clause-expected c =
+    let k = c.args.self.now in
+    let t = c.engine.result in
+    let i = c.in-Some.i in
+    let number : train_number k.line t ≡ Some i = sym c.train_number.ensures.value ∙ c.in-Some.is in
+    let old = c.index_mut-train.result.now in
+    let at = slice_get_read _ _ _ _ refl (number_within k.line k.trains.items t i number k.train_count) c.index_mut-train.ensures.value in
+    (of_train k t i old number at).expected
+
+pub receive-heard-requires-clause-from : goal.receive-heard-requires-clause-from
+receive-heard-requires-clause-from c =
+    let k = c.args.self.now in
+    let d = c.args.from in
+    let f = c.args.frame.now in
+    let is = offered_as k d f c.offer.new.self c.of-answer.result c.offer.result c.number.result c.of-answer.ensures c.number.ensures.value
+    c.offer.ensures.answer c.offer.ensures.count c.offer.ensures.linked c.offer.ensures.taken c.offer.ensures.sent c.offer.ensures.room in
+    next_from k d f c.offer.new.self (link_of c.of-answer.result) is (ap link_of c.in-Next.is)
 
 pub receive-heard-requires-clause-number : goal.receive-heard-requires-clause-number
 receive-heard-requires-clause-number c =
@@ -147,8 +180,8 @@ receive-heard-requires-clause-number c =
     let t = c.engine.result in
     let i = c.in-Some.i in
     let number : train_number k.line t ≡ Some i = sym c.train_number.ensures.value ∙ c.in-Some.is in
-    let old = c.index_mut.result.now in
-    let at = slice_get_read _ _ _ _ refl (number_within k.line k.trains.items t i number k.train_count) c.index_mut.ensures.value in
+    let old = c.index_mut-train.result.now in
+    let at = slice_get_read _ _ _ _ refl (number_within k.line k.trains.items t i number k.train_count) c.index_mut-train.ensures.value in
     has_number k t i old number at
 
 pub receive-heard-requires-clause-range : goal.receive-heard-requires-clause-range
@@ -160,14 +193,18 @@ receive-heard-requires-clause-count c =
     let t = c.engine.result in
     let i = c.in-Some.i in
     let number : train_number k.line t ≡ Some i = sym c.train_number.ensures.value ∙ c.in-Some.is in
-    let old = c.index_mut.result.now in
-    let at = slice_get_read _ _ _ _ refl (number_within k.line k.trains.items t i number k.train_count) c.index_mut.ensures.value in
+    let old = c.index_mut-train.result.now in
+    let at = slice_get_read _ _ _ _ refl (number_within k.line k.trains.items t i number k.train_count) c.index_mut-train.ensures.value in
     let low = le-max_left k.clock c.args.frame.now.stamp in
     let early = c.requires.time in
-    has_count k t i old number at (omega (arith, low, early))
+    let few = has_count k t i old number at (omega (arith, low, early)) in
+    omega (arith, few)
 
 pub post-frames-requires-clause-linked : goal.post-frames-requires-clause-linked
 post-frames-requires-clause-linked c = λ e. c.offer.ensures.linked e ∙ c.args.self.now.each_link e
+
+pub post-frames-requires-clause-room : goal.post-frames-requires-clause-room
+post-frames-requires-clause-room c d = inr c.requires.room
 
 pub post-frames-requires-clause-may : goal.post-frames-requires-clause-may
 post-frames-requires-clause-may c =
@@ -181,14 +218,14 @@ post-frames-requires-clause-may c =
     let t = c.engine.result in
     let i = c.in-Some.i in
     let number : train_number k.line t ≡ Some i = sym c.train_number.ensures.value ∙ c.in-Some.is in
-    let old = c.index_mut.result.now in
-    let at = slice_get_read _ _ _ _ refl (number_within k.line k.trains.items t i number k.train_count) c.index_mut.ensures.value in
+    let old = c.index_mut-train.result.now in
+    let at = slice_get_read _ _ _ _ refl (number_within k.line k.trains.items t i number k.train_count) c.index_mut-train.ensures.value in
     let heard = c.receive-heard.result in
     let effect = received k clock d f c.offer.new.self (link_of c.of-answer.result) is (ap link_of c.in-Next.is) t i old number at c.receive-heard.new.self c.receive-heard.new.book c.receive-heard.new.registrar
     c.receive-heard.ensures.kept c.receive-heard.ensures.desk heard
-    (λ x has known. ap (λ (b : Body). body_taken ToRoutes k.line k.number d b x) (sym c.body-body.ensures.value) ∙ c.receive-heard.ensures.exact x has known) in
-    subst (λ (u : ℕ). (e : ℕ) → MayPost c.offer.new.self e (mail_to k.line k.number u heard.mail e)) ((of_train k t i old number at).engine ∙ c.engine.ensures ∙ sym c.engine-2.ensures)
-    (received_may k d f clock c.offer.new.self _ old heard (link_of c.of-answer.result) (deliver_stamp k d f ∙ ap (λ n. n + 1) latest) c.offer.ensures.sent effect (delivered_allowed k d f c.requires.time c.requires.numbers)
+    (λ x has known. ap (λ (b : Body). body_taken ToWhole k.line k.number d b x) (sym c.body-body.ensures.value) ∙ c.receive-heard.ensures.exact x has known) in
+    subst (λ (u : ℕ). (e : ℕ) → MayPost c.offer.new.self e (mail_to k.line k.number u (expected_from c.receive-heard.new.self.expectations) heard.mail e)) ((of_train k t i old number at).engine ∙ c.engine.ensures ∙ sym c.engine-2.ensures)
+    (received_may k d f clock c.offer.new.self _ old (expected_from c.receive-heard.new.self.expectations) heard (link_of c.of-answer.result) (deliver_stamp k d f ∙ ap (λ n. n + 1) latest) c.offer.ensures.sent effect (delivered_allowed k d f c.requires.time c.requires.numbers)
     (subst HasBodyRange c.body-body.ensures.value c.body-body.ensures.range) c.offer.ensures.linked c.offer.ensures.room c.requires.frames)
 
 -- ## The centre that is left, and the answer
@@ -207,8 +244,8 @@ invariant_of-self-2 c =
     let t = c.engine.result in
     let i = c.in-Some.i in
     let number : train_number k.line t ≡ Some i = sym c.train_number.ensures.value ∙ c.in-Some.is in
-    let old = c.index_mut.result.now in
-    let at = slice_get_read _ _ _ _ refl (number_within k.line k.trains.items t i number k.train_count) c.index_mut.ensures.value in
+    let old = c.index_mut-train.result.now in
+    let at = slice_get_read _ _ _ _ refl (number_within k.line k.trains.items t i number k.train_count) c.index_mut-train.ensures.value in
     let new = c.receive-heard.new.self in
     let heard = c.receive-heard.result in
     let kept = c.receive-heard.ensures.kept in
@@ -216,16 +253,16 @@ invariant_of-self-2 c =
     let answer = link_of c.of-answer.result in
     let next = ap link_of c.in-Next.is in
     let effect = received k clock d f c.offer.new.self answer is next t i old number at new c.receive-heard.new.book c.receive-heard.new.registrar kept desk heard
-    (λ x has known. ap (λ (b : Body). body_taken ToRoutes k.line k.number d b x) (sym c.body-body.ensures.value) ∙ c.receive-heard.ensures.exact x has known) in
+    (λ x has known. ap (λ (b : Body). body_taken ToWhole k.line k.number d b x) (sym c.body-body.ensures.value) ∙ c.receive-heard.ensures.exact x has known) in
     let train = of_train k t i old number at in
     let stamp = deliver_stamp k d f ∙ ap (λ n. n + 1) latest in
     let range = subst HasBodyRange c.body-body.ensures.value c.body-body.ensures.range in
     let allowed = delivered_allowed k d f c.requires.time c.requires.numbers in
-    let sent = sent_by k.line k.number c.engine-2.result old.supervision.engine clock heard.mail c.offer.new.self c.post-frames.new.links (frames_to c.post-frames.result) (c.engine-2.ensures ∙ sym c.engine.ensures ∙ sym train.engine) c.post-frames.ensures.posted c.post-frames.ensures.frames in
-    let s = stays k (Deliver d f) clock c.offer.new.self c.post-frames.new.links c.receive-heard.new.book c.receive-heard.new.registrar (set k.trains.items i new) (mail_to k.line k.number old.supervision.engine heard.mail) (sayings_of heard.saying) (map (λ s. Told s) heard.told) (Some answer) None
+    let sent = sent_by k.line k.number c.engine-2.result old.supervision.engine clock (expected_from new.expectations) heard.mail c.offer.new.self c.post-frames.new.links (frames_to c.post-frames.result) (c.engine-2.ensures ∙ sym c.engine.ensures ∙ sym train.engine) c.post-frames.ensures.posted c.post-frames.ensures.frames in
+    let s = stays k (Deliver d f) clock c.offer.new.self c.post-frames.new.links c.receive-heard.new.book (record { registrar = c.receive-heard.new.registrar; handovers = k.desk.handovers }) (set k.trains.items i new) (mail_to k.line k.number old.supervision.engine (expected_from new.expectations) heard.mail) (told_train heard.saying heard.order) (map (λ s. Told s) heard.told) (Some answer) None
     stamp c.offer.ensures.sent sent.links effect (frames_to c.post-frames.result) sent.each
     (omega arith) (omega (arith, early, latest)) (range_hand f.body range) allowed range
-    (received_may k d f clock c.offer.new.self _ old heard answer stamp c.offer.ensures.sent effect allowed range c.offer.ensures.linked c.offer.ensures.room c.requires.frames) desk.homes desk.rights.count (length-set k.trains.items i new) c.offer.ensures.count c.offer.ensures.linked in
+    (received_may k d f clock c.offer.new.self _ old (expected_from new.expectations) heard answer stamp c.offer.ensures.sent effect allowed range c.offer.ensures.linked c.offer.ensures.room c.requires.frames) desk.homes desk.rights.count (length-set k.trains.items i new) c.offer.ensures.count c.offer.ensures.linked in
     record {
       line_rules = k.line_rules;
       of_line = k.of_line;
@@ -242,12 +279,13 @@ invariant_of-self-2 c =
             engine = kept.engine ∙ train.engine;
             waiting = kept.waiting ∙ train.waiting;
             covers = c.receive-heard.ensures.covers train.covers;
-            held = c.receive-heard.ensures.held train.held;
+            held = c.receive-heard.ensures.held;
+            expected = c.receive-heard.ensures.expected ∙ train.expected;
             session = subst (λ (x : SessionState). Stands k.sessions x t) (sym c.receive-heard.ensures.session) train.session;
           }) k.each_train;
-      counted = each_counted k t i old number at clock c.offer.new.self new c.receive-heard.new.book c.receive-heard.new.registrar kept desk (omega (arith, low, latest));
+      counted = each_counted k t i old number at clock c.offer.new.self new c.receive-heard.new.book c.receive-heard.new.registrar k.desk.handovers kept desk (omega (arith, low, latest));
+      announced = let few = k.announced in omega (arith, few, low, latest);
       sound = s.sound;
-      own = s.own;
       ranged = s.ranged;
     }
 
@@ -263,8 +301,8 @@ returns-clause-exact c =
     let t = c.engine.result in
     let i = c.in-Some.i in
     let number : train_number k.line t ≡ Some i = sym c.train_number.ensures.value ∙ c.in-Some.is in
-    let old = c.index_mut.result.now in
-    let at = slice_get_read _ _ _ _ refl (number_within k.line k.trains.items t i number k.train_count) c.index_mut.ensures.value in
+    let old = c.index_mut-train.result.now in
+    let at = slice_get_read _ _ _ _ refl (number_within k.line k.trains.items t i number k.train_count) c.index_mut-train.ensures.value in
     let new = c.receive-heard.new.self in
     let heard = c.receive-heard.result in
     let kept = c.receive-heard.ensures.kept in
@@ -272,10 +310,10 @@ returns-clause-exact c =
     let answer = link_of c.of-answer.result in
     let next = ap link_of c.in-Next.is in
     let effect = received k clock d f c.offer.new.self answer is next t i old number at new c.receive-heard.new.book c.receive-heard.new.registrar kept desk heard
-    (λ x has known. ap (λ (b : Body). body_taken ToRoutes k.line k.number d b x) (sym c.body-body.ensures.value) ∙ c.receive-heard.ensures.exact x has known) in
-    let left = stands_for k.line k.number clock c.receive-heard.new.book c.receive-heard.new.registrar c.post-frames.new.links (set k.trains.items i new) in
-    let sent = sent_by k.line k.number c.engine-2.result old.supervision.engine clock heard.mail c.offer.new.self c.post-frames.new.links (frames_to c.post-frames.result)
+    (λ x has known. ap (λ (b : Body). body_taken ToWhole k.line k.number d b x) (sym c.body-body.ensures.value) ∙ c.receive-heard.ensures.exact x has known) in
+    let left = stands_for k.line k.number clock c.receive-heard.new.book (record { registrar = c.receive-heard.new.registrar; handovers = k.desk.handovers }) c.post-frames.new.links (set k.trains.items i new) in
+    let sent = sent_by k.line k.number c.engine-2.result old.supervision.engine clock (expected_from new.expectations) heard.mail c.offer.new.self c.post-frames.new.links (frames_to c.post-frames.result)
     (c.engine-2.ensures ∙ sym c.engine.ensures ∙ sym (of_train k t i old number at).engine) c.post-frames.ensures.posted c.post-frames.ensures.frames in
     ap (λ (o : Outcome). (o, left)) c.heard-2.ensures
-    ∙ turns k (Deliver d f) clock c.offer.new.self c.post-frames.new.links c.receive-heard.new.book c.receive-heard.new.registrar (set k.trains.items i new) (mail_to k.line k.number old.supervision.engine heard.mail) (sayings_of heard.saying) (map (λ s. Told s) heard.told) (Some answer) None
+    ∙ turns k (Deliver d f) clock c.offer.new.self c.post-frames.new.links c.receive-heard.new.book (record { registrar = c.receive-heard.new.registrar; handovers = k.desk.handovers }) (set k.trains.items i new) (mail_to k.line k.number old.supervision.engine (expected_from new.expectations) heard.mail) (told_train heard.saying heard.order) (map (λ s. Told s) heard.told) (Some answer) None
     (deliver_stamp k d f ∙ ap (λ n. n + 1) latest) c.offer.ensures.sent sent.links effect (frames_to c.post-frames.result) sent.each

@@ -1,8 +1,10 @@
-use Rattle.std.proofs.Common.{◌∙◌, sym, refl, None}
+use Rattle.std.proofs.Common.{◌∙◌, ap, sym, refl, Option, None}
 use Rattle.std.proofs.lemmas.Option.{slice_get_read}
-use Rattle.rbc_spec.specs.Centre.{Closed}
+use Rattle.rbc_spec.specs.Centre.{Mission, Closed}
 use Rattle.rbc_session.specs.SessionStates.{session_phase}
+use Rattle.rbc_rules.specs.Desks.{mission_by}
 use Rattle.rbc_centre.specs.State.{stands_for}
+use Rattle.rbc_centre.specs.Views.{handing_at}
 use Rattle.rbc_centre.proofs.States.{part_of_train, part_of_foreign, number_within}
 use Rattle.rbc_centre.proofs.centre.Centre.train.Goals as goal
 
@@ -47,7 +49,8 @@ unfolding stands_for
 returns-in-Some-clause-mission c =
     let number = sym c.train_number.ensures.value ∙ c.in-Some.is in
     let within = number_within c.args.self.now.line c.args.self.now.trains.items c.args.nid_engine _ number c.args.self.now.train_count in
-    c.page.ensures.mission ∙ part_of_train (λ p. p.supervision.mission) None c.args.self.now.line c.args.self.now.trains.items c.args.nid_engine _ c.index.result.now number (slice_get_read _ _ _ _ refl within c.index.ensures)
+    let is = part_of_train (λ p. p.supervision.mission) None c.args.self.now.line c.args.self.now.trains.items c.args.nid_engine _ c.index.result.now number (slice_get_read _ _ _ _ refl within c.index.ensures) in
+    ap (λ (m : Option Mission). mission_by c.page.result.mission c.page.result.hand c.page.result.pool (handing_at m)) (sym is) ∙ c.page.ensures.mission ∙ is
 
 pub returns-in-None-clause-mission : goal.returns-in-None-clause-mission
 unfolding stands_for

@@ -1,4 +1,4 @@
-use Rattle.std.proofs.Common.{◌≡◌, ◌∙◌, ◌+◌, ◌≤◌, sym, arith, true, false, refl, subst, ℕ, List, None, set, [], ◌∷◌}
+use Rattle.std.proofs.Common.{◌≡◌, ◌∙◌, ◌+◌, ◌*◌, ◌≤◌, sym, arith, true, false, refl, subst, ℕ, List, None, set, [], ◌∷◌}
 use Rattle.std.proofs.Math.ListN.{length-set}
 use Rattle.std.proofs.lemmas.Option.{slice_get_read}
 use Rattle.rbc_spec.specs.Centre as centre
@@ -10,7 +10,7 @@ use Rattle.rbc_rules.specs.Trains.{asked, HasTrain}
 use Rattle.rbc_rules.specs.Sayings.{sayings_of}
 use Rattle.rbc_centre.specs.States.{state_of}
 use Rattle.rbc_centre.specs.Views.{outcome_of}
-use Rattle.rbc_centre.proofs.Kept.{sound_left, own_left, ranged_left}
+use Rattle.rbc_centre.proofs.Kept.{sound_left, ranged_left}
 use Rattle.rbc_centre.proofs.States.{counted_later, counted_after, each_of_train_still, asked_train}
 use Rattle.rbc_centre.proofs.Steps.{outcome_with, unset_stands}
 use Rattle.rbc_centre.proofs.Turns.{unset_allowed}
@@ -23,9 +23,9 @@ invariant_of-self c =
     let k = c.args.self.now in
     let s = c.args.s in
     let words : List Word = Done s ∷ [] in
-    let is = unset_stands k.line k.number k.clock k.book c.unset.new.self k.registrar k.links k.trains.items k.trains.items [] words
+    let is = unset_stands k.line k.number k.clock k.book c.unset.new.self k.desk k.links k.trains.items k.trains.items [] words
     (outcome_with (k.clock + 1) (λ d. []) [] words None None) s refl
-    (unset_turns k.line k.number (k.clock + 1) k.book c.unset.new.self k.registrar k.links k.trains.items s (k.own_sections s) c.unset.ensures.entry c.unset.ensures.wish true c.in-Ok-Done.ensures.own
+    (unset_turns k.line k.number (k.clock + 1) k.book c.unset.new.self k.desk k.links k.trains.items s (k.own_sections s) c.unset.ensures.entry c.unset.ensures.wish true c.in-Ok-Done.ensures.own
     (λ _. done_unused (entry_at k.book s) (sym c.in-Ok-Done.field-0-is ∙ c.in-Ok-Done.ensures.answer))) in
     record {
       line_rules = k.line_rules;
@@ -39,8 +39,8 @@ invariant_of-self c =
       train_count = k.train_count;
       each_train = k.each_train;
       counted = counted_later k.trains.items k.clock (k.clock + 1) (omega arith) k.counted;
+      announced = let few = k.announced in omega (arith, few);
       sound = sound_left k.line k.number (state_of k) _ (Unset s) _ k.line_rules tt is k.sound;
-      own = own_left k.line k.number (state_of k) _ (Unset s) _ k.line_rules tt is k.sound k.own;
       ranged = ranged_left k.line k.number (state_of k) _ (Unset s) _ k.line_rules tt is (unset_allowed k c.requires.time c.requires.numbers s) tt k.ranged;
     }
 
@@ -49,9 +49,9 @@ invariant_of-self-in-Err c =
     let k = c.args.self.now in
     let s = c.args.s in
     let words : List Word = NotHome s ∷ [] in
-    let is = unset_stands k.line k.number k.clock k.book c.unset.new.self k.registrar k.links k.trains.items k.trains.items [] words
+    let is = unset_stands k.line k.number k.clock k.book c.unset.new.self k.desk k.links k.trains.items k.trains.items [] words
     (outcome_with (k.clock + 1) (λ d. []) [] words None None) s refl
-    (unset_turns k.line k.number (k.clock + 1) k.book c.unset.new.self k.registrar k.links k.trains.items s (k.own_sections s) c.unset.ensures.entry c.unset.ensures.wish false c.in-Err.ensures.own (λ e. cc)) in
+    (unset_turns k.line k.number (k.clock + 1) k.book c.unset.new.self k.desk k.links k.trains.items s (k.own_sections s) c.unset.ensures.entry c.unset.ensures.wish false c.in-Err.ensures.own (λ e. cc)) in
     record {
       line_rules = k.line_rules;
       of_line = k.of_line;
@@ -64,8 +64,8 @@ invariant_of-self-in-Err c =
       train_count = k.train_count;
       each_train = k.each_train;
       counted = counted_later k.trains.items k.clock (k.clock + 1) (omega arith) k.counted;
+      announced = let few = k.announced in omega (arith, few);
       sound = sound_left k.line k.number (state_of k) _ (Unset s) _ k.line_rules tt is k.sound;
-      own = own_left k.line k.number (state_of k) _ (Unset s) _ k.line_rules tt is k.sound k.own;
       ranged = ranged_left k.line k.number (state_of k) _ (Unset s) _ k.line_rules tt is (unset_allowed k c.requires.time c.requires.numbers s) tt k.ranged;
     }
 
@@ -73,16 +73,16 @@ pub returns-in-Ok-Done-clause-exact : goal.returns-in-Ok-Done-clause-exact
 returns-in-Ok-Done-clause-exact c =
     let k = c.args.self.now in
     let s = c.args.s in
-    unset_stands k.line k.number k.clock k.book c.unset.new.self k.registrar k.links k.trains.items k.trains.items _ _ _ s c.told.ensures
-    (unset_turns k.line k.number (k.clock + 1) k.book c.unset.new.self k.registrar k.links k.trains.items s (k.own_sections s) c.unset.ensures.entry c.unset.ensures.wish true c.in-Ok-Done.ensures.own
+    unset_stands k.line k.number k.clock k.book c.unset.new.self k.desk k.links k.trains.items k.trains.items _ _ _ s c.told.ensures
+    (unset_turns k.line k.number (k.clock + 1) k.book c.unset.new.self k.desk k.links k.trains.items s (k.own_sections s) c.unset.ensures.entry c.unset.ensures.wish true c.in-Ok-Done.ensures.own
     (λ _. done_unused (entry_at k.book s) (sym c.in-Ok-Done.field-0-is ∙ c.in-Ok-Done.ensures.answer)))
 
 pub returns-in-Err-clause-exact : goal.returns-in-Err-clause-exact
 returns-in-Err-clause-exact c =
     let k = c.args.self.now in
     let s = c.args.s in
-    unset_stands k.line k.number k.clock k.book c.unset.new.self k.registrar k.links k.trains.items k.trains.items _ _ _ s c.told-in-Err.ensures
-    (unset_turns k.line k.number (k.clock + 1) k.book c.unset.new.self k.registrar k.links k.trains.items s (k.own_sections s) c.unset.ensures.entry c.unset.ensures.wish false c.in-Err.ensures.own (λ e. cc))
+    unset_stands k.line k.number k.clock k.book c.unset.new.self k.desk k.links k.trains.items k.trains.items _ _ _ s c.told-in-Err.ensures
+    (unset_turns k.line k.number (k.clock + 1) k.book c.unset.new.self k.desk k.links k.trains.items s (k.own_sections s) c.unset.ensures.entry c.unset.ensures.wish false c.in-Err.ensures.own (λ e. cc))
 
 -- ## A section in use
 
@@ -111,11 +111,11 @@ invariant_of-self-in-Some c =
     subst (λ (n : ℕ). (j : centre.Centre) → HasTrain j n before → propose_if_so k.line n s j ≡ asked n after sayings j) user.engine ask.exact
     in
     let words : List Word = Asked s ∷ [] in
-    let is = unset_stands k.line k.number k.clock k.book c.unset.new.self k.registrar k.links states (set states i after) sayings words
+    let is = unset_stands k.line k.number k.clock k.book c.unset.new.self k.desk k.links states (set states i after) sayings words
     (outcome_with (k.clock + 1) (λ d. []) sayings words None None) s refl
-    (asked_turns k.line k.number (k.clock + 1) k.book c.unset.new.self k.registrar k.links states s (k.own_sections s) c.unset.ensures.entry c.unset.ensures.wish
-    t i before after sayings c.in-Ok-Asked.ensures.own user.taken user.number user.at user.within ask.session_state ask.heard ask.question ask.waiting asks) in
-    let few : before.said ≤ k.clock = k.counted i before user.at in
+    (asked_turns k.line k.number (k.clock + 1) k.book c.unset.new.self k.desk k.links states s (k.own_sections s) c.unset.ensures.entry c.unset.ensures.wish
+    t i before after sayings c.in-Ok-Asked.ensures.own user.taken user.number user.at user.within ask.session_state ask.heard ask.question ask.waiting ask.expectations asks) in
+    let few : before.said ≤ 2 * k.clock = k.counted i before user.at in
     let said : after.said ≤ before.said + 1 = ask.said in
     let was = k.each_train t i before user.number user.at in
     record {
@@ -129,10 +129,10 @@ invariant_of-self-in-Some c =
       each_frame = k.each_frame;
       train_count = length-set states i after ∙ k.train_count;
       each_train = each_of_train_still k.line k.number k.sessions states t i after user.within user.number
-          (asked_train k.line k.number k.sessions t i before after was ask.number ask.engine ask.waiting ask.session_state ask.hand) k.each_train;
+          (asked_train k.line k.number k.sessions t i before after was ask.number ask.engine ask.waiting ask.session_state ask.hand ask.expectations) k.each_train;
       counted = counted_after states i k.clock (k.clock + 1) after user.within (omega (arith, few, said)) (omega arith) k.counted;
+      announced = let few = k.announced in omega (arith, few);
       sound = sound_left k.line k.number (state_of k) _ (Unset s) _ k.line_rules tt is k.sound;
-      own = own_left k.line k.number (state_of k) _ (Unset s) _ k.line_rules tt is k.sound k.own;
       ranged = ranged_left k.line k.number (state_of k) _ (Unset s) _ k.line_rules tt is (unset_allowed k c.requires.time c.requires.numbers s) tt k.ranged;
     }
 
@@ -157,9 +157,9 @@ returns-after-user-clause-exact c = elim c.match-user.branch [
       subst (λ (n : ℕ). (j : centre.Centre) → HasTrain j n before → propose_if_so k.line n s j ≡ asked n after sayings j) user.engine ask.exact
       in
       (λ i. (outcome_of c.told-in-Ok-Asked.result, state_of (w.self-is i)))
-      ∙ unset_stands k.line k.number k.clock k.book c.unset.new.self k.registrar k.links states (set states w.in-Some.i after) sayings (Asked s ∷ []) _ s
+      ∙ unset_stands k.line k.number k.clock k.book c.unset.new.self k.desk k.links states (set states w.in-Some.i after) sayings (Asked s ∷ []) _ s
       (c.told-in-Ok-Asked.ensures ∙ (λ i. outcome_with ((w.self-is i).clock) (λ d. []) (sayings_of (w.request-is i)) (Asked s ∷ []) None None))
-      (asked_turns k.line k.number (k.clock + 1) k.book c.unset.new.self k.registrar k.links states s (k.own_sections s) c.unset.ensures.entry c.unset.ensures.wish
-      t w.in-Some.i before after sayings c.in-Ok-Asked.ensures.own user.taken user.number user.at user.within ask.session_state ask.heard ask.question ask.waiting asks)
+      (asked_turns k.line k.number (k.clock + 1) k.book c.unset.new.self k.desk k.links states s (k.own_sections s) c.unset.ensures.entry c.unset.ensures.wish
+      t w.in-Some.i before after sayings c.in-Ok-Asked.ensures.own user.taken user.number user.at user.within ask.session_state ask.heard ask.question ask.waiting ask.expectations asks)
   | in-None w ↦ absurd (no_user c.args.self.now c.args.s c.requires.here (sym c.in-Ok-Asked.field-0-is ∙ c.in-Ok-Asked.ensures.answer) (λ t taken. sym (c.user_of-user.ensures.value t taken) ∙ w.in-None.is))
 ]

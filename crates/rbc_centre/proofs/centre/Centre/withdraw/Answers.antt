@@ -1,31 +1,43 @@
-use Rattle.std.proofs.Common.{◌∙◌, ◌+◌, [], ◌∷◌, ap, refl, None, arith}
+use Rattle.std.proofs.Common.{ℕ, ◌∙◌, ◌+◌, [], ◌∷◌, ap, refl, Some, None, arith}
 use Rattle.rbc_spec.specs.Outcome.{Outcome, Asked}
 use Rattle.rbc_spec.specs.Step.{Unset}
-use Rattle.rbc_rules.specs.Letters.{mail_to}
+use Rattle.rbc_linkmsg.specs.declared.body.Body.TheVariants.{RouteWithdraw}
+use Rattle.rbc_rules.specs.Letters.{letters}
+use Rattle.rbc_rules.specs.declared.letter.Letter.{Letter}
 use Rattle.rbc_centre.specs.Sent.{frames_to}
 use Rattle.rbc_centre.specs.State.{stands_for}
+use Rattle.rbc_centre.proofs.Kept.{few_centres}
 use Rattle.rbc_centre.proofs.States.{counted_later}
 use Rattle.rbc_centre.proofs.Turns.{turns, stays, unset_allowed, unset_stamp}
-use Rattle.rbc_centre.proofs.Withdrawn.{withdraws, may_withdraw}
+use Rattle.rbc_centre.proofs.Withdrawn.{withdraws, may_withdraw, is_near}
 use Rattle.rbc_centre.proofs.centre.Centre.withdraw.Goals as goal
 
-pub post-frames-requires-clause-linked : goal.post-frames-requires-clause-linked
-post-frames-requires-clause-linked c = c.args.self.now.each_link
+-- what the centre that has the section is asked
+abbrev letter_of : ℕ → ℕ → ℕ → Letter
+letter_of s t to = record { to = to; body = RouteWithdraw t s }
 
-pub post-frames-requires-clause-may : goal.post-frames-requires-clause-may
-post-frames-requires-clause-may c =
-    may_withdraw c.args.self.now c.args.s c.args.nid_engine c.args.to c.unset-asked.new.self c.of-mail.result c.requires.out c.unset-asked.ensures.entry c.unset-asked.ensures.wish c.of-mail.ensures
+pub post_letter-frames-requires-clause-near : goal.post_letter-frames-requires-clause-near
+post_letter-frames-requires-clause-near c =
+    let k = c.args.self.now in
+    let near = is_near k c.args.s c.args.nid_engine c.args.to c.unset-asked.new.self (letter_of c.args.s c.args.nid_engine c.args.to) c.requires.out c.unset-asked.ensures.entry c.unset-asked.ensures.wish refl
+    c.requires.time c.requires.numbers c.requires.frames in
+    let most = few_centres k.line k.line_rules in
+    omega (arith, near, most)
+
+pub post_letter-frames-requires-clause-may : goal.post_letter-frames-requires-clause-may
+post_letter-frames-requires-clause-may c =
+    may_withdraw c.args.self.now c.args.s c.args.nid_engine c.args.to c.unset-asked.new.self (letter_of c.args.s c.args.nid_engine c.args.to) c.requires.out c.unset-asked.ensures.entry c.unset-asked.ensures.wish refl
     c.requires.time c.requires.numbers c.requires.frames
 
 pub invariant_of-self : goal.invariant_of-self
 invariant_of-self c =
     let k = c.args.self.now in
-    let s = stays k (Unset c.args.s) (k.clock + 1) k.links c.post-frames.new.links c.unset-asked.new.self k.registrar k.trains.items (mail_to k.line k.number c.args.nid_engine c.of-mail.result) [] (Asked c.args.s ∷ []) None None
-    (unset_stamp k c.args.s) (λ d. refl) c.post-frames.ensures.posted
-    (withdraws k c.args.s c.args.nid_engine c.args.to c.unset-asked.new.self c.of-mail.result c.requires.out c.unset-asked.ensures.entry c.unset-asked.ensures.wish c.of-mail.ensures)
-    (frames_to c.post-frames.result) c.post-frames.ensures.frames
+    let s = stays k (Unset c.args.s) (k.clock + 1) k.links c.post_letter-frames.new.links c.unset-asked.new.self k.desk k.trains.items (letters (Some (letter_of c.args.s c.args.nid_engine c.args.to))) [] (Asked c.args.s ∷ []) None None
+    (unset_stamp k c.args.s) (λ d. refl) c.post_letter-frames.ensures.posted
+    (withdraws k c.args.s c.args.nid_engine c.args.to c.unset-asked.new.self (letter_of c.args.s c.args.nid_engine c.args.to) c.requires.out c.unset-asked.ensures.entry c.unset-asked.ensures.wish refl)
+    (frames_to c.post_letter-frames.result) c.post_letter-frames.ensures.frames
     (omega arith) (omega (arith, c.requires.time)) tt (unset_allowed k c.requires.time c.requires.numbers c.args.s) tt
-    (may_withdraw k c.args.s c.args.nid_engine c.args.to c.unset-asked.new.self c.of-mail.result c.requires.out c.unset-asked.ensures.entry c.unset-asked.ensures.wish c.of-mail.ensures
+    (may_withdraw k c.args.s c.args.nid_engine c.args.to c.unset-asked.new.self (letter_of c.args.s c.args.nid_engine c.args.to) c.requires.out c.unset-asked.ensures.entry c.unset-asked.ensures.wish refl
     c.requires.time c.requires.numbers c.requires.frames) c.unset-asked.ensures.homes refl refl refl (λ d. refl) in
     record {
       line_rules = k.line_rules;
@@ -39,17 +51,17 @@ invariant_of-self c =
       train_count = s.train_count;
       each_train = k.each_train;
       counted = counted_later k.trains.items k.clock (k.clock + 1) (omega arith) k.counted;
+      announced = let few = k.announced in omega (arith, few);
       sound = s.sound;
-      own = s.own;
       ranged = s.ranged;
     }
 
 pub returns-clause-exact : goal.returns-clause-exact
 returns-clause-exact c =
     let k = c.args.self.now in
-    let left = stands_for k.line k.number (k.clock + 1) c.unset-asked.new.self k.registrar c.post-frames.new.links k.trains.items in
+    let left = stands_for k.line k.number (k.clock + 1) c.unset-asked.new.self k.desk c.post_letter-frames.new.links k.trains.items in
     ap (λ (o : Outcome). (o, left)) c.sent.ensures
-    ∙ turns k (Unset c.args.s) (k.clock + 1) k.links c.post-frames.new.links c.unset-asked.new.self k.registrar k.trains.items (mail_to k.line k.number c.args.nid_engine c.of-mail.result) [] (Asked c.args.s ∷ []) None None
-    (unset_stamp k c.args.s) (λ d. refl) c.post-frames.ensures.posted
-    (withdraws k c.args.s c.args.nid_engine c.args.to c.unset-asked.new.self c.of-mail.result c.requires.out c.unset-asked.ensures.entry c.unset-asked.ensures.wish c.of-mail.ensures)
-    (frames_to c.post-frames.result) c.post-frames.ensures.frames
+    ∙ turns k (Unset c.args.s) (k.clock + 1) k.links c.post_letter-frames.new.links c.unset-asked.new.self k.desk k.trains.items (letters (Some (letter_of c.args.s c.args.nid_engine c.args.to))) [] (Asked c.args.s ∷ []) None None
+    (unset_stamp k c.args.s) (λ d. refl) c.post_letter-frames.ensures.posted
+    (withdraws k c.args.s c.args.nid_engine c.args.to c.unset-asked.new.self (letter_of c.args.s c.args.nid_engine c.args.to) c.requires.out c.unset-asked.ensures.entry c.unset-asked.ensures.wish refl)
+    (frames_to c.post_letter-frames.result) c.post_letter-frames.ensures.frames

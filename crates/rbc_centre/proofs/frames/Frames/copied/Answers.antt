@@ -1,13 +1,11 @@
-use Rattle.std.proofs.Common.{◌∙◌, ◌++◌, ℕ, List, sym, subst, All}
-use Rattle.rbc_spec.specs.Frame.{HasFrameRanges}
-use Rattle.rbc_centre.specs.Posts.{frames_in}
-use Rattle.rbc_centre.specs.declared.returned.Returned.{Returned}
+use Rattle.std.proofs.Common.{◌∙◌, ap, arith}
+use Rattle.std.proofs.lemmas.List.{take_all}
+use Rattle.rbc_centre.specs.Listed.{frames_in}
+use Rattle.rbc_centre.specs.Sent.{frames_to}
 use Rattle.rbc_centre.proofs.frames.Frames.copied.Goals as goal
 
-pub invariant_of-result : goal.invariant_of-result
-invariant_of-result c =
-    let f = c.args.self.now in
-    record {
-      ranges = subst (λ (row : List Returned). ∥ ((d : ℕ) → All HasFrameRanges (frames_in f.stamp f.nid_engine f.letter row d)) ∥₁)
-          (sym (c.in-Ok.ensures.ok ∙ (λ i. c.new-row.ensures i ++ c.as_slice.ensures.value i))) f.ranges;
-    }
+pub returns : goal.returns
+unfolding frames_to
+returns c =
+    let past = c.loop-frame-test.false in
+    ap frames_in (c.loop-frame.invariant.items ∙ take_all c.loop-frame.frame-index c.as_slice-frames.result.now (omega (arith, past)) ∙ c.as_slice-frames.ensures.list)

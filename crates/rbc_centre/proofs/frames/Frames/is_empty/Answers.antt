@@ -1,11 +1,11 @@
-use Rattle.std.proofs.Common.{◌<◌, ◌≤◌, arith, refl, ⊎_elim}
-use Rattle.std.proofs.lemmas.Bool.{cases_lt}
-use Rattle.rbc_centre.proofs.Rows.{past_row}
+use Rattle.std.proofs.Common.{◌∙◌, ◌==◌, sym, ap, length}
+use Rattle.rbc_centre.specs.Listed.{frames_in}
+use Rattle.rbc_centre.proofs.Rows.{none_listed, none_long}
 use Rattle.rbc_centre.proofs.frames.Frames.is_empty.Goals as goal
 
 pub returns : goal.returns
 returns c =
-    let n = c.loop-to.to in
-    let past = c.loop-to-test.false in
-    let count = c.len-to-end.ensures.value in
-    (λ t d. ⊎_elim (λ (low : d < n). c.loop-to.invariant d low) (λ (high : n ≤ d). past_row c.args.self.now d (omega (arith, past, count, high))) (cases_lt d n), λ none. refl)
+    let list = c.as_slice.result.now in (
+      λ is d. sym (ap (λ f. f d) c.as_slice.ensures.value) ∙ ap (λ l. frames_in l d) (none_long list (sym c.is_empty.ensures ∙ is)),
+      λ none. c.is_empty.ensures ∙ ap (λ l. length l == 0) (none_listed list (λ d. ap (λ f. f d) c.as_slice.ensures.value ∙ none d)),
+    )

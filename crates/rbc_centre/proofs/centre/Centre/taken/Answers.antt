@@ -1,0 +1,6 @@
+use Rattle.rbc_centre.specs.State.{stands_for}
+use Rattle.rbc_centre.proofs.centre.Centre.taken.Goals as goal
+
+pub returns : goal.returns
+unfolding stands_for
+returns c = c.taken.ensures

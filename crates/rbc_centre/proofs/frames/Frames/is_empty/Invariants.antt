@@ -1,6 +1,0 @@
-use Rattle.std.proofs.Common.{◌≡◌, ◌<◌, ℕ, []}
-use Rattle.rbc_centre.specs.Sent.{frames_to}
-use Rattle.rbc_centre.proofs.frames.Frames.is_empty.Given as goal
-
-abbrev pub invariant-loop-to : goal.invariant-loop-to
-invariant-loop-to l = (d : ℕ) → d < l.to → frames_to l.self d ≡ []

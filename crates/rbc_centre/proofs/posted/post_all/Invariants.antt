@@ -1,0 +1,14 @@
+use Rattle.std.proofs.Common.{◌≤◌, ◌*◌, [], length, vec_capacity}
+use Rattle.rbc_handover.specs.Expectations.{expected_from}
+use Rattle.rbc_rules.specs.Letters.{mail_to}
+use Rattle.rbc_centre.specs.Posts.{HasSent}
+use Rattle.rbc_centre.specs.Rooms.{HasFrameRoom}
+use Rattle.rbc_centre.proofs.Posts.{below}
+use Rattle.rbc_centre.proofs.posted.post_all.Given as goal
+
+abbrev pub invariant-loop-to : goal.invariant-loop-to
+invariant-loop-to l = record {
+  sent : HasSent l.stamp (below (mail_to l.line l.centre l.nid_engine (expected_from l.expectations) l.mail) l.to) l.fn.links l.links [] l.list.items;
+  count : length l.list.items ≤ 4 * l.to;
+  room : HasFrameRoom l.fn.room → 32 ≤ vec_capacity l.list;
+}
