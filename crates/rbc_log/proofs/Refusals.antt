@@ -1,6 +1,5 @@
 -- A refusal of the log is that of its centre.
 use Rattle.std.proofs.Common.{◌≡◌, ◌<◌, length, None, refl}
-use Rattle.rbc_spec.specs.Centre as centre
 use Rattle.rbc_spec.specs.Step.{Event, refusal}
 use Rattle.rbc_centre.specs.Answer.{IsRefusalOf}
 use Rattle.rbc_centre.specs.States.{line_of, number_of, state_of}

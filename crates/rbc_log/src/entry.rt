@@ -1,6 +1,6 @@
 ghost use Rattle.std.specs.Prelude.{◌≡◌, IfOk};
 
-use rbc_centre::{Event, Outcome};
+use rbc_centre::{Event, FrameRoom, Outcome};
 use std::alloc::{AllocError, Global};
 
 /// An event that a centre took, and what it answered.
@@ -13,16 +13,18 @@ pub struct Entry {
 }
 
 impl Entry {
+    ghost use Rattle.rbc_centre.specs.Rooms.{HasFrameRoom};
     ghost use Rattle.rbc_log.specs.Entries.{written_of};
 
-    /// Another entry that says the same.
-    pub fn copied(&self, alloc: Global) -> Result<Entry, AllocError>
+    /// Another entry that says the same. Its frames have memory of their own, or, where there is none, take the room.
+    pub fn copied(&self, alloc: Global, room: &mut FrameRoom) -> Result<Entry, AllocError>
+        requires { HasFrameRoom room.old }
         ensures { IfOk result (λ e. written_of e ≡ written_of self.now) }
     {
         Ok(Entry {
             centre: self.centre,
             event: self.event.copied(alloc)?,
-            outcome: self.outcome.copied(),
+            outcome: self.outcome.copied(room),
         })
     }
 }

@@ -9,7 +9,7 @@ ghost use Rattle.rbc_log.specs.Log.{IsReplaying, Appends, IsUnchanged, IsRefusal
 use crate::entry::Entry;
 use crate::fault::CommitFault;
 use crate::lines::is_same_line;
-use rbc_centre::{Centre, Event, Frame, Outcome};
+use rbc_centre::{Centre, Event, Frame, FrameRoom, Outcome};
 use rbc_line::Line;
 use std::alloc::{AllocError, Global};
 use std::marker::Model;
@@ -23,6 +23,8 @@ pub struct CentreLog {
     line: Line,
     core: Centre,
     entries: Vec<Entry>,
+    /// Room for the frames of an entry.
+    room: FrameRoom,
 }
 
 impl Model for CentreLog {
@@ -50,6 +52,7 @@ impl CentreLog {
             line: line.copied(alloc)?,
             core: Centre::new(alloc, line, centre)?,
             entries: Vec::new(alloc),
+            room: FrameRoom::new(alloc),
         })
     }
 
@@ -111,11 +114,12 @@ impl CentreLog {
         }
         self.core.may_step(&event)?;
         self.entries.reserve(1)?;
+        self.room.reserve()?;
         let outcome = self.core.step(&event)?;
         let entry = Entry {
             centre: self.core.number(),
             event,
-            outcome: outcome.copied(),
+            outcome: outcome.copied(&mut self.room),
         };
         self.entries.push_reserved(entry);
         Ok(outcome)

@@ -10,6 +10,7 @@ ghost use Rattle.rbc_log.specs.Merge.{AreOfCentres, AreOfLine, AreOfOneLine, all
 use crate::entry::Entry;
 use crate::log::CentreLog;
 use crate::merge_fault::MergeFault;
+use rbc_centre::FrameRoom;
 use rbc_line::Line;
 use std::alloc::{AllocError, Global};
 
@@ -98,8 +99,10 @@ fn add_entries(all: &mut Vec<Entry>, entries: &[Entry]) -> Result<(), AllocError
     ensures { OnOk result (map written_of all.new.items ≡ map written_of all.old.items ++ map written_of entries.now) }
 {
     let alloc = *all.allocator();
+    let mut room = FrameRoom::new(alloc);
     for entry in entries {
-        all.push(entry.copied(alloc)?)?;
+        room.reserve()?;
+        all.push(entry.copied(alloc, &mut room)?)?;
     }
     Ok(())
 }

@@ -5,7 +5,7 @@ ghost use Rattle.rbc_node.specs.Commit.{Fits, Commits, Refuses};
 
 use crate::fault::ShareFault;
 use crate::receipt::Receipt;
-use rbc_centre::{Event, Outcome};
+use rbc_centre::{Event, FrameRoom, Outcome};
 use rbc_log::{CentreLog, CommitFault, MOST_ENTRIES};
 use std::alloc::Global;
 use std::marker::Model;
@@ -15,6 +15,8 @@ use std::marker::Model;
 pub struct Share {
     centre: u8,
     receipts: Vec<Receipt>,
+    /// Room for the frames of a receipt.
+    room: FrameRoom,
 }
 
 impl Model for Share {
@@ -33,6 +35,7 @@ impl Share {
         Share {
             centre,
             receipts: Vec::new(alloc),
+            room: FrameRoom::new(alloc),
         }
     }
 
@@ -84,11 +87,12 @@ impl Share {
             return Err(ShareFault::from(CommitFault::from(fault)));
         }
         self.receipts.reserve(1)?;
+        self.room.reserve()?;
         let given = event.copied(*self.receipts.allocator())?;
         let outcome = log.commit(event)?;
         let receipt = Receipt {
             event: given,
-            outcome: outcome.copied(),
+            outcome: outcome.copied(&mut self.room),
             place,
         };
         self.receipts.push_reserved(receipt);

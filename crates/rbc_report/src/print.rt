@@ -178,7 +178,7 @@ pub fn print_line<W: Write>(
 fn supervisor_of(view: &LineView, nid_engine: u32) -> Option<u8> {
     for train in &view.trains {
         if train.nid_engine == nid_engine {
-            return train.mission.map(|mission| mission.supervisor);
+            return train.supervisor();
         }
     }
     None

@@ -1,6 +1,7 @@
 pub mod Centres
 pub mod Known
 pub mod Steps
+pub mod Firsts
 pub mod Shown
 pub mod Loop
 pub mod Reached

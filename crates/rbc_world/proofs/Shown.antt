@@ -1,28 +1,31 @@
 -- What is shown of a world.
-use Rattle.std.proofs.Common.{◌≡◌, ℕ, zero, suc, ◌+◌, ◌-◌, ◌==◌, ◌<◌, ◌≤◌, Bool, true, false, cond, List, [], ◌∷◌, ◌++◌, length, Option, Some, None, option_map, is_some, length-append, slice_get, refl, sym, ap, ◌∙◌, subst, arith}
-use Rattle.std.specs.List.{find, range_with_len}
-use Rattle.std.specs.Option.{option_map_or, option_and_then, IfSome}
+use Rattle.std.proofs.Common.{◌≡◌, ℕ, zero, suc, ◌+◌, ◌-◌, ◌==◌, ◌≤◌, true, false, List, [], ◌∷◌, ◌++◌, length, Option, Some, None, option_map, is_some, length-append, slice_get, refl, sym, ap, ◌∙◌, subst, arith, eqb-true}
+use Rattle.std.specs.List.{filter_map, flat_map}
+use Rattle.std.specs.Option.{option_or, option_map_or, IfSome}
 use Rattle.std.proofs.lemmas.Bool.Decides.{nat_tests}
-use Rattle.std.proofs.lemmas.Option.{slice_get_past, same_Some}
+use Rattle.std.proofs.lemmas.List.Quantifiers.{position-Some}
+use Rattle.std.proofs.lemmas.Option.{slice_get_past, get_or_from_slice_get}
 use Rattle.rbc_spec.specs.Maps.{has}
-use Rattle.rbc_spec.specs.SectionRuns.{SectionRun, within}
-use Rattle.rbc_spec.specs.Line.{Line, Section}
+use Rattle.rbc_spec.specs.Line.{Line, Section, Train, train_number}
 use Rattle.rbc_spec.specs.LineCentre.{IsHand}
+use Rattle.rbc_spec.specs.Frame.{Frame}
 use Rattle.rbc_spec.specs.Centre as centre
 use Rattle.rbc_spec.specs.Centre.{Mission}
-use Rattle.rbc_spec.specs.World.{World, frame_sent}
-use Rattle.rbc_spec.specs.ReadOff.{read_off, seen}
-use Rattle.rbc_local.specs.Local.{hand_has}
-use Rattle.rbc_seen.specs.Seen.{supervisor_of, mission_found, AreMissionsSeen}
+use Rattle.rbc_spec.specs.World.{World, way, frame_sent}
+use Rattle.rbc_spec.specs.ReadOff.{Held, held, held_at, handed_over, centres_of, frames_on_way, read_off, seen}
+use Rattle.rbc_seen.specs.Seen.{yielded_on_way, AreMissionsSeen}
 use Rattle.rbc_hand.specs.SectionRuns.{run_of}
 use Rattle.rbc_centre.specs.States as one
 use Rattle.rbc_centre.specs.Views.{frame_number}
 use Rattle.rbc_centre.specs.declared.centre.Centre.{Centre}
 use Rattle.rbc_world.specs.States.{stands_for}
-use Rattle.rbc_world.specs.View.{mission_shown, EachOf}
+use Rattle.rbc_world.specs.View.{mission_shown, held_shown, EachOf, AreTrainsSeen, ShowsTrain}
+use Rattle.rbc_world.specs.Missions.{first_given, held_by_a_centre, carried_from}
 use Rattle.rbc_world.specs.declared.view.MissionView.{MissionView}
+use Rattle.rbc_world.specs.declared.view.TrainView.{TrainView}
 use Rattle.rbc_world.proofs.Centres.{centre_at}
 use Rattle.rbc_world.proofs.Known.{none_at}
+use Rattle.rbc_world.proofs.Firsts.{first_of_two, in_lists}
 
 -- ## What is read of a centre
 
@@ -43,10 +46,6 @@ module _ (line : Line) (cs : List Centre) (trains : List ℕ) (c : ℕ) where
   unfolding centre.beginning
   unwished_past s past = seen_past (λ k. k.wish s) past
 
-  pub none_past : (t : ℕ) → length cs ≤ c → None ≡ ((stands_for line cs trains).at c).mission t
-  unfolding centre.beginning
-  none_past t past = seen_past (λ k. k.mission t) past
-
   pub unsent_past : (to number : ℕ) → length cs ≤ c → None ≡ frame_sent (stands_for line cs trains) c to number
   unfolding centre.beginning
   unsent_past to number past = none_at number ∙ seen_past (λ k. frame_number (k.sent to) number) past
@@ -61,73 +60,69 @@ pub no_section : (o : Option Section) → option_map (λ p. p.home) o ≡ None �
 no_section (Some p) e = cc
 no_section None e = refl
 
--- ## The centre that has a mission
-
--- the first number of a test, from c on, of those below n
-abbrev pub first_from : (ℕ → Bool) → ℕ → ℕ → Option ℕ
-first_from test c n = find test (range_with_len c (n - c))
-
-pub from_none : (test : ℕ → Bool) (n : ℕ) → find test (range_with_len 0 n) ≡ first_from test 0 n
-from_none test n = let all : n ≡ n - 0 = omega arith in ap (λ k. find test (range_with_len 0 k)) all
-
-from_one : (test : ℕ → Bool) (c n : ℕ) → c < n → first_from test c n ≡ cond (test c) (Some c) (first_from test (c + 1) n)
-from_one test c n within = let some : n - c ≡ suc (n - (c + 1)) = omega arith in ap (λ k. find test (range_with_len c k)) some
-
-pub found_here : (test : ℕ → Bool) (c n : ℕ) → c < n → test c ≡ true → first_from test c n ≡ Some c
-found_here test c n within is = from_one test c n within ∙ ap (λ b. cond b (Some c) (first_from test (c + 1) n)) is
-
-pub found_later : (test : ℕ → Bool) (c n : ℕ) → c < n → test c ≡ false → first_from test c n ≡ first_from test (c + 1) n
-found_later test c n within is = from_one test c n within ∙ ap (λ b. cond b (Some c) (first_from test (c + 1) n)) is
-
-pub found_nowhere : (test : ℕ → Bool) (c n : ℕ) → n ≤ c → first_from test c n ≡ None
-found_nowhere test c n past = let none : n - c ≡ 0 = omega arith in ap (λ k. find test (range_with_len c k)) none
-
--- there is one exactly where one is shown
-pub same_test : {X Y Z : Type 0} (f : X → Z) (g : Y → Z) (o : Option X) (m : Option Y) → option_map f o ≡ option_map g m → is_some m ≡ is_some o
-same_test f g (Some x) (Some y) is = refl
-same_test f g (Some x) None is = cc
-same_test f g None (Some y) is = cc
-same_test f g None None is = refl
-
 -- ## The mission of a train
 
-abbrev pub hand_shown : MissionView → SectionRun
-hand_shown m = run_of m.hand
+-- what centre c holds by a mission
+abbrev pub held_by : ℕ → Mission → Held
+held_by c m = record { mission = seen c m; hand = m.hand }
 
-module _ (line : Line) (w : World) (t c : ℕ) (found : supervisor_of line w t ≡ Some c) where
-  -- what is shown of it is what is read off
-  pub mission_is : AreMissionsSeen line w → (shown : Option MissionView) → option_map mission_shown shown ≡ option_map (seen c) ((w.at c).mission t)
-      → option_map mission_shown shown ≡ (read_off line w).mission t
-  mission_is missions shown is = is ∙ sym (missions.mission t ∙ ap (λ (o : Option ℕ). option_and_then (λ d. option_map (seen d) ((w.at d).mission t)) o) found)
+-- it is found at the centres, and else on the way
+pub held_is : (line : Line) (w : World) (t : ℕ) → held line w t ≡ option_or (held_by_a_centre line w t) (yielded_on_way line w t)
+held_is line w t = first_of_two (filter_map (held_at w t) (centres_of line)) (filter_map (λ (f : Frame). handed_over t f.body) (frames_on_way line w))
 
-  -- its hand is that of the mission that is found
-  pub hand_found : (shown : Option MissionView) → option_map hand_shown shown ≡ option_map (λ m. m.hand) ((w.at c).mission t)
-      → option_map hand_shown shown ≡ option_map (λ m. m.hand) (mission_found line w t)
-  hand_found shown is = is ∙ sym (ap (λ (o : Option ℕ). option_map (λ (m : Mission). m.hand) (option_and_then (λ d. (w.at d).mission t) o)) found)
+-- on the way it is found from one centre after another
+pub on_way_is : (line : Line) (w : World) (t : ℕ) → yielded_on_way line w t ≡ first_given (carried_from line w t) (centres_of line)
+on_way_is line w t =
+    in_lists (λ (f : Frame). handed_over t f.body) (λ a. flat_map (λ b. way w a b) (centres_of line)) (centres_of line)
+    ∙ (λ i. first_given (λ a. in_lists (λ (f : Frame). handed_over t f.body) (way w a) (centres_of line) i) (centres_of line))
 
--- and has the sections that are given to the train
-pub hand_is : (line : Line) (w : World) (t c : ℕ) → AreMissionsSeen line w → (shown : Option MissionView) (o : Option Mission) → (w.at c).mission t ≡ o
-    → option_map hand_shown shown ≡ option_map (λ m. m.hand) o → IfSome shown (λ m. IsHand (read_off line w) t (run_of m.hand))
-hand_is line w t c missions (Some m) (Some k) at is =
-    subst (λ (run : SectionRun). IsHand (read_off line w) t run) (sym (same_Some (hand_shown m) k.hand is)) (missions.hand t c k at)
-hand_is line w t c missions (Some m) None at is = cc
-hand_is line w t c missions None o at is = tt
+-- a frame has the number behind the count of those before it
+pub next_number : (frames : List Frame) (i : ℕ) → frame_number frames (i + 1) ≡ slice_get frames i
+next_number frames i = let some : ((i + 1) == 0) ≡ false = grind (arith, nat_tests) in let back : (i + 1) - 1 ≡ i = omega arith in rw some (ap (slice_get frames) back)
 
--- a train that no centre supervises has none
-module _ (line : Line) (w : World) (t : ℕ) (none : supervisor_of line w t ≡ None) where
-  pub no_mission : AreMissionsSeen line w → None ≡ (read_off line w).mission t
-  no_mission missions = sym (missions.mission t ∙ ap (λ (o : Option ℕ). option_and_then (λ d. option_map (seen d) ((w.at d).mission t)) o) none)
+module _ (line : Line) (w : World) (t : ℕ) (missions : AreMissionsSeen line w) where
+  -- what is shown as it is held is what is read off
+  mission_is : (shown : Option MissionView) → option_map held_shown shown ≡ held line w t → option_map mission_shown shown ≡ (read_off line w).mission t
+  mission_is (Some m) is = ap (option_map (λ (h : Held). h.mission)) is ∙ sym (missions.mission t)
+  mission_is None is = ap (option_map (λ (h : Held). h.mission)) is ∙ sym (missions.mission t)
 
-  pub no_hand : None ≡ option_map (λ m. m.hand) (mission_found line w t)
-  no_hand = sym (ap (λ (o : Option ℕ). option_map (λ (m : Mission). m.hand) (option_and_then (λ d. (w.at d).mission t) o)) none)
+  -- and its hand has the sections that are given to the train
+  hand_is : (shown : Option MissionView) → option_map held_shown shown ≡ held line w t → IfSome shown (λ m. IsHand (read_off line w) t (run_of m.hand))
+  hand_is (Some m) is = missions.hand t (held_shown m) (sym is)
+  hand_is None is = tt
 
--- a section is in a mission's hand where it is in the hand that is shown
-pub in_hand_shown : (shown : Option MissionView) (o : Option Mission) (s : ℕ) → option_map hand_shown shown ≡ option_map (λ m. m.hand) o
-    → option_map_or (λ m. within (hand_shown m) s) shown false ≡ hand_has o s
-in_hand_shown (Some m) (Some k) s is = ap (λ (run : SectionRun). within run s) (same_Some (hand_shown m) k.hand is)
-in_hand_shown (Some m) None s is = cc
-in_hand_shown None (Some k) s is = cc
-in_hand_shown None None s is = refl
+  -- a foreign engine has none
+  pub none_held : train_number line t ≡ None → held line w t ≡ None
+  none_held foreign = by_held (held line w t) refl
+    where
+      by_held : (o : Option Held) → held line w t ≡ o → held line w t ≡ None
+      by_held None is = is
+      by_held (Some h) is = absurd (let wrong : false ≡ true = sym (ap is_some foreign) ∙ missions.known t h is in cc)
+
+-- ## The trains of the line
+
+no_train : Train
+no_train = record { nid_engine = 0; registrar = 0 }
+
+-- the train at the place that has its number is that train
+pub engine_at : (line : Line) (t i e : ℕ) → train_number line t ≡ Some i → option_map (λ p. p.nid_engine) (slice_get line.trains i) ≡ Some e → e ≡ t
+engine_at line t i e number is = by_train (slice_get line.trains i) refl is
+  where
+    by_train : (o : Option Train) → slice_get line.trains i ≡ o → option_map (λ p. p.nid_engine) o ≡ Some e → e ≡ t
+    by_train None at same = cc
+    by_train (Some q) at same =
+        let passes : (q.nid_engine == t) ≡ true =
+        ap (λ (p : Train). p.nid_engine == t) (sym (get_or_from_slice_get line.trains i q no_train at)) ∙ (position-Some (λ (p : Train). p.nid_engine == t) line.trains i no_train number).1 in
+        let is_e : q.nid_engine ≡ e = cc in
+        sym is_e ∙ eqb-true q.nid_engine t passes
+
+-- each is shown as it is seen
+pub trains_shown : (line : Line) (w : World) → AreMissionsSeen line w → (trains : List TrainView) → AreTrainsSeen line w trains → EachOf (λ i p. ShowsTrain line (read_off line w) i p) (length line.trains) trains
+trains_shown line w missions trains seen = record {
+  count = seen.count;
+  each = λ i p at. let it = seen.each i p at in
+      record { engine = it.engine; sessions = it.sessions; mission = mission_is line w p.nid_engine missions p.mission it.mission; hand = hand_is line w p.nid_engine missions p.mission it.mission };
+}
 
 -- ## Rows of what is shown
 

@@ -1,6 +1,5 @@
 -- What the calls of a world answer, beside their definitions.
 use Rattle.std.specs.Prelude.{◌≡◌, ◌≢◌, ◌⊎◌, ℕ, true, List, [], ◌∷◌, ◌++◌, Result, Ok, Err, is_some}
-use Rattle.rbc_spec.specs.Reach.{Routes}
 use Rattle.rbc_spec.specs.Line.{Line, is_centre}
 use Rattle.rbc_spec.specs.Centre.{Out}
 use Rattle.rbc_spec.specs.World.{Event, World, new_world, mention, frame_sent, IsRefused}
@@ -12,6 +11,7 @@ use Rattle.rbc_msgs.specs.TrainText.{TrainText}
 use Rattle.rbc_msgs.specs.TrainReading.{read_train}
 use Rattle.rbc_msgs.specs.Kept.{kept_packets, IsBehindPackets}
 use Rattle.rbc_msgs.specs.declared.fault.MsgFault.{MsgFault}
+use Rattle.rbc_world.specs.Built.{built}
 use Rattle.rbc_world.specs.declared.event.WorldEvent.{WorldEvent}
 use Rattle.rbc_world.specs.declared.event.WorldEvent.TheVariants as event
 use Rattle.rbc_centre.specs.declared.fault.StepFault.{StepFault}
@@ -54,5 +54,5 @@ IfWanted result so = Unit {0}
 -- a whole run is refused for want of memory, or as one of its steps is
 abbrev pub IsRefusedRun : Line → List Event → StepFault → Type 0
 IsRefusedRun line events Memory = Unit {0}
-IsRefusedRun line events LinkFull = IsRefused Routes line (new_world line) events AtLinkFull
-IsRefusedRun line events ClockEnd = IsRefused Routes line (new_world line) events AtClockEnd
+IsRefusedRun line events LinkFull = IsRefused built line (new_world line) events AtLinkFull
+IsRefusedRun line events ClockEnd = IsRefused built line (new_world line) events AtClockEnd

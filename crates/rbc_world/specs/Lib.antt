@@ -1,6 +1,8 @@
+pub mod Built
 pub mod Views
 pub mod Answers
 pub mod States
 pub mod Reached
 pub mod World
 pub mod View
+pub mod Missions

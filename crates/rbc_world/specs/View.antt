@@ -1,14 +1,18 @@
 -- When what is shown of a line is a state of it.
-use Rattle.std.specs.Prelude.{◌≡◌, ℕ, List, length, slice_get, Some, IfSome, option_map}
+use Rattle.std.specs.Prelude.{◌≡◌, ℕ, List, length, slice_get, Option, Some, None, IfSome, option_and_then, option_map}
 use Rattle.rbc_spec.specs.Line.{Line}
 use Rattle.rbc_spec.specs.LineCentre as line_centre
-use Rattle.rbc_spec.specs.LineCentre.{LineState, At, IsHand}
+use Rattle.rbc_spec.specs.LineCentre.{LineState, IsHand}
+use Rattle.rbc_spec.specs.World.{World}
+use Rattle.rbc_spec.specs.ReadOff.{Held, held, read_off}
 use Rattle.rbc_hand.specs.SectionRuns.{run_of}
 use Rattle.rbc_place.specs.Places.{place_of}
 use Rattle.rbc_shorten.specs.Facts.{standing_of}
 use Rattle.rbc_session.specs.SessionStates.{phase_of}
 use Rattle.rbc_world.specs.declared.view.Mark.{Mark}
 use Rattle.rbc_world.specs.declared.view.Mark.TheVariants as mark
+use Rattle.rbc_world.specs.declared.view.Supervisor.{Supervisor}
+use Rattle.rbc_world.specs.declared.view.Supervisor.TheVariants as supervisor
 use Rattle.rbc_world.specs.declared.view.SectionView.{SectionView}
 use Rattle.rbc_world.specs.declared.view.SessionView.{SessionView}
 use Rattle.rbc_world.specs.declared.view.MissionView.{MissionView}
@@ -21,6 +25,10 @@ mark_shown mark.Open = line_centre.Open
 mark_shown (mark.Kept t) = line_centre.Kept t
 mark_shown (mark.Given t) = line_centre.Given t
 
+abbrev pub supervisor_shown : Supervisor → line_centre.Supervisor
+supervisor_shown (supervisor.At c) = line_centre.At c
+supervisor_shown (supervisor.Parted heard) = line_centre.Parted heard
+
 -- a mission, and who supervises it
 abbrev pub mission_shown : MissionView → line_centre.LineMission
 mission_shown m = record {
@@ -28,8 +36,21 @@ mission_shown m = record {
   has_data = m.facts.has_data;
   is_ended = m.facts.is_ended;
   proposal = standing_of m.facts.proposal;
-  supervisor = At m.supervisor;
+  supervisor = supervisor_shown m.supervisor;
 }
+
+-- a mission, and its hand
+abbrev pub held_shown : MissionView → Held
+held_shown m = record { mission = mission_shown m; hand = run_of m.hand }
+
+-- the centre that supervises it
+abbrev pub centre_in : line_centre.Supervisor → Option ℕ
+centre_in (line_centre.At c) = Some c
+centre_in (line_centre.Parted heard) = None
+
+-- the centre that supervises the train
+abbrev pub seat_of : TrainView → Option ℕ
+seat_of train = option_and_then (λ m. centre_in (supervisor_shown m.supervisor)) train.mission
 
 -- there are n items, and each at its place is as wanted
 pub record EachOf {X : Type 0} (P : ℕ → X → Type 0) (n : ℕ) (xs : List X) : Type 0 where
@@ -58,3 +79,14 @@ pub record ShowsTrain (line : Line) (v : LineState) (i : ℕ) (shown : TrainView
 pub record Shows (line : Line) (v : LineState) (shown : LineView) : Type 0 where
   pub sections : EachOf (λ s p. ShowsSection v s p) (length line.sections) shown.sections.items
   pub trains : EachOf (λ i p. ShowsTrain line v i p) (length line.trains) shown.trains.items
+
+-- ## How it is found
+
+-- the train at place i of the line file: its mission with its hand, wherever that is
+pub record IsTrainSeen (line : Line) (w : World) (i : ℕ) (shown : TrainView) : Type 0 where
+  pub engine : option_map (λ p. p.nid_engine) (slice_get line.trains i) ≡ Some shown.nid_engine
+  pub sessions : EachOf (λ c p. ShowsSession (read_off line w) shown.nid_engine c p) (length line.centres) shown.sessions.items
+  pub mission : option_map held_shown shown.mission ≡ held line w shown.nid_engine
+
+abbrev pub AreTrainsSeen : Line → World → List TrainView → Type 0
+AreTrainsSeen line w trains = EachOf (IsTrainSeen line w) (length line.trains) trains

@@ -3,11 +3,12 @@
 #![tactic(auto)]
 
 mod event;
+mod missions;
 mod run;
 mod view;
 mod world;
 
 pub use event::{Answer, WorldEvent};
 pub use run::Outputs;
-pub use view::{LineView, Mark, SectionView, SessionView, TrainView};
+pub use view::{LineView, Mark, MissionView, SectionView, SessionView, Supervisor, TrainView};
 pub use world::World;

@@ -1,11 +1,11 @@
 ghost use Rattle.std.specs.Prelude.{◌≡◌, ◌≢◌, ℕ, [], map, IfOk, IfErr};
-ghost use Rattle.rbc_spec.specs.Reach.{Routes, Whole};
 ghost use Rattle.rbc_spec.specs.World.{new_world, world_run, all_named, IsRefused};
 ghost use Rattle.rbc_spec.specs.LineCentre.{line_beginning};
 ghost use Rattle.rbc_spec.specs.Run as line_run;
 ghost use Rattle.rbc_spec.specs.ReadOff.{IsLineRun, read_off};
 ghost use Rattle.rbc_spec.specs.Promises.{IsSound};
 ghost use Rattle.rbc_spec.specs.Theorems.{IsOneCentreLine, IsOneCentreRun, ForcedRun};
+ghost use Rattle.rbc_world.specs.Built.{built};
 ghost use Rattle.rbc_world.specs.World.{state_of};
 ghost use Rattle.rbc_world.specs.Views.{event_of, answer_of};
 ghost use Rattle.rbc_world.specs.Answers.{Gives, IsRefusedRun};
@@ -44,25 +44,23 @@ impl World {
         ensures last { IfOk result (λ o. line_run.Run line.now line_beginning (map event_of events.now) (map answer_of o.answers.items) (read_off line.now (state_of o.world))) }
         // So each train has one supervisor at most, each section one train, and no section in use and no right is lost or in two places.
         ensures sound { IfOk result (λ o. IsSound line.now (state_of o.world)) }
-        // On a one-centre line the run leaves no choice, and all is answered as by the rules of the whole system.
+        // On a one-centre line the run leaves no choice.
         ensures one_centre { (c : ℕ) → IsOneCentreLine line.now c
             → IfOk result (λ o. IsOneCentreRun line.now (map event_of events.now) (map answer_of o.answers.items) (state_of o.world)) }
         ensures one_centre_last { (c : ℕ) → IsOneCentreLine line.now c
             → IfOk result (λ o. ForcedRun line.now line_beginning (map event_of events.now) (map answer_of o.answers.items) (read_off line.now (state_of o.world))) }
-        ensures one_centre_exact { (c : ℕ) → IsOneCentreLine line.now c
-            → Gives (λ o. (map answer_of o.answers.items, state_of o.world)) result (world_run Whole line.now (new_world line.now) (map event_of events.now)) }
         // The trains are those that messages at centres of the line named, each once, by first mention.
         ensures trains { IfOk result (λ o. (state_of o.world).trains ≡ all_named line.now (map event_of events.now) []) }
         // But for want of memory a run is refused exactly where one of its steps is.
         ensures refused { IfErr result (IsRefusedRun line.now (map event_of events.now)) }
-        ensures exact { Gives (λ o. (map answer_of o.answers.items, state_of o.world)) result (world_run Routes line.now (new_world line.now) (map event_of events.now)) }
+        ensures exact { Gives (λ o. (map answer_of o.answers.items, state_of o.world)) result (world_run built line.now (new_world line.now) (map event_of events.now)) }
     {
         known_line(line);
         World::outputs(alloc, line, events)
     }
 
     fn outputs(alloc: Global, line: &Line, events: &[WorldEvent]) -> Result<Outputs, StepFault>
-        ensures { Gives (λ o. (map answer_of o.answers.items, state_of o.world)) result (world_run Routes line.now (new_world line.now) (map event_of events.now)) }
+        ensures { Gives (λ o. (map answer_of o.answers.items, state_of o.world)) result (world_run built line.now (new_world line.now) (map event_of events.now)) }
     {
         let mut world = World::new(alloc, line)?;
         let mut answers = Vec::with_capacity(alloc, events.len())?;

@@ -1,16 +1,15 @@
-ghost use Rattle.std.specs.Prelude.{◌≡◌, ◌<◌, length, slice_get, IfOk, IfSome, Some, option_map};
-ghost use Rattle.rbc_spec.specs.Reach.{Routes};
+ghost use Rattle.std.specs.Prelude.{◌≡◌, ◌<◌, length, slice_get, IfOk, Some, option_map};
+ghost use Rattle.rbc_spec.specs.Maps.{has};
+ghost use Rattle.rbc_spec.specs.SectionRuns.{within};
 ghost use Rattle.rbc_spec.specs.Line.{section};
-ghost use Rattle.rbc_spec.specs.LineCentre.{IsHand};
-ghost use Rattle.rbc_spec.specs.ReadOff.{StandsFor, read_off, seen};
-ghost use Rattle.rbc_local.specs.Local.{hand_has};
+ghost use Rattle.rbc_spec.specs.ReadOff.{StandsFor, read_off};
 ghost use Rattle.rbc_flow.specs.Shows.{shown};
-ghost use Rattle.rbc_seen.specs.Seen.{supervisor_of, mission_found};
+ghost use Rattle.rbc_seen.specs.Seen.{is_in_its_hand};
 ghost use Rattle.rbc_book.specs.Entries.{entry_of};
-ghost use Rattle.rbc_hand.specs.SectionRuns.{run_of};
+ghost use Rattle.rbc_world.specs.Built.{built};
 ghost use Rattle.rbc_world.specs.Reached.{WasReached};
 ghost use Rattle.rbc_world.specs.World.{line_of, state_of};
-ghost use Rattle.rbc_world.specs.View.{mark_shown, mission_shown, EachOf, ShowsSection, ShowsSession, ShowsTrain, Shows};
+ghost use Rattle.rbc_world.specs.View.{mark_shown, held_shown, seat_of, EachOf, AreTrainsSeen, ShowsSection, ShowsSession, Shows};
 
 use crate::world::{World, known_line};
 use rbc_book::{Entry, Page};
@@ -52,11 +51,19 @@ pub struct SessionView {
     pub waiting: Option<Place>,
 }
 
+/// Who supervises a train's mission.
+#[derive(Clone, Copy, Debug, PartialEq, Eq)]
+pub enum Supervisor {
+    /// The centre of this number.
+    At { centre: u8 },
+    /// No centre: it is on the way from one to the next, with the last T_TRAIN that was heard.
+    Parted { heard: u32 },
+}
+
 /// The mission of a train.
 #[derive(Clone, Copy, Debug, PartialEq, Eq)]
 pub struct MissionView {
-    /// The number of the centre that supervises the train.
-    pub supervisor: u8,
+    pub supervisor: Supervisor,
     /// Its last place, its train data, its end, and the request to shorten that stands.
     pub facts: MissionFacts,
     /// The sections of its movement authority.
@@ -69,11 +76,33 @@ pub struct TrainView {
     pub nid_engine: u32,
     /// What each centre has of it, by the centre's number.
     pub sessions: Vec<SessionView>,
-    /// Its mission, while a centre supervises it.
+    /// Its mission, at the centre that supervises it or on the way between two.
     pub mission: Option<MissionView>,
 }
 
-/// The state of the line, read off its centres.
+impl TrainView {
+    /// The number of the centre that supervises the train. None where it has no mission, or its mission is on the way between two.
+    pub fn supervisor(&self) -> Option<u8>
+        ensures { result ≡ seat_of self.now }
+    {
+        match self.mission?.supervisor {
+            Supervisor::At { centre } => Some(centre),
+            Supervisor::Parted { .. } => None,
+        }
+    }
+
+    // Whether the section is in its movement authority.
+    fn has(&self, s: u16) -> bool
+        ensures { result ≡ has (λ h. within h.hand s) (option_map held_shown self.now.mission) }
+    {
+        match self.mission {
+            Some(mission) => mission.hand.contains(s),
+            None => false,
+        }
+    }
+}
+
+/// The state of the line, read off its centres and the frames on the way between them.
 #[derive(Debug, Drop)]
 pub struct LineView {
     /// By section number.
@@ -83,39 +112,44 @@ pub struct LineView {
 }
 
 impl World {
-    /// The state of the line, read off the centres.
+    /// The state of the line, read off the centres and the frames on the way between them.
     pub fn view(&self, alloc: Global) -> Result<LineView, AllocError>
         ensures shows { IfOk result (Shows (line_of self.now) (read_off (line_of self.now) (state_of self.now))) }
-        // That state stands for the centres.
+        // That state stands for the centres and those frames.
         ensures stands { StandsFor (line_of self.now) (state_of self.now) (read_off (line_of self.now) (state_of self.now)) }
         // Some list of events led from the line's beginning to the centres as they are.
-        ensures reached { ∥ WasReached Routes (line_of self.now) (state_of self.now) ∥₁ }
+        ensures reached { ∥ WasReached built (line_of self.now) (state_of self.now) ∥₁ }
     {
         known_line(&self.line);
-        Ok(LineView {
-            sections: self.section_views(alloc)?,
-            trains: self.train_views(alloc)?,
-        })
+        let trains = self.train_views(alloc)?;
+        let sections = self.section_views(alloc, &trains)?;
+        Ok(LineView { sections, trains })
     }
 
-    fn section_views(&self, alloc: Global) -> Result<Vec<SectionView>, AllocError>
+    fn section_views(
+        &self,
+        alloc: Global,
+        trains: &[TrainView],
+    ) -> Result<Vec<SectionView>, AllocError>
+        requires { AreTrainsSeen (line_of self.now) (state_of self.now) trains.now }
         ensures { IfOk result (λ views. EachOf (λ s p. ShowsSection (read_off (line_of self.now) (state_of self.now)) s p) (length (line_of self.now).sections) views.items) }
     {
         let count = self.line.section_count();
         let mut views = Vec::with_capacity(alloc, count as usize)?;
         for s in 0..count {
-            views.push(self.section_view(s))?;
+            views.push(self.section_view(s, trains))?;
         }
         Ok(views)
     }
 
-    // A section, as its home has it, and the hand of its train wherever that is supervised.
-    fn section_view(&self, s: u16) -> SectionView
+    // A section, as its home has it, and the hand of its train wherever its mission is.
+    fn section_view(&self, s: u16, trains: &[TrainView]) -> SectionView
+        requires { AreTrainsSeen (line_of self.now) (state_of self.now) trains.now }
         ensures { ShowsSection (read_off (line_of self.now) (state_of self.now)) s result }
     {
         known_line(&self.line);
         match home_of(&self.line, s) {
-            Some(home) => self.seen_at(home, s),
+            Some(home) => self.seen_at(home, s, trains),
             None => SectionView {
                 mark: Mark::Shut,
                 is_wished: false,
@@ -124,26 +158,28 @@ impl World {
     }
 
     // A section of home c.
-    fn seen_at(&self, c: u8, s: u16) -> SectionView
-        ensures mark { mark_shown result.mark ≡ shown (((state_of self.now).at c).book s) (λ t. hand_has (mission_found (line_of self.now) (state_of self.now) t) s) }
+    fn seen_at(&self, c: u8, s: u16, trains: &[TrainView]) -> SectionView
+        requires { AreTrainsSeen (line_of self.now) (state_of self.now) trains.now }
+        ensures mark { mark_shown result.mark ≡ shown (((state_of self.now).at c).book s) (is_in_its_hand (line_of self.now) (state_of self.now) s) }
         ensures wish { result.is_wished ≡ ((state_of self.now).at c).wish s }
     {
         let page = self.page_at(c, s);
         SectionView {
-            mark: self.mark_at(s, page.entry),
+            mark: self.mark_at(s, page.entry, trains),
             is_wished: page.is_wished,
         }
     }
 
     // What a section is used for of which its home's book has this. In use, it is in its train's movement authority, or kept for it.
-    fn mark_at(&self, s: u16, entry: Entry) -> Mark
-        ensures { mark_shown result ≡ shown (entry_of entry) (λ t. hand_has (mission_found (line_of self.now) (state_of self.now) t) s) }
+    fn mark_at(&self, s: u16, entry: Entry, trains: &[TrainView]) -> Mark
+        requires { AreTrainsSeen (line_of self.now) (state_of self.now) trains.now }
+        ensures { mark_shown result ≡ shown (entry_of entry) (is_in_its_hand (line_of self.now) (state_of self.now) s) }
     {
         match entry {
             Entry::Shut => Mark::Shut,
             Entry::Open => Mark::Open,
             Entry::Taken { nid_engine } | Entry::Out { nid_engine, .. } => {
-                if self.is_given(s, nid_engine) {
+                if self.is_given(s, nid_engine, trains) {
                     Mark::Given { nid_engine }
                 } else {
                     Mark::Kept { nid_engine }
@@ -152,12 +188,14 @@ impl World {
         }
     }
 
-    // Whether a section is in the movement authority of the train, whichever centre supervises it.
-    fn is_given(&self, s: u16, nid_engine: u32) -> bool
-        ensures { result ≡ hand_has (mission_found (line_of self.now) (state_of self.now) nid_engine) s }
+    // Whether a section is in the movement authority of the train, wherever its mission is. A foreign engine has none.
+    fn is_given(&self, s: u16, nid_engine: u32, trains: &[TrainView]) -> bool
+        requires { AreTrainsSeen (line_of self.now) (state_of self.now) trains.now }
+        ensures { result ≡ is_in_its_hand (line_of self.now) (state_of self.now) s nid_engine }
     {
-        match self.mission_view(nid_engine) {
-            Some(mission) => mission.hand.contains(s),
+        known_line(&self.line);
+        match self.line.train_number(nid_engine) {
+            Some(i) => trains[i as usize].has(s),
             None => false,
         }
     }
@@ -175,7 +213,7 @@ impl World {
     }
 
     fn train_views(&self, alloc: Global) -> Result<Vec<TrainView>, AllocError>
-        ensures { IfOk result (λ views. EachOf (λ i p. ShowsTrain (line_of self.now) (read_off (line_of self.now) (state_of self.now)) i p) (length (line_of self.now).trains) views.items) }
+        ensures { IfOk result (λ views. AreTrainsSeen (line_of self.now) (state_of self.now) views.items) }
     {
         let count = self.line.train_count();
         let mut views = Vec::with_capacity(alloc, count as usize)?;
@@ -211,50 +249,6 @@ impl World {
             heard: state.heard,
             said: state.said,
             waiting: state.waiting,
-        }
-    }
-
-    // The mission of a train, as its supervisor has it.
-    fn mission_view(&self, nid_engine: u32) -> Option<MissionView>
-        ensures mission { option_map mission_shown result ≡ (read_off (line_of self.now) (state_of self.now)).mission nid_engine }
-        ensures found { option_map (λ m. run_of m.hand) result ≡ option_map (λ m. m.hand) (mission_found (line_of self.now) (state_of self.now) nid_engine) }
-        ensures hand { IfSome result (λ m. IsHand (read_off (line_of self.now) (state_of self.now)) nid_engine (run_of m.hand)) }
-    {
-        known_line(&self.line);
-        match self.supervisor(nid_engine) {
-            Some(c) => self.mission_at(c, nid_engine),
-            None => None,
-        }
-    }
-
-    // The centre that has a mission of the train: at most one has, since none is handed over yet.
-    fn supervisor(&self, nid_engine: u32) -> Option<u8>
-        ensures { result ≡ supervisor_of (line_of self.now) (state_of self.now) nid_engine }
-    {
-        for c in 0..self.line.centre_count() {
-            if self.mission_at(c, nid_engine).is_some() {
-                return Some(c);
-            }
-        }
-        None
-    }
-
-    // The mission that centre c has of a train.
-    fn mission_at(&self, c: u8, nid_engine: u32) -> Option<MissionView>
-        ensures mission { option_map mission_shown result ≡ option_map (seen c) (((state_of self.now).at c).mission nid_engine) }
-        ensures hand { option_map (λ m. run_of m.hand) result ≡ option_map (λ m. m.hand) (((state_of self.now).at c).mission nid_engine) }
-    {
-        if c as usize >= self.centres.len() {
-            return None;
-        }
-        let page = self.centres[c as usize].train(nid_engine);
-        match page.mission {
-            Some(facts) => Some(MissionView {
-                supervisor: c,
-                facts,
-                hand: page.hand,
-            }),
-            None => None,
         }
     }
 }

@@ -1,4 +1,4 @@
-use Rattle.std.proofs.Common.{◌≡◌, ◌∷◌, true, false, map, not, subst, rules}
+use Rattle.std.proofs.Common.{◌≡◌, ◌∷◌, true, map, not, subst, rules}
 use Rattle.rbc_log.proofs.Sides.{distinct_then, distinct_else}
 use Rattle.rbc_log.proofs.merging.+are_of_centres.Goals as goal
 

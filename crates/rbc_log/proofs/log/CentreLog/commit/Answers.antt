@@ -1,4 +1,4 @@
-use Rattle.std.proofs.Common.{◌≡◌, ◌∙◌, ◌++◌, ◌∷◌, ◌<◌, [], List, length, None, ap, map, subst, sym, arith}
+use Rattle.std.proofs.Common.{◌≡◌, ◌∙◌, ◌++◌, ◌∷◌, [], List, length, None, ap, map, subst, sym, arith}
 use Rattle.std.proofs.lemmas.Result.{err_from_is_err_and}
 use Rattle.rbc_spec.specs.Step.{refusal}
 use Rattle.rbc_centre.specs.Answer.{IsRefusalOf}
@@ -44,5 +44,11 @@ returns-in_err-may_step-clause-refused c =
 pub returns-in_err-reserve-clause-refused : goal.returns-in_err-reserve-clause-refused
 returns-in_err-reserve-clause-refused c =
     let p = err_from_is_err_and c.from_residual-in_err-reserve.result c.from_residual-in_err-reserve.ensures.1 in
+    rw (p.1, p.2) (no_memory c.args.self.now (event_of c.args.event) (let same : length c.self.inside.entries.items ≡ length c.args.self.now.entries = ap (λ (l : LogValue). length l.entries) c.self.view_is in omega (arith, same, c.if-len-ge-MOST_ENTRIES.false, c.len.ensures))
+    (subst (λ (l : LogValue). refusal (line_of l.core) (number_of l.core) (state_of l.core) (event_of c.args.event) ≡ None) c.self.view_is c.in_ok-may_step.ensures.ok))
+
+pub returns-in_err-reserve-2-clause-refused : goal.returns-in_err-reserve-2-clause-refused
+returns-in_err-reserve-2-clause-refused c =
+    let p = err_from_is_err_and c.from_residual-in_err-reserve-2.result c.from_residual-in_err-reserve-2.ensures.1 in
     rw (p.1, p.2) (no_memory c.args.self.now (event_of c.args.event) (let same : length c.self.inside.entries.items ≡ length c.args.self.now.entries = ap (λ (l : LogValue). length l.entries) c.self.view_is in omega (arith, same, c.if-len-ge-MOST_ENTRIES.false, c.len.ensures))
     (subst (λ (l : LogValue). refusal (line_of l.core) (number_of l.core) (state_of l.core) (event_of c.args.event) ≡ None) c.self.view_is c.in_ok-may_step.ensures.ok))

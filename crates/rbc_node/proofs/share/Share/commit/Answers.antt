@@ -31,6 +31,17 @@ returns-in_err-reserve-clause-refused c =
           (subst (λ (k : Centre). refusal (line_of k) (number_of k) (state_of k) (event_of c.args.event) ≡ None) c.core.ensures.value c.in_default.ensures.ok),
     ))
 
+pub returns-in_err-reserve-2-clause-refused : goal.returns-in_err-reserve-2-clause-refused
+returns-in_err-reserve-2-clause-refused c =
+    let p = err_from_is_err_and c.from_residual-in_err-reserve-2.result c.from_residual-in_err-reserve-2.ensures.1 in
+    let fits : Fits c.args.self.now c.args.log.now = search rules in
+    let same = ap (λ (entries : List Entry). length entries) c.entries-place.ensures.value in
+    rw (p.1, p.2) ((
+      fits,
+      no_memory c.args.log.now (event_of c.args.event) (omega (arith, same, c.if-place-ge-MOST_ENTRIES.false))
+          (subst (λ (k : Centre). refusal (line_of k) (number_of k) (state_of k) (event_of c.args.event) ≡ None) c.core.ensures.value c.in_default.ensures.ok),
+    ))
+
 pub returns-in_err-given-clause-refused : goal.returns-in_err-given-clause-refused
 returns-in_err-given-clause-refused c =
     let p = err_from_is_err_and c.from_residual-in_err-given.result c.from_residual-in_err-given.ensures.1 in

@@ -1,16 +1,24 @@
-use Rattle.std.proofs.Common.{◌∙◌, Some, None, sym, ap, option_map}
-use Rattle.rbc_seen.specs.Seen.{mission_found}
+use Rattle.std.proofs.Common.{◌≡◌, ◌∙◌, ◌<◌, refl, sym, ap, rules, length, slice_get, Some}
+use Rattle.std.proofs.lemmas.Option.{slice_get_read}
+use Rattle.rbc_spec.specs.Maps.{has}
+use Rattle.rbc_spec.specs.SectionRuns.{within}
+use Rattle.rbc_spec.specs.ReadOff.{Held, held}
 use Rattle.rbc_world.specs.World.{line_of, state_of}
-use Rattle.rbc_world.proofs.Shown.{hand_shown, in_hand_shown}
+use Rattle.rbc_world.proofs.Known.{world_missions}
+use Rattle.rbc_world.proofs.Shown.{engine_at, none_held}
 use Rattle.rbc_world.proofs.world.World.is_given.Goals as goal
 
 pub returns-in-Some : goal.returns-in-Some
 returns-in-Some c =
     let w = c.args.self.now in
-    c.contains.ensures
-    ∙ in_hand_shown (Some c.in-Some.mission) (mission_found (line_of w) (state_of w) c.args.nid_engine) c.args.s (sym (ap (option_map hand_shown) c.in-Some.is) ∙ c.mission_view.ensures.found)
+    let inside : c.in-Some.i < length c.args.trains.now = search rules in
+    let at : slice_get c.args.trains.now c.in-Some.i ≡ Some c.index-trains-i.result = slice_get_read _ _ _ _ refl inside c.index-trains-i.is in
+    let train = c.requires.each c.in-Some.i c.index-trains-i.result at in
+    let same = engine_at (line_of w) c.args.nid_engine c.in-Some.i c.index-trains-i.result.nid_engine (sym c.train_number.ensures.value ∙ c.in-Some.is) train.engine in
+    c.has.ensures ∙ ap (has (λ (h : Held). within h.hand c.args.s)) (train.mission ∙ ap (held (line_of w) (state_of w)) same)
 
 pub returns-in-None : goal.returns-in-None
 returns-in-None c =
     let w = c.args.self.now in
-    in_hand_shown None (mission_found (line_of w) (state_of w) c.args.nid_engine) c.args.s (sym (ap (option_map hand_shown) c.in-None.is) ∙ c.mission_view.ensures.found)
+    let missions = world_missions (line_of w) (state_of w) c.known_line.ensures w.reached in
+    ap (has (λ (h : Held). within h.hand c.args.s)) (sym (none_held (line_of w) (state_of w) c.args.nid_engine missions (sym c.train_number.ensures.value ∙ c.in-None.is)))

@@ -1,29 +1,23 @@
-use Rattle.std.proofs.Common.{◌∙◌, refl, sym}
+use Rattle.std.proofs.Common.{◌≡◌, ◌∙◌, ap, sym, Option, Some, None, option_map}
+use Rattle.std.specs.Option.{option_or}
+use Rattle.rbc_spec.specs.ReadOff.{Held}
+use Rattle.rbc_seen.specs.Seen.{yielded_on_way}
 use Rattle.rbc_world.specs.World.{line_of, state_of}
-use Rattle.rbc_world.proofs.Known.{world_missions}
-use Rattle.rbc_world.proofs.Shown.{mission_is, hand_found, hand_is, no_mission, no_hand}
+use Rattle.rbc_world.specs.View.{held_shown}
+use Rattle.rbc_world.specs.Missions.{held_by_a_centre}
+use Rattle.rbc_world.proofs.Shown.{held_is}
 use Rattle.rbc_world.proofs.world.World.mission_view.Goals as goal
 
-pub returns-in-Some-clause-mission : goal.returns-in-Some-clause-mission
-returns-in-Some-clause-mission c =
+pub returns-in-Some : goal.returns-in-Some
+returns-in-Some c =
     let w = c.args.self.now in
-    mission_is (line_of w) (state_of w) c.args.nid_engine c.in-Some.c (sym c.supervisor.ensures ∙ c.in-Some.is) (world_missions (line_of w) (state_of w) c.known_line.ensures w.reached)
-    c.mission_at.result c.mission_at.ensures.mission
+    let t = c.args.nid_engine in
+    let here : held_by_a_centre (line_of w) (state_of w) t ≡ Some (held_shown c.in-Some.mission) = sym c.mission_at_a_centre.ensures ∙ ap (option_map held_shown) c.in-Some.is in
+    sym (held_is (line_of w) (state_of w) t ∙ ap (λ (o : Option Held). option_or o (yielded_on_way (line_of w) (state_of w) t)) here)
 
-pub returns-in-Some-clause-found : goal.returns-in-Some-clause-found
-returns-in-Some-clause-found c =
+pub returns-in-None : goal.returns-in-None
+returns-in-None c =
     let w = c.args.self.now in
-    hand_found (line_of w) (state_of w) c.args.nid_engine c.in-Some.c (sym c.supervisor.ensures ∙ c.in-Some.is) c.mission_at.result c.mission_at.ensures.hand
-
-pub returns-in-Some-clause-hand : goal.returns-in-Some-clause-hand
-returns-in-Some-clause-hand c =
-    let w = c.args.self.now in
-    hand_is (line_of w) (state_of w) c.args.nid_engine c.in-Some.c (world_missions (line_of w) (state_of w) c.known_line.ensures w.reached) c.mission_at.result _ refl c.mission_at.ensures.hand
-
-pub returns-in-None-clause-mission : goal.returns-in-None-clause-mission
-returns-in-None-clause-mission c =
-    let w = c.args.self.now in
-    no_mission (line_of w) (state_of w) c.args.nid_engine (sym c.supervisor.ensures ∙ c.in-None.is) (world_missions (line_of w) (state_of w) c.known_line.ensures w.reached)
-
-pub returns-in-None-clause-found : goal.returns-in-None-clause-found
-returns-in-None-clause-found c = let w = c.args.self.now in no_hand (line_of w) (state_of w) c.args.nid_engine (sym c.supervisor.ensures ∙ c.in-None.is)
+    let t = c.args.nid_engine in
+    let none : held_by_a_centre (line_of w) (state_of w) t ≡ None = sym c.mission_at_a_centre.ensures ∙ ap (option_map held_shown) c.in-None.is in
+    c.mission_on_the_way.ensures ∙ sym (held_is (line_of w) (state_of w) t ∙ ap (λ (o : Option Held). option_or o (yielded_on_way (line_of w) (state_of w) t)) none)

@@ -1,7 +1,7 @@
 use Rattle.std.proofs.Common.{map}
 use Rattle.rbc_world.specs.World.{state_of}
 use Rattle.rbc_world.specs.Views.{event_of, answer_of}
-use Rattle.rbc_world.proofs.Loop.{names_trains, is_refused, is_line_run, is_sound, ends_read, is_one_centre_run, ends_forced, by_all_rules}
+use Rattle.rbc_world.proofs.Loop.{names_trains, is_refused, is_line_run, is_sound, ends_read, is_one_centre_run, ends_forced}
 use Rattle.rbc_world.proofs.world.World.run.Goals as goal
 
 pub returns-clause-run : goal.returns-clause-run
@@ -19,9 +19,6 @@ returns-clause-one_centre c d one =
 
 pub returns-clause-one_centre_last : goal.returns-clause-one_centre_last
 returns-clause-one_centre_last c d one = ends_forced c.args.line.now (map event_of c.args.events.now) (λ o. map answer_of o.answers.items) (λ o. state_of o.world) c.known_line.ensures d one c.outputs.result c.outputs.ensures
-
-pub returns-clause-one_centre_exact : goal.returns-clause-one_centre_exact
-returns-clause-one_centre_exact c d one = by_all_rules c.args.line.now (map event_of c.args.events.now) (λ o. map answer_of o.answers.items) (λ o. state_of o.world) c.known_line.ensures d one c.outputs.result c.outputs.ensures
 
 pub returns-clause-trains : goal.returns-clause-trains
 returns-clause-trains c = names_trains c.args.line.now (map event_of c.args.events.now) (λ o. map answer_of o.answers.items) (λ o. state_of o.world) c.outputs.result c.outputs.ensures

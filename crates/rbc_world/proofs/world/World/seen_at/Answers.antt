@@ -1,12 +1,11 @@
 use Rattle.std.proofs.Common.{◌∙◌, ap}
 use Rattle.rbc_spec.specs.Centre.{Entry}
-use Rattle.rbc_local.specs.Local.{hand_has}
 use Rattle.rbc_flow.specs.Shows.{shown}
-use Rattle.rbc_seen.specs.Seen.{mission_found}
+use Rattle.rbc_seen.specs.Seen.{is_in_its_hand}
 use Rattle.rbc_world.specs.World.{line_of, state_of}
 use Rattle.rbc_world.proofs.world.World.seen_at.Goals as goal
 
 pub returns-clause-mark : goal.returns-clause-mark
 returns-clause-mark c =
     let w = c.args.self.now in
-    c.mark_at.ensures ∙ ap (λ (e : Entry). shown e (λ t. hand_has (mission_found (line_of w) (state_of w) t) c.args.s)) c.page_at-page.ensures.entry
+    c.mark_at.ensures ∙ ap (λ (e : Entry). shown e (is_in_its_hand (line_of w) (state_of w) c.args.s)) c.page_at-page.ensures.entry

@@ -2,7 +2,7 @@ use Rattle.std.proofs.Common.{sym, subst}
 use Rattle.rbc_spec.specs.Line.{IsLine}
 use Rattle.rbc_world.specs.World.{state_of}
 use Rattle.rbc_world.proofs.Known.{world_stands, world_sound}
-use Rattle.rbc_world.proofs.Steps.{step_piece, step_promises, step_forced, step_by_all_rules}
+use Rattle.rbc_world.proofs.Steps.{step_piece, step_promises, step_forced}
 use Rattle.rbc_world.proofs.world.World.step.Goals as goal
 
 pub returns-clause-piece : goal.returns-clause-piece
@@ -25,8 +25,3 @@ pub returns-clause-one_centre : goal.returns-clause-one_centre
 returns-clause-one_centre c d one =
     let old = c.args.self.now in
     step_forced old.line c.known_line.ensures (state_of old) (state_of c.take.new.self) c.args.event.now old.reached d one c.take.result c.take.ensures.exact
-
-pub returns-clause-one_centre_exact : goal.returns-clause-one_centre_exact
-returns-clause-one_centre_exact c d one =
-    let old = c.args.self.now in
-    step_by_all_rules old.line c.known_line.ensures (state_of old) (state_of c.take.new.self) c.args.event.now old.reached d one c.take.result c.take.ensures.exact
