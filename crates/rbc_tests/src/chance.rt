@@ -1,4 +1,4 @@
-//! Bytes that look like chance.
+//! Numbers and bytes that look like chance.
 
 ghost use Rattle.std.specs.Prelude.{◌≡◌, length, IfOk};
 
@@ -22,4 +22,23 @@ pub fn bytes_by_chance(alloc: Global, seed: u32, count: usize) -> Result<Vec<u8>
         bytes.push(chance.to_be_bytes()[0] & ones)?;
     }
     Ok(bytes)
+}
+
+/// A row of numbers that look like chance.
+#[derive(Clone, Copy, Debug)]
+pub struct Chance {
+    pub seed: u32,
+}
+
+impl Chance {
+    /// The next number below this one, or 0 where this is 0.
+    pub fn below(&mut self, count: u16) -> u16 {
+        self.seed = next_of(self.seed);
+        ((self.seed >> 16) % u32::from(count.max(1))) as u16
+    }
+
+    /// Comes true once in so many turns.
+    pub fn once_in(&mut self, turns: u16) -> bool {
+        self.below(turns) == 0
+    }
 }
