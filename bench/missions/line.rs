@@ -81,6 +81,8 @@ pub struct Line {
     /// The section of each balise, by its number in the country.
     balises: Vec<u16>,
     engines: HashMap<u32, u8, BuildHasherDefault<Multiply>>,
+    /// By track and centre: the home of the first section behind those of the centre.
+    next: Vec<[Option<u8>; 8]>,
 }
 
 const NO_SECTION: u16 = u16::MAX;
@@ -99,7 +101,26 @@ impl Line {
             balises[section.balise as usize] = s as u16;
         }
         let engines = trains.iter().enumerate().map(|(i, train)| (train.engine, i as u8)).collect();
-        Line { nid_c, centres, sections, trains, tracks, balises, engines }
+        let mut next = vec![[None; 8]; tracks.len()];
+        for pair in sections.windows(2).filter(|pair| pair[0].track == pair[1].track && pair[0].home != pair[1].home) {
+            next[pair[0].track as usize][pair[0].home as usize] = Some(pair[1].home);
+        }
+        Line { nid_c, centres, sections, trains, tracks, balises, engines, next }
+    }
+
+    /// The centre behind this one on the track.
+    #[allow(dead_code)] // where there is one centre
+    pub fn next_centre(&self, centre: u8, track: u8) -> Option<u8> {
+        self.next[track as usize][centre as usize]
+    }
+
+    /// The section that has the front in it, or at its end.
+    #[allow(dead_code)] // where there is one centre
+    pub fn front_section(&self, place: &Place) -> Option<u16> {
+        let on_track = self.tracks[place.track as usize];
+        let sections = &self.sections[on_track.first as usize..on_track.behind() as usize];
+        let passed = sections.partition_point(|section| 10 * section.end < place.front);
+        (place.front > 0 && passed < sections.len()).then_some(on_track.first + passed as u16)
     }
 
     pub fn train_number(&self, engine: u32) -> Option<usize> {

@@ -179,6 +179,10 @@ pub enum Reply {
     TerminationAcknowledged,
     Rejected,
     Accepted,
+    #[allow(dead_code)] // where there is one centre
+    Transition { distance: u32, nid_c: u32, nid_rbc: u32 },
+    #[allow(dead_code)] // where there is one centre
+    EndSession { nid_c: u32, nid_rbc: u32 },
 }
 
 pub const NO_GROUP: u32 = 0xFF_FFFF;
@@ -193,6 +197,7 @@ pub fn encode(reply: Reply, count: u32, group: u32) -> Vec<u8> {
         Reply::TerminationAcknowledged => 39,
         Reply::Rejected => 40,
         Reply::Accepted => 41,
+        Reply::Transition { .. } | Reply::EndSession { .. } => 24,
     };
     let mut w = Writer::new();
     w.put_all(&[(number, 8), (0, 10), (count, 32), (0, 1), (group, 24)]);
@@ -202,7 +207,20 @@ pub fn encode(reply: Reply, count: u32, group: u32) -> Vec<u8> {
         }
         Reply::DataAcknowledged(time) => w.put(time, 32),
         Reply::SystemVersion => w.put(32, 7),
+        Reply::Transition { distance, nid_c, nid_rbc } => {
+            w.put_all(&[(131, 8), (1, 2), (129, 13), (1, 2), (distance, 15)]);
+            put_centre(&mut w, nid_c, nid_rbc);
+        }
+        Reply::EndSession { nid_c, nid_rbc } => {
+            w.put_all(&[(42, 8), (1, 2), (113, 13), (0, 1)]);
+            put_centre(&mut w, nid_c, nid_rbc);
+        }
         Reply::TerminationAcknowledged | Reply::Rejected | Reply::Accepted => {}
     }
     w.message()
+}
+
+/// A centre, with no telephone number, for a train that does not sleep.
+fn put_centre(w: &mut Writer, nid_c: u32, nid_rbc: u32) {
+    w.put_all(&[(nid_c, 10), (nid_rbc, 14), (u32::MAX, 32), (u32::MAX, 32), (0, 1)]);
 }
