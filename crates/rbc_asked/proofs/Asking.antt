@@ -1,5 +1,5 @@
 -- Acts that keep what is asked for, one after another, and the smallest of them.
-use Rattle.std.proofs.Common.{◌≡◌, ◌≢◌, ℕ, ◌+◌, ◌<◌, ◌≤◌, ◌==◌, ◌&&◌, ◌||◌, Bool, true, false, if◌then◌else◌, List, [], ◌∷◌, ◌++◌, Option, Some, None, refl, sym, ap, ◌∙◌, subst, arith, ⊎_elim, All}
+use Rattle.std.proofs.Common.{◌≡◌, ◌≢◌, ℕ, ◌+◌, ◌<◌, ◌≤◌, ◌==◌, ◌&&◌, ◌||◌, Bool, true, false, if◌then◌else◌, List, [], ◌∷◌, Option, Some, None, refl, sym, ap, ◌∙◌, subst, arith, ⊎_elim, All}
 use Rattle.std.specs.Option.{option_map_or}
 use Rattle.std.proofs.lemmas.Bool.{cases_lt, cases_eq, and_parts}
 use Rattle.std.proofs.lemmas.List.Elements.{All-nil, All-cons, All-append, All-weaker, All-head, All-tail}
@@ -9,31 +9,18 @@ use Rattle.rbc_ledger.specs.Resource.{Resource, carried, sent_by, IsFair}
 use Rattle.rbc_ledger.proofs.Sums.{sum_zero, sum_same}
 use Rattle.rbc_ledger.proofs.Network.{to_one_other}
 use Rattle.rbc_ledger.proofs.Resource.{carried_none, carried_more, sent_single, fair_seq, fair_more}
-use Rattle.rbc_spec.specs.Reach.{Reach}
 use Rattle.rbc_spec.specs.SectionRuns.{SectionRun, within, is_empty, shared, all_of}
 use Rattle.rbc_spec.specs.Line.{Line, IsLine, is_home}
 use Rattle.rbc_spec.specs.Sections.{home_run, is_on}
 use Rattle.rbc_spec.specs.Message.{TrackBody}
 use Rattle.rbc_spec.specs.Frame.{Body, RouteReturn}
-use Rattle.rbc_spec.specs.Centre.{Centre, Entry, Shut, Open, Taken, Mission, is_out_for}
+use Rattle.rbc_spec.specs.Centre.{Centre, Entry, Taken, Mission}
 use Rattle.rbc_spec.specs.Acts.{Act, Reply, rest, ◌>>◌, send, say, booked, freed, returned, set_mission, change_mission}
 use Rattle.rbc_spec.specs.Links.{is_train}
 use Rattle.rbc_spec.proofs.Places.{homes_run}
 use Rattle.rbc_lemmas.proofs.Runs.{within_shared, all_within}
 use Rattle.rbc_flow.specs.Flow.{centre_count}
-use Rattle.rbc_pairs.specs.Orderly.{IsHandedWithin}
-use Rattle.rbc_asked.specs.Asked.{Question, OfRight, OfRoute, asks, answers, stands, questions, IsBodyAsked, LendsWithin}
-
--- ## Lists
-
-module _ {X : Type 0} (P : X → Type 0) where
-  pub all_first : (xs ys : List X) → All P (xs ++ ys) → All P xs
-  all_first [] ys all = All-nil P
-  all_first (x ∷ xs) ys all = All-cons P x xs (All-head P x (xs ++ ys) all) (all_first xs ys (All-tail P x (xs ++ ys) all))
-
-  pub all_last : (xs ys : List X) → All P (xs ++ ys) → All P ys
-  all_last [] ys all = all
-  all_last (x ∷ xs) ys all = all_last xs ys (All-tail P x (xs ++ ys) all)
+use Rattle.rbc_asked.specs.Asked.{Question, OfRight, OfRoute, asks, answers, stands, questions, IsBodyAsked}
 
 -- ## What frames have inside
 
@@ -76,16 +63,11 @@ comes_with a c f x d = (questions x d).inside a c f
 abbrev pub none_comes : Question → ℕ → ℕ
 none_comes x d = 0
 
--- a change of the book by which no section goes out
-abbrev pub LendsNoMore : Centre → Centre → Type 0
-LendsNoMore k y = (s t d : ℕ) → is_out_for t d (y.book s) ≡ true → is_out_for t d (k.book s) ≡ true
-
-module _ (reach : Reach) (line : Line) (c : ℕ) where
+module _ (line : Line) (c : ℕ) where
   -- an act of centre c, which was k, leaves it as y and sends these frames: no more questions and answers are sent than then stand anew, or came
   pub record IsAsking (came : Question → ℕ → ℕ) (k y : Centre) (frames : ℕ → List Body) : Type 0 where
     pub fair : (x : Question) (d : ℕ) → IsFair (questions x d) (centre_count line) c k (came x d) y frames
-    pub bodies : (d : ℕ) → All (IsBodyAsked reach line c d) (frames d)
-    pub lends : ((d : ℕ) → All (IsHandedWithin reach) (frames d)) → LendsWithin reach k → LendsWithin reach y
+    pub bodies : (d : ℕ) → All (IsBodyAsked line c d) (frames d)
 
   abbrev pub Comes : (Question → ℕ → ℕ) → Centre → Reply → Type 0
   Comes came k q = IsAsking came k q.state q.frames
@@ -99,7 +81,7 @@ module _ (reach : Reach) (line : Line) (c : ℕ) where
   pub record IsAside (d : ℕ) (f : Body) : Type 0 where
     pub asks : (x : Question) → asks x f ≡ false
     pub answers : (x : Question) → answers x f ≡ false
-    pub body : IsBodyAsked reach line c d f
+    pub body : IsBodyAsked line c d f
 
   no_inside : (x : Question) (e d : ℕ) (f : Body) → IsAside d f → (questions x e).inside c d f ≡ 0
   no_inside x e d f none = omega (arith, ap (λ b. one_if (b && (c == e))) (none.asks x), ap (λ b. one_if (b && (d == e))) (none.answers x))
@@ -109,8 +91,8 @@ module _ (reach : Reach) (line : Line) (c : ℕ) where
   same_stands k y rights routes (OfRoute t first) = ap (λ (f : ℕ → Option ℕ). option_map_or (λ n. n == first) (f t) false) routes
 
   pub aside : (k y : Centre) (frames : ℕ → List Body) → y.has_asked ≡ k.has_asked → y.route_ask ≡ k.route_ask
-      → (((d : ℕ) → All (IsHandedWithin reach) (frames d)) → LendsWithin reach k → LendsWithin reach y) → ((d : ℕ) → All (IsAside d) (frames d)) → IsAsking none_comes k y frames
-  aside k y frames rights routes lends sends = record {
+      → ((d : ℕ) → All (IsAside d) (frames d)) → IsAsking none_comes k y frames
+  aside k y frames rights routes sends = record {
     fair = λ x d. record {
       law = omega (
         arith,
@@ -118,46 +100,33 @@ module _ (reach : Reach) (line : Line) (c : ℕ) where
         ap (λ b. one_if ((c == d) && b)) (same_stands k y rights routes x),
       );
     };
-    bodies = λ d. All-weaker (IsAside d) (IsBodyAsked reach line c d) (λ f none. none.body) (frames d) (sends d);
-    lends = lends;
+    bodies = λ d. All-weaker (IsAside d) (IsBodyAsked line c d) (λ f none. none.body) (frames d) (sends d);
   }
 
-  no_more : (k y : Centre) → LendsNoMore k y → LendsWithin reach k → LendsWithin reach y
-  no_more k y less old s t d u r out = old s t d u r (less s t d out)
-
-  -- what was asked for stays, no section goes out, and nothing is sent
-  pub still : (k y : Centre) → y.has_asked ≡ k.has_asked → y.route_ask ≡ k.route_ask → LendsNoMore k y → Goes k (record { state = y; frames = λ d. []; sayings = []; words = [] })
-  still k y rights routes less = aside k y (λ d. []) rights routes (λ handed. no_more k y less) (λ d. All-nil (IsAside d))
+  -- what was asked for stays, and nothing is sent
+  pub still : (k y : Centre) → y.has_asked ≡ k.has_asked → y.route_ask ≡ k.route_ask → Goes k (record { state = y; frames = λ d. []; sayings = []; words = [] })
+  still k y rights routes = aside k y (λ d. []) rights routes (λ d. All-nil (IsAside d))
 
   pub goes_rest : (k : Centre) → Goes k (rest k)
-  goes_rest k = still k k refl refl (λ s t d out. out)
+  goes_rest k = still k k refl refl
 
   pub goes_say : (t group : ℕ) (body : TrackBody) (k : Centre) → Goes k (say t group body k)
-  goes_say t group body k = still k (say t group body k).state refl refl (λ s u d out. out)
+  goes_say t group body k = still k (say t group body k).state refl refl
 
   pub goes_set : (t : ℕ) (o : Option Mission) (k : Centre) → Goes k (set_mission t o k)
-  goes_set t o k = still k (set_mission t o k).state refl refl (λ s u d out. out)
+  goes_set t o k = still k (set_mission t o k).state refl refl
 
   pub goes_change : (t : ℕ) (f : Mission → Mission) (k : Centre) → Goes k (change_mission t f k)
-  goes_change t f k = still k (change_mission t f k).state refl refl (λ s u d out. out)
-
-  -- an entry that may become another, which is not out
-  pub stays_in : (b : Bool) (g e : Entry) (t d : ℕ) → is_out_for t d g ≡ false → is_out_for t d (if b then g else e) ≡ true → is_out_for t d e ≡ true
-  stays_in true g e t d none out = absurd (let wrong : false ≡ true = sym none ∙ out in cc)
-  stays_in false g e t d none out = out
+  goes_change t f k = still k (change_mission t f k).state refl refl
 
   pub goes_taken : (test : Entry → Bool) (t : ℕ) (r : SectionRun) (k : Centre) → Goes k (booked test (Taken t) r k)
-  goes_taken test t r k = still k (booked test (Taken t) r k).state refl refl (λ s u d out. stays_in _ (Taken t) (k.book s) u d refl out)
+  goes_taken test t r k = still k (booked test (Taken t) r k).state refl refl
 
   pub goes_freed : (test : Entry → Bool) (r : SectionRun) (k : Centre) → Goes k (record (freed line c test r k) { words = [] })
-  goes_freed test r k = still k (freed line c test r k).state refl refl (λ s u d out. stays_in _ (if k.wish s then Shut else Open) (k.book s) u d (by_wish (k.wish s) u d) out)
-    where
-      by_wish : (b : Bool) (u d : ℕ) → is_out_for u d (if b then Shut else Open) ≡ false
-      by_wish true u d = refl
-      by_wish false u d = refl
+  goes_freed test r k = still k (freed line c test r k).state refl refl
 
   pub goes_send : (d : ℕ) (body : Body) (k : Centre) → IsAside d body → Goes k (send d body k)
-  goes_send d body k none = aside k k (send d body k).frames refl refl (λ handed old. old) (λ e. by_one e)
+  goes_send d body k none = aside k k (send d body k).frames refl refl (λ e. by_one e)
     where
       by_one : (e : ℕ) → All (IsAside e) (if e == d then body ∷ [] else [])
       by_one e = ⊎_elim
@@ -200,7 +169,7 @@ module _ (reach : Reach) (line : Line) (c : ℕ) where
       by_part false false is = All-cons (IsAside d) (RouteReturn t part) [] (return_aside d t part known is homes) (All-nil (IsAside d))
 
   pub goes_returned : IsLine line → (t track : ℕ) (r : SectionRun) (k : Centre) → is_train line t ≡ true → Goes k (returned line c t track r k)
-  goes_returned ok t track r k known = aside k k (returned line c t track r k).frames refl refl (λ handed old. old) (returned_aside ok t track r k known)
+  goes_returned ok t track r k known = aside k k (returned line c t track r k).frames refl refl (returned_aside ok t track r k known)
 
   -- ## One after another
 
@@ -208,9 +177,7 @@ module _ (reach : Reach) (line : Line) (c : ℕ) where
   unfolding ◌>>◌
   comes_then came a b k one two = record {
     fair = λ x d. fair_seq (questions x d) (centre_count line) c k (a k).state (b (a k).state).state (came x d) (a k).frames (b (a k).state).frames (one.fair x d) (two.fair x d);
-    bodies = λ d. All-append (IsBodyAsked reach line c d) ((a k).frames d) ((b (a k).state).frames d) (one.bodies d) (two.bodies d);
-    lends = λ handed old. two.lends (λ d. all_last (IsHandedWithin reach) ((a k).frames d) ((b (a k).state).frames d) (handed d))
-        (one.lends (λ d. all_first (IsHandedWithin reach) ((a k).frames d) ((b (a k).state).frames d) (handed d)) old);
+    bodies = λ d. All-append (IsBodyAsked line c d) ((a k).frames d) ((b (a k).state).frames d) (one.bodies d) (two.bodies d);
   }
 
   pub goes_then : (a b : Act) (k : Centre) → Goes k (a k) → Goes (a k).state (b (a k).state) → Goes k ((a >> b) k)
@@ -221,7 +188,6 @@ module _ (reach : Reach) (line : Line) (c : ℕ) where
   comes_too came k q goes = record {
     fair = λ x d. fair_more (questions x d) (centre_count line) c k q.state 0 (came x d) q.frames (omega arith) (goes.fair x d);
     bodies = goes.bodies;
-    lends = goes.lends;
   }
 
   pub goes_if : {came : Question → ℕ → ℕ} (b : Bool) (k : Centre) (p q : Reply) → (b ≡ true → Comes came k p) → (b ≡ false → Comes came k q) → Comes came k (if b then p else q)
@@ -247,28 +213,25 @@ module _ (reach : Reach) (line : Line) (c : ℕ) where
   -- one body is sent, which asks or answers
   pub sends_one : (came : Question → ℕ → ℕ) (e : ℕ) (body : Body) (k y : Centre) (frames : ℕ → List Body) → ((d : ℕ) → frames d ≡ to_one e (body ∷ []) d)
       → ((x : Question) (d : ℕ) → (questions x d).inside c e body + (questions x d).cap c k ≤ came x d + (questions x d).cap c y)
-      → IsBodyAsked reach line c e body → (LendsWithin reach k → LendsWithin reach y) → IsAsking came k y frames
-  sends_one came e body k y frames same counts is lends = record {
+      → IsBodyAsked line c e body → IsAsking came k y frames
+  sends_one came e body k y frames same counts is = record {
     fair = λ x d. record { law = omega (arith, counts x d, one_sent (questions x d) (centre_count line) c e body frames same) };
-    bodies = λ d. subst (All (IsBodyAsked reach line c d)) (sym (same d)) (by_one d);
-    lends = λ handed. lends;
+    bodies = λ d. subst (All (IsBodyAsked line c d)) (sym (same d)) (by_one d);
   }
     where
-      by_one : (d : ℕ) → All (IsBodyAsked reach line c d) (to_one e (body ∷ []) d)
+      by_one : (d : ℕ) → All (IsBodyAsked line c d) (to_one e (body ∷ []) d)
       by_one d = ⊎_elim
-          (λ (here : d ≡ e). subst (λ x. All (IsBodyAsked reach line c x) (to_one e (body ∷ []) x)) (sym here) (at_e (e == e)))
-          (λ (other : d ≢ e). subst (All (IsBodyAsked reach line c d)) (sym (to_one_other e (body ∷ []) d other)) (All-nil (IsBodyAsked reach line c d)))
+          (λ (here : d ≡ e). subst (λ x. All (IsBodyAsked line c x) (to_one e (body ∷ []) x)) (sym here) (at_e (e == e)))
+          (λ (other : d ≢ e). subst (All (IsBodyAsked line c d)) (sym (to_one_other e (body ∷ []) d other)) (All-nil (IsBodyAsked line c d)))
           (cases_eq d e)
         where
-          at_e : (b : Bool) → All (IsBodyAsked reach line c e) (if b then body ∷ [] else [])
-          at_e true = All-cons (IsBodyAsked reach line c e) body [] is (All-nil (IsBodyAsked reach line c e))
-          at_e false = All-nil (IsBodyAsked reach line c e)
+          at_e : (b : Bool) → All (IsBodyAsked line c e) (if b then body ∷ [] else [])
+          at_e true = All-cons (IsBodyAsked line c e) body [] is (All-nil (IsBodyAsked line c e))
+          at_e false = All-nil (IsBodyAsked line c e)
 
   -- nothing is sent, and what comes answers what stands no more
-  pub ends_one : (came : Question → ℕ → ℕ) (k y : Centre) → ((x : Question) (d : ℕ) → (questions x d).cap c k ≤ came x d + (questions x d).cap c y) → LendsNoMore k y
-      → IsAsking came k y (λ d. [])
-  ends_one came k y counts less = record {
+  pub ends_one : (came : Question → ℕ → ℕ) (k y : Centre) → ((x : Question) (d : ℕ) → (questions x d).cap c k ≤ came x d + (questions x d).cap c y) → IsAsking came k y (λ d. [])
+  ends_one came k y counts = record {
     fair = λ x d. record { law = omega (arith, counts x d, nothing_sent (questions x d) (centre_count line) c (λ e. []) (λ e. All-nil (λ f. (questions x d).inside c e f ≡ 0))) };
-    bodies = λ d. All-nil (IsBodyAsked reach line c d);
-    lends = λ handed. no_more k y less;
+    bodies = λ d. All-nil (IsBodyAsked line c d);
   }

@@ -5,7 +5,6 @@ use Rattle.std.proofs.lemmas.Bool.{eqb-true}
 use Rattle.rbc_ledger.specs.Sums.{one_if}
 use Rattle.rbc_ledger.proofs.Sums.{put_same, put_other}
 use Rattle.rbc_spec.specs.Maps.{put}
-use Rattle.rbc_spec.specs.Reach.{Reach, asks_rights}
 use Rattle.rbc_spec.specs.SectionRuns.{within, all_of}
 use Rattle.rbc_spec.specs.Line.{Line, IsLine, start, registrar}
 use Rattle.rbc_spec.specs.Place.{Place, Position, covered, group_start, fit_place}
@@ -25,53 +24,53 @@ more_stands true false o n new same = omega arith
 more_stands false true o n new same = omega (arith, ap one_if (same refl))
 more_stands false false o n new same = omega arith
 
-module _ (reach : Reach) (line : Line) (ok : IsLine line) (c : ℕ) where
+module _ (line : Line) (ok : IsLine line) (c : ℕ) where
   -- ## Proposals
 
-  pub goes_propose_if : (t s : ℕ) (k : Centre) → Goes reach line c k (propose_if_so line t s k)
-  goes_propose_if t s k = goes_or reach line c (k.mission t) _ k (rest k)
-      (λ m at. goes_if reach line c (may_propose line t s m k) k (propose line t s m k) (rest k) (λ may. proposes m) (λ not_so. goes_rest reach line c k)) (λ none. goes_rest reach line c k)
+  pub goes_propose_if : (t s : ℕ) (k : Centre) → Goes line c k (propose_if_so line t s k)
+  goes_propose_if t s k = goes_or line c (k.mission t) _ k (rest k)
+      (λ m at. goes_if line c (may_propose line t s m k) k (propose line t s m k) (rest k) (λ may. proposes m) (λ not_so. goes_rest line c k)) (λ none. goes_rest line c k)
     where
-      proposes : (m : Mission) → Goes reach line c k (propose line t s m k)
-      proposes m = goes_then reach line c (say t m.place.group (ShorteningRequest (start line s - group_start line m.place)))
+      proposes : (m : Mission) → Goes line c k (propose line t s m k)
+      proposes m = goes_then line c (say t m.place.group (ShorteningRequest (start line s - group_start line m.place)))
           (change_mission t (λ n. record n { proposal = Some (record { stamp = k.said t + 1; last_kept = s - 1 }) })) k
-          (goes_say reach line c t m.place.group (ShorteningRequest (start line s - group_start line m.place)) k)
-          (goes_change reach line c t (λ n. record n { proposal = Some (record { stamp = k.said t + 1; last_kept = s - 1 }) }) _)
+          (goes_say line c t m.place.group (ShorteningRequest (start line s - group_start line m.place)) k)
+          (goes_change line c t (λ n. record n { proposal = Some (record { stamp = k.said t + 1; last_kept = s - 1 }) }) _)
 
   -- ## Starts
 
-  pub goes_drop_wait : (t : ℕ) (k : Centre) → Goes reach line c k (drop_wait line c t k)
-  goes_drop_wait t k = goes_or reach line c (k.wait t) _ k (rest k)
-      (λ place at. goes_then reach line c (freed line c (is_taken_for t) (covered line place)) (become (λ j. record j { wait = put j.wait t None })) k
-      (goes_freed reach line c (is_taken_for t) (covered line place) k) (still reach line c _ _ refl refl (λ s u d out. out)))
-      (λ none. goes_rest reach line c k)
+  pub goes_drop_wait : (t : ℕ) (k : Centre) → Goes line c k (drop_wait line c t k)
+  goes_drop_wait t k = goes_or line c (k.wait t) _ k (rest k)
+      (λ place at. goes_then line c (freed line c (is_taken_for t) (covered line place)) (become (λ j. record j { wait = put j.wait t None })) k
+      (goes_freed line c (is_taken_for t) (covered line place) k) (still line c _ _ refl refl))
+      (λ none. goes_rest line c k)
 
-  pub goes_close_session : (t : ℕ) (k : Centre) → Goes reach line c k (close_session line c t k)
-  goes_close_session t k = goes_then reach line c (set_phase t Closed >> change_mission t (λ m. record m { proposal = None })) (drop_wait line c t) k
-      (goes_then reach line c (set_phase t Closed) (change_mission t (λ m. record m { proposal = None })) k (still reach line c k _ refl refl (λ s u d out. out))
-      (goes_change reach line c t (λ m. record m { proposal = None }) _))
+  pub goes_close_session : (t : ℕ) (k : Centre) → Goes line c k (close_session line c t k)
+  goes_close_session t k = goes_then line c (set_phase t Closed >> change_mission t (λ m. record m { proposal = None })) (drop_wait line c t) k
+      (goes_then line c (set_phase t Closed) (change_mission t (λ m. record m { proposal = None })) k (still line c k _ refl refl)
+      (goes_change line c t (λ m. record m { proposal = None }) _))
       (goes_drop_wait t _)
 
-  pub goes_begin : (t : ℕ) (place : Place) (k : Centre) → Goes reach line c k (begin line t place k)
-  goes_begin t place k = goes_then reach line c (set_mission t (Some (begun line place))) (accept t) k (goes_set reach line c t (Some (begun line place)) k)
-      (goes_say reach line c t unknown_group TrainAccepted _)
+  pub goes_begin : (t : ℕ) (place : Place) (k : Centre) → Goes line c k (begin line t place k)
+  goes_begin t place k = goes_then line c (set_mission t (Some (begun line place))) (accept t) k (goes_set line c t (Some (begun line place)) k)
+      (goes_say line c t unknown_group TrainAccepted _)
 
-  pub goes_reject : (t : ℕ) (k : Centre) → Goes reach line c k (reject t k)
-  goes_reject t k = goes_say reach line c t unknown_group TrainRejected k
+  pub goes_reject : (t : ℕ) (k : Centre) → Goes line c k (reject t k)
+  goes_reject t k = goes_say line c t unknown_group TrainRejected k
 
-  goes_start_here : (t : ℕ) (place : Place) (k : Centre) → Goes reach line c k (start_here line t place k)
-  goes_start_here t place k = goes_if reach line c (k.has_right t) k (((booked is_open (Taken t) (covered line place) >> become
+  goes_start_here : (t : ℕ) (place : Place) (k : Centre) → Goes line c k (start_here line t place k)
+  goes_start_here t place k = goes_if line c (k.has_right t) k (((booked is_open (Taken t) (covered line place) >> become
       (λ j. record j { has_right = put j.has_right t false })) >> begin line t place) k) (reject t k)
-      (λ has. goes_then reach line c (booked is_open (Taken t) (covered line place) >> become (λ j. record j { has_right = put j.has_right t false })) (begin line t place) k
-      (goes_then reach line c (booked is_open (Taken t) (covered line place)) (become (λ j. record j { has_right = put j.has_right t false })) k
-      (goes_taken reach line c is_open t (covered line place) k)
-      (still reach line c _ _ refl refl (λ s u d out. out)))
+      (λ has. goes_then line c (booked is_open (Taken t) (covered line place) >> become (λ j. record j { has_right = put j.has_right t false })) (begin line t place) k
+      (goes_then line c (booked is_open (Taken t) (covered line place)) (become (λ j. record j { has_right = put j.has_right t false })) k
+      (goes_taken line c is_open t (covered line place) k)
+      (still line c _ _ refl refl))
       (goes_begin t place _))
       (λ has_not. goes_reject t k)
 
   -- a right that was not asked for is asked for, of the registrar
   goes_ask_right : (t : ℕ) (j : Centre) → j.has_asked t ≡ false
-      → Goes reach line c j ((option_map_or (λ r. send r (AskRight t)) (registrar line t) rest >> become (λ i. record i { has_asked = put i.has_asked t true })) j)
+      → Goes line c j ((option_map_or (λ r. send r (AskRight t)) (registrar line t) rest >> become (λ i. record i { has_asked = put i.has_asked t true })) j)
   unfolding ◌>>◌
   goes_ask_right t j none = by_registrar (registrar line t)
     where
@@ -91,17 +90,17 @@ module _ (reach : Reach) (line : Line) (ok : IsLine line) (c : ℕ) where
       more r d true = refl
       more r d false = refl
 
-      by_registrar : (o : Option ℕ) → Goes reach line c j ((option_map_or (λ r. send r (AskRight t)) o rest >> become (λ i. record i { has_asked = put i.has_asked t true })) j)
-      by_registrar None = ends_one reach line c none_comes j y now (λ s u d out. out)
-      by_registrar (Some r) = sends_one reach line c none_comes r (AskRight t) j y _ (λ d. more r d (d == r)) (counts r) (record {}) (λ old. old)
+      by_registrar : (o : Option ℕ) → Goes line c j ((option_map_or (λ r. send r (AskRight t)) o rest >> become (λ i. record i { has_asked = put i.has_asked t true })) j)
+      by_registrar None = ends_one line c none_comes j y now
+      by_registrar (Some r) = sends_one line c none_comes r (AskRight t) j y _ (λ d. more r d (d == r)) (counts r) (record {})
 
-  goes_start_waiting : (t : ℕ) (place : Place) (k : Centre) → Goes reach line c k (start_waiting line t place k)
-  goes_start_waiting t place k = goes_then reach line c waits (where_so (λ j. not (j.has_asked t)) asks_it) k
-      (goes_then reach line c (booked is_open (Taken t) (covered line place)) (become (λ j. record j { wait = put j.wait t (Some place) })) k
-      (goes_taken reach line c is_open t (covered line place) k)
-      (still reach line c _ _ refl refl (λ s u d out. out)))
-      (goes_if reach line c (not ((waits k).state.has_asked t)) (waits k).state (asks_it (waits k).state) (rest (waits k).state)
-      (λ so. goes_ask_right t (waits k).state (not_so ((waits k).state.has_asked t) so)) (λ so. goes_rest reach line c (waits k).state))
+  goes_start_waiting : (t : ℕ) (place : Place) (k : Centre) → Goes line c k (start_waiting line t place k)
+  goes_start_waiting t place k = goes_then line c waits (where_so (λ j. not (j.has_asked t)) asks_it) k
+      (goes_then line c (booked is_open (Taken t) (covered line place)) (become (λ j. record j { wait = put j.wait t (Some place) })) k
+      (goes_taken line c is_open t (covered line place) k)
+      (still line c _ _ refl refl))
+      (goes_if line c (not ((waits k).state.has_asked t)) (waits k).state (asks_it (waits k).state) (rest (waits k).state)
+      (λ so. goes_ask_right t (waits k).state (not_so ((waits k).state.has_asked t) so)) (λ so. goes_rest line c (waits k).state))
     where
       waits : Act
       waits = booked is_open (Taken t) (covered line place) >> become (λ j. record j { wait = put j.wait t (Some place) })
@@ -113,20 +112,20 @@ module _ (reach : Reach) (line : Line) (ok : IsLine line) (c : ℕ) where
       not_so true is = cc
       not_so false is = refl
 
-  goes_start_new : (t : ℕ) (place : Place) (k : Centre) → Goes reach line c k (start_new reach line c t place k)
-  goes_start_new t place k = goes_if reach line c (all_of (is_free line c k) (covered line place)) k _ (reject t k)
-      (λ free. goes_if_act reach line c (is_registrar_of line c t) (start_here line t place) (if asks_rights reach then start_waiting line t place else reject t) k (λ here. goes_start_here t place k)
-      (λ away. goes_if_act reach line c (asks_rights reach) (start_waiting line t place) (reject t) k (λ so. goes_start_waiting t place k) (λ so. goes_reject t k)))
+  goes_start_new : (t : ℕ) (place : Place) (k : Centre) → Goes line c k (start_new line c t place k)
+  goes_start_new t place k = goes_if line c (all_of (is_free line c k) (covered line place)) k _ (reject t k)
+      (λ free. goes_if_act line c (is_registrar_of line c t) (start_here line t place) (start_waiting line t place) k (λ here. goes_start_here t place k)
+      (λ away. goes_start_waiting t place k))
       (λ used. goes_reject t k)
 
-  goes_restart : (t : ℕ) (place : Place) (m : Mission) (k : Centre) → Goes reach line c k (restart line t place m k)
-  goes_restart t place m k = goes_if_act reach line c (all_of (within m.hand) (covered line place))
+  goes_restart : (t : ℕ) (place : Place) (m : Mission) (k : Centre) → Goes line c k (restart line t place m k)
+  goes_restart t place m k = goes_if_act line c (all_of (within m.hand) (covered line place))
       (change_mission t (λ n. record n { place = place; has_data = false; is_ended = false; proposal = None }) >> accept t) (reject t) k
-      (λ fits. goes_then reach line c (change_mission t (λ n. record n { place = place; has_data = false; is_ended = false; proposal = None })) (accept t) k
-      (goes_change reach line c t (λ n. record n { place = place; has_data = false; is_ended = false; proposal = None }) k) (goes_say reach line c t unknown_group TrainAccepted _))
+      (λ fits. goes_then line c (change_mission t (λ n. record n { place = place; has_data = false; is_ended = false; proposal = None })) (accept t) k
+      (goes_change line c t (λ n. record n { place = place; has_data = false; is_ended = false; proposal = None }) k) (goes_say line c t unknown_group TrainAccepted _))
       (λ fits_not. goes_reject t k)
 
-  pub goes_start : (t : ℕ) (is_valid : Bool) (position : Position) (k : Centre) → Goes reach line c k (start_mission reach line c t is_valid position k)
-  goes_start t is_valid position k = goes_or reach line c (fit_place line is_valid position) _ k (reject t k)
-      (λ place at. goes_or reach line c (k.mission t) _ k (start_new reach line c t place k) (λ m has. goes_restart t place m k) (λ none. goes_start_new t place k))
+  pub goes_start : (t : ℕ) (is_valid : Bool) (position : Position) (k : Centre) → Goes line c k (start_mission line c t is_valid position k)
+  goes_start t is_valid position k = goes_or line c (fit_place line is_valid position) _ k (reject t k)
+      (λ place at. goes_or line c (k.mission t) _ k (start_new line c t place k) (λ m has. goes_restart t place m k) (λ none. goes_start_new t place k))
       (λ none. goes_reject t k)

@@ -3,7 +3,6 @@ use Rattle.std.proofs.Common.{◌≡◌, ◌≢◌, ℕ, ◌+◌, Bool, true, fa
 use Rattle.std.specs.Option.{option_map_or}
 use Rattle.rbc_ledger.specs.Network.{took, acted, TakesHead}
 use Rattle.rbc_spec.specs.Maps.{put}
-use Rattle.rbc_spec.specs.Reach.{Reach}
 use Rattle.rbc_spec.specs.Line.{Line, is_centre, is_linked}
 use Rattle.rbc_spec.specs.Frame.{Frame}
 use Rattle.rbc_spec.specs.Outcome.{Outcome, Next, Old, Early, NoLink}
@@ -24,34 +23,34 @@ use Rattle.rbc_pairs.specs.Steps.{IsByItself, left_by, sent_by}
 use Rattle.rbc_pairs.proofs.Worlds.{linked_next, sent_between}
 
 -- the flow behind an event that takes no frame off a link, and behind one that takes the next of the link from a
-abbrev pub by_itself_flow : Reach → Line → Flow → ℕ → centre.Event → Flow
-by_itself_flow reach line u c event = acted u c (left_by reach line c (u.at c) event) (sent_by reach line c (u.at c) event)
+abbrev pub by_itself_flow : Line → Flow → ℕ → centre.Event → Flow
+by_itself_flow line u c event = acted u c (left_by line c (u.at c) event) (sent_by line c (u.at c) event)
 
-abbrev pub at_head_flow : Reach → Line → Flow → ℕ → ℕ → Frame → Flow
-at_head_flow reach line u a c f = acted (took u a c) c (left_by reach line c (u.at c) (centre.Deliver a f)) (sent_by reach line c (u.at c) (centre.Deliver a f))
+abbrev pub at_head_flow : Line → Flow → ℕ → ℕ → Frame → Flow
+at_head_flow line u a c f = acted (took u a c) c (left_by line c (u.at c) (centre.Deliver a f)) (sent_by line c (u.at c) (centre.Deliver a f))
 
-module _ (reach : Reach) (line : Line) (w : World) (sound : IsFlowSound line (flow_of w)) (numbered : IsNumbered w) (P : Flow → Type 0) (old : P (flow_of w))
-    (alone : (c : ℕ) → is_centre line c ≡ true → (event : centre.Event) → IsByItself line c (w.at c) event → P (by_itself_flow reach line (flow_of w) c event))
+module _ (line : Line) (w : World) (sound : IsFlowSound line (flow_of w)) (numbered : IsNumbered w) (P : Flow → Type 0) (old : P (flow_of w))
+    (alone : (c : ℕ) → is_centre line c ≡ true → (event : centre.Event) → IsByItself line c (w.at c) event → P (by_itself_flow line (flow_of w) c event))
     (heads : (a c : ℕ) → is_centre line a ≡ true → is_centre line c ≡ true → (f : Frame) → TakesHead (flow_of w) a c f.body → link_answer line c (w.at c) a f ≡ Next
-    → P (at_head_flow reach line (flow_of w) a c f)) where
+    → P (at_head_flow line (flow_of w) a c f)) where
   abbrev After : ℕ → centre.Event → List ℕ → Type 0
-  After c event trains = P (flow_of (in_world w c (left_by reach line c (w.at c) event) trains))
+  After c event trains = P (flow_of (in_world w c (left_by line c (w.at c) event) trains))
 
   after_itself : (c : ℕ) → is_centre line c ≡ true → (event : centre.Event) (trains : List ℕ) → IsByItself line c (w.at c) event
-      → (done reach line c (w.at c) event).reply.state.taken ≡ (w.at c).taken → After c event trains
+      → (done line c (w.at c) event).reply.state.taken ≡ (w.at c).taken → After c event trains
   after_itself c to event trains is still =
-      subst P (sym (by_itself w c (stamp_of (w.at c) event) (w.at c) (done reach line c (w.at c) event) trains (λ d. refl) (λ a. ap (λ (f : ℕ → ℕ). f a) still))) (alone c to event is)
+      subst P (sym (by_itself w c (stamp_of (w.at c) event) (w.at c) (done line c (w.at c) event) trains (λ d. refl) (λ a. ap (λ (f : ℕ → ℕ). f a) still))) (alone c to event is)
 
   after_head : (a c : ℕ) → is_centre line a ≡ true → is_centre line c ≡ true → (f : Frame) → TakesHead (flow_of w) a c f.body → link_answer line c (w.at c) a f ≡ Next → (trains : List ℕ)
       → After c (centre.Deliver a f) trains
   after_head a c from to f head next trains =
-      subst P (sym (at_head w c (stamp_of (w.at c) (centre.Deliver a f)) (w.at c) (done reach line c (w.at c) (centre.Deliver a f)) trains (λ d. refl) a one_more)) (heads a c from to f head next)
+      subst P (sym (at_head w c (stamp_of (w.at c) (centre.Deliver a f)) (w.at c) (done line c (w.at c) (centre.Deliver a f)) trains (λ d. refl) a one_more)) (heads a c from to f head next)
     where
       number_is : f.number ≡ (w.at c).taken a + 1
       number_is = is_next ((w.at c).taken a) f.number (linked_next (is_linked line c a) ((w.at c).taken a) f.number next).1
 
-      one_more : (x : ℕ) → (done reach line c (w.at c) (centre.Deliver a f)).reply.state.taken x ≡ put (w.at c).taken a ((w.at c).taken a + 1) x
-      one_more x = ap (λ (g : ℕ → ℕ). g x) (deliver_taken line c reach a (stamp_of (w.at c) (centre.Deliver a f)) f (w.at c)) ∙ ap (λ answer. taken_after a f answer (w.at c) x) next
+      one_more : (x : ℕ) → (done line c (w.at c) (centre.Deliver a f)).reply.state.taken x ≡ put (w.at c).taken a ((w.at c).taken a + 1) x
+      one_more x = ap (λ (g : ℕ → ℕ). g x) (deliver_taken line c a (stamp_of (w.at c) (centre.Deliver a f)) f (w.at c)) ∙ ap (λ answer. taken_after a f answer (w.at c) x) next
           ∙ ap (λ n. put (w.at c).taken a n x) number_is
 
   no_more : (a c : ℕ) (f : Frame) (o : outcome.Taken) → o ≢ Next → taken_after a f o (w.at c) ≡ (w.at c).taken
@@ -62,7 +61,7 @@ module _ (reach : Reach) (line : Line) (w : World) (sound : IsFlowSound line (fl
 
   after_other : (a c : ℕ) → is_centre line c ≡ true → (f : Frame) → link_answer line c (w.at c) a f ≢ Next → (trains : List ℕ) → After c (centre.Deliver a f) trains
   after_other a c to f other trains = after_itself c to (centre.Deliver a f) trains other
-      (deliver_taken line c reach a (stamp_of (w.at c) (centre.Deliver a f)) f (w.at c) ∙ no_more a c f (link_answer line c (w.at c) a f) other)
+      (deliver_taken line c a (stamp_of (w.at c) (centre.Deliver a f)) f (w.at c) ∙ no_more a c f (link_answer line c (w.at c) a f) other)
 
   -- ## An event
 
@@ -76,9 +75,9 @@ module _ (reach : Reach) (line : Line) (w : World) (sound : IsFlowSound line (fl
   stepped_keeps c trains (Some why) x kept answer new is = cc
   stepped_keeps c trains None x kept answer new is = subst (λ (y : World). P (flow_of y)) (ap (λ r. world_of w r) is) kept
 
-  takes_keeps : (c : ℕ) (trains : List ℕ) (event : centre.Event) → After c event trains → Leaves (takes reach line w c trains event)
+  takes_keeps : (c : ℕ) (trains : List ℕ) (event : centre.Event) → After c event trains → Leaves (takes line w c trains event)
   unfolding step
-  takes_keeps c trains event after = stepped_keeps c trains (refusal line c (w.at c) event) (taken reach line c event (w.at c)) after
+  takes_keeps c trains event after = stepped_keeps c trains (refusal line c (w.at c) event) (taken line c event (w.at c)) after
 
   at_keeps : (c : ℕ) (answered : Result (Answer × World) Refusal) → (is_centre line c ≡ true → Leaves answered) → Leaves (at_centre line w c answered)
   at_keeps c answered here = chosen (is_centre line c) here
@@ -102,14 +101,14 @@ module _ (reach : Reach) (line : Line) (w : World) (sound : IsFlowSound line (fl
       by_answer Early at = other Early (λ e. cc) at
       by_answer NoLink at = other NoLink (λ e. cc) at
 
-  delivery_keeps : (a b number : ℕ) (o : Option Frame) → frame_sent w a b number ≡ o → Leaves (option_map_or (λ f. takes reach line w b w.trains (centre.Deliver a f)) o (Ok (NotSent, w)))
+  delivery_keeps : (a b number : ℕ) (o : Option Frame) → frame_sent w a b number ≡ o → Leaves (option_map_or (λ f. takes line w b w.trains (centre.Deliver a f)) o (Ok (NotSent, w)))
   delivery_keeps a b number None sent = stands_still NotSent
   delivery_keeps a b number (Some f) sent = takes_keeps b w.trains (centre.Deliver a f) (frame_keeps a b number f sent (link_answer line b (w.at b) a f) refl)
 
-  pub world_step_keeps : (event : Event) → Leaves (world_step reach line w event)
+  pub world_step_keeps : (event : Event) → Leaves (world_step line w event)
   unfolding world_step
   world_step_keeps (Bytes c (Ok m)) = at_keeps c _ (λ to. takes_keeps c (mention line m.nid_engine w.trains) (centre.Train m)
-      (after_itself c to (centre.Train m) (mention line m.nid_engine w.trains) (record {}) (train_keeps line c reach m (ticked (stamp_of (w.at c) (centre.Train m)) (w.at c)))))
+      (after_itself c to (centre.Train m) (mention line m.nid_engine w.trains) (record {}) (train_keeps line c m (ticked (stamp_of (w.at c) (centre.Train m)) (w.at c)))))
   world_step_keeps (Bytes c (Err number)) = at_keeps c _ (λ to. stands_still _)
   world_step_keeps (Set c s) = at_keeps c _ (λ to. takes_keeps c w.trains (centre.Set s)
       (after_itself c to (centre.Set s) w.trains (record {}) ((set_keeps line c s).each (ticked (stamp_of (w.at c) (centre.Set s)) (w.at c)))))

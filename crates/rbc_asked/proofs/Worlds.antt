@@ -3,14 +3,12 @@ use Rattle.std.proofs.Common.{◌≡◌, ℕ, [], Ok, refl, arith}
 use Rattle.rbc_ledger.specs.Network.{way}
 use Rattle.rbc_ledger.proofs.Network.{each_start, each_head}
 use Rattle.rbc_ledger.proofs.Resource.{within_start}
-use Rattle.rbc_spec.specs.Reach.{Reach}
 use Rattle.rbc_spec.specs.Line.{Line, IsLine}
 use Rattle.rbc_spec.specs.Centre.{beginning}
 use Rattle.rbc_spec.specs.World.{World, Event, Answer, new_world, world_step}
 use Rattle.rbc_flow.specs.Flow.{flow_of, centre_count}
 use Rattle.rbc_pairs.specs.Worlds.{IsWorldSound}
 use Rattle.rbc_pairs.specs.Steps.{left_by, sent_by}
-use Rattle.rbc_pairs.proofs.Steps.{within_by_itself, within_at_head}
 use Rattle.rbc_spec.specs.Step.{Deliver}
 use Rattle.rbc_asked.specs.Asked.{questions, IsBodyAsked, IsAsked}
 use Rattle.rbc_asked.proofs.Steps.{step_asking, taken_asking, asked_acted, asked_taken}
@@ -20,19 +18,16 @@ none_way : (line : Line) (a b : ℕ) → way (flow_of (new_world line)) a b ≡ 
 unfolding new_world beginning
 none_way line a b = refl
 
-pub begins_asked : (reach : Reach) (line : Line) → IsAsked reach line (flow_of (new_world line))
+pub begins_asked : (line : Line) → IsAsked line (flow_of (new_world line))
 unfolding new_world beginning
-begins_asked reach line = record {
+begins_asked line = record {
   questions = λ x d. within_start (questions x d) (centre_count line) (flow_of (new_world line)) (none_way line) (λ c small. omega arith);
-  bodies = each_start (IsBodyAsked reach line) (flow_of (new_world line)) (none_way line);
-  centres = λ c s t d u r out. cc;
+  bodies = each_start (IsBodyAsked line) (flow_of (new_world line)) (none_way line);
 }
 
-pub step_keeps_asked : (reach : Reach) (line : Line) → IsLine line → (w : World) → IsWorldSound reach line w → IsAsked reach line (flow_of w)
-    → (event : Event) (answer : Answer) (new : World) → world_step reach line w event ≡ Ok (answer, new) → IsAsked reach line (flow_of new)
-step_keeps_asked reach line ok w sound old = world_step_keeps reach line w sound.flow sound.numbered (IsAsked reach line) old
-    (λ c to event alone. asked_acted reach line (flow_of w) sound.flow.counted c (left_by reach line c (w.at c) event) (sent_by reach line c (w.at c) event)
-    (within_by_itself reach line (flow_of w) c event sound.flow.counted alone sound.within) to (step_asking reach line ok c event (w.at c) alone) old)
-    (λ a c from to f head next. asked_taken reach line (flow_of w) sound.flow.counted a c f.body head (left_by reach line c (w.at c) (Deliver a f)) (sent_by reach line c (w.at c) (Deliver a f))
-    (within_at_head reach line ok (flow_of w) sound.flow sound.within a c from to f head next) from to
-    (taken_asking reach line ok c a f (w.at c) next (each_head (IsBodyAsked reach line) (flow_of w) a c f.body head old.bodies)) old)
+pub step_keeps_asked : (line : Line) → IsLine line → (w : World) → IsWorldSound line w → IsAsked line (flow_of w)
+    → (event : Event) (answer : Answer) (new : World) → world_step line w event ≡ Ok (answer, new) → IsAsked line (flow_of new)
+step_keeps_asked line ok w sound old = world_step_keeps line w sound.flow sound.numbered (IsAsked line) old
+    (λ c to event alone. asked_acted line (flow_of w) sound.flow.counted c (left_by line c (w.at c) event) (sent_by line c (w.at c) event) to (step_asking line ok c event (w.at c) alone) old)
+    (λ a c from to f head next. asked_taken line (flow_of w) sound.flow.counted a c f.body head (left_by line c (w.at c) (Deliver a f)) (sent_by line c (w.at c) (Deliver a f)) from to
+    (taken_asking line ok c a f (w.at c) next (each_head (IsBodyAsked line) (flow_of w) a c f.body head old.bodies)) old)

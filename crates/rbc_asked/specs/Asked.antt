@@ -4,11 +4,10 @@ use Rattle.rbc_ledger.specs.Sums.{one_if}
 use Rattle.rbc_ledger.specs.Network.{EachOnTheWay}
 use Rattle.rbc_ledger.specs.Resource.{Resource, IsWithinCap}
 use Rattle.rbc_spec.specs.Maps.{has}
-use Rattle.rbc_spec.specs.Reach.{Reach, follows_rule}
-use Rattle.rbc_spec.specs.SectionRuns.{SectionRun, is_empty, all_of}
+use Rattle.rbc_spec.specs.SectionRuns.{is_empty, all_of}
 use Rattle.rbc_spec.specs.Line.{Line, is_home}
 use Rattle.rbc_spec.specs.Frame.{Body, AskRight, GiveRight, RefuseRight, ReturnRight, RouteAsk, RouteInfo, RouteReturn}
-use Rattle.rbc_spec.specs.Centre.{Centre, is_out_for, is_registrar_of}
+use Rattle.rbc_spec.specs.Centre.{Centre, is_registrar_of}
 use Rattle.rbc_spec.specs.Links.{is_of_line, is_train}
 use Rattle.rbc_flow.specs.Flow.{Flow, centre_count}
 
@@ -50,23 +49,18 @@ questions x d = record {
 -- ## What is on the way
 
 -- a body on the way from centre a to centre b: a right goes back to its registrar; sections are asked of the home of the first, and its home lends what
--- is its own, all of one track of the line; sections of a train of the line come home to their home. A route is asked for and told where a reach follows that.
-abbrev pub IsBodyAsked : Reach → Line → ℕ → ℕ → Body → Type 0
-IsBodyAsked reach line a b (ReturnRight t) = is_registrar_of line b t ≡ true
-IsBodyAsked reach line a b (RouteAsk t first most) = (follows_rule reach (RouteAsk t first most) ≡ true) × (is_home line b first ≡ true)
-IsBodyAsked reach line a b (RouteInfo t r) =
-    (follows_rule reach (RouteInfo t r) ≡ true) × (is_train line t ≡ true) × (is_of_line line r ≡ true) × (is_home line a r.first ≡ true) × (all_of (is_home line a) r ≡ true)
-IsBodyAsked reach line a b (RouteReturn t r) = (is_train line t ≡ true) × (is_empty r ≡ false) × (all_of (is_home line b) r ≡ true)
-IsBodyAsked reach line a b body = Unit {0}
-
--- a section is out only where a reach follows its way home
-abbrev pub LendsWithin : Reach → Centre → Type 0
-LendsWithin reach k = (s t d u : ℕ) (r : SectionRun) → is_out_for t d (k.book s) ≡ true → follows_rule reach (RouteReturn u r) ≡ true
+-- is its own, all of one track of the line; sections of a train of the line come home to their home.
+abbrev pub IsBodyAsked : Line → ℕ → ℕ → Body → Type 0
+IsBodyAsked line a b (ReturnRight t) = is_registrar_of line b t ≡ true
+IsBodyAsked line a b (RouteAsk t first most) = is_home line b first ≡ true
+IsBodyAsked line a b (RouteInfo t r) =
+    (is_train line t ≡ true) × (is_of_line line r ≡ true) × (is_home line a r.first ≡ true) × (all_of (is_home line a) r ≡ true)
+IsBodyAsked line a b (RouteReturn t r) = (is_train line t ≡ true) × (is_empty r ≡ false) × (all_of (is_home line b) r ≡ true)
+IsBodyAsked line a b body = Unit {0}
 
 -- ## Of all
 
 -- no more answers are on the way than questions stand, and all else that is asked for is as it has to be
-pub record IsAsked (reach : Reach) (line : Line) (w : Flow) : Type 0 where
+pub record IsAsked (line : Line) (w : Flow) : Type 0 where
   pub questions : (x : Question) (d : ℕ) → IsWithinCap (questions x d) (centre_count line) w
-  pub bodies : EachOnTheWay (IsBodyAsked reach line) w
-  pub centres : (c : ℕ) → LendsWithin reach (w.at c)
+  pub bodies : EachOnTheWay (IsBodyAsked line) w

@@ -2,13 +2,13 @@
 use Rattle.std.proofs.Common.{◌≡◌, ℕ, ◌+◌, ◌<◌, Bool, true, false, if◌then◌else◌, List, [], length, map, set, slice_get, Option, Some, None, is_some, is_none, refl, sym, ap, ◌∙◌, subst, arith, max, All}
 use Rattle.rbc_spec.specs.Maps.{put}
 use Rattle.rbc_spec.specs.Line.{Line, is_centre, train_number}
-use Rattle.rbc_spec.specs.Reach.{Whole as ToWhole}
 use Rattle.rbc_spec.specs.Frame.{Frame, Body, AskRight, GiveRight, RefuseRight, ReturnRight, RouteAsk, RouteInfo, RouteWithdraw, RouteReturn, Announce, Cancel, TakingOver, Yield, HasBodyRange, HasFrameRanges}
 use Rattle.rbc_spec.specs.Outcome.{Taken, Next, Old, Early, NoLink, Told}
 use Rattle.rbc_spec.specs.Centre as centre
 use Rattle.rbc_spec.specs.Acts.{Act, Reply, become, rest, ◌>>◌}
 use Rattle.rbc_spec.specs.Step as step
-use Rattle.rbc_spec.specs.Step.{Deliver, offered, body_taken}
+use Rattle.rbc_spec.specs.Step.{Deliver, offered}
+use Rattle.rbc_spec.specs.Links.{received}
 use Rattle.rbc_lemmas.proofs.Puts.{put_same}
 use Rattle.rbc_sound.proofs.Ranges.{range_hand}
 use Rattle.rbc_book.specs.Book.{Pages}
@@ -44,7 +44,7 @@ use Rattle.rbc_centre.proofs.Turns.{sent_in_range, Stays, parts, is_known, left,
 -- ## A frame
 
 -- a body of a train that is not of the line has no effect
-pub foreign_body : (line : Line) (c d : ℕ) (body : Body) (k : centre.Centre) → is_some (train_number line (engine_in body)) ≡ false → body_taken ToWhole line c d body k ≡ rest k
+pub foreign_body : (line : Line) (c d : ℕ) (body : Body) (k : centre.Centre) → is_some (train_number line (engine_in body)) ≡ false → received line c d body k ≡ rest k
 foreign_body line c d (AskRight t) k foreign = rw foreign refl
 foreign_body line c d (GiveRight t) k foreign = rw foreign refl
 foreign_body line c d (RefuseRight t) k foreign = rw foreign refl
@@ -134,15 +134,15 @@ module _ (k : CentreCode) (clock d : ℕ) (f : Frame) (mid : List (Link BodyCode
     room = λ e. let same = is.room e in omega (arith, same);
   }
 
-  by_answer : (a : Taken) → step.link_answer k.line k.number old d f ≡ a → is_next a ≡ false → step.effect ToWhole k.line k.number old (Deliver d f) ≡ effect_of (replied old (λ e. []) [] []) (Some a) None
+  by_answer : (a : Taken) → step.link_answer k.line k.number old d f ≡ a → is_next a ≡ false → step.effect k.line k.number old (Deliver d f) ≡ effect_of (replied old (λ e. []) [] []) (Some a) None
   by_answer Next said apart = cc
   by_answer Old said apart = rw said refl
   by_answer Early said apart = rw said refl
   by_answer NoLink said apart = rw said refl
 
-  pub untaken : is_next answer ≡ false → step.effect ToWhole k.line k.number (step.ticked clock (state_of k)) (Deliver d f) ≡ effect_of (replied at (λ e. []) [] []) (Some answer) None
+  pub untaken : is_next answer ≡ false → step.effect k.line k.number (step.ticked clock (state_of k)) (Deliver d f) ≡ effect_of (replied at (λ e. []) [] []) (Some answer) None
   untaken apart =
-      ap (λ (x : centre.Centre). step.effect ToWhole k.line k.number x (Deliver d f)) (ticked_is k.line k.number k.clock clock k.book k.desk k.links k.trains.items)
+      ap (λ (x : centre.Centre). step.effect k.line k.number x (Deliver d f)) (ticked_is k.line k.number k.clock clock k.book k.desk k.links k.trains.items)
       ∙ by_answer answer says apart
       ∙ ap (λ (x : centre.Centre). effect_of (replied x (λ e. []) [] []) (Some answer) None) (sym (stands_kept k.line k.number clock k.book k.desk k.links mid k.trains.items (keeps apart)))
 
@@ -154,23 +154,23 @@ module _ (k : CentreCode) (clock d : ℕ) (f : Frame) (mid : List (Link BodyCode
     taken = λ e. (ap (λ (a : Taken). put (taken_from k.links) d (taken_after a (taken_from k.links d) f.number) e) (sym next) ∙ sym (is.taken e)) i;
   }
 
-  pub taken : answer ≡ Next → step.effect ToWhole k.line k.number (step.ticked clock (state_of k)) (Deliver d f)
-      ≡ record { reply = body_taken ToWhole k.line k.number d f.body at; link = Some Next; silence = None }
+  pub taken : answer ≡ Next → step.effect k.line k.number (step.ticked clock (state_of k)) (Deliver d f)
+      ≡ record { reply = received k.line k.number d f.body at; link = Some Next; silence = None }
   unfolding stands_for
   taken next =
-      ap (λ (x : centre.Centre). step.effect ToWhole k.line k.number x (Deliver d f)) (ticked_is k.line k.number k.clock clock k.book k.desk k.links k.trains.items)
+      ap (λ (x : centre.Centre). step.effect k.line k.number x (Deliver d f)) (ticked_is k.line k.number k.clock clock k.book k.desk k.links k.trains.items)
       ∙ rw (says ∙ next) (ap (λ (r : Reply). record { reply = r; link = Some Next; silence = None })
-      (changed_then (λ j. record j { taken = put j.taken d f.number }) (body_taken ToWhole k.line k.number d f.body) old ∙ ap (body_taken ToWhole k.line k.number d f.body) (counted_is next)))
+      (changed_then (λ j. record j { taken = put j.taken d f.number }) (received k.line k.number d f.body) old ∙ ap (received k.line k.number d f.body) (counted_is next)))
 
   -- a train of the line takes what it says
-  pub received : answer ≡ Next → (t i : ℕ) (train : TrainState) (number : train_number k.line t ≡ Some i) (here : slice_get k.trains.items i ≡ Some train)
+  pub train_takes : answer ≡ Next → (t i : ℕ) (train : TrainState) (number : train_number k.line t ≡ Some i) (here : slice_get k.trains.items i ≡ Some train)
       → (new : TrainState) (book : Pages) (rights : Rights) (kept : KeepsTrain train new) (desk : KeepsDesk train.supervision.number k.book book k.desk.registrar rights) (heard : Heard)
       → ((x : centre.Centre) → HasParts k.line k.number x train k.book k.desk.registrar → is_none (train_number k.line train.supervision.engine) ≡ false
-      → body_taken ToWhole k.line k.number d f.body x ≡ reply_left k.line k.number train.supervision.engine (with_parts new book rights x) heard)
-      → step.effect ToWhole k.line k.number (step.ticked clock (state_of k)) (Deliver d f)
+      → received k.line k.number d f.body x ≡ reply_left k.line k.number train.supervision.engine (with_parts new book rights x) heard)
+      → step.effect k.line k.number (step.ticked clock (state_of k)) (Deliver d f)
       ≡ effect_of (replied (stands_for k.line k.number clock book (record { registrar = rights; handovers = k.desk.handovers }) mid (set k.trains.items i new))
       (mail_to k.line k.number train.supervision.engine (expected_from new.expectations) heard.mail) (told_train heard.saying heard.order) (map (λ s. Told s) heard.told)) (Some answer) None
-  received next t i train number here new book rights kept desk heard exact =
+  train_takes next t i train number here new book rights kept desk heard exact =
       let now = stands_for k.line k.number clock book (record { registrar = rights; handovers = k.desk.handovers }) mid (set k.trains.items i new) in
       taken next
       ∙ ap (λ (r : Reply). record { reply = r; link = Some Next; silence = None })
@@ -181,7 +181,7 @@ module _ (k : CentreCode) (clock d : ℕ) (f : Frame) (mid : List (Link BodyCode
 
   -- and a body of no train of the line has no effect
   pub ignored : answer ≡ Next → is_some (train_number k.line (engine_in f.body)) ≡ false
-      → step.effect ToWhole k.line k.number (step.ticked clock (state_of k)) (Deliver d f) ≡ effect_of (replied at (λ e. []) [] []) (Some answer) None
+      → step.effect k.line k.number (step.ticked clock (state_of k)) (Deliver d f) ≡ effect_of (replied at (λ e. []) [] []) (Some answer) None
   ignored next foreign =
       taken next
       ∙ ap (λ (r : Reply). record { reply = r; link = Some Next; silence = None }) (foreign_body k.line k.number d f.body at foreign)
@@ -189,8 +189,8 @@ module _ (k : CentreCode) (clock d : ℕ) (f : Frame) (mid : List (Link BodyCode
 
   -- what stays true of a centre that sends nothing, of whose trains none has changed
   module _ (stamp : step.stamp_of (state_of k) (Deliver d f) ≡ clock) (range : HasBodyRange f.body)
-      (effect : step.effect ToWhole k.line k.number (step.ticked clock (state_of k)) (Deliver d f) ≡ effect_of (replied at (λ e. []) [] []) (Some answer) None) where
-    pub silent : (outcome_with clock (λ e. []) [] [] (Some answer) None, at) ≡ step.taken ToWhole k.line k.number (Deliver d f) (state_of k)
+      (effect : step.effect k.line k.number (step.ticked clock (state_of k)) (Deliver d f) ≡ effect_of (replied at (λ e. []) [] []) (Some answer) None) where
+    pub silent : (outcome_with clock (λ e. []) [] [] (Some answer) None, at) ≡ step.taken k.line k.number (Deliver d f) (state_of k)
     silent =
         Steps.says k.line k.number k.clock clock k.book k.book k.desk k.desk k.links mid k.trains.items k.trains.items (Deliver d f) stamp is.sent [] [] (Some answer) None effect _ refl
 
@@ -209,7 +209,7 @@ module _ (k : CentreCode) (clock d : ℕ) (f : Frame) (mid : List (Link BodyCode
 -- what a frame is heard to leave for other centres may be posted
 pub received_may : (k : CentreCode) (d : ℕ) (f : Frame) (clock : ℕ) (mid : List (Link BodyCode)) (x : centre.Centre) (old : TrainState) (e : ℕ → Option centre.Expectation) (heard : Heard) (answer : Taken)
     → step.stamp_of (state_of k) (Deliver d f) ≡ clock → ((e : ℕ) → sent_to mid e ≡ sent_to k.links e)
-    → step.effect ToWhole k.line k.number (step.ticked clock (state_of k)) (Deliver d f)
+    → step.effect k.line k.number (step.ticked clock (state_of k)) (Deliver d f)
     ≡ effect_of (replied x (mail_to k.line k.number old.supervision.engine e heard.mail) (told_train heard.saying heard.order) (map (λ s. Told s) heard.told)) (Some answer) None
     → step.refusal k.line k.number (state_of k) (Deliver d f) ≡ None → HasBodyRange f.body → ((e : ℕ) → has_link mid e ≡ has_link k.links e) → ((e : ℕ) → room_to mid e ≡ room_to k.links e)
     → HasRoom k.links 4 → (u : ℕ) → MayPost mid u (mail_to k.line k.number old.supervision.engine e heard.mail u)

@@ -3,7 +3,6 @@ use Rattle.std.proofs.Common.{◌≡◌, ℕ, ◌+◌, ◌-◌, ◌≤◌, lengt
 use Rattle.std.proofs.Math.Logic.{∥∥₁_elim, ∥∥₁_map₂}
 use Rattle.std.proofs.Props.{props}
 use Rattle.std.specs.Coded.{le_prop}
-use Rattle.rbc_spec.specs.Reach.{Whole as ToWhole}
 use Rattle.rbc_spec.specs.Line.{Line, IsLine}
 use Rattle.rbc_spec.specs.Outcome.{Outcome}
 use Rattle.rbc_spec.specs.Centre as centre
@@ -54,19 +53,19 @@ module _ (line : Line) (c : ℕ) (k : centre.Centre) (rules : ∥ IsLine line �
 -- ## A step
 
 module _ (line : Line) (c : ℕ) (k left : centre.Centre) (event : Event) (outcome : Outcome) (rules : ∥ IsLine line ∥₁) (range : IsInRange event)
-    (is : (outcome, left) ≡ step.taken ToWhole line c event k) where
+    (is : (outcome, left) ≡ step.taken line c event k) where
   pub sound_left : IsCentreSound line c k → IsCentreSound line c left
   sound_left sound =
       let one : IsProp (IsCentreSound line c left) = hlevel props in
-      ∥∥₁_elim rules one (λ ok. subst (λ (p : Outcome × centre.Centre). IsCentreSound line c p.1) (sym is) (stays_sound line ok c ToWhole k event range sound).centre)
+      ∥∥₁_elim rules one (λ ok. subst (λ (p : Outcome × centre.Centre). IsCentreSound line c p.1) (sym is) (stays_sound line ok c k event range sound).centre)
 
   -- and one that is not refused leaves a centre in its ranges
   pub ranged_left : step.refusal line c k event ≡ None → HasEventRanges line c event → ∥ HasStateRanges line c k ∥₁ → ∥ HasStateRanges line c left ∥₁
-  ranged_left allowed ranges ranged = ∥∥₁_map₂ rules ranged (λ ok old. subst (λ (p : Outcome × centre.Centre). HasStateRanges line c p.1) (sym is) (stays_in_range line ok c ToWhole k event ranges old allowed).centre)
+  ranged_left allowed ranges ranged = ∥∥₁_map₂ rules ranged (λ ok old. subst (λ (p : Outcome × centre.Centre). HasStateRanges line c p.1) (sym is) (stays_in_range line ok c k event ranges old allowed).centre)
 
 -- what it sends goes on links, and each field has its range
 pub sent_in : (line : Line) (c : ℕ) (k : centre.Centre) (event : Event) → ∥ IsLine line ∥₁ → step.refusal line c k event ≡ None → HasEventRanges line c event → ∥ HasStateRanges line c k ∥₁
-    → (d : ℕ) → All (IsSentInRange line c d) ((step.effect ToWhole line c (step.ticked (step.stamp_of k event) k) event).reply.frames d)
+    → (d : ℕ) → All (IsSentInRange line c d) ((step.effect line c (step.ticked (step.stamp_of k event) k) event).reply.frames d)
 sent_in line c k event rules allowed ranges ranged d =
-    let one : IsProp (All (IsSentInRange line c d) ((step.effect ToWhole line c (step.ticked (step.stamp_of k event) k) event).reply.frames d)) = AreSent-prop line c d _ in
-    ∥∥₁_elim rules one (λ ok. ∥∥₁_elim ranged one (λ old. (stays_in_range line ok c ToWhole k event ranges old allowed).bodies d))
+    let one : IsProp (All (IsSentInRange line c d) ((step.effect line c (step.ticked (step.stamp_of k event) k) event).reply.frames d)) = AreSent-prop line c d _ in
+    ∥∥₁_elim rules one (λ ok. ∥∥₁_elim ranged one (λ old. (stays_in_range line ok c k event ranges old allowed).bodies d))

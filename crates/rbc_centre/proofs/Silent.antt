@@ -2,7 +2,6 @@
 use Rattle.std.proofs.Common.{◌≡◌, ℕ, true, false, [], ◌++◌, Option, Some, None, refl, ap, ◌∙◌}
 use Rattle.std.specs.Option.{option_map_or}
 use Rattle.rbc_spec.specs.Maps.{put}
-use Rattle.rbc_spec.specs.Reach.{Whole as ToWhole}
 use Rattle.rbc_spec.specs.Line.{Line}
 use Rattle.rbc_spec.specs.Place.{covered}
 use Rattle.rbc_spec.specs.Message.{TrainMessage, TrainBody, TrainData, Request, Report, ShorteningGranted, ShorteningRejected, EndOfMission, InitiationOfSession, TerminationOfSession, StartOfMission, SessionEstablished, SystemVersion, TerminationAcknowledged, unknown_group}
@@ -35,7 +34,7 @@ module _ (d : ℕ) where
         (both (set_phase t Closed) (change_mission t (λ m. record m { proposal = None })) k refl refl)
         (drops t ((set_phase t Closed >> change_mission t (λ m. record m { proposal = None })) k).state)
 
-    answers_nothing : (m : TrainMessage) (k : Centre) (body : TrainBody) → tells_others body ≡ false → (answered ToWhole line c m body k).frames d ≡ []
+    answers_nothing : (m : TrainMessage) (k : Centre) (body : TrainBody) → tells_others body ≡ false → (answered line c m body k).frames d ≡ []
     answers_nothing m k (TrainData position) tells = both (change_mission m.nid_engine (λ n. record n { has_data = true })) (say m.nid_engine unknown_group _) k refl refl
     answers_nothing m k (Request position) tells = cc
     answers_nothing m k (Report position) tells = cc
@@ -49,7 +48,7 @@ module _ (d : ℕ) where
     answers_nothing m k (StartOfMission is_valid position) tells = cc
     answers_nothing m k SessionEstablished tells = refl
 
-    pub sends_nothing : (m : TrainMessage) (k : Centre) → tells_others m.body ≡ false → (effect ToWhole line c k (Train m)).reply.frames d ≡ []
+    pub sends_nothing : (m : TrainMessage) (k : Centre) → tells_others m.body ≡ false → (effect line c k (Train m)).reply.frames d ≡ []
     sends_nothing m k tells =
-        by_effect (silence line c k m) (λ why. record { reply = rest k; link = None; silence = Some why }) (record { reply = hear_and_answer ToWhole line c m k; link = None; silence = None })
-        (λ why. refl) (both (hear m) (answered ToWhole line c m m.body) k refl (answers_nothing m (hear m k).state m.body tells))
+        by_effect (silence line c k m) (λ why. record { reply = rest k; link = None; silence = Some why }) (record { reply = hear_and_answer line c m k; link = None; silence = None })
+        (λ why. refl) (both (hear m) (answered line c m m.body) k refl (answers_nothing m (hear m k).state m.body tells))

@@ -5,7 +5,6 @@ use Rattle.std.proofs.lemmas.Bool.{ltb-false}
 use Rattle.std.proofs.lemmas.Bool.Decides.{nat_tests}
 use Rattle.std.proofs.lemmas.List.{length-map}
 use Rattle.rbc_spec.specs.Line.{Line}
-use Rattle.rbc_spec.specs.Reach.{Whole as ToWhole}
 use Rattle.rbc_spec.specs.Frame.{Frame, Body as BodySent}
 use Rattle.rbc_spec.specs.Outcome.{Reason, Saying, Word, Outcome, Taken}
 use Rattle.rbc_spec.specs.Centre as centre
@@ -77,10 +76,10 @@ module _ (line : Line) (c before clock : ℕ) (old_book new_book : Pages) (old_d
   -- what the code answers, and the state that it leaves, are those of the step: it had posted nothing in between
   pub answers : step.stamp_of k event ≡ clock → ((d : ℕ) → sent_to mid d ≡ sent_to old d) → HasPosted body_of clock bodies mid new
       → (sayings : List Saying) (words : List Word) (link : Option Taken) (silence : Option Reason)
-      → step.effect ToWhole line c (step.ticked clock k) event ≡ effect_of (replied (stands_for line c clock new_book new_desk mid new_states) bodies sayings words) link silence
+      → step.effect line c (step.ticked clock k) event ≡ effect_of (replied (stands_for line c clock new_book new_desk mid new_states) bodies sayings words) link silence
       → (frames : ℕ → List Frame) → ((d : ℕ) → frames d ≡ numbered clock (length (sent_to mid d)) (bodies d))
       → (outcome : Outcome) → outcome ≡ outcome_with clock frames sayings words link silence
-      → (outcome, left) ≡ step.taken ToWhole line c event k
+      → (outcome, left) ≡ step.taken line c event k
   unfolding stands_for
   answers stamp same posted sayings words link silence effect frames numbers outcome is =
       let frames_are : (d : ℕ) → frames d ≡ numbered clock (length (k.sent d)) (bodies d) = λ d. numbers d ∙ ap (λ n. numbered clock n (bodies d)) (counted same d) in
@@ -92,16 +91,16 @@ module _ (line : Line) (c before clock : ℕ) (old_book new_book : Pages) (old_d
         record left { sent = λ d. sent_are d i; taken = λ d. posted.taken d i },
       ))
       ∙ ap (λ (e : Effect). (step.outcome_of clock k e, step.state_after clock k e)) (sym effect)
-      ∙ ap (λ n. (step.outcome_of n k (step.effect ToWhole line c (step.ticked n k) event), step.state_after n k (step.effect ToWhole line c (step.ticked n k) event))) (sym stamp)
+      ∙ ap (λ n. (step.outcome_of n k (step.effect line c (step.ticked n k) event), step.state_after n k (step.effect line c (step.ticked n k) event))) (sym stamp)
 
 -- a step that sends nothing
 module _ (line : Line) (c before clock : ℕ) (old_book new_book : Pages) (old_desk new_desk : Desk) (links mid : List (Link Body)) (old_states new_states : List TrainState) (event : Event) where
   pub says : step.stamp_of (stands_for line c before old_book old_desk links old_states) event ≡ clock → ((d : ℕ) → sent_to mid d ≡ sent_to links d)
       → (sayings : List Saying) (words : List Word) (link : Option Taken) (silence : Option Reason)
-      → step.effect ToWhole line c (step.ticked clock (stands_for line c before old_book old_desk links old_states)) event
+      → step.effect line c (step.ticked clock (stands_for line c before old_book old_desk links old_states)) event
       ≡ effect_of (replied (stands_for line c clock new_book new_desk mid new_states) (λ d. []) sayings words) link silence
       → (outcome : Outcome) → outcome ≡ outcome_with clock (λ d. []) sayings words link silence
-      → (outcome, stands_for line c clock new_book new_desk mid new_states) ≡ step.taken ToWhole line c event (stands_for line c before old_book old_desk links old_states)
+      → (outcome, stands_for line c clock new_book new_desk mid new_states) ≡ step.taken line c event (stands_for line c before old_book old_desk links old_states)
   says stamp same sayings words link silence effect outcome is =
       answers line c before clock old_book new_book old_desk new_desk links mid mid old_states new_states (λ d. []) event stamp same (posted_none body_of clock mid)
       sayings words link silence effect (λ d. []) (λ d. refl) outcome is
@@ -119,13 +118,13 @@ module _ (line : Line) (c clock : ℕ) (old_book new_book : Pages) (desk : Desk)
   is_later = ticked_is line c clock (clock + 1) old_book desk links old_states
 
   pub set_stands : replied (stands_for line c (clock + 1) new_book desk links new_states) (λ d. []) sayings words ≡ step.set line c s later
-      → (outcome, stands_for line c (clock + 1) new_book desk links new_states) ≡ step.taken ToWhole line c (Set s) at
+      → (outcome, stands_for line c (clock + 1) new_book desk links new_states) ≡ step.taken line c (Set s) at
   unfolding stands_for
   set_stands r = says line c clock (clock + 1) old_book new_book desk desk links links old_states new_states (Set s) refl (λ d. refl) sayings words None None
       (ap (λ (x : Reply). effect_of x None None) (ap (step.set line c s) is_later ∙ sym r)) outcome is
 
   pub unset_stands : replied (stands_for line c (clock + 1) new_book desk links new_states) (λ d. []) sayings words ≡ step.unset line c s later
-      → (outcome, stands_for line c (clock + 1) new_book desk links new_states) ≡ step.taken ToWhole line c (Unset s) at
+      → (outcome, stands_for line c (clock + 1) new_book desk links new_states) ≡ step.taken line c (Unset s) at
   unfolding stands_for
   unset_stands r = says line c clock (clock + 1) old_book new_book desk desk links links old_states new_states (Unset s) refl (λ d. refl) sayings words None None
       (ap (λ (x : Reply). effect_of x None None) (ap (step.unset line c s) is_later ∙ sym r)) outcome is
@@ -156,11 +155,11 @@ pub refusal_by : (line : Line) (c : ℕ) (k : centre.Centre) (event : Event) (st
     → (if nat_lt 1073741823 (stamp + 1) then Some step.ClockEnd else (if step.has_full_link line c k then Some step.LinkFull else None)) ≡ step.refusal line c k event
 refusal_by line c k event stamp is = rw is refl
 
-pub taken_step : (line : Line) (c : ℕ) (k : centre.Centre) (event : Event) → step.refusal line c k event ≡ None → step.step ToWhole line c event k ≡ Ok (step.taken ToWhole line c event k)
+pub taken_step : (line : Line) (c : ℕ) (k : centre.Centre) (event : Event) → step.refusal line c k event ≡ None → step.step line c event k ≡ Ok (step.taken line c event k)
 unfolding step.step
 taken_step line c k event none = rw none refl
 
-pub refused_step : (line : Line) (c : ℕ) (k : centre.Centre) (event : Event) (f : StepFault) → IsRefusalOf f (step.refusal line c k event) → IsRefusal f (step.step ToWhole line c event k)
+pub refused_step : (line : Line) (c : ℕ) (k : centre.Centre) (event : Event) (f : StepFault) → IsRefusalOf f (step.refusal line c k event) → IsRefusal f (step.step line c event k)
 unfolding step.step
 refused_step line c k event fault.Memory is = absurd is
 refused_step line c k event fault.LinkFull is = rw is refl

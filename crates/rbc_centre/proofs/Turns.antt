@@ -5,7 +5,6 @@ use Rattle.std.specs.Result.{OnErr}
 use Rattle.rbc_spec.specs.SectionRuns.{within as within_run}
 use Rattle.rbc_spec.specs.Sections.{is_on}
 use Rattle.rbc_spec.specs.Line.{Line, is_linked, is_home, train_number}
-use Rattle.rbc_spec.specs.Reach.{Whole as ToWhole}
 use Rattle.rbc_spec.specs.Frame.{Frame, HasFrameRanges, Body as BodySent}
 use Rattle.rbc_spec.specs.Outcome.{Saying, Word, Taken, Reason, Told}
 use Rattle.rbc_spec.specs.Centre as centre
@@ -128,24 +127,24 @@ pub record Stays (k : CentreCode) (clock : ℕ) (book : Pages) (desk : Desk) (li
 -- what a step sends to each centre, on links that are no different, may be posted: there is room for it, or there is none
 pub may_be_sent : (k : CentreCode) (event : Event) (clock : ℕ) (mid : List (Link Body)) (x : centre.Centre) (bodies : ℕ → List BodySent) (sayings : List Saying) (words : List Word) (link : Option Taken) (silence : Option Reason)
     → step.stamp_of (state_of k) event ≡ clock → ((d : ℕ) → sent_to mid d ≡ sent_to k.links d)
-    → step.effect ToWhole k.line k.number (step.ticked clock (state_of k)) event ≡ effect_of (replied x bodies sayings words) link silence
+    → step.effect k.line k.number (step.ticked clock (state_of k)) event ≡ effect_of (replied x bodies sayings words) link silence
     → step.refusal k.line k.number (state_of k) event ≡ None → HasEventRanges k.line k.number event → ((d : ℕ) → has_link mid d ≡ is_linked k.line k.number d)
     → ((d : ℕ) → length (bodies d) ≤ 4) → ((d : ℕ) → has_link mid d ≡ true → length (bodies d) ≤ room_to mid d) → (d : ℕ) → MayPost mid d (bodies d)
 may_be_sent k event clock mid x bodies sayings words link silence stamp same effect allowed ranges linked few room d =
     let sent : All (IsSentInRange k.line k.number d) (bodies d) =
-    subst (λ (xs : List BodySent). All (IsSentInRange k.line k.number d) xs) ((λ i. (step.effect ToWhole k.line k.number (step.ticked (stamp i) (state_of k)) event).reply.frames d) ∙ ap (λ (e : Effect). e.reply.frames d) effect)
+    subst (λ (xs : List BodySent). All (IsSentInRange k.line k.number d) xs) ((λ i. (step.effect k.line k.number (step.ticked (stamp i) (state_of k)) event).reply.frames d) ∙ ap (λ (e : Effect). e.reply.frames d) effect)
     (sent_in k.line k.number (state_of k) event k.line_rules allowed ranges k.ranged d) in
     may_post k.line k.number k.clock k.book k.desk k.links mid k.trains.items d (bodies d) (Steps.allowed k.line k.number (state_of k) event allowed).1 (linked d) (same d) sent (few d) (room d)
 
 module _ (k : CentreCode) (event : Event) (clock : ℕ) (mid new : List (Link Body)) (book : Pages) (desk : Desk) (states : List TrainState)
     (bodies : ℕ → List BodySent) (sayings : List Saying) (words : List Word) (link : Option Taken) (silence : Option Reason)
     (stamp : step.stamp_of (state_of k) event ≡ clock) (same : (d : ℕ) → sent_to mid d ≡ sent_to k.links d) (posted : HasPosted body_of clock bodies mid new)
-    (effect : step.effect ToWhole k.line k.number (step.ticked clock (state_of k)) event
+    (effect : step.effect k.line k.number (step.ticked clock (state_of k)) event
     ≡ effect_of (replied (stands_for k.line k.number clock book desk mid states) bodies sayings words) link silence)
     (frames : ℕ → List Frame) (numbers : (d : ℕ) → frames d ≡ numbered clock (length (sent_to mid d)) (bodies d)) where
   -- the answer of the step, and the state that it leaves
   pub turns : (outcome_with clock frames sayings words link silence, stands_for k.line k.number clock book desk new states)
-      ≡ step.taken ToWhole k.line k.number event (state_of k)
+      ≡ step.taken k.line k.number event (state_of k)
   turns =
       answers k.line k.number k.clock clock k.book book k.desk desk k.links mid new k.trains.items states bodies event
       stamp same posted sayings words link silence effect frames numbers _ refl
@@ -179,19 +178,19 @@ module _ (k : CentreCode) (event : Event) (t i : ℕ) (old : TrainState) (number
     (new : TrainState) (book : Pages) (rights : Rights) (n : ℕ) (kept : KeepsTrain old new) (desk : KeepsDesk old.supervision.number k.book book k.desk.registrar rights) where
   pub takes : (r : Result Heard ReasonCode)
       → ((x : centre.Centre) → HasParts k.line k.number x old k.book k.desk.registrar → is_none (train_number k.line old.supervision.engine) ≡ false → x.announced ≡ k.desk.handovers
-      → step.effect ToWhole k.line k.number x event ≡ effect_left k.line k.number old.supervision.engine (with_count n (with_parts new book rights x)) r)
-      → step.effect ToWhole k.line k.number (step.ticked clock (state_of k)) event
+      → step.effect k.line k.number x event ≡ effect_left k.line k.number old.supervision.engine (with_count n (with_parts new book rights x)) r)
+      → step.effect k.line k.number (step.ticked clock (state_of k)) event
       ≡ effect_left k.line k.number old.supervision.engine (stands_for k.line k.number clock book (record { registrar = rights; handovers = n }) k.links (set k.trains.items i new)) r
   takes r exact =
-      ap (λ (x : centre.Centre). step.effect ToWhole k.line k.number x event) (ticked_is k.line k.number k.clock clock k.book k.desk k.links k.trains.items)
+      ap (λ (x : centre.Centre). step.effect k.line k.number x event) (ticked_is k.line k.number k.clock clock k.book k.desk k.links k.trains.items)
       ∙ exact (stands_for k.line k.number clock k.book k.desk k.links k.trains.items) (parts k t i old number at clock k.links) (is_known k t i old number at) (announced_of k.line k.number clock k.book k.desk k.links k.trains.items)
       ∙ ap (λ (x : centre.Centre). effect_left k.line k.number old.supervision.engine x r) (left k t i old number at clock k.links new book rights n kept desk)
 
   -- and one that is heard
   pub hears : (heard : Heard)
       → ((x : centre.Centre) → HasParts k.line k.number x old k.book k.desk.registrar → is_none (train_number k.line old.supervision.engine) ≡ false → x.announced ≡ k.desk.handovers
-      → step.effect ToWhole k.line k.number x event ≡ effect_left k.line k.number old.supervision.engine (with_count n (with_parts new book rights x)) (Ok heard))
-      → step.effect ToWhole k.line k.number (step.ticked clock (state_of k)) event
+      → step.effect k.line k.number x event ≡ effect_left k.line k.number old.supervision.engine (with_count n (with_parts new book rights x)) (Ok heard))
+      → step.effect k.line k.number (step.ticked clock (state_of k)) event
       ≡ effect_of (replied (stands_for k.line k.number clock book (record { registrar = rights; handovers = n }) k.links (set k.trains.items i new))
       (mail_to k.line k.number old.supervision.engine (expected_from new.expectations) heard.mail) (told_train heard.saying heard.order) (map (λ s. Told s) heard.told)) None None
   hears heard exact =
@@ -245,7 +244,7 @@ module _ (k : CentreCode) (early : k.clock < 1073741823) (room : step.has_full_l
 
 -- where it tells no other centre it needs none
 pub heard_room : (k : CentreCode) (m : TrainMessage) (clock : ℕ) (x : centre.Centre) (bodies : ℕ → List BodySent) (sayings : List Saying) (words : List Word) (link : Option Taken) (silence : Option Reason)
-    → step.effect ToWhole k.line k.number (step.ticked clock (state_of k)) (Train m) ≡ effect_of (replied x bodies sayings words) link silence → ((d : ℕ) → length (bodies d) ≤ 4)
+    → step.effect k.line k.number (step.ticked clock (state_of k)) (Train m) ≡ effect_of (replied x bodies sayings words) link silence → ((d : ℕ) → length (bodies d) ≤ 4)
     → (tells_others m.body ≡ true → HasRoom k.links 4) → (d : ℕ) → has_link k.links d ≡ true → length (bodies d) ≤ room_to k.links d
 heard_room k m clock x bodies sayings words link silence effect few room d linked = by (tells_others m.body) refl
   where
@@ -259,7 +258,7 @@ heard_room k m clock x bodies sayings words link silence effect few room d linke
 pub heard_may : (k : CentreCode) (m : TrainMessage) (t i : ℕ) (old : TrainState) (number : train_number k.line t ≡ Some i) (at : slice_get k.trains.items i ≡ Some old)
     (new : TrainState) (book : Pages) (rights : Rights) (n : ℕ) (kept : KeepsTrain old new) (desk : KeepsDesk old.supervision.number k.book book k.desk.registrar rights) (heard : Heard)
     → ((x : centre.Centre) → HasParts k.line k.number x old k.book k.desk.registrar → is_none (train_number k.line old.supervision.engine) ≡ false → x.announced ≡ k.desk.handovers
-    → step.effect ToWhole k.line k.number x (Train m) ≡ effect_left k.line k.number old.supervision.engine (with_count n (with_parts new book rights x)) (Ok heard))
+    → step.effect k.line k.number x (Train m) ≡ effect_left k.line k.number old.supervision.engine (with_count n (with_parts new book rights x)) (Ok heard))
     → k.clock < 1073741823 → step.has_full_link k.line k.number (state_of k) ≡ false → HasMessageRanges m → (tells_others m.body ≡ true → HasRoom k.links 4)
     → (d : ℕ) → MayPost k.links d (mail_to k.line k.number old.supervision.engine (expected_from new.expectations) heard.mail d)
 heard_may k m t i old number at new book rights n kept desk heard exact early none ranges room =
@@ -275,7 +274,7 @@ heard_may k m t i old number at new book rights n kept desk heard exact early no
 pub heard_frames : (k : CentreCode) (m : TrainMessage) (t i : ℕ) (old : TrainState) (number : train_number k.line t ≡ Some i) (at : slice_get k.trains.items i ≡ Some old)
     (new : TrainState) (book : Pages) (rights : Rights) (n : ℕ) (kept : KeepsTrain old new) (desk : KeepsDesk old.supervision.number k.book book k.desk.registrar rights) (heard : Heard)
     → ((x : centre.Centre) → HasParts k.line k.number x old k.book k.desk.registrar → is_none (train_number k.line old.supervision.engine) ≡ false → x.announced ≡ k.desk.handovers
-    → step.effect ToWhole k.line k.number x (Train m) ≡ effect_left k.line k.number old.supervision.engine (with_count n (with_parts new book rights x)) (Ok heard))
+    → step.effect k.line k.number x (Train m) ≡ effect_left k.line k.number old.supervision.engine (with_count n (with_parts new book rights x)) (Ok heard))
     → (tells_others m.body ≡ true → HasFrameRoom k.room) → (d : ℕ) → (mail_to k.line k.number old.supervision.engine (expected_from new.expectations) heard.mail d ≡ []) ⊎ HasFrameRoom k.room
 heard_frames k m t i old number at new book rights n kept desk heard exact room d = by (tells_others m.body) refl
   where

@@ -1,6 +1,5 @@
 -- A section that is out and is taken back: the centre that has it is asked for it.
 use Rattle.std.proofs.Common.{◌≡◌, ℕ, ◌+◌, ◌<◌, ◌==◌, ◌&&◌, not, false, if◌then◌else◌, [], ◌∷◌, Some, None, sym, ap, ◌∙◌, refl, arith, Bool, true, length, ◌≤◌, All, eq-eqb}
-use Rattle.rbc_spec.specs.Reach.{Whole as ToWhole}
 use Rattle.rbc_spec.specs.Outcome.{Asked}
 use Rattle.rbc_spec.specs.Centre.{Shut, Out, is_unused}
 use Rattle.rbc_spec.specs.Acts.{Reply}
@@ -27,7 +26,7 @@ module _ (k : CentreCode) (s t to : ℕ) (book : Pages) (letter : Letter) (out :
     (wish : (n : ℕ) → wish_at book n ≡ (if is_own k.book s && (n == s) then not (is_unused (entry_at k.book s)) else wish_at k.book n))
     (is : letter ≡ record { to = to; body = RouteWithdraw t s }) where
   -- what follows of the wish is the letter to the centre that has the section
-  pub withdraws : step.effect ToWhole k.line k.number (step.ticked (k.clock + 1) (state_of k)) (Unset s)
+  pub withdraws : step.effect k.line k.number (step.ticked (k.clock + 1) (state_of k)) (Unset s)
       ≡ effect_of (replied (stands_for k.line k.number (k.clock + 1) book k.desk k.links k.trains.items) (letters (Some letter)) [] (Asked s ∷ [])) None None
   withdraws =
       let own = out_at_home k.book s t to out in

@@ -4,7 +4,6 @@ ghost use Rattle.rbc_spec.specs.Frame.{HasFrameRanges};
 ghost use Rattle.rbc_spec.specs.Centre.{beginning};
 ghost use Rattle.rbc_spec.specs.Step as spec;
 ghost use Rattle.rbc_spec.specs.Step.{refusal, has_full_link};
-ghost use Rattle.rbc_spec.specs.Reach as reach;
 ghost use Rattle.rbc_flow.specs.Sound.{IsCentreSound};
 ghost use Rattle.rbc_ranges.specs.Ranges.{HasStateRanges};
 ghost use Rattle.rbc_book.specs.Book.{is_own};
@@ -237,7 +236,7 @@ impl Centre {
         ensures line { line_of self.new ≡ line_of self.old }
         ensures number { number_of self.new ≡ number_of self.old }
         ensures exact { Steps (λ o. (outcome_of o, state_of self.new)) result
-            (spec.step reach.Whole (line_of self.old) (number_of self.old) (event_of event.now) (state_of self.old)) }
+            (spec.step (line_of self.old) (number_of self.old) (event_of event.now) (state_of self.old)) }
         ensures memory { IsWantedBy (state_of self.old) (event_of event.now) result }
         ensures err { OnErr result (state_of self.new ≡ state_of self.old) }
     {
@@ -256,7 +255,7 @@ impl Centre {
         ensures line { line_of self.new ≡ line_of self.old }
         ensures number { number_of self.new ≡ number_of self.old }
         ensures exact { Steps (λ o. (outcome_of o, state_of self.new)) result
-            (spec.step reach.Whole (line_of self.old) (number_of self.old) (spec.Train (step_message message.now)) (state_of self.old)) }
+            (spec.step (line_of self.old) (number_of self.old) (spec.Train (step_message message.now)) (state_of self.old)) }
         ensures memory { IsWantedBy (state_of self.old) (spec.Train (step_message message.now)) result }
         ensures err { OnErr result (state_of self.new ≡ state_of self.old) }
     {

@@ -3,7 +3,6 @@
 ghost use Rattle.std.specs.Prelude.{◌≡◌, ◌<◌, IfOk, OnErr, false, max};
 ghost use Rattle.rbc_spec.specs.Step as spec;
 ghost use Rattle.rbc_spec.specs.Step.{has_full_link};
-ghost use Rattle.rbc_spec.specs.Reach as reach;
 ghost use Rattle.rbc_link.specs.Links as links;
 ghost use Rattle.rbc_centre.specs.Rooms.{HasFrameRoom};
 ghost use Rattle.rbc_centre.specs.States.{line_of, number_of, state_of};
@@ -27,7 +26,7 @@ impl Centre {
         ensures line { line_of self.new ≡ line_of self.old }
         ensures number { number_of self.new ≡ number_of self.old }
         ensures exact { IfOk result (λ o. (outcome_of o, state_of self.new)
-            ≡ spec.taken reach.Whole (line_of self.old) (number_of self.old) (spec.Deliver from frame.now) (state_of self.old)) }
+            ≡ spec.taken (line_of self.old) (number_of self.old) (spec.Deliver from frame.now) (state_of self.old)) }
         ensures err { OnErr result (state_of self.new ≡ state_of self.old) }
     {
         self.reserve_frames()?;
@@ -43,7 +42,7 @@ impl Centre {
         ensures line { line_of self.new ≡ line_of self.old }
         ensures number { number_of self.new ≡ number_of self.old }
         ensures exact { (outcome_of result, state_of self.new)
-            ≡ spec.taken reach.Whole (line_of self.old) (number_of self.old) (spec.Deliver from frame.now) (state_of self.old) }
+            ≡ spec.taken (line_of self.old) (number_of self.old) (spec.Deliver from frame.now) (state_of self.old) }
     {
         let body = frame.body();
         self.clock = max(self.clock, frame.stamp()) + 1;

@@ -5,7 +5,6 @@ ghost use Rattle.rbc_spec.specs.Line.{train_number};
 ghost use Rattle.rbc_spec.specs.Message.{is_stale};
 ghost use Rattle.rbc_spec.specs.Step as spec;
 ghost use Rattle.rbc_spec.specs.Step.{has_full_link};
-ghost use Rattle.rbc_spec.specs.Reach as reach;
 ghost use Rattle.rbc_msgs.specs.StepMessage.{step_message};
 ghost use Rattle.rbc_msgs.specs.declared.train_body.TrainBody.TheVariants.{InitiationOfSession};
 ghost use Rattle.rbc_session.specs.Sessions as sessions;
@@ -34,7 +33,7 @@ impl Centre {
         ensures line { line_of self.new ≡ line_of self.old }
         ensures number { number_of self.new ≡ number_of self.old }
         ensures exact { IfOk result (λ o. (outcome_of o, state_of self.new)
-            ≡ spec.taken reach.Whole (line_of self.old) (number_of self.old) (spec.Train (step_message message.now)) (state_of self.old)) }
+            ≡ spec.taken (line_of self.old) (number_of self.old) (spec.Train (step_message message.now)) (state_of self.old)) }
         ensures memory { OnErr result (TakesMemory (state_of self.old) (spec.Train (step_message message.now))) }
         ensures err { OnErr result (state_of self.new ≡ state_of self.old) }
     {
@@ -85,7 +84,7 @@ impl Centre {
         ensures line { line_of self.new ≡ line_of self.old }
         ensures number { number_of self.new ≡ number_of self.old }
         ensures exact { (outcome_of result, state_of self.new)
-            ≡ spec.taken reach.Whole (line_of self.old) (number_of self.old) (spec.Train (step_message message.now)) (state_of self.old) }
+            ≡ spec.taken (line_of self.old) (number_of self.old) (spec.Train (step_message message.now)) (state_of self.old) }
     {
         self.clock += 1;
         let train = &mut self.trains[i];

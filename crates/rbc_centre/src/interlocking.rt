@@ -5,7 +5,6 @@ ghost use Rattle.rbc_spec.specs.Centre as spec;
 ghost use Rattle.rbc_spec.specs.Line.{train_number};
 ghost use Rattle.rbc_spec.specs.Step as step;
 ghost use Rattle.rbc_spec.specs.Step.{has_full_link};
-ghost use Rattle.rbc_spec.specs.Reach as reach;
 ghost use Rattle.rbc_book.specs.Book.{entry_at};
 ghost use Rattle.rbc_link.specs.Links as links;
 ghost use Rattle.rbc_centre.specs.Answer.{TakesMemory};
@@ -29,7 +28,7 @@ impl Centre {
         ensures line { line_of self.new ≡ line_of self.old }
         ensures number { number_of self.new ≡ number_of self.old }
         ensures exact { (outcome_of result, state_of self.new)
-            ≡ step.taken reach.Whole (line_of self.old) (number_of self.old) (step.Set s) (state_of self.old) }
+            ≡ step.taken (line_of self.old) (number_of self.old) (step.Set s) (state_of self.old) }
     {
         self.clock += 1;
         match self.book.set(s) {
@@ -46,7 +45,7 @@ impl Centre {
         ensures line { line_of self.new ≡ line_of self.old }
         ensures number { number_of self.new ≡ number_of self.old }
         ensures exact { IfOk result (λ o. (outcome_of o, state_of self.new)
-            ≡ step.taken reach.Whole (line_of self.old) (number_of self.old) (step.Unset s) (state_of self.old)) }
+            ≡ step.taken (line_of self.old) (number_of self.old) (step.Unset s) (state_of self.old)) }
         ensures memory { OnErr result (TakesMemory (state_of self.old) (step.Unset s)) }
         ensures err { OnErr result (state_of self.new ≡ state_of self.old) }
     {
@@ -67,7 +66,7 @@ impl Centre {
         ensures line { line_of self.new ≡ line_of self.old }
         ensures number { number_of self.new ≡ number_of self.old }
         ensures exact { (outcome_of result, state_of self.new)
-            ≡ step.taken reach.Whole (line_of self.old) (number_of self.old) (step.Unset s) (state_of self.old) }
+            ≡ step.taken (line_of self.old) (number_of self.old) (step.Unset s) (state_of self.old) }
     {
         self.clock += 1;
         let _asked = self.book.unset(s);
@@ -88,7 +87,7 @@ impl Centre {
         ensures line { line_of self.new ≡ line_of self.old }
         ensures number { number_of self.new ≡ number_of self.old }
         ensures exact { (outcome_of result, state_of self.new)
-            ≡ step.taken reach.Whole (line_of self.old) (number_of self.old) (step.Unset s) (state_of self.old) }
+            ≡ step.taken (line_of self.old) (number_of self.old) (step.Unset s) (state_of self.old) }
     {
         let user = self.user_of(s);
         self.clock += 1;

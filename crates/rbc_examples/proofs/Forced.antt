@@ -2,7 +2,6 @@
 use Rattle.std.proofs.Common.{◌≡◌, ℕ, ◌+◌, ◌*◌, ◌==◌, List, [], ◌∷◌, true, false, ◌&&◌, not, true≢false, Option, Some, None, is_none, Result, Ok, Err, refl, sym, ap, ◌∙◌, eq-eqb, subst, subst₂}
 use Rattle.std.specs.Option.{option_map_or}
 use Rattle.std.specs.List.{filter_map}
-use Rattle.rbc_spec.specs.Reach.{Whole}
 use Rattle.rbc_spec.specs.ReadOff.{read_off}
 use Rattle.rbc_examples.specs.Scene.{Scene}
 use Rattle.std.proofs.lemmas.Bool.{and_parts, cond-true, cond-false, eqb-true, not_from_true, le-leb, and_from}
@@ -180,7 +179,7 @@ unfolding centres_show line_shows answers_of state_after play leave_no_choice
 runs_forced line [] w v bound same forced = refl
 runs_forced line (move ∷ moves) w v bound same forced =
     let parts = and_parts (leaves_no_choice line v move) (leave_no_choice line (played_on v (play line v move)) moves) forced in
-    forced_with line v move moves (world_step Whole line w move.event) (play line v move)
+    forced_with line v move moves (world_step line w move.event) (play line v move)
     (play_forced line v move.event move.choice move.quiets bound parts.0) parts.1 (runs_forced line moves) same
 
 -- moves of a scene that leave no choice, on a one-centre line
@@ -194,7 +193,7 @@ met_by_forced_run line c scene moves one events same forced first =
       after = world_after line (new_world line) moves;
       last = state_after line line_beginning moves;
       one_centre = one;
-      ran = subst (λ es. world_run Whole line (new_world line) es ≡ Ok (answers_of line (new_world line) moves, world_after line (new_world line) moves)) events by_moves.ran;
+      ran = subst (λ es. world_run line (new_world line) es ≡ Ok (answers_of line (new_world line) moves, world_after line (new_world line) moves)) events by_moves.ran;
       is_run = subst (λ es. ForcedRun line line_beginning es (answers_of line (new_world line) moves) (state_after line line_beginning moves)) events
           (runs_forced line moves (new_world line) line_beginning (beginning_within line) same forced);
       read = by_moves.read first;

@@ -1,6 +1,5 @@
 -- The steps of Limits, computed.
 use Rattle.std.proofs.Common.{◌≡◌, [], ◌∷◌, Ok, Err, None, refl}
-use Rattle.rbc_spec.specs.Reach.{Whole}
 use Rattle.rbc_spec.specs.SectionRuns.{within, longest}
 use Rattle.rbc_spec.specs.Line.{start, end}
 use Rattle.rbc_spec.specs.Place.{extent}
@@ -32,7 +31,7 @@ pub four_numbers_left : stamps line (Set 0 ∷ []) (having_sent 65532) ≡ Ok (1
 unfolding within longest start end extent beginning ◌>>◌ step stamps
 four_numbers_left = refl
 
-pub set_and_session_comes_out : run_items (world_run Whole line (new_world line) set_and_session) ≡ set_and_session_shows
+pub set_and_session_comes_out : run_items (world_run line (new_world line) set_and_session) ≡ set_and_session_shows
 unfolding within longest start end extent beginning ◌>>◌ step new_world world_step world_run
 set_and_session_comes_out = refl
 

@@ -4,7 +4,6 @@ use Rattle.std.specs.Option.{option_map_or}
 use Rattle.std.specs.List.{filter_map, list_all}
 use Rattle.std.proofs.lemmas.Bool.{and_parts, or_cases, not-true}
 use Rattle.std.proofs.lemmas.Option.{none-some, same_Some}
-use Rattle.rbc_spec.specs.Reach.{Whole}
 use Rattle.rbc_spec.specs.Line.{Line, is_centre}
 use Rattle.rbc_spec.specs.Outcome.{Outcome}
 use Rattle.rbc_spec.specs.LineCentre.{LineState, line_beginning}
@@ -177,7 +176,7 @@ answers_with (Err why) others = []
 
 unfoldable pub answers_of : Line → World → List Move → List Answer
 answers_of line w [] = []
-answers_of line w (move ∷ moves) = answers_with (world_step Whole line w move.event) (λ after. answers_of line after moves)
+answers_of line w (move ∷ moves) = answers_with (world_step line w move.event) (λ after. answers_of line after moves)
 
 abbrev pub world_with : World → Result (Answer × World) Refusal → (World → World) → World
 world_with w (Ok (answer, after)) others = others after
@@ -185,7 +184,7 @@ world_with w (Err why) others = w
 
 unfoldable pub world_after : Line → World → List Move → World
 world_after line w [] = w
-world_after line w (move ∷ moves) = world_with w (world_step Whole line w move.event) (λ after. world_after line after moves)
+world_after line w (move ∷ moves) = world_with w (world_step line w move.event) (λ after. world_after line after moves)
 
 abbrev pub state_with : LineState → Option Played → (LineState → LineState) → LineState
 state_with v (Some p) others = others p.state
@@ -198,13 +197,13 @@ state_after line v (move ∷ moves) = state_with v (play line v move) (λ new. s
 -- the answers of moves are met by a run
 pub record Met (line : Line) (w : World) (v : LineState) (moves : List Move) (answers : List Answer) (after : World) (last : LineState) : Type 0 where
   pub goes : GoesWith line w v moves
-  pub ran : world_run Whole line w (events_of moves) ≡ Ok (answers, after)
+  pub ran : world_run line w (events_of moves) ≡ Ok (answers, after)
   pub is_run : run.Run line v (events_of moves) answers last
   pub read : sheet line (read_off line w) ≡ sheet line v → sheet line (read_off line after) ≡ sheet line last
 
 -- what follows of one event
 step_with : (line : Line) (w : World) (v : LineState) (move : Move) (moves : List Move)
-    (result : Result (Answer × World) Refusal) → world_step Whole line w move.event ≡ result → (p : Option Played) → Valid (IsPiece line v move.event) p
+    (result : Result (Answer × World) Refusal) → world_step line w move.event ≡ result → (p : Option Played) → Valid (IsPiece line v move.event) p
     → ((after : World) (new : LineState) → IsWithinLine line new.mark → centres_show line after moves ≡ line_shows line new moves
     → Met line after new moves (answers_of line after moves) (world_after line after moves) (state_after line new moves))
     → seen_after line result (λ after. centres_show line after moves) ≡ seen_of_line line p (λ new. line_shows line new moves)
@@ -231,7 +230,7 @@ pub met : (line : Line) (moves : List Move) (w : World) (v : LineState) → IsWi
 unfolding centres_show line_shows answers_of world_after state_after world_run play
 met line [] w v bound same = record { goes = tt; ran = refl; is_run = refl; read = λ first. first }
 met line (move ∷ moves) w v bound same =
-    step_with line w v move moves (world_step Whole line w move.event) refl (play line v move) (play_is line v move.event move.choice move.quiets bound) (met line moves) same
+    step_with line w v move moves (world_step line w move.event) refl (play line v move) (play_is line v move.event move.choice move.quiets bound) (met line moves) same
 
 -- at the beginning no section is given
 pub beginning_within : (line : Line) → IsWithinLine line line_beginning.mark

@@ -1,6 +1,5 @@
 -- Steps of a centre that are refused, frames of a centre to which it has no link, and a whole run.
 use Rattle.std.specs.Prelude.{ℕ, List, [], ◌∷◌, map, Option, Some, None, Result, Ok, Err}
-use Rattle.rbc_spec.specs.Reach.{Whole}
 use Rattle.rbc_spec.specs.SectionRuns.{SectionRun}
 use Rattle.rbc_spec.specs.Frame.{Frame, Body, GiveRight}
 use Rattle.rbc_spec.specs.Acts.{begun, ask_route}
@@ -25,7 +24,7 @@ stamped (Err why) k others = Err why ∷ others k
 -- the steps of centre A
 unfoldable pub stamps : Line → List Event → Centre → List Stamped
 stamps l [] k = []
-stamps l (event ∷ events) k = stamped (step Whole l 0 event k) k (stamps l events)
+stamps l (event ∷ events) k = stamped (step l 0 event k) k (stamps l events)
 
 -- a frame of B or C, with its number and stamp
 abbrev pub frame : (number stamp : ℕ) → Frame

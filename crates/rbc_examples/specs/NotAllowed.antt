@@ -2,7 +2,6 @@
 use Rattle.std.specs.Prelude.{ℕ, ◌==◌, List, [], ◌∷◌, ◌++◌, map, length, if◌then◌else◌, Option, Some, None}
 use Rattle.std.specs.List.{filter_map}
 use Rattle.rbc_spec.specs.Maps.{put}
-use Rattle.rbc_spec.specs.Reach.{Whole}
 use Rattle.rbc_spec.specs.Message.{TerminationOfSession, Report}
 use Rattle.rbc_spec.specs.Outcome.{Reason, NoSession, Word, Done, Asked, Told}
 use Rattle.rbc_spec.specs.LineCentre.{line_beginning}
@@ -87,7 +86,7 @@ told_out_of_order_shows = two_kept_shows ++ None ∷ []
 
 -- A has handed train 1 over, and its Yield is on the way to B
 unfoldable pub one_yield : World
-one_yield = world_in (new_world line) (world_run Whole line (new_world line) (filter_map event_of
+one_yield = world_in (new_world line) (world_run line (new_world line) (filter_map event_of
     (announced ++ session 1 1 7 ++ train 1 1 9 (Report (at 104 100 (Some 200))) ∷ Happens (Delivery 1 0 2) ∷ Happens (Delivery 1 0 3) ∷ [])))
 
 -- the same Yield a second time, under the next number

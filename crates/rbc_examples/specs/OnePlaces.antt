@@ -1,7 +1,6 @@
 -- Scenes in which each thing stays in one place: what `HasOnePlace` says of a world is computed behind each event.
 use Rattle.std.specs.Prelude.{ℕ, ◌+◌, ◌==◌, ◌&&◌, Bool, true, false, List, [], ◌∷◌, length, map, is_some, nat_le, Result, Ok, Err}
 use Rattle.std.specs.List.{list_all, range_with_len, count_by}
-use Rattle.rbc_spec.specs.Reach.{Whole}
 use Rattle.rbc_spec.specs.Line.{Line}
 use Rattle.rbc_spec.specs.Sections.{section_count}
 use Rattle.rbc_spec.specs.Step.{Refusal}
@@ -38,7 +37,7 @@ behind (Err why) others = false
 -- in this world and behind each event of the scenes
 unfoldable pub keeps_from : Line → List Scene → World → Bool
 keeps_from l [] w = has_one_place l w
-keeps_from l (Happens event ∷ scenes) w = has_one_place l w && behind (world_step Whole l w event) (keeps_from l scenes)
+keeps_from l (Happens event ∷ scenes) w = has_one_place l w && behind (world_step l w event) (keeps_from l scenes)
 keeps_from l (_ ∷ scenes) w = keeps_from l scenes w
 
 -- on a new line

@@ -2,7 +2,6 @@
 -- state that it leaves is the one that is read off the centres.
 use Rattle.std.specs.Prelude.{◌≡◌, ℕ, List, [], ◌∷◌, map, Option, Some, None, Result, Ok, Err, length}
 use Rattle.std.specs.List.{filter, filter_map, range_with_len}
-use Rattle.rbc_spec.specs.Reach.{Whole}
 use Rattle.rbc_spec.specs.Line.{Line}
 use Rattle.rbc_spec.specs.Sections.{section_count}
 use Rattle.rbc_spec.specs.Place.{Place}
@@ -58,7 +57,7 @@ abbrev pub GoesWith : Line → World → LineState → List Move → Type 0
 GoesWith line w v [] = Unit {0}
 GoesWith line w v (move ∷ moves) =
     (answer : Answer) × (after : World) × (new : LineState)
-    × (world_step Whole line w move.event ≡ Ok (answer, after))
+    × (world_step line w move.event ≡ Ok (answer, after))
     × run.Goes line v move.event answer new
     × (sheet line (read_off line after) ≡ sheet line new)
     × GoesWith line after new moves
@@ -79,7 +78,7 @@ pub record IsMetByRun (line : Line) (scene : List Scene) (moves : List Move) : T
   pub last : LineState
   pub of_scene : events_of moves ≡ filter_map event_of scene
   pub by_events : GoesWith line (new_world line) line_beginning moves
-  pub ran : world_run Whole line (new_world line) (events_of moves) ≡ Ok (answers, after)
+  pub ran : world_run line (new_world line) (events_of moves) ≡ Ok (answers, after)
   pub is_run : run.Run line line_beginning (events_of moves) answers last
   pub read : sheet line (read_off line after) ≡ sheet line last
 
@@ -89,7 +88,7 @@ pub record IsMetByForcedRun (line : Line) (c : ℕ) (scene : List Scene) : Type 
   pub after : World
   pub last : LineState
   pub one_centre : IsOneCentreLine line c
-  pub ran : world_run Whole line (new_world line) (filter_map event_of scene) ≡ Ok (answers, after)
+  pub ran : world_run line (new_world line) (filter_map event_of scene) ≡ Ok (answers, after)
   pub is_run : ForcedRun line line_beginning (filter_map event_of scene) answers last
   pub read : sheet line (read_off line after) ≡ sheet line last
 
@@ -97,7 +96,7 @@ pub record IsMetByForcedRun (line : Line) (c : ℕ) (scene : List Scene) : Type 
 pub record IsLineRunOf (line : Line) (scene : List Scene) : Type 0 where
   pub answers : List Answer
   pub after : World
-  pub ran : world_run Whole line (new_world line) (filter_map event_of scene) ≡ Ok (answers, after)
+  pub ran : world_run line (new_world line) (filter_map event_of scene) ≡ Ok (answers, after)
   pub is_line_run : IsLineRun line (filter_map event_of scene) answers after
 
 -- ## What is computed of both
@@ -122,7 +121,7 @@ seen_after line (Err why) others = Refused ∷ []
 -- what the centres show
 unfoldable pub centres_show : Line → World → List Move → List Seen
 centres_show line w [] = []
-centres_show line w (move ∷ moves) = seen_after line (world_step Whole line w move.event) (λ after. centres_show line after moves)
+centres_show line w (move ∷ moves) = seen_after line (world_step line w move.event) (λ after. centres_show line after moves)
 
 abbrev pub seen_of_line : Line → Option Played → (LineState → List Seen) → List Seen
 seen_of_line line (Some p) others = Shows p.shown (sheet line p.state) ∷ others p.state

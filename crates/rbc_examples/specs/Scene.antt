@@ -2,7 +2,6 @@
 use Rattle.std.specs.Prelude.{ℕ, zero, suc, ◌+◌, ◌==◌, ◌||◌, Bool, true, false, List, [], ◌∷◌, ◌++◌, map, length, Option, Some, is_some, Result, Ok, Err, if◌then◌else◌}
 use Rattle.std.specs.List.{range_with_len, list_any, filter, find, zip, flat_map}
 use Rattle.std.specs.Option.{option_map_or}
-use Rattle.rbc_spec.specs.Reach.{Whole}
 use Rattle.rbc_spec.specs.SectionRuns.{SectionRun, no_run, within}
 use Rattle.rbc_spec.specs.Line.{Line, Section, Centre as CentreOfLine, section}
 use Rattle.rbc_spec.specs.Sections.{section_count}
@@ -221,7 +220,7 @@ seen_from l (Look ∷ scenes) w = (Shows (view l w) ∷ []) ∷ seen_from l scen
 seen_from l (LookAtFrame from to number ∷ scenes) w = (ShowsFrame (frame_sent w from to number) ∷ []) ∷ seen_from l scenes w
 seen_from l (LookAtClock c ∷ scenes) w = (ShowsClock (w.at c).clock ∷ []) ∷ seen_from l scenes w
 seen_from l (LookAtTrains ∷ scenes) w = (ShowsTrains w.trains ∷ []) ∷ seen_from l scenes w
-seen_from l (Happens event ∷ scenes) w = played l (world_step Whole l w event) (seen_from l scenes)
+seen_from l (Happens event ∷ scenes) w = played l (world_step l w event) (seen_from l scenes)
 
 -- what is seen of them on a new line
 unfoldable pub seen : Line → List Scene → List (List Item)

@@ -1,7 +1,6 @@
 -- Frames that no world sends: a centre takes them without effect.
 use Rattle.std.specs.Prelude.{ℕ, Bool, true, false, List, [], ◌∷◌, ◌++◌, map, Option, Some, None, Result, Ok, Err, ℤ, pos, ◌-ℤ◌}
 use Rattle.std.specs.List.{filter, filter_map, range_with_len}
-use Rattle.rbc_spec.specs.Reach.{Whole}
 use Rattle.rbc_spec.specs.SectionRuns.{SectionRun, no_run}
 use Rattle.rbc_spec.specs.Line.{Line}
 use Rattle.rbc_spec.specs.Sections.{section_count}
@@ -86,7 +85,7 @@ delivered_as l d (Err why) = None
 -- what the frames of this number from centre d come to at centre c, each for itself
 abbrev pub deliveries : Line → (c d number : ℕ) → Centre → List Body → List (Option Delivered)
 deliveries l c d number k bodies =
-    map (λ body. delivered_as l d (step Whole l c (Deliver d (record { number = number; stamp = 1; body = body })) k)) bodies
+    map (λ body. delivered_as l d (step l c (Deliver d (record { number = number; stamp = 1; body = body })) k)) bodies
 
 -- ## Centres in the midst of scenes
 
@@ -96,7 +95,7 @@ world_in w (Err why) = w
 
 -- a centre of the line behind a scene
 unfoldable pub centre_behind : List Scene → ℕ → Centre
-centre_behind scene c = (world_in (new_world line) (world_run Whole line (new_world line) (filter_map event_of scene))).at c
+centre_behind scene c = (world_in (new_world line) (world_run line (new_world line) (filter_map event_of scene))).at c
 
 -- A waits for sections from 4 on, with sections 1 to 3 in train 1's hand
 abbrev pub asking : Centre

@@ -10,7 +10,6 @@ mod not_allowed;
 mod one_places;
 
 ghost use Rattle.std.specs.Prelude.{◌≡◌, [], ◌∷◌, None, Some, Ok, Err};
-ghost use Rattle.rbc_spec.specs.Reach.{Whole};
 ghost use Rattle.rbc_spec.specs.Centre.{beginning};
 ghost use Rattle.rbc_spec.specs.Frame.{RouteAsk, TakingOver};
 ghost use Rattle.rbc_spec.specs.Step.{LinkFull};
@@ -116,7 +115,7 @@ pub fn refused_steps()
     ensures past_the_last { stamps line stamp_past_the_last (beginning line 0) ≡ stamp_past_the_last_shows }
     ensures no_link { stamps (line_of_three 1) frame_without_a_link (beginning (line_of_three 1) 0) ≡ frame_without_a_link_shows }
     ensures three_numbers_left { stamps line (Set 0 ∷ []) (having_sent 65533) ≡ Err LinkFull ∷ [] }
-    ensures whole_run { run_items (world_run Whole line (new_world line) set_and_session) ≡ set_and_session_shows }
+    ensures whole_run { run_items (world_run line (new_world line) set_and_session) ≡ set_and_session_shows }
     ensures full_hand { asks_behind (record { first = 470; count = 5 }) ≡ RouteAsk 1 475 27 ∷ [] }
     ensures last_section { asks_behind (record { first = 490; count = 5 }) ≡ RouteAsk 1 495 17 ∷ [] }
     ensures four_numbers_left { stamps line (Set 0 ∷ []) (having_sent 65532) ≡ Ok (1, None) ∷ [] }

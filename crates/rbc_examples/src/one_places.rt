@@ -13,7 +13,7 @@ ghost use Rattle.rbc_examples.specs.ThreeCentres.{border_of_the_first, second_ta
 ghost use Rattle.rbc_examples.specs.NotAllowed.{one_yield, two_yields};
 ghost use Rattle.rbc_examples.specs.OnePlaces.{has_one_place, keeps_one_place};
 
-/// Behind each event of these scenes each thing is in one place, by all rules. Where a Yield is on the way twice it is not.
+/// Behind each event of these scenes each thing is in one place. Where a Yield is on the way twice it is not.
 pub fn each_thing_stays_in_one_place()
     ensures starts { list_all (keeps_one_place line) (right_comes ∷ right_goes_back ∷ right_serves_a_later_start ∷ ask_delivered_twice ∷ right_is_refused ∷ hand_outlives_the_session ∷ start_after_the_end_of_mission ∷ unset_of_the_first_section ∷ []) ≡ true }
     ensures requests { list_all (keeps_one_place line) (request_asks_over_the_border ∷ asks_again_each_round ∷ report_clears ∷ no_integrity_frees_nothing ∷ request_extends_over_the_border ∷ early_frame ∷ end_of_mission ∷ []) ≡ true }

@@ -2,7 +2,6 @@
 use Rattle.std.proofs.Common.{ℕ, ◌+◌, ◌*◌, ◌==◌, ◌&&◌, not, Bool, true, false, if◌then◌else◌, Some, None, is_none, nat_lt, nat_le, refl}
 use Rattle.std.specs.Option.{option_map_or}
 use Rattle.rbc_spec.specs.Maps.{put}
-use Rattle.rbc_spec.specs.Reach.{Reach, asks_rights, lends_routes, hands_over}
 use Rattle.rbc_spec.specs.SectionRuns.{no_run, most_in_hand, within, behind, is_empty, part_before, part_from, joined, all_of}
 use Rattle.rbc_spec.specs.Line.{Line, is_home, end, next_centre, registrar}
 use Rattle.rbc_spec.specs.Sections.{is_on}
@@ -49,14 +48,14 @@ module _ (line : Line) (c t : ℕ) where
       (where_keeps (λ k. not (k.has_asked t)) (then_keeps (option_keeps (registrar line t) (λ r. send r (AskRight t)) (λ r. send_keeps r (AskRight t)) rest_keeps)
       (becomes (λ k. record k { has_asked = put k.has_asked t true }) (λ k. refl))))
 
-  start_new_keeps : (reach : Reach) (place : Place) → Keeps (start_new reach line c t place)
-  start_new_keeps reach place = choose_keeps (λ k. all_of (is_free line c k) (covered line place))
-      (if_keeps (is_registrar_of line c t) (start_here_keeps place) (if_keeps (asks_rights reach) (start_waiting_keeps place) reject_keeps)) reject_keeps
+  start_new_keeps : (place : Place) → Keeps (start_new line c t place)
+  start_new_keeps place = choose_keeps (λ k. all_of (is_free line c k) (covered line place))
+      (if_keeps (is_registrar_of line c t) (start_here_keeps place) (start_waiting_keeps place)) reject_keeps
 
-  start_mission_keeps : (reach : Reach) (is_valid : Bool) (position : Position) → Keeps (start_mission reach line c t is_valid position)
-  start_mission_keeps reach is_valid position = by_keeps (λ k. fit_place line is_valid position)
-      (λ place k. option_map_or (λ m. restart line t place m k) (k.mission t) (start_new reach line c t place k))
-      (λ place. by_keeps (λ k. k.mission t) (restart line t place) (restart_keeps place) (start_new_keeps reach place)) reject_keeps
+  start_mission_keeps : (is_valid : Bool) (position : Position) → Keeps (start_mission line c t is_valid position)
+  start_mission_keeps is_valid position = by_keeps (λ k. fit_place line is_valid position)
+      (λ place k. option_map_or (λ m. restart line t place m k) (k.mission t) (start_new line c t place k))
+      (λ place. by_keeps (λ k. k.mission t) (restart line t place) (restart_keeps place) (start_new_keeps place)) reject_keeps
 
   -- ## Requests
 
@@ -68,19 +67,19 @@ module _ (line : Line) (c t : ℕ) where
       (λ k. ((is_home line d (behind m.hand) && is_on line m.place.track (behind m.hand)) && nat_lt m.hand.count most_in_hand) && (is_empty m.pool && is_none (k.route_ask t)))
       (ask_route_keeps line c t d m))
 
-  at_border_keeps : (reach : Reach) (d : ℕ) → Keeps (at_border reach line c t d)
-  at_border_keeps reach d = then_keeps (if_keeps (hands_over reach) (announce_if_due_keeps d) rest_keeps) (ask_route_if_due_keeps d)
+  at_border_keeps : (d : ℕ) → Keeps (at_border line c t d)
+  at_border_keeps d = then_keeps (announce_if_due_keeps d) (ask_route_if_due_keeps d)
 
-  grant_keeps : (reach : Reach) (m : Mission) → Keeps (grant reach line c t m)
-  grant_keeps reach m = record {
+  grant_keeps : (m : Mission) → Keeps (grant line c t m)
+  grant_keeps m = record {
     clock = λ k. (then_keeps (then_keeps (then_keeps (booked_keeps is_open (Taken t) (extension line c k m)) (set_mission_keeps t (Some (extended_by (extension line c k m) m))))
         (say_keeps t m.place.group (Authority (authority line (extended_by (extension line c k m) m)))))
-        (if_keeps (lends_routes reach) (option_keeps (next_centre line c m.place.track) (at_border reach line c t) (at_border_keeps reach) rest_keeps) rest_keeps)).clock k;
+        (option_keeps (next_centre line c m.place.track) (at_border line c t) at_border_keeps rest_keeps)).clock k;
   }
 
-  request_keeps : (reach : Reach) (position : Position) → Keeps (request reach line c t position)
-  request_keeps reach position = mission_keeps t _ (λ m. option_keeps (place_on line m.place.track position) (λ place. grant reach line c t (record m { place = place }))
-      (λ place. grant_keeps reach (record m { place = place })) rest_keeps)
+  request_keeps : (position : Position) → Keeps (request line c t position)
+  request_keeps position = mission_keeps t _ (λ m. option_keeps (place_on line m.place.track position) (λ place. grant line c t (record m { place = place }))
+      (λ place. grant_keeps (record m { place = place })) rest_keeps)
 
   -- ## Reports, and the end of a mission
 
@@ -125,16 +124,16 @@ module _ (line : Line) (c t : ℕ) where
 
 -- ## A train's message
 
-pub answered_keeps : (reach : Reach) (line : Line) (c : ℕ) (m : TrainMessage) (body : TrainBody) → Keeps (answered reach line c m body)
-answered_keeps reach line c m (TrainData position) = then_keeps (change_mission_keeps m.nid_engine (λ n. record n { has_data = true }))
+pub answered_keeps : (line : Line) (c : ℕ) (m : TrainMessage) (body : TrainBody) → Keeps (answered line c m body)
+answered_keeps line c m (TrainData position) = then_keeps (change_mission_keeps m.nid_engine (λ n. record n { has_data = true }))
     (say_keeps m.nid_engine unknown_group (DataAcknowledged m.t_train))
-answered_keeps reach line c m (Request position) = request_keeps line c m.nid_engine reach position
-answered_keeps reach line c m (Report position) = report_keeps line c m.nid_engine position
-answered_keeps reach line c m (ShorteningGranted stamp position) = answer_granted_keeps line c m.nid_engine position
-answered_keeps reach line c m (ShorteningRejected stamp position) = change_mission_keeps m.nid_engine (λ n. record n { proposal = None })
-answered_keeps reach line c m (EndOfMission position) = end_mission_keeps line c m.nid_engine position
-answered_keeps reach line c m InitiationOfSession = then_keeps (then_keeps (close_session_keeps line c m.nid_engine) (set_phase_keeps line c m.nid_engine Opened))
+answered_keeps line c m (Request position) = request_keeps line c m.nid_engine position
+answered_keeps line c m (Report position) = report_keeps line c m.nid_engine position
+answered_keeps line c m (ShorteningGranted stamp position) = answer_granted_keeps line c m.nid_engine position
+answered_keeps line c m (ShorteningRejected stamp position) = change_mission_keeps m.nid_engine (λ n. record n { proposal = None })
+answered_keeps line c m (EndOfMission position) = end_mission_keeps line c m.nid_engine position
+answered_keeps line c m InitiationOfSession = then_keeps (then_keeps (close_session_keeps line c m.nid_engine) (set_phase_keeps line c m.nid_engine Opened))
     (say_keeps m.nid_engine unknown_group SystemVersion)
-answered_keeps reach line c m TerminationOfSession = then_keeps (close_session_keeps line c m.nid_engine) (say_keeps m.nid_engine unknown_group TerminationAcknowledged)
-answered_keeps reach line c m (StartOfMission is_valid position) = start_mission_keeps line c m.nid_engine reach is_valid position
-answered_keeps reach line c m SessionEstablished = set_phase_keeps line c m.nid_engine Up
+answered_keeps line c m TerminationOfSession = then_keeps (close_session_keeps line c m.nid_engine) (say_keeps m.nid_engine unknown_group TerminationAcknowledged)
+answered_keeps line c m (StartOfMission is_valid position) = start_mission_keeps line c m.nid_engine is_valid position
+answered_keeps line c m SessionEstablished = set_phase_keeps line c m.nid_engine Up

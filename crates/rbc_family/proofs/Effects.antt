@@ -2,7 +2,6 @@
 use Rattle.std.proofs.Common.{◌≡◌, ℕ, Bool, true, false, not, Option, Some, None, refl}
 use Rattle.std.specs.Option.{option_map_or}
 use Rattle.rbc_spec.specs.Maps.{put}
-use Rattle.rbc_spec.specs.Reach.{Reach, follows_rule}
 use Rattle.rbc_spec.specs.Line.{Line, is_home}
 use Rattle.rbc_spec.specs.Message.{TrainMessage}
 use Rattle.rbc_spec.specs.Frame.{Frame, RouteWithdraw}
@@ -41,19 +40,19 @@ module _ (line : Line) (c : ℕ) where
         (then_keeps (then_keeps (becomes (λ j. record j { wish = put j.wish s true }) (λ j. refl)) (tell_keeps (Asked s))) (wished_keeps s (k.book s))))).clock k;
   }
 
-  taken_keeps : (reach : Reach) (d : ℕ) (f : Frame) (answer : LinkAnswer) → Keeps (taken_by reach line c d f answer)
-  taken_keeps reach d f Next = then_keeps (becomes (λ k. record k { taken = put k.taken d f.number }) (λ k. refl)) (if_keeps (follows_rule reach f.body) (received_keeps line c d f.body) rest_keeps)
-  taken_keeps reach d f Old = rest_keeps
-  taken_keeps reach d f Early = rest_keeps
-  taken_keeps reach d f NoLink = rest_keeps
+  taken_keeps : (d : ℕ) (f : Frame) (answer : LinkAnswer) → Keeps (taken_by line c d f answer)
+  taken_keeps d f Next = then_keeps (becomes (λ k. record k { taken = put k.taken d f.number }) (λ k. refl)) (received_keeps line c d f.body)
+  taken_keeps d f Old = rest_keeps
+  taken_keeps d f Early = rest_keeps
+  taken_keeps d f NoLink = rest_keeps
 
-  pub clock_kept : (reach : Reach) (event : Event) (k : Centre) → (effect reach line c k event).reply.state.clock ≡ k.clock
-  clock_kept reach (Train m) k = by_silence (silence line c k m)
+  pub clock_kept : (event : Event) (k : Centre) → (effect line c k event).reply.state.clock ≡ k.clock
+  clock_kept (Train m) k = by_silence (silence line c k m)
     where
       by_silence : (o : Option Reason) → (option_map_or {U = Effect} (λ why. record { reply = rest k; link = None; silence = Some why }) o
-          (record { reply = hear_and_answer reach line c m k; link = None; silence = None })).reply.state.clock ≡ k.clock
+          (record { reply = hear_and_answer line c m k; link = None; silence = None })).reply.state.clock ≡ k.clock
       by_silence (Some why) = refl
-      by_silence None = (then_keeps (hears m) (answered_keeps reach line c m m.body)).clock k
-  clock_kept reach (Set s) k = (set_keeps s).clock k
-  clock_kept reach (Unset s) k = (unset_keeps s).clock k
-  clock_kept reach (Deliver d f) k = (taken_keeps reach d f (link_answer line c k d f)).clock k
+      by_silence None = (then_keeps (hears m) (answered_keeps line c m m.body)).clock k
+  clock_kept (Set s) k = (set_keeps s).clock k
+  clock_kept (Unset s) k = (unset_keeps s).clock k
+  clock_kept (Deliver d f) k = (taken_keeps d f (link_answer line c k d f)).clock k

@@ -5,7 +5,6 @@ use Rattle.std.proofs.lemmas.Bool.{cases_Bool, cond-true, cond-false}
 use Rattle.std.proofs.lemmas.Bool.Decides.{eqb_tells}
 use Rattle.std.proofs.lemmas.List.Elements.{All-cons, All-head, All-tail, All-filter, All-weaker}
 use Rattle.rbc_spec.specs.Maps.{put}
-use Rattle.rbc_spec.specs.Reach.{Reach}
 use Rattle.rbc_spec.specs.Line.{Line, is_centre}
 use Rattle.rbc_spec.specs.Frame.{Frame}
 use Rattle.rbc_spec.specs.Outcome.{Outcome}
@@ -31,34 +30,34 @@ IsThere w c event = Unit {0}
 not_empty : (e : LogEntry) (es : List LogEntry) → e ∷ es ≡ [] → ⊥
 not_empty e es is = cc
 
-module _ (reach : Reach) (line : Line) where
+module _ (line : Line) where
   at_own : (w : World) (c : ℕ) (done : Result (Answer × World) Refusal) → is_centre line c ≡ true → at_centre line w c done ≡ done
   at_own w c done own = cond-true (is_centre line c) done (Ok (NoCentre, w)) own
 
   -- the step of a centre is a step of the world
-  answers : (w : World) (c : ℕ) (event : Event) (outcome : Outcome) (mid : Centre) → is_centre line c ≡ true → step reach line c event (w.at c) ≡ Ok (outcome, mid) → IsThere w c event
-      → (trains : List ℕ) × (world_step reach line w (happening c event) ≡ Ok (Answered outcome, record { at = put w.at c mid; trains = trains }))
+  answers : (w : World) (c : ℕ) (event : Event) (outcome : Outcome) (mid : Centre) → is_centre line c ≡ true → step line c event (w.at c) ≡ Ok (outcome, mid) → IsThere w c event
+      → (trains : List ℕ) × (world_step line w (happening c event) ≡ Ok (Answered outcome, record { at = put w.at c mid; trains = trains }))
   unfolding world_step
   answers w c (Train m) outcome mid own is there = (mention line m.nid_engine w.trains, at_own w c _ own ∙ ap (λ r. stepped w c (mention line m.nid_engine w.trains) r) is)
   answers w c (Set s) outcome mid own is there = (w.trains, at_own w c _ own ∙ ap (λ r. stepped w c w.trains r) is)
   answers w c (Unset s) outcome mid own is there = (w.trains, at_own w c _ own ∙ ap (λ r. stepped w c w.trains r) is)
   answers w c (Deliver from f) outcome mid own is there = (
     w.trains,
-    ap (λ (o : Option Frame). option_map_or (λ g. takes reach line w c w.trains (Deliver from g)) o (Ok (NotSent, w))) there ∙ ap (λ r. stepped w c w.trains r) is,
+    ap (λ (o : Option Frame). option_map_or (λ g. takes line w c w.trains (Deliver from g)) o (Ok (NotSent, w))) there ∙ ap (λ r. stepped w c w.trains r) is,
   )
 
   -- a step, and the run behind it
-  run_on : (w mid last : World) (event : world.Event) (events : List world.Event) (answer : Answer) (others : List Answer) → world_step reach line w event ≡ Ok (answer, mid)
-      → world_run reach line mid events ≡ Ok (others, last) → world_run reach line w (event ∷ events) ≡ Ok (answer ∷ others, last)
+  run_on : (w mid last : World) (event : world.Event) (events : List world.Event) (answer : Answer) (others : List Answer) → world_step line w event ≡ Ok (answer, mid)
+      → world_run line mid events ≡ Ok (others, last) → world_run line w (event ∷ events) ≡ Ok (answer ∷ others, last)
   unfolding world_run
   run_on w mid last event events answer others first rest =
-      ap (λ s. s >>= (λ (x : Answer × World). world_run reach line x.1 events >>= (λ (y : List Answer × World). Ok (x.0 ∷ y.0, y.1)))) first
+      ap (λ s. s >>= (λ (x : Answer × World). world_run line x.1 events >>= (λ (y : List Answer × World). Ok (x.0 ∷ y.0, y.1)))) first
       ∙ ap (λ r. r >>= (λ (y : List Answer × World). Ok (answer ∷ y.0, y.1))) rest
 
   module _ (v : ℕ → Centre) where
     -- what is left of a log, from a world on
     record Left (w : World) (d : ℕ) (es : List LogEntry) : Type 0 where
-      replays : Replays reach line d (w.at d) es (v d)
+      replays : Replays line d (w.at d) es (v d)
       sent : All (λ (e : LogEntry). IsSent v d e.event) es
       known : is_centre line d ≡ false → es ≡ []
 
@@ -69,7 +68,7 @@ module _ (reach : Reach) (line : Line) where
     -- its own log goes on behind an entry
     gone : (w : World) (trains : List ℕ) (c : ℕ) (e : LogEntry) (es : List LogEntry) (left : Left w c (e ∷ es)) → Left (record { at = put w.at c left.replays.0; trains = trains }) c es
     gone w trains c e es left = record {
-      replays = subst (λ k. Replays reach line c k es (v c)) (sym (put_there w.at c left.replays.0)) left.replays.3;
+      replays = subst (λ k. Replays line c k es (v c)) (sym (put_there w.at c left.replays.0)) left.replays.3;
       sent = All-tail (λ (f : LogEntry). IsSent v c f.event) e es left.sent;
       known = λ no. absurd (not_empty e es (left.known no));
     }
@@ -83,15 +82,15 @@ module _ (reach : Reach) (line : Line) where
       | inr h ↦
           let theirs : Left w d (entries_of d es) = subst (λ b. Left w d (if b then (e ∷ entries_of d es) else entries_of d es)) h.0 (all d) in
           let same : put w.at e.centre mid d ≡ w.at d = put_other w.at e.centre d mid (λ is. h.1 (sym is)) in
-          record { replays = subst (λ k. Replays reach line d k (entries_of d es) (v d)) (sym same) theirs.replays; sent = theirs.sent; known = theirs.known }
+          record { replays = subst (λ k. Replays line d k (entries_of d es) (v d)) (sym same) theirs.replays; sent = theirs.sent; known = theirs.known }
     ]
 
     -- a frame that was sent before a stamp stands in the world from which on all stamps are as high
     frame_there : (w : World) (c from : ℕ) (f : Frame) (stamp : ℕ) (es : List LogEntry) → Left w from es → All (λ (e : LogEntry). stamp ≤ e.outcome.stamp) es → f.stamp < stamp
         → IsSent v c (Deliver from f) → frame_sent w from c f.number ≡ Some f
     frame_there w c from f stamp es left late early sent =
-        let grown : (v from).sent c ≡ (w.at from).sent c ++ sent_to c es = sent_replayed reach line from c (w.at from) es (v from) left.replays in
-        let all_late : All (λ (g : Frame). stamp ≤ g.stamp) (sent_to c es) = frames_late reach line from stamp c (w.at from) es (v from) left.replays late in
+        let grown : (v from).sent c ≡ (w.at from).sent c ++ sent_to c es = sent_replayed line from c (w.at from) es (v from) left.replays in
+        let all_late : All (λ (g : Frame). stamp ≤ g.stamp) (sent_to c es) = frames_late line from stamp c (w.at from) es (v from) left.replays late in
         let here : slice_get ((w.at from).sent c) (f.number - 1) ≡ Some f =
         get_early (λ (g : Frame). stamp ≤ g.stamp) ((w.at from).sent c) (sent_to c es) (f.number - 1) f (subst (λ xs. slice_get xs (f.number - 1) ≡ Some f) grown sent.1) all_late
         (λ (h : stamp ≤ f.stamp). absurd (omega (arith, h, early))) in
@@ -106,7 +105,7 @@ module _ (reach : Reach) (line : Line) where
 
     record Ran (w : World) (es : List LogEntry) : Type 0 where
       last : World
-      runs : world_run reach line w (map happened es) ≡ Ok (map answered es, last)
+      runs : world_run line w (map happened es) ≡ Ok (map answered es, last)
       ends_so : (d : ℕ) → last.at d ≡ v d
 
     -- entries in order that are left, from a world on
@@ -117,7 +116,7 @@ module _ (reach : Reach) (line : Line) where
         let c : ℕ = e.centre in
         let mine : Left w c (e ∷ entries_of c es) = subst (λ b. Left w c (if b then (e ∷ entries_of c es) else entries_of c es)) (itself c) (left c) in
         let mid : Centre = mine.replays.0 in
-        let it = stamped reach line c e.event (w.at c) mid e.outcome mine.replays.2 in
+        let it = stamped line c e.event (w.at c) mid e.outcome mine.replays.2 in
         let behind : All (λ (f : LogEntry). e.outcome.stamp ≤ f.outcome.stamp) es = λ k d within. (up 0 (suc k) d (omega arith) (omega (arith, within))).0 in
         let late : (d : ℕ) → All (λ (f : LogEntry). e.outcome.stamp ≤ f.outcome.stamp) (entries_of d (e ∷ es)) =
         λ d. All-filter (λ (f : LogEntry). f.centre == d) (λ (f : LogEntry). e.outcome.stamp ≤ f.outcome.stamp) (e ∷ es)
@@ -140,11 +139,11 @@ module _ (reach : Reach) (line : Line) where
 abbrev ended : Line → (ℕ → Centre) → ℕ → Centre
 ended line ends d = if is_centre line d then ends d else beginning line d
 
-module _ (reach : Reach) (line : Line) (logs : ℕ → List LogEntry) (ends : ℕ → Centre) (are : AreLogs reach line logs ends) where
-  replayed : (d : ℕ) → Replays reach line d (beginning line d) (logs d) (ended line ends d)
+module _ (line : Line) (logs : ℕ → List LogEntry) (ends : ℕ → Centre) (are : AreLogs line logs ends) where
+  replayed : (d : ℕ) → Replays line d (beginning line d) (logs d) (ended line ends d)
   replayed d = ⊎_elim
-      (λ (t : is_centre line d ≡ true). subst (λ k. Replays reach line d (beginning line d) (logs d) k) (sym (cond-true (is_centre line d) (ends d) (beginning line d) t)) (are.replays d t))
-      (λ (f : is_centre line d ≡ false). subst (λ es. Replays reach line d (beginning line d) es (ended line ends d)) (sym (are.no_other d f))
+      (λ (t : is_centre line d ≡ true). subst (λ k. Replays line d (beginning line d) (logs d) k) (sym (cond-true (is_centre line d) (ends d) (beginning line d) t)) (are.replays d t))
+      (λ (f : is_centre line d ≡ false). subst (λ es. Replays line d (beginning line d) es (ended line ends d)) (sym (are.no_other d f))
       (cond-false (is_centre line d) (ends d) (beginning line d) f))
       (cases_Bool (is_centre line d))
 
@@ -152,17 +151,17 @@ module _ (reach : Reach) (line : Line) (logs : ℕ → List LogEntry) (ends : �
   sent_of c (Train m) h = tt
   sent_of c (Set s) h = tt
   sent_of c (Unset s) h = tt
-  sent_of c (Deliver from f) h = sent_under reach line from c (logs from) (ended line ends from) f (replayed from) h
+  sent_of c (Deliver from f) h = sent_under line from c (logs from) (ended line ends from) f (replayed from) h
 
-  begins : IsLegal logs → (merged : List LogEntry) → IsMerge logs merged → (d : ℕ) → Left reach line (ended line ends) (new_world line) d (entries_of d merged)
+  begins : IsLegal logs → (merged : List LogEntry) → IsMerge logs merged → (d : ℕ) → Left line (ended line ends) (new_world line) d (entries_of d merged)
   unfolding new_world
-  begins legal merged is d = subst (λ es. Left reach line (ended line ends) (new_world line) d es) (sym (is.each d)) (record {
+  begins legal merged is d = subst (λ es. Left line (ended line ends) (new_world line) d es) (sym (is.each d)) (record {
     replays = replayed d;
     sent = All-weaker (λ (e : LogEntry). IsFromLog logs d e.event) (λ (e : LogEntry). IsSent (ended line ends) d e.event) (λ e h. sent_of d e.event h) (logs d) (legal d);
     known = are.no_other d;
   })
 
-  pub family : IsLegal logs → (merged : List LogEntry) → IsMerge logs merged → IsWorldRun reach line merged ends
+  pub family : IsLegal logs → (merged : List LogEntry) → IsMerge logs merged → IsWorldRun line merged ends
   family legal merged is =
-      let it : Ran reach line (ended line ends) (new_world line) merged = ran reach line (ended line ends) (new_world line) merged (begins legal merged is) is.in_order in
+      let it : Ran line (ended line ends) (new_world line) merged = ran line (ended line ends) (new_world line) merged (begins legal merged is) is.in_order in
       record { last = it.last; runs = it.runs; ends_so = λ c t. it.ends_so c ∙ cond-true (is_centre line c) (ends c) (beginning line c) t }

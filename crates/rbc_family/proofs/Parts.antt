@@ -2,7 +2,6 @@
 use Rattle.std.proofs.Common.{◌≡◌, ◌⊎◌, ℕ, zero, suc, ◌+◌, ◌-◌, ◌≤◌, List, [], ◌∷◌, ◌++◌, length, All, Contains, Option, Some, None, slice_get, refl, sym, ap, subst, ◌∙◌, arith, append_assoc, append-nil, length-append, inl, inr, ⊎_elim}
 use Rattle.std.proofs.lemmas.List.Elements.{All-nil, All-append, All-head, All-tail}
 use Rattle.std.proofs.lemmas.Option.{slice_get_read}
-use Rattle.rbc_spec.specs.Reach.{Reach}
 use Rattle.rbc_spec.specs.Line.{Line}
 use Rattle.rbc_spec.specs.Frame.{Frame}
 use Rattle.rbc_spec.specs.Centre.{Centre, beginning}
@@ -18,29 +17,29 @@ get_append (x ∷ xs) ys (suc i) f is = ⊎_elim
     (λ (back : (j : ℕ) × (i ≡ length xs + j) × (slice_get ys j ≡ Some f)). inr (back.0, omega (arith, back.1), back.2))
     (get_append xs ys i f is)
 
-module _ (reach : Reach) (line : Line) (c : ℕ) where
+module _ (line : Line) (c : ℕ) where
   -- what was sent on the way
-  pub sent_replayed : (d : ℕ) (k : Centre) (es : List LogEntry) (last : Centre) → Replays reach line c k es last → last.sent d ≡ k.sent d ++ sent_to d es
+  pub sent_replayed : (d : ℕ) (k : Centre) (es : List LogEntry) (last : Centre) → Replays line c k es last → last.sent d ≡ k.sent d ++ sent_to d es
   sent_replayed d k [] last r = ap (λ (x : Centre). x.sent d) r ∙ sym (append-nil (k.sent d))
   sent_replayed d k (e ∷ es) last r =
-      sent_replayed d r.0 es last r.3 ∙ ap (λ xs. xs ++ sent_to d es) ((stamped reach line c e.event k r.0 e.outcome r.2).sent d)
+      sent_replayed d r.0 es last r.3 ∙ ap (λ xs. xs ++ sent_to d es) ((stamped line c e.event k r.0 e.outcome r.2).sent d)
       ∙ append_assoc (k.sent d) (e.outcome.frames d) (sent_to d es)
 
   -- frames of entries from a stamp on have stamps from there on
-  pub frames_late : (least d : ℕ) (k : Centre) (es : List LogEntry) (last : Centre) → Replays reach line c k es last → All (λ (e : LogEntry). least ≤ e.outcome.stamp) es
+  pub frames_late : (least d : ℕ) (k : Centre) (es : List LogEntry) (last : Centre) → Replays line c k es last → All (λ (e : LogEntry). least ≤ e.outcome.stamp) es
       → All (λ (f : Frame). least ≤ f.stamp) (sent_to d es)
   frames_late least d k [] last r late = All-nil (λ (f : Frame). least ≤ f.stamp)
   frames_late least d k (e ∷ es) last r late = All-append (λ (f : Frame). least ≤ f.stamp) (e.outcome.frames d) (sent_to d es)
-      (λ i f low. let same = (stamped reach line c e.event k r.0 e.outcome r.2).frames d i f low in
+      (λ i f low. let same = (stamped line c e.event k r.0 e.outcome r.2).frames d i f low in
       let first = All-head (λ (e : LogEntry). least ≤ e.outcome.stamp) e es late in omega (arith, same, first))
       (frames_late least d r.0 es last r.3 (All-tail (λ (e : LogEntry). least ≤ e.outcome.stamp) e es late))
 
   -- what was sent on the way is numbered behind what was sent before
-  numbers_replayed : (d : ℕ) (k : Centre) (es : List LogEntry) (last : Centre) → Replays reach line c k es last → (i : ℕ) (f : Frame) → slice_get (sent_to d es) i ≡ Some f
+  numbers_replayed : (d : ℕ) (k : Centre) (es : List LogEntry) (last : Centre) → Replays line c k es last → (i : ℕ) (f : Frame) → slice_get (sent_to d es) i ≡ Some f
       → f.number ≡ length (k.sent d) + i + 1
   numbers_replayed d k [] last r i f is = cc
   numbers_replayed d k (e ∷ es) last r i f is =
-      let it = stamped reach line c e.event k r.0 e.outcome r.2 in
+      let it = stamped line c e.event k r.0 e.outcome r.2 in
       let long : length (r.0.sent d) ≡ length (k.sent d) + length (e.outcome.frames d) = ap length (it.sent d) ∙ length-append (k.sent d) (e.outcome.frames d) in
       ⊎_elim
       (λ (front : slice_get (e.outcome.frames d) i ≡ Some f). it.numbers d i f front)
@@ -48,7 +47,7 @@ module _ (reach : Reach) (line : Line) (c : ℕ) where
       (get_append (e.outcome.frames d) (sent_to d es) i f is)
 
   -- from the beginning, so each frame of a log stands under its number among what its centre sent
-  pub sent_under : (d : ℕ) (es : List LogEntry) (last : Centre) (f : Frame) → Replays reach line c (beginning line c) es last → Contains (sent_to d es) f
+  pub sent_under : (d : ℕ) (es : List LogEntry) (last : Centre) (f : Frame) → Replays line c (beginning line c) es last → Contains (sent_to d es) f
       → (1 ≤ f.number) × (slice_get (last.sent d) (f.number - 1) ≡ Some f)
   unfolding beginning
   sent_under d es last f r there =

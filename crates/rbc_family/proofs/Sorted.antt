@@ -5,7 +5,6 @@ use Rattle.std.proofs.lemmas.List.Elements.{All-nil, All-cons, All-contains, All
 use Rattle.std.proofs.lemmas.List.Kept.{AllPairs-cons, AllPairs-filter}
 use Rattle.std.proofs.lemmas.List.Sorted.{Contains-permutation, sum_by-IsPermutation}
 use Rattle.std.proofs.lemmas.List.Sums.{length-filter}
-use Rattle.rbc_spec.specs.Reach.{Reach}
 use Rattle.rbc_spec.specs.Line.{Line, is_centre}
 use Rattle.rbc_spec.specs.Centre.{Centre, beginning}
 use Rattle.rbc_family.specs.Logs.{LogEntry, Replays, AreLogs, entries_of, IsInOrder, IsMerge}
@@ -102,25 +101,25 @@ same_list (x ∷ xs) (y ∷ ys) up rise has long =
 
 -- ## The stamps of a log rise
 
-module _ (reach : Reach) (line : Line) (c : ℕ) where
-  above : (k : Centre) (es : List LogEntry) (last : Centre) → Replays reach line c k es last → (stamp : ℕ) → stamp ≤ k.clock → All (λ (e : LogEntry). stamp < e.outcome.stamp) es
+module _ (line : Line) (c : ℕ) where
+  above : (k : Centre) (es : List LogEntry) (last : Centre) → Replays line c k es last → (stamp : ℕ) → stamp ≤ k.clock → All (λ (e : LogEntry). stamp < e.outcome.stamp) es
   above k [] last r stamp low = All-nil (λ (e : LogEntry). stamp < e.outcome.stamp)
   above k (e ∷ es) last r stamp low =
-      let it = stamped reach line c e.event k r.0 e.outcome r.2 in
+      let it = stamped line c e.event k r.0 e.outcome r.2 in
       All-cons (λ (f : LogEntry). stamp < f.outcome.stamp) e es (omega (arith, low, it.above_clock)) (above r.0 es last r.3 stamp (omega (arith, low, it.above_clock, it.clock)))
 
-  log_rises : (k : Centre) (es : List LogEntry) (last : Centre) → Replays reach line c k es last → AllPairs IsBelow es
+  log_rises : (k : Centre) (es : List LogEntry) (last : Centre) → Replays line c k es last → AllPairs IsBelow es
   log_rises k [] last r = nothing
   log_rises k (e ∷ es) last r =
-      let it = stamped reach line c e.event k r.0 e.outcome r.2 in
+      let it = stamped line c e.event k r.0 e.outcome r.2 in
       AllPairs-cons IsBelow e es (above r.0 es last r.3 e.outcome.stamp (omega (arith, it.clock))) (log_rises r.0 es last r.3)
 
 -- ## A list in order
 
-module _ (reach : Reach) (line : Line) (logs : ℕ → List LogEntry) (ends : ℕ → Centre) (are : AreLogs reach line logs ends) where
+module _ (line : Line) (logs : ℕ → List LogEntry) (ends : ℕ → Centre) (are : AreLogs line logs ends) where
   each_rises : (c : ℕ) → AllPairs IsBelow (logs c)
   each_rises c = ⊎_elim
-      (λ (t : is_centre line c ≡ true). log_rises reach line c (beginning line c) (logs c) (ends c) (are.replays c t))
+      (λ (t : is_centre line c ≡ true). log_rises line c (beginning line c) (logs c) (ends c) (are.replays c t))
       (λ (f : is_centre line c ≡ false). subst (λ es. AllPairs IsBelow es) (sym (are.no_other c f)) nothing)
       (cases_Bool (is_centre line c))
 

@@ -3,7 +3,6 @@ use Rattle.std.proofs.Common.{◌≡◌, ℕ, zero, suc, ◌+◌, ◌<◌, List,
 use Rattle.std.specs.Option.{option_map_or}
 use Rattle.std.proofs.lemmas.List.Elements.{All-nil, All-cons}
 use Rattle.std.proofs.lemmas.Option.{same_Some}
-use Rattle.rbc_spec.specs.Reach.{Reach}
 use Rattle.rbc_spec.specs.Line.{Line}
 use Rattle.rbc_spec.specs.Frame.{Frame, Body}
 use Rattle.rbc_spec.specs.Outcome.{Outcome}
@@ -33,14 +32,14 @@ above_frame k (Set s) = tt
 above_frame k (Unset s) = tt
 above_frame k (Deliver d f) = omega arith
 
-taken_stamped : (reach : Reach) (line : Line) (c : ℕ) (event : Event) (k : Centre) → IsStamped k event (taken reach line c event k).0 (taken reach line c event k).1
-taken_stamped reach line c event k = record {
-  clock = clock_kept line c reach event (ticked (stamp_of k event) k);
+taken_stamped : (line : Line) (c : ℕ) (event : Event) (k : Centre) → IsStamped k event (taken line c event k).0 (taken line c event k).1
+taken_stamped line c event k = record {
+  clock = clock_kept line c event (ticked (stamp_of k event) k);
   above_clock = above_clock k event;
   above_frame = above_frame k event;
   sent = λ d. refl;
-  frames = λ d. numbered_stamp (stamp_of k event) _ ((effect reach line c (ticked (stamp_of k event) k) event).reply.frames d);
-  numbers = λ d i f is. numbered_at (stamp_of k event) (length (k.sent d)) ((effect reach line c (ticked (stamp_of k event) k) event).reply.frames d) i f is;
+  frames = λ d. numbered_stamp (stamp_of k event) _ ((effect line c (ticked (stamp_of k event) k) event).reply.frames d);
+  numbers = λ d i f is. numbered_at (stamp_of k event) (length (k.sent d)) ((effect line c (ticked (stamp_of k event) k) event).reply.frames d) i f is;
 }
 
 -- what was not refused was taken
@@ -48,7 +47,7 @@ not_refused : (o : Option Refusal) (x y : Outcome × Centre) → option_map_or {
 not_refused (Some why) x y is = cc
 not_refused None x y is = cc
 
-pub stamped : (reach : Reach) (line : Line) (c : ℕ) (event : Event) (k new : Centre) (outcome : Outcome) → step reach line c event k ≡ Ok (outcome, new) → IsStamped k event outcome new
+pub stamped : (line : Line) (c : ℕ) (event : Event) (k new : Centre) (outcome : Outcome) → step line c event k ≡ Ok (outcome, new) → IsStamped k event outcome new
 unfolding step
-stamped reach line c event k new outcome is =
-    subst (λ (x : Outcome × Centre). IsStamped k event x.0 x.1) (not_refused (refusal line c k event) (taken reach line c event k) (outcome, new) is) (taken_stamped reach line c event k)
+stamped line c event k new outcome is =
+    subst (λ (x : Outcome × Centre). IsStamped k event x.0 x.1) (not_refused (refusal line c k event) (taken line c event k) (outcome, new) is) (taken_stamped line c event k)

@@ -1,7 +1,6 @@
 -- The logs of centres that ran side by side, and what it is to merge them into one list.
 use Rattle.std.specs.Prelude.{◌≡◌, ℕ, ◌+◌, ◌≤◌, ◌<◌, ◌==◌, List, [], ◌∷◌, ◌++◌, map, filter, length, true, false, Some, Ok, slice_get, All, AllPairs, Contains}
 use Rattle.std.specs.List.Sorted.{IsPermutation}
-use Rattle.rbc_spec.specs.Reach.{Reach}
 use Rattle.rbc_spec.specs.Line.{Line, is_centre}
 use Rattle.rbc_spec.specs.Frame.{Frame}
 use Rattle.rbc_spec.specs.Outcome.{Outcome}
@@ -19,10 +18,10 @@ pub record LogEntry : Type 0 where
   pub outcome : Outcome
 
 -- the entries, one after another, are the steps that lead centre c from a state to its last
-abbrev pub Replays : Reach → Line → ℕ → Centre → List LogEntry → Centre → Type 0
-Replays reach line c k [] last = last ≡ k
-Replays reach line c k (e ∷ entries) last =
-    (mid : Centre) × (e.centre ≡ c) × (step reach line c e.event k ≡ Ok (e.outcome, mid)) × Replays reach line c mid entries last
+abbrev pub Replays : Line → ℕ → Centre → List LogEntry → Centre → Type 0
+Replays line c k [] last = last ≡ k
+Replays line c k (e ∷ entries) last =
+    (mid : Centre) × (e.centre ≡ c) × (step line c e.event k ≡ Ok (e.outcome, mid)) × Replays line c mid entries last
 
 -- the frames that the entries sent to centre d, in order
 abbrev pub sent_to : ℕ → List LogEntry → List Frame
@@ -47,8 +46,8 @@ pub record IsStamped (k : Centre) (event : Event) (outcome : Outcome) (new : Cen
 -- ## The logs of a line
 
 -- a log for each centre of the line: its entries lead the centre from the beginning to where it ends
-pub record AreLogs (reach : Reach) (line : Line) (logs : ℕ → List LogEntry) (ends : ℕ → Centre) : Type 0 where
-  pub replays : (c : ℕ) → is_centre line c ≡ true → Replays reach line c (beginning line c) (logs c) (ends c)
+pub record AreLogs (line : Line) (logs : ℕ → List LogEntry) (ends : ℕ → Centre) : Type 0 where
+  pub replays : (c : ℕ) → is_centre line c ≡ true → Replays line c (beginning line c) (logs c) (ends c)
   pub no_other : (c : ℕ) → is_centre line c ≡ false → logs c ≡ []
 
 -- a frame that the event brings to centre c stands in the log of the centre that is named as its sender, as sent to c: under its number,
@@ -96,9 +95,9 @@ abbrev pub answered : LogEntry → Answer
 answered e = Answered e.outcome
 
 -- from the beginning, the world answers the events of the entries as they have it, and its centres end as they did
-pub record IsWorldRun (reach : Reach) (line : Line) (entries : List LogEntry) (ends : ℕ → Centre) : Type 0 where
+pub record IsWorldRun (line : Line) (entries : List LogEntry) (ends : ℕ → Centre) : Type 0 where
   pub last : World
-  pub runs : world_run reach line (new_world line) (map happened entries) ≡ Ok (map answered entries, last)
+  pub runs : world_run line (new_world line) (map happened entries) ≡ Ok (map answered entries, last)
   pub ends_so : (c : ℕ) → is_centre line c ≡ true → last.at c ≡ ends c
 
 -- ## What is claimed
@@ -106,11 +105,11 @@ pub record IsWorldRun (reach : Reach) (line : Line) (entries : List LogEntry) (e
 -- Whatever the centres of a line did side by side: where each log replays its centre from the beginning, and each frame that was delivered
 -- stands in its sender's log, every merge of the logs is one run of the world
 abbrev pub FamilyTheorem : Type 0
-FamilyTheorem = (reach : Reach) (line : Line) (logs : ℕ → List LogEntry) (ends : ℕ → Centre) (merged : List LogEntry)
-    → AreLogs reach line logs ends → IsLegal logs → IsMerge logs merged → IsWorldRun reach line merged ends
+FamilyTheorem = (line : Line) (logs : ℕ → List LogEntry) (ends : ℕ → Centre) (merged : List LogEntry)
+    → AreLogs line logs ends → IsLegal logs → IsMerge logs merged → IsWorldRun line merged ends
 
 -- a list that has each entry of each log once is a merge of the logs as soon as it is in the order of stamps
 abbrev pub SortedTheorem : Type 0
-SortedTheorem = (reach : Reach) (line : Line) (logs : ℕ → List LogEntry) (ends : ℕ → Centre) (together sorted : List LogEntry)
-    → AreLogs reach line logs ends → ((c : ℕ) → entries_of c together ≡ logs c) → IsPermutation together sorted → IsInOrder sorted
+SortedTheorem = (line : Line) (logs : ℕ → List LogEntry) (ends : ℕ → Centre) (together sorted : List LogEntry)
+    → AreLogs line logs ends → ((c : ℕ) → entries_of c together ≡ logs c) → IsPermutation together sorted → IsInOrder sorted
     → IsMerge logs sorted

@@ -1,18 +1,17 @@
 //! Laws of the logs of centres that ran side by side.
 
 ghost use Rattle.std.specs.Prelude.{◌≡◌, ℕ, Ok};
-ghost use Rattle.rbc_spec.specs.Reach.{Reach};
 ghost use Rattle.rbc_spec.specs.Line.{Line};
 ghost use Rattle.rbc_spec.specs.Outcome.{Outcome};
 ghost use Rattle.rbc_spec.specs.Centre.{Centre};
 ghost use Rattle.rbc_spec.specs.Step.{Event, step};
 ghost use Rattle.rbc_family.specs.Logs.{IsStamped, FamilyTheorem, SortedTheorem};
 
-/// Whatever event a centre takes, at every reach: the stamp of its step is what its clock then shows, above what it showed, and above the stamp of a frame
+/// Whatever event a centre takes: the stamp of its step is what its clock then shows, above what it showed, and above the stamp of a frame
 /// that came. What the step sends stands behind what was sent before, with that stamp, and numbered on from there.
 pub fn each_step_is_stamped()
-    ensures { (reach : Reach) (line : Line) (c : ℕ) (event : Event) (k new : Centre) (outcome : Outcome)
-        → step reach line c event k ≡ Ok (outcome, new) → IsStamped k event outcome new }
+    ensures { (line : Line) (c : ℕ) (event : Event) (k new : Centre) (outcome : Outcome)
+        → step line c event k ≡ Ok (outcome, new) → IsStamped k event outcome new }
 {}
 
 /// Whatever the centres of a line did side by side, and however their steps took turns: where each log replays its centre from the beginning, and each frame

@@ -17,9 +17,7 @@ use Rattle.rbc_spec.specs.Frame.{Body, GiveRight, Yield, yielded_place}
 use Rattle.rbc_spec.specs.Centre as centre
 use Rattle.rbc_spec.specs.Centre.{Centre, Entry, is_taken_for}
 use Rattle.rbc_spec.specs.Acts.{begun}
-use Rattle.rbc_spec.specs.Reach.{Reach, Local, Rights, Routes, Whole}
 use Rattle.rbc_spec.specs.Links.{received}
-use Rattle.rbc_spec.specs.Step.{body_taken}
 use Rattle.rbc_spec.specs.LineCentre as line_centre
 use Rattle.rbc_spec.specs.LineCentre.{LineState, Said, says, nothing}
 use Rattle.rbc_spec.specs.OwnSteps.{begins, begun_at, one_message}
@@ -207,8 +205,8 @@ module _ (line : Line) (w : Flow) (sound : IsFlowSound line w) (v : LineState) (
   said_so : one_message t c unknown_group TrainAccepted [] v ≡ record { sayings = record { nid_engine = t; message = record { t_train = k.said t + 1; nid_lrbg = unknown_group; body = TrainAccepted } } ∷ []; words = [] }
   said_so = ap (λ n. record { sayings = record { nid_engine = t; message = record { t_train = n + 1; nid_lrbg = unknown_group; body = TrainAccepted } } ∷ []; words = [] }) (sees.said t c)
 
-  admitted : k.has_asked t ≡ true → Leads line (took w a c) c (received line c a (GiveRight t) (record k { taken = put k.taken a number })) v
-  admitted asked = subst (λ r. Leads line (took w a c) c r v)
+  pub leads : k.has_asked t ≡ true → Leads line (took w a c) c (received line c a (GiveRight t) (record k { taken = put k.taken a number })) v
+  leads asked = subst (λ r. Leads line (took w a c) c r v)
       (sym (given_is line c a t place (record k { taken = put k.taken a number }) ((sound.centres c to).wait_known t place waits).0 asked waits none_here))
       (record {
         quiets = Admit t c ∷ [];
@@ -218,10 +216,3 @@ module _ (line : Line) (w : Flow) (sound : IsFlowSound line w) (v : LineState) (
         shows = shows;
         sound = kept.keeps line w sound a c t number place from to takes waits;
       })
-
-  -- at each reach
-  pub leads : (reach : Reach) → k.has_asked t ≡ true → Leads line (took w a c) c (body_taken reach line c a (GiveRight t) (record k { taken = put k.taken a number })) v
-  leads Local asked = admitted asked
-  leads Rights asked = admitted asked
-  leads Routes asked = admitted asked
-  leads Whole asked = admitted asked

@@ -5,15 +5,14 @@ use Rattle.rbc_ledger.specs.Network.{way}
 use Rattle.rbc_ledger.proofs.Resource.{within_start, at_cap_start}
 use Rattle.rbc_ledger.proofs.Network.{each_start}
 use Rattle.rbc_ledger.proofs.Chain.{chain_none}
-use Rattle.rbc_spec.specs.Reach.{Reach, hands_over}
 use Rattle.rbc_spec.specs.Line.{Line, is_home}
 use Rattle.rbc_spec.specs.Centre.{beginning}
 use Rattle.rbc_spec.specs.World.{new_world}
 use Rattle.rbc_spec.specs.LineCentre.{line_beginning}
 use Rattle.rbc_flow.specs.Flow.{flow_of, centre_count}
 use Rattle.rbc_flow.specs.Counts.{rights, tokens, lent}
-use Rattle.rbc_flow.specs.Pairs.{follows, yields}
-use Rattle.rbc_flow.specs.Sound.{IsCentreSound, IsFlowSound, IsBodySound, LosesNothing, IsWithinReach}
+use Rattle.rbc_flow.specs.Pairs.{follows}
+use Rattle.rbc_flow.specs.Sound.{IsCentreSound, IsFlowSound, IsBodySound, LosesNothing}
 use Rattle.rbc_flow.specs.Numbers.{IsNumbered}
 use Rattle.rbc_flow.specs.Shows.{Shows}
 
@@ -84,10 +83,3 @@ line_begins_whole line = record {
 pub line_begins_numbered : (line : Line) → IsNumbered (new_world line)
 unfolding new_world beginning
 line_begins_numbered line = record { centres = λ c. record { each = λ d i f is. cc } }
-
-pub line_begins_within : (reach : Reach) (line : Line) → IsWithinReach reach (flow_of (new_world line))
-unfolding new_world beginning
-line_begins_within reach line = record {
-  handing = λ c t m h is. cc;
-  yields = each_start (λ a b f. (t h : ℕ) → yields t h f ≡ true → hands_over reach ≡ true) (flow_of (new_world line)) (none_way line);
-}

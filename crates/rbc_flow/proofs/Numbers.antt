@@ -8,7 +8,6 @@ use Rattle.rbc_ledger.specs.Network.{TakesHead}
 use Rattle.rbc_ledger.proofs.Network.{next_is_head}
 use Rattle.rbc_ledger.proofs.Sums.{put_same, put_other}
 use Rattle.rbc_spec.specs.Maps.{put}
-use Rattle.rbc_spec.specs.Reach.{Reach}
 use Rattle.rbc_spec.specs.Line.{Line, is_centre}
 use Rattle.rbc_spec.specs.Frame.{Frame, Body}
 use Rattle.rbc_spec.specs.Outcome.{Outcome, Next, Old, Early}
@@ -46,12 +45,12 @@ numbers_after stamp k e old = record {
       (get_append (k.sent d) (frames_of stamp k e.reply d) i f is);
 }
 
-pub numbers_taken : (reach : Reach) (line : Line) (c : ℕ) (event : centre.Event) (k : Centre) → HasNumbers k → HasNumbers (taken reach line c event k).1
-numbers_taken reach line c event k old = numbers_after (centre.stamp_of k event) k (centre.effect reach line c (centre.ticked (centre.stamp_of k event) k) event) old
+pub numbers_taken : (line : Line) (c : ℕ) (event : centre.Event) (k : Centre) → HasNumbers k → HasNumbers (taken line c event k).1
+numbers_taken line c event k old = numbers_after (centre.stamp_of k event) k (centre.effect line c (centre.ticked (centre.stamp_of k event) k) event) old
 
 -- ## A world
 
-module _ (reach : Reach) (line : Line) (w : World) (has : IsNumbered w) where
+module _ (line : Line) (w : World) (has : IsNumbered w) where
   put_numbered : (c : ℕ) (k : Centre) (trains : List ℕ) → HasNumbers k → IsNumbered (record { at = put w.at c k; trains = trains })
   put_numbered c k trains h = record {
     centres = λ d. ⊎_elim
@@ -71,9 +70,9 @@ module _ (reach : Reach) (line : Line) (w : World) (has : IsNumbered w) where
   stepped_numbered c trains (Some why) x h answer new is = cc
   stepped_numbered c trains None x h answer new is = subst IsNumbered (ap (λ r. world_of w r) is) (put_numbered c x.1 trains h)
 
-  takes_numbered : (c : ℕ) (trains : List ℕ) (event : centre.Event) → LeavesNumbered (takes reach line w c trains event)
+  takes_numbered : (c : ℕ) (trains : List ℕ) (event : centre.Event) → LeavesNumbered (takes line w c trains event)
   unfolding step
-  takes_numbered c trains event = stepped_numbered c trains (refusal line c (w.at c) event) (taken reach line c event (w.at c)) (numbers_taken reach line c event (w.at c) (has.centres c))
+  takes_numbered c trains event = stepped_numbered c trains (refusal line c (w.at c) event) (taken line c event (w.at c)) (numbers_taken line c event (w.at c) (has.centres c))
 
   at_numbered : (c : ℕ) (done : Result (Answer × World) Refusal) → LeavesNumbered done → LeavesNumbered (at_centre line w c done)
   at_numbered c done h = chosen (is_centre line c)
@@ -82,11 +81,11 @@ module _ (reach : Reach) (line : Line) (w : World) (has : IsNumbered w) where
       chosen true = h
       chosen false = stands_still NoCentre
 
-  sent_numbered : (a b : ℕ) (o : Option Frame) → LeavesNumbered (option_map_or (λ f. takes reach line w b w.trains (centre.Deliver a f)) o (Ok (NotSent, w)))
+  sent_numbered : (a b : ℕ) (o : Option Frame) → LeavesNumbered (option_map_or (λ f. takes line w b w.trains (centre.Deliver a f)) o (Ok (NotSent, w)))
   sent_numbered a b None = stands_still NotSent
   sent_numbered a b (Some f) = takes_numbered b w.trains (centre.Deliver a f)
 
-  pub world_step_numbered : (event : Event) (answer : Answer) (new : World) → world_step reach line w event ≡ Ok (answer, new) → IsNumbered new
+  pub world_step_numbered : (event : Event) (answer : Answer) (new : World) → world_step line w event ≡ Ok (answer, new) → IsNumbered new
   unfolding world_step
   world_step_numbered (Bytes c (Ok m)) = at_numbered c _ (takes_numbered c (mention line m.nid_engine w.trains) (centre.Train m))
   world_step_numbered (Bytes c (Err number)) = at_numbered c _ (stands_still _)

@@ -2,7 +2,6 @@
 use Rattle.std.proofs.Common.{◌≡◌, ℕ, ◌+◌, Bool, true, false, not, ◌&&◌, if◌then◌else◌, Option, Some, None, is_none, is_some, nat_lt, nat_le, length, ◌*◌, refl, ◌∙◌}
 use Rattle.std.specs.Option.{option_map_or}
 use Rattle.rbc_spec.specs.Maps.{has, put}
-use Rattle.rbc_spec.specs.Reach.{Reach, asks_rights, lends_routes, hands_over, follows_rule}
 use Rattle.rbc_spec.specs.SectionRuns.{SectionRun, part_from, all_of, within, no_run, most_in_hand, behind, is_empty, part_before}
 use Rattle.rbc_spec.specs.Line.{Line, section, end, registrar, next_centre, is_home}
 use Rattle.rbc_spec.specs.Sections.{nid_rbc, is_on}
@@ -13,7 +12,7 @@ use Rattle.rbc_spec.specs.Outcome.{Reason, Done, Asked, NotHome, Next, Old, Earl
 use Rattle.rbc_spec.specs.Outcome as outcome
 use Rattle.rbc_spec.specs.Centre.{Centre, Entry, Shut, Open, Taken, Out, Mission, Handing, Proposal, is_registrar_of, is_free, is_unused, is_open, is_up, uses_some, is_expected}
 use Rattle.rbc_spec.specs.Acts.{Act, become, booked, returned, is_of_two, say, send, change_mission, part_at, may_propose, rest, ◌>>◌, where_so, with_some, leave, cancel, return_right, close, propose, propose_if_so, announce, ask_route, end_order, yield, yield_if_due}
-use Rattle.rbc_spec.specs.Rules.{tell, accept, choose, drop_wait, close_session, restart, begin, start_here, start_waiting, start_elsewhere, start_new, start_mission, announce_if_due, ask_route_if_due, at_border, grant, request, report_here, take_over, report, end_mission, cut, granted, answered, reject}
+use Rattle.rbc_spec.specs.Rules.{tell, accept, choose, drop_wait, close_session, restart, begin, start_here, start_waiting, start_new, start_mission, announce_if_due, ask_route_if_due, at_border, grant, request, report_here, take_over, report, end_mission, cut, granted, answered, reject}
 use Rattle.rbc_spec.specs.Links.{received, of_train, is_train, lendable, expect, is_under, may_take, is_wanted, right_asked, right_given, right_refused, right_returned, route_asked, route_told, route_withdrawn, route_returned, announced, cancelled, taking_over, take_mission, yielded}
 use Rattle.rbc_flow.specs.Numbers.{taken_after}
 use Rattle.rbc_spec.specs.Step as step
@@ -97,8 +96,8 @@ module _ (line : Line) (c t : ℕ) where
   close_session_keeps : Keeps (close_session line c t)
   close_session_keeps = both _ _ (both _ _ (record { each = λ k. refl }) (record { each = λ k. refl })) drop_keeps
 
-  start_keeps : (reach : Reach) (is_valid : Bool) (position : Position) → Keeps (start_mission reach line c t is_valid position)
-  start_keeps reach is_valid position = record { each = λ k. by_place k (fit_place line is_valid position) }
+  start_keeps : (is_valid : Bool) (position : Position) → Keeps (start_mission line c t is_valid position)
+  start_keeps is_valid position = record { each = λ k. by_place k (fit_place line is_valid position) }
     where
       waiting : (place : Place) → Keeps (start_waiting line t place)
       waiting place = both _ _ (both _ _ (record { each = λ k. refl }) (record { each = λ k. refl })) (when _ _ (both _ _ (of_option (registrar line t) _ _ (λ r. record { each = λ k. refl }) (record { each = λ k. refl })) (record { each = λ k. refl })))
@@ -107,19 +106,19 @@ module _ (line : Line) (c t : ℕ) where
       here place = chosen (λ k. k.has_right t) ((booked is_open (Taken t) (covered line place) >> become (λ k. record k { has_right = put k.has_right t false })) >> begin line t place) (reject t)
           (both _ _ (both _ _ (record { each = λ k. refl }) (record { each = λ k. refl })) (both _ _ (record { each = λ k. refl }) (record { each = λ k. refl }))) (record { each = λ k. refl })
 
-      fresh : (place : Place) → Keeps (start_new reach line c t place)
-      fresh place = chosen (λ k. all_of (is_free line c k) (covered line place)) (if is_registrar_of line c t then start_here line t place else start_elsewhere reach line t place) (reject t)
-          (branch (is_registrar_of line c t) (start_here line t place) (start_elsewhere reach line t place) (here place) (branch (asks_rights reach) (start_waiting line t place) (reject t) (waiting place) (record { each = λ k. refl }))) (record { each = λ k. refl })
+      fresh : (place : Place) → Keeps (start_new line c t place)
+      fresh place = chosen (λ k. all_of (is_free line c k) (covered line place)) (if is_registrar_of line c t then start_here line t place else start_waiting line t place) (reject t)
+          (branch (is_registrar_of line c t) (start_here line t place) (start_waiting line t place) (here place) (waiting place)) (record { each = λ k. refl })
 
       again : (place : Place) (m : Mission) → Keeps (restart line t place m)
       again place m = branch (all_of (within m.hand) (covered line place)) (change_mission t (λ n. record n { place = place; has_data = false; is_ended = false; proposal = None }) >> accept t) (reject t)
           (both _ _ (record { each = λ k. refl }) (record { each = λ k. refl })) (record { each = λ k. refl })
 
-      by_mission : (k : Centre) (place : Place) (o : Option Mission) → (option_map_or (λ m. restart line t place m k) o (start_new reach line c t place k)).state.taken ≡ k.taken
+      by_mission : (k : Centre) (place : Place) (o : Option Mission) → (option_map_or (λ m. restart line t place m k) o (start_new line c t place k)).state.taken ≡ k.taken
       by_mission k place None = (fresh place).each k
       by_mission k place (Some m) = (again place m).each k
 
-      by_place : (k : Centre) (o : Option Place) → (option_map_or (λ place. option_map_or (λ m. restart line t place m k) (k.mission t) (start_new reach line c t place k)) o (reject t k)).state.taken ≡ k.taken
+      by_place : (k : Centre) (o : Option Place) → (option_map_or (λ place. option_map_or (λ m. restart line t place m k) (k.mission t) (start_new line c t place k)) o (reject t k)).state.taken ≡ k.taken
       by_place k None = refl
       by_place k (Some place) = by_mission k place (k.mission t)
 
@@ -133,17 +132,17 @@ module _ (line : Line) (c t : ℕ) where
   ask_if_keeps : (d : ℕ) → Keeps (ask_route_if_due line t d)
   ask_if_keeps d = of_some (λ k. k.mission t) (λ m. where_so (may_ask d m) (ask_route t d m)) (λ m. when (may_ask d m) (ask_route t d m) (ask_keeps d m))
 
-  border_keeps : (reach : Reach) (d : ℕ) → Keeps (at_border reach line c t d)
-  border_keeps reach d = both _ _ (branch (hands_over reach) (announce_if_due line t d) rest (announce_if_keeps d) (record { each = λ k. refl })) (ask_if_keeps d)
+  border_keeps : (d : ℕ) → Keeps (at_border line c t d)
+  border_keeps d = both _ _ (announce_if_keeps d) (ask_if_keeps d)
 
-  grant_keeps : (reach : Reach) (m : Mission) → Keeps (grant reach line c t m)
-  grant_keeps reach m = record {
+  grant_keeps : (m : Mission) → Keeps (grant line c t m)
+  grant_keeps m = record {
     each = λ k. (both _ _ (both _ _ (both _ _ (record { each = λ k. refl }) (record { each = λ k. refl })) (record { each = λ k. refl }))
-        (branch (lends_routes reach) _ _ (of_option (next_centre line c m.place.track) _ _ (λ d. border_keeps reach d) (record { each = λ k. refl })) (record { each = λ k. refl }))).each k;
+        (of_option (next_centre line c m.place.track) _ _ (λ d. border_keeps d) (record { each = λ k. refl }))).each k;
   }
 
-  request_keeps : (reach : Reach) (position : Position) → Keeps (request reach line c t position)
-  request_keeps reach position = of_some _ _ (λ m. of_option (place_on line m.place.track position) _ _ (λ place. grant_keeps reach (record m { place = place })) (record { each = λ k. refl }))
+  request_keeps : (position : Position) → Keeps (request line c t position)
+  request_keeps position = of_some _ _ (λ m. of_option (place_on line m.place.track position) _ _ (λ place. grant_keeps (record m { place = place })) (record { each = λ k. refl }))
 
   here_keeps : (position : Position) (m : Mission) → Keeps (report_here line c t position m)
   here_keeps position m = of_option (place_on line m.place.track position) _ _
@@ -234,17 +233,17 @@ module _ (line : Line) (c : ℕ) where
   received_keeps d (Yield number t heard has_data is_ended place hand) = trains t (option_map_or (yielded line c d number t hand heard has_data is_ended) (carried_place place) rest)
       (of_option (carried_place place) (yielded line c d number t hand heard has_data is_ended) rest (λ at. when (λ k. may_take line c k d number t at hand) _ (take_keeps line c t d heard _)) (record { each = λ k. refl }))
 
-  pub answered_keeps : (reach : Reach) (m : TrainMessage) (body : TrainBody) → Keeps (answered reach line c m body)
-  answered_keeps reach m (TrainData position) = both _ _ (record { each = λ k. refl }) (record { each = λ k. refl })
-  answered_keeps reach m (Request position) = request_keeps line c m.nid_engine reach position
-  answered_keeps reach m (Report position) = report_keeps line c m.nid_engine position
-  answered_keeps reach m (ShorteningGranted stamp position) = of_some _ _ (λ n. of_some (λ k. n.proposal) _ (λ p. granted_keeps line c m.nid_engine position n p))
-  answered_keeps reach m (ShorteningRejected stamp position) = record { each = λ k. refl }
-  answered_keeps reach m (EndOfMission position) = end_mission_keeps line c m.nid_engine position
-  answered_keeps reach m InitiationOfSession = both _ _ (both _ _ (close_session_keeps line c m.nid_engine) (record { each = λ k. refl })) (record { each = λ k. refl })
-  answered_keeps reach m TerminationOfSession = both _ _ (close_session_keeps line c m.nid_engine) (record { each = λ k. refl })
-  answered_keeps reach m (StartOfMission is_valid position) = start_keeps line c m.nid_engine reach is_valid position
-  answered_keeps reach m SessionEstablished = record { each = λ k. refl }
+  pub answered_keeps : (m : TrainMessage) (body : TrainBody) → Keeps (answered line c m body)
+  answered_keeps m (TrainData position) = both _ _ (record { each = λ k. refl }) (record { each = λ k. refl })
+  answered_keeps m (Request position) = request_keeps line c m.nid_engine position
+  answered_keeps m (Report position) = report_keeps line c m.nid_engine position
+  answered_keeps m (ShorteningGranted stamp position) = of_some _ _ (λ n. of_some (λ k. n.proposal) _ (λ p. granted_keeps line c m.nid_engine position n p))
+  answered_keeps m (ShorteningRejected stamp position) = record { each = λ k. refl }
+  answered_keeps m (EndOfMission position) = end_mission_keeps line c m.nid_engine position
+  answered_keeps m InitiationOfSession = both _ _ (both _ _ (close_session_keeps line c m.nid_engine) (record { each = λ k. refl })) (record { each = λ k. refl })
+  answered_keeps m TerminationOfSession = both _ _ (close_session_keeps line c m.nid_engine) (record { each = λ k. refl })
+  answered_keeps m (StartOfMission is_valid position) = start_keeps line c m.nid_engine is_valid position
+  answered_keeps m SessionEstablished = record { each = λ k. refl }
 
   wished_keeps : (s : ℕ) (e : Entry) → Keeps (wished line s e)
   wished_keeps s Shut = record { each = λ k. refl }
@@ -270,24 +269,24 @@ module _ (line : Line) (c : ℕ) where
 
   -- ## A step
 
-  silence_keeps : (reach : Reach) (m : TrainMessage) (k : Centre) (o : Option Reason) → (option_map_or {U = step.Effect} (λ why. record { reply = rest k; link = None; silence = Some why }) o
-      (record { reply = hear_and_answer reach line c m k; link = None; silence = None })).reply.state.taken ≡ k.taken
-  silence_keeps reach m k (Some why) = refl
-  silence_keeps reach m k None = (both _ _ (record { each = λ k. refl }) (answered_keeps reach m m.body)).each k
+  silence_keeps : (m : TrainMessage) (k : Centre) (o : Option Reason) → (option_map_or {U = step.Effect} (λ why. record { reply = rest k; link = None; silence = Some why }) o
+      (record { reply = hear_and_answer line c m k; link = None; silence = None })).reply.state.taken ≡ k.taken
+  silence_keeps m k (Some why) = refl
+  silence_keeps m k None = (both _ _ (record { each = λ k. refl }) (answered_keeps m m.body)).each k
 
-  pub train_keeps : (reach : Reach) (m : TrainMessage) (k : Centre) → (effect reach line c k (Train m)).reply.state.taken ≡ k.taken
-  train_keeps reach m k = silence_keeps reach m k (step.silence line c k m)
+  pub train_keeps : (m : TrainMessage) (k : Centre) → (effect line c k (Train m)).reply.state.taken ≡ k.taken
+  train_keeps m k = silence_keeps m k (step.silence line c k m)
 
-  pub deliver_keeps : (reach : Reach) (d : ℕ) (f : Frame) (answer : outcome.Taken) (k : Centre) → (taken_by reach line c d f answer k).state.taken ≡ taken_after d f answer k
+  pub deliver_keeps : (d : ℕ) (f : Frame) (answer : outcome.Taken) (k : Centre) → (taken_by line c d f answer k).state.taken ≡ taken_after d f answer k
   unfolding ◌>>◌
-  deliver_keeps reach d f Next k = (branch (follows_rule reach f.body) _ _ (received_keeps d f.body) (record { each = λ k. refl })).each (record k { taken = put k.taken d f.number })
-  deliver_keeps reach d f Old k = refl
-  deliver_keeps reach d f Early k = refl
-  deliver_keeps reach d f NoLink k = refl
+  deliver_keeps d f Next k = (received_keeps d f.body).each (record k { taken = put k.taken d f.number })
+  deliver_keeps d f Old k = refl
+  deliver_keeps d f Early k = refl
+  deliver_keeps d f NoLink k = refl
 
   -- the clock is not looked at
-  pub deliver_taken : (reach : Reach) (d stamp : ℕ) (f : Frame) (k : Centre) → (taken_by reach line c d f (link_answer line c k d f) (step.ticked stamp k)).state.taken ≡ taken_after d f (link_answer line c k d f) k
-  deliver_taken reach d stamp f k = deliver_keeps reach d f (link_answer line c k d f) (step.ticked stamp k) ∙ same (link_answer line c k d f)
+  pub deliver_taken : (d stamp : ℕ) (f : Frame) (k : Centre) → (taken_by line c d f (link_answer line c k d f) (step.ticked stamp k)).state.taken ≡ taken_after d f (link_answer line c k d f) k
+  deliver_taken d stamp f k = deliver_keeps d f (link_answer line c k d f) (step.ticked stamp k) ∙ same (link_answer line c k d f)
     where
       same : (answer : outcome.Taken) → taken_after d f answer (step.ticked stamp k) ≡ taken_after d f answer k
       same Next = refl

@@ -4,7 +4,6 @@ use Rattle.rbc_ledger.specs.Sums.{one_if}
 use Rattle.rbc_ledger.specs.Network.{IsCounted, EachOnTheWay}
 use Rattle.rbc_ledger.specs.Resource.{IsWithinCap, IsAtCap}
 use Rattle.rbc_spec.specs.Maps.{has}
-use Rattle.rbc_spec.specs.Reach.{Reach, hands_over}
 use Rattle.rbc_spec.specs.SectionRuns.{SectionRun, most_in_hand, within, behind, is_empty}
 use Rattle.rbc_spec.specs.Line.{Line, is_centre, is_home, section_of_group, next_centre, train_number}
 use Rattle.rbc_spec.specs.Sections.{is_on}
@@ -14,7 +13,7 @@ use Rattle.rbc_spec.specs.Centre.{Centre, Shut, Out, Mission, Handing, is_unused
 use Rattle.rbc_local.specs.Local.{hand_has}
 use Rattle.rbc_flow.specs.Flow.{Flow, centre_count}
 use Rattle.rbc_flow.specs.Counts.{wait_has, rights, tokens, lent}
-use Rattle.rbc_flow.specs.Pairs.{IsPaired, yields}
+use Rattle.rbc_flow.specs.Pairs.{IsPaired}
 
 -- ## Of one centre
 
@@ -85,8 +84,3 @@ pub record IsFlowSound (line : Line) (w : Flow) : Type 0 where
 pub record LosesNothing (line : Line) (w : Flow) : Type 0 where
   pub rights : (t : ℕ) → IsAtCap (rights line t) (centre_count line) w
   pub tokens : (t s : ℕ) → IsAtCap (tokens line t s) (centre_count line) w
-
--- As far as a reach: where centres hand no mission over, none has announced a handover, and no Yield is on the way
-pub record IsWithinReach (reach : Reach) (w : Flow) : Type 0 where
-  pub handing : (c t : ℕ) (m : Mission) (h : Handing) → (w.at c).mission t ≡ Some m → m.handing ≡ Some h → hands_over reach ≡ true
-  pub yields : EachOnTheWay (λ a b f. (t h : ℕ) → yields t h f ≡ true → hands_over reach ≡ true) w

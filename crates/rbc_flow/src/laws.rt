@@ -14,13 +14,12 @@ ghost use Rattle.rbc_spec.specs.Frame.Body.{GiveRight, Yield};
 ghost use Rattle.rbc_spec.specs.Centre.{Centre};
 ghost use Rattle.rbc_spec.specs.Acts.{Act, rest, returned};
 ghost use Rattle.rbc_spec.specs.LineCentre.{LineState, line_beginning};
-ghost use Rattle.rbc_spec.specs.Links.{may_take};
+ghost use Rattle.rbc_spec.specs.Links.{may_take, received};
 ghost use Rattle.rbc_spec.specs.Message.{TrainMessage};
 ghost use Rattle.rbc_spec.specs.Outcome.{Next};
-ghost use Rattle.rbc_spec.specs.Reach.{Reach};
 ghost use Rattle.rbc_spec.specs.ReadOff.{StandsFor};
 ghost use Rattle.rbc_spec.specs.Promises.{HasOnePlace};
-ghost use Rattle.rbc_spec.specs.Step.{Train, Set, Unset, Deliver, Effect, offered, link_answer, body_taken, state_after, taken};
+ghost use Rattle.rbc_spec.specs.Step.{Train, Set, Unset, Deliver, Effect, offered, link_answer, state_after, taken};
 ghost use Rattle.rbc_spec.specs.World.{World, Event, Answer, new_world, frame_sent, world_step};
 ghost use Rattle.rbc_flow.specs.Flow.{Flow, flow_of, in_world, took_frame, centre_count};
 ghost use Rattle.rbc_flow.specs.Numbers.{IsNumbered, taken_after};
@@ -28,7 +27,7 @@ ghost use Rattle.rbc_flow.specs.Neighbours.{AreNeighbours};
 ghost use Rattle.rbc_flow.specs.Counts.{tokens, lent};
 ghost use Rattle.rbc_flow.specs.Pairs.{IsPaired};
 ghost use Rattle.rbc_flow.specs.Keeping.{nothing_came, came_with, IsFairAct, LeavesSound, IsNeutral, IsApart, IsAside};
-ghost use Rattle.rbc_flow.specs.Sound.{ArePaired, IsFlowSound, LosesNothing, IsWithinReach};
+ghost use Rattle.rbc_flow.specs.Sound.{ArePaired, IsFlowSound, LosesNothing};
 ghost use Rattle.rbc_flow.specs.Shows.{Shows};
 ghost use Rattle.rbc_flow.specs.Leads.{replied, Leads, LeadsOn};
 
@@ -37,7 +36,6 @@ pub fn a_line_begins_sound()
     ensures sound { (line : Line) → IsFlowSound line (flow_of (new_world line)) }
     ensures whole { (line : Line) → LosesNothing line (flow_of (new_world line)) }
     ensures numbered { (line : Line) → IsNumbered (new_world line) }
-    ensures within { (reach : Reach) (line : Line) → IsWithinReach reach (flow_of (new_world line)) }
     ensures shown { (line : Line) → Shows line (flow_of (new_world line)) line_beginning }
 {}
 
@@ -54,8 +52,8 @@ pub fn a_flow_that_loses_nothing_has_one_place()
 /// Each frame is numbered by its place on its link, whatever happens. So the frame that a link says is the next is the head of what is
 /// on the way.
 pub fn each_frame_keeps_its_number()
-    ensures kept { (reach : Reach) (line : Line) (w : World) (event : Event) (answer : Answer) (new : World) → IsNumbered w
-        → world_step reach line w event ≡ Ok (answer, new) → IsNumbered new }
+    ensures kept { (line : Line) (w : World) (event : Event) (answer : Answer) (new : World) → IsNumbered w
+        → world_step line w event ≡ Ok (answer, new) → IsNumbered new }
     ensures number { (w : World) → IsNumbered w → (a b number : ℕ) (f : Frame) → frame_sent w a b number ≡ Some f → f.number ≡ number }
     ensures next { (w : World) → IsNumbered w → (a b number : ℕ) (f : Frame) → frame_sent w a b number ≡ Some f
         → offered ((w.at b).taken a) f.number ≡ Next → TakesHead (flow_of w) a b f.body }
@@ -84,10 +82,10 @@ pub fn each_yield_is_taken()
 /// A right that comes, as the next frame of its link, to a centre where a start of mission waits and asked for it: the one line centre
 /// admits the start, and all stays sound.
 pub fn a_right_is_admitted()
-    ensures { (reach : Reach) (line : Line) (w : Flow) (v : LineState) (a c t number : ℕ) (place : Place) → IsFlowSound line w → Shows line w v
+    ensures { (line : Line) (w : Flow) (v : LineState) (a c t number : ℕ) (place : Place) → IsFlowSound line w → Shows line w v
         → is_centre line a ≡ true → is_centre line c ≡ true → TakesHead w a c (GiveRight t)
         → (w.at c).wait t ≡ Some place → (w.at c).has_asked t ≡ true
-        → Leads line (took w a c) c (body_taken reach line c a (GiveRight t) (took_frame a number (w.at c))) v }
+        → Leads line (took w a c) c (received line c a (GiveRight t) (took_frame a number (w.at c))) v }
 {}
 
 /// An act of a centre that is fair and leaves what is sound keeps all sound, by itself or at the head of a link, where it keeps what pairs
@@ -109,11 +107,11 @@ pub fn a_fair_act_keeps_all_sound()
 
 /// No step changes how many frames a centre has taken of each other, but that of a frame that is the next of its link.
 pub fn a_step_takes_the_next_frame_alone()
-    ensures train { (reach : Reach) (line : Line) (c : ℕ) (k : Centre) (m : TrainMessage) → (taken reach line c (Train m) k).1.taken ≡ k.taken }
-    ensures set { (reach : Reach) (line : Line) (c s : ℕ) (k : Centre) → (taken reach line c (Set s) k).1.taken ≡ k.taken }
-    ensures unset { (reach : Reach) (line : Line) (c s : ℕ) (k : Centre) → (taken reach line c (Unset s) k).1.taken ≡ k.taken }
-    ensures deliver { (reach : Reach) (line : Line) (c d : ℕ) (f : Frame) (k : Centre)
-        → (taken reach line c (Deliver d f) k).1.taken ≡ taken_after d f (link_answer line c k d f) k }
+    ensures train { (line : Line) (c : ℕ) (k : Centre) (m : TrainMessage) → (taken line c (Train m) k).1.taken ≡ k.taken }
+    ensures set { (line : Line) (c s : ℕ) (k : Centre) → (taken line c (Set s) k).1.taken ≡ k.taken }
+    ensures unset { (line : Line) (c s : ℕ) (k : Centre) → (taken line c (Unset s) k).1.taken ≡ k.taken }
+    ensures deliver { (line : Line) (c d : ℕ) (f : Frame) (k : Centre)
+        → (taken line c (Deliver d f) k).1.taken ≡ taken_after d f (link_answer line c k d f) k }
 {}
 
 /// A step of a centre is an act of the flow: by itself, or at the head of a link.

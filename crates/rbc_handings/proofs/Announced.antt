@@ -1,14 +1,13 @@
 -- An announcement of a handover, and its cancellation: what the centre expects changes, and nothing of that is shown.
-use Rattle.std.proofs.Common.{◌≡◌, ℕ, true, false, if◌then◌else◌, Some, None, is_none, nat_lt, length, refl, sym, subst}
+use Rattle.std.proofs.Common.{◌≡◌, ℕ, true, false, if◌then◌else◌, Some, None, is_none, nat_lt, length, refl}
 use Rattle.rbc_ledger.specs.Network.{took, TakesHead}
 use Rattle.rbc_ledger.specs.Resource.{Resource}
-use Rattle.rbc_spec.specs.Reach.{Reach}
 use Rattle.rbc_spec.specs.Line.{Line, IsLine, is_centre}
 use Rattle.rbc_spec.specs.Frame.{Body, Announce, Cancel}
 use Rattle.rbc_spec.specs.Centre.{Centre, Expectation}
-use Rattle.rbc_spec.specs.Acts.{Reply, rest}
+use Rattle.rbc_spec.specs.Acts.{rest}
 use Rattle.rbc_spec.specs.Links.{is_train, expect, announced, is_under, cancelled, received}
-use Rattle.rbc_spec.specs.Step.{ticked, body_taken}
+use Rattle.rbc_spec.specs.Step.{ticked}
 use Rattle.rbc_spec.specs.LineCentre.{LineState}
 use Rattle.rbc_flow.specs.Flow.{Flow, took_frame}
 use Rattle.rbc_flow.specs.Keeping.{came_with}
@@ -17,11 +16,10 @@ use Rattle.rbc_flow.specs.Shows.{Shows}
 use Rattle.rbc_flow.specs.Leads.{Leads}
 use Rattle.rbc_sound.proofs.Sends.{Sound, rest_sound, if_sound}
 use Rattle.rbc_sound.proofs.Handovers.{announced_sound, cancelled_sound}
-use Rattle.rbc_pairs.specs.Orderly.{IsHandingWithin}
 use Rattle.rbc_pairs.proofs.Steps.{fits_head}
-use Rattle.rbc_handings.proofs.Heads.{met, met_sound, handed_received, received_kept, IsUnshown, unshown_if, unshown_if_act, unshown_state, unshown_leads}
+use Rattle.rbc_handings.proofs.Heads.{met, met_sound, received_kept, IsUnshown, unshown_if, unshown_if_act, unshown_state, unshown_leads}
 
-module _ (reach : Reach) (line : Line) (w : Flow) (v : LineState) (a c h t number stamp : ℕ) (ok : IsLine line) (sound : IsFlowSound line w) (within : IsHandingWithin reach w) (sees : Shows line w v)
+module _ (line : Line) (w : Flow) (v : LineState) (a c h t number stamp : ℕ) (ok : IsLine line) (sound : IsFlowSound line w) (sees : Shows line w v)
     (from : is_centre line a ≡ true) (to : is_centre line c ≡ true) where
   abbrev j : Centre
   j = met w a c (w.at c).phase number stamp
@@ -54,10 +52,9 @@ module _ (reach : Reach) (line : Line) (w : Flow) (v : LineState) (a c h t numbe
         (unshown_if_act c (w.at c) came (nat_lt track (length line.tracks)) (announced a h t) rest j
         (unshown_if c (w.at c) came (is_none (j.expects a t)) (expect a t (Some new) j) (rest j) expecting aside) aside) aside
 
-    pub announce_leads : Leads line (took w a c) c (body_taken reach line c a (Announce h t track) (took_frame a number (ticked stamp (w.at c)))) v
-    announce_leads = subst (λ (r : Reply). Leads line (took w a c) c r v) (sym (handed_received reach line w a c (Announce h t track) j within head refl))
-        (unshown_leads line w sound v sees a c from to (Announce h t track) head (received line c a (Announce h t track) j) unshown
-        (received_kept line ok w sound a c to (w.at c).phase number stamp (Announce h t track) reach (fits_head reach line ok w sound a c from to (Announce h t track) head) from head announce_sound))
+    pub announce_leads : Leads line (took w a c) c (received line c a (Announce h t track) (took_frame a number (ticked stamp (w.at c)))) v
+    announce_leads = unshown_leads line w sound v sees a c from to (Announce h t track) head (received line c a (Announce h t track) j) unshown
+        (received_kept line ok w sound a c to (w.at c).phase number stamp (Announce h t track) (fits_head line ok w sound a c from to (Announce h t track) head) from head announce_sound)
 
   module _ (head : TakesHead w a c (Cancel h t)) where
     abbrev ended : Resource Centre Body → ℕ
@@ -78,7 +75,6 @@ module _ (reach : Reach) (line : Line) (w : Flow) (v : LineState) (a c h t numbe
     ended_unshown = unshown_if_act c (w.at c) ended (is_train line t) (cancelled a h t) rest j
         (unshown_if c (w.at c) ended (is_under h (j.expects a t)) (expect a t None j) (rest j) expecting_none still) still
 
-    pub cancel_leads : Leads line (took w a c) c (body_taken reach line c a (Cancel h t) (took_frame a number (ticked stamp (w.at c)))) v
-    cancel_leads = subst (λ (r : Reply). Leads line (took w a c) c r v) (sym (handed_received reach line w a c (Cancel h t) j within head refl))
-        (unshown_leads line w sound v sees a c from to (Cancel h t) head (received line c a (Cancel h t) j) ended_unshown
-        (received_kept line ok w sound a c to (w.at c).phase number stamp (Cancel h t) reach (fits_head reach line ok w sound a c from to (Cancel h t) head) from head cancel_sound))
+    pub cancel_leads : Leads line (took w a c) c (received line c a (Cancel h t) (took_frame a number (ticked stamp (w.at c)))) v
+    cancel_leads = unshown_leads line w sound v sees a c from to (Cancel h t) head (received line c a (Cancel h t) j) ended_unshown
+        (received_kept line ok w sound a c to (w.at c).phase number stamp (Cancel h t) (fits_head line ok w sound a c from to (Cancel h t) head) from head cancel_sound)

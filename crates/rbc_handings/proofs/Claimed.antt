@@ -3,13 +3,12 @@ use Rattle.std.proofs.Common.{◌≡◌, ℕ, Bool, true, false, if◌then◌els
 use Rattle.rbc_ledger.specs.Network.{took, TakesHead}
 use Rattle.rbc_ledger.proofs.Resource.{carried_none}
 use Rattle.rbc_ledger.proofs.Sums.{put_same}
-use Rattle.rbc_spec.specs.Reach.{Reach, follows_rule}
 use Rattle.rbc_spec.specs.Line.{Line, IsLine, is_centre}
 use Rattle.rbc_spec.specs.Frame.{TakingOver}
 use Rattle.rbc_spec.specs.Centre.{Centre}
 use Rattle.rbc_spec.specs.Acts.{Reply, rest, change_mission, yield_if_due}
 use Rattle.rbc_spec.specs.Links.{is_train, claimed, taking_over, received}
-use Rattle.rbc_spec.specs.Step.{ticked, body_taken}
+use Rattle.rbc_spec.specs.Step.{ticked}
 use Rattle.rbc_spec.specs.LineCentre.{LineState}
 use Rattle.rbc_flow.specs.Flow.{Flow, took_frame}
 use Rattle.rbc_flow.specs.Counts.{hands, missions}
@@ -32,7 +31,7 @@ use Rattle.rbc_moves.proofs.Laying.{yields_so}
 use Rattle.rbc_handings.proofs.Heads.{met, met_sound, IsUnshown, head_unseen, unshown_state, unshown_leads}
 
 module _ (line : Line) (w : Flow) (v : LineState) (a c h t number stamp : ℕ) (ok : IsLine line) (sound : IsFlowSound line w)
-    (sees : Shows line w v) (from : is_centre line a ≡ true) (to : is_centre line c ≡ true) (head : TakesHead w a c (TakingOver h t)) (reach : Reach) where
+    (sees : Shows line w v) (from : is_centre line a ≡ true) (to : is_centre line c ≡ true) (head : TakesHead w a c (TakingOver h t)) where
   abbrev j : Centre
   j = met w a c (w.at c).phase number stamp
 
@@ -45,9 +44,9 @@ module _ (line : Line) (w : Flow) (v : LineState) (a c h t number stamp : ℕ) (
   aside : Leads line (took w a c) c (rest j) v
   aside = unshown_leads line w sound v sees a c from to (TakingOver h t) head (rest j)
       (unshown_state c (w.at c) (came_with a c (TakingOver h t)) j refl refl refl refl refl refl refl (λ u. refl) (λ u s. refl))
-      (head_sound line ok c reach w sound to (rest j) (rest_sound line c j (met_sound line ok w sound a c to (w.at c).phase number stamp)) a (TakingOver h t) from head
+      (head_sound line ok c w sound to (rest j) (rest_sound line c j (met_sound line ok w sound a c to (w.at c).phase number stamp)) a (TakingOver h t) from head
       (λ y is ready. plain line c y is a (TakingOver h t) (w.at c) (rest j) refl (as_met y (rest j) (fair_plain line c y j (rest j) refl refl refl)))
-      (passes reach line c a (TakingOver h t) (w.at c) (λ u n. refl) (still reach (w.at c) j refl refl refl)))
+      (passes line c a (TakingOver h t) (w.at c) (λ u n. refl) (still (w.at c) j refl refl refl)))
 
   -- ## It is claimed
 
@@ -66,16 +65,16 @@ module _ (line : Line) (w : Flow) (v : LineState) (a c h t number stamp : ℕ) (
     said = refl;
   }
 
-  taken : IsTakenWith reach a (TakingOver h t) (w.at c) claim.state claim.frames
+  taken : IsTakenWith a (TakingOver h t) (w.at c) claim.state claim.frames
   taken = let taking = claim_taking a h t j in record {
     y = claim.state;
     taking = record { leads = taking.leads; expected = taking.expected; waits = taking.waits; announced = taking.announced; number = taking.number; claimed = taking.claimed; handing = taking.handing };
-    behind = goes_rest reach claim.state;
+    behind = goes_rest claim.state;
   }
 
   claim_leads : Leads line (took w a c) c claim v
   claim_leads = unshown_leads line w sound v sees a c from to (TakingOver h t) head claim unshown
-      (head_sound line ok c reach w sound to claim (claim_sound line ok c a h t j (met_sound line ok w sound a c to (w.at c).phase number stamp)) a (TakingOver h t) from head
+      (head_sound line ok c w sound to claim (claim_sound line ok c a h t j (met_sound line ok w sound a c to (w.at c).phase number stamp)) a (TakingOver h t) from head
       (λ y is ready. plain line c y is a (TakingOver h t) (w.at c) claim refl (as_met y claim (fair_change line c y t (claimed a h) j (λ m. (refl, refl))))) taken)
 
   -- ## And what is due follows
@@ -88,9 +87,5 @@ module _ (line : Line) (w : Flow) (v : LineState) (a c h t number stamp : ℕ) (
   by_train true = taken_over
   by_train false = aside
 
-  by_rule : (b : Bool) → Leads line (took w a c) c ((if b then received line c a (TakingOver h t) else rest) j) v
-  by_rule true = by_train (is_train line t)
-  by_rule false = aside
-
-  pub claim_body_leads : Leads line (took w a c) c (body_taken reach line c a (TakingOver h t) (took_frame a number (ticked stamp (w.at c)))) v
-  claim_body_leads = by_rule (follows_rule reach (TakingOver h t))
+  pub claim_body_leads : Leads line (took w a c) c (received line c a (TakingOver h t) (took_frame a number (ticked stamp (w.at c)))) v
+  claim_body_leads = by_train (is_train line t)

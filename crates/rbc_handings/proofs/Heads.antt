@@ -2,16 +2,13 @@
 use Rattle.std.proofs.Common.{◌≡◌, ℕ, Bool, true, false, if◌then◌else◌, List, [], Option, refl, sym, ap, ◌∙◌, arith}
 use Rattle.rbc_ledger.specs.Network.{took, TakesHead}
 use Rattle.rbc_ledger.specs.Resource.{Resource, IsFair}
-use Rattle.rbc_ledger.proofs.Network.{each_head}
 use Rattle.rbc_ledger.proofs.Resource.{carried_none}
 use Rattle.rbc_spec.specs.Maps.{put}
-use Rattle.rbc_spec.specs.Reach.{Reach, Local, Rights, Routes, Whole, hands_over, follows_rule}
 use Rattle.rbc_spec.specs.Line.{Line, IsLine, is_centre}
 use Rattle.rbc_spec.specs.Frame.{Body}
 use Rattle.rbc_spec.specs.Centre.{Centre, Phase}
 use Rattle.rbc_spec.specs.Acts.{Act, Reply, rest}
 use Rattle.rbc_spec.specs.Links.{received}
-use Rattle.rbc_spec.specs.Step.{body_taken}
 use Rattle.rbc_spec.specs.LineCentre.{LineState, nothing}
 use Rattle.rbc_local.proofs.Ordered.{is_ordered}
 use Rattle.rbc_flow.specs.Flow.{Flow, centre_count}
@@ -31,7 +28,7 @@ use Rattle.rbc_tokens.proofs.Frames.{fair_received}
 use Rattle.rbc_tokens.proofs.Rights.{rights_tally, rights_counted, rights_ready}
 use Rattle.rbc_tokens.proofs.Tokens.{tokens_tally, tokens_counted, tokens_ready}
 use Rattle.rbc_lent.proofs.Lent.{lent_tally, lent_counted, lent_ready}
-use Rattle.rbc_pairs.specs.Orderly.{is_of_handing, IsHandedWithin, IsHandingWithin, IsTakenWith}
+use Rattle.rbc_pairs.specs.Orderly.{IsTakenWith}
 use Rattle.rbc_pairs.proofs.Frames.{Fits, goes_received}
 use Rattle.rbc_moves.proofs.Keeps.{head_keeps}
 use Rattle.rbc_moves.proofs.Unseen.{unseen_still}
@@ -39,21 +36,6 @@ use Rattle.rbc_moves.proofs.Unseen.{unseen_still}
 -- the centre as the frame from a finds it: the frame is counted, and the clock shows the stamp of the step; and with these sessions
 abbrev pub met : Flow → ℕ → ℕ → (ℕ → Phase) → ℕ → ℕ → Centre
 met w a c phase number stamp = record (w.at c) { phase = phase; clock = stamp; taken = put (w.at c).taken a number }
-
--- ## At a reach
-
--- where centres hand missions over, a frame is acted on
-followed : (reach : Reach) (f : Body) → hands_over reach ≡ true → follows_rule reach f ≡ true
-followed Local f hands = cc
-followed Rights f hands = cc
-followed Routes f hands = cc
-followed Whole f hands = refl
-
--- so is each frame of a handover that is on the way
-pub handed_received : (reach : Reach) (line : Line) (w : Flow) (a c : ℕ) (f : Body) (k : Centre) → IsHandingWithin reach w → TakesHead w a c f → is_of_handing f ≡ true
-    → body_taken reach line c a f k ≡ received line c a f k
-handed_received reach line w a c f k within head of =
-    ap (λ b. (if b then received line c a f else rest) k) (followed reach f (each_head (λ i j g. IsHandedWithin reach g) w a c f head within.bodies of))
 
 -- ## What is kept
 
@@ -93,10 +75,10 @@ module _ (line : Line) (ok : IsLine line) (w : Flow) (sound : IsFlowSound line w
           (lent_ready line (is_ordered line ok) c t s d (neighbours line ok) (w.at c) (sound.centres c to)) refl;
     }
 
-    module _ (reach : Reach) (fits : Fits reach line c a f j) where
+    module _ (fits : Fits line c a f j) where
       -- and it is taken as it says
-      pub received_taken : IsTakenWith reach a f (w.at c) (received line c a f (met w a c phase number stamp)).state (received line c a f (met w a c phase number stamp)).frames
-      received_taken = let comes = goes_received reach line c a f j fits in record {
+      pub received_taken : IsTakenWith a f (w.at c) (received line c a f (met w a c phase number stamp)).state (received line c a f (met w a c phase number stamp)).frames
+      received_taken = let comes = goes_received line c a f j fits in record {
         y = comes.y;
         taking = record { leads = comes.taking.leads; expected = comes.taking.expected; waits = comes.taking.waits; announced = comes.taking.announced; number = comes.taking.number; claimed = comes.taking.claimed; handing = comes.taking.handing };
         behind = comes.behind;
@@ -105,7 +87,7 @@ module _ (line : Line) (ok : IsLine line) (w : Flow) (sound : IsFlowSound line w
       pub received_kept : is_centre line a ≡ true → TakesHead w a c f
           → LeavesSound line c (received line c a f (met w a c phase number stamp)).state (received line c a f (met w a c phase number stamp)).frames
           → IsFlowSound line (replied (took w a c) c (received line c a f (met w a c phase number stamp)))
-      received_kept from head leaves = head_keeps line ok c reach w sound to q leaves a f from head received_fair received_taken
+      received_kept from head leaves = head_keeps line ok c w sound to q leaves a f from head received_fair received_taken
 
 -- ## What is not seen
 

@@ -10,7 +10,6 @@ use Rattle.rbc_ledger.proofs.Sums.{put_same}
 use Rattle.rbc_lemmas.proofs.Puts.{itself}
 use Rattle.rbc_lemmas.proofs.Runs.{each_within}
 use Rattle.rbc_spec.specs.Maps.{has, put, put_pair}
-use Rattle.rbc_spec.specs.Reach.{Reach, Whole}
 use Rattle.rbc_spec.specs.SectionRuns.{SectionRun, no_run, most_in_hand, within, all_of}
 use Rattle.rbc_spec.specs.Line.{Line, IsLine, is_centre, is_home, section_of_group, train_number}
 use Rattle.rbc_spec.specs.Sections.{is_on, is_on_track}
@@ -19,7 +18,7 @@ use Rattle.rbc_spec.specs.Frame.{Body, YieldedPlace, Yield, yielded_place, carri
 use Rattle.rbc_spec.specs.Centre.{Centre, Phase, Closed, Taken, Mission, is_out_for}
 use Rattle.rbc_spec.specs.Acts.{Act, Reply, become, rest, ◌>>◌, where_so, with_some, booked, set_mission, may_propose, propose, propose_if_so}
 use Rattle.rbc_spec.specs.Links.{expect, may_arrive, may_take, take_mission, yielded, received}
-use Rattle.rbc_spec.specs.Step.{ticked, body_taken}
+use Rattle.rbc_spec.specs.Step.{ticked}
 use Rattle.rbc_spec.specs.LineCentre as line_centre
 use Rattle.rbc_spec.specs.LineCentre.{LineState, At, nothing}
 use Rattle.rbc_spec.specs.Quiet.{TakeUp}
@@ -33,16 +32,16 @@ use Rattle.rbc_sound.proofs.Again.{free_sound}
 use Rattle.rbc_sound.proofs.Sends.{leaves, none_sent, rest_sound}
 use Rattle.rbc_sound.proofs.Handovers.{yielded_sound}
 use Rattle.rbc_tokens.proofs.Tally.{fair_rest}
-use Rattle.rbc_pairs.specs.Orderly.{IsHandingWithin, IsTakenWith}
+use Rattle.rbc_pairs.specs.Orderly.{IsTakenWith}
 use Rattle.rbc_pairs.proofs.Orderly.{goes_rest}
 use Rattle.rbc_pairs.proofs.Steps.{fits_head}
 use Rattle.rbc_moves.proofs.Keeps.{act_sound, head_keeps}
 use Rattle.rbc_moves.proofs.Moves.{leading, one_quiet, rest_moves}
 use Rattle.rbc_moves.proofs.Proposals.{propose_leads}
-use Rattle.rbc_handings.proofs.Heads.{met, met_sound, handed_received, received_fair, received_taken}
+use Rattle.rbc_handings.proofs.Heads.{met, met_sound, received_fair, received_taken}
 use Rattle.rbc_handings.proofs.TakenUp.{later, taken_up_shown, taking_up}
 
-module _ (reach : Reach) (line : Line) (w : Flow) (v : LineState) (a c h t heard number stamp : ℕ) (has_data is_ended : Bool) (carried : YieldedPlace) (hand : SectionRun)
+module _ (line : Line) (w : Flow) (v : LineState) (a c h t heard number stamp : ℕ) (has_data is_ended : Bool) (carried : YieldedPlace) (hand : SectionRun)
     (ok : IsLine line) (sound : IsFlowSound line w) (sees : Shows line w v) (from : is_centre line a ≡ true) (to : is_centre line c ≡ true) (head : TakesHead w a c (Yield h t heard has_data is_ended carried hand)) where
   abbrev f : Body
   f = Yield h t heard has_data is_ended carried hand
@@ -118,16 +117,16 @@ module _ (reach : Reach) (line : Line) (w : Flow) (v : LineState) (a c h t heard
           lent = λ u s d. record { law = (fair.lent u s d).law };
         }
 
-    taken_so : IsTakenWith reach a f (w.at c) (y (w.at c).phase) (λ d. [])
-    taken_so = let is = subst (λ (r : Reply). IsTakenWith reach a f (w.at c) r.state r.frames) (received_is closed ∙ quietly)
-        (received_taken line ok w sound a c to closed number stamp f reach (fits_head reach line ok w sound a c from to f head)) in let orderly = is.behind in record {
+    taken_so : IsTakenWith a f (w.at c) (y (w.at c).phase) (λ d. [])
+    taken_so = let is = subst (λ (r : Reply). IsTakenWith a f (w.at c) r.state r.frames) (received_is closed ∙ quietly)
+        (received_taken line ok w sound a c to closed number stamp f (fits_head line ok w sound a c from to f head)) in let orderly = is.behind in record {
           y = is.y;
           taking = is.taking;
-          behind = record { leads = orderly.leads; expected = orderly.expected; announced = orderly.announced; claimed = orderly.claimed; anew = orderly.anew; takes = orderly.takes; within = orderly.within; bodies = orderly.bodies };
+          behind = record { leads = orderly.leads; expected = orderly.expected; announced = orderly.announced; claimed = orderly.claimed; anew = orderly.anew; takes = orderly.takes };
         }
 
     kept : IsFlowSound line (replied (took w a c) c (rest (y (w.at c).phase)))
-    kept = head_keeps line ok c reach w sound to (rest (y (w.at c).phase)) leaves_so a f from head fair_so taken_so
+    kept = head_keeps line ok c w sound to (rest (y (w.at c).phase)) leaves_so a f from head fair_so taken_so
 
     -- ## The taking up
 
@@ -163,7 +162,7 @@ module _ (reach : Reach) (line : Line) (w : Flow) (v : LineState) (a c h t heard
       where
         none : Leads line u c (rest (u.at c)) x
         none = leading line u c x (rest (u.at c)) (rest_moves line u well x shows c to)
-            (act_sound line ok c Whole u well to (rest (u.at c)) (rest_sound line c (u.at c) (well.centres c to)) (λ z is ready. fair_rest line c z (u.at c)) (goes_rest Whole (u.at c)))
+            (act_sound line ok c u well to (rest (u.at c)) (rest_sound line c (u.at c) (well.centres c to)) (λ z is ready. fair_rest line c z (u.at c)) (goes_rest (u.at c)))
 
         by_found : (o : Option ℕ) → Leads line u c (option_map_or (λ s. propose_if_so line t s k) o (rest k)) x
         by_found None = subst (λ z. Leads line u c (rest z) x) at none
@@ -178,10 +177,9 @@ module _ (reach : Reach) (line : Line) (w : Flow) (v : LineState) (a c h t heard
         (proposed (replied (took w a c) c (takes (found (w.at c).phase))) (takes (found (w.at c).phase)).state first.new first.sound first.shows
         (put_same (took w a c).at c (takes (found (w.at c).phase)).state)))
 
-  pub yield_leads : IsHandingWithin reach w → Leads line (took w a c) c (body_taken reach line c a (Yield h t heard has_data is_ended carried hand) (took_frame a number (ticked stamp (w.at c)))) v
-  yield_leads within =
+  pub yield_leads : Leads line (took w a c) c (received line c a (Yield h t heard has_data is_ended carried hand) (took_frame a number (ticked stamp (w.at c)))) v
+  yield_leads =
       let body : IsYieldSound line a c t carried hand = each_head (IsBodySound line) w a c f head sound.bodies in
-      let fits = fits_head reach line ok w sound a c from to f head in
+      let fits = fits_head line ok w sound a c from to f head in
       let same : body.place ≡ fits.1.0 = same_Some body.place fits.1.0 (sym (ap carried_place body.is_carried) ∙ fits.1.1) in
-      subst (λ (r : Reply). Leads line (took w a c) c r v) (sym (handed_received reach line w a c f (found (w.at c).phase) within head refl))
-      (yield_taken fits.1.0 fits.1.1 (body.is_carried ∙ ap yielded_place same) fits.1.2 fits.0 (body.is_hand.some, body.is_hand.few))
+      yield_taken fits.1.0 fits.1.1 (body.is_carried ∙ ap yielded_place same) fits.1.2 fits.0 (body.is_hand.some, body.is_hand.few)

@@ -11,10 +11,9 @@ use Rattle.rbc_ledger.proofs.Sums.{one_if_some, one_if_true}
 use Rattle.rbc_ledger.proofs.Resource.{carried_more}
 use Rattle.rbc_ledger.proofs.Places.{held_carried_le_placed}
 use Rattle.rbc_spec.specs.Maps.{has}
-use Rattle.rbc_spec.specs.Reach.{Reach, Local, Rights, Routes, Whole, follows_rule, hands_over}
 use Rattle.rbc_spec.specs.SectionRuns.{SectionRun, within}
 use Rattle.rbc_spec.specs.Line.{Line, Train, is_centre, is_home}
-use Rattle.rbc_spec.specs.Frame.{Body, GiveRight, ReturnRight, RouteReturn}
+use Rattle.rbc_spec.specs.Frame.{Body, RouteReturn}
 use Rattle.rbc_spec.specs.Centre.{is_registrar_of, is_out_for}
 use Rattle.rbc_spec.specs.Links.{is_train}
 use Rattle.rbc_lemmas.proofs.Lines.{one_home}
@@ -72,24 +71,6 @@ right_comes line w a c t f sound from to takes one = record {
     no_some : {X : Type 0} (o : Option X) → one_if ((w.at c).has_right t) + one_if (is_some o) ≡ 0 → is_none o ≡ true
     no_some None is = refl
     no_some (Some x) is = absurd (omega (arith, is))
-
-pub handed_over : (reach : Reach) (body : Body) → hands_over reach ≡ true → follows_rule reach body ≡ true
-handed_over Local body h = refl
-handed_over Rights body h = cc
-handed_over Routes body h = cc
-handed_over Whole body h = refl
-
-pub gives_follow : (reach : Reach) (t : ℕ) → follows_rule reach (GiveRight t) ≡ true
-gives_follow Local t = refl
-gives_follow Rights t = refl
-gives_follow Routes t = refl
-gives_follow Whole t = refl
-
-pub returns_follow : (reach : Reach) (t : ℕ) → follows_rule reach (ReturnRight t) ≡ true
-returns_follow Local t = refl
-returns_follow Rights t = refl
-returns_follow Routes t = refl
-returns_follow Whole t = refl
 
 -- a section that comes to its home is out for the train where it comes from
 pub out_there : (line : Line) (w : Flow) (a c t s : ℕ) (r : SectionRun) → IsFlowSound line w → is_centre line a ≡ true → is_centre line c ≡ true → TakesHead w a c (RouteReturn t r)

@@ -1,7 +1,6 @@
 -- What comes at the head of a link of a sound flow is looked for.
-use Rattle.std.proofs.Common.{◌≡◌, ℕ, zero, suc, ◌+◌, ◌<◌, ◌≤◌, ◌==◌, ◌&&◌, not, Bool, true, false, is_some, is_none, All, refl, ap, ◌∙◌, subst, arith, ltb-true}
+use Rattle.std.proofs.Common.{◌≡◌, ℕ, ◌+◌, ◌<◌, ◌≤◌, ◌==◌, ◌&&◌, not, Bool, true, false, is_some, is_none, refl, ap, ◌∙◌, subst, arith, ltb-true}
 use Rattle.std.proofs.lemmas.Bool.{and_from, and_parts, eqb-true}
-use Rattle.std.proofs.lemmas.List.Elements.{All-head}
 use Rattle.rbc_ledger.specs.Sums.{one_if}
 use Rattle.rbc_ledger.specs.Network.{way, took, TakesHead}
 use Rattle.rbc_ledger.specs.Resource.{carried, placed}
@@ -10,25 +9,23 @@ use Rattle.rbc_ledger.proofs.Network.{each_head}
 use Rattle.rbc_ledger.proofs.Resource.{carried_more}
 use Rattle.rbc_ledger.proofs.Places.{held_le_placed, held_carried_le_placed}
 use Rattle.rbc_spec.specs.Maps.{has}
-use Rattle.rbc_spec.specs.Reach.{Reach, follows_rule, hands_over}
 use Rattle.rbc_spec.specs.SectionRuns.{SectionRun, all_of}
 use Rattle.rbc_spec.specs.Line.{Line, IsLine, is_centre, is_home}
 use Rattle.rbc_spec.specs.Frame.{Body, YieldedPlace, AskRight, GiveRight, RefuseRight, ReturnRight, RouteAsk, RouteInfo, RouteWithdraw, RouteReturn, Announce, Cancel, TakingOver, Yield, carried_place}
 use Rattle.rbc_spec.specs.Centre.{is_registrar_of, is_out_for}
 use Rattle.rbc_spec.specs.Links.{is_of_line, is_train, may_take}
 use Rattle.rbc_lemmas.proofs.Puts.{itself}
-use Rattle.rbc_lemmas.proofs.Runs.{within_from, each_within, all_within}
+use Rattle.rbc_lemmas.proofs.Runs.{each_within, all_within}
 use Rattle.rbc_flow.specs.Flow.{Flow, centre_count}
 use Rattle.rbc_flow.specs.Counts.{rights}
-use Rattle.rbc_flow.specs.Pairs.{yields as sent_over}
-use Rattle.rbc_flow.specs.Sound.{IsFlowSound, IsBodySound, IsWithinReach}
+use Rattle.rbc_flow.specs.Sound.{IsFlowSound, IsBodySound}
 use Rattle.rbc_flow.proofs.Basics.{some_cap}
 use Rattle.rbc_flow.proofs.Neighbours.{neighbours, one_registrar}
 use Rattle.rbc_flow.proofs.Taken.{is_carried, is_taken}
 use Rattle.rbc_tokens.specs.Stray.{is_looked_for}
 use Rattle.rbc_asked.specs.Asked.{Question, OfRight, OfRoute, answers, stands, questions, IsBodyAsked, IsAsked}
 use Rattle.rbc_kept.specs.Keeps.{HasRightOnce}
-use Rattle.rbc_kept.proofs.Brings.{right_comes, out_there, handed_over, gives_follow, returns_follow}
+use Rattle.rbc_kept.proofs.Brings.{right_comes, out_there}
 
 not_both : (b m : Bool) → one_if b + one_if m ≤ 1 → m ≡ true → b ≡ false
 not_both true true le is = absurd (omega (arith, le))
@@ -43,11 +40,7 @@ right_once line w c sound centre = record {
       (ap is_some is);
 }
 
-some_in : (n : ℕ) → (n == 0) ≡ false → 0 < n
-some_in zero is = cc
-some_in (suc n) is = omega arith
-
-module _ (reach : Reach) (line : Line) (ok : IsLine line) (w : Flow) (sound : IsFlowSound line w) (within_reach : IsWithinReach reach w) (asked : IsAsked reach line w) (a c : ℕ)
+module _ (line : Line) (ok : IsLine line) (w : Flow) (sound : IsFlowSound line w) (asked : IsAsked line w) (a c : ℕ)
     (from : is_centre line a ≡ true) (to : is_centre line c ≡ true) where
   small : a < centre_count line
   small = ltb-true a (centre_count line) from
@@ -72,51 +65,43 @@ module _ (reach : Reach) (line : Line) (ok : IsLine line) (w : Flow) (sound : Is
       at_asker found = let both = and_parts (found.0 == c) (stands x (w.at found.0)) (one_if_some ((found.0 == c) && stands x (w.at found.0)) found.2) in
           subst (λ h. stands x (w.at h) ≡ true) (eqb-true found.0 c both.0) both.1
 
-  looked : (t : ℕ) (follows known place : Bool) → follows ≡ true → known ≡ true → place ≡ true → (follows && (known && place)) ≡ true
-  looked t follows known place one two three = and_from follows (known && place) one (and_from known place two three)
-
-  gives : (t : ℕ) → TakesHead w a c (GiveRight t) → is_looked_for reach line c a (w.at c) (GiveRight t) ≡ true
+  gives : (t : ℕ) → TakesHead w a c (GiveRight t) → is_looked_for line c a (w.at c) (GiveRight t) ≡ true
   gives t takes = let free = right_comes line w a c t (GiveRight t) sound from to takes (ap one_if (itself t)) in
-      looked t (follows_rule reach (GiveRight t)) (is_train line t) ((w.at c).has_asked t && not ((w.at c).has_right t)) (gives_follow reach t) free.known
+      and_from (is_train line t) ((w.at c).has_asked t && not ((w.at c).has_right t)) free.known
       (and_from ((w.at c).has_asked t) (not ((w.at c).has_right t)) (stands_here (OfRight t) (GiveRight t) takes (itself t)) free.no_right)
 
-  returns : (t : ℕ) → TakesHead w a c (ReturnRight t) → is_looked_for reach line c a (w.at c) (ReturnRight t) ≡ true
+  returns : (t : ℕ) → TakesHead w a c (ReturnRight t) → is_looked_for line c a (w.at c) (ReturnRight t) ≡ true
   returns t takes = let free = right_comes line w a c t (ReturnRight t) sound from to takes (ap one_if (itself t)) in
-      looked t (follows_rule reach (ReturnRight t)) (is_train line t) (is_registrar_of line c t && (not ((w.at c).has_right t) && is_none ((w.at c).mission t))) (returns_follow reach t) free.known
-      (and_from (is_registrar_of line c t) (not ((w.at c).has_right t) && is_none ((w.at c).mission t)) (each_head (IsBodyAsked reach line) w a c (ReturnRight t) takes asked.bodies)
+      and_from (is_train line t) (is_registrar_of line c t && (not ((w.at c).has_right t) && is_none ((w.at c).mission t))) free.known
+      (and_from (is_registrar_of line c t) (not ((w.at c).has_right t) && is_none ((w.at c).mission t)) (each_head (IsBodyAsked line) w a c (ReturnRight t) takes asked.bodies)
       (and_from (not ((w.at c).has_right t)) (is_none ((w.at c).mission t)) free.no_right free.no_mission))
 
-  tells : (t : ℕ) (r : SectionRun) → TakesHead w a c (RouteInfo t r) → is_looked_for reach line c a (w.at c) (RouteInfo t r) ≡ true
-  tells t r takes = let is = each_head (IsBodyAsked reach line) w a c (RouteInfo t r) takes asked.bodies in
+  tells : (t : ℕ) (r : SectionRun) → TakesHead w a c (RouteInfo t r) → is_looked_for line c a (w.at c) (RouteInfo t r) ≡ true
+  tells t r takes = let is = each_head (IsBodyAsked line) w a c (RouteInfo t r) takes asked.bodies in
       let named = stands_here (OfRoute t r.first) (RouteInfo t r) takes (and_from (t == t) (r.first == r.first) (itself t) (itself r.first)) in
-      looked t (follows_rule reach (RouteInfo t r)) (is_train line t)
-      ((has (λ first. first == r.first) ((w.at c).route_ask t) && (is_of_line line r && is_home line a r.first)) && all_of (is_home line a) r) is.0 is.1
+      and_from (is_train line t)
+      ((has (λ first. first == r.first) ((w.at c).route_ask t) && (is_of_line line r && is_home line a r.first)) && all_of (is_home line a) r) is.0
       (and_from (has (λ first. first == r.first) ((w.at c).route_ask t) && (is_of_line line r && is_home line a r.first)) (all_of (is_home line a) r)
-      (and_from (has (λ first. first == r.first) ((w.at c).route_ask t)) (is_of_line line r && is_home line a r.first) named (and_from (is_of_line line r) (is_home line a r.first) is.2 is.3)) is.4)
+      (and_from (has (λ first. first == r.first) ((w.at c).route_ask t)) (is_of_line line r && is_home line a r.first) named (and_from (is_of_line line r) (is_home line a r.first) is.1 is.2)) is.3)
 
-  comes_home : (t : ℕ) (r : SectionRun) → TakesHead w a c (RouteReturn t r) → is_looked_for reach line c a (w.at c) (RouteReturn t r) ≡ true
-  comes_home t r takes = let is = each_head (IsBodyAsked reach line) w a c (RouteReturn t r) takes asked.bodies in
-      let first = within_from r r.first (omega arith) (omega (arith, some_in r.count is.1)) in
-      looked t (follows_rule reach (RouteReturn t r)) (is_train line t) (all_of (λ s. is_home line c s && is_out_for t a ((w.at c).book s)) r)
-      (asked.centres c r.first t a t r (out_there line w a c t r.first r sound from to takes first (each_within (is_home line c) r is.2 r.first first))) is.0
+  comes_home : (t : ℕ) (r : SectionRun) → TakesHead w a c (RouteReturn t r) → is_looked_for line c a (w.at c) (RouteReturn t r) ≡ true
+  comes_home t r takes = let is = each_head (IsBodyAsked line) w a c (RouteReturn t r) takes asked.bodies in
+      and_from (is_train line t) (all_of (λ s. is_home line c s && is_out_for t a ((w.at c).book s)) r) is.0
       (all_within (λ s. is_home line c s && is_out_for t a ((w.at c).book s)) r (λ s in_run. let own = each_within (is_home line c) r is.2 s in_run in
       and_from (is_home line c s) (is_out_for t a ((w.at c).book s)) own (out_there line w a c t s r sound from to takes in_run own)))
 
   hands : (number t heard : ℕ) (has_data is_ended : Bool) (carried : YieldedPlace) (hand : SectionRun) → TakesHead w a c (Yield number t heard has_data is_ended carried hand)
-      → is_looked_for reach line c a (w.at c) (Yield number t heard has_data is_ended carried hand) ≡ true
+      → is_looked_for line c a (w.at c) (Yield number t heard has_data is_ended carried hand) ≡ true
   hands number t heard has_data is_ended carried hand takes =
       let near = neighbours line ok in
       let body : Body = Yield number t heard has_data is_ended carried hand in
-      let over : hands_over reach ≡ true = All-head (λ f. (u h : ℕ) → sent_over u h f ≡ true → hands_over reach ≡ true) body (way (took w a c) a c)
-      (subst (All (λ f. (u h : ℕ) → sent_over u h f ≡ true → hands_over reach ≡ true)) takes.head (within_reach.yields.each a c)) t number
-      (and_from (t == t) (number == number) (itself t) (itself number)) in
       let whole = each_head (IsBodySound line) w a c body takes sound.bodies in
       let taken : has (λ at. may_take line c (w.at c) a number t at hand) (carried_place carried) ≡ true =
       ap (has (λ at. may_take line c (w.at c) a number t at hand)) (is_carried line near w sound a c number t heard has_data is_ended carried hand from to small below takes)
       ∙ is_taken line near w sound a c number t heard has_data is_ended carried hand from to small below takes in
-      looked t (follows_rule reach body) (is_train line t) (has (λ at. may_take line c (w.at c) a number t at hand) (carried_place carried)) (handed_over reach body over) whole.known taken
+      and_from (is_train line t) (has (λ at. may_take line c (w.at c) a number t at hand) (carried_place carried)) whole.known taken
 
-  pub looked_for : (f : Body) → TakesHead w a c f → is_looked_for reach line c a (w.at c) f ≡ true
+  pub looked_for : (f : Body) → TakesHead w a c f → is_looked_for line c a (w.at c) f ≡ true
   looked_for (AskRight t) takes = refl
   looked_for (GiveRight t) takes = gives t takes
   looked_for (RefuseRight t) takes = refl

@@ -6,7 +6,6 @@ use Rattle.std.proofs.lemmas.Option.{slice_get-get_or}
 use Rattle.rbc_flow.proofs.Trains.{is_there}
 use Rattle.rbc_ledger.proofs.Sums.{one_if_true, one_if_some}
 use Rattle.rbc_spec.specs.Maps.{has}
-use Rattle.rbc_spec.specs.Reach.{Reach, follows_rule}
 use Rattle.rbc_spec.specs.Line.{Line, IsLine, Train, is_linked, next_centre, registrar}
 use Rattle.rbc_spec.specs.Outcome.{Next, NoLink}
 use Rattle.rbc_spec.specs.Links.{is_train}
@@ -64,13 +63,13 @@ module _ (line : Line) (ok : IsLine line) (c : ℕ) (y : Tally) where
   }
 
   module _ (is : IsTally line c y) where
-    pub none_stray : (reach : Reach) (stamp : ℕ) (k : Centre) (event : Event) → BringsNoStray reach line c k event → steps.BringsNoStray line c y is reach (ticked stamp k) event
-    none_stray reach stamp k (FromTrain m) due = record {}
-    none_stray reach stamp k (Set s) due = record {}
-    none_stray reach stamp k (Unset s) due = record {}
-    none_stray reach stamp k (Deliver d f) due = λ so next. (
+    pub none_stray : (stamp : ℕ) (k : Centre) (event : Event) → BringsNoStray line c k event → steps.BringsNoStray line c y is (ticked stamp k) event
+    none_stray stamp k (FromTrain m) due = record {}
+    none_stray stamp k (Set s) due = record {}
+    none_stray stamp k (Unset s) due = record {}
+    none_stray stamp k (Deliver d f) due = λ so next. (
       ends (is_linked line c d) refl next,
-      ap (λ b. is_plain f.body || (follows_rule reach f.body && (is_train line (train_of f.body) && b))) (sym (same_place line c d stamp k.taken k f.body)) ∙ due next,
+      ap (λ b. is_plain f.body || (is_train line (train_of f.body) && b)) (sym (same_place line c d stamp k.taken k f.body)) ∙ due next,
     )
       where
         ends : (b : Bool) → is_linked line c d ≡ b → (if b then offered (k.taken d) f.number else NoLink) ≡ Next → (d < centre_count line) × (c ≢ d)

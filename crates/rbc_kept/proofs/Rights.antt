@@ -4,7 +4,6 @@ use Rattle.rbc_ledger.specs.Sums.{one_if}
 use Rattle.rbc_ledger.proofs.Sums.{one_if_true, one_if_le_one}
 use Rattle.rbc_spec.specs.SectionRuns.{within}
 use Rattle.rbc_spec.specs.Line.{Line, IsLine}
-use Rattle.rbc_spec.specs.Reach.{Reach}
 use Rattle.rbc_spec.specs.Centre.{Centre, is_registrar_of}
 use Rattle.rbc_spec.specs.Step.{Event, stamp_of}
 use Rattle.rbc_flow.specs.Sound.{IsCentreSound}
@@ -69,8 +68,8 @@ module _ (line : Line) (ok : IsLine line) (c t : ℕ) where
     back = λ so. exact;
   }
 
-pub no_right_lost : (line : Line) → IsLine line → (reach : Reach) (c t : ℕ) (k : Centre) (event : Event) → IsCentreSound line c k → HasRightOnce k → BringsNoStray reach line c k event
-    → IsExactStep (rights line t) reach line c k event
-no_right_lost line ok reach c t k event sound once due =
-    step_exact line c (rights_kept line c t) (rights_exact line ok c t) reach k event sound (ready_to_count line ok c (rights_kept line c t) k sound once) refl
-    (none_stray line ok c (rights_kept line c t) (rights_exact line ok c t) reach (stamp_of k event) k event due)
+pub no_right_lost : (line : Line) → IsLine line → (c t : ℕ) (k : Centre) (event : Event) → IsCentreSound line c k → HasRightOnce k → BringsNoStray line c k event
+    → IsExactStep (rights line t) line c k event
+no_right_lost line ok c t k event sound once due =
+    step_exact line c (rights_kept line c t) (rights_exact line ok c t) k event sound (ready_to_count line ok c (rights_kept line c t) k sound once) refl
+    (none_stray line ok c (rights_kept line c t) (rights_exact line ok c t) (stamp_of k event) k event due)

@@ -4,7 +4,6 @@ use Rattle.rbc_ledger.specs.Sums.{one_if}
 use Rattle.rbc_ledger.specs.Resource.{carried, sent_by}
 use Rattle.rbc_ledger.proofs.Sums.{sum_same}
 use Rattle.rbc_ledger.proofs.Resource.{carried_none, carried_more}
-use Rattle.rbc_spec.specs.Reach.{Reach}
 use Rattle.rbc_spec.specs.SectionRuns.{within}
 use Rattle.rbc_spec.specs.Line.{Line, IsLine, is_home}
 use Rattle.rbc_spec.specs.Frame.{Body}
@@ -85,21 +84,21 @@ held_parts line c t s k sound = by_home (is_home line c s) refl
     by_home true home = omega (arith, sound.claims s t home, away (k.mission t) refl home)
     by_home false foreign = omega (arith, not_there (wait_has line (k.wait t) s) (is_home line c s) (sound.wait_home t s) foreign)
 
-pub no_token_lost : (line : Line) → IsLine line → (reach : Reach) (c t s : ℕ) (k : Centre) (event : Event) → IsInRange event → IsCentreSound line c k → HasRightOnce k → BringsNoStray reach line c k event
-    → IsExactStep (tokens line t s) reach line c k event
-no_token_lost line ok reach c t s k event range sound once due = record {
+pub no_token_lost : (line : Line) → IsLine line → (c t s : ℕ) (k : Centre) (event : Event) → IsInRange event → IsCentreSound line c k → HasRightOnce k → BringsNoStray line c k event
+    → IsExactStep (tokens line t s) line c k event
+no_token_lost line ok c t s k event range sound once due = record {
   law = omega (
     arith,
-    (step_exact line c (outside_kept line c t s) (outside_exact line ok c t s) reach k event sound (ready_to_count line ok c (outside_kept line c t s) k sound once) refl
-        (none_stray line ok c (outside_kept line c t s) (outside_exact line ok c t s) reach (stamp_of k event) k event due)).law,
+    (step_exact line c (outside_kept line c t s) (outside_exact line ok c t s) k event sound (ready_to_count line ok c (outside_kept line c t s) k sound once) refl
+        (none_stray line ok c (outside_kept line c t s) (outside_exact line ok c t s) (stamp_of k event) k event due)).law,
     same_came line t s c k event,
-    same_sent line t s c (done reach line c k event).reply.frames,
+    same_sent line t s c (done line c k event).reply.frames,
     held_parts line c t s k sound,
     cap_parts line c t s k,
-    held_parts line c t s new (stays_sound line ok c reach k event range sound).centre,
+    held_parts line c t s new (stays_sound line ok c k event range sound).centre,
     cap_parts line c t s new,
   );
 }
   where
     new : Centre
-    new = state_after (stamp_of k event) k (done reach line c k event)
+    new = state_after (stamp_of k event) k (done line c k event)

@@ -4,7 +4,6 @@ use Rattle.rbc_ledger.specs.Network.{took, acted, TakesHead, IsCounted}
 use Rattle.rbc_ledger.specs.Resource.{Resource, IsExact}
 use Rattle.rbc_ledger.proofs.Network.{each_head}
 use Rattle.rbc_ledger.proofs.Resource.{exact_still, placed_exact, placed_exact_took}
-use Rattle.rbc_spec.specs.Reach.{Reach}
 use Rattle.rbc_spec.specs.Line.{Line, IsLine, is_centre}
 use Rattle.rbc_spec.specs.Frame.{Frame, Body}
 use Rattle.rbc_spec.specs.Outcome.{Next, Old, Early, NoLink}
@@ -25,7 +24,6 @@ use Rattle.rbc_tokens.specs.Steps.{came_by, came_to}
 use Rattle.rbc_pairs.specs.Steps.{IsByItself, left_by, sent_by}
 use Rattle.rbc_pairs.specs.Worlds.{IsWorldSound}
 use Rattle.rbc_pairs.proofs.Worlds.{world_begins, world_step_sound}
-use Rattle.rbc_pairs.proofs.Steps.{within_reach}
 use Rattle.rbc_asked.specs.Asked.{IsAsked}
 use Rattle.rbc_asked.proofs.Worlds.{begins_asked, step_keeps_asked}
 use Rattle.rbc_asked.proofs.Split.{world_step_keeps}
@@ -54,20 +52,20 @@ exact_head line w a c f y frames counted from centre takes exact whole =
 
 -- ## A step of a world
 
-module _ (reach : Reach) (line : Line) (ok : IsLine line) (w : World) (sound : IsWorldSound reach line w) (asked : IsAsked reach line (flow_of w)) where
+module _ (line : Line) (ok : IsLine line) (w : World) (sound : IsWorldSound line w) (asked : IsAsked line (flow_of w)) where
   once : (c : ℕ) → is_centre line c ≡ true → HasRightOnce (w.at c)
   once c to = right_once line (flow_of w) c sound.flow to
 
-  exact_event : (c : ℕ) → is_centre line c ≡ true → (event : centre.Event) → IsInRange event → BringsNoStray reach line c (w.at c) event
-      → IsExactAct line c (w.at c) (came_to line c (w.at c) event) (left_by reach line c (w.at c) event) (sent_by reach line c (w.at c) event)
+  exact_event : (c : ℕ) → is_centre line c ≡ true → (event : centre.Event) → IsInRange event → BringsNoStray line c (w.at c) event
+      → IsExactAct line c (w.at c) (came_to line c (w.at c) event) (left_by line c (w.at c) event) (sent_by line c (w.at c) event)
   exact_event c to event range due = record {
-    rights = λ t. no_right_lost line ok reach c t (w.at c) event (sound.flow.centres c to) (once c to) due;
-    tokens = λ t s. no_token_lost line ok reach c t s (w.at c) event range (sound.flow.centres c to) (once c to) due;
+    rights = λ t. no_right_lost line ok c t (w.at c) event (sound.flow.centres c to) (once c to) due;
+    tokens = λ t s. no_token_lost line ok c t s (w.at c) event range (sound.flow.centres c to) (once c to) due;
   }
 
   -- a frame that is not the next changes nothing that is counted
   exact_aside : (c d : ℕ) (f : Frame) (answer : outcome.Taken) → answer ≢ Next
-      → let e : Effect = record { reply = taken_by reach line c d f answer (ticked (stamp_of (w.at c) (centre.Deliver d f)) (w.at c)); link = Some answer; silence = None } in
+      → let e : Effect = record { reply = taken_by line c d f answer (ticked (stamp_of (w.at c) (centre.Deliver d f)) (w.at c)); link = Some answer; silence = None } in
       IsExactAct line c (w.at c) nothing_came (state_after (stamp_of (w.at c) (centre.Deliver d f)) (w.at c) e) e.reply.frames
   exact_aside c d f Next apart = absurd (apart refl)
   exact_aside c d f Old apart = record {
@@ -84,33 +82,33 @@ module _ (reach : Reach) (line : Line) (ok : IsLine line) (w : World) (sound : I
   }
 
   exact_itself : (c : ℕ) → is_centre line c ≡ true → (event : centre.Event) → IsByItself line c (w.at c) event
-      → IsExactAct line c (w.at c) nothing_came (left_by reach line c (w.at c) event) (sent_by reach line c (w.at c) event)
+      → IsExactAct line c (w.at c) nothing_came (left_by line c (w.at c) event) (sent_by line c (w.at c) event)
   exact_itself c to (centre.Train m) alone = let is = exact_event c to (centre.Train m) (record {}) (record {}) in record { rights = is.rights; tokens = is.tokens }
   exact_itself c to (centre.Set s) alone = let is = exact_event c to (centre.Set s) (record {}) (record {}) in record { rights = is.rights; tokens = is.tokens }
   exact_itself c to (centre.Unset s) alone = let is = exact_event c to (centre.Unset s) (record {}) (record {}) in record { rights = is.rights; tokens = is.tokens }
   exact_itself c to (centre.Deliver d f) alone = exact_aside c d f (link_answer line c (w.at c) d f) alone
 
   exact_next : (a c : ℕ) → is_centre line a ≡ true → is_centre line c ≡ true → (f : Frame) → TakesHead (flow_of w) a c f.body → link_answer line c (w.at c) a f ≡ Next
-      → IsExactAct line c (w.at c) (came_with a c f.body) (left_by reach line c (w.at c) (centre.Deliver a f)) (sent_by reach line c (w.at c) (centre.Deliver a f))
+      → IsExactAct line c (w.at c) (came_with a c f.body) (left_by line c (w.at c) (centre.Deliver a f)) (sent_by line c (w.at c) (centre.Deliver a f))
   exact_next a c from to f head next = record {
-    rights = λ t. subst (λ n. IsExact (rights line t) (centre_count line) c (w.at c) n (left_by reach line c (w.at c) (centre.Deliver a f))
-        (sent_by reach line c (w.at c) (centre.Deliver a f))) (came (rights line t)) (is.rights t);
-    tokens = λ t s. subst (λ n. IsExact (tokens line t s) (centre_count line) c (w.at c) n (left_by reach line c (w.at c) (centre.Deliver a f))
-        (sent_by reach line c (w.at c) (centre.Deliver a f))) (came (tokens line t s)) (is.tokens t s);
+    rights = λ t. subst (λ n. IsExact (rights line t) (centre_count line) c (w.at c) n (left_by line c (w.at c) (centre.Deliver a f))
+        (sent_by line c (w.at c) (centre.Deliver a f))) (came (rights line t)) (is.rights t);
+    tokens = λ t s. subst (λ n. IsExact (tokens line t s) (centre_count line) c (w.at c) n (left_by line c (w.at c) (centre.Deliver a f))
+        (sent_by line c (w.at c) (centre.Deliver a f))) (came (tokens line t s)) (is.tokens t s);
   }
     where
       came : (r : Resource Centre Body) → came_to line c (w.at c) (centre.Deliver a f) r ≡ r.inside a c f.body
       came r = ap (λ answer. came_by c a f answer r) next
 
-      is : IsExactAct line c (w.at c) (came_to line c (w.at c) (centre.Deliver a f)) (left_by reach line c (w.at c) (centre.Deliver a f)) (sent_by reach line c (w.at c) (centre.Deliver a f))
+      is : IsExactAct line c (w.at c) (came_to line c (w.at c) (centre.Deliver a f)) (left_by line c (w.at c) (centre.Deliver a f)) (sent_by line c (w.at c) (centre.Deliver a f))
       is = exact_event c to (centre.Deliver a f) (sound_hand line a c f.body (each_head (IsBodySound line) (flow_of w) a c f.body head sound.flow.bodies))
-          (λ due. looked_for reach line ok (flow_of w) sound.flow (within_reach reach (flow_of w) sound.within) asked a c from to f.body head)
+          (λ due. looked_for line ok (flow_of w) sound.flow asked a c from to f.body head)
 
-  pub step_loses_nothing : LosesNothing line (flow_of w) → (event : Event) (answer : Answer) (new : World) → world_step reach line w event ≡ Ok (answer, new) → LosesNothing line (flow_of new)
-  step_loses_nothing whole = world_step_keeps reach line w sound.flow sound.numbered (LosesNothing line) whole
-      (λ c to event alone. exact_alone line (flow_of w) c (left_by reach line c (w.at c) event) (sent_by reach line c (w.at c) event) sound.flow.counted to (exact_itself c to event alone) whole)
-      (λ a c from to f head next. exact_head line (flow_of w) a c f.body (left_by reach line c (w.at c) (centre.Deliver a f))
-      (sent_by reach line c (w.at c) (centre.Deliver a f)) sound.flow.counted from to head
+  pub step_loses_nothing : LosesNothing line (flow_of w) → (event : Event) (answer : Answer) (new : World) → world_step line w event ≡ Ok (answer, new) → LosesNothing line (flow_of new)
+  step_loses_nothing whole = world_step_keeps line w sound.flow sound.numbered (LosesNothing line) whole
+      (λ c to event alone. exact_alone line (flow_of w) c (left_by line c (w.at c) event) (sent_by line c (w.at c) event) sound.flow.counted to (exact_itself c to event alone) whole)
+      (λ a c from to f head next. exact_head line (flow_of w) a c f.body (left_by line c (w.at c) (centre.Deliver a f))
+      (sent_by line c (w.at c) (centre.Deliver a f)) sound.flow.counted from to head
       (exact_next a c from to f head next) whole)
 
 -- ## A run
@@ -118,21 +116,21 @@ module _ (reach : Reach) (line : Line) (ok : IsLine line) (w : World) (sound : I
 same_ok : (p q : List Answer × World) → ◌≡◌ {A = Result (List Answer × World) Refusal} (Ok p) (Ok q) → p ≡ q
 same_ok p q e = cc
 
-run_loses_nothing : (reach : Reach) (line : Line) → IsLine line → (events : List Event) (w : World) → IsWorldSound reach line w → IsAsked reach line (flow_of w) → LosesNothing line (flow_of w)
-    → (answers : List Answer) (last : World) → world_run reach line w events ≡ Ok (answers, last) → LosesNothing line (flow_of last)
+run_loses_nothing : (line : Line) → IsLine line → (events : List Event) (w : World) → IsWorldSound line w → IsAsked line (flow_of w) → LosesNothing line (flow_of w)
+    → (answers : List Answer) (last : World) → world_run line w events ≡ Ok (answers, last) → LosesNothing line (flow_of last)
 unfolding world_run
-run_loses_nothing reach line ok [] w sound asked whole answers last is =
+run_loses_nothing line ok [] w sound asked whole answers last is =
     subst (λ (x : World). LosesNothing line (flow_of x)) (ap (λ (q : List Answer × World). q.1) (same_ok ([], w) (answers, last) is)) whole
-run_loses_nothing reach line ok (event ∷ events) w sound asked whole answers last is =
-    let first = bind_ok (world_step reach line w event) _ (answers, last) is in
-    let others = bind_ok (world_run reach line first.0.1 events) _ (answers, last) first.2 in
+run_loses_nothing line ok (event ∷ events) w sound asked whole answers last is =
+    let first = bind_ok (world_step line w event) _ (answers, last) is in
+    let others = bind_ok (world_run line first.0.1 events) _ (answers, last) first.2 in
     subst (λ (x : World). LosesNothing line (flow_of x)) (ap (λ (q : List Answer × World). q.1) (same_ok (first.0.0 ∷ others.0.0, others.0.1) (answers, last) others.2))
-    (run_loses_nothing reach line ok events first.0.1 (world_step_sound reach line ok w sound event first.0.0 first.0.1 first.1)
-    (step_keeps_asked reach line ok w sound asked event first.0.0 first.0.1 first.1) (step_loses_nothing reach line ok w sound asked whole event first.0.0 first.0.1 first.1)
+    (run_loses_nothing line ok events first.0.1 (world_step_sound line ok w sound event first.0.0 first.0.1 first.1)
+    (step_keeps_asked line ok w sound asked event first.0.0 first.0.1 first.1) (step_loses_nothing line ok w sound asked whole event first.0.0 first.0.1 first.1)
     others.0.0 others.0.1 others.1)
 
 -- whatever happens to a line
-pub never_lost : (reach : Reach) (line : Line) → IsLine line → (events : List Event) (answers : List Answer) (w : World) → world_run reach line (new_world line) events ≡ Ok (answers, w)
+pub never_lost : (line : Line) → IsLine line → (events : List Event) (answers : List Answer) (w : World) → world_run line (new_world line) events ≡ Ok (answers, w)
     → LosesNothing line (flow_of w)
-never_lost reach line ok events answers w is =
-    run_loses_nothing reach line ok events (new_world line) (world_begins reach line) (begins_asked reach line) (line_begins_whole line) answers w is
+never_lost line ok events answers w is =
+    run_loses_nothing line ok events (new_world line) (world_begins line) (begins_asked line) (line_begins_whole line) answers w is

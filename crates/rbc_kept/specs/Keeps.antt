@@ -1,7 +1,6 @@
 -- What a centre has, and what has to come to it, so that it loses nothing.
 use Rattle.std.specs.Prelude.{◌≡◌, ℕ, true, false, List, Some}
 use Rattle.rbc_ledger.specs.Resource.{Resource, IsExact}
-use Rattle.rbc_spec.specs.Reach.{Reach}
 use Rattle.rbc_spec.specs.Line.{Line}
 use Rattle.rbc_spec.specs.Frame.{Body}
 use Rattle.rbc_spec.specs.Outcome.{Next}
@@ -16,9 +15,9 @@ pub record HasRightOnce (k : Centre) : Type 0 where
   pub alone : (t : ℕ) (m : Mission) → k.mission t ≡ Some m → k.has_right t ≡ false
 
 -- the event brings no stray frame to centre c, which is k: one that is the next of its link is looked for
-abbrev pub BringsNoStray : Reach → Line → ℕ → Centre → Event → Type 0
-BringsNoStray reach line c k (Deliver d f) = link_answer line c k d f ≡ Next → is_looked_for reach line c d k f.body ≡ true
-BringsNoStray reach line c k event = Unit {0}
+abbrev pub BringsNoStray : Line → ℕ → Centre → Event → Type 0
+BringsNoStray line c k (Deliver d f) = link_answer line c k d f ≡ Next → is_looked_for line c d k f.body ≡ true
+BringsNoStray line c k event = Unit {0}
 
 -- an act of centre c, which was k, leaves it as y and sends these frames: it makes no right and no token beyond what came, and loses none
 pub record IsExactAct (line : Line) (c : ℕ) (k : Centre) (came : Resource Centre Body → ℕ) (y : Centre) (frames : ℕ → List Body) : Type 0 where

@@ -3,7 +3,6 @@
 ghost use Rattle.std.specs.Prelude.{◌≡◌, ℕ, true, List, Ok};
 ghost use Rattle.rbc_ledger.specs.Network.{took, acted, TakesHead, IsCounted};
 ghost use Rattle.rbc_spec.specs.Line.{Line, IsLine, is_centre};
-ghost use Rattle.rbc_spec.specs.Reach.{Reach};
 ghost use Rattle.rbc_spec.specs.Centre.{Centre};
 ghost use Rattle.rbc_spec.specs.Frame.{Body};
 ghost use Rattle.rbc_spec.specs.Step.{Event, stamp_of, state_after};
@@ -12,7 +11,7 @@ ghost use Rattle.rbc_spec.specs.World.{World, Answer, new_world, world_step, wor
 ghost use Rattle.rbc_flow.specs.Counts.{rights, tokens};
 ghost use Rattle.rbc_flow.specs.Flow.{Flow, flow_of};
 ghost use Rattle.rbc_flow.specs.Keeping.{nothing_came, came_with};
-ghost use Rattle.rbc_flow.specs.Sound.{IsCentreSound, IsFlowSound, IsWithinReach, LosesNothing};
+ghost use Rattle.rbc_flow.specs.Sound.{IsCentreSound, IsFlowSound, LosesNothing};
 ghost use Rattle.rbc_sound.specs.Stays.{IsInRange};
 ghost use Rattle.rbc_tokens.specs.Stray.{is_looked_for};
 ghost use Rattle.rbc_tokens.specs.Steps.{came_to, done, IsExactStep};
@@ -20,25 +19,25 @@ ghost use Rattle.rbc_pairs.specs.Worlds.{IsWorldSound};
 ghost use Rattle.rbc_asked.specs.Asked.{IsAsked};
 ghost use Rattle.rbc_kept.specs.Keeps.{HasRightOnce, BringsNoStray, IsExactAct};
 
-/// Whatever event comes to a sound centre that has no right beside its mission, at every reach, but a stray frame: its step loses no right to supervise a
+/// Whatever event comes to a sound centre that has no right beside its mission, but a stray frame: its step loses no right to supervise a
 /// train, and makes none. What the centre had of it and what came, it then has or sends.
 pub fn no_step_loses_a_right()
-    ensures { (reach : Reach) (line : Line) (c t : ℕ) (k : Centre) (event : Event) → IsLine line → IsCentreSound line c k → HasRightOnce k
-        → BringsNoStray reach line c k event → IsExactStep (rights line t) reach line c k event }
+    ensures { (line : Line) (c t : ℕ) (k : Centre) (event : Event) → IsLine line → IsCentreSound line c k → HasRightOnce k
+        → BringsNoStray line c k event → IsExactStep (rights line t) line c k event }
 {}
 
 /// Nor does it lose a token of a section, or make one: a start that waits, a hand, a pool and the frames then have the section as often as
 /// they had it and as it came, but for what its home has put into use, or out of it.
 pub fn no_step_loses_a_token()
-    ensures { (reach : Reach) (line : Line) (c t s : ℕ) (k : Centre) (event : Event) → IsLine line → IsInRange event → IsCentreSound line c k → HasRightOnce k
-        → BringsNoStray reach line c k event → IsExactStep (tokens line t s) reach line c k event }
+    ensures { (line : Line) (c t s : ℕ) (k : Centre) (event : Event) → IsLine line → IsInRange event → IsCentreSound line c k → HasRightOnce k
+        → BringsNoStray line c k event → IsExactStep (tokens line t s) line c k event }
 {}
 
 /// So each step of such a centre is an exact act of the flow: of rights and of tokens.
 pub fn each_step_is_exact()
-    ensures { (reach : Reach) (line : Line) (c : ℕ) (k : Centre) (event : Event) → IsLine line → IsInRange event → IsCentreSound line c k → HasRightOnce k
-        → BringsNoStray reach line c k event
-        → IsExactAct line c k (came_to line c k event) (state_after (stamp_of k event) k (done reach line c k event)) (done reach line c k event).reply.frames }
+    ensures { (line : Line) (c : ℕ) (k : Centre) (event : Event) → IsLine line → IsInRange event → IsCentreSound line c k → HasRightOnce k
+        → BringsNoStray line c k event
+        → IsExactAct line c k (came_to line c k event) (state_after (stamp_of k event) k (done line c k event)) (done line c k event).reply.frames }
 {}
 
 /// Where nothing is lost, an exact act of a centre loses nothing, by itself or at the head of a link, whose frame it takes.
@@ -55,18 +54,17 @@ pub fn a_sound_flow_has_each_right_once()
     ensures { (line : Line) (w : Flow) (c : ℕ) → IsFlowSound line w → is_centre line c ≡ true → HasRightOnce (w.at c) }
 {}
 
-/// In a sound flow, as far as a reach goes and where all that is asked for is as it has to be, whatever comes at the head of a link is looked for: a
-/// right was asked for or comes back to its registrar, sections that are lent were asked for, sections come home where they are out, and each
-/// Yield may be taken.
+/// In a sound flow, where all that is asked for is as it has to be, whatever comes at the head of a link is looked for: a right was asked for or
+/// comes back to its registrar, sections that are lent were asked for, sections come home where they are out, and each Yield may be taken.
 pub fn what_a_sound_flow_brings()
-    ensures { (reach : Reach) (line : Line) (w : Flow) (a c : ℕ) (f : Body) → IsLine line → IsFlowSound line w → IsWithinReach reach w → IsAsked reach line w
-        → is_centre line a ≡ true → is_centre line c ≡ true → TakesHead w a c f → is_looked_for reach line c a (w.at c) f ≡ true }
+    ensures { (line : Line) (w : Flow) (a c : ℕ) (f : Body) → IsLine line → IsFlowSound line w → IsAsked line w
+        → is_centre line a ≡ true → is_centre line c ≡ true → TakesHead w a c f → is_looked_for line c a (w.at c) f ≡ true }
 {}
 
-/// So no event of a world loses a right or a token of a section, and behind any list of events none is lost, at every reach.
+/// So no event of a world loses a right or a token of a section, and behind any list of events none is lost.
 pub fn nothing_is_ever_lost()
-    ensures step { (reach : Reach) (line : Line) (w : World) (event : world.Event) (answer : Answer) (new : World) → IsLine line → IsWorldSound reach line w
-        → IsAsked reach line (flow_of w) → LosesNothing line (flow_of w) → world_step reach line w event ≡ Ok (answer, new) → LosesNothing line (flow_of new) }
-    ensures run { (reach : Reach) (line : Line) (events : List world.Event) (answers : List Answer) (w : World) → IsLine line
-        → world_run reach line (new_world line) events ≡ Ok (answers, w) → LosesNothing line (flow_of w) }
+    ensures step { (line : Line) (w : World) (event : world.Event) (answer : Answer) (new : World) → IsLine line → IsWorldSound line w
+        → IsAsked line (flow_of w) → LosesNothing line (flow_of w) → world_step line w event ≡ Ok (answer, new) → LosesNothing line (flow_of new) }
+    ensures run { (line : Line) (events : List world.Event) (answers : List Answer) (w : World) → IsLine line
+        → world_run line (new_world line) events ≡ Ok (answers, w) → LosesNothing line (flow_of w) }
 {}

@@ -1,5 +1,5 @@
 //! Laws of rights and of the tokens of sections: no step of a centre loses one, where no stray frame comes, and no stray frame is the next of its
-//! link in a world. So no event of a line ever loses one, at every reach. The functions do nothing: each contract is a law of the definitions.
+//! link in a world. So no event of a line ever loses one. The functions do nothing: each contract is a law of the definitions.
 #![tactic(auto)]
 
 mod laws;

@@ -3,7 +3,6 @@ use Rattle.std.proofs.Common.{◌≡◌, ℕ, ◌+◌, ◌<◌, ◌≤◌, ◌==
 use Rattle.std.specs.List.{All}
 use Rattle.std.proofs.lemmas.Bool.{and_parts, and_from, both_ways, cases_Bool, ltb-false}
 use Rattle.std.proofs.lemmas.List.Elements.{All-nil, All-cons}
-use Rattle.rbc_spec.specs.Reach.{Reach}
 use Rattle.rbc_spec.specs.Line.{Line, is_centre, is_linked}
 use Rattle.rbc_spec.specs.Frame.{Body}
 use Rattle.rbc_spec.specs.Centre.{Centre}
@@ -44,11 +43,11 @@ has_room line c d k linked none = ⊎_elim
     (λ (room : nat_lt 65532 (length (k.sent d)) ≡ false). ltb-false 65532 (length (k.sent d)) room)
     (cases_Bool (nat_lt 65532 (length (k.sent d))))
 
-pub counted : (d : ℕ) (line : Line) (c : ℕ) (reach : Reach) (k : Centre) (event : Event) → HoldsFew line k → TakesFew event → is_linked line c d ≡ true
-    → refusal line c k event ≡ None → All IsCountedInRange ((taken reach line c event k).0.frames d)
-counted d line c reach k event h few linked none =
+pub counted : (d : ℕ) (line : Line) (c : ℕ) (k : Centre) (event : Event) → HoldsFew line k → TakesFew event → is_linked line c d ≡ true
+    → refusal line c k event ≡ None → All IsCountedInRange ((taken line c event k).0.frames d)
+counted d line c k event h few linked none =
     let both = not_refused (nat_lt last_stamp (stamp_of k event)) (has_full_link line c k) none in
     let room = has_room line c d k linked both.1 in
-    let frames = (done d line c reach k event h few).frames in
-    numbered_in (stamp_of k event) (length (k.sent d)) ((effect reach line c (ticked (stamp_of k event) k) event).reply.frames d) (some_stamp k event)
+    let frames = (done d line c k event h few).frames in
+    numbered_in (stamp_of k event) (length (k.sent d)) ((effect line c (ticked (stamp_of k event) k) event).reply.frames d) (some_stamp k event)
     (ltb-false last_stamp (stamp_of k event) both.0) (omega (arith, room, frames))

@@ -3,7 +3,6 @@ use Rattle.std.proofs.Common.{◌≡◌, ℕ, ◌==◌, Bool, true, false, not, 
 use Rattle.std.specs.Option.{option_map_or}
 use Rattle.std.proofs.Math.Bool.{and-true}
 use Rattle.rbc_spec.specs.Maps.{has, put}
-use Rattle.rbc_spec.specs.Reach.{Reach, follows_rule}
 use Rattle.rbc_spec.specs.SectionRuns.{SectionRun, part_from, all_of, within, behind, is_empty, part_before}
 use Rattle.rbc_spec.specs.Line.{Line, section, is_home}
 use Rattle.rbc_spec.specs.Sections.{is_on}
@@ -73,17 +72,17 @@ module _ (line : Line) (c : ℕ) where
   received_keeps d (Yield number t heard has_data is_ended place hand) = trains t (option_map_or (yielded line c d number t hand heard has_data is_ended) (carried_place place) rest)
       (of_option (carried_place place) (yielded line c d number t hand heard has_data is_ended) rest (λ at. where_keeps (λ k. may_take line c k d number t at hand) _ (take_keeps d t heard _ refl)) (record { each = λ k h. h }))
 
-  answered_keeps : (reach : Reach) (m : TrainMessage) (body : TrainBody) → Keeps (answered reach line c m body)
-  answered_keeps reach m (TrainData position) = both _ _ (changes m.nid_engine (λ n. record n { has_data = true }) (λ n e. e)) (record { each = λ k h. h })
-  answered_keeps reach m (Request position) = request_keeps line c m.nid_engine reach position
-  answered_keeps reach m (Report position) = report_keeps line c m.nid_engine position
-  answered_keeps reach m (ShorteningGranted stamp position) = of_some _ _ (λ n. of_some (λ k. n.proposal) _ (λ p. shortened_keeps line c m.nid_engine position n p))
-  answered_keeps reach m (ShorteningRejected stamp position) = unproposed line c m.nid_engine
-  answered_keeps reach m (EndOfMission position) = end_mission_keeps line c m.nid_engine position
-  answered_keeps reach m InitiationOfSession = both _ _ (both _ _ (close_session_keeps line c m.nid_engine) (record { each = λ k h. h })) (record { each = λ k h. h })
-  answered_keeps reach m TerminationOfSession = both _ _ (close_session_keeps line c m.nid_engine) (record { each = λ k h. h })
-  answered_keeps reach m (StartOfMission is_valid position) = start_keeps line c m.nid_engine reach is_valid position
-  answered_keeps reach m SessionEstablished = record { each = λ k h. h }
+  answered_keeps : (m : TrainMessage) (body : TrainBody) → Keeps (answered line c m body)
+  answered_keeps m (TrainData position) = both _ _ (changes m.nid_engine (λ n. record n { has_data = true }) (λ n e. e)) (record { each = λ k h. h })
+  answered_keeps m (Request position) = request_keeps line c m.nid_engine position
+  answered_keeps m (Report position) = report_keeps line c m.nid_engine position
+  answered_keeps m (ShorteningGranted stamp position) = of_some _ _ (λ n. of_some (λ k. n.proposal) _ (λ p. shortened_keeps line c m.nid_engine position n p))
+  answered_keeps m (ShorteningRejected stamp position) = unproposed line c m.nid_engine
+  answered_keeps m (EndOfMission position) = end_mission_keeps line c m.nid_engine position
+  answered_keeps m InitiationOfSession = both _ _ (both _ _ (close_session_keeps line c m.nid_engine) (record { each = λ k h. h })) (record { each = λ k h. h })
+  answered_keeps m TerminationOfSession = both _ _ (close_session_keeps line c m.nid_engine) (record { each = λ k h. h })
+  answered_keeps m (StartOfMission is_valid position) = start_keeps line c m.nid_engine is_valid position
+  answered_keeps m SessionEstablished = record { each = λ k h. h }
 
   wished_keeps : (s : ℕ) (e : Entry) → Keeps (wished line s e)
   wished_keeps s Shut = record { each = λ k h. h }
@@ -109,25 +108,25 @@ module _ (line : Line) (c : ℕ) where
 
   -- ## A step
 
-  taken_keeps : (reach : Reach) (d : ℕ) (f : Frame) (answer : outcome.Taken) → Keeps (taken_by reach line c d f answer)
-  taken_keeps reach d f Next = both _ _ (record { each = λ k h. h }) (branch (follows_rule reach f.body) (received line c d f.body) rest (received_keeps d f.body) (record { each = λ k h. h }))
-  taken_keeps reach d f Old = record { each = λ k h. h }
-  taken_keeps reach d f Early = record { each = λ k h. h }
-  taken_keeps reach d f NoLink = record { each = λ k h. h }
+  taken_keeps : (d : ℕ) (f : Frame) (answer : outcome.Taken) → Keeps (taken_by line c d f answer)
+  taken_keeps d f Next = both _ _ (record { each = λ k h. h }) (received_keeps d f.body)
+  taken_keeps d f Old = record { each = λ k h. h }
+  taken_keeps d f Early = record { each = λ k h. h }
+  taken_keeps d f NoLink = record { each = λ k h. h }
 
-  silence_keeps : (reach : Reach) (m : TrainMessage) (k : Centre) → AsksForEmptyPools k → (o : Option Reason) → AsksForEmptyPools (option_map_or {U = step.Effect} (λ why. record { reply = rest k; link = None; silence = Some why }) o
-      (record { reply = hear_and_answer reach line c m k; link = None; silence = None })).reply.state
-  silence_keeps reach m k h (Some why) = h
-  silence_keeps reach m k h None = (both _ _ (record { each = λ k h. h }) (answered_keeps reach m m.body)).each k h
+  silence_keeps : (m : TrainMessage) (k : Centre) → AsksForEmptyPools k → (o : Option Reason) → AsksForEmptyPools (option_map_or {U = step.Effect} (λ why. record { reply = rest k; link = None; silence = Some why }) o
+      (record { reply = hear_and_answer line c m k; link = None; silence = None })).reply.state
+  silence_keeps m k h (Some why) = h
+  silence_keeps m k h None = (both _ _ (record { each = λ k h. h }) (answered_keeps m m.body)).each k h
 
-  effect_keeps : (reach : Reach) (event : Event) (k : Centre) → AsksForEmptyPools k → AsksForEmptyPools (effect reach line c k event).reply.state
-  effect_keeps reach (Train m) k h = silence_keeps reach m k h (step.silence line c k m)
-  effect_keeps reach (Set s) k h = (set_keeps s).each k h
-  effect_keeps reach (Unset s) k h = (unset_keeps s).each k h
-  effect_keeps reach (Deliver d f) k h = (taken_keeps reach d f (link_answer line c k d f)).each k h
+  effect_keeps : (event : Event) (k : Centre) → AsksForEmptyPools k → AsksForEmptyPools (effect line c k event).reply.state
+  effect_keeps (Train m) k h = silence_keeps m k h (step.silence line c k m)
+  effect_keeps (Set s) k h = (set_keeps s).each k h
+  effect_keeps (Unset s) k h = (unset_keeps s).each k h
+  effect_keeps (Deliver d f) k h = (taken_keeps d f (link_answer line c k d f)).each k h
 
-  pub step_keeps : (reach : Reach) (event : Event) (k : Centre) → AsksForEmptyPools k → AsksForEmptyPools (taken reach line c event k).1
-  step_keeps reach event k h = effect_keeps reach event (step.ticked (stamp_of k event) k) h
+  pub step_keeps : (event : Event) (k : Centre) → AsksForEmptyPools k → AsksForEmptyPools (taken line c event k).1
+  step_keeps event k h = effect_keeps event (step.ticked (stamp_of k event) k) h
 
 pub begins : (line : Line) (c : ℕ) → AsksForEmptyPools (beginning line c)
 unfolding beginning

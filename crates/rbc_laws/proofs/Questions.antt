@@ -4,7 +4,6 @@ use Rattle.std.proofs.lemmas.Bool.{cases_eq, cond-true, and_parts}
 use Rattle.std.proofs.lemmas.Option.{same_Some}
 use Rattle.std.specs.Option.{option_map_or}
 use Rattle.rbc_spec.specs.Maps.{has, put}
-use Rattle.rbc_spec.specs.Reach.{Reach, asks_rights, lends_routes, hands_over}
 use Rattle.rbc_spec.specs.SectionRuns.{SectionRun, part_from, all_of, within, no_run, most_in_hand, behind, is_empty, part_before, joined}
 use Rattle.rbc_spec.specs.Line.{Line, end, registrar, next_centre, is_home, start}
 use Rattle.rbc_spec.specs.Sections.{nid_rbc, is_on}
@@ -13,7 +12,7 @@ use Rattle.rbc_spec.specs.Message.{unknown_group, EndSession, Authority, Shorten
 use Rattle.rbc_spec.specs.Frame.{RouteReturn}
 use Rattle.rbc_spec.specs.Centre.{Centre, Taken, Mission, Handing, Proposal, is_registrar_of, is_free, is_open, is_up}
 use Rattle.rbc_spec.specs.Acts.{Act, become, booked, is_of_two, say, send, change_mission, part_at, may_propose, rest, ◌>>◌, where_so, with_some, leave, cancel, return_right, close, propose, propose_if_so, announce, ask_route, end_order, yield, yield_if_due, set_mission, begun}
-use Rattle.rbc_spec.specs.Rules.{accept, choose, drop_wait, close_session, restart, begin, start_here, start_waiting, start_elsewhere, start_new, start_mission, announce_if_due, ask_route_if_due, at_border, grant, request, report_here, take_over, report, end_mission, cut, granted, reject, cleared, clear, extension, extended_by, authority}
+use Rattle.rbc_spec.specs.Rules.{accept, choose, drop_wait, close_session, restart, begin, start_here, start_waiting, start_new, start_mission, announce_if_due, ask_route_if_due, at_border, grant, request, report_here, take_over, report, end_mission, cut, granted, reject, cleared, clear, extension, extended_by, authority}
 use Rattle.rbc_spec.specs.Links.{right_given}
 use Rattle.rbc_lemmas.proofs.Puts.{put_here, put_other, put_there}
 use Rattle.rbc_laws.specs.Asks.{AsksForEmptyPools}
@@ -145,8 +144,8 @@ module _ (line : Line) (c t : ℕ) where
   begin_keeps : (place : Place) → Keeps (begin line t place)
   begin_keeps place = both _ _ (set_empty t (begun line place) refl) (record { each = λ k h. h })
 
-  pub start_keeps : (reach : Reach) (is_valid : Bool) (position : Position) → Keeps (start_mission reach line c t is_valid position)
-  start_keeps reach is_valid position = record { each = λ k h. by_place k h (fit_place line is_valid position) }
+  pub start_keeps : (is_valid : Bool) (position : Position) → Keeps (start_mission line c t is_valid position)
+  start_keeps is_valid position = record { each = λ k h. by_place k h (fit_place line is_valid position) }
     where
       waiting : (place : Place) → Keeps (start_waiting line t place)
       waiting place = both _ _ (both _ _ (record { each = λ k h. h }) (record { each = λ k h. h })) (where_keeps _ _ (both _ _ (of_option (registrar line t) _ _ (λ r. (record { each = λ k h. h })) (record { each = λ k h. h })) (record { each = λ k h. h })))
@@ -155,20 +154,20 @@ module _ (line : Line) (c t : ℕ) where
       here place = chosen (λ k. k.has_right t) ((booked is_open (Taken t) (covered line place) >> become (λ k. record k { has_right = put k.has_right t false })) >> begin line t place) (reject t)
           (both _ _ (both _ _ (record { each = λ k h. h }) (record { each = λ k h. h })) (begin_keeps place)) (record { each = λ k h. h })
 
-      fresh : (place : Place) → Keeps (start_new reach line c t place)
-      fresh place = chosen (λ k. all_of (is_free line c k) (covered line place)) (if is_registrar_of line c t then start_here line t place else start_elsewhere reach line t place) (reject t)
-          (branch (is_registrar_of line c t) (start_here line t place) (start_elsewhere reach line t place) (here place) (branch (asks_rights reach) (start_waiting line t place) (reject t) (waiting place) (record { each = λ k h. h }))) (record { each = λ k h. h })
+      fresh : (place : Place) → Keeps (start_new line c t place)
+      fresh place = chosen (λ k. all_of (is_free line c k) (covered line place)) (if is_registrar_of line c t then start_here line t place else start_waiting line t place) (reject t)
+          (branch (is_registrar_of line c t) (start_here line t place) (start_waiting line t place) (here place) (waiting place)) (record { each = λ k h. h })
 
       again : (place : Place) (m : Mission) → Keeps (restart line t place m)
       again place m = branch (all_of (within m.hand) (covered line place)) (change_mission t (λ n. record n { place = place; has_data = false; is_ended = false; proposal = None }) >> accept t) (reject t)
           (both _ _ (changes t (λ n. record n { place = place; has_data = false; is_ended = false; proposal = None }) (λ m e. e)) (record { each = λ k h. h })) (record { each = λ k h. h })
 
-      by_mission : (k : Centre) → AsksForEmptyPools k → (place : Place) (o : Option Mission) → AsksForEmptyPools (option_map_or (λ m. restart line t place m k) o (start_new reach line c t place k)).state
+      by_mission : (k : Centre) → AsksForEmptyPools k → (place : Place) (o : Option Mission) → AsksForEmptyPools (option_map_or (λ m. restart line t place m k) o (start_new line c t place k)).state
       by_mission k h place None = (fresh place).each k h
       by_mission k h place (Some m) = (again place m).each k h
 
       by_place : (k : Centre) → AsksForEmptyPools k → (o : Option Place)
-          → AsksForEmptyPools (option_map_or (λ place. option_map_or (λ m. restart line t place m k) (k.mission t) (start_new reach line c t place k)) o (reject t k)).state
+          → AsksForEmptyPools (option_map_or (λ place. option_map_or (λ m. restart line t place m k) (k.mission t) (start_new line c t place k)) o (reject t k)).state
       by_place k h None = h
       by_place k h (Some place) = by_mission k h place (k.mission t)
 
@@ -194,29 +193,29 @@ module _ (line : Line) (c t : ℕ) where
       by_test k m has h true is = asked d m k has (and_parts (is_empty m.pool) (is_none (k.route_ask t)) (and_parts _ (is_empty m.pool && is_none (k.route_ask t)) is).1).0 h
       by_test k m has h false is = h
 
-  border_keeps : (reach : Reach) (d : ℕ) → Keeps (at_border reach line c t d)
-  border_keeps reach d = both _ _ (branch (hands_over reach) (announce_if_due line t d) rest (announce_if_keeps d) (record { each = λ k h. h })) (ask_if_keeps d)
+  border_keeps : (d : ℕ) → Keeps (at_border line c t d)
+  border_keeps d = both _ _ (announce_if_keeps d) (ask_if_keeps d)
 
   -- an empty pool is left as it is by a longer hand
   extended_empty : (r : SectionRun) (m : Mission) → is_empty m.pool ≡ true → is_empty (extended_by r m).pool ≡ true
   extended_empty r m empty = ap is_empty (cond-true (is_empty m.pool) m.pool (part_from (behind r) m.pool) empty) ∙ empty
 
-  granted_keeps : (reach : Reach) (m : Mission) (k : Centre) → ((first : ℕ) → k.route_ask t ≡ Some first → is_empty m.pool ≡ true) → AsksForEmptyPools k → AsksForEmptyPools (grant reach line c t m k).state
+  granted_keeps : (m : Mission) (k : Centre) → ((first : ℕ) → k.route_ask t ≡ Some first → is_empty m.pool ≡ true) → AsksForEmptyPools k → AsksForEmptyPools (grant line c t m k).state
   unfolding ◌>>◌
-  granted_keeps reach m k empty h =
+  granted_keeps m k empty h =
       let r : SectionRun = extension line c k m in
       let n : Mission = extended_by r m in
-      (branch (lends_routes reach) _ _ (of_option (next_centre line c m.place.track) _ _ (λ d. border_keeps reach d) (record { each = λ k h. h })) (record { each = λ k h. h })).each
+      (of_option (next_centre line c m.place.track) _ _ (λ d. border_keeps d) (record { each = λ k h. h })).each
       (((booked is_open (Taken t) r >> set_mission t (Some n)) >> say t m.place.group (Authority (authority line n))) k).state
       (set_at t (Some n) k h (λ first x asks is. ap (λ (y : Mission). is_empty y.pool) (sym (same_Some n x is)) ∙ extended_empty r m (empty first asks)))
 
-  pub request_keeps : (reach : Reach) (position : Position) → Keeps (request reach line c t position)
-  request_keeps reach position = of_value (λ k. k.mission t) (λ m. option_map_or (λ place. grant reach line c t (record m { place = place })) (place_on line m.place.track position) rest)
+  pub request_keeps : (position : Position) → Keeps (request line c t position)
+  request_keeps position = of_value (λ k. k.mission t) (λ m. option_map_or (λ place. grant line c t (record m { place = place })) (place_on line m.place.track position) rest)
       (λ k m has h. by_place k m has h (place_on line m.place.track position))
     where
-      by_place : (k : Centre) (m : Mission) → k.mission t ≡ Some m → AsksForEmptyPools k → (o : Option Place) → AsksForEmptyPools (option_map_or (λ place. grant reach line c t (record m { place = place })) o rest k).state
+      by_place : (k : Centre) (m : Mission) → k.mission t ≡ Some m → AsksForEmptyPools k → (o : Option Place) → AsksForEmptyPools (option_map_or (λ place. grant line c t (record m { place = place })) o rest k).state
       by_place k m has h None = h
-      by_place k m has h (Some place) = granted_keeps reach (record m { place = place }) k (λ first asks. h t first m asks has) h
+      by_place k m has h (Some place) = granted_keeps (record m { place = place }) k (λ first asks. h t first m asks has) h
 
   here_at : (position : Position) (m : Mission) (k : Centre) → k.mission t ≡ Some m → AsksForEmptyPools k → AsksForEmptyPools (report_here line c t position m k).state
   unfolding ◌>>◌

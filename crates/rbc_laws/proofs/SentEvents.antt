@@ -12,8 +12,7 @@ use Rattle.rbc_spec.specs.Centre.{Centre, Taken, Out, Mission, is_open, is_out_f
 use Rattle.rbc_spec.specs.Acts.{Act, Reply, rest, become, ◌>>◌, where_so, with_some, send, booked, freed, returned, set_mission, change_mission, propose_if_so, end_order, yield_if_due}
 use Rattle.rbc_spec.specs.Rules.{drop_wait, begin, reject}
 use Rattle.rbc_spec.specs.Links.{received, right_asked, right_given, right_refused, right_returned, answered_ask, route_asked, lendable, route_told, route_withdrawn, route_returned, taking_over, claimed, yielded, take_mission, is_train, expect, announced}
-use Rattle.rbc_spec.specs.Reach.{Reach, follows_rule}
-use Rattle.rbc_spec.specs.Step.{body_taken, taken_by}
+use Rattle.rbc_spec.specs.Step.{taken_by}
 use Rattle.rbc_laws.specs.Sending.{HoldsFew, BringsFew, GoInOrder}
 use Rattle.rbc_laws.proofs.Sends.{Sends, side_below, sends_none, sends_quiet, sends_then}
 use Rattle.rbc_laws.proofs.SentActs.{sends_one, home_any, freed_sends, right_sends, due_sends, propose_sends, end_order_sends}
@@ -168,15 +167,11 @@ module _ (d : ℕ) (line : Line) (c : ℕ) where
   pub plain : (t : ℕ) (r : Reply) → Few d line c t r → IsFew r
   plain t r h = record { order = h.sends.order; frames = h.sends.few_frames; sayings = h.sends.few_sayings; words = h.sends.few_words }
 
-  as_far_few : (b : Bool) (e : ℕ) (body : Body) (k : Centre) → HoldsFew line k → BringsFew body → Few d line c (train_of body) ((if b then received line c e body else rest) k)
-  as_far_few true e body k h few = received_few e body k h few
-  as_far_few false e body k h few = quiet d line c (train_of body) (rest k) refl (omega arith) (omega arith)
-
-  pub taken_few : (reach : Reach) (e : ℕ) (f : Frame) (answer : LinkAnswer) (k : Centre) → HoldsFew line k → BringsFew f.body → IsFew (taken_by reach line c e f answer k)
+  pub taken_few : (e : ℕ) (f : Frame) (answer : LinkAnswer) (k : Centre) → HoldsFew line k → BringsFew f.body → IsFew (taken_by line c e f answer k)
   unfolding ◌>>◌
-  taken_few reach e f Next k h few =
-      let next = as_far_few (follows_rule reach f.body) e f.body (record k { taken = put k.taken e f.number }) (record { missions = h.missions; pools = h.pools; waits = h.waits }) few in
-      plain (train_of f.body) (body_taken reach line c e f.body (record k { taken = put k.taken e f.number })) next
-  taken_few reach e f Old k h few = plain 0 (rest k) (quiet d line c 0 (rest k) refl (omega arith) (omega arith))
-  taken_few reach e f Early k h few = plain 0 (rest k) (quiet d line c 0 (rest k) refl (omega arith) (omega arith))
-  taken_few reach e f NoLink k h few = plain 0 (rest k) (quiet d line c 0 (rest k) refl (omega arith) (omega arith))
+  taken_few e f Next k h few =
+      let next = received_few e f.body (record k { taken = put k.taken e f.number }) (record { missions = h.missions; pools = h.pools; waits = h.waits }) few in
+      plain (train_of f.body) (received line c e f.body (record k { taken = put k.taken e f.number })) next
+  taken_few e f Old k h few = plain 0 (rest k) (quiet d line c 0 (rest k) refl (omega arith) (omega arith))
+  taken_few e f Early k h few = plain 0 (rest k) (quiet d line c 0 (rest k) refl (omega arith) (omega arith))
+  taken_few e f NoLink k h few = plain 0 (rest k) (quiet d line c 0 (rest k) refl (omega arith) (omega arith))

@@ -2,7 +2,6 @@
 use Rattle.std.proofs.Common.{◌≡◌, ℕ, ◌+◌, ◌≤◌, ◌&&◌, not, Bool, true, false, if◌then◌else◌, List, [], ◌∷◌, length, Option, Some, None, refl, sym, ap, ◌∙◌, subst, arith}
 use Rattle.std.specs.Option.{option_map_or}
 use Rattle.rbc_spec.specs.Maps.{put}
-use Rattle.rbc_spec.specs.Reach.{Reach, asks_rights}
 use Rattle.rbc_spec.specs.SectionRuns.{within, behind, all_of}
 use Rattle.rbc_spec.specs.Line.{Line, is_centre, registrar}
 use Rattle.rbc_spec.specs.Place.{Place, Position, covered, fit_place}
@@ -10,7 +9,7 @@ use Rattle.rbc_spec.specs.Frame.{Body, AskRight, TakingOver}
 use Rattle.rbc_spec.specs.Message.{TrainMessage, TrainBody, TrainData, Request, Report, ShorteningGranted, ShorteningRejected, EndOfMission, InitiationOfSession, TerminationOfSession, StartOfMission, SessionEstablished, SystemVersion, TerminationAcknowledged, unknown_group}
 use Rattle.rbc_spec.specs.Centre.{Centre, Mission, Taken, Closed, Opened, Expectation, is_open, is_taken_for, is_registrar_of, is_free}
 use Rattle.rbc_spec.specs.Acts.{Act, Reply, rest, become, ◌>>◌, where_so, with_some, send, say, return_pool, booked, freed, change_mission, yield_if_due}
-use Rattle.rbc_spec.specs.Rules.{answered, restart, start_new, start_here, start_waiting, start_elsewhere, start_mission, accept, reject, drop_wait, close_session, set_phase, report, take_over, end_mission, answer_granted, report_here}
+use Rattle.rbc_spec.specs.Rules.{answered, restart, start_new, start_here, start_waiting, start_mission, accept, reject, drop_wait, close_session, set_phase, report, take_over, end_mission, answer_granted, report_here}
 use Rattle.rbc_lemmas.proofs.Acts.{alike_then}
 use Rattle.rbc_laws.specs.Sending.{HoldsFew}
 use Rattle.rbc_laws.proofs.Sends.{Sends, sends_none, sends_yes, sends_quiet, sends_then, sends_less, sends_some}
@@ -66,18 +65,14 @@ module _ (d : ℕ) (line : Line) (c t : ℕ) where
   unfolding ◌>>◌
   here_few place k = few_if (k.has_right t) _ _ (quiet _ refl (omega arith) (omega arith)) (quiet _ refl (omega arith) (omega arith))
 
-  pub start_few : (reach : Reach) (is_valid : Bool) (position : Position) (k : Centre) → Few (start_mission reach line c t is_valid position k)
-  start_few reach is_valid position k = by_place (fit_place line is_valid position) (k.mission t)
+  pub start_few : (is_valid : Bool) (position : Position) (k : Centre) → Few (start_mission line c t is_valid position k)
+  start_few is_valid position k = by_place (fit_place line is_valid position) (k.mission t)
     where
-      elsewhere : (b : Bool) (place : Place) → Few ((if b then start_waiting line t place else reject t) k)
-      elsewhere true place = asked_few place k
-      elsewhere false place = quiet _ refl (omega arith) (omega arith)
-
-      by_registrar : (b : Bool) (place : Place) → Few ((if b then start_here line t place else start_elsewhere reach line t place) k)
+      by_registrar : (b : Bool) (place : Place) → Few ((if b then start_here line t place else start_waiting line t place) k)
       by_registrar true place = here_few place k
-      by_registrar false place = elsewhere (asks_rights reach) place
+      by_registrar false place = asked_few place k
 
-      by_place : (o : Option Place) (m : Option Mission) → Few (option_map_or (λ place. option_map_or (λ m. restart line t place m k) m (start_new reach line c t place k)) o (reject t k))
+      by_place : (o : Option Place) (m : Option Mission) → Few (option_map_or (λ place. option_map_or (λ m. restart line t place m k) m (start_new line c t place k)) o (reject t k))
       by_place (Some place) (Some m) = restart_few place m k
       by_place (Some place) None = few_if (all_of (is_free line c k) (covered line place)) _ _ (by_registrar (is_registrar_of line c t) place) (quiet _ refl (omega arith) (omega arith))
       by_place None m = quiet _ refl (omega arith) (omega arith)
@@ -158,18 +153,18 @@ module _ (d : ℕ) (line : Line) (c t : ℕ) where
   closed_few add k h adds = few 0 0 0 1 64 _ (omega arith) (omega arith) (omega arith) (omega arith)
       (sends_then 0 d 0 0 0 0 0 0 1 64 0 (close_session line c t) add k (omega arith) (omega arith) (close_session_few k h) (adds (close_session line c t k).state))
 
-  pub answer_few : (reach : Reach) (m : TrainMessage) (body : TrainBody) (k : Centre) → HoldsFew line k → Few (answered reach line c (record m { nid_engine = t }) body k)
+  pub answer_few : (m : TrainMessage) (body : TrainBody) (k : Centre) → HoldsFew line k → Few (answered line c (record m { nid_engine = t }) body k)
   unfolding ◌>>◌
-  answer_few reach m (TrainData position) k h = quiet _ refl (omega arith) (omega arith)
-  answer_few reach m (Request position) k h = few 5 7 2 2 0 _ (omega arith) (omega arith) (omega arith) (omega arith) (request_sends d line c t reach position k)
-  answer_few reach m (Report position) k h = reported position k h
-  answer_few reach m (ShorteningGranted stamp position) k h = shortened_few position k h
-  answer_few reach m (ShorteningRejected stamp position) k h = quiet _ refl (omega arith) (omega arith)
-  answer_few reach m (EndOfMission position) k h = ended_few position k h
-  answer_few reach m InitiationOfSession k h = few 0 0 0 1 64 _ (omega arith) (omega arith) (omega arith) (omega arith)
+  answer_few m (TrainData position) k h = quiet _ refl (omega arith) (omega arith)
+  answer_few m (Request position) k h = few 5 7 2 2 0 _ (omega arith) (omega arith) (omega arith) (omega arith) (request_sends d line c t position k)
+  answer_few m (Report position) k h = reported position k h
+  answer_few m (ShorteningGranted stamp position) k h = shortened_few position k h
+  answer_few m (ShorteningRejected stamp position) k h = quiet _ refl (omega arith) (omega arith)
+  answer_few m (EndOfMission position) k h = ended_few position k h
+  answer_few m InitiationOfSession k h = few 0 0 0 1 64 _ (omega arith) (omega arith) (omega arith) (omega arith)
       (sends_then 0 d 0 0 0 0 0 0 1 64 0 (close_session line c t >> set_phase t Opened) (say t unknown_group SystemVersion) k (omega arith) (omega arith)
       (sends_then 0 d 0 0 0 0 0 0 0 64 0 (close_session line c t) (set_phase t Opened) k (omega arith) (omega arith) (close_session_few k h) (sends_none 0 d 0 0 _ refl refl refl))
       (sends_quiet 0 d 0 0 0 1 0 _ refl (omega arith) (omega arith)))
-  answer_few reach m TerminationOfSession k h = closed_few (say t unknown_group TerminationAcknowledged) k h (λ j. sends_quiet 0 d 0 0 0 1 0 _ refl (omega arith) (omega arith))
-  answer_few reach m (StartOfMission is_valid position) k h = start_few reach is_valid position k
-  answer_few reach m SessionEstablished k h = quiet _ refl (omega arith) (omega arith)
+  answer_few m TerminationOfSession k h = closed_few (say t unknown_group TerminationAcknowledged) k h (λ j. sends_quiet 0 d 0 0 0 1 0 _ refl (omega arith) (omega arith))
+  answer_few m (StartOfMission is_valid position) k h = start_few is_valid position k
+  answer_few m SessionEstablished k h = quiet _ refl (omega arith) (omega arith)

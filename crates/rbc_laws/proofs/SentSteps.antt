@@ -2,7 +2,6 @@
 use Rattle.std.proofs.Common.{◌≡◌, ℕ, ◌+◌, ◌-◌, ◌*◌, ◌≤◌, ◌==◌, ◌&&◌, not, Bool, true, false, if◌then◌else◌, nat_le, nat_lt, Option, Some, None, is_none, option_map, refl, sym, ap, ◌∙◌, arith, min}
 use Rattle.std.specs.Option.{option_map_or}
 use Rattle.rbc_spec.specs.Maps.{put}
-use Rattle.rbc_spec.specs.Reach.{Reach, lends_routes, hands_over}
 use Rattle.rbc_spec.specs.SectionRuns.{SectionRun, no_run, behind, is_empty, part_before, part_from, joined}
 use Rattle.rbc_spec.specs.Line.{Line, is_home, start, end, next_centre}
 use Rattle.rbc_spec.specs.Sections.{is_on, nid_rbc}
@@ -163,35 +162,33 @@ module _ (d : ℕ) (line : Line) (c t : ℕ) where
   asks_sends : (e : ℕ) (j : Centre) → Sends 0 d 6 7 1 0 0 (asks e j)
   asks_sends e j = some_sends 6 7 1 0 0 (j.mission t) _ j (λ m. where_sends 6 7 1 0 0 _ _ j (ask_sends e m j))
 
-  announces_sends : (b : Bool) (e : ℕ) (k : Centre) → Sends 0 d 5 6 1 1 0 ((if b then announces e else rest) k)
-  announces_sends true e k = some_sends 5 6 1 1 0 (k.mission t) _ k (λ m. where_sends 5 6 1 1 0 _ _ k (announce_sends m.place.group e m k))
-  announces_sends false e k = sends_quiet 0 d 5 6 1 1 0 (rest k) refl (omega arith) (omega arith)
+  announces_sends : (e : ℕ) (k : Centre) → Sends 0 d 5 6 1 1 0 (announces e k)
+  announces_sends e k = some_sends 5 6 1 1 0 (k.mission t) _ k (λ m. where_sends 5 6 1 1 0 _ _ k (announce_sends m.place.group e m k))
 
-  border_sends : (reach : Reach) (e : ℕ) (k : Centre) → Sends 0 d 5 7 2 1 0 (at_border reach line c t e k)
-  border_sends reach e k = sends_then 0 d 5 6 7 1 1 1 0 0 0 (if hands_over reach then announces e else rest) (asks e) k (omega arith) (omega arith)
-      (announces_sends (hands_over reach) e k)
-      (asks_sends e ((if hands_over reach then announces e else rest) k).state)
+  border_sends : (e : ℕ) (k : Centre) → Sends 0 d 5 7 2 1 0 (at_border line c t e k)
+  border_sends e k = sends_then 0 d 5 6 7 1 1 1 0 0 0 (announces e) (asks e) k (omega arith) (omega arith)
+      (announces_sends e k)
+      (asks_sends e (announces e k).state)
 
-  grant_sends : (reach : Reach) (m : Mission) (k : Centre) → Sends 0 d 5 7 2 2 0 (grant reach line c t m k)
-  grant_sends reach m k =
+  grant_sends : (m : Mission) (k : Centre) → Sends 0 d 5 7 2 2 0 (grant line c t m k)
+  grant_sends m k =
       let r : SectionRun = extension line c k m in
       let n : Mission = extended_by r m in
       let says : Act = booked is_open (Taken t) r >> set_mission t (Some n) >> say t m.place.group (Authority (authority line n)) in
       sends_then 0 d 5 5 7 0 2 1 1 0 0 says
-      (if lends_routes reach then option_map_or (at_border reach line c t) (next_centre line c m.place.track) rest else rest) k (omega arith) (omega arith)
+      (option_map_or (at_border line c t) (next_centre line c m.place.track) rest) k (omega arith) (omega arith)
       (sends_then 0 d 5 5 5 0 0 0 1 0 0 (booked is_open (Taken t) r >> set_mission t (Some n)) (say t m.place.group (Authority (authority line n))) k (omega arith) (omega arith)
       (sends_then 0 d 5 5 5 0 0 0 0 0 0 (booked is_open (Taken t) r) (set_mission t (Some n)) k (omega arith) (omega arith) (sends_none 0 d 5 5 _ refl refl refl) (sends_none 0 d 5 5 _ refl refl refl))
       (sends_quiet 0 d 5 5 0 1 0 _ refl (omega arith) (omega arith)))
-      (borders (lends_routes reach) (next_centre line c m.place.track) (says k).state)
+      (borders (next_centre line c m.place.track) (says k).state)
     where
-      borders : (b : Bool) (o : Option ℕ) (j : Centre) → Sends 0 d 5 7 2 1 0 ((if b then option_map_or (at_border reach line c t) o rest else rest) j)
-      borders true (Some e) j = border_sends reach e j
-      borders true None j = sends_quiet 0 d 5 7 2 1 0 (rest j) refl (omega arith) (omega arith)
-      borders false o j = sends_quiet 0 d 5 7 2 1 0 (rest j) refl (omega arith) (omega arith)
+      borders : (o : Option ℕ) (j : Centre) → Sends 0 d 5 7 2 1 0 (option_map_or (at_border line c t) o rest j)
+      borders (Some e) j = border_sends e j
+      borders None j = sends_quiet 0 d 5 7 2 1 0 (rest j) refl (omega arith) (omega arith)
 
-  pub request_sends : (reach : Reach) (position : Position) (k : Centre) → Sends 0 d 5 7 2 2 0 (request reach line c t position k)
-  request_sends reach position k = some_sends 5 7 2 2 0 (k.mission t) _ k (λ m. by_place m (place_on line m.place.track position))
+  pub request_sends : (position : Position) (k : Centre) → Sends 0 d 5 7 2 2 0 (request line c t position k)
+  request_sends position k = some_sends 5 7 2 2 0 (k.mission t) _ k (λ m. by_place m (place_on line m.place.track position))
     where
-      by_place : (m : Mission) (o : Option Place) → Sends 0 d 5 7 2 2 0 (option_map_or (λ place. grant reach line c t (record m { place = place })) o rest k)
-      by_place m (Some place) = grant_sends reach (record m { place = place }) k
+      by_place : (m : Mission) (o : Option Place) → Sends 0 d 5 7 2 2 0 (option_map_or (λ place. grant line c t (record m { place = place })) o rest k)
+      by_place m (Some place) = grant_sends (record m { place = place }) k
       by_place m None = sends_quiet 0 d 5 7 2 2 0 (rest k) refl (omega arith) (omega arith)

@@ -2,7 +2,6 @@
 use Rattle.std.proofs.Common.{◌≡◌, ℕ, suc, ◌+◌, ◌≤◌, not, Bool, true, false, if◌then◌else◌, List, [], ◌∷◌, length, map, Option, Some, None, refl, sym, ap, subst, arith}
 use Rattle.std.specs.Option.{option_map_or}
 use Rattle.rbc_spec.specs.Maps.{put}
-use Rattle.rbc_spec.specs.Reach.{Reach}
 use Rattle.rbc_spec.specs.Line.{Line, is_home}
 use Rattle.rbc_spec.specs.Frame.{Body, Frame, RouteWithdraw}
 use Rattle.rbc_spec.specs.Message.{TrainMessage}
@@ -53,23 +52,23 @@ module _ (d : ℕ) (line : Line) (c : ℕ) where
 
   -- ## The step
 
-  heard_few : (reach : Reach) (m : TrainMessage) (k : Centre) → HoldsFew line k → IsFew d line c (hear_and_answer reach line c m k)
+  heard_few : (m : TrainMessage) (k : Centre) → HoldsFew line k → IsFew d line c (hear_and_answer line c m k)
   unfolding ◌>>◌
-  heard_few reach m k h = plain d line c m.nid_engine (answered reach line c m m.body (hear m k).state)
-      (answer_few d line c m.nid_engine reach m m.body (hear m k).state (record { missions = h.missions; pools = h.pools; waits = h.waits }))
+  heard_few m k h = plain d line c m.nid_engine (answered line c m m.body (hear m k).state)
+      (answer_few d line c m.nid_engine m m.body (hear m k).state (record { missions = h.missions; pools = h.pools; waits = h.waits }))
 
-  abbrev heard_effect : Reach → TrainMessage → Centre → Effect
-  heard_effect reach m k = record { reply = hear_and_answer reach line c m k; link = None; silence = None }
+  abbrev heard_effect : TrainMessage → Centre → Effect
+  heard_effect m k = record { reply = hear_and_answer line c m k; link = None; silence = None }
 
-  effect_few : (reach : Reach) (event : Event) (k : Centre) → HoldsFew line k → TakesFew event → IsFew d line c (effect reach line c k event).reply
-  effect_few reach (Train m) k h few = by_silence (silence line c k m)
+  effect_few : (event : Event) (k : Centre) → HoldsFew line k → TakesFew event → IsFew d line c (effect line c k event).reply
+  effect_few (Train m) k h few = by_silence (silence line c k m)
     where
-      by_silence : (o : Option Reason) → IsFew d line c (option_map_or {U = Effect} (λ why. record { reply = rest k; link = None; silence = Some why }) o (heard_effect reach m k)).reply
+      by_silence : (o : Option Reason) → IsFew d line c (option_map_or {U = Effect} (λ why. record { reply = rest k; link = None; silence = Some why }) o (heard_effect m k)).reply
       by_silence (Some why) = plain d line c 0 (rest k) (quiet d line c 0 (rest k) refl (omega arith) (omega arith))
-      by_silence None = heard_few reach m k h
-  effect_few reach (Set s) k h few = plain d line c 0 (set line c s k) (set_few s k)
-  effect_few reach (Unset s) k h few = plain d line c 0 (unset line c s k) (unset_few s k)
-  effect_few reach (Deliver e f) k h few = taken_few d line c reach e f (link_answer line c k e f) k h few
+      by_silence None = heard_few m k h
+  effect_few (Set s) k h few = plain d line c 0 (set line c s k) (set_few s k)
+  effect_few (Unset s) k h few = plain d line c 0 (unset line c s k) (unset_few s k)
+  effect_few (Deliver e f) k h few = taken_few d line c e f (link_answer line c k e f) k h few
 
   bodies_numbered : (stamp count : ℕ) (bodies : List Body) → map (λ (f : Frame). f.body) (numbered stamp count bodies) ≡ bodies
   bodies_numbered stamp count [] = refl
@@ -79,21 +78,21 @@ module _ (d : ℕ) (line : Line) (c : ℕ) where
   length_numbered stamp count [] = refl
   length_numbered stamp count (b ∷ bs) = ap suc (length_numbered stamp (count + 1) bs)
 
-  module _ (reach : Reach) (k : Centre) (event : Event) (h : HoldsFew line k) (few : TakesFew event) where
+  module _ (k : Centre) (event : Event) (h : HoldsFew line k) (few : TakesFew event) where
     abbrev j : Centre
     j = ticked (stamp_of k event) k
 
-    pub done : IsFew d line c (effect reach line c j event).reply
-    done = effect_few reach event j (record { missions = h.missions; pools = h.pools; waits = h.waits }) few
+    pub done : IsFew d line c (effect line c j event).reply
+    done = effect_few event j (record { missions = h.missions; pools = h.pools; waits = h.waits }) few
 
-    pub few_frames : length ((taken reach line c event k).0.frames d) ≤ 3
-    few_frames = let e = length_numbered (stamp_of k event) (length (k.sent d)) ((effect reach line c j event).reply.frames d) in omega (arith, e, done.frames)
+    pub few_frames : length ((taken line c event k).0.frames d) ≤ 3
+    few_frames = let e = length_numbered (stamp_of k event) (length (k.sent d)) ((effect line c j event).reply.frames d) in omega (arith, e, done.frames)
 
-    pub few_sayings : length (taken reach line c event k).0.sayings ≤ 2
+    pub few_sayings : length (taken line c event k).0.sayings ≤ 2
     few_sayings = done.sayings
 
-    pub few_words : length (taken reach line c event k).0.words ≤ 64
+    pub few_words : length (taken line c event k).0.words ≤ 64
     few_words = done.words
 
-    pub in_order : GoInOrder (map (λ (f : Frame). f.body) ((taken reach line c event k).0.frames d))
-    in_order = subst GoInOrder (sym (bodies_numbered (stamp_of k event) (length (k.sent d)) ((effect reach line c j event).reply.frames d))) done.order
+    pub in_order : GoInOrder (map (λ (f : Frame). f.body) ((taken line c event k).0.frames d))
+    in_order = subst GoInOrder (sym (bodies_numbered (stamp_of k event) (length (k.sent d)) ((effect line c j event).reply.frames d))) done.order

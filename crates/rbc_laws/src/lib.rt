@@ -15,7 +15,7 @@ pub use sections::{
     the_longest_run, what_passes_first, what_runs_share,
 };
 pub use silences::{
-    a_silent_message_changes_nothing, silence_is_the_same_at_every_reach,
+    a_silent_message_changes_nothing, a_step_shows_its_reason_of_silence,
     the_line_centre_is_silent_for_the_same_reasons,
 };
 pub use steps::{a_step_sends_few, a_step_sends_in_order, each_frame_is_counted_in_range};

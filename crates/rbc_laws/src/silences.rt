@@ -1,7 +1,6 @@
 //! Laws of the messages that are left without an answer.
 
 ghost use Rattle.std.specs.Prelude.{◌≡◌, ◌⊎◌, ℕ, [], true, Some, None};
-ghost use Rattle.rbc_spec.specs.Reach.{Reach};
 ghost use Rattle.rbc_spec.specs.Line.{Line};
 ghost use Rattle.rbc_spec.specs.Message.{TrainMessage};
 ghost use Rattle.rbc_spec.specs.Outcome.{Reason};
@@ -14,21 +13,21 @@ ghost use Rattle.rbc_spec.specs.Run as run;
 ghost use Rattle.rbc_spec.specs.ReadOff.{StandsFor};
 ghost use Rattle.rbc_laws.specs.Silences.{HasEndIfAsked};
 
-/// Whether a message is left without an answer, and why, is the same at every reach, in every state of a centre.
-pub fn silence_is_the_same_at_every_reach()
-    ensures { (reach : Reach) (line : Line) (c : ℕ) (k : Centre) (m : TrainMessage) → (taken reach line c (Train m) k).0.silence ≡ step.silence line c k m }
+/// The outcome of a message has the reason for which it is left without an answer, or none, in every state of a centre.
+pub fn a_step_shows_its_reason_of_silence()
+    ensures { (line : Line) (c : ℕ) (k : Centre) (m : TrainMessage) → (taken line c (Train m) k).0.silence ≡ step.silence line c k m }
 {}
 
-/// A message that is left without an answer says and sends nothing, at every reach, and moves the clock alone.
+/// A message that is left without an answer says and sends nothing, and moves the clock alone.
 pub fn a_silent_message_changes_nothing()
-    ensures state { (reach : Reach) (line : Line) (c : ℕ) (k : Centre) (m : TrainMessage) (why : Reason) → step.silence line c k m ≡ Some why
-        → (taken reach line c (Train m) k).1 ≡ ticked (stamp_of k (Train m)) k }
-    ensures sayings { (reach : Reach) (line : Line) (c : ℕ) (k : Centre) (m : TrainMessage) (why : Reason) → step.silence line c k m ≡ Some why
-        → (taken reach line c (Train m) k).0.sayings ≡ [] }
-    ensures frames { (reach : Reach) (line : Line) (c d : ℕ) (k : Centre) (m : TrainMessage) (why : Reason) → step.silence line c k m ≡ Some why
-        → (taken reach line c (Train m) k).0.frames d ≡ [] }
-    ensures words { (reach : Reach) (line : Line) (c : ℕ) (k : Centre) (m : TrainMessage) (why : Reason) → step.silence line c k m ≡ Some why
-        → (taken reach line c (Train m) k).0.words ≡ [] }
+    ensures state { (line : Line) (c : ℕ) (k : Centre) (m : TrainMessage) (why : Reason) → step.silence line c k m ≡ Some why
+        → (taken line c (Train m) k).1 ≡ ticked (stamp_of k (Train m)) k }
+    ensures sayings { (line : Line) (c : ℕ) (k : Centre) (m : TrainMessage) (why : Reason) → step.silence line c k m ≡ Some why
+        → (taken line c (Train m) k).0.sayings ≡ [] }
+    ensures frames { (line : Line) (c d : ℕ) (k : Centre) (m : TrainMessage) (why : Reason) → step.silence line c k m ≡ Some why
+        → (taken line c (Train m) k).0.frames d ≡ [] }
+    ensures words { (line : Line) (c : ℕ) (k : Centre) (m : TrainMessage) (why : Reason) → step.silence line c k m ≡ Some why
+        → (taken line c (Train m) k).0.words ≡ [] }
 {}
 
 /// In every world that a state of the one line centre stands for, that has a centre's reason of silence. Where the centre answers, it has

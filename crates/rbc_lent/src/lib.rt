@@ -1,4 +1,4 @@
-//! Laws of the names of lent sections: no step of a centre makes one, whatever its event, at every reach. With the laws
+//! Laws of the names of lent sections: no step of a centre makes one, whatever its event. With the laws
 //! of rights and tokens each step is a fair act. The functions do nothing: each contract is a law of the definitions.
 #![tactic(auto)]
 

@@ -4,7 +4,6 @@ use Rattle.std.specs.Option.{option_map_or}
 use Rattle.rbc_ledger.specs.Network.{took, TakesHead}
 use Rattle.rbc_ledger.specs.Resource.{IsFair}
 use Rattle.rbc_ledger.proofs.Resource.{carried_none}
-use Rattle.rbc_spec.specs.Reach.{Whole}
 use Rattle.rbc_spec.specs.Line.{Line, IsLine, is_centre}
 use Rattle.rbc_spec.specs.Place.{Place}
 use Rattle.rbc_spec.specs.Frame.{Body}
@@ -99,23 +98,23 @@ module _ (line : Line) (ok : IsLine line) (w : Flow) (sound : IsFlowSound line w
       }
 
   -- such a reply, which leaves what is sound and is orderly, keeps all sound
-  pub reply_keeps : (q : Reply) → Sound line c q → MakesNoMore q → IsTakenWith Whole a f (w.at c) q.state q.frames → IsFlowSound line (replied (took w a c) c q)
-  reply_keeps q leaves makes taken = head_keeps line ok c Whole w sound to q leaves a f from head (made_fair q makes) taken
+  pub reply_keeps : (q : Reply) → Sound line c q → MakesNoMore q → IsTakenWith a f (w.at c) q.state q.frames → IsFlowSound line (replied (took w a c) c q)
+  reply_keeps q leaves makes taken = head_keeps line ok c w sound to q leaves a f from head (made_fair q makes) taken
 
   -- an orderly act behind the frame that it has counted
-  pub orderly_again : (y : Centre) (frames : ℕ → List Body) → IsOrderly Whole (took_frame a number (w.at c)) y frames → IsOrderly Whole (w.at c) y frames
-  orderly_again y frames is = record { leads = is.leads; expected = is.expected; announced = is.announced; claimed = is.claimed; anew = is.anew; takes = is.takes; within = is.within; bodies = is.bodies }
+  pub orderly_again : (y : Centre) (frames : ℕ → List Body) → IsOrderly (took_frame a number (w.at c)) y frames → IsOrderly (w.at c) y frames
+  orderly_again y frames is = record { leads = is.leads; expected = is.expected; announced = is.announced; claimed = is.claimed; anew = is.anew; takes = is.takes }
 
   -- so does what the frame comes to
-  pub received_keeps : Fits Whole line c a f (took_frame a number (w.at c)) → Sound line c (received line c a f (took_frame a number (w.at c)))
+  pub received_keeps : Fits line c a f (took_frame a number (w.at c)) → Sound line c (received line c a f (took_frame a number (w.at c)))
       → IsFlowSound line (replied (took w a c) c (received line c a f (took_frame a number (w.at c))))
   received_keeps fits leaves = reply_keeps (received line c a f k) leaves
       (λ y is ready unlike. fair_received line c y is a f (took_frame a number (w.at c)) (λ t place waits covers. (sound.centres c to).wait_home t y.section (ap (λ o. wait_has line o y.section) waits ∙ covers)) ready
       (λ so. absurd (unlike so)) (λ so. absurd (unlike so)))
       taken
     where
-      taken : IsTakenWith Whole a f (w.at c) (received line c a f (took_frame a number (w.at c))).state (received line c a f (took_frame a number (w.at c))).frames
-      taken = let comes = goes_received Whole line c a f (took_frame a number (w.at c)) fits in record {
+      taken : IsTakenWith a f (w.at c) (received line c a f (took_frame a number (w.at c))).state (received line c a f (took_frame a number (w.at c))).frames
+      taken = let comes = goes_received line c a f (took_frame a number (w.at c)) fits in record {
         y = comes.y;
         taking = record { leads = comes.taking.leads; expected = comes.taking.expected; waits = comes.taking.waits; announced = comes.taking.announced; number = comes.taking.number; claimed = comes.taking.claimed; handing = comes.taking.handing };
         behind = comes.behind;
@@ -162,21 +161,20 @@ module _ (line : Line) (ok : IsLine line) (w : Flow) (sound : IsFlowSound line w
       no_hand_sent = no_hand;
     }
 
-    -- the frame that comes to nothing: of no train, section or track of the line, or of a rule that the reach does not follow
+    -- the frame that comes to nothing: of no train, section or track of the line
     pub rest_keeps : IsFlowSound line (replied (took w a c) c (rest (took_frame a number (w.at c))))
     rest_keeps = reply_keeps (rest k) (rest_sound line c (took_frame a number (w.at c)) sound_here)
         (λ y is ready unlike. eased line c y (y.res.inside a c f) 0 (took_frame a number (w.at c)) (rest k) (omega arith) (λ so. absurd (unlike so)) (fair_rest line c y (took_frame a number (w.at c))))
-        (passes Whole line c a f (w.at c) aside.follows (still Whole (w.at c) (took_frame a number (w.at c)) refl refl refl))
+        (passes line c a f (w.at c) aside.follows (still (w.at c) (took_frame a number (w.at c)) refl refl refl))
 
     pub rest_leads : Leads line (took w a c) c (rest (took_frame a number (w.at c))) v
     rest_leads = unseen_leads (rest (took_frame a number (w.at c))) rest_keeps refl
         (unseen_by (took_frame a number (w.at c)) (λ d. []) refl refl refl refl (λ t d. carried_none (missions t) c d) (λ t s d. carried_none (hands t s) c d)) refl refl refl
 
     -- the frame that comes to an act of a train of the line
-    pub followed : (rule : Bool) (t : ℕ) (act : Act) → (is_train line t ≡ true → Leads line (took w a c) c (act (took_frame a number (w.at c))) v)
-        → Leads line (took w a c) c ((if rule then of_train line t act else rest) (took_frame a number (w.at c))) v
-    followed false t act leads = rest_leads
-    followed true t act leads = by_train (is_train line t) leads
+    pub of_train_leads : (t : ℕ) (act : Act) → (is_train line t ≡ true → Leads line (took w a c) c (act (took_frame a number (w.at c))) v)
+        → Leads line (took w a c) c (of_train line t act (took_frame a number (w.at c))) v
+    of_train_leads t act leads = by_train (is_train line t) leads
       where
         by_train : (b : Bool) → (b ≡ true → Leads line (took w a c) c (act (took_frame a number (w.at c))) v) → Leads line (took w a c) c ((if b then act else rest) (took_frame a number (w.at c))) v
         by_train true known = known refl

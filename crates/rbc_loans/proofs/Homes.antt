@@ -9,7 +9,6 @@ use Rattle.rbc_lemmas.proofs.Lists.{none_is, any-range, any-range_none}
 use Rattle.rbc_lemmas.proofs.Lines.{one_home}
 use Rattle.rbc_lemmas.proofs.Puts.{itself, put_there}
 use Rattle.rbc_lemmas.proofs.Runs.{within_from, each_within}
-use Rattle.rbc_spec.specs.Reach.{Reach, Whole, follows_rule}
 use Rattle.rbc_spec.specs.SectionRuns.{SectionRun, within, all_of}
 use Rattle.rbc_spec.specs.Line.{Line, IsLine, is_centre, is_home, section}
 use Rattle.rbc_spec.specs.Sections.{section_count}
@@ -18,8 +17,7 @@ use Rattle.rbc_spec.specs.Frame.{RouteReturn}
 use Rattle.rbc_spec.specs.Centre as centre
 use Rattle.rbc_spec.specs.Centre.{Centre, Entry, Phase, is_taken_for, is_out_for, is_used_for, uses_some, is_expected}
 use Rattle.rbc_spec.specs.Acts.{Reply, rest, where_so, freed, end_order}
-use Rattle.rbc_spec.specs.Links.{route_returned}
-use Rattle.rbc_spec.specs.Step.{body_taken}
+use Rattle.rbc_spec.specs.Links.{route_returned, received}
 use Rattle.rbc_spec.specs.LineCentre as line_centre
 use Rattle.rbc_spec.specs.LineCentre.{LineState, free, is_waiting, is_waiting_at, is_given_to}
 use Rattle.rbc_spec.specs.Quiet.{TakesAll}
@@ -47,14 +45,14 @@ use Rattle.rbc_tokens.proofs.Tally.{fair_freed, eased}
 use Rattle.rbc_pairs.proofs.Frames.{passes}
 use Rattle.rbc_pairs.proofs.Orderly.{still}
 use Rattle.rbc_moves.proofs.EndOrders.{end_leads}
-use Rattle.rbc_loans.proofs.Bodies.{IsAside, sound_here, reply_keeps, rest_leads, followed}
+use Rattle.rbc_loans.proofs.Bodies.{IsAside, sound_here, reply_keeps, rest_leads, of_train_leads}
 use Rattle.rbc_loans.proofs.Freed.{home_known, known_below, freed_wish, freed_other_wish, freed_no_section, freed_mark}
 use Rattle.rbc_loans.proofs.Unkept.{part, words, steps, saying, unkeep_all, unkeep_own}
 
 comes_home : (t : ℕ) (r : SectionRun) → IsAside (RouteReturn t r)
 comes_home t r = record { follows = λ u n. refl; mission = λ a c u. refl; hand = λ a c u s. refl }
 
-module _ (reach : Reach) (line : Line) (ok : IsLine line) (w : Flow) (sound : IsFlowSound line w) (v : LineState) (sees : Shows line w v) (a c number : ℕ) (from : is_centre line a ≡ true) (to : is_centre line c ≡ true)
+module _ (line : Line) (ok : IsLine line) (w : Flow) (sound : IsFlowSound line w) (v : LineState) (sees : Shows line w v) (a c number : ℕ) (from : is_centre line a ≡ true) (to : is_centre line c ≡ true)
     (t : ℕ) (r : SectionRun) (head : TakesHead w a c (RouteReturn t r)) where
   abbrev k : Centre
   k = took_frame a number (w.at c)
@@ -98,7 +96,7 @@ module _ (reach : Reach) (line : Line) (ok : IsLine line) (w : Flow) (sound : Is
         (λ s unused. given_unused (is_back s) (k.wish s) (k.book s) (here.unwished s) unused)
         (λ s u. taken_given u (is_back s) (k.wish s) (k.book s) ∙ others_given (within r s && is_home line c s) (is_out_for t a (k.book s)) (is_taken_for u (k.book s)) (out_untaken t a u (k.book s)))) (none_sent line c))
         (λ z is ready unlike. eased line c z (z.res.inside a c (RouteReturn t r)) 0 k freeing (omega (arith, home_law line c z is a t r k)) (λ so. absurd (unlike so)) (fair_freed line c z (is_out_for t a) r k))
-        (passes Whole line c a (RouteReturn t r) (w.at c) (λ u n. refl) (still Whole (w.at c) y refl refl refl))
+        (passes line c a (RouteReturn t r) (w.at c) (λ u n. refl) (still (w.at c) y refl refl refl))
 
     -- ## They were kept, and no start waited for them
 
@@ -182,8 +180,8 @@ module _ (reach : Reach) (line : Line) (ok : IsLine line) (w : Flow) (sound : Is
     unfolding first
     back_leads = leads_then line (took w a c) c k v (freed line c (is_out_for t a) r) (where_so leaves_here (end_order line c t)) first (then_told (leaves_here y) refl)
 
-  pub home_leads : Leads line (took w a c) c (body_taken reach line c a (RouteReturn t r) (took_frame a number (w.at c))) v
-  home_leads = followed line ok w sound a c number from to (RouteReturn t r) head (comes_home t r) v sees (follows_rule reach (RouteReturn t r)) t (if all_of (λ s. is_some (section line s)) r then route_returned line c a t r else rest)
+  pub home_leads : Leads line (took w a c) c (received line c a (RouteReturn t r) (took_frame a number (w.at c))) v
+  home_leads = of_train_leads line ok w sound a c number from to (RouteReturn t r) head (comes_home t r) v sees t (if all_of (λ s. is_some (section line s)) r then route_returned line c a t r else rest)
       (λ so. by_sections (all_of (λ s. is_some (section line s)) r) refl)
     where
       by_sections : (b : Bool) → all_of (λ s. is_some (section line s)) r ≡ b → Leads line (took w a c) c ((if b then route_returned line c a t r else rest) (took_frame a number (w.at c))) v

@@ -5,7 +5,6 @@ use Rattle.std.proofs.lemmas.Bool.{cases_eq}
 use Rattle.rbc_ledger.specs.Network.{acted}
 use Rattle.rbc_ledger.proofs.Resource.{carried_none}
 use Rattle.rbc_spec.specs.Maps.{has, put}
-use Rattle.rbc_spec.specs.Reach.{Whole}
 use Rattle.rbc_spec.specs.Line.{Line, IsLine, is_centre, is_home, section}
 use Rattle.rbc_spec.specs.Place.{Place}
 use Rattle.rbc_spec.specs.Frame.{Body, RouteWithdraw}
@@ -177,7 +176,7 @@ module _ (line : Line) (w : Flow) (sound : IsFlowSound line w) (v : LineState) (
 
       -- it is wished back, and all stays sound
       wishing_sound : IsFlowSound line (replied w c (record { state = wishing; frames = λ d. []; sayings = []; words = Asked s ∷ [] }))
-      wishing_sound = act_sound line ok c Whole w sound to (record { state = wishing; frames = λ d. []; sayings = []; words = Asked s ∷ [] })
+      wishing_sound = act_sound line ok c w sound to (record { state = wishing; frames = λ d. []; sayings = []; words = Asked s ∷ [] })
           (leaves line c (book_sound line c (w.at c) old (w.at c).book (put (w.at c).wish s true) old.foreign old.out_at
           (λ j unused. ⊎_elim
           (λ (here : j ≡ s). absurd (let wrong : false ≡ true = sym used ∙ ap (λ x. is_unused ((w.at c).book x)) (sym here) ∙ unused in cc))
@@ -185,7 +184,7 @@ module _ (line : Line) (w : Flow) (sound : IsFlowSound line w) (v : LineState) (
           (cases_eq j s))
           (λ j u. refl)) (none_sent line c))
           (λ y counts ready. fair_plain line c y (w.at c) (record { state = wishing; frames = λ d. []; sayings = []; words = Asked s ∷ [] }) refl refl refl)
-          (still Whole (w.at c) wishing refl refl refl)
+          (still (w.at c) wishing refl refl refl)
         where
           old : IsCentreSound line c (w.at c)
           old = sound.centres c to

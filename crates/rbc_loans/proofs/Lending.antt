@@ -7,7 +7,6 @@ use Rattle.rbc_lemmas.proofs.Longest.{longest_is}
 use Rattle.rbc_lemmas.proofs.Puts.{itself, put_other}
 use Rattle.rbc_lemmas.proofs.Runs.{within_true, within_from, within_none, same_tests}
 use Rattle.rbc_spec.specs.Maps.{has, put}
-use Rattle.rbc_spec.specs.Reach.{Reach, follows_rule}
 use Rattle.rbc_spec.specs.SectionRuns.{SectionRun, within}
 use Rattle.rbc_spec.specs.Line.{Line, IsLine, is_centre, is_home, section}
 use Rattle.rbc_spec.specs.Sections.{is_on}
@@ -16,8 +15,7 @@ use Rattle.rbc_spec.specs.Frame.{Body, RouteAsk, RouteInfo}
 use Rattle.rbc_spec.specs.Centre as centre
 use Rattle.rbc_spec.specs.Centre.{Centre, Entry, Phase, is_open, is_free, is_used_for}
 use Rattle.rbc_spec.specs.Acts.{Reply, rest, ◌>>◌, send, booked}
-use Rattle.rbc_spec.specs.Links.{lendable, route_asked}
-use Rattle.rbc_spec.specs.Step.{body_taken}
+use Rattle.rbc_spec.specs.Links.{lendable, route_asked, received}
 use Rattle.rbc_spec.specs.LineCentre as line_centre
 use Rattle.rbc_spec.specs.LineCentre.{LineState, Mark, nothing, mark_all}
 use Rattle.rbc_spec.specs.Quiet.{Keep, is_of_centre, TakesAll}
@@ -38,7 +36,7 @@ use Rattle.rbc_sight.proofs.Hands.{mark_stays, unchanged}
 use Rattle.rbc_sight.proofs.Marks.{in_use}
 use Rattle.rbc_sight.proofs.Shows.{part_stays, shows_after}
 use Rattle.rbc_sound.proofs.Routes.{asked_route}
-use Rattle.rbc_loans.proofs.Bodies.{IsAside, leads_if, sound_here, trained, received_keeps, act_keeps, followed}
+use Rattle.rbc_loans.proofs.Bodies.{IsAside, leads_if, sound_here, trained, received_keeps, act_keeps, of_train_leads}
 use Rattle.rbc_loans.proofs.Rights.{resting}
 
 asks : (t first most : ℕ) → IsAside (RouteAsk t first most)
@@ -107,7 +105,7 @@ open_unused t centre.Open is used = cc
 open_unused t (centre.Taken u) is used = cc
 open_unused t (centre.Out u d) is used = cc
 
-module _ (reach : Reach) (line : Line) (ok : IsLine line) (w : Flow) (sound : IsFlowSound line w) (v : LineState) (sees : Shows line w v) (a c number : ℕ) (from : is_centre line a ≡ true) (to : is_centre line c ≡ true)
+module _ (line : Line) (ok : IsLine line) (w : Flow) (sound : IsFlowSound line w) (v : LineState) (sees : Shows line w v) (a c number : ℕ) (from : is_centre line a ≡ true) (to : is_centre line c ≡ true)
     (t first most : ℕ) (head : TakesHead w a c (RouteAsk t first most)) where
   abbrev k : Centre
   k = took_frame a number (w.at c)
@@ -182,12 +180,12 @@ module _ (reach : Reach) (line : Line) (ok : IsLine line) (w : Flow) (sound : Is
     sound = keeps;
   }
 
-  pub lent_leads : Leads line (took w a c) c (body_taken reach line c a (RouteAsk t first most) (took_frame a number (w.at c))) v
-  lent_leads = followed line ok w sound a c number from to (RouteAsk t first most) head (asks t first most) v sees (follows_rule reach (RouteAsk t first most)) t (route_asked line c a t first most)
+  pub lent_leads : Leads line (took w a c) c (received line c a (RouteAsk t first most) (took_frame a number (w.at c))) v
+  lent_leads = of_train_leads line ok w sound a c number from to (RouteAsk t first most) head (asks t first most) v sees t (route_asked line c a t first most)
       (λ known. leads_if line (took w a c) c v (is_some (section line first)) lending (rest k)
       (act_keeps line ok w sound a c number from to (RouteAsk t first most) head t (route_asked line c a t first most) known
       (received_keeps line ok w sound a c number from to (RouteAsk t first most) head (record {})
       (trained line ok w sound a c number from to (RouteAsk t first most) head t (route_asked line c a t first most)
       (λ so. asked_route line ok c a from t first most k (sound_here line ok w sound a c number from to (RouteAsk t first most) head)))))
       (λ there keeps. lending_leads keeps)
-      (λ none keeps. resting reach line ok w sound v sees a c number from to (RouteAsk t first most) head (asks t first most) k keeps refl refl refl refl refl refl refl))
+      (λ none keeps. resting line ok w sound v sees a c number from to (RouteAsk t first most) head (asks t first most) k keeps refl refl refl refl refl refl refl))

@@ -8,4 +8,3 @@ pub mod Lending
 pub mod Unkept
 pub mod Linked
 pub mod Homes
-pub mod Unfollowed

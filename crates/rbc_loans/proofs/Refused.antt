@@ -7,7 +7,6 @@ use Rattle.rbc_ledger.specs.Network.{took, acted, TakesHead}
 use Rattle.rbc_ledger.proofs.Sums.{one_if_true, one_if_some}
 use Rattle.rbc_ledger.proofs.Resource.{carried_none}
 use Rattle.rbc_spec.specs.Maps.{put, put_pair, has}
-use Rattle.rbc_spec.specs.Reach.{Reach, follows_rule}
 use Rattle.rbc_spec.specs.SectionRuns.{within}
 use Rattle.rbc_spec.specs.Line.{Line, IsLine, is_centre, is_home}
 use Rattle.rbc_spec.specs.Place.{Place, covered}
@@ -18,8 +17,7 @@ use Rattle.rbc_spec.specs.Centre as centre
 use Rattle.rbc_spec.specs.Centre.{Centre, Phase, is_taken_for}
 use Rattle.rbc_spec.specs.Acts.{Reply, rest, become, ◌>>◌, freed}
 use Rattle.rbc_spec.specs.Rules.{drop_wait, reject}
-use Rattle.rbc_spec.specs.Links.{right_refused}
-use Rattle.rbc_spec.specs.Step.{body_taken}
+use Rattle.rbc_spec.specs.Links.{right_refused, received}
 use Rattle.rbc_spec.specs.LineCentre.{LineState, nothing, free, told, is_waiting_at, says}
 use Rattle.rbc_spec.specs.OwnSteps.{one_message}
 use Rattle.rbc_spec.specs.Quiet.{Dismiss, Dismisses}
@@ -37,14 +35,14 @@ use Rattle.rbc_sight.proofs.Acts.{at_head}
 use Rattle.rbc_sight.proofs.Frames.{sends_none}
 use Rattle.rbc_sight.proofs.Shows.{part_stays, part_changes, shows_after}
 use Rattle.rbc_sound.proofs.Rights.{refused_sound}
-use Rattle.rbc_loans.proofs.Bodies.{IsAside, leads_if, sound_here, trained, received_keeps, act_keeps, followed}
+use Rattle.rbc_loans.proofs.Bodies.{IsAside, leads_if, sound_here, trained, received_keeps, act_keeps, of_train_leads}
 use Rattle.rbc_loans.proofs.Rights.{behind_change, resting}
 use Rattle.rbc_loans.proofs.Freed.{home_known, known_below, freed_wish, freed_other_wish, freed_no_section, freed_told, freed_mark}
 
 refuses : (t : ℕ) → IsAside (RefuseRight t)
 refuses t = record { follows = λ u n. refl; mission = λ a c u. refl; hand = λ a c u s. refl }
 
-module _ (reach : Reach) (line : Line) (ok : IsLine line) (w : Flow) (sound : IsFlowSound line w) (v : LineState) (sees : Shows line w v) (a c number : ℕ) (from : is_centre line a ≡ true) (to : is_centre line c ≡ true)
+module _ (line : Line) (ok : IsLine line) (w : Flow) (sound : IsFlowSound line w) (v : LineState) (sees : Shows line w v) (a c number : ℕ) (from : is_centre line a ≡ true) (to : is_centre line c ≡ true)
     (t : ℕ) (head : TakesHead w a c (RefuseRight t)) where
   abbrev k : Centre
   k = took_frame a number (w.at c)
@@ -144,15 +142,15 @@ module _ (reach : Reach) (line : Line) (ok : IsLine line) (w : Flow) (sound : Is
 
   -- ## As a frame
 
-  pub refused_leads : Leads line (took w a c) c (body_taken reach line c a (RefuseRight t) (took_frame a number (w.at c))) v
-  refused_leads = followed line ok w sound a c number from to (RefuseRight t) head (refuses t) v sees (follows_rule reach (RefuseRight t)) t (right_refused line c t)
+  pub refused_leads : Leads line (took w a c) c (received line c a (RefuseRight t) (took_frame a number (w.at c))) v
+  refused_leads = of_train_leads line ok w sound a c number from to (RefuseRight t) head (refuses t) v sees t (right_refused line c t)
       (λ known. leads_if line (took w a c) c v (k.has_asked t) _ (rest k)
       (act_keeps line ok w sound a c number from to (RefuseRight t) head t (right_refused line c t) known
       (received_keeps line ok w sound a c number from to (RefuseRight t) head (record {})
       (trained line ok w sound a c number from to (RefuseRight t) head t (right_refused line c t) (λ so. refused_sound line ok c t k (sound_here line ok w sound a c number from to (RefuseRight t) head)))))
       (λ asked keeps. subst (λ q. Leads line (took w a c) c q v) (sym (behind_change (λ j. record j { has_asked = put j.has_asked t false }) _ k))
       (by_wait ((w.at c).wait t) refl (subst (λ q. IsFlowSound line (replied (took w a c) c q)) (behind_change (λ j. record j { has_asked = put j.has_asked t false }) _ k) keeps)))
-      (λ unasked keeps. resting reach line ok w sound v sees a c number from to (RefuseRight t) head (refuses t) k keeps refl refl refl refl refl refl refl))
+      (λ unasked keeps. resting line ok w sound v sees a c number from to (RefuseRight t) head (refuses t) k keeps refl refl refl refl refl refl refl))
     where
       middle_of : Centre
       middle_of = record k { has_asked = put k.has_asked t false }
@@ -162,7 +160,7 @@ module _ (reach : Reach) (line : Line) (ok : IsLine line) (w : Flow) (sound : Is
 
       by_wait : (o : Option Place) → (w.at c).wait t ≡ o → IsFlowSound line (replied (took w a c) c (rejects ((w.at c).wait t))) → Leads line (took w a c) c (rejects ((w.at c).wait t)) v
       by_wait None none keeps = subst (λ (o : Option Place). Leads line (took w a c) c (rejects o) v) (sym none)
-          (resting reach line ok w sound v sees a c number from to (RefuseRight t) head (refuses t) middle_of (subst (λ (o : Option Place). IsFlowSound line (replied (took w a c) c (rejects o))) none keeps) refl refl refl refl refl refl refl)
+          (resting line ok w sound v sees a c number from to (RefuseRight t) head (refuses t) middle_of (subst (λ (o : Option Place). IsFlowSound line (replied (took w a c) c (rejects o))) none keeps) refl refl refl refl refl refl refl)
       by_wait (Some place) waits keeps =
           let same : rejects ((w.at c).wait t) ≡ rejection place waits = ap rejects waits ∙ alike_then (drop_wait line c t) (freed line c (is_taken_for t) (covered line place) >> become (λ j. record j { wait = put j.wait t None })) (reject t) middle_of
           (ap (λ (o : Option Place). option_map_or (λ p. (freed line c (is_taken_for t) (covered line p) >> become (λ j. record j { wait = put j.wait t None })) middle_of) o (rest middle_of)) waits) in

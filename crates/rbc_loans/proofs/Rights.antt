@@ -4,14 +4,12 @@ use Rattle.std.specs.Option.{option_map_or}
 use Rattle.rbc_ledger.specs.Network.{took, TakesHead}
 use Rattle.rbc_ledger.proofs.Resource.{carried_none}
 use Rattle.rbc_spec.specs.Maps.{put}
-use Rattle.rbc_spec.specs.Reach.{Reach, follows_rule}
 use Rattle.rbc_spec.specs.Line.{Line, IsLine, is_centre, registrar}
 use Rattle.rbc_spec.specs.Place.{Place}
 use Rattle.rbc_spec.specs.Frame.{Body, AskRight, GiveRight, RefuseRight, ReturnRight}
 use Rattle.rbc_spec.specs.Centre.{Centre, is_registrar_of}
 use Rattle.rbc_spec.specs.Acts.{Act, rest, become, ◌>>◌, send, return_right}
-use Rattle.rbc_spec.specs.Links.{right_asked, right_given, right_returned}
-use Rattle.rbc_spec.specs.Step.{body_taken}
+use Rattle.rbc_spec.specs.Links.{right_asked, right_given, right_returned, received}
 use Rattle.rbc_spec.specs.LineCentre.{LineState}
 use Rattle.rbc_flow.specs.Flow.{Flow, took_frame}
 use Rattle.rbc_flow.specs.Counts.{hands, missions}
@@ -22,7 +20,7 @@ use Rattle.rbc_flow.proofs.Admitted as admitted
 use Rattle.rbc_sight.specs.Acts.{SendsNone}
 use Rattle.rbc_sight.proofs.Frames.{sends_single}
 use Rattle.rbc_sound.proofs.Rights.{asked_sound, given_sound, returned_sound}
-use Rattle.rbc_loans.proofs.Bodies.{IsAside, leads_if, leads_if_act, leads_or_act, sound_here, trained, received_keeps, act_keeps, unseen_leads, unseen_by, followed}
+use Rattle.rbc_loans.proofs.Bodies.{IsAside, leads_if, leads_if_act, leads_or_act, sound_here, trained, received_keeps, act_keeps, unseen_leads, unseen_by, of_train_leads}
 
 asks : (t : ℕ) → IsAside (AskRight t)
 asks t = record { follows = λ u n. refl; mission = λ a c u. refl; hand = λ a c u s. refl }
@@ -38,7 +36,7 @@ pub behind_change : (change : Centre → Centre) (act : Act) (k : Centre) → (b
 unfolding ◌>>◌
 behind_change change act k = refl
 
-module _ (reach : Reach) (line : Line) (ok : IsLine line) (w : Flow) (sound : IsFlowSound line w) (v : LineState) (sees : Shows line w v) (a c number : ℕ) (from : is_centre line a ≡ true) (to : is_centre line c ≡ true) where
+module _ (line : Line) (ok : IsLine line) (w : Flow) (sound : IsFlowSound line w) (v : LineState) (sees : Shows line w v) (a c number : ℕ) (from : is_centre line a ≡ true) (to : is_centre line c ≡ true) where
   abbrev k : Centre
   k = took_frame a number (w.at c)
 
@@ -78,8 +76,8 @@ module _ (reach : Reach) (line : Line) (ok : IsLine line) (w : Flow) (sound : Is
 
   -- ## Asked for
 
-  pub asked_leads : (t : ℕ) → TakesHead w a c (AskRight t) → Leads line (took w a c) c (body_taken reach line c a (AskRight t) (took_frame a number (w.at c))) v
-  asked_leads t head = followed line ok w sound a c number from to (AskRight t) head (asks t) v sees (follows_rule reach (AskRight t)) t (right_asked line c a t)
+  pub asked_leads : (t : ℕ) → TakesHead w a c (AskRight t) → Leads line (took w a c) c (received line c a (AskRight t) (took_frame a number (w.at c))) v
+  asked_leads t head = of_train_leads line ok w sound a c number from to (AskRight t) head (asks t) v sees t (right_asked line c a t)
       (λ known. leads_if line (took w a c) c v (is_registrar_of line c t) (if k.has_right t then (become (λ j. record j { has_right = put j.has_right t false }) >> send a (GiveRight t)) k else send a (RefuseRight t) k) (rest k)
       (act_keeps line ok w sound a c number from to (AskRight t) head t (right_asked line c a t) known
       (received_keeps line ok w sound a c number from to (AskRight t) head (record {})
@@ -93,8 +91,8 @@ module _ (reach : Reach) (line : Line) (ok : IsLine line) (w : Flow) (sound : Is
 
   -- ## Given back
 
-  pub returned_leads : (t : ℕ) → TakesHead w a c (ReturnRight t) → Leads line (took w a c) c (body_taken reach line c a (ReturnRight t) (took_frame a number (w.at c))) v
-  returned_leads t head = followed line ok w sound a c number from to (ReturnRight t) head (returns t) v sees (follows_rule reach (ReturnRight t)) t (right_returned line c t)
+  pub returned_leads : (t : ℕ) → TakesHead w a c (ReturnRight t) → Leads line (took w a c) c (received line c a (ReturnRight t) (took_frame a number (w.at c))) v
+  returned_leads t head = of_train_leads line ok w sound a c number from to (ReturnRight t) head (returns t) v sees t (right_returned line c t)
       (λ known. leads_if line (took w a c) c v (is_registrar_of line c t && (not (k.has_right t) && is_none (k.mission t))) (return_right line c t k) (rest k)
       (act_keeps line ok w sound a c number from to (ReturnRight t) head t (right_returned line c t) known
       (received_keeps line ok w sound a c number from to (ReturnRight t) head (record {})
@@ -106,8 +104,8 @@ module _ (reach : Reach) (line : Line) (ok : IsLine line) (w : Flow) (sound : Is
 
   -- where nothing waits for it, or it was not asked for
   unwanted_leads : (t : ℕ) → TakesHead w a c (GiveRight t) → ((w.at c).has_asked t ≡ true → (w.at c).wait t ≡ None)
-      → Leads line (took w a c) c (body_taken reach line c a (GiveRight t) (took_frame a number (w.at c))) v
-  unwanted_leads t head none = followed line ok w sound a c number from to (GiveRight t) head (gives t) v sees (follows_rule reach (GiveRight t)) t (right_given line c t)
+      → Leads line (took w a c) c (received line c a (GiveRight t) (took_frame a number (w.at c))) v
+  unwanted_leads t head none = of_train_leads line ok w sound a c number from to (GiveRight t) head (gives t) v sees t (right_given line c t)
       (λ known. leads_if line (took w a c) c v (k.has_asked t) _ (rest k)
       (act_keeps line ok w sound a c number from to (GiveRight t) head t (right_given line c t) known
       (received_keeps line ok w sound a c number from to (GiveRight t) head (record {})
@@ -119,10 +117,10 @@ module _ (reach : Reach) (line : Line) (ok : IsLine line) (w : Flow) (sound : Is
       (λ no there. back_leads (GiveRight t) head (gives t) t (record k { has_asked = put k.has_asked t false }) there refl refl refl refl refl refl refl)))
       (λ unasked keeps. resting (GiveRight t) head (gives t) k keeps refl refl refl refl refl refl refl))
 
-  pub given_leads : (t : ℕ) → TakesHead w a c (GiveRight t) → Leads line (took w a c) c (body_taken reach line c a (GiveRight t) (took_frame a number (w.at c))) v
+  pub given_leads : (t : ℕ) → TakesHead w a c (GiveRight t) → Leads line (took w a c) c (received line c a (GiveRight t) (took_frame a number (w.at c))) v
   given_leads t head = by_wait ((w.at c).wait t) refl ((w.at c).has_asked t) refl
     where
-      by_wait : (o : Option Place) → (w.at c).wait t ≡ o → (b : Bool) → (w.at c).has_asked t ≡ b → Leads line (took w a c) c (body_taken reach line c a (GiveRight t) (took_frame a number (w.at c))) v
+      by_wait : (o : Option Place) → (w.at c).wait t ≡ o → (b : Bool) → (w.at c).has_asked t ≡ b → Leads line (took w a c) c (received line c a (GiveRight t) (took_frame a number (w.at c))) v
       by_wait None none b asked = unwanted_leads t head (λ so. none)
-      by_wait (Some place) waits true asked = admitted.leads line w sound v sees a c t number place from to head waits reach asked
+      by_wait (Some place) waits true asked = admitted.leads line w sound v sees a c t number place from to head waits asked
       by_wait (Some place) waits false unasked = unwanted_leads t head (λ asked. absurd (let wrong : false ≡ true = sym unasked ∙ asked in cc))

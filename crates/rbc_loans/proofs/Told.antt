@@ -6,14 +6,12 @@ use Rattle.rbc_ledger.proofs.Resource.{carried_none}
 use Rattle.rbc_lemmas.proofs.Acts.{rest_then}
 use Rattle.rbc_lemmas.proofs.Puts.{put_there, put_here, put_other}
 use Rattle.rbc_spec.specs.Maps.{has, put}
-use Rattle.rbc_spec.specs.Reach.{Reach, follows_rule}
 use Rattle.rbc_spec.specs.SectionRuns.{SectionRun, within, is_empty, part_before, part_from, all_of}
 use Rattle.rbc_spec.specs.Line.{Line, IsLine, is_centre, is_home, section}
 use Rattle.rbc_spec.specs.Frame.{Body, RouteInfo, RouteWithdraw, RouteReturn}
 use Rattle.rbc_spec.specs.Centre.{Centre, Mission}
 use Rattle.rbc_spec.specs.Acts.{Act, rest, ◌>>◌, send, returned, change_mission, propose_if_so}
-use Rattle.rbc_spec.specs.Links.{is_of_line, is_wanted, route_told, route_withdrawn}
-use Rattle.rbc_spec.specs.Step.{body_taken}
+use Rattle.rbc_spec.specs.Links.{is_of_line, is_wanted, route_told, route_withdrawn, received}
 use Rattle.rbc_spec.specs.ReadOff.{seen}
 use Rattle.rbc_spec.specs.LineCentre.{LineState, LineMission}
 use Rattle.rbc_local.specs.Local.{hand_has}
@@ -30,7 +28,7 @@ use Rattle.rbc_sight.proofs.Frames.{sends_both, sends_home}
 use Rattle.rbc_sound.proofs.Sends.{if_sound, rest_sound}
 use Rattle.rbc_sound.proofs.Routes.{told_route, withdrawn_route}
 use Rattle.rbc_moves.proofs.Proposals.{propose_leads}
-use Rattle.rbc_loans.proofs.Bodies.{IsAside, leads_if, leads_if_act, leads_or, sound_here, trained, received_keeps, act_keeps, unseen_leads, rest_leads, followed}
+use Rattle.rbc_loans.proofs.Bodies.{IsAside, leads_if, leads_if_act, leads_or, sound_here, trained, received_keeps, act_keeps, unseen_leads, rest_leads, of_train_leads}
 use Rattle.rbc_loans.proofs.Rights.{behind_change, resting, sending}
 
 tells : (t : ℕ) (r : SectionRun) → IsAside (RouteInfo t r)
@@ -61,7 +59,7 @@ module _ (c t : ℕ) (f : Mission → Mission) (same : (m : Mission) → seen c 
       (λ (other : u ≢ t). ap (λ (o : Option Mission). hand_has o s) (put_other k.mission t u (option_map f (k.mission t)) other))
       (cases_eq u t)
 
-module _ (reach : Reach) (line : Line) (ok : IsLine line) (w : Flow) (sound : IsFlowSound line w) (v : LineState) (sees : Shows line w v) (a c number : ℕ) (from : is_centre line a ≡ true) (to : is_centre line c ≡ true) where
+module _ (line : Line) (ok : IsLine line) (w : Flow) (sound : IsFlowSound line w) (v : LineState) (sees : Shows line w v) (a c number : ℕ) (from : is_centre line a ≡ true) (to : is_centre line c ≡ true) where
   abbrev k : Centre
   k = took_frame a number (w.at c)
 
@@ -84,8 +82,8 @@ module _ (reach : Reach) (line : Line) (ok : IsLine line) (w : Flow) (sound : Is
   -- ## Told of
 
   -- by another centre
-  pub told_leads : c ≢ a → (t : ℕ) (r : SectionRun) → TakesHead w a c (RouteInfo t r) → Leads line (took w a c) c (body_taken reach line c a (RouteInfo t r) (took_frame a number (w.at c))) v
-  told_leads apart t r head = followed line ok w sound a c number from to (RouteInfo t r) head (tells t r) v sees (follows_rule reach (RouteInfo t r)) t (route_told line c a t r)
+  pub told_leads : c ≢ a → (t : ℕ) (r : SectionRun) → TakesHead w a c (RouteInfo t r) → Leads line (took w a c) c (received line c a (RouteInfo t r) (took_frame a number (w.at c))) v
+  told_leads apart t r head = of_train_leads line ok w sound a c number from to (RouteInfo t r) head (tells t r) v sees t (route_told line c a t r)
       (λ known. leads_if line (took w a c) c v ((has (λ first. first == r.first) (k.route_ask t) && (is_of_line line r && is_home line a r.first)) && all_of (is_home line a) r) _ (rest k)
       (act_keeps line ok w sound a c number from to (RouteInfo t r) head t (route_told line c a t r) known
       (received_keeps line ok w sound a c number from to (RouteInfo t r) head (record {})
@@ -96,9 +94,9 @@ module _ (reach : Reach) (line : Line) (ok : IsLine line) (w : Flow) (sound : Is
       (λ wanted there. unseen_leads line ok w sound a c number from to (RouteInfo t r) head (tells t r) v sees (change_mission t (λ m. record m { pool = r }) answered) there refl
       (pooled (RouteInfo t r) (tells t r) t (λ m. r) (change_mission t (λ m. record m { pool = r }) answered).state (λ d. []) refl refl refl refl (λ u d. carried_none (missions u) c d) (λ u s d. carried_none (hands u s) c d)) refl refl refl)
       (λ unwanted there. leads_if_act line (took w a c) c v (is_empty r) rest (send a (RouteReturn t r)) answered there
-      (λ none here. resting reach line ok w sound v sees a c number from to (RouteInfo t r) head (tells t r) answered here refl refl refl refl refl refl refl)
-      (λ some here. sending reach line ok w sound v sees a c number from to (RouteInfo t r) head (tells t r) a (RouteReturn t r) answered (λ u. refl) (λ u s. refl) here refl refl refl refl refl refl refl))))
-      (λ other keeps. resting reach line ok w sound v sees a c number from to (RouteInfo t r) head (tells t r) k keeps refl refl refl refl refl refl refl))
+      (λ none here. resting line ok w sound v sees a c number from to (RouteInfo t r) head (tells t r) answered here refl refl refl refl refl refl refl)
+      (λ some here. sending line ok w sound v sees a c number from to (RouteInfo t r) head (tells t r) a (RouteReturn t r) answered (λ u. refl) (λ u s. refl) here refl refl refl refl refl refl refl))))
+      (λ other keeps. resting line ok w sound v sees a c number from to (RouteInfo t r) head (tells t r) k keeps refl refl refl refl refl refl refl))
     where
       answered : Centre
       answered = record k { route_ask = put k.route_ask t None }
@@ -130,17 +128,17 @@ module _ (reach : Reach) (line : Line) (ok : IsLine line) (w : Flow) (sound : Is
     withdrawal : IsFlowSound line (replied (took w a c) c (route_withdrawn line c t s (took_frame a number (w.at c)))) → Leads line (took w a c) c (route_withdrawn line c t s (took_frame a number (w.at c))) v
     withdrawal keeps = leads_or line (took w a c) c v (k.mission t) (λ m. (if within m.pool s then gone m else propose_if_so line t s) k) (rest k) keeps
         (λ m at there. leads_if_act line (took w a c) c v (within m.pool s) (gone m) (propose_if_so line t s) k there (λ pooled here. gone_leads m here) (λ no here. proposed))
-        (λ none there. resting reach line ok w sound v sees a c number from to (RouteWithdraw t s) head (withdraws t s) k there refl refl refl refl refl refl refl)
+        (λ none there. resting line ok w sound v sees a c number from to (RouteWithdraw t s) head (withdraws t s) k there refl refl refl refl refl refl refl)
 
-    pub withdrawn_leads : Leads line (took w a c) c (body_taken reach line c a (RouteWithdraw t s) (took_frame a number (w.at c))) v
-    withdrawn_leads = followed line ok w sound a c number from to (RouteWithdraw t s) head (withdraws t s) v sees (follows_rule reach (RouteWithdraw t s)) t (if is_some (section line s) then route_withdrawn line c t s else rest)
+    pub withdrawn_leads : Leads line (took w a c) c (received line c a (RouteWithdraw t s) (took_frame a number (w.at c))) v
+    withdrawn_leads = of_train_leads line ok w sound a c number from to (RouteWithdraw t s) head (withdraws t s) v sees t (if is_some (section line s) then route_withdrawn line c t s else rest)
         (λ known. leads_if_act line (took w a c) c v (is_some (section line s)) (route_withdrawn line c t s) rest k
         (act_keeps line ok w sound a c number from to (RouteWithdraw t s) head t (if is_some (section line s) then route_withdrawn line c t s else rest) known
         (received_keeps line ok w sound a c number from to (RouteWithdraw t s) head (record {})
         (trained line ok w sound a c number from to (RouteWithdraw t s) head t (if is_some (section line s) then route_withdrawn line c t s else rest)
         (λ so. if_sound line c (is_some (section line s)) (route_withdrawn line c t s) rest k (λ there. withdrawn_route line ok c a from t s k here) (λ none. rest_sound line c k here)))))
         (λ there keeps. withdrawal keeps)
-        (λ none keeps. resting reach line ok w sound v sees a c number from to (RouteWithdraw t s) head (withdraws t s) k keeps refl refl refl refl refl refl refl))
+        (λ none keeps. resting line ok w sound v sees a c number from to (RouteWithdraw t s) head (withdraws t s) k keeps refl refl refl refl refl refl refl))
       where
         here : IsCentreSound line c (took_frame a number (w.at c))
         here = sound_here line ok w sound a c number from to (RouteWithdraw t s) head

@@ -5,6 +5,6 @@
 mod laws;
 
 pub use laws::{
-    a_frame_without_a_rule_leads_nowhere_else, what_a_frame_of_rights_leads_to,
-    what_a_frame_of_routes_leads_to, what_the_interlocking_leads_to,
+    what_a_frame_of_rights_leads_to, what_a_frame_of_routes_leads_to,
+    what_the_interlocking_leads_to,
 };

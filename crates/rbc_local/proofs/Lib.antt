@@ -5,6 +5,7 @@ pub mod Entries
 pub mod Hands
 pub mod Changes
 pub mod Fits
+pub mod Homes
 pub mod Missions
 pub mod Reports
 pub mod Steps

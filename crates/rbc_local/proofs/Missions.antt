@@ -1,18 +1,18 @@
 -- A centre that is local stays so as missions start, go on, and end.
-use Rattle.std.proofs.Common.{◌≡◌, ℕ, ◌+◌, ◌-◌, ◌==◌, ◌&&◌, ◌||◌, if◌then◌else◌, Bool, true, false, Option, Some, None, refl, sym, ap, ◌∙◌, subst, arith, ⊎_elim, eqb-true}
+use Rattle.std.proofs.Common.{◌≡◌, ℕ, ◌+◌, ◌-◌, ◌==◌, ◌&&◌, ◌||◌, if◌then◌else◌, Bool, true, false, Option, Some, None, is_none, refl, sym, ap, ◌∙◌, subst, arith, ⊎_elim, eqb-true}
 use Rattle.std.specs.Option.{option_map_or}
 use Rattle.std.proofs.lemmas.Option.{same_Some}
-use Rattle.std.proofs.lemmas.Bool.{and_parts, or_cases, cases_Bool}
+use Rattle.std.proofs.lemmas.Bool.{both_ways, and_parts, or_cases, cases_Bool}
 use Rattle.rbc_spec.specs.Maps.{put}
-use Rattle.rbc_spec.specs.Reach.{Local}
 use Rattle.rbc_spec.specs.SectionRuns.{SectionRun, no_run, within, behind, is_empty, part_from, joined, all_of}
-use Rattle.rbc_spec.specs.Line.{Line}
+use Rattle.rbc_spec.specs.Line.{Line, next_centre, train_number}
 use Rattle.rbc_spec.specs.Sections.{is_on}
-use Rattle.rbc_spec.specs.Place.{Place, Position, extent, is_fit, covered, place_on, fit_place}
+use Rattle.rbc_spec.specs.Place.{Place, Position, extent, covered, place_on, fit_place}
 use Rattle.rbc_spec.specs.Message.{TrackBody, Authority}
 use Rattle.rbc_spec.specs.Centre.{Centre, Taken, Mission, is_open, is_registrar_of, is_free}
 use Rattle.rbc_spec.specs.Acts.{Act, become, rest, ◌>>◌, say, booked, set_mission, begun, yield_if_due}
-use Rattle.rbc_spec.specs.Rules.{accept, reject, restart, start_here, start_elsewhere, start_new, start_mission, begin, extension, extended_by, may_follow, authority, grant, request}
+use Rattle.rbc_spec.specs.Rules.{accept, reject, restart, start_here, start_new, start_mission, begin, extension, extended_by, may_follow, authority, at_border, grant, request, start_waiting}
+use Rattle.rbc_spec.specs.Theorems.{IsOneCentreLine}
 use Rattle.rbc_lemmas.proofs.Longest.{longest_few, longest_each}
 use Rattle.rbc_lemmas.proofs.Runs.{within_true, within_joined, each_within, joined_count}
 use Rattle.rbc_local.specs.Local.{IsOrdered, IsLocalAt, IsLocalMission, hand_has}
@@ -20,6 +20,7 @@ use Rattle.rbc_local.proofs.Simple.{no_yield}
 use Rattle.rbc_local.proofs.Stays.{Stays, rest_stays, then_stays, alike_stays, other_parts, if_stays, or_stays}
 use Rattle.rbc_local.proofs.Changes.{goes_on, starts_here, changed, booked_local}
 use Rattle.rbc_local.proofs.Fits.{IsFit, fit_parts, begun_local, restarted_local}
+use Rattle.rbc_local.proofs.Homes.{fit_of, free_at_registrar, none_next}
 
 pub none_within : (s : ℕ) → within no_run s ≡ true → ⊥
 none_within s is = let at = within_true no_run s is in omega (arith, at)
@@ -92,34 +93,25 @@ module _ (line : Line) (c : ℕ) where
         })
         (λ i local. said t _ _ i local))
 
-    pub started : (t : ℕ) (place : Place) (k : Centre) → IsLocalAt line c k → k.mission t ≡ None → IsFit line place → Stays line c (start_new Local line c t place k)
-    started t place k h none fit = if_stays line c (all_of (is_free line c k) (covered line place)) _ _
-        (λ all. if_act (is_registrar_of line c t) (start_here line t place) (start_elsewhere Local line t place) k
+    -- where its sections are free only at the train's registrar
+    pub started : (t : ℕ) (place : Place) (k : Centre) → IsLocalAt line c k → k.mission t ≡ None → IsFit line place
+        → (all_of (is_free line c k) (covered line place) ≡ true → is_registrar_of line c t ≡ true) → Stays line c (start_new line c t place k)
+    started t place k h none fit registered = if_stays line c (all_of (is_free line c k) (covered line place)) _ _
+        (λ all. if_act (is_registrar_of line c t) (start_here line t place) (start_waiting line t place) k
         (λ here. if_stays line c (k.has_right t) _ _ (λ right. begun_here t place k h none fit all here) (λ away. said t _ _ k h))
-        (λ away. said t _ _ k h))
+        (λ away. absurd (both_ways (is_registrar_of line c t) away (registered all))))
         (λ taken. said t _ _ k h)
 
-    pub answered_start : (t : ℕ) (is_valid : Bool) (position : Position) (k : Centre) → IsLocalAt line c k → Stays line c (start_mission Local line c t is_valid position k)
-    answered_start t is_valid position k h = or_stays line c (fit_place line is_valid position) _ (reject t k)
+    -- of a train of a one-centre line
+    pub answered_start : (d : ℕ) → IsOneCentreLine line d → (t : ℕ) (is_valid : Bool) (position : Position) (k : Centre) → is_none (train_number line t) ≡ false → IsLocalAt line c k
+        → Stays line c (start_mission line c t is_valid position k)
+    answered_start d one t is_valid position k known h = or_stays line c (fit_place line is_valid position) _ (reject t k)
         (λ place fits.
-        let fit = fit_parts line place (fit_of is_valid (extent line position) place fits) in
-        or_stays line c (k.mission t) (λ m. restart line t place m k) (start_new Local line c t place k)
+        let fit = fit_parts line place (fit_of line is_valid (extent line position) place fits) in
+        or_stays line c (k.mission t) (λ m. restart line t place m k) (start_new line c t place k)
         (λ m at. restarted t place m k h at fit)
-        (λ none. started t place k h none fit))
+        (λ none. started t place k h none fit (free_at_registrar line d one ordered c t k is_valid position place known fits)))
         (λ none. said t _ _ k h)
-      where
-        no_place : (place : Place) → None ≡ Some place → ⊥
-        no_place place e = cc
-
-        fit_of : (is_valid : Bool) (o : Option Place) (place : Place)
-            → option_map_or (λ p. if is_valid && is_fit line p then Some p else None) o None ≡ Some place → is_fit line place ≡ true
-        fit_of is_valid (Some p) place is = ⊎_elim
-            (λ (fits : (is_valid && is_fit line p) ≡ true).
-            let same : p ≡ place = same_Some p place (sym (ap (λ b. if b then Some p else None) fits) ∙ is) in
-            subst (λ (q : Place). is_fit line q ≡ true) same (and_parts is_valid (is_fit line p) fits).1)
-            (λ (other : (is_valid && is_fit line p) ≡ false). absurd (no_place place (sym (ap (λ b. if b then Some p else None) other) ∙ is)))
-            (cases_Bool (is_valid && is_fit line p))
-        fit_of is_valid None place is = cc
 
     -- ## Request
 
@@ -158,13 +150,14 @@ module _ (line : Line) (c : ℕ) where
               (or_cases (within m.hand s) (within r s) (sym (within_joined m.hand r s refl) ∙ is));
         }
 
-    pub granted_more : (t : ℕ) (m : Mission) (place : Place) (k : Centre) → IsLocalAt line c k → k.mission t ≡ Some m → place.track ≡ m.place.track
-        → Stays line c (grant Local line c t (record m { place = place }) k)
-    granted_more t m place k h at same =
+    pub granted_more : (d : ℕ) → IsOneCentreLine line d → (t : ℕ) (m : Mission) (place : Place) (k : Centre) → IsLocalAt line c k → k.mission t ≡ Some m → place.track ≡ m.place.track
+        → Stays line c (grant line c t (record m { place = place }) k)
+    granted_more d one t m place k h at same =
         let n : Mission = record m { place = place } in
         let r : SectionRun = extension line c k n in
         let local = h.mission t m at in
-        then_both ((booked is_open (Taken t) r >> set_mission t (Some (extended_by r n))) >> say t place.group (Authority (authority line (extended_by r n)))) rest k
+        then_both ((booked is_open (Taken t) r >> set_mission t (Some (extended_by r n))) >> say t place.group (Authority (authority line (extended_by r n))))
+        (option_map_or (at_border line c t) (next_centre line c place.track) rest) k
         (then_both (booked is_open (Taken t) r >> set_mission t (Some (extended_by r n))) (say t place.group (Authority (authority line (extended_by r n)))) k
         (then_stays line c (booked is_open (Taken t) r) (set_mission t (Some (extended_by r n))) k (λ d. refl) (record {
           state = booked_local line c k t r (Some (extended_by r n)) k.has_right h
@@ -174,11 +167,13 @@ module _ (line : Line) (c : ℕ) where
           frames = λ d. refl;
         }))
         (λ j stays. said t _ _ j stays))
-        (λ j stays. rest_stays line c j stays)
+        (λ j stays. or_act (next_centre line c place.track) (at_border line c t) rest j
+        (λ e next. absurd (let wrong : None ≡ Some e = sym (none_next line d one c place.track) ∙ next in cc))
+        (λ none. rest_stays line c j stays))
 
-    pub answered_request : (t : ℕ) (position : Position) (k : Centre) → IsLocalAt line c k → Stays line c (request Local line c t position k)
-    answered_request t position k h = or_stays line c (k.mission t) _ (rest k)
-        (λ m at. or_act (place_on line m.place.track position) (λ place. grant Local line c t (record m { place = place })) rest k
-        (λ place is. granted_more t m place k h at (place_of m.place.track (extent line position) place is).0)
+    pub answered_request : (d : ℕ) → IsOneCentreLine line d → (t : ℕ) (position : Position) (k : Centre) → IsLocalAt line c k → Stays line c (request line c t position k)
+    answered_request d one t position k h = or_stays line c (k.mission t) _ (rest k)
+        (λ m at. or_act (place_on line m.place.track position) (λ place. grant line c t (record m { place = place })) rest k
+        (λ place is. granted_more d one t m place k h at (place_of m.place.track (extent line position) place is).0)
         (λ none. rest_stays line c k h))
         (λ none. rest_stays line c k h)

@@ -1,17 +1,18 @@
 -- A centre that is local stays so through each step that no frame brings.
-use Rattle.std.proofs.Common.{◌≡◌, ℕ, ◌+◌, ◌-◌, ◌==◌, ◌&&◌, not, if◌then◌else◌, Bool, true, false, [], ◌++◌, length, Option, Some, None, refl, sym, ap, ◌∙◌, eq-eqb}
+use Rattle.std.proofs.Common.{◌≡◌, ℕ, ◌+◌, ◌-◌, ◌==◌, ◌&&◌, not, if◌then◌else◌, Bool, true, false, [], ◌++◌, length, Option, Some, None, is_none, slice_get, refl, sym, ap, ◌∙◌, eq-eqb}
 use Rattle.std.specs.Option.{option_map_or}
 use Rattle.std.proofs.lemmas.Bool.{both_ways, and_from, not-false}
 use Rattle.rbc_spec.specs.Maps.{put}
-use Rattle.rbc_spec.specs.Reach.{Local}
-use Rattle.rbc_spec.specs.Line.{Line, is_home, start}
+use Rattle.rbc_spec.specs.Line.{Line, is_home, start, train_number}
 use Rattle.rbc_spec.specs.Place.{group_start}
 use Rattle.rbc_spec.specs.Message.{TrainMessage, TrainBody, TrainData, Request, Report, ShorteningGranted, ShorteningRejected, EndOfMission, InitiationOfSession, TerminationOfSession, StartOfMission, SessionEstablished, ShorteningRequest}
-use Rattle.rbc_spec.specs.Outcome.{Reason, Word, Done, Asked, NotHome}
+use Rattle.rbc_spec.specs.Outcome.{Reason, ForeignEngine, reasons_of, Word, Done, Asked, NotHome}
 use Rattle.rbc_spec.specs.Centre.{Centre, Entry, Shut, Open, Taken, Out, Phase, Closed, Opened, Up, is_unused, is_taken_for, is_out_for}
 use Rattle.rbc_spec.specs.Acts.{become, rest, ◌>>◌, say, hear, change_mission, may_propose, propose, propose_if_so}
 use Rattle.rbc_spec.specs.Rules.{tell, set_phase, drop_wait, close_session, answered}
-use Rattle.rbc_spec.specs.Step.{Event, Train, Set, Unset, Effect, make, set, unset, wished, effect, silence, stamp_of, ticked, numbered}
+use Rattle.rbc_spec.specs.Step.{Event, Train, Set, Unset, Effect, make, set, unset, wished, effect, holds, silence, stamp_of, ticked, numbered}
+use Rattle.rbc_spec.specs.Theorems.{IsOneCentreLine}
+use Rattle.rbc_lemmas.proofs.Lists.{none_passes}
 use Rattle.rbc_lemmas.proofs.Puts.{put_here, put_other}
 use Rattle.rbc_local.specs.Local.{IsOrdered, IsLocalAt, hand_has}
 use Rattle.rbc_local.specs.Stays.{StaysLocal}
@@ -144,17 +145,17 @@ module _ (line : Line) (c : ℕ) where
 
   -- ## The step
 
-  either : (o : Option Reason) (f : Reason → Effect) (e : Effect) → ((why : Reason) → Stays line c (f why).reply) → Stays line c e.reply → Stays line c (option_map_or f o e).reply
+  either : (o : Option Reason) (f : Reason → Effect) (e : Effect) → ((why : Reason) → Stays line c (f why).reply) → (o ≡ None → Stays line c e.reply) → Stays line c (option_map_or f o e).reply
   either (Some why) f e one two = one why
-  either None f e one two = two
+  either None f e one two = two refl
 
   ticked_local : (k : Centre) (stamp : ℕ) → IsLocalAt line c k → IsLocalAt line c (ticked stamp k)
   ticked_local k stamp h = other_parts line c k stamp k.phase k.heard k.said k.announced k.taken h
 
   -- a reply that stays and sends nothing, as a step
-  step_stays : (k : Centre) (event : Event) → IsLocalAt line c k → Stays line c (effect Local line c (ticked (stamp_of k event) k) event).reply → StaysLocal line c k event
+  step_stays : (k : Centre) (event : Event) → IsLocalAt line c k → Stays line c (effect line c (ticked (stamp_of k event) k) event).reply → StaysLocal line c k event
   step_stays k event h stays =
-      let none : (d : ℕ) → numbered (stamp_of k event) (length (k.sent d)) ((effect Local line c (ticked (stamp_of k event) k) event).reply.frames d) ≡ []
+      let none : (d : ℕ) → numbered (stamp_of k event) (length (k.sent d)) ((effect line c (ticked (stamp_of k event) k) event).reply.frames d) ≡ []
       = λ d. ap (numbered (stamp_of k event) (length (k.sent d))) (stays.frames d) in
       record {
         state = record {
@@ -180,11 +181,29 @@ module _ (line : Line) (c : ℕ) where
   pub unset_step_stays : (k : Centre) (s : ℕ) → IsLocalAt line c k → StaysLocal line c k (Unset s)
   unset_step_stays k s h = step_stays k (Unset s) h (unset_stays s (ticked (stamp_of k (Unset s)) k) (ticked_local k (stamp_of k (Unset s)) h))
 
-  module _ (ordered : IsOrdered line) where
+  -- a message that is heard is of a train of the line
+  heard_known : (k : Centre) (m : TrainMessage) (body : TrainBody) → m.body ≡ body → silence line c k m ≡ None → is_none (train_number line m.nid_engine) ≡ false
+  heard_known k m body is none = none_passes (holds line c k m) (reasons_of m.body) 0 ForeignEngine none (ap (λ (b : TrainBody). slice_get (reasons_of b) 0) is ∙ first body)
+    where
+      first : (b : TrainBody) → slice_get (reasons_of b) 0 ≡ Some ForeignEngine
+      first InitiationOfSession = refl
+      first TerminationOfSession = refl
+      first SessionEstablished = refl
+      first (StartOfMission is_valid position) = refl
+      first (TrainData position) = refl
+      first (Request position) = refl
+      first (Report position) = refl
+      first (ShorteningGranted stamp position) = refl
+      first (ShorteningRejected stamp position) = refl
+      first (EndOfMission position) = refl
+
+  -- ## On a one-centre line
+
+  module _ (ordered : IsOrdered line) (d : ℕ) (one : IsOneCentreLine line d) where
     -- ## A train's message
 
-    pub answer_stays : (m : TrainMessage) (body : TrainBody) (k : Centre) → IsLocalAt line c k → Stays line c (answered Local line c m body k)
-    answer_stays m (TrainData position) k h = then_both line c (change_mission m.nid_engine (λ n. record n { has_data = true })) _ k
+    pub answer_stays : (m : TrainMessage) (body : TrainBody) (k : Centre) → is_none (train_number line m.nid_engine) ≡ false → IsLocalAt line c k → Stays line c (answered line c m body k)
+    answer_stays m (TrainData position) k known h = then_both line c (change_mission m.nid_engine (λ n. record n { has_data = true })) _ k
         (changed line c m.nid_engine (λ n. record n { has_data = true }) k h (λ n is. refl) (λ n is. let local = h.mission m.nid_engine n is in record {
           no_pool = local.no_pool;
           no_handing = local.no_handing;
@@ -193,17 +212,17 @@ module _ (line : Line) (c : ℕ) where
           on_track = local.on_track;
         }))
         (λ j stays. said line c m.nid_engine _ _ j stays)
-    answer_stays m (Request position) k h = answered_request line c ordered m.nid_engine position k h
-    answer_stays m (Report position) k h = answered_report line c ordered m.nid_engine position k h
-    answer_stays m (ShorteningGranted stamp position) k h = answered_shortening line c ordered m.nid_engine position k h
-    answer_stays m (ShorteningRejected stamp position) k h = unproposed m.nid_engine k h
-    answer_stays m (EndOfMission position) k h = ended line c ordered m.nid_engine position k h
-    answer_stays m InitiationOfSession k h = then_both line c (close_session line c m.nid_engine >> set_phase m.nid_engine Opened) _ k
+    answer_stays m (Request position) k known h = answered_request line c ordered d one m.nid_engine position k h
+    answer_stays m (Report position) k known h = answered_report line c ordered m.nid_engine position k h
+    answer_stays m (ShorteningGranted stamp position) k known h = answered_shortening line c ordered m.nid_engine position k h
+    answer_stays m (ShorteningRejected stamp position) k known h = unproposed m.nid_engine k h
+    answer_stays m (EndOfMission position) k known h = ended line c ordered m.nid_engine position k h
+    answer_stays m InitiationOfSession k known h = then_both line c (close_session line c m.nid_engine >> set_phase m.nid_engine Opened) _ k
         (then_both line c (close_session line c m.nid_engine) (set_phase m.nid_engine Opened) k (closed m.nid_engine k h) (λ j stays. phase_set m.nid_engine Opened j stays))
         (λ j stays. said line c m.nid_engine _ _ j stays)
-    answer_stays m TerminationOfSession k h = then_both line c (close_session line c m.nid_engine) _ k (closed m.nid_engine k h) (λ j stays. said line c m.nid_engine _ _ j stays)
-    answer_stays m (StartOfMission is_valid position) k h = answered_start line c ordered m.nid_engine is_valid position k h
-    answer_stays m SessionEstablished k h = phase_set m.nid_engine Up k h
+    answer_stays m TerminationOfSession k known h = then_both line c (close_session line c m.nid_engine) _ k (closed m.nid_engine k h) (λ j stays. said line c m.nid_engine _ _ j stays)
+    answer_stays m (StartOfMission is_valid position) k known h = answered_start line c ordered d one m.nid_engine is_valid position k known h
+    answer_stays m SessionEstablished k known h = phase_set m.nid_engine Up k h
 
     pub train_stays : (k : Centre) (m : TrainMessage) → IsLocalAt line c k → StaysLocal line c k (Train m)
     train_stays k m h =
@@ -211,4 +230,4 @@ module _ (line : Line) (c : ℕ) where
         let local = ticked_local k (stamp_of k (Train m)) h in
         step_stays k (Train m) h (either (silence line c j m) _ _
         (λ why. rest_stays line c j local)
-        (then_both line c (hear m) (answered Local line c m m.body) j (heard m j local) (λ i stays. answer_stays m m.body i stays)))
+        (λ none. then_both line c (hear m) (answered line c m m.body) j (heard m j local) (λ i stays. answer_stays m m.body i (heard_known j m m.body refl none) stays)))

@@ -1,8 +1,7 @@
--- Each world that begins and runs with missions at one centre each is local.
+-- Each world of a one-centre line is local, from its beginning on.
 use Rattle.std.proofs.Common.{◌≡◌, ℕ, ◌-◌, Bool, true, false, List, [], ◌∷◌, Option, Some, None, Result, Ok, Err, if◌then◌else◌, slice_get, refl, sym, ap, ◌∙◌, subst, ◌==◌}
 use Rattle.std.specs.Option.{option_map_or}
 use Rattle.rbc_spec.specs.Maps.{put}
-use Rattle.rbc_spec.specs.Reach.{Local}
 use Rattle.rbc_spec.specs.Line.{Line, is_centre}
 use Rattle.rbc_spec.specs.Frame.{Frame}
 use Rattle.rbc_spec.specs.Outcome.{Outcome}
@@ -10,6 +9,7 @@ use Rattle.rbc_spec.specs.Centre.{Centre}
 use Rattle.rbc_spec.specs.Step as centre
 use Rattle.rbc_spec.specs.Step.{Refusal, step, refusal, taken}
 use Rattle.rbc_spec.specs.World.{World, Event, Bytes, Set, Unset, Delivery, Answer, NoCentre, NotSent, new_world, frame_sent, mention, stepped, at_centre, takes, world_step, world_run, ◌>>=◌}
+use Rattle.rbc_spec.specs.Theorems.{IsOneCentreLine}
 use Rattle.rbc_lemmas.proofs.Puts.{put_here, put_other}
 use Rattle.rbc_local.specs.Local.{IsOrdered, IsLocalAt, IsLocal}
 use Rattle.rbc_local.specs.Stays.{StaysLocal}
@@ -47,9 +47,9 @@ module _ (line : Line) (w : World) (local : IsLocal line w) where
   stepped_local c trains (Some why) x h answer new is = cc
   stepped_local c trains None x h answer new is = subst (IsLocal line) (ap (λ r. world_of w r) is) (put_local c x.1 trains h)
 
-  takes_local : (c : ℕ) (trains : List ℕ) (event : centre.Event) → StaysLocal line c (w.at c) event → LeavesLocal (takes Local line w c trains event)
+  takes_local : (c : ℕ) (trains : List ℕ) (event : centre.Event) → StaysLocal line c (w.at c) event → LeavesLocal (takes line w c trains event)
   unfolding step
-  takes_local c trains event stays = stepped_local c trains (refusal line c (w.at c) event) (taken Local line c event (w.at c)) stays.state
+  takes_local c trains event stays = stepped_local c trains (refusal line c (w.at c) event) (taken line c event (w.at c)) stays.state
 
   at_local : (c : ℕ) (done : Result (Answer × World) Refusal) → LeavesLocal done → LeavesLocal (at_centre line w c done)
   at_local c done h = chosen (is_centre line c)
@@ -66,14 +66,15 @@ module _ (line : Line) (w : World) (local : IsLocal line w) where
       either true = sym (ap (λ (frames : List Frame). slice_get frames (number - 1)) ((local.each a).none_sent b))
       either false = refl
 
-  pub world_step_local : IsOrdered line → (event : Event) → LeavesLocal (world_step Local line w event)
+  -- each event of a one-centre line
+  pub world_step_local : IsOrdered line → (d : ℕ) → IsOneCentreLine line d → (event : Event) → LeavesLocal (world_step line w event)
   unfolding world_step
-  world_step_local ordered (Bytes c (Ok m)) = at_local c _ (takes_local c (mention line m.nid_engine w.trains) (centre.Train m) (train_stays line c ordered (w.at c) m (local.each c)))
-  world_step_local ordered (Bytes c (Err number)) = at_local c _ (stands_still _)
-  world_step_local ordered (Set c s) = at_local c _ (takes_local c w.trains (centre.Set s) (set_step_stays line c (w.at c) s (local.each c)))
-  world_step_local ordered (Unset c s) = at_local c _ (takes_local c w.trains (centre.Unset s) (unset_step_stays line c (w.at c) s (local.each c)))
-  world_step_local ordered (Delivery a b number) = λ answer new is. stands_still NotSent answer new
-      (sym (ap (λ o. option_map_or (λ f. takes Local line w b w.trains (centre.Deliver a f)) o (Ok (NotSent, w))) (none_delivered a b number)) ∙ is)
+  world_step_local ordered d one (Bytes c (Ok m)) = at_local c _ (takes_local c (mention line m.nid_engine w.trains) (centre.Train m) (train_stays line c ordered d one (w.at c) m (local.each c)))
+  world_step_local ordered d one (Bytes c (Err number)) = at_local c _ (stands_still _)
+  world_step_local ordered d one (Set c s) = at_local c _ (takes_local c w.trains (centre.Set s) (set_step_stays line c (w.at c) s (local.each c)))
+  world_step_local ordered d one (Unset c s) = at_local c _ (takes_local c w.trains (centre.Unset s) (unset_step_stays line c (w.at c) s (local.each c)))
+  world_step_local ordered d one (Delivery a b number) = λ answer new is. stands_still NotSent answer new
+      (sym (ap (λ o. option_map_or (λ f. takes line w b w.trains (centre.Deliver a f)) o (Ok (NotSent, w))) (none_delivered a b number)) ∙ is)
 
 pub bind_ok : {A B : Type 0} (r : Result A Refusal) (next : A → Result B Refusal) (y : B) → (r >>= next) ≡ Ok y → (x : A) × (r ≡ Ok x) × (next x ≡ Ok y)
 bind_ok (Ok x) next y is = (x, refl, is)
@@ -85,12 +86,12 @@ last_of w (Ok x) = x.1
 last_of w (Err why) = w
 
 -- a run from a world that is local
-pub run_local : (line : Line) → IsOrdered line → (events : List Event) (w : World) → IsLocal line w → (answers : List Answer) (last : World)
-    → world_run Local line w events ≡ Ok (answers, last) → IsLocal line last
+pub run_local : (line : Line) → IsOrdered line → (d : ℕ) → IsOneCentreLine line d → (events : List Event) (w : World) → IsLocal line w → (answers : List Answer) (last : World)
+    → world_run line w events ≡ Ok (answers, last) → IsLocal line last
 unfolding world_run
-run_local line ordered [] w local answers last is = subst (IsLocal line) (ap (λ r. last_of w r) is) local
-run_local line ordered (event ∷ events) w local answers last is =
-    let first = bind_ok (world_step Local line w event) _ (answers, last) is in
-    let others = bind_ok (world_run Local line first.0.1 events) _ (answers, last) first.2 in
+run_local line ordered d one [] w local answers last is = subst (IsLocal line) (ap (λ r. last_of w r) is) local
+run_local line ordered d one (event ∷ events) w local answers last is =
+    let first = bind_ok (world_step line w event) _ (answers, last) is in
+    let others = bind_ok (world_run line first.0.1 events) _ (answers, last) first.2 in
     subst (IsLocal line) (ap (λ r. last_of w r) others.2)
-    (run_local line ordered events first.0.1 (world_step_local line w local ordered event first.0.0 first.0.1 first.1) others.0.0 others.0.1 others.1)
+    (run_local line ordered d one events first.0.1 (world_step_local line w local ordered d one event first.0.0 first.0.1 first.1) others.0.0 others.0.1 others.1)

@@ -5,8 +5,8 @@ ghost use Rattle.rbc_spec.specs.Line.{Line, IsLine};
 ghost use Rattle.rbc_spec.specs.Message.{TrainMessage};
 ghost use Rattle.rbc_spec.specs.Centre.{Centre, beginning};
 ghost use Rattle.rbc_spec.specs.Step.{Train, Set, Unset};
-ghost use Rattle.rbc_spec.specs.Reach.{Local};
 ghost use Rattle.rbc_spec.specs.World.{World, Event, Answer, new_world, world_run};
+ghost use Rattle.rbc_spec.specs.Theorems.{IsOneCentreLine};
 ghost use Rattle.rbc_local.specs.Local.{IsOrdered, IsLocalAt, IsLocal};
 ghost use Rattle.rbc_local.specs.Stays.{StaysLocal};
 
@@ -21,18 +21,17 @@ pub fn a_centre_begins_local()
     ensures { (line : Line) (c : ℕ) → IsLocalAt line c (beginning line c) }
 {}
 
-/// Whatever a train says and whatever the interlocking wishes, a centre that is local stays so, and sends no frame.
+/// Whatever the interlocking wishes, a centre that is local stays so, and sends no frame; and whatever a train says, on a one-centre line.
 pub fn a_centre_stays_local()
-    ensures train { (line : Line) (c : ℕ) (k : Centre) (m : TrainMessage) → IsOrdered line → IsLocalAt line c k → StaysLocal line c k (Train m) }
+    ensures train { (line : Line) (c d : ℕ) (k : Centre) (m : TrainMessage) → IsOrdered line → IsOneCentreLine line d → IsLocalAt line c k → StaysLocal line c k (Train m) }
     ensures set { (line : Line) (c : ℕ) (k : Centre) (s : ℕ) → IsLocalAt line c k → StaysLocal line c k (Set s) }
     ensures unset { (line : Line) (c : ℕ) (k : Centre) (s : ℕ) → IsLocalAt line c k → StaysLocal line c k (Unset s) }
 {}
 
-/// Whatever happens to the centres of a line where each mission stays at one centre, each of them is local, and none has
-/// sent a frame.
+/// Whatever happens to the centres of a one-centre line, each of them is local, and none has sent a frame.
 pub fn a_line_stays_local()
-    ensures local { (line : Line) (events : List Event) (answers : List Answer) (w : World) → IsLine line
-        → world_run Local line (new_world line) events ≡ Ok (answers, w) → IsLocal line w }
-    ensures none_sent { (line : Line) (events : List Event) (answers : List Answer) (w : World) (a b : ℕ) → IsLine line
-        → world_run Local line (new_world line) events ≡ Ok (answers, w) → (w.at a).sent b ≡ [] }
+    ensures local { (line : Line) (c : ℕ) (events : List Event) (answers : List Answer) (w : World) → IsLine line → IsOneCentreLine line c
+        → world_run line (new_world line) events ≡ Ok (answers, w) → IsLocal line w }
+    ensures none_sent { (line : Line) (c : ℕ) (events : List Event) (answers : List Answer) (w : World) (a b : ℕ) → IsLine line → IsOneCentreLine line c
+        → world_run line (new_world line) events ≡ Ok (answers, w) → (w.at a).sent b ≡ [] }
 {}

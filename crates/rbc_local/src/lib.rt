@@ -1,6 +1,6 @@
-//! A local centre has its missions to itself: what stays true of it through all its steps. At the beginning it is so, and
-//! each step but the taking of a frame leaves it so and sends no frame. The functions do nothing: each contract is a law of
-//! the definitions.
+//! A local centre has its missions to itself: what stays true of it through all its steps. At the beginning it is so, and on a
+//! one-centre line each step but the taking of a frame leaves it so and sends no frame. The functions do nothing: each contract is
+//! a law of the definitions.
 #![tactic(auto)]
 
 mod laws;

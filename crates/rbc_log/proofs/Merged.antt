@@ -12,7 +12,6 @@ use Rattle.rbc_family.proofs.Sorted.{merges}
 use Rattle.rbc_family.proofs.Merged.{family}
 use Rattle.rbc_whole.proofs.Lines.{the_run}
 use Rattle.rbc_whole.proofs.Promises.{run_sound}
-use Rattle.rbc_log.specs.Built.{built}
 use Rattle.rbc_log.specs.Entries.{entry_of, written_of}
 use Rattle.rbc_log.specs.Log.{LogValue, IsReplaying}
 use Rattle.rbc_log.specs.Merge.{AreOfCentres, AreOfOneLine, logs_by, ends_by, all_entries, IsMerged, MakesOneRun}
@@ -49,16 +48,16 @@ ordered (e ∷ es) up i j d under within =
 pub merged : (logs : List LogValue) (es : List Entry) → AreOfCentres logs → AreOfOneLine logs → All IsReplaying logs → IsPermutation (map written_of (all_entries logs)) (map written_of es)
     → IsInOrder (map entry_of es) → IsMerged logs es
 merged logs es centres one r once up =
-    let is : IsMerge (logs_by logs) (map entry_of es) = merges built one.0 (logs_by logs) (ends_by one.0 logs) (are_logs one.0 logs one.1 r) (map entry_of (all_entries logs)) (map entry_of es)
+    let is : IsMerge (logs_by logs) (map entry_of es) = merges one.0 (logs_by logs) (ends_by one.0 logs) (are_logs one.0 logs one.1 r) (map entry_of (all_entries logs)) (map entry_of es)
     (by_centre logs centres r) (moved (all_entries logs) es once) up in
     record { centres = centres; line = one; once = once; merge = is }
 
 pub one_run : (logs : List LogValue) (es : List Entry) → All IsReplaying logs → IsMerged logs es → MakesOneRun logs es
 one_run logs es r is line ok same legal =
-    let world : IsWorldRun built line (map entry_of es) (ends_by line logs) =
-    family built line (logs_by logs) (ends_by line logs) (are_logs line logs same r) legal (map entry_of es) is.merge in
+    let world : IsWorldRun line (map entry_of es) (ends_by line logs) =
+    family line (logs_by logs) (ends_by line logs) (are_logs line logs same r) legal (map entry_of es) is.merge in
     record {
       world = world;
-      line_centre = the_run built line ok (map happened (map entry_of es)) (map answered (map entry_of es)) world.last world.runs;
-      sound = run_sound built line ok (map happened (map entry_of es)) (map answered (map entry_of es)) world.last world.runs;
+      line_centre = the_run line ok (map happened (map entry_of es)) (map answered (map entry_of es)) world.last world.runs;
+      sound = run_sound line ok (map happened (map entry_of es)) (map answered (map entry_of es)) world.last world.runs;
     }

@@ -9,19 +9,18 @@ use Rattle.rbc_family.specs.Logs.{sent_to}
 use Rattle.rbc_family.proofs.Parts.{sent_replayed, sent_under}
 use Rattle.rbc_centre.specs.States.{line_of, number_of, state_of}
 use Rattle.rbc_centre.specs.Views.{frame_number}
-use Rattle.rbc_log.specs.Built.{built}
 use Rattle.rbc_log.specs.Entries.{entry_of}
 use Rattle.rbc_log.specs.Log.{LogValue, IsReplaying}
 
 pub sent_is : (l : LogValue) → IsReplaying l → (d : ℕ) → (state_of l.core).sent d ≡ sent_to d (map entry_of l.entries)
 unfolding beginning
-sent_is l r d = sent_replayed built (line_of l.core) (number_of l.core) d (beginning (line_of l.core) (number_of l.core)) (map entry_of l.entries) (state_of l.core) r
+sent_is l r d = sent_replayed (line_of l.core) (number_of l.core) d (beginning (line_of l.core) (number_of l.core)) (map entry_of l.entries) (state_of l.core) r
 
 -- a frame of the log stands under its number
 pub sent_number : (l : LogValue) → IsReplaying l → (d : ℕ) (f : Frame) → Contains (sent_to d (map entry_of l.entries)) f → frame_number (sent_to d (map entry_of l.entries)) f.number ≡ Some f
 sent_number l r d f there =
     let frames : List Frame = sent_to d (map entry_of l.entries) in
-    let it = sent_under built (line_of l.core) (number_of l.core) d (map entry_of l.entries) (state_of l.core) f r there in
+    let it = sent_under (line_of l.core) (number_of l.core) d (map entry_of l.entries) (state_of l.core) f r there in
     cond-false (f.number == 0) None (slice_get frames (f.number - 1)) (ne_eqb f.number 0 (λ (h : f.number ≡ 0). absurd (omega (arith, h, it.0))))
     ∙ subst (λ (xs : List Frame). slice_get xs (f.number - 1) ≡ Some f) (sent_is l r d) it.1
 

@@ -13,7 +13,6 @@ use Rattle.rbc_spec.specs.Centre.{Centre, beginning}
 use Rattle.rbc_family.specs.Logs.{LogEntry, Replays, AreLogs, entries_of}
 use Rattle.rbc_centre.specs.States.{line_of, number_of, state_of}
 use Rattle.rbc_centre.specs.Views.{event_of}
-use Rattle.rbc_log.specs.Built.{built}
 use Rattle.rbc_log.specs.Entries.{Written, entry_of, written_of}
 use Rattle.rbc_log.specs.Log.{LogValue, IsReplaying}
 use Rattle.rbc_log.specs.Merge.{AreOfCentres, AreOfLine, AreOfOneLine, log_of, logs_by, ends_by, all_entries}
@@ -21,7 +20,7 @@ use Rattle.rbc_log.specs.declared.entry.Entry.{Entry}
 
 -- ## Entries of one centre
 
-own : (line : Line) (c : ℕ) (k : Centre) (es : List LogEntry) (last : Centre) → Replays built line c k es last → All (λ (e : LogEntry). e.centre ≡ c) es
+own : (line : Line) (c : ℕ) (k : Centre) (es : List LogEntry) (last : Centre) → Replays line c k es last → All (λ (e : LogEntry). e.centre ≡ c) es
 own line c k [] last r = All-nil (λ (e : LogEntry). e.centre ≡ c)
 own line c k (e ∷ es) last r = All-cons (λ (f : LogEntry). f.centre ≡ c) e es r.1 (own line c r.0 es last r.3)
 
@@ -165,17 +164,17 @@ by_centre (l ∷ ls) apart r c =
     ]
 
 module _ (line : Line) where
-  replays_by : (logs : List LogValue) → AreOfLine line logs → All IsReplaying logs → (c : ℕ) → Replays built line c (beginning line c) (logs_by logs c) (ends_by line logs c)
+  replays_by : (logs : List LogValue) → AreOfLine line logs → All IsReplaying logs → (c : ℕ) → Replays line c (beginning line c) (logs_by logs c) (ends_by line logs c)
   replays_by [] same r c = refl
   replays_by (l ∷ ls) same r c =
       let here : line_of l.core ≡ line = All-head (λ (m : LogValue). line_of m.core ≡ line) l ls same in
       let mine : IsReplaying l = All-head IsReplaying l ls r in
       elim (eqb_tells (number_of l.core) c) [
-        | inl t ↦ subst (λ b. Replays built line c (beginning line c) (option_map_or (λ (m : LogValue). map entry_of m.entries) (if b then Some l else log_of c ls) [])
+        | inl t ↦ subst (λ b. Replays line c (beginning line c) (option_map_or (λ (m : LogValue). map entry_of m.entries) (if b then Some l else log_of c ls) [])
             (option_map_or (λ (m : LogValue). state_of m.core) (if b then Some l else log_of c ls) (beginning line c))) (sym t.0)
-            (subst (λ x. Replays built line x (beginning line x) (map entry_of l.entries) (state_of l.core)) t.1
-            (subst (λ x. Replays built x (number_of l.core) (beginning x (number_of l.core)) (map entry_of l.entries) (state_of l.core)) here mine))
-        | inr f ↦ subst (λ b. Replays built line c (beginning line c) (option_map_or (λ (m : LogValue). map entry_of m.entries) (if b then Some l else log_of c ls) [])
+            (subst (λ x. Replays line x (beginning line x) (map entry_of l.entries) (state_of l.core)) t.1
+            (subst (λ x. Replays x (number_of l.core) (beginning x (number_of l.core)) (map entry_of l.entries) (state_of l.core)) here mine))
+        | inr f ↦ subst (λ b. Replays line c (beginning line c) (option_map_or (λ (m : LogValue). map entry_of m.entries) (if b then Some l else log_of c ls) [])
             (option_map_or (λ (m : LogValue). state_of m.core) (if b then Some l else log_of c ls) (beginning line c))) (sym f.0)
             (replays_by ls (All-tail (λ (m : LogValue). line_of m.core ≡ line) l ls same) (All-tail IsReplaying l ls r) c)
       ]
@@ -193,7 +192,7 @@ module _ (line : Line) where
             ∙ no_other ls (All-tail (λ (m : LogValue). line_of m.core ≡ line) l ls same) c none
       ]
 
-  pub are_logs : (logs : List LogValue) → AreOfLine line logs → All IsReplaying logs → AreLogs built line (logs_by logs) (ends_by line logs)
+  pub are_logs : (logs : List LogValue) → AreOfLine line logs → All IsReplaying logs → AreLogs line (logs_by logs) (ends_by line logs)
   are_logs logs same r = record { replays = λ c is. replays_by logs same r c; no_other = no_other logs same }
 
 -- ## What is written tells what an entry says

@@ -1,4 +1,3 @@
-pub mod Built
 pub mod Entries
 pub mod Log
 pub mod Faults

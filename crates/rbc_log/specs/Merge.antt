@@ -9,7 +9,6 @@ use Rattle.rbc_spec.specs.ReadOff.{IsLineRun}
 use Rattle.rbc_spec.specs.Promises.{IsSound}
 use Rattle.rbc_family.specs.Logs.{LogEntry, IsLegal, IsMerge, IsWorldRun, happened, answered}
 use Rattle.rbc_centre.specs.States.{line_of, number_of, state_of}
-use Rattle.rbc_log.specs.Built.{built}
 use Rattle.rbc_log.specs.Entries.{entry_of, written_of}
 use Rattle.rbc_log.specs.Log.{LogValue}
 use Rattle.rbc_log.specs.declared.entry.Entry.{Entry}
@@ -59,7 +58,7 @@ pub record IsMerged (logs : List LogValue) (es : List Entry) : Type 0 where
 -- The entries are one run. The world answers their events as they have it, from its beginning, and each centre ends where its log does. That
 -- is a run of the one line centre, and the world is sound: no section and no right is lost or in two places
 pub record IsOneRun (line : Line) (es : List LogEntry) (ends : ℕ → Centre) : Type 0 where
-  pub world : IsWorldRun built line es ends
+  pub world : IsWorldRun line es ends
   pub line_centre : IsLineRun line (map happened es) (map answered es) world.last
   pub sound : IsSound line world.last
 

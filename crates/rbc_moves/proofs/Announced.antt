@@ -1,8 +1,7 @@
--- Where centres hand missions over, each act of a centre keeps that a mission without a handover has no section of the next centre.
+-- Each act of a centre keeps that a mission without a handover has no section of the next centre.
 use Rattle.std.proofs.Common.{◌≡◌, ◌==◌, ◌-◌, option_map, ℕ, ◌+◌, Bool, true, false, not, ◌&&◌, if◌then◌else◌, Option, Some, None, is_none, nat_lt, ◌≢◌, refl, sym, ap, ◌∙◌, subst, arith, eqb-true, ⊎_elim}
 use Rattle.std.specs.Option.{option_map_or}
 use Rattle.rbc_spec.specs.Maps.{has, put}
-use Rattle.rbc_spec.specs.Reach.{Whole}
 use Rattle.rbc_spec.specs.SectionRuns.{SectionRun, within, most_in_hand, behind, is_empty}
 use Rattle.rbc_spec.specs.Line.{Line, registrar, next_centre, is_home}
 use Rattle.rbc_spec.specs.Sections.{nid_rbc, is_on}
@@ -222,10 +221,10 @@ module _ (line : Line) (ok : IsLine line) (c : ℕ) where
           by_mission None none = absurd (let wrong : ◌≡◌ {A = Option Mission} None (Some n) = sym none ∙ put_there k.mission t (Some n) in cc)
           by_mission (Some x) is = by_due x (same_Some x n (sym is ∙ put_there k.mission t (Some n))) (is_due e x) refl
 
-      pub grant_all : All (grant Whole line c t m k).state
+      pub grant_all : All (grant line c t m k).state
       unfolding ◌>>◌
       grant_all = by_next (next_centre line c m.place.track) refl
         where
-          by_next : (o : Option ℕ) → next_centre line c m.place.track ≡ o → All (option_map_or (at_border Whole line c t) o rest j).state
+          by_next : (o : Option ℕ) → next_centre line c m.place.track ≡ o → All (option_map_or (at_border line c t) o rest j).state
           by_next None none = with_n (λ d unannounced next. absurd (let wrong : ◌≡◌ {A = Option ℕ} None (Some d) = sym none ∙ next in cc))
           by_next (Some e) next = (ask_if_keeps e).each (announce_if_due line t e j).state (announced_all e next)

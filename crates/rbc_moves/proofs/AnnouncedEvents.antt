@@ -2,7 +2,6 @@
 use Rattle.std.proofs.Common.{◌≡◌, ◌==◌, ℕ, ◌+◌, Bool, true, false, not, ◌&&◌, if◌then◌else◌, Option, Some, None, nat_lt, nat_le, ◌*◌, refl, sym, ap, ◌∙◌, subst, eqb-true}
 use Rattle.std.specs.Option.{option_map_or}
 use Rattle.rbc_spec.specs.Maps.{has, put}
-use Rattle.rbc_spec.specs.Reach.{Whole}
 use Rattle.rbc_spec.specs.SectionRuns.{SectionRun, part_from, all_of, within, no_run, behind, is_empty, part_before, joined}
 use Rattle.rbc_spec.specs.Line.{Line, section, end, registrar, next_centre, is_home}
 use Rattle.rbc_spec.specs.Sections.{is_on}
@@ -10,7 +9,7 @@ use Rattle.rbc_spec.specs.Place.{Place, Position, covered, fit_place, place_on}
 use Rattle.rbc_spec.specs.Frame.{Cancel}
 use Rattle.rbc_spec.specs.Centre.{Centre, Taken, Mission, Handing, Proposal, is_registrar_of, is_free, is_open, is_out_for}
 use Rattle.rbc_spec.specs.Acts.{Act, return_pool, set_mission, become, booked, returned, send, change_mission, part_at, rest, ◌>>◌, with_some, leave, cancel, close, yield_if_due}
-use Rattle.rbc_spec.specs.Rules.{cleared, clear, accept, restart, begin, start_here, start_waiting, start_elsewhere, start_new, start_mission, report_here, take_over, report, end_mission, cut, granted, reject}
+use Rattle.rbc_spec.specs.Rules.{cleared, clear, accept, restart, begin, start_here, start_waiting, start_new, start_mission, report_here, take_over, report, end_mission, cut, granted, reject}
 use Rattle.rbc_spec.specs.Links.{may_arrive, take_mission}
 use Rattle.rbc_spec.specs.Step.{taken}
 use Rattle.std.proofs.lemmas.Bool.{and_parts}
@@ -163,13 +162,13 @@ module _ (line : Line) (ok : IsLine line) (c : ℕ) where
     here place own = chosen line ok c (λ k. k.has_right t) ((booked is_open (Taken t) (covered line place) >> become (λ k. record k { has_right = put k.has_right t false })) >> begin line t place) (reject t)
         (both line ok c _ _ (both line ok c _ _ (record { each = λ k old. old }) (record { each = λ k old. old })) (begin_keeps line ok c t place own)) (record { each = λ k old. old })
 
-    pub start_all : (is_valid : Bool) (position : Position) (k : Centre) → ((m : Mission) → k.mission t ≡ Some m → IsHandAt line m.place m.hand) → Has k → Has (start_mission Whole line c t is_valid position k).state
+    pub start_all : (is_valid : Bool) (position : Position) (k : Centre) → ((m : Mission) → k.mission t ≡ Some m → IsHandAt line m.place m.hand) → Has k → Has (start_mission line c t is_valid position k).state
     unfolding ◌>>◌
     start_all is_valid position k hands old = by_place (fit_place line is_valid position) refl
       where
         fresh : (place : Place) (b : Bool) → all_of (is_free line c k) (covered line place) ≡ b
-            → Has (if b then (if is_registrar_of line c t then start_here line t place else start_elsewhere Whole line t place) k else reject t k).state
-        fresh place true free = (branch line ok c (is_registrar_of line c t) (start_here line t place) (start_elsewhere Whole line t place) (here place (own_covered place k free)) (waiting place)).each k old
+            → Has (if b then (if is_registrar_of line c t then start_here line t place else start_waiting line t place) k else reject t k).state
+        fresh place true free = (branch line ok c (is_registrar_of line c t) (start_here line t place) (start_waiting line t place) (here place (own_covered place k free)) (waiting place)).each k old
         fresh place false taken = old
 
         again : (place : Place) (m : Mission) → k.mission t ≡ Some m → IsHandAt line place (covered line place) → (b : Bool) → all_of (within m.hand) (covered line place) ≡ b
@@ -180,12 +179,12 @@ module _ (line : Line) (ok : IsLine line) (c : ℕ) where
         again place m at fits false out = old
 
         by_mission : (place : Place) → IsHandAt line place (covered line place) → (o : Option Mission) → k.mission t ≡ o
-            → Has (option_map_or (λ m. restart line t place m k) o (start_new Whole line c t place k)).state
+            → Has (option_map_or (λ m. restart line t place m k) o (start_new line c t place k)).state
         by_mission place fits None none = fresh place (all_of (is_free line c k) (covered line place)) refl
         by_mission place fits (Some m) at = again place m at fits (all_of (within m.hand) (covered line place)) refl
 
         by_place : (o : Option Place) → fit_place line is_valid position ≡ o
-            → Has (option_map_or (λ place. option_map_or (λ m. restart line t place m k) (k.mission t) (start_new Whole line c t place k)) o (reject t k)).state
+            → Has (option_map_or (λ place. option_map_or (λ m. restart line t place m k) (k.mission t) (start_new line c t place k)) o (reject t k)).state
         by_place None none = old
         by_place (Some place) is =
             let fit = fit_is line is_valid position place is in

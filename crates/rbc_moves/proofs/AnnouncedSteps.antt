@@ -2,7 +2,6 @@
 use Rattle.std.proofs.Common.{◌≡◌, ◌==◌, option_map, ℕ, Bool, true, false, not, ◌&&◌, if◌then◌else◌, Option, Some, None, is_none, is_some, nat_lt, nat_le, length, ◌*◌, refl, ap, ◌∙◌}
 use Rattle.std.specs.Option.{option_map_or}
 use Rattle.rbc_spec.specs.Maps.{has, put}
-use Rattle.rbc_spec.specs.Reach.{Whole, follows_rule}
 use Rattle.rbc_spec.specs.SectionRuns.{SectionRun, part_from, all_of, within, no_run, is_empty, part_before}
 use Rattle.rbc_spec.specs.Line.{Line, section, next_centre, is_home}
 use Rattle.rbc_spec.specs.Place.{Place, group_start, place_on}
@@ -41,17 +40,17 @@ module _ (line : Line) (ok : IsLine line) (c : ℕ) where
 
   -- ## Messages
 
-  answered_all : (m : TrainMessage) (body : TrainBody) (k : Centre) → Facts k → H k → H (answered Whole line c m body k).state
+  answered_all : (m : TrainMessage) (body : TrainBody) (k : Centre) → Facts k → H k → H (answered line c m body k).state
   unfolding ◌>>◌
   answered_all m (TrainData position) k facts old = (changes line ok c m.nid_engine (λ n. record n { has_data = true }) (λ n fits. fits)).each k old
   answered_all m (Request position) k facts old = by_mission (k.mission m.nid_engine) refl
     where
-      by_place : (n : Mission) → k.mission m.nid_engine ≡ Some n → (o : Option Place) → H (option_map_or (λ place. grant Whole line c m.nid_engine (record n { place = place })) o rest k).state
+      by_place : (n : Mission) → k.mission m.nid_engine ≡ Some n → (o : Option Place) → H (option_map_or (λ place. grant line c m.nid_engine (record n { place = place })) o rest k).state
       by_place n at None = old
       by_place n at (Some place) = grant_all line ok c m.nid_engine (record n { place = place }) k old
 
       by_mission : (o : Option Mission) → k.mission m.nid_engine ≡ o
-          → H (option_map_or (λ n. option_map_or (λ place. grant Whole line c m.nid_engine (record n { place = place })) (place_on line n.place.track position) rest k) o (rest k)).state
+          → H (option_map_or (λ n. option_map_or (λ place. grant line c m.nid_engine (record n { place = place })) (place_on line n.place.track position) rest k) o (rest k)).state
       by_mission None none = old
       by_mission (Some n) at = by_place n at (place_on line n.place.track position)
   answered_all m (Report position) k facts old = report_all line ok c m.nid_engine position k old
@@ -73,7 +72,7 @@ module _ (line : Line) (ok : IsLine line) (c : ℕ) where
   answered_all m SessionEstablished k facts old = old
 
   train_all : (m : TrainMessage) (k : Centre) → Facts k → H k → (o : Option Reason) → H (option_map_or {U = step.Effect} (λ why. record { reply = rest k; link = None; silence = Some why }) o
-      (record { reply = hear_and_answer Whole line c m k; link = None; silence = None })).reply.state
+      (record { reply = hear_and_answer line c m k; link = None; silence = None })).reply.state
   unfolding ◌>>◌
   train_all m k facts old (Some why) = old
   train_all m k facts old None = answered_all m m.body (hear m k).state facts old
@@ -178,13 +177,9 @@ module _ (line : Line) (ok : IsLine line) (c : ℕ) where
       by_place None old = old
       by_place (Some at) old = yield_all d number t heard hand has_data is_ended at k old
 
-  taken_all : (d : ℕ) (f : Frame) (answer : LinkAnswer) (k : Centre) → Facts k → H k → H (taken_by Whole line c d f answer k).state
+  taken_all : (d : ℕ) (f : Frame) (answer : LinkAnswer) (k : Centre) → Facts k → H k → H (taken_by line c d f answer k).state
   unfolding ◌>>◌
-  taken_all d f Next k facts old = by_rule (follows_rule Whole f.body)
-    where
-      by_rule : (b : Bool) → H ((if b then received line c d f.body else rest) (record k { taken = put k.taken d f.number })).state
-      by_rule true = received_all d f.body (record k { taken = put k.taken d f.number }) facts old
-      by_rule false = old
+  taken_all d f Next k facts old = received_all d f.body (record k { taken = put k.taken d f.number }) facts old
   taken_all d f Old k facts old = old
   taken_all d f Early k facts old = old
   taken_all d f NoLink k facts old = old
@@ -218,7 +213,7 @@ module _ (line : Line) (ok : IsLine line) (c : ℕ) where
   facts_of : (k : Centre) → IsCentreSound line c k → Facts k
   facts_of k sound = (λ t m at. (sound.mission t m at).hand, λ t m h at. (sound.mission t m at).handing_to h, sound.wait_home)
 
-  pub step_announces : (k : Centre) (event : Event) → IsCentreSound line c k → AnnouncesAll line c k → AnnouncesAll line c (left_by Whole line c k event)
+  pub step_announces : (k : Centre) (event : Event) → IsCentreSound line c k → AnnouncesAll line c k → AnnouncesAll line c (left_by line c k event)
   step_announces k (Train m) sound old = train_all m (step.ticked (stamp_of k (Train m)) k) (facts_of k sound) old (step.silence line c (step.ticked (stamp_of k (Train m)) k) m)
   step_announces k (Set s) sound old = set_keeps s (step.ticked (stamp_of k (Set s)) k) old
   step_announces k (Unset s) sound old = unset_keeps s (step.ticked (stamp_of k (Unset s)) k) old

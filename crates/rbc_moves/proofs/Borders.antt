@@ -7,7 +7,6 @@ use Rattle.rbc_ledger.proofs.Resource.{carried_none}
 use Rattle.rbc_lemmas.proofs.Puts.{itself, put_there}
 use Rattle.rbc_lemmas.proofs.Lists.{none_is}
 use Rattle.rbc_lemmas.proofs.Runs.{within_true, within_from, within_shared}
-use Rattle.rbc_spec.specs.Reach.{Reach, Whole, lends_routes, hands_over}
 use Rattle.rbc_spec.specs.SectionRuns.{SectionRun, most_in_hand, within, behind, is_empty}
 use Rattle.rbc_spec.specs.Line.{Line, IsLine, is_centre, is_home, start, next_centre}
 use Rattle.rbc_spec.specs.Sections.{nid_rbc, is_on, home_run}
@@ -37,7 +36,7 @@ use Rattle.rbc_tokens.proofs.Borders.{fair_announce_if, fair_ask_if}
 use Rattle.rbc_pairs.proofs.Messages.{goes_announce_if, goes_ask_if}
 use Rattle.rbc_moves.specs.Borders.{MayOrder, MayAnnounce}
 use Rattle.rbc_moves.proofs.Keeps.{act_sound}
-use Rattle.rbc_moves.proofs.Moves.{Moves, leading, moves_if, moves_or, leads_if_act, leads_or_act, rest_moves, unseen_moves, said_moves}
+use Rattle.rbc_moves.proofs.Moves.{Moves, leading, moves_if, moves_or, leads_or_act, rest_moves, unseen_moves, said_moves}
 use Rattle.rbc_moves.proofs.Unseen.{unseen_change, unseen_still}
 use Rattle.rbc_flow.proofs.Kept.{aside_sound}
 
@@ -82,7 +81,7 @@ module _ (line : Line) (ok : IsLine line) (w : Flow) (sound : IsFlowSound line w
 
   pub asks_leads : is_centre line d ≡ true → Leads line w c (ask_route_if_due line t d (w.at c)) v
   asks_leads there = leading line w c v (ask_route_if_due line t d (w.at c)) asks_moves
-      (act_sound line ok c Whole w sound to (ask_route_if_due line t d (w.at c)) (asks_sound there) (λ y counts ready. fair_ask_if line c y counts t d (w.at c)) (goes_ask_if Whole line t d (w.at c)))
+      (act_sound line ok c w sound to (ask_route_if_due line t d (w.at c)) (asks_sound there) (λ y counts ready. fair_ask_if line c y counts t d (w.at c)) (goes_ask_if line t d (w.at c)))
 
   -- ## The border
 
@@ -173,7 +172,7 @@ module _ (line : Line) (ok : IsLine line) (w : Flow) (sound : IsFlowSound line w
 
     pub announces_leads : Leads line w c (announce_if_due line t d (w.at c)) v
     announces_leads = leading line w c v (announce_if_due line t d (w.at c)) announces_moves
-        (act_sound line ok c Whole w sound to (announce_if_due line t d (w.at c)) announces_sound (λ y counts ready. fair_announce_if line c y counts t d (w.at c)) (goes_announce_if Whole line t d (w.at c) refl))
+        (act_sound line ok c w sound to (announce_if_due line t d (w.at c)) announces_sound (λ y counts ready. fair_announce_if line c y counts t d (w.at c)) (goes_announce_if line t d (w.at c)))
 
 -- ## Of the state that the centre is in
 
@@ -187,22 +186,20 @@ module _ (line : Line) (w : Flow) (c t d : ℕ) (k : Centre) (v : LineState) (ok
   pub announces_so : MayAnnounce line c t d k → Leads line w c (announce_if_due line t d k) v
   announces_so may = subst (λ x. Leads line w c (announce_if_due line t d x) v) is (announces_leads line ok w sound v sees c to t d (subst (MayAnnounce line c t d) (sym is) may))
 
-pub border_so : (reach : Reach) (line : Line) (w : Flow) (c t d : ℕ) (k : Centre) (v : LineState) → IsLine line → IsFlowSound line w → Shows line w v → is_centre line c ≡ true → w.at c ≡ k
-    → is_centre line d ≡ true → (hands_over reach ≡ true → MayAnnounce line c t d k) → Leads line w c (at_border reach line c t d k) v
-border_so reach line w c t d k v ok sound sees to is there may = leads_then line w c k v first (ask_route_if_due line t d) one
+pub border_so : (line : Line) (w : Flow) (c t d : ℕ) (k : Centre) (v : LineState) → IsLine line → IsFlowSound line w → Shows line w v → is_centre line c ≡ true → w.at c ≡ k
+    → is_centre line d ≡ true → MayAnnounce line c t d k → Leads line w c (at_border line c t d k) v
+border_so line w c t d k v ok sound sees to is there may = leads_then line w c k v first (ask_route_if_due line t d) one
     (asks_so line (replied w c (first k)) c t d (first k).state one.new ok one.sound one.shows to (put_there w.at c (first k).state) there)
   where
     first : Act
-    first = if hands_over reach then announce_if_due line t d else rest
+    first = announce_if_due line t d
 
     one : Leads line w c (first k) v
-    one = leads_if_act line w c v (hands_over reach) (announce_if_due line t d) rest k (λ hands. announces_so line w c t d k v ok sound sees to is (may hands)) (λ no. rest_so line w c t d k v ok sound sees to is)
+    one = announces_so line w c t d k v ok sound sees to is may
 
 -- behind an extension, on the track of the mission
-pub grants_so : (reach : Reach) (line : Line) (w : Flow) (c t track : ℕ) (k : Centre) (v : LineState) → IsLine line → IsFlowSound line w → Shows line w v → is_centre line c ≡ true → w.at c ≡ k
-    → ((d : ℕ) → next_centre line c track ≡ Some d → hands_over reach ≡ true → MayAnnounce line c t d k)
-    → Leads line w c ((if lends_routes reach then option_map_or (at_border reach line c t) (next_centre line c track) rest else rest) k) v
-grants_so reach line w c t track k v ok sound sees to is may = leads_if_act line w c v (lends_routes reach) (option_map_or (at_border reach line c t) (next_centre line c track) rest) rest k
-    (λ lends. leads_or_act line w c v (next_centre line c track) (at_border reach line c t) rest k
-    (λ d next. border_so reach line w c t d k v ok sound sees to is (next_is_centre line ok c d track next) (may d next)) (λ none. rest_so line w c t 0 k v ok sound sees to is))
-    (λ no. rest_so line w c t 0 k v ok sound sees to is)
+pub grants_so : (line : Line) (w : Flow) (c t track : ℕ) (k : Centre) (v : LineState) → IsLine line → IsFlowSound line w → Shows line w v → is_centre line c ≡ true → w.at c ≡ k
+    → ((d : ℕ) → next_centre line c track ≡ Some d → MayAnnounce line c t d k)
+    → Leads line w c (option_map_or (at_border line c t) (next_centre line c track) rest k) v
+grants_so line w c t track k v ok sound sees to is may = leads_or_act line w c v (next_centre line c track) (at_border line c t) rest k
+    (λ d next. border_so line w c t d k v ok sound sees to is (next_is_centre line ok c d track next) (may d next)) (λ none. rest_so line w c t 0 k v ok sound sees to is)

@@ -11,7 +11,6 @@ use Rattle.rbc_ledger.proofs.Places.{placed_parts}
 use Rattle.rbc_ledger.proofs.Resource.{carried_none}
 use Rattle.rbc_lemmas.proofs.Puts.{itself}
 use Rattle.rbc_spec.specs.Maps.{put}
-use Rattle.rbc_spec.specs.Reach.{Whole}
 use Rattle.rbc_spec.specs.Line.{Line, IsLine, is_centre, is_home}
 use Rattle.rbc_spec.specs.Sections.{nid_rbc}
 use Rattle.rbc_spec.specs.Message.{EndSession, unknown_group}
@@ -113,5 +112,5 @@ pub end_leads : (line : Line) (w : Flow) (c t : ℕ) (k : Centre) (v : LineState
     → k.mission t ≡ None → ((s : ℕ) → (is_home line c s && is_given_to t (v.mark s)) ≡ false) → Leads line w c (end_order line c t k) v
 end_leads line w c t k v ok sound sees to is none_here none_given = subst (λ x. Leads line w c (end_order line c t x) v) is
     (leading line w c v (end_order line c t (w.at c)) (end_moves line w sound v sees c t to (ap (λ (x : Centre). x.mission t) is ∙ none_here) none_given)
-    (act_sound line ok c Whole w sound to (end_order line c t (w.at c)) (ordered_end line ok c t (w.at c) (sound.centres c to))
-    (λ y counts ready. fair_end_order line c y counts t (w.at c)) (goes_end_order Whole line c t (w.at c))))
+    (act_sound line ok c w sound to (end_order line c t (w.at c)) (ordered_end line ok c t (w.at c) (sound.centres c to))
+    (λ y counts ready. fair_end_order line c y counts t (w.at c)) (goes_end_order line c t (w.at c))))

@@ -4,7 +4,6 @@ use Rattle.rbc_ledger.specs.Resource.{Resource}
 use Rattle.rbc_ledger.proofs.Resource.{carried_none}
 use Rattle.rbc_lemmas.proofs.Puts.{put_there, put_over}
 use Rattle.rbc_spec.specs.Maps.{put}
-use Rattle.rbc_spec.specs.Reach.{Reach, Whole}
 use Rattle.rbc_spec.specs.SectionRuns.{no_run}
 use Rattle.rbc_spec.specs.Line.{Line, IsLine, is_centre}
 use Rattle.rbc_spec.specs.Frame.{Body}
@@ -83,10 +82,10 @@ ends_sound line ok c t m k old = then_sound line c (return_pool line c t m) (cha
     (λ j same sound. changed_sound line c j sound t without (λ n at. refl) (λ n at. without_pool line ok c j n (sound.mission t n at))))
     (λ i same last. changed_sound line c i last t over (λ n there. refl) (λ n there. other_words line ok c i n n.has_data true None (last.mission t n there)))
 
-ends_goes : (reach : Reach) (line : Line) (c t : ℕ) (m : Mission) (k : Centre) → Goes reach k (ends line c t m k)
-ends_goes reach line c t m k = goes_then reach (return_pool line c t m) (change_mission t over) k
-    (goes_then reach (returned line c t m.place.track m.pool) (change_mission t without) k (goes_returned reach line c t m.place.track m.pool k) (goes_change reach t without _ (λ n. refl)))
-    (goes_change reach t over _ (λ n. refl))
+ends_goes : (line : Line) (c t : ℕ) (m : Mission) (k : Centre) → Goes k (ends line c t m k)
+ends_goes line c t m k = goes_then (return_pool line c t m) (change_mission t over) k
+    (goes_then (returned line c t m.place.track m.pool) (change_mission t without) k (goes_returned line c t m.place.track m.pool k) (goes_change t without _ (λ n. refl)))
+    (goes_change t over _ (λ n. refl))
 
 -- ## What is shown
 
@@ -118,8 +117,8 @@ unfolding ◌>>◌
 ended_so line w c t m k v ok sound sees to is at = subst (λ x. IsShownSo line w c (ends line c t m x) (ended t v)) is (record {
   silent = refl;
   shows = ends_shown line ok w sound v sees c to t m here;
-  sound = act_sound line ok c Whole w sound to (ends line c t m (w.at c)) (ends_sound line ok c t m (w.at c) (sound.centres c to))
-      (λ y counts ready. ends_fair line c y counts t m (w.at c) here ready) (ends_goes Whole line c t m (w.at c));
+  sound = act_sound line ok c w sound to (ends line c t m (w.at c)) (ends_sound line ok c t m (w.at c) (sound.centres c to))
+      (λ y counts ready. ends_fair line c y counts t m (w.at c) here ready) (ends_goes line c t m (w.at c));
 })
   where
     here : (w.at c).mission t ≡ Some m

@@ -2,7 +2,6 @@
 use Rattle.std.proofs.Common.{◌≡◌, ℕ, true, arith}
 use Rattle.rbc_ledger.specs.Network.{took, TakesHead}
 use Rattle.rbc_ledger.specs.Resource.{Resource, IsFair}
-use Rattle.rbc_spec.specs.Reach.{Reach}
 use Rattle.rbc_spec.specs.Line.{Line, IsLine, is_centre}
 use Rattle.rbc_spec.specs.Frame.{Body}
 use Rattle.rbc_spec.specs.Centre.{Centre}
@@ -41,20 +40,20 @@ module _ (line : Line) (ok : IsLine line) (c : ℕ) where
         as_fair k (came (lent_tally line c t s d).res) q (lent_tally line c t s d) is (makes (lent_tally line c t s d) is (lent_ready line (is_ordered line ok) c t s d (neighbours line ok) k sound));
   }
 
-  module _ (reach : Reach) (w : Flow) (sound : IsFlowSound line w) (to : is_centre line c ≡ true) (q : Reply) (leaves : LeavesSound line c q.state q.frames) where
+  module _ (w : Flow) (sound : IsFlowSound line w) (to : is_centre line c ≡ true) (q : Reply) (leaves : LeavesSound line c q.state q.frames) where
     -- by itself
-    pub act_keeps : IsFairAct line c (w.at c) nothing_came q.state q.frames → IsOrderly reach (w.at c) q.state q.frames → IsFlowSound line (replied w c q)
+    pub act_keeps : IsFairAct line c (w.at c) nothing_came q.state q.frames → IsOrderly (w.at c) q.state q.frames → IsFlowSound line (replied w c q)
     act_keeps fair orderly = acted_sound line w sound c to q.state q.frames leaves fair
-        (λ i j t at there. orderly_pairs reach w sound.counted c q.state q.frames orderly i j t (sound.pairs i j t at there))
+        (λ i j t at there. orderly_pairs w sound.counted c q.state q.frames orderly i j t (sound.pairs i j t at there))
 
-    pub act_sound : MakesNoMore (w.at c) nothing_came q → IsOrderly reach (w.at c) q.state q.frames → IsFlowSound line (replied w c q)
+    pub act_sound : MakesNoMore (w.at c) nothing_came q → IsOrderly (w.at c) q.state q.frames → IsFlowSound line (replied w c q)
     act_sound makes orderly = act_keeps (made_fair (w.at c) nothing_came q (sound.centres c to) makes) orderly
 
     -- at the head of a link
     module _ (a : ℕ) (f : Body) (from : is_centre line a ≡ true) (head : TakesHead w a c f) where
-      pub head_keeps : IsFairAct line c (w.at c) (came_with a c f) q.state q.frames → IsTakenWith reach a f (w.at c) q.state q.frames → IsFlowSound line (replied (took w a c) c q)
+      pub head_keeps : IsFairAct line c (w.at c) (came_with a c f) q.state q.frames → IsTakenWith a f (w.at c) q.state q.frames → IsFlowSound line (replied (took w a c) c q)
       head_keeps fair taken = delivered_sound line w sound c to q.state q.frames leaves a f head from fair
-          (λ i j t at there. taken_pairs reach w sound.counted a c f head q.state q.frames taken i j t (sound.pairs i j t at there))
+          (λ i j t at there. taken_pairs w sound.counted a c f head q.state q.frames taken i j t (sound.pairs i j t at there))
 
-      pub head_sound : MakesNoMore (w.at c) (came_with a c f) q → IsTakenWith reach a f (w.at c) q.state q.frames → IsFlowSound line (replied (took w a c) c q)
+      pub head_sound : MakesNoMore (w.at c) (came_with a c f) q → IsTakenWith a f (w.at c) q.state q.frames → IsFlowSound line (replied (took w a c) c q)
       head_sound makes taken = head_keeps (made_fair (w.at c) (came_with a c f) q (sound.centres c to) makes) taken

@@ -6,7 +6,6 @@ use Rattle.rbc_ledger.specs.Network.{acted, to_one}
 use Rattle.rbc_lemmas.proofs.Puts.{itself, put_there}
 use Rattle.rbc_lemmas.proofs.Runs.{within_none, within_shared}
 use Rattle.rbc_spec.specs.Maps.{put, put_pair}
-use Rattle.rbc_spec.specs.Reach.{Whole}
 use Rattle.rbc_spec.specs.SectionRuns.{within, is_empty}
 use Rattle.rbc_spec.specs.Line.{Line, IsLine, is_centre, is_home}
 use Rattle.rbc_spec.specs.Sections.{nid_rbc, is_on, home_run}
@@ -168,5 +167,5 @@ pub yields_so : (line : Line) (w : Flow) (c t : ℕ) (k : Centre) (v : LineState
     → Leads line w c (yield_if_due line c t k) v
 yields_so line w c t k v ok sound sees to is = subst (λ x. Leads line w c (yield_if_due line c t x) v) is
     (leading line w c v (yield_if_due line c t (w.at c)) (yields_moves line ok w sound v sees c to t)
-    (act_sound line ok c Whole w sound to (yield_if_due line c t (w.at c)) (yielded_if_due line ok c t (w.at c) (sound.centres c to))
-    (λ y counts ready. fair_yield_if line c y counts t (w.at c) ready) (goes_yield_if_due Whole line c t (w.at c))))
+    (act_sound line ok c w sound to (yield_if_due line c t (w.at c)) (yielded_if_due line ok c t (w.at c) (sound.centres c to))
+    (λ y counts ready. fair_yield_if line c y counts t (w.at c) ready) (goes_yield_if_due line c t (w.at c))))

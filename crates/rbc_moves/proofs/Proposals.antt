@@ -5,7 +5,6 @@ use Rattle.rbc_lemmas.proofs.Lists.{none_is}
 use Rattle.rbc_lemmas.proofs.Runs.{within_true}
 use Rattle.rbc_ledger.proofs.Resource.{carried_none}
 use Rattle.rbc_spec.specs.Maps.{put, put_pair}
-use Rattle.rbc_spec.specs.Reach.{Whole}
 use Rattle.rbc_spec.specs.SectionRuns.{within}
 use Rattle.rbc_spec.specs.Line.{Line, IsLine, is_centre, start}
 use Rattle.rbc_spec.specs.Place.{group_start, farthest, has_room}
@@ -119,5 +118,5 @@ pub propose_leads : (line : Line) (w : Flow) (c t s : ℕ) (k : Centre) (v : Lin
     → Leads line w c (propose_if_so line t s k) v
 propose_leads line w c t s k v ok sound sees to is = subst (λ x. Leads line w c (propose_if_so line t s x) v) is
     (leading line w c v (propose_if_so line t s (w.at c)) (propose_moves line w sound v sees c to t s)
-    (act_sound line ok c Whole w sound to (propose_if_so line t s (w.at c)) (propose_sound line ok c t s (w.at c) (sound.centres c to))
-    (λ y counts ready. fair_propose_if line c y counts t s (w.at c)) (goes_propose_if Whole line t s (w.at c))))
+    (act_sound line ok c w sound to (propose_if_so line t s (w.at c)) (propose_sound line ok c t s (w.at c) (sound.centres c to))
+    (λ y counts ready. fair_propose_if line c y counts t s (w.at c)) (goes_propose_if line t s (w.at c))))

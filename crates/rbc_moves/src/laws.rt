@@ -1,9 +1,8 @@
 //! Laws of the acts that follow a centre's own step.
 
-ghost use Rattle.std.specs.Prelude.{◌≡◌, ℕ, ◌&&◌, true, false, if◌then◌else◌, Some, None};
+ghost use Rattle.std.specs.Prelude.{◌≡◌, ℕ, ◌&&◌, true, false, Some, None};
 ghost use Rattle.std.specs.Option.{option_map_or};
 ghost use Rattle.rbc_ledger.specs.Network.{took, TakesHead};
-ghost use Rattle.rbc_spec.specs.Reach.{Reach, Whole, lends_routes, hands_over};
 ghost use Rattle.rbc_spec.specs.Line.{Line, IsLine, is_centre, is_home, next_centre};
 ghost use Rattle.rbc_spec.specs.Frame.{Body};
 ghost use Rattle.rbc_spec.specs.SectionRuns.{is_empty};
@@ -29,13 +28,13 @@ ghost use Rattle.rbc_moves.specs.Shown.{IsShownSo, ends};
 
 /// An act of a centre that leaves what is sound, is fair and orderly keeps all sound: by itself, and behind the next frame of a link.
 pub fn an_act_keeps_all_sound()
-    ensures by_itself { (reach : Reach) (line : Line) (w : Flow) (c : ℕ) (q : Reply) → IsLine line → IsFlowSound line w → is_centre line c ≡ true
+    ensures by_itself { (line : Line) (w : Flow) (c : ℕ) (q : Reply) → IsLine line → IsFlowSound line w → is_centre line c ≡ true
         → LeavesSound line c q.state q.frames → IsFairAct line c (w.at c) nothing_came q.state q.frames
-        → IsOrderly reach (w.at c) q.state q.frames → IsFlowSound line (replied w c q) }
-    ensures at_head { (reach : Reach) (line : Line) (w : Flow) (a c : ℕ) (f : Body) (q : Reply) → IsLine line → IsFlowSound line w
+        → IsOrderly (w.at c) q.state q.frames → IsFlowSound line (replied w c q) }
+    ensures at_head { (line : Line) (w : Flow) (a c : ℕ) (f : Body) (q : Reply) → IsLine line → IsFlowSound line w
         → is_centre line a ≡ true → is_centre line c ≡ true → TakesHead w a c f
         → LeavesSound line c q.state q.frames → IsFairAct line c (w.at c) (came_with a c f) q.state q.frames
-        → IsTakenWith reach a f (w.at c) q.state q.frames → IsFlowSound line (replied (took w a c) c q) }
+        → IsTakenWith a f (w.at c) q.state q.frames → IsFlowSound line (replied (took w a c) c q) }
 {}
 
 /// A request to shorten is made, where it may be, by a quiet step.
@@ -52,19 +51,19 @@ pub fn an_end_of_session_is_quiet()
 {}
 
 /// What follows an extension of a hand at the border. More sections are asked for, which is not seen; a train is told by a quiet step where
-/// the border is, where that may be said; and both together, at every reach.
+/// the border is, where that may be said; and both together.
 pub fn what_follows_at_a_border()
     ensures asks { (line : Line) (w : Flow) (c t d : ℕ) (k : Centre) (v : LineState) → IsLine line → IsFlowSound line w → Shows line w v
         → is_centre line c ≡ true → w.at c ≡ k → is_centre line d ≡ true → Leads line w c (ask_route_if_due line t d k) v }
     ensures announces { (line : Line) (w : Flow) (c t d : ℕ) (k : Centre) (v : LineState) → IsLine line → IsFlowSound line w → Shows line w v
         → is_centre line c ≡ true → w.at c ≡ k → MayAnnounce line c t d k → Leads line w c (announce_if_due line t d k) v }
-    ensures both { (reach : Reach) (line : Line) (w : Flow) (c t d : ℕ) (k : Centre) (v : LineState) → IsLine line → IsFlowSound line w → Shows line w v
-        → is_centre line c ≡ true → w.at c ≡ k → is_centre line d ≡ true → (hands_over reach ≡ true → MayAnnounce line c t d k)
-        → Leads line w c (at_border reach line c t d k) v }
-    ensures grants { (reach : Reach) (line : Line) (w : Flow) (c t track : ℕ) (k : Centre) (v : LineState) → IsLine line → IsFlowSound line w → Shows line w v
+    ensures both { (line : Line) (w : Flow) (c t d : ℕ) (k : Centre) (v : LineState) → IsLine line → IsFlowSound line w → Shows line w v
+        → is_centre line c ≡ true → w.at c ≡ k → is_centre line d ≡ true → MayAnnounce line c t d k
+        → Leads line w c (at_border line c t d k) v }
+    ensures grants { (line : Line) (w : Flow) (c t track : ℕ) (k : Centre) (v : LineState) → IsLine line → IsFlowSound line w → Shows line w v
         → is_centre line c ≡ true → w.at c ≡ k
-        → ((d : ℕ) → next_centre line c track ≡ Some d → hands_over reach ≡ true → MayAnnounce line c t d k)
-        → Leads line w c ((if lends_routes reach then option_map_or (at_border reach line c t) (next_centre line c track) rest else rest) k) v }
+        → ((d : ℕ) → next_centre line c track ≡ Some d → MayAnnounce line c t d k)
+        → Leads line w c (option_map_or (at_border line c t) (next_centre line c track) rest k) v }
 {}
 
 /// A handover that is claimed is yielded, where no third centre's section is in the hand: the supervision is laid down by a quiet step, and
@@ -97,10 +96,10 @@ pub fn an_ended_mission_is_shown()
         → IsShownSo line w c (ends line c t m k) (ended t v) }
 {}
 
-/// Where centres hand missions over, a mission that announced no handover has no section of the next centre in its hand: so it is at the
+/// A mission that announced no handover has no section of the next centre in its hand: so it is at the
 /// beginning, and behind each step of a sound centre.
 pub fn a_centre_announces_all()
     ensures begins { (line : Line) (c : ℕ) → IsLine line → AnnouncesAll line c (beginning line c) }
     ensures step { (line : Line) (c : ℕ) (k : Centre) (event : Event) → IsLine line → IsCentreSound line c k → AnnouncesAll line c k
-        → AnnouncesAll line c (left_by Whole line c k event) }
+        → AnnouncesAll line c (left_by line c k event) }
 {}

@@ -5,7 +5,6 @@ use Rattle.std.specs.List.Sorted.{IsPermutation, IsNonDecreasingBy}
 use Rattle.rbc_spec.specs.Line.{Line, IsLine}
 use Rattle.rbc_family.specs.Logs.{AreLogs, IsLegal}
 use Rattle.rbc_centre.specs.States.{number_of}
-use Rattle.rbc_log.specs.Built.{built}
 use Rattle.rbc_log.specs.Log.{LogValue, IsReplaying}
 use Rattle.rbc_log.specs.Merge.{AreOfLine, logs_by, ends_by}
 use Rattle.rbc_log.specs.declared.entry.Entry.{Entry}
@@ -71,7 +70,7 @@ pub record AreShared (logs : List LogValue) (shares : List ShareValue) : Type 0 
 -- Of this line: one log for each centre, each replays, and each frame that was delivered stands in its sender's log
 pub record IsFamilyOf (line : Line) (logs : List LogValue) : Type 0 where
   pub centres : AreCentresOf line logs
-  pub replay : AreLogs built line (logs_by logs) (ends_by line logs)
+  pub replay : AreLogs line (logs_by logs) (ends_by line logs)
   pub legal : IsLegal (logs_by logs)
 
 abbrev pub IsFamily : List LogValue → Type 0

@@ -10,7 +10,6 @@ use Rattle.rbc_ledger.proofs.Sums.{one_if_some, one_if_true, sum_only, link_le_l
 use Rattle.rbc_ledger.proofs.Network.{each_at}
 use Rattle.rbc_ledger.proofs.Places.{inside_le_carried, carried_some, held_le_placed, placed_parts, one_place}
 use Rattle.rbc_spec.specs.Maps.{has}
-use Rattle.rbc_spec.specs.Reach.{Reach}
 use Rattle.rbc_spec.specs.SectionRuns.{within}
 use Rattle.rbc_spec.specs.Line.{Line, IsLine, Section, section, is_home, is_centre}
 use Rattle.rbc_spec.specs.Place.{Place, covered}
@@ -78,7 +77,7 @@ none_there : (b h : Bool) → (b ≡ true → h ≡ true) → h ≡ false → on
 none_there true h is away = absurd (let wrong : true ≡ false = sym (is refl) ∙ away in cc)
 none_there false h is away = refl
 
-module _ (reach : Reach) (line : Line) (ok : IsLine line) (w : World) (sound : IsFlowSound line (flow_of w)) (asked : IsAsked reach line (flow_of w)) (whole : LosesNothing line (flow_of w))
+module _ (line : Line) (ok : IsLine line) (w : World) (sound : IsFlowSound line (flow_of w)) (asked : IsAsked line (flow_of w)) (whole : LosesNothing line (flow_of w))
     (c s : ℕ) (home : is_home line c s ≡ true) where
   to : is_centre line c ≡ true
   to = by_section (section line s) refl home
@@ -146,7 +145,7 @@ module _ (reach : Reach) (line : Line) (ok : IsLine line) (w : World) (sound : I
 
     -- a frame that has it goes from home to there, or back
     carried_there : (a b : ℕ) → a < centre_count line → b < centre_count line → (k : ℕ) (f : Body) → slice_get (way (flow_of w) a b) k ≡ Some f → 0 < token_inside t s f → Between a b
-    carried_there a b from at k f there some = by_body f (each_at (IsBodySound line) (flow_of w) a b k f there sound.bodies) (each_at (IsBodyAsked reach line) (flow_of w) a b k f there asked.bodies) some named
+    carried_there a b from at k f there some = by_body f (each_at (IsBodySound line) (flow_of w) a b k f there sound.bodies) (each_at (IsBodyAsked line) (flow_of w) a b k f there asked.bodies) some named
       where
         named : (e : ℕ) → (lent line t s e).inside a b f ≤ placed (lent line t s e) (centre_count line) (flow_of w)
         named e = omega (
@@ -156,12 +155,12 @@ module _ (reach : Reach) (line : Line) (ok : IsLine line) (w : World) (sound : I
           placed_parts (lent line t s e) (centre_count line) (flow_of w),
         )
 
-        by_body : (g : Body) → IsBodySound line a b g → IsBodyAsked reach line a b g → 0 < token_inside t s g
+        by_body : (g : Body) → IsBodySound line a b g → IsBodyAsked line a b g → 0 < token_inside t s g
             → ((e : ℕ) → (lent line t s e).inside a b g ≤ placed (lent line t s e) (centre_count line) (flow_of w)) → Between a b
         by_body (RouteInfo u r) so asks has_it name =
             let both = and_parts (u == t) (within r s) (one_if_some ((u == t) && within r s) has_it) in
             inl (
-              one_home line a c s (each_within (is_home line a) r asks.4 s both.1) home,
+              one_home line a c s (each_within (is_home line a) r asks.3 s both.1) home,
               out_at b (omega (arith, name b, one_if_true (((u == t) && within r s) && (b == b)) (and_from ((u == t) && within r s) (b == b) (and_from (u == t) (within r s) both.0 both.1) (itself b)))),
             )
         by_body (RouteReturn u r) so asks has_it name =
@@ -218,12 +217,12 @@ module _ (reach : Reach) (line : Line) (ok : IsLine line) (w : World) (sound : I
 
 -- ## A world that events led to
 
-module _ (reach : Reach) (line : Line) (ok : IsLine line) (events : List Event) (answers : List Answer) (w : World) (is : world_run reach line (new_world line) events ≡ Ok (answers, w)) where
-  reached : IsReachedSo reach line w
-  reached = each_reached reach line ok events answers w is
+module _ (line : Line) (ok : IsLine line) (events : List Event) (answers : List Answer) (w : World) (is : world_run line (new_world line) events ≡ Ok (answers, w)) where
+  reached : IsReachedSo line w
+  reached = each_reached line ok events answers w is
 
   pub in_one_place : HasOnePlace line w
-  in_one_place = has_one_place line ok w reached.sound.flow (never_lost reach line ok events answers w is)
+  in_one_place = has_one_place line ok w reached.sound.flow (never_lost line ok events answers w is)
 
   pub where_home_has_it : (c s : ℕ) → is_home line c s ≡ true → IsWhereHomeHasIt line w c s
-  where_home_has_it c s home = record { found = found_as reach line ok w reached.sound.flow reached.asked (never_lost reach line ok events answers w is) c s home ((w.at c).book s) refl }
+  where_home_has_it c s home = record { found = found_as line ok w reached.sound.flow reached.asked (never_lost line ok events answers w is) c s home ((w.at c).book s) refl }

@@ -1,4 +1,4 @@
-//! Laws of what is in one place, at every reach: each section in use, each right and each mission; and where a section in use is. The functions do
+//! Laws of what is in one place: each section in use, each right and each mission; and where a section in use is. The functions do
 //! nothing: each contract is a law of the definitions.
 #![tactic(auto)]
 

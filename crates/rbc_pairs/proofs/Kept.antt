@@ -7,7 +7,6 @@ use Rattle.rbc_ledger.specs.Chain.{Chain}
 use Rattle.rbc_ledger.proofs.Sums.{put_same, put_other, cases_link}
 use Rattle.rbc_ledger.proofs.Network.{way_acted, way_acted_other, way_acted_none, way_took_other}
 use Rattle.rbc_ledger.proofs.Chain.{chain_took, chain_took_other, chain_acted, chain_acted_other}
-use Rattle.rbc_spec.specs.Reach.{Reach}
 use Rattle.rbc_spec.specs.Frame.{Body}
 use Rattle.rbc_spec.specs.Centre.{Centre}
 use Rattle.rbc_flow.specs.Flow.{Flow}
@@ -17,7 +16,7 @@ use Rattle.rbc_pairs.specs.Orderly.{number_expected, number_announced, waiting, 
 
 -- ## An act
 
-module _ (reach : Reach) (u : Flow) (counted : IsCounted u) (c : ℕ) (y : Centre) (frames : ℕ → List Body) (is : IsOrderly reach (u.at c) y frames) where
+module _ (u : Flow) (counted : IsCounted u) (c : ℕ) (y : Centre) (frames : ℕ → List Body) (is : IsOrderly (u.at c) y frames) where
   abbrev new : Flow
   new = acted u c y frames
 

@@ -1,8 +1,8 @@
 -- Orderly acts one after another, and the smallest of them.
-use Rattle.std.proofs.Common.{◌≡◌, ◌≢◌, ◌⊎◌, ℕ, ◌+◌, ◌<◌, ◌≤◌, ◌==◌, ◌&&◌, ◌||◌, Bool, true, false, if◌then◌else◌, List, [], ◌∷◌, Option, Some, None, option_map, is_some, refl, sym, ap, ◌∙◌, subst, inl, inr, arith, ⊎_elim, All}
+use Rattle.std.proofs.Common.{◌≡◌, ◌≢◌, ◌⊎◌, ℕ, ◌+◌, ◌<◌, ◌≤◌, ◌==◌, ◌||◌, Bool, true, false, if◌then◌else◌, List, [], ◌∷◌, Option, Some, None, option_map, refl, sym, ap, ◌∙◌, subst, inl, inr, arith, ⊎_elim, All}
 use Rattle.std.specs.Option.{option_map_or}
 use Rattle.std.proofs.lemmas.Bool.{cases_eq}
-use Rattle.std.proofs.lemmas.List.Elements.{All-nil, All-cons, All-append, All-weaker}
+use Rattle.std.proofs.lemmas.List.Elements.{All-nil, All-cons, All-weaker}
 use Rattle.rbc_ledger.specs.Sums.{one_if}
 use Rattle.rbc_ledger.specs.Network.{to_one}
 use Rattle.rbc_ledger.specs.Chain.{Chain}
@@ -10,42 +10,25 @@ use Rattle.rbc_ledger.proofs.Sums.{put_same, put_other, one_if_le_one}
 use Rattle.rbc_ledger.proofs.Network.{to_one_same, to_one_other}
 use Rattle.rbc_ledger.proofs.Chain.{chain_none, chain_one, chain_sent, chain_still}
 use Rattle.rbc_spec.specs.Maps.{put}
-use Rattle.rbc_spec.specs.Reach.{Reach, hands_over}
 use Rattle.rbc_spec.specs.SectionRuns.{SectionRun, is_empty, shared}
 use Rattle.rbc_spec.specs.Line.{Line}
 use Rattle.rbc_spec.specs.Sections.{home_run}
 use Rattle.rbc_spec.specs.Message.{TrackBody}
-use Rattle.rbc_spec.specs.Frame.{Body, AskRight, GiveRight, RefuseRight, ReturnRight, RouteAsk, RouteInfo, RouteWithdraw, RouteReturn, Announce, Cancel, TakingOver, Yield}
+use Rattle.rbc_spec.specs.Frame.{Body, RouteReturn}
 use Rattle.rbc_spec.specs.Centre.{Centre, Mission, Handing, Expectation}
 use Rattle.rbc_spec.specs.Acts.{Act, Reply, rest, ◌>>◌, send, say, returned, set_mission, change_mission}
-use Rattle.rbc_lemmas.proofs.Puts.{itself}
 use Rattle.rbc_flow.specs.Pairs.{follows, handing_to, count_if, announces, takes_over, yields}
 use Rattle.rbc_flow.specs.Keeping.{IsNeutral, IsApart}
 use Rattle.rbc_flow.proofs.Kept.{count_append, count_none}
-use Rattle.rbc_pairs.specs.Orderly.{number_expected, number_announced, waiting, claimed_as, is_of_handing, IsHandedWithin, HandsWithin, IsOrderly}
+use Rattle.rbc_pairs.specs.Orderly.{number_expected, number_announced, waiting, claimed_as, IsOrderly}
 
--- a body without a part in a handover is of none
-neutral_of_none : (f : Body) → IsNeutral f → is_of_handing f ≡ false
-neutral_of_none (AskRight t) is = refl
-neutral_of_none (GiveRight t) is = refl
-neutral_of_none (RefuseRight t) is = refl
-neutral_of_none (ReturnRight t) is = refl
-neutral_of_none (RouteAsk t first most) is = refl
-neutral_of_none (RouteInfo t r) is = refl
-neutral_of_none (RouteWithdraw t s) is = refl
-neutral_of_none (RouteReturn t r) is = refl
-neutral_of_none (Announce h t track) is = absurd (let wrong : true ≡ false = sym (ap (λ b. b && (h == h)) (itself t) ∙ itself h) ∙ is.announces t h in cc)
-neutral_of_none (Cancel h t) is = absurd (let wrong : ◌≡◌ {A = Option (Option ℕ)} None (Some None) = sym (ap (λ b. if b then None else Some None) (itself t)) ∙ is.follows t None in cc)
-neutral_of_none (TakingOver h t) is = refl
-neutral_of_none (Yield h t heard has_data is_ended place hand) is = absurd (let wrong : true ≡ false = sym (ap (λ b. b && (h == h)) (itself t) ∙ itself h) ∙ is.yields t h in cc)
-
-module _ (reach : Reach) where
+module _ where
   abbrev pub Goes : Centre → Reply → Type 0
-  Goes k q = IsOrderly reach k q.state q.frames
+  Goes k q = IsOrderly k q.state q.frames
 
   -- ## Without a part in a handover
 
-  pub apart : (k y : Centre) (frames : ℕ → List Body) → IsApart k y → ((d : ℕ) → All IsNeutral (frames d)) → IsOrderly reach k y frames
+  pub apart : (k y : Centre) (frames : ℕ → List Body) → IsApart k y → ((d : ℕ) → All IsNeutral (frames d)) → IsOrderly k y frames
   apart k y frames is sends = record {
     leads = λ d t. subst (λ o. Chain (follows t) (frames d) (number_announced (handing_to d (k.mission t))) (number_announced o)) (sym (is.handing d t))
         (chain_still (follows t) (frames d) (number_announced (handing_to d (k.mission t)))
@@ -55,12 +38,10 @@ module _ (reach : Reach) where
     claimed = λ d t h. omega (arith, ap (claimed_as h) (is.handing d t), count_none (yields t h) (frames d) (All-weaker IsNeutral (λ f. yields t h f ≡ false) (λ f none. none.yields t h) (frames d) (sends d)));
     anew = λ d t h. inl (count_none (announces t h) (frames d) (All-weaker IsNeutral (λ f. announces t h f ≡ false) (λ f none. none.announces t h) (frames d) (sends d)));
     takes = λ a t h. omega (arith, ap (waiting h) (is.expects a t), count_none (takes_over t h) (frames a) (All-weaker IsNeutral (λ f. takes_over t h f ≡ false) (λ f none. none.takes_over t h) (frames a) (sends a)));
-    within = λ old d t some. old d t (ap is_some (sym (is.handing d t)) ∙ some);
-    bodies = λ old d. All-weaker IsNeutral (IsHandedWithin reach) (λ f none of. absurd (let wrong : false ≡ true = sym (neutral_of_none f none) ∙ of in cc)) (frames d) (sends d);
   }
 
   -- what a centre has announced and expects stays, and it sends nothing
-  pub still : (k y : Centre) → y.expects ≡ k.expects → y.announced ≡ k.announced → y.mission ≡ k.mission → IsOrderly reach k y (λ d. [])
+  pub still : (k y : Centre) → y.expects ≡ k.expects → y.announced ≡ k.announced → y.mission ≡ k.mission → IsOrderly k y (λ d. [])
   still k y expects announced mission = apart k y (λ d. [])
       (record { expects = λ a t. ap (λ (f : ℕ → ℕ → Option Expectation). f a t) expects; announced = announced; handing = λ b t. ap (λ (f : ℕ → Option Mission). handing_to b (f t)) mission })
       (λ d. All-nil IsNeutral)
@@ -131,8 +112,6 @@ module _ (reach : Reach) where
         (two.anew d t h))
         (one.anew d t h);
     takes = λ i t h. omega (arith, one.takes i t h, two.takes i t h, count_append (takes_over t h) (fs i) (gs i));
-    within = λ old. two.within (one.within old);
-    bodies = λ old d. All-append (IsHandedWithin reach) (fs d) (gs d) (one.bodies old d) (two.bodies (one.within old) d);
   }
     where
       fs : ℕ → List Body
@@ -172,9 +151,8 @@ module _ (reach : Reach) where
     pub announced : k.announced ≤ y.announced
     pub anew : (h : ℕ) → (announces t h body ≡ false) ⊎ ((k.announced < h) × (h ≤ y.announced))
     pub expects : y.expects ≡ k.expects
-    pub hands : HandsWithin reach k → hands_over reach ≡ true
 
-  pub goes_sent : (d t : ℕ) (body : Body) (k y : Centre) (frames : ℕ → List Body) → IsSent d t body k y → ((e : ℕ) → frames e ≡ to_one d (body ∷ []) e) → IsOrderly reach k y frames
+  pub goes_sent : (d t : ℕ) (body : Body) (k y : Centre) (frames : ℕ → List Body) → IsSent d t body k y → ((e : ℕ) → frames e ≡ to_one d (body ∷ []) e) → IsOrderly k y frames
   goes_sent d t body k y frames is same = record {
     leads = λ e u. by_link e u (λ v f x z. Chain (follows v) f (number_announced x) (number_announced z)) (chain_one (follows t) body _ _ is.leads)
         (λ other. subst (λ (o : Option Mission). Chain (follows u) (body ∷ []) (number_announced (handing_to d (k.mission u))) (number_announced (handing_to d o))) (sym (is.other_train u other))
@@ -192,8 +170,6 @@ module _ (reach : Reach) where
         (λ away. inl refl);
     takes = λ e u h. by_link e u (λ v f x z. waiting h (y.expects e u) + count_if (takes_over u h) f ≤ waiting h (k.expects e u)) (one_body e u h) (λ other. one_body e u h)
         (λ away. omega (arith, ap (λ (f : ℕ → ℕ → Option Expectation). waiting h (f e u)) is.expects));
-    within = λ old e u some. is.hands old;
-    bodies = λ old e. subst (All (IsHandedWithin reach)) (sym (same e)) (by_one (e == d) (is.hands old));
   }
     where
       elsewhere : (e u : ℕ) → e ≢ d → handing_to e (y.mission u) ≡ handing_to e (k.mission u)
@@ -214,7 +190,3 @@ module _ (reach : Reach) where
 
       one_body : (e u h : ℕ) → waiting h (y.expects e u) + count_if (takes_over u h) (body ∷ []) ≤ waiting h (k.expects e u)
       one_body e u h = omega (arith, ap (λ (f : ℕ → ℕ → Option Expectation). waiting h (f e u)) is.expects, ap one_if (is.takes_none u h))
-
-      by_one : (b : Bool) → hands_over reach ≡ true → All (IsHandedWithin reach) (if b then body ∷ [] else [])
-      by_one true hands = All-cons (IsHandedWithin reach) body [] (λ of. hands) (All-nil (IsHandedWithin reach))
-      by_one false hands = All-nil (IsHandedWithin reach)

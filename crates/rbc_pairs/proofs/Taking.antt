@@ -8,7 +8,6 @@ use Rattle.rbc_ledger.specs.Sums.{one_if}
 use Rattle.rbc_ledger.proofs.Chain.{chain_still}
 use Rattle.rbc_ledger.proofs.Sums.{put_same, put_other}
 use Rattle.rbc_spec.specs.Maps.{put, put_pair, has}
-use Rattle.rbc_spec.specs.Reach.{Reach}
 use Rattle.rbc_spec.specs.Line.{Line, is_centre}
 use Rattle.rbc_spec.specs.Frame.{Body, TakingOver}
 use Rattle.rbc_spec.specs.Centre.{Centre, Mission, Handing, Expectation}
@@ -17,12 +16,12 @@ use Rattle.rbc_spec.specs.Rules.{taking, take_over}
 use Rattle.rbc_spec.specs.Links.{claimed}
 use Rattle.rbc_lemmas.proofs.Puts.{itself, put_pair_there}
 use Rattle.rbc_flow.specs.Pairs.{follows, handing_to, count_if, announces, takes_over, yields}
-use Rattle.rbc_pairs.specs.Orderly.{number_expected, number_announced, waiting, claimed_as, IsHandedWithin, IsTaking}
+use Rattle.rbc_pairs.specs.Orderly.{number_expected, number_announced, waiting, claimed_as, IsTaking}
 use Rattle.rbc_pairs.proofs.Orderly.{Goes}
 
 -- ## It takes over
 
-module _ (reach : Reach) (line : Line) (t : ℕ) (k : Centre) where
+module _ (line : Line) (t : ℕ) (k : Centre) where
   abbrev is_new : ℕ → Bool
   is_new d = is_centre line d && has (λ e. not e.is_taking) (k.expects d t)
 
@@ -83,7 +82,7 @@ module _ (reach : Reach) (line : Line) (t : ℕ) (k : Centre) where
       by_one None is = omega arith
       by_one (Some e) is = omega (arith, by_tests (e.number == h) e.is_taking (t == t) is (itself t))
 
-  pub goes_take_over : Goes reach k (take_over line t k)
+  pub goes_take_over : Goes k (take_over line t k)
   goes_take_over = record {
     leads = λ d u. chain_still (follows u) (sent (is_new d) (k.expects d t)) (number_announced (handing_to d (k.mission u)))
         (sent_all (λ f. follows u f (number_announced (handing_to d (k.mission u))) ≡ Some (number_announced (handing_to d (k.mission u)))) (λ n. refl) (is_new d) (k.expects d t));
@@ -92,8 +91,6 @@ module _ (reach : Reach) (line : Line) (t : ℕ) (k : Centre) where
     claimed = λ d u h. omega (arith, sent_none (yields u h) (λ n. refl) (is_new d) (k.expects d t));
     anew = λ d u h. inl (sent_none (announces u h) (λ n. refl) (is_new d) (k.expects d t));
     takes = λ a u h. waits_less (is_new a) (k.expects a) u h (λ new. (and_parts (is_centre line a) (has (λ e. not e.is_taking) (k.expects a t)) new).1);
-    within = λ old. old;
-    bodies = λ old d. sent_all (IsHandedWithin reach) (λ n of. cc) (is_new d) (k.expects d t);
   }
 
 -- ## It expects a train from a as frame f says

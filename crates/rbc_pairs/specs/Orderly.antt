@@ -1,13 +1,10 @@
 -- What an act of a centre does to handovers: those that it announces, those that it expects, and the frames between.
-use Rattle.std.specs.Prelude.{◌≡◌, ◌≢◌, ◌⊎◌, ℕ, ◌+◌, ◌==◌, ◌<◌, ◌≤◌, Bool, true, false, ◌&&◌, not, List, All, Option, Some, option_map, is_some}
+use Rattle.std.specs.Prelude.{◌≡◌, ◌≢◌, ◌⊎◌, ℕ, ◌+◌, ◌==◌, ◌<◌, ◌≤◌, ◌&&◌, not, List, Option, Some, option_map}
 use Rattle.rbc_ledger.specs.Sums.{one_if}
-use Rattle.rbc_ledger.specs.Network.{EachOnTheWay}
 use Rattle.rbc_ledger.specs.Chain.{Chain}
 use Rattle.rbc_spec.specs.Maps.{has}
-use Rattle.rbc_spec.specs.Reach.{Reach, hands_over}
-use Rattle.rbc_spec.specs.Frame.{Body, Announce, Cancel, Yield}
+use Rattle.rbc_spec.specs.Frame.{Body}
 use Rattle.rbc_spec.specs.Centre.{Centre, Handing, Expectation}
-use Rattle.rbc_flow.specs.Flow.{Flow}
 use Rattle.rbc_flow.specs.Pairs.{follows, handing_to, count_if, announces, takes_over, yields}
 
 -- the number of a handover that is expected, and of one that is announced
@@ -25,30 +22,8 @@ waiting h e = one_if (has (λ x. (x.number == h) && not x.is_taking) e)
 abbrev pub claimed_as : ℕ → Option Handing → ℕ
 claimed_as h o = one_if (has (λ x. (x.number == h) && x.is_claimed) o)
 
--- ## As far as a reach
-
--- a body that hands a mission over, or says that one will be or will not be
-abbrev pub is_of_handing : Body → Bool
-is_of_handing (Announce number t track) = true
-is_of_handing (Cancel number t) = true
-is_of_handing (Yield number t heard has_data is_ended place hand) = true
-is_of_handing body = false
-
-abbrev pub IsHandedWithin : Reach → Body → Type 0
-IsHandedWithin reach body = is_of_handing body ≡ true → hands_over reach ≡ true
-
-abbrev pub HandsWithin : Reach → Centre → Type 0
-HandsWithin reach k = (d t : ℕ) → is_some (handing_to d (k.mission t)) ≡ true → hands_over reach ≡ true
-
--- where centres hand no mission over, none has announced a handover, and nothing of one is on the way
-pub record IsHandingWithin (reach : Reach) (w : Flow) : Type 0 where
-  pub centres : (c : ℕ) → HandsWithin reach (w.at c)
-  pub bodies : EachOnTheWay (λ a b f. IsHandedWithin reach f) w
-
--- ## In order
-
 -- an act of a centre, which was k, leaves it as y and sends these frames
-pub record IsOrderly (reach : Reach) (k y : Centre) (frames : ℕ → List Body) : Type 0 where
+pub record IsOrderly (k y : Centre) (frames : ℕ → List Body) : Type 0 where
   -- what it sends about a train leads from the handover that was announced to the one that is
   pub leads : (d t : ℕ) → Chain (follows t) (frames d) (number_announced (handing_to d (k.mission t))) (number_announced (handing_to d (y.mission t)))
   -- it expects each train as before
@@ -61,8 +36,6 @@ pub record IsOrderly (reach : Reach) (k y : Centre) (frames : ℕ → List Body)
       ⊎ ((k.announced < h) × (h ≤ y.announced) × (count_if (announces t h) (frames d) ≤ 1))
   -- it says that it takes over where it has waited, and waits no longer
   pub takes : (a t h : ℕ) → waiting h (y.expects a t) + count_if (takes_over t h) (frames a) ≤ waiting h (k.expects a t)
-  pub within : HandsWithin reach k → HandsWithin reach y
-  pub bodies : HandsWithin reach k → (d : ℕ) → All (IsHandedWithin reach) (frames d)
 
 -- centre k becomes y by frame f from a, which is the next of its link
 pub record IsTaking (a : ℕ) (f : Body) (k y : Centre) : Type 0 where
@@ -77,7 +50,7 @@ pub record IsTaking (a : ℕ) (f : Body) (k y : Centre) : Type 0 where
   pub handing : (b t : ℕ) → b ≢ a → handing_to b (y.mission t) ≡ handing_to b (k.mission t)
 
 -- with what the frame comes to behind that: an orderly act of y
-pub record IsTakenWith (reach : Reach) (a : ℕ) (f : Body) (k new : Centre) (frames : ℕ → List Body) : Type 0 where
+pub record IsTakenWith (a : ℕ) (f : Body) (k new : Centre) (frames : ℕ → List Body) : Type 0 where
   pub y : Centre
   pub taking : IsTaking a f k y
-  pub behind : IsOrderly reach y new frames
+  pub behind : IsOrderly y new frames

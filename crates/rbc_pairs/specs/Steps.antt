@@ -1,6 +1,5 @@
 -- Steps of a centre, of which one that takes the next frame of a link is at its head, and any other is by itself.
 use Rattle.std.specs.Prelude.{◌≢◌, ℕ, List}
-use Rattle.rbc_spec.specs.Reach.{Reach}
 use Rattle.rbc_spec.specs.Line.{Line}
 use Rattle.rbc_spec.specs.Frame.{Body}
 use Rattle.rbc_spec.specs.Outcome.{Next}
@@ -14,8 +13,8 @@ IsByItself line c k (Deliver d f) = link_answer line c k d f ≢ Next
 IsByItself line c k event = Unit {0}
 
 -- what the step of an event leaves of centre c, which was k, and what it sends
-abbrev pub left_by : Reach → Line → ℕ → Centre → Event → Centre
-left_by reach line c k event = state_after (stamp_of k event) k (done reach line c k event)
+abbrev pub left_by : Line → ℕ → Centre → Event → Centre
+left_by line c k event = state_after (stamp_of k event) k (done line c k event)
 
-abbrev pub sent_by : Reach → Line → ℕ → Centre → Event → ℕ → List Body
-sent_by reach line c k event = (done reach line c k event).reply.frames
+abbrev pub sent_by : Line → ℕ → Centre → Event → ℕ → List Body
+sent_by line c k event = (done line c k event).reply.frames

@@ -29,7 +29,7 @@ use Rattle.rbc_pieces.proofs.Missions.{some_of, mission_becomes, mission_here}
 use Rattle.rbc_pieces.proofs.Leaves.{close_is, left_marks, left_wishes, left_words, none_given, some_given}
 use Rattle.rbc_pieces.proofs.Acts.{not_yielded, words_alone, Does, both_do, with_it, does_as}
 use Rattle.rbc_pieces.proofs.Tails.{released as cut_is, gone_inside as cut_inside, all_gone as whole_cut, first_kept}
-use Rattle.rbc_pieces.proofs.Messages.{AtOnce, Goes, ticked, message, before, reply, left, not_for, goes_at_once}
+use Rattle.rbc_pieces.proofs.Messages.{AtOnce, ticked, message, before, reply, left, not_for}
 
 module _ (line : Line) (w : World) (local : IsLocal line w) (c t_train t : ℕ) (trains : List ℕ) (at : is_centre line c ≡ true) (asked : ℕ) (position : Position)
     (m : centre.Mission) (has : (w.at c).mission t ≡ Some m) (p : centre.Proposal) (proposed : m.proposal ≡ Some p) where
@@ -289,6 +289,3 @@ module _ (line : Line) (w : World) (local : IsLocal line w) (c t_train t : ℕ) 
       in
       let asks = asked_of here.0 here.0.proposal refl (not-false (option_map_or (λ p. p.stamp == asked) here.0.proposal false) fails) in
       granted_answered line w local c t_train t trains at asked position here.0 here.1 asks.0 asks.1
-
-  pub granted_goes : Goes line w local c t_train t trains at (ShorteningGranted asked position)
-  granted_goes = goes_at_once line w local c t_train t trains at (ShorteningGranted asked position) granted_heard

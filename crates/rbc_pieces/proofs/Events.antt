@@ -1,9 +1,8 @@
--- Each event at the centres is a piece of the one line centre's run.
+-- What holds of each event, in parts: of a step that a centre takes, and of an event that changes nothing.
 use Rattle.std.proofs.Common.{◌≡◌, ℕ, Bool, true, false, Option, Some, None, refl, sym, ap, ◌∙◌, List, Result, Ok, Err, if◌then◌else◌, subst}
 use Rattle.std.specs.Option.{option_map_or}
-use Rattle.rbc_spec.specs.Reach.{Local}
 use Rattle.rbc_spec.specs.Line.{Line, is_centre}
-use Rattle.rbc_spec.specs.Message.{TrainMessage, TrainBody, TrainData, Request, Report, ShorteningGranted, ShorteningRejected, EndOfMission, InitiationOfSession, TerminationOfSession, StartOfMission, SessionEstablished}
+use Rattle.rbc_spec.specs.Message.{TrainMessage}
 use Rattle.rbc_spec.specs.Frame.{Frame}
 use Rattle.rbc_spec.specs.Outcome.{Outcome}
 use Rattle.rbc_spec.specs.Centre as centre
@@ -11,23 +10,16 @@ use Rattle.rbc_spec.specs.Step as step
 use Rattle.rbc_spec.specs.Step.{Refusal}
 use Rattle.rbc_spec.specs.LineCentre.{LineState}
 use Rattle.rbc_spec.specs.World.{World, Event, Bytes, Set, Unset, Delivery, Answer, Answered, NoCentre, NotSent, Fault, world_step, takes, stepped, mention}
-use Rattle.rbc_spec.specs.Run.{Goes}
-use Rattle.rbc_local.specs.Local.{IsOrdered, IsLocal, local_read_off}
+use Rattle.rbc_local.specs.Local.{IsLocal, local_read_off}
 use Rattle.rbc_local.proofs.Worlds.{none_delivered}
 use Rattle.rbc_pieces.specs.Pieces.{with_centre}
-use Rattle.rbc_pieces.proofs.Sessions.{established_goes, opened_goes, ended_goes, data_goes, rejected_goes}
-use Rattle.rbc_pieces.proofs.Starts.{start_goes}
-use Rattle.rbc_pieces.proofs.Grants.{request_goes}
-use Rattle.rbc_pieces.proofs.Reports.{report_goes, end_goes}
-use Rattle.rbc_pieces.proofs.Cuts.{granted_goes}
-use Rattle.rbc_pieces.proofs.Told.{set_goes, unset_goes}
 
 -- what a centre's step comes to
-ok_step : (line : Line) (c : ℕ) (event : step.Event) (k : centre.Centre) (p : Outcome × centre.Centre) → step.step Local line c event k ≡ Ok p → p ≡ step.taken Local line c event k
+ok_step : (line : Line) (c : ℕ) (event : step.Event) (k : centre.Centre) (p : Outcome × centre.Centre) → step.step line c event k ≡ Ok p → p ≡ step.taken line c event k
 unfolding step.step
 ok_step line c event k p e = by_refusal (step.refusal line c k event) e
   where
-    by_refusal : (why : Option Refusal) → option_map_or {U = Result (Outcome × centre.Centre) Refusal} (λ f. Err f) why (Ok (step.taken Local line c event k)) ≡ Ok p → p ≡ step.taken Local line c event k
+    by_refusal : (why : Option Refusal) → option_map_or {U = Result (Outcome × centre.Centre) Refusal} (λ f. Err f) why (Ok (step.taken line c event k)) ≡ Ok p → p ≡ step.taken line c event k
     by_refusal (Some f) h = cc
     by_refusal None h = cc
 
@@ -40,7 +32,7 @@ module _ (line : Line) (w : World) (local : IsLocal line w) where
   module _ (G : Event → Answer → LineState → Type 0) where
     -- it holds of the step that centre c takes
     abbrev pub Taken : ℕ → List ℕ → Event → step.Event → Type 0
-    Taken c trains e event = G e (Answered (step.taken Local line c event (w.at c)).0) (local_read_off line (with_centre w c (step.taken Local line c event (w.at c)).1 trains))
+    Taken c trains e event = G e (Answered (step.taken line c event (w.at c)).0) (local_read_off line (with_centre w c (step.taken line c event (w.at c)).1 trains))
 
     -- it holds of each event, where it is at a centre of the line, and where it is not
     pub record HoldsOfEach : Type 0 where
@@ -56,10 +48,10 @@ module _ (line : Line) (w : World) (local : IsLocal line w) where
     -- what a centre of the line has met
     met : (c : ℕ) (trains : List ℕ) (e : Event) (event : step.Event) (answer : Answer) (new : World) (b : Bool) → is_centre line c ≡ b
         → (is_centre line c ≡ true → Taken c trains e event) → (is_centre line c ≡ false → G e NoCentre v)
-        → (if b then takes Local line w c trains event else Ok (NoCentre, w)) ≡ Ok (answer, new) → G e answer (local_read_off line new)
-    met c trains e event answer new true at piece none h = by_step (step.step Local line c event (w.at c)) (ok_step line c event (w.at c)) h
+        → (if b then takes line w c trains event else Ok (NoCentre, w)) ≡ Ok (answer, new) → G e answer (local_read_off line new)
+    met c trains e event answer new true at piece none h = by_step (step.step line c event (w.at c)) (ok_step line c event (w.at c)) h
       where
-        by_step : (done : Result (Outcome × centre.Centre) Refusal) → ((p : Outcome × centre.Centre) → done ≡ Ok p → p ≡ step.taken Local line c event (w.at c))
+        by_step : (done : Result (Outcome × centre.Centre) Refusal) → ((p : Outcome × centre.Centre) → done ≡ Ok p → p ≡ step.taken line c event (w.at c))
             → stepped w c trains done ≡ Ok (answer, new) → G e answer (local_read_off line new)
         by_step (Ok p) is_taken g =
             let went : G e (Answered p.0) (local_read_off line (with_centre w c p.1 trains)) =
@@ -82,7 +74,7 @@ module _ (line : Line) (w : World) (local : IsLocal line w) where
         subst (λ (q : Answer × World). G (Bytes c (Err n)) q.0 (local_read_off line q.1)) same (holds.bytes_nowhere c (Err n) at)
 
     -- whatever happens, it holds
-    pub holds_of : HoldsOfEach → (event : Event) (answer : Answer) (new : World) → world_step Local line w event ≡ Ok (answer, new) → G event answer (local_read_off line new)
+    pub holds_of : HoldsOfEach → (event : Event) (answer : Answer) (new : World) → world_step line w event ≡ Ok (answer, new) → G event answer (local_read_off line new)
     unfolding world_step
     holds_of holds (Bytes c (Ok m)) answer new e = met c (mention line m.nid_engine w.trains) (Bytes c (Ok m)) (step.Train m) answer new (is_centre line c) refl (holds.message c m) (holds.bytes_nowhere c (Ok m)) e
     holds_of holds (Bytes c (Err n)) answer new e = fault_met c n answer new holds (is_centre line c) refl e
@@ -90,43 +82,7 @@ module _ (line : Line) (w : World) (local : IsLocal line w) where
     holds_of holds (Unset c s) answer new e = met c w.trains (Unset c s) (step.Unset s) answer new (is_centre line c) refl (holds.unset c s) (holds.unset_nowhere c s) e
     holds_of holds (Delivery a b number) answer new e =
         let sent : ◌≡◌ {A = Result (Answer × World) Refusal} (Ok (NotSent, w)) (Ok (answer, new)) =
-        sym (ap (λ (o : Option Frame). option_map_or (λ f. takes Local line w b w.trains (step.Deliver a f)) o (Ok (NotSent, w))) (none_delivered line w local a b number)) ∙ e
+        sym (ap (λ (o : Option Frame). option_map_or (λ f. takes line w b w.trains (step.Deliver a f)) o (Ok (NotSent, w))) (none_delivered line w local a b number)) ∙ e
         in
         let same : (NotSent, w) ≡ (answer, new) = cc in
         subst (λ (q : Answer × World). G (Delivery a b number) q.0 (local_read_off line q.1)) same (holds.not_sent a b number)
-
--- ## The one line centre goes on
-
-module _ (line : Line) (ordered : IsOrdered line) (w : World) (local : IsLocal line w) where
-  -- a message at a centre of the line
-  pub message_piece : (c t_train t : ℕ) (body : TrainBody) (trains : List ℕ) → is_centre line c ≡ true
-      → Taken line w local (Goes line (v line w local)) c trains (Bytes c (Ok (record { t_train = t_train; nid_engine = t; body = body }))) (step.Train (record { t_train = t_train; nid_engine = t; body = body }))
-  message_piece c t_train t InitiationOfSession trains at = opened_goes line w local c t_train t trains at
-  message_piece c t_train t TerminationOfSession trains at = ended_goes line w local c t_train t trains at
-  message_piece c t_train t SessionEstablished trains at = established_goes line w local c t_train t trains at
-  message_piece c t_train t (StartOfMission is_valid position) trains at = start_goes line w local c t_train t trains at is_valid position
-  message_piece c t_train t (TrainData position) trains at = data_goes line w local c t_train t trains at position
-  message_piece c t_train t (Request position) trains at = request_goes line w local c t_train t trains at position
-  message_piece c t_train t (Report position) trains at = report_goes line ordered w local c t_train t trains at position
-  message_piece c t_train t (ShorteningGranted asked position) trains at = granted_goes line w local c t_train t trains at asked position
-  message_piece c t_train t (ShorteningRejected asked position) trains at = rejected_goes line w local c t_train t trains at asked position
-  message_piece c t_train t (EndOfMission position) trains at = end_goes line ordered w local c t_train t trains at position
-
-  pub set_piece : (c s : ℕ) → is_centre line c ≡ true → Taken line w local (Goes line (v line w local)) c w.trains (Set c s) (step.Set s)
-  set_piece c s at = set_goes line w local c s w.trains at
-
-  pub unset_piece : (c s : ℕ) → is_centre line c ≡ true → Taken line w local (Goes line (v line w local)) c w.trains (Unset c s) (step.Unset s)
-  unset_piece c s at = unset_goes line w local c s w.trains at
-
-  -- whatever happens, the one line centre goes on so
-  pub event_goes : (event : Event) (answer : Answer) (new : World) → world_step Local line w event ≡ Ok (answer, new) → Goes line (v line w local) event answer (local_read_off line new)
-  event_goes = holds_of line w local (Goes line (v line w local)) (record {
-    message = λ c m. message_piece c m.t_train m.nid_engine m.body (mention line m.nid_engine w.trains);
-    set = set_piece;
-    unset = unset_piece;
-    fault = λ c n at. (at, refl, refl);
-    bytes_nowhere = λ c read at. (at, refl);
-    set_nowhere = λ c s at. (at, refl);
-    unset_nowhere = λ c s at. (at, refl);
-    not_sent = λ a b number. refl;
-  })

@@ -1,18 +1,18 @@
--- A request that is granted is a piece of the one line centre's run: the hand is extended as far as it may go.
+-- A request that is granted where no centre is next: the hand is extended as far as it may go.
 use Rattle.std.proofs.Common.{◌≡◌, ◌⊎◌, ℕ, zero, suc, ◌+◌, ◌-◌, ◌*◌, ◌<◌, ◌≤◌, ◌&&◌, ◌||◌, not, nat_le, Bool, true, false, Option, Some, None, option_map, refl, sym, ap, ◌∙◌, List, [], ◌∷◌, if◌then◌else◌, inl, inr, arith, leb-true}
 use Rattle.std.specs.Option.{option_map_or}
 use Rattle.std.proofs.lemmas.Bool.{and_parts, and_from, or_left, cases_lt, not-false}
 use Rattle.rbc_spec.specs.Maps.{put}
 use Rattle.rbc_spec.specs.SectionRuns.{SectionRun, within, behind, longest, joined}
-use Rattle.rbc_spec.specs.Line.{Line, is_centre, end}
+use Rattle.rbc_spec.specs.Line.{Line, is_centre, end, next_centre}
 use Rattle.rbc_spec.specs.Sections.{is_on}
 use Rattle.rbc_spec.specs.Place.{Place, Position, group_start, place_on}
 use Rattle.rbc_spec.specs.Message.{TrainBody, Request, Authority}
 use Rattle.rbc_spec.specs.Outcome.{NotSupervised, NoPlace}
 use Rattle.rbc_spec.specs.Centre as centre
 use Rattle.rbc_spec.specs.Centre.{is_open, is_free}
-use Rattle.rbc_spec.specs.Acts.{◌>>◌}
-use Rattle.rbc_spec.specs.Rules.{may_follow, extended_by, authority}
+use Rattle.rbc_spec.specs.Acts.{Act, Reply, rest, ◌>>◌, say, booked, set_mission}
+use Rattle.rbc_spec.specs.Rules.{may_follow, extended_by, authority, at_border, grant}
 use Rattle.rbc_spec.specs.Step as step
 use Rattle.rbc_spec.specs.Step.{may_request}
 use Rattle.rbc_spec.specs.LineCentre as line_centre
@@ -27,9 +27,10 @@ use Rattle.rbc_local.specs.Local.{IsLocal}
 use Rattle.rbc_pieces.proofs.Off.{shows, wish_stays, given_is_hand}
 use Rattle.rbc_pieces.proofs.Missions.{some_of, mission_becomes, mission_here}
 use Rattle.rbc_pieces.proofs.Books.{booked_marks, free_is_open}
-use Rattle.rbc_pieces.proofs.Messages.{AtOnce, Goes, ticked, message, before, not_for, goes_at_once}
+use Rattle.rbc_pieces.proofs.Messages.{AtOnce, ticked, message, before, not_for}
 
-module _ (line : Line) (w : World) (local : IsLocal line w) (c t_train t : ℕ) (trains : List ℕ) (at : is_centre line c ≡ true) (position : Position) where
+module _ (line : Line) (w : World) (local : IsLocal line w) (c t_train t : ℕ) (trains : List ℕ) (at : is_centre line c ≡ true) (last : (track : ℕ) → next_centre line c track ≡ None)
+    (position : Position) where
   abbrev body : TrainBody
   body = Request position
 
@@ -122,6 +123,17 @@ module _ (line : Line) (w : World) (local : IsLocal line w) (c t_train t : ℕ) 
         hand_is : joined m.hand more ≡ grown
         hand_is = rw (some_count m.hand.count some) refl
 
+    -- the centre that has heard the message
+    abbrev hearing : centre.Centre
+    hearing = record k { heard = put k.heard t (Some t_train) }
+
+    -- where no centre is next, nothing follows the extension
+    no_border : option_map_or (at_border line c t) (next_centre line c place.track) rest ≡ rest
+    no_border = ap (λ (o : Option ℕ). option_map_or (at_border line c t) o rest) (last place.track)
+
+    alone : grant line c t placed hearing ≡ (((booked is_open (centre.Taken t) more >> set_mission t (Some (extended_by more placed))) >> say t place.group (Authority (authority line (extended_by more placed)))) >> rest) hearing
+    alone = ap (λ (border : Act). (((booked is_open (centre.Taken t) more >> set_mission t (Some (extended_by more placed))) >> say t place.group (Authority (authority line (extended_by more placed)))) >> border) hearing) no_border
+
     granted : Answer
     unfolding ◌>>◌
     granted =
@@ -138,9 +150,9 @@ module _ (line : Line) (w : World) (local : IsLocal line w) (c t_train t : ℕ) 
           state = state;
           said = said;
           mid = shown;
-          state_is = rw (has) (rw on refl);
-          sayings_are = rw (has) (rw on (ap (λ (a : ℕ). saying_of t c place.group (Authority a) v ∷ []) authority_is));
-          words_are = rw (has) (rw on refl);
+          state_is = rw (has) (rw on (ap (λ (r : Reply). r.state) alone));
+          sayings_are = rw (has) (rw on (ap (λ (r : Reply). r.sayings) alone ∙ ap (λ (a : ℕ). saying_of t c place.group (Authority a) v ∷ []) authority_is));
+          words_are = rw (has) (rw on (ap (λ (r : Reply). r.words) alone));
           own_step = (
             place,
             ap (λ (o : Option line_centre.LineMission). place_on line (option_map_or (λ n. n.place.track) o 0) position) (mission_here line w c t m local has) ∙ on,
@@ -181,6 +193,3 @@ module _ (line : Line) (w : World) (local : IsLocal line w) (c t_train t : ℕ) 
       by_place m has None on passes = cc
       by_place m has (Some place) on passes =
           granted m has place on (and_parts (nat_le place.front (10 * end line (behind m.hand - 1))) (nat_le (end line (behind m.hand - 1)) (group_start line place + 32767)) passes).1
-
-  pub request_goes : Goes line w local c t_train t trains at (Request position)
-  request_goes = goes_at_once line w local c t_train t trains at (Request position) requested

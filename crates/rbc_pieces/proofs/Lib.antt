@@ -12,7 +12,6 @@ pub mod Tellings
 pub mod Asks
 pub mod Told
 pub mod Books
-pub mod Dismissals
 pub mod Starts
 pub mod Grants
 pub mod Leaves

@@ -1,4 +1,4 @@
--- Where each mission stays at one centre, each section in use and each train's right is in one place.
+-- Of local centres, each section in use and each train's right is in one place.
 use Rattle.std.proofs.Common.{◌≡◌, ◌≢◌, ℕ, zero, suc, ◌+◌, ◌<◌, ◌≤◌, ◌==◌, ◌&&◌, Bool, true, false, cond, Option, Some, None, option_map, is_some, is_none, refl, sym, ap, ◌∙◌, inl, inr, List, [], ◌∷◌, ◌++◌, length, map, slice_get, eq-eqb, ne_eqb, eqb-true, arith}
 use Rattle.std.specs.Option.{option_map_or}
 use Rattle.std.specs.List.{find, flat_map, count_by, range_with_len}

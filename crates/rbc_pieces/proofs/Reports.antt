@@ -26,7 +26,7 @@ use Rattle.rbc_pieces.proofs.Books.{supervises_is}
 use Rattle.rbc_pieces.proofs.Silence.{report_elsewhere}
 use Rattle.rbc_pieces.proofs.Acts.{not_yielded, words_alone, Does, both_do, with_it, without_it, does_as}
 use Rattle.rbc_pieces.proofs.Clearing as clearing
-use Rattle.rbc_pieces.proofs.Messages.{AtOnce, Goes, stamp, ticked, message, before, reply, left, not_for, goes_at_once}
+use Rattle.rbc_pieces.proofs.Messages.{AtOnce, stamp, ticked, message, before, reply, left, not_for}
 
 module _ (line : Line) (ordered : IsOrdered line) (w : World) (local : IsLocal line w) (c t_train t : ℕ) (trains : List ℕ) (at : is_centre line c ≡ true) where
   abbrev k : centre.Centre
@@ -268,13 +268,7 @@ module _ (line : Line) (ordered : IsOrdered line) (w : World) (local : IsLocal l
       let here = some_of ((w.at c).mission t) (sym (report_elsewhere line w local c t t_train (stamp line w local c t_train t trains at) position) ∙ unsupervised) in
       report_answered here.0 here.1 position (sym (ap (step.mission_has (λ m. is_none (place_on line m.place.track position))) here.1) ∙ not_for line w local c t_train t trains at (Report position) 5 NoPlace h refl)
 
-  pub report_goes : (position : Position) → Goes line w local c t_train t trains at (Report position)
-  report_goes position = goes_at_once line w local c t_train t trains at (Report position) (report_heard position)
-
   pub end_heard : (position : Position) → is_silent (EndOfMission position) → Answer (EndOfMission position)
   end_heard position h =
       let here = some_of ((w.at c).mission t) (not_for line w local c t_train t trains at (EndOfMission position) 4 NotSupervised h refl) in
       end_answered here.0 here.1 position
-
-  pub end_goes : (position : Position) → Goes line w local c t_train t trains at (EndOfMission position)
-  end_goes position = goes_at_once line w local c t_train t trains at (EndOfMission position) (end_heard position)

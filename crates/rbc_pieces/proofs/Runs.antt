@@ -1,7 +1,6 @@
--- Runs of a world taken apart, as far as the rules reach: the trains that were named, and refused steps.
+-- Runs of a world taken apart: the trains that were named, and refused steps.
 use Rattle.std.proofs.Common.{◌≡◌, ℕ, Bool, true, false, Option, Some, None, refl, sym, ap, ◌∙◌, List, [], ◌∷◌, Result, Ok, Err, if◌then◌else◌}
 use Rattle.std.specs.Option.{option_map_or}
-use Rattle.rbc_spec.specs.Reach.{Reach}
 use Rattle.rbc_spec.specs.Line.{Line, is_centre}
 use Rattle.rbc_spec.specs.Message.{TrainMessage}
 use Rattle.rbc_spec.specs.Frame.{Frame}
@@ -12,18 +11,18 @@ use Rattle.rbc_spec.specs.Maps.{put}
 use Rattle.rbc_spec.specs.Outcome.{Outcome}
 use Rattle.rbc_spec.specs.World.{World, Event, Bytes, Set, Unset, Delivery, Answer, Answered, Fault, NoCentre, NotSent, world_step, world_run, IsRefused, named, all_named, mention, stepped, reads, takes, frame_sent, ◌>>=◌}
 
-module _ (reach : Reach) where
+module _ where
   abbrev pub with_first : Answer → List Answer × World → Result (List Answer × World) Refusal
   with_first answer others = Ok (answer ∷ others.0, others.1)
 
   abbrev pub after_first : Line → List Event → Answer × World → Result (List Answer × World) Refusal
-  after_first line events first = world_run reach line first.1 events >>= with_first first.0
+  after_first line events first = world_run line first.1 events >>= with_first first.0
 
-  pub run_of_cons : (line : Line) (w : World) (event : Event) (events : List Event) → world_run reach line w (event ∷ events) ≡ (world_step reach line w event >>= after_first line events)
+  pub run_of_cons : (line : Line) (w : World) (event : Event) (events : List Event) → world_run line w (event ∷ events) ≡ (world_step line w event >>= after_first line events)
   unfolding world_run
   run_of_cons line w event events = refl
 
-  pub run_of_none : (line : Line) (w : World) → world_run reach line w [] ≡ Ok ([], w)
+  pub run_of_none : (line : Line) (w : World) → world_run line w [] ≡ Ok ([], w)
   unfolding world_run
   run_of_none line w = refl
 
@@ -32,26 +31,26 @@ module _ (reach : Reach) where
     record Parts (answers : List Answer) (new : World) : Type 0 where
       first : Answer × World
       others : List Answer
-      step : world_step reach line w event ≡ Ok first
-      rest : world_run reach line first.1 events ≡ Ok (others, new)
+      step : world_step line w event ≡ Ok first
+      rest : world_run line first.1 events ≡ Ok (others, new)
       whole : answers ≡ first.0 ∷ others
 
-    parts_of_rest : (answers : List Answer) (new : World) (first : Answer × World) → world_step reach line w event ≡ Ok first → (rest : Result (List Answer × World) Refusal) → world_run reach line first.1 events ≡ rest
+    parts_of_rest : (answers : List Answer) (new : World) (first : Answer × World) → world_step line w event ≡ Ok first → (rest : Result (List Answer × World) Refusal) → world_run line first.1 events ≡ rest
         → (rest >>= with_first first.0) ≡ Ok (answers, new) → Parts answers new
     parts_of_rest answers new first s (Ok p) r h =
         let same : (first.0 ∷ p.0, p.1) ≡ (answers, new) = cc in
         record { first = first; others = p.0; step = s; rest = r ∙ ap (λ (k : World). Ok (p.0, k)) (ap (λ (q : List Answer × World). q.1) same); whole = sym (ap (λ (q : List Answer × World). q.0) same) }
     parts_of_rest answers new first s (Err why) r h = cc
 
-    parts_of_step : (answers : List Answer) (new : World) (step : Result (Answer × World) Refusal) → world_step reach line w event ≡ step → (step >>= after_first line events) ≡ Ok (answers, new) → Parts answers new
-    parts_of_step answers new (Ok first) s h = parts_of_rest answers new first s (world_run reach line first.1 events) refl h
+    parts_of_step : (answers : List Answer) (new : World) (step : Result (Answer × World) Refusal) → world_step line w event ≡ step → (step >>= after_first line events) ≡ Ok (answers, new) → Parts answers new
+    parts_of_step answers new (Ok first) s h = parts_of_rest answers new first s (world_run line first.1 events) refl h
     parts_of_step answers new (Err why) s h = cc
 
-    parts : (answers : List Answer) (new : World) → world_run reach line w (event ∷ events) ≡ Ok (answers, new) → Parts answers new
-    parts answers new e = parts_of_step answers new (world_step reach line w event) refl (sym (run_of_cons line w event events) ∙ e)
+    parts : (answers : List Answer) (new : World) → world_run line w (event ∷ events) ≡ Ok (answers, new) → Parts answers new
+    parts answers new e = parts_of_step answers new (world_step line w event) refl (sym (run_of_cons line w event events) ∙ e)
 
     -- and put together again
-    pub whole_run : (first : Answer × World) (rest : Result (List Answer × World) Refusal) → world_step reach line w event ≡ Ok first → world_run reach line first.1 events ≡ rest → world_run reach line w (event ∷ events) ≡ (rest >>= with_first first.0)
+    pub whole_run : (first : Answer × World) (rest : Result (List Answer × World) Refusal) → world_step line w event ≡ Ok first → world_run line first.1 events ≡ rest → world_run line w (event ∷ events) ≡ (rest >>= with_first first.0)
     whole_run first rest s r = run_of_cons line w event events ∙ ap (λ step. step >>= after_first line events) s ∙ ap (λ r. r >>= with_first first.0) r
 
   -- ## The trains that were named
@@ -66,30 +65,30 @@ module _ (reach : Reach) where
   stays w answer first e = let same : (answer, w) ≡ first = cc in ap (λ (q : Answer × World). q.1.trains) same
 
   bytes_name : (line : Line) (w : World) (c : ℕ) (read : Result TrainMessage ℕ) (first : Answer × World) (b : Bool) → is_centre line c ≡ b
-      → (if b then reads reach line w c read else Ok (NoCentre, w)) ≡ Ok first → named line (Bytes c read) w.trains ≡ first.1.trains
-  bytes_name line w c (Ok m) first true at e = rw at (stepped_names w c (mention line m.nid_engine w.trains) (step.step reach line c (step.Train m) (w.at c)) first e)
+      → (if b then reads line w c read else Ok (NoCentre, w)) ≡ Ok first → named line (Bytes c read) w.trains ≡ first.1.trains
+  bytes_name line w c (Ok m) first true at e = rw at (stepped_names w c (mention line m.nid_engine w.trains) (step.step line c (step.Train m) (w.at c)) first e)
   bytes_name line w c (Err n) first true at e = stays w (Fault n) first e
   bytes_name line w c (Ok m) first false at e = rw at (stays w NoCentre first e)
   bytes_name line w c (Err n) first false at e = stays w NoCentre first e
 
   told_names : (line : Line) (w : World) (c : ℕ) (event : step.Event) (first : Answer × World) (b : Bool)
-      → (if b then takes reach line w c w.trains event else Ok (NoCentre, w)) ≡ Ok first → w.trains ≡ first.1.trains
-  told_names line w c event first true e = stepped_names w c w.trains (step.step reach line c event (w.at c)) first e
+      → (if b then takes line w c w.trains event else Ok (NoCentre, w)) ≡ Ok first → w.trains ≡ first.1.trains
+  told_names line w c event first true e = stepped_names w c w.trains (step.step line c event (w.at c)) first e
   told_names line w c event first false e = stays w NoCentre first e
 
   delivery_names : (line : Line) (w : World) (a b : ℕ) (found : Option Frame) (first : Answer × World)
-      → option_map_or (λ f. takes reach line w b w.trains (step.Deliver a f)) found (Ok (NotSent, w)) ≡ Ok first → w.trains ≡ first.1.trains
-  delivery_names line w a b (Some f) first e = stepped_names w b w.trains (step.step reach line b (step.Deliver a f) (w.at b)) first e
+      → option_map_or (λ f. takes line w b w.trains (step.Deliver a f)) found (Ok (NotSent, w)) ≡ Ok first → w.trains ≡ first.1.trains
+  delivery_names line w a b (Some f) first e = stepped_names w b w.trains (step.step line b (step.Deliver a f) (w.at b)) first e
   delivery_names line w a b None first e = stays w NotSent first e
 
-  step_names : (line : Line) (w : World) (event : Event) (first : Answer × World) → world_step reach line w event ≡ Ok first → named line event w.trains ≡ first.1.trains
+  step_names : (line : Line) (w : World) (event : Event) (first : Answer × World) → world_step line w event ≡ Ok first → named line event w.trains ≡ first.1.trains
   unfolding world_step
   step_names line w (Bytes c read) first e = bytes_name line w c read first (is_centre line c) refl e
   step_names line w (Set c s) first e = told_names line w c (step.Set s) first (is_centre line c) e
   step_names line w (Unset c s) first e = told_names line w c (step.Unset s) first (is_centre line c) e
   step_names line w (Delivery a b number) first e = delivery_names line w a b (frame_sent w a b number) first e
 
-  pub run_names : (line : Line) (w : World) (events : List Event) (answers : List Answer) (new : World) → world_run reach line w events ≡ Ok (answers, new) → new.trains ≡ all_named line events w.trains
+  pub run_names : (line : Line) (w : World) (events : List Event) (answers : List Answer) (new : World) → world_run line w events ≡ Ok (answers, new) → new.trains ≡ all_named line events w.trains
   unfolding world_run
   run_names line w [] answers new e = let same : ([], w) ≡ (answers, new) = cc in sym (ap (λ (q : List Answer × World). q.1.trains) same)
   run_names line w (event ∷ events) answers new e =
@@ -98,7 +97,7 @@ module _ (reach : Reach) where
 
   -- ## Refused steps
 
-  refusal_of_rest : (line : Line) (w : World) (event : Event) (events : List Event) (why : Refusal) (first : Answer × World) → world_step reach line w event ≡ Ok first → IsRefused reach line first.1 events why → IsRefused reach line w (event ∷ events) why
+  refusal_of_rest : (line : Line) (w : World) (event : Event) (events : List Event) (why : Refusal) (first : Answer × World) → world_step line w event ≡ Ok first → IsRefused line first.1 events why → IsRefused line w (event ∷ events) why
   refusal_of_rest line w event events why first s r = record {
     front = event ∷ r.front;
     event = r.event;
@@ -110,25 +109,25 @@ module _ (reach : Reach) where
     refused = r.refused;
   }
 
-  refusal_by_rest : (line : Line) (w : World) (event : Event) (events : List Event) (why : Refusal) (first : Answer × World) → world_step reach line w event ≡ Ok first
-      → (world_run reach line first.1 events ≡ Err why → IsRefused reach line first.1 events why)
-      → (rest : Result (List Answer × World) Refusal) → world_run reach line first.1 events ≡ rest → (rest >>= with_first first.0) ≡ Err why → IsRefused reach line w (event ∷ events) why
+  refusal_by_rest : (line : Line) (w : World) (event : Event) (events : List Event) (why : Refusal) (first : Answer × World) → world_step line w event ≡ Ok first
+      → (world_run line first.1 events ≡ Err why → IsRefused line first.1 events why)
+      → (rest : Result (List Answer × World) Refusal) → world_run line first.1 events ≡ rest → (rest >>= with_first first.0) ≡ Err why → IsRefused line w (event ∷ events) why
   refusal_by_rest line w event events why first s others (Ok p) r e = cc
   refusal_by_rest line w event events why first s others (Err f) r e =
       let same : f ≡ why = cc in
       refusal_of_rest line w event events why first s (others (r ∙ ap (λ (g : Refusal). Err g) same))
 
   refusal_by_step : (line : Line) (w : World) (event : Event) (events : List Event) (why : Refusal)
-      → ((new : World) → world_run reach line new events ≡ Err why → IsRefused reach line new events why)
-      → (step : Result (Answer × World) Refusal) → world_step reach line w event ≡ step → (step >>= after_first line events) ≡ Err why → IsRefused reach line w (event ∷ events) why
-  refusal_by_step line w event events why others (Ok first) s e = refusal_by_rest line w event events why first s (others first.1) (world_run reach line first.1 events) refl e
+      → ((new : World) → world_run line new events ≡ Err why → IsRefused line new events why)
+      → (step : Result (Answer × World) Refusal) → world_step line w event ≡ step → (step >>= after_first line events) ≡ Err why → IsRefused line w (event ∷ events) why
+  refusal_by_step line w event events why others (Ok first) s e = refusal_by_rest line w event events why first s (others first.1) (world_run line first.1 events) refl e
   refusal_by_step line w event events why others (Err f) s e =
       let same : f ≡ why = cc in
       record { front = []; event = event; rest = events; answers = []; reached = w; cut = refl; answered = run_of_none line w; refused = s ∙ ap (λ (g : Refusal). Err g) same }
 
   -- a run that is refused is refused at some event
-  pub run_refused : (line : Line) (events : List Event) (why : Refusal) (w : World) → world_run reach line w events ≡ Err why → IsRefused reach line w events why
+  pub run_refused : (line : Line) (events : List Event) (why : Refusal) (w : World) → world_run line w events ≡ Err why → IsRefused line w events why
   unfolding world_run
   run_refused line [] why w e = cc
   run_refused line (event ∷ events) why w e =
-      refusal_by_step line w event events why (λ new. run_refused line events why new) (world_step reach line w event) refl (sym (run_of_cons line w event events) ∙ e)
+      refusal_by_step line w event events why (λ new. run_refused line events why new) (world_step line w event) refl (sym (run_of_cons line w event events) ∙ e)

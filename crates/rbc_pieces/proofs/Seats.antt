@@ -1,4 +1,4 @@
--- Where each mission stays at one centre, a train has one seat at most: no frame is on the way, and its registrar alone has its mission.
+-- Of local centres, a train has one seat at most: no frame is on the way, and its registrar alone has its mission.
 use Rattle.std.proofs.Common.{◌≡◌, ◌≢◌, ℕ, zero, suc, ◌+◌, ◌≤◌, ◌==◌, Option, None, Some, refl, sym, ap, ◌∙◌, inl, inr, List, [], ◌∷◌, ◌++◌, length, drop, arith, false}
 use Rattle.std.specs.Option.{option_map_or}
 use Rattle.std.specs.List.{filter_map, flat_map, range_with_len}

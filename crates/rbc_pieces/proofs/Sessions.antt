@@ -19,7 +19,7 @@ use Rattle.rbc_local.specs.Local.{IsLocal, local_read_off}
 use Rattle.rbc_pieces.specs.Pieces.{with_centre}
 use Rattle.rbc_pieces.proofs.Off.{shows, mark_stays, wish_stays, mission_stays}
 use Rattle.rbc_pieces.proofs.Missions.{some_of, mission_changes, proposal_drops}
-use Rattle.rbc_pieces.proofs.Messages.{AtOnce, Goes, ticked, message, before, reply, not_for, goes_at_once}
+use Rattle.rbc_pieces.proofs.Messages.{AtOnce, ticked, message, before, reply, not_for}
 
 module _ (line : Line) (w : World) (local : IsLocal line w) (c t_train t : ℕ) (trains : List ℕ) (at : is_centre line c ≡ true) where
   abbrev k : centre.Centre
@@ -30,9 +30,6 @@ module _ (line : Line) (w : World) (local : IsLocal line w) (c t_train t : ℕ) 
 
   abbrev is_silent : TrainBody → Type 0
   is_silent body = step.silence line c k (message line w local c t_train t trains at body) ≡ None
-
-  abbrev Piece_of : TrainBody → Type 0
-  Piece_of body = Goes line w local c t_train t trains at body
 
   abbrev Answer : TrainBody → Type 0
   Answer body = AtOnce line w local c t_train t trains at body
@@ -57,9 +54,6 @@ module _ (line : Line) (w : World) (local : IsLocal line w) (c t_train t : ℕ) 
       mission = λ u. mission_stays line w c u _ refl;
     });
   }
-
-  pub established_goes : Piece_of SessionEstablished
-  established_goes = goes_at_once line w local c t_train t trains at SessionEstablished (λ _. established)
 
   -- ## A session opens or closes
 
@@ -109,9 +103,6 @@ module _ (line : Line) (w : World) (local : IsLocal line w) (c t_train t : ℕ) 
         shown = closed_shown InitiationOfSession centre.Opened (put (put k.phase t centre.Closed) t centre.Opened) _ (put_over t centre.Opened centre.Closed (w.at c).phase);
       }
 
-  pub opened_goes : Piece_of InitiationOfSession
-  opened_goes = goes_at_once line w local c t_train t trains at InitiationOfSession (λ _. opened)
-
   pub ended : Answer TerminationOfSession
   unfolding ◌>>◌
   ended =
@@ -129,9 +120,6 @@ module _ (line : Line) (w : World) (local : IsLocal line w) (c t_train t : ℕ) 
         };
         shown = closed_shown TerminationOfSession centre.Closed (put k.phase t centre.Closed) _ (λ u. refl);
       }
-
-  pub ended_goes : Piece_of TerminationOfSession
-  ended_goes = goes_at_once line w local c t_train t trains at TerminationOfSession (λ _. ended)
 
   -- ## Train data, and a rejected request to shorten
 
@@ -161,9 +149,6 @@ module _ (line : Line) (w : World) (local : IsLocal line w) (c t_train t : ℕ) 
         });
       }
 
-  pub data_goes : (position : Position) → Piece_of (TrainData position)
-  data_goes position = goes_at_once line w local c t_train t trains at (TrainData position) (data_heard position)
-
   pub rejected : (asked : ℕ) (position : Position) → is_silent (ShorteningRejected asked position) → Answer (ShorteningRejected asked position)
   unfolding ◌>>◌
   rejected asked position h =
@@ -188,6 +173,3 @@ module _ (line : Line) (w : World) (local : IsLocal line w) (c t_train t : ℕ) 
           mission = λ u. mission_changes line w c t here.0 (λ n. record n { proposal = None }) (λ n. record n { proposal = None }) u local here.1 refl;
         });
       }
-
-  pub rejected_goes : (asked : ℕ) (position : Position) → Piece_of (ShorteningRejected asked position)
-  rejected_goes asked position = goes_at_once line w local c t_train t trains at (ShorteningRejected asked position) (rejected asked position)

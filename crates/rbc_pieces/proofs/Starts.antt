@@ -1,19 +1,16 @@
--- A start of mission is a piece of the one line centre's run. Where the rules would let it wait for its right at another centre than the
--- train's registrar, it waits and is dismissed.
-use Rattle.std.proofs.Common.{◌≡◌, ℕ, ◌+◌, ◌&&◌, Bool, true, false, Option, Some, None, option_map, is_none, is_some, refl, sym, ap, ◌∙◌, List, [], ◌∷◌, if◌then◌else◌, inl, subst, eq-eqb}
-use Rattle.std.proofs.lemmas.Bool.{and_parts}
+-- A start of mission where sections are free only at the train's registrar: it is accepted wherever it may be.
+use Rattle.std.proofs.Common.{◌≡◌, ℕ, ◌+◌, ◌&&◌, Bool, true, false, Option, Some, None, option_map, is_none, is_some, refl, sym, ap, ◌∙◌, List, [], ◌∷◌, if◌then◌else◌, inl, subst}
 use Rattle.std.proofs.lemmas.Option.{same_Some}
 use Rattle.rbc_spec.specs.Maps.{put}
 use Rattle.rbc_spec.specs.SectionRuns.{within, all_of}
-use Rattle.rbc_spec.specs.Line.{Line, is_centre, is_home}
+use Rattle.rbc_spec.specs.Line.{Line, is_centre}
 use Rattle.rbc_spec.specs.Place.{Place, Position, covered, fit_place}
 use Rattle.rbc_spec.specs.Message.{TrainBody, StartOfMission, TrainAccepted, TrainRejected, unknown_group}
 use Rattle.rbc_spec.specs.Centre as centre
-use Rattle.rbc_spec.specs.Centre.{is_open, is_free, is_unused, is_registrar_of}
+use Rattle.rbc_spec.specs.Centre.{is_open, is_free, is_registrar_of}
 use Rattle.rbc_spec.specs.Acts.{◌>>◌, begun}
-use Rattle.rbc_spec.specs.LineCentre.{LineState, is_given_to, supervises, says, saying_of, Said, nothing}
-use Rattle.rbc_spec.specs.OwnSteps.{Starts, Rejects, Accepts, may_start, waits, begins, restarted}
-use Rattle.rbc_spec.specs.Quiet.{Dismiss, TakesAll}
+use Rattle.rbc_spec.specs.LineCentre.{LineState, is_given_to, supervises, says, saying_of, Said}
+use Rattle.rbc_spec.specs.OwnSteps.{Starts, Rejects, Accepts, may_start, begins, restarted}
 use Rattle.rbc_spec.specs.World.{World}
 use Rattle.rbc_spec.specs.Theorems.{IsStartAccepted}
 use Rattle.rbc_spec.specs.ReadOff.{seen}
@@ -21,15 +18,15 @@ use Rattle.rbc_lemmas.proofs.Puts.{put_keeps, put_at_pair}
 use Rattle.rbc_lemmas.proofs.Runs.{each_within}
 use Rattle.rbc_local.specs.Local.{IsLocal, local_read_off}
 use Rattle.rbc_pieces.specs.Pieces.{with_centre}
-use Rattle.rbc_pieces.proofs.Off.{shows, mark_stays, wish_stays, mission_stays, mission_put, wish_at_home, given_is_hand, mission_at_registrar}
+use Rattle.rbc_pieces.proofs.Off.{shows, mark_stays, wish_stays, mission_stays, mission_put, given_is_hand, mission_at_registrar}
 use Rattle.rbc_pieces.proofs.Missions.{mission_here, mission_changes}
 use Rattle.rbc_pieces.proofs.Books.{booked_marks, free_is_open, supervises_is}
-use Rattle.rbc_pieces.proofs.Dismissals.{dismissal}
-use Rattle.rbc_pieces.proofs.Messages.{Answers, AtOnce, Goes, ticked, message, before, reply, left, answers_at_once, message_goes}
+use Rattle.rbc_pieces.proofs.Messages.{AtOnce, ticked, message, before, reply, left}
 
 -- ## A start
 
-module _ (line : Line) (w : World) (local : IsLocal line w) (c t_train t : ℕ) (trains : List ℕ) (at : is_centre line c ≡ true) (is_valid : Bool) (position : Position) where
+module _ (line : Line) (w : World) (local : IsLocal line w) (c t_train t : ℕ) (trains : List ℕ) (at : is_centre line c ≡ true) (is_valid : Bool) (position : Position)
+    (registered : (place : Place) → fit_place line is_valid position ≡ Some place → all_of (is_free line c (w.at c)) (covered line place) ≡ true → is_registrar_of line c t ≡ true) where
   abbrev body : TrainBody
   body = StartOfMission is_valid position
 
@@ -43,12 +40,6 @@ module _ (line : Line) (w : World) (local : IsLocal line w) (c t_train t : ℕ) 
   pub record Decides : Type 0 where
     pub at_once : AtOnce line w local c t_train t trains at body
     pub accepts : IsStartAccepted line v c (message line w local c t_train t trains at body) body at_once.said at_once.mid
-
-  -- or it waits, all sections being free here, at another centre than the train's registrar, and is dismissed
-  pub data Comes : Type 0 where
-    decided : Decides → Comes
-    dismissed : (place : Place) → fit_place line is_valid position ≡ Some place → all_of (is_free line c (w.at c)) (covered line place) ≡ true → is_registrar_of line c t ≡ false
-        → Answers line w local c t_train t trains at body → Comes
 
   -- what is said of a start that is accepted wherever it may be
   abbrev Accepted : Said → LineState → Type 0
@@ -84,8 +75,8 @@ module _ (line : Line) (w : World) (local : IsLocal line w) (c t_train t : ℕ) 
     sayings : (reply line w local c t_train t trains at body).sayings ≡ rejection_said.sayings
     words : (reply line w local c t_train t trains at body).words ≡ []
 
-  rejected_at_once : IsRejection → Starts line t c (fit_place line is_valid position) v rejection_said (says t c v) → Accepted rejection_said (says t c v) → Comes
-  rejected_at_once is step_is accepts = decided (record {
+  rejected_at_once : IsRejection → Starts line t c (fit_place line is_valid position) v rejection_said (says t c v) → Accepted rejection_said (says t c v) → Decides
+  rejected_at_once is step_is accepts = record {
     at_once = record {
       state = told_one;
       said = rejection_said;
@@ -97,12 +88,12 @@ module _ (line : Line) (w : World) (local : IsLocal line w) (c t_train t : ℕ) 
       shown = rejected_shown;
     };
     accepts = accepts;
-  })
+  }
 
   rejects : Rejects t c v rejection_said (says t c v)
   rejects = record { said_is = refl; new_is = refl }
 
-  without_place : fit_place line is_valid position ≡ None → Comes
+  without_place : fit_place line is_valid position ≡ None → Decides
   unfolding ◌>>◌
   without_place none = rejected_at_once (record { state = rw none refl; sayings = rw none refl; words = rw none refl }) (rw none rejects) (λ p is. let wrong : None ≡ Some p = sym none ∙ is in cc)
 
@@ -119,18 +110,18 @@ module _ (line : Line) (w : World) (local : IsLocal line w) (c t_train t : ℕ) 
       not_without : {said : Said} {new : LineState} → Accepted said new
       not_without p is may here none = let wrong : None ≡ Some (seen c m) = sym none ∙ mission_here line w c t m local has in cc
 
-      restart_rejected : all_of (within m.hand) (covered line place) ≡ false → Comes
+      restart_rejected : all_of (within m.hand) (covered line place) ≡ false → Decides
       unfolding ◌>>◌
       restart_rejected out = rejected_at_once (record { state = rw (fit) (rw (has) (rw out refl)); sayings = rw (fit) (rw (has) (rw out refl)); words = rw (fit) (rw (has) (rw out refl)) })
           (rw (fit) (rw (supervised) (rw (in_hand_is ∙ out) rejects))) not_without
 
-      restart_accepted : all_of (within m.hand) (covered line place) ≡ true → Comes
+      restart_accepted : all_of (within m.hand) (covered line place) ≡ true → Decides
       unfolding ◌>>◌
       restart_accepted inside =
           let change : centre.Mission → centre.Mission = λ n. record n { place = place; has_data = false; is_ended = false; proposal = None } in
           let state : centre.Centre = record k { heard = put k.heard t (Some t_train); said = put k.said t (k.said t + 1); mission = put k.mission t (option_map (λ (n : centre.Mission). record n { place = place; has_data = false; is_ended = false; proposal = None }) (k.mission t)) } in
           let shown : LineState = says t c (restarted t place v) in
-          decided (record {
+          record {
             at_once = record {
               state = state;
               said = acceptance_said;
@@ -150,12 +141,12 @@ module _ (line : Line) (w : World) (local : IsLocal line w) (c t_train t : ℕ) 
               });
             };
             accepts = not_without;
-          })
+          }
 
-      restarts : Comes
+      restarts : Decides
       restarts = by_hand (all_of (within m.hand) (covered line place)) refl
         where
-          by_hand : (b : Bool) → all_of (within m.hand) (covered line place) ≡ b → Comes
+          by_hand : (b : Bool) → all_of (within m.hand) (covered line place) ≡ b → Decides
           by_hand true is = restart_accepted is
           by_hand false is = restart_rejected is
 
@@ -171,7 +162,7 @@ module _ (line : Line) (w : World) (local : IsLocal line w) (c t_train t : ℕ) 
       may_is : may_start line v c place ≡ all_of (is_free line c (w.at c)) (covered line place)
       may_is = ap (λ (test : ℕ → Bool). all_of test (covered line place)) (λ i s. free_is_open line w c s i)
 
-      not_free : all_of (is_free line c (w.at c)) (covered line place) ≡ false → Comes
+      not_free : all_of (is_free line c (w.at c)) (covered line place) ≡ false → Decides
       unfolding ◌>>◌
       not_free out = rejected_at_once (record { state = rw (fit) (rw (has_none) (rw out refl)); sayings = rw (fit) (rw (has_none) (rw out refl)); words = rw (fit) (rw (has_none) (rw out refl)) })
           (rw (fit) (rw (unsupervised) (rw (may_is ∙ out) rejects)))
@@ -181,18 +172,7 @@ module _ (line : Line) (w : World) (local : IsLocal line w) (c t_train t : ℕ) 
         each_free : (s : ℕ) → within (covered line place) s ≡ true → is_free line c (w.at c) s ≡ true
         each_free s inside = each_within (is_free line c (w.at c)) (covered line place) is_all_free s inside
 
-        unwished_there : (s : ℕ) → within (covered line place) s ≡ true → v.wish s ≡ false
-        unwished_there s inside =
-            let parts = and_parts (is_home line c s) (is_open ((w.at c).book s)) (each_free s inside) in
-            wish_at_home line w c s parts.0 ∙ (local.each c).unwished s (open_unused ((w.at c).book s) parts.1)
-          where
-            open_unused : (entry : centre.Entry) → is_open entry ≡ true → is_unused entry ≡ true
-            open_unused centre.Shut h = cc
-            open_unused centre.Open h = refl
-            open_unused (centre.Taken u) h = cc
-            open_unused (centre.Out u d) h = cc
-
-        begun_here : is_registrar_of line c t ≡ true → Comes
+        begun_here : is_registrar_of line c t ≡ true → Decides
         unfolding ◌>>◌
         begun_here here =
             let right : (w.at c).has_right t ≡ true = (local.each c).right t ∙ both_are here (ap is_none has_none) in
@@ -206,7 +186,7 @@ module _ (line : Line) (w : World) (local : IsLocal line w) (c t_train t : ℕ) 
             in
             let shown : LineState = says t c (begins line t c place v) in
             let no_mission : v.mission t ≡ None = mission_at_registrar line w c t here ∙ ap (option_map (seen c)) has_none in
-            decided (record {
+            record {
               at_once = record {
                 state = state;
                 said = acceptance_said;
@@ -226,61 +206,31 @@ module _ (line : Line) (w : World) (local : IsLocal line w) (c t_train t : ℕ) 
                 });
               };
               accepts = λ p is may registrar none. subst (λ (q : Place). Accepts t c v (begins line t c q v) acceptance_said shown) (same_place p is) (record { said_is = refl; new_is = refl });
-            })
+            }
           where
             both_are : {a b : Bool} → a ≡ true → b ≡ true → (a && b) ≡ true
             both_are {a} {b} f g = rw f g
 
-        dismissed_elsewhere : is_registrar_of line c t ≡ false → Comes
-        unfolding ◌>>◌
-        dismissed_elsewhere away = dismissed place fit is_all_free away (record {
-          state = told_one;
-          said = rejection_said;
-          own = nothing;
-          mid = waits line t c place v;
-          quiets = Dismiss t c ∷ [];
-          later = rejection_said;
-          state_is = rw (fit) (rw (has_none) (rw is_all_free (rw (away) refl)));
-          sayings_are = rw (fit) (rw (has_none) (rw is_all_free (rw (away) refl)));
-          words_are = rw (fit) (rw (has_none) (rw is_all_free (rw (away) refl)));
-          own_step = rw (fit) (rw (unsupervised) (rw (may_is ∙ is_all_free) (rw away (record { said_is = refl; new_is = refl }))));
-          quiet_steps = subst (TakesAll line (waits line t c place v) (Dismiss t c ∷ []) rejection_said) (sym rejected_shown) (dismissal line v t c place refl (may_is ∙ is_all_free) unwished_there);
-          says_it = refl;
-          own_centre = rw (eq-eqb c c refl) refl;
-          none_told = refl;
-        })
+        starts_free : Decides
+        starts_free = begun_here (registered place fit is_all_free)
 
-        starts_free : Comes
-        starts_free = by_registrar (is_registrar_of line c t) refl
-          where
-            by_registrar : (b : Bool) → is_registrar_of line c t ≡ b → Comes
-            by_registrar true is = begun_here is
-            by_registrar false is = dismissed_elsewhere is
-
-      starts_new : Comes
+      starts_new : Decides
       starts_new = by_free (all_of (is_free line c (w.at c)) (covered line place)) refl
         where
-          by_free : (b : Bool) → all_of (is_free line c (w.at c)) (covered line place) ≡ b → Comes
+          by_free : (b : Bool) → all_of (is_free line c (w.at c)) (covered line place) ≡ b → Decides
           by_free true is = starts_free is
           by_free false is = not_free is
 
-    starts_at : Comes
+    starts_at : Decides
     starts_at = by_mission ((w.at c).mission t) refl
       where
-        by_mission : (o : Option centre.Mission) → (w.at c).mission t ≡ o → Comes
+        by_mission : (o : Option centre.Mission) → (w.at c).mission t ≡ o → Decides
         by_mission None is = starts_new is
         by_mission (Some m) is = restarts m is
 
-  pub starts : Comes
+  pub starts : Decides
   starts = by_place (fit_place line is_valid position) refl
     where
-      by_place : (o : Option Place) → fit_place line is_valid position ≡ o → Comes
+      by_place : (o : Option Place) → fit_place line is_valid position ≡ o → Decides
       by_place None is = without_place is
       by_place (Some place) is = starts_at place is
-
-  answers_of : Comes → Answers line w local c t_train t trains at body
-  answers_of (decided d) = answers_at_once line w local c t_train t trains at body d.at_once
-  answers_of (dismissed place fit is_all_free away a) = a
-
-  pub start_goes : Goes line w local c t_train t trains at (StartOfMission is_valid position)
-  start_goes = message_goes line w local c t_train t trains at (StartOfMission is_valid position) (λ _. answers_of starts)

@@ -1,5 +1,5 @@
 -- What the interlocking tells of a section, in parts: the answer to it, and what shows on the line.
-use Rattle.std.proofs.Common.{◌≡◌, ℕ, ◌+◌, Bool, true, false, Option, None, refl, sym, ap, ◌∙◌, List, [], ◌∷◌, inl, inr, subst, if◌then◌else◌}
+use Rattle.std.proofs.Common.{◌≡◌, ℕ, ◌+◌, Bool, true, false, Option, None, refl, ap, ◌∙◌, List, [], ◌∷◌, inl, inr, if◌then◌else◌}
 use Rattle.std.specs.List.{list_all}
 use Rattle.std.proofs.lemmas.Bool.Decides.{eqb_tells}
 use Rattle.rbc_spec.specs.Maps.{put}
@@ -14,12 +14,11 @@ use Rattle.rbc_spec.specs.LineCentre.{LineState, Said, nothing}
 use Rattle.rbc_spec.specs.OwnSteps.{set_mark, wished_back, is_unused_mark}
 use Rattle.rbc_spec.specs.Quiet.{Quiet, is_of_centre, TakesAll, both}
 use Rattle.rbc_spec.specs.World.{World, Event, centre_of}
-use Rattle.rbc_spec.specs.Run.{Piece, OwnStep}
+use Rattle.rbc_spec.specs.Run.{OwnStep}
 use Rattle.rbc_lemmas.proofs.Puts.{put_keeps}
 use Rattle.rbc_local.specs.Local.{IsLocal, local_mark, local_read_off}
 use Rattle.rbc_pieces.specs.Pieces.{with_centre}
 use Rattle.rbc_pieces.proofs.Messages.{nothing_more}
-use Rattle.rbc_pieces.proofs.InOrder.{piece_in_order}
 use Rattle.rbc_pieces.proofs.Off.{shows, mark_stays, wish_stays, mission_stays, mark_at_home, unused_is}
 
 module _ (line : Line) (w : World) (local : IsLocal line w) (c s : ℕ) (trains : List ℕ) (at : is_centre line c ≡ true) where
@@ -38,9 +37,6 @@ module _ (line : Line) (w : World) (local : IsLocal line w) (c s : ℕ) (trains 
   abbrev pub left : centre.Centre → Reply → centre.Centre
   left state r = step.state_after stamp (w.at c) (effect_of (record r { state = state }))
 
-  abbrev pub Piece_of : Event → Reply → Type 0
-  Piece_of event r = Piece line v event (step.outcome_of stamp (w.at c) (effect_of r)) (local_read_off line (with_centre w c (step.state_after stamp (w.at c) (effect_of r)) trains))
-
   -- what the interlocking tells is answered so
   pub record Answers (event : Event) (r : Reply) : Type 0 where
     pub state : centre.Centre
@@ -57,24 +53,6 @@ module _ (line : Line) (w : World) (local : IsLocal line w) (c s : ℕ) (trains 
     pub says_it : said ≡ both own later
     pub own_centre : list_all (is_of_centre line (centre_of event)) quiets ≡ true
     pub none_told : later.words ≡ []
-
-  pub goes : (event : Event) (r : Reply) → Answers event r → Piece_of event r
-  goes event r a =
-      let made : Reply = record { state = a.state; frames = r.frames; sayings = a.said.sayings; words = a.said.words } in
-      let is : r ≡ made = λ i. record { state = a.state_is i; frames = r.frames; sayings = a.sayings_are i; words = a.words_are i } in
-      subst (Piece_of event) (sym is) (record {
-        own = a.own;
-        mid = a.mid;
-        why = None;
-        quiets = a.quiets;
-        later = a.later;
-        own_step = a.own_step;
-        quiet_steps = a.quiet_steps;
-        own_centre = a.own_centre;
-        none_if_silent = inl refl;
-        in_order = piece_in_order line v event a.own a.mid None a.later a.said a.own_step a.none_told a.says_it;
-        says = ap (λ (said : Said). record { said = said; silence = None }) a.says_it;
-      })
 
   -- and at once, with no quiet step behind
   pub record AtOnce (event : Event) (r : Reply) : Type 0 where

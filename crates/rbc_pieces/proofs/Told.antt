@@ -29,7 +29,7 @@ use Rattle.rbc_pieces.proofs.Stands.{hand_of, taken_there}
 use Rattle.rbc_pieces.proofs.Missions.{mission_here, mission_changes}
 use Rattle.rbc_pieces.proofs.Messages.{unseen}
 use Rattle.rbc_pieces.proofs.Asks.{none_asked_elsewhere, none_asked_shut, none_asked_in_hand}
-use Rattle.rbc_pieces.proofs.Tellings.{Answers, AtOnce, Piece_of, goes, answers_at_once, word_said, wish_put, unused_seen, entered_seen, wish_seen}
+use Rattle.rbc_pieces.proofs.Tellings.{Answers, AtOnce, answers_at_once, word_said, wish_put, unused_seen, entered_seen, wish_seen}
 
 up_is : (phase : centre.Phase) → is_up phase ≡ true → phase ≡ centre.Up
 up_is centre.Closed h = cc
@@ -52,9 +52,6 @@ module _ (line : Line) (w : World) (local : IsLocal line w) (c s : ℕ) (trains 
 
   none_asked : (a : Answer (Unset c s) (step.unset line c s k)) → ((t : ℕ) → MayPropose line a.mid t c s → ⊥) → Unset_answer
   none_asked a none = (answers_at_once line w local c s trains at (Unset c s) (step.unset line c s k) a, not_asked none)
-
-  abbrev Piece_made : Event → Reply → Type 0
-  Piece_made event r = Piece_of line w local c s trains at event r
 
   -- ## A set
 
@@ -103,9 +100,6 @@ module _ (line : Line) (w : World) (local : IsLocal line w) (c s : ℕ) (trains 
       by_home false b h u = set_elsewhere h
       by_home true true h u = set_unused h u
       by_home true false h u = set_used h u
-
-  pub set_goes : Piece_made (Set c s) (step.set line c s k)
-  set_goes = goes line w local c s trains at (Set c s) (step.set line c s k) (answers_at_once line w local c s trains at (Set c s) (step.set line c s k) set_answered)
 
   -- ## An unset
 
@@ -257,6 +251,3 @@ module _ (line : Line) (w : World) (local : IsLocal line w) (c s : ℕ) (trains 
       by_home : (home : Bool) → is_home line c s ≡ home → Unset_answer
       by_home false h = unset_elsewhere h
       by_home true h = unset_at_home ((w.at c).book s) refl h
-
-  pub unset_goes : Piece_made (Unset c s) (step.unset line c s k)
-  unset_goes = goes line w local c s trains at (Unset c s) (step.unset line c s k) unset_answered.0

@@ -2,7 +2,6 @@
 use Rattle.std.proofs.Common.{◌≡◌, ℕ, ◌==◌, ◌&&◌, not, Bool, true, false, if◌then◌else◌, length, nat_lt, is_none, is_some, Option, Some, None, refl, ◌∙◌}
 use Rattle.std.specs.Option.{option_map_or}
 use Rattle.rbc_spec.specs.Maps.{put, has}
-use Rattle.rbc_spec.specs.Reach.{Reach, follows_rule}
 use Rattle.rbc_spec.specs.SectionRuns.{SectionRun, no_run, within, is_empty, part_before, part_from, all_of, joined, behind}
 use Rattle.rbc_spec.specs.Line.{Line, section, registrar}
 use Rattle.rbc_spec.specs.Sections.{nid_rbc}
@@ -143,11 +142,11 @@ module _ (line : Line) (c : ℕ) where
       (λ at. when (λ k. may_take line c k d number t at hand) _ (keeps_taken d t heard (record { place = at; hand = hand; pool = no_run; has_data = has_data; is_ended = is_ended; proposal = None; handing = None }))) rests)
 
   -- whatever the link says
-  pub taken_keeps : (reach : Reach) (d : ℕ) (f : Frame) (answer : outcome.Taken) → Keeps (taken_by reach line c d f answer)
-  taken_keeps reach d f Next = both _ _ (λ k. still k _ refl) (if_act (follows_rule reach f.body) (received line c d f.body) rest (received_keeps d f.body) rests)
-  taken_keeps reach d f Old = rests
-  taken_keeps reach d f Early = rests
-  taken_keeps reach d f NoLink = rests
+  pub taken_keeps : (d : ℕ) (f : Frame) (answer : outcome.Taken) → Keeps (taken_by line c d f answer)
+  taken_keeps d f Next = both _ _ (λ k. still k _ refl) (received_keeps d f.body)
+  taken_keeps d f Old = rests
+  taken_keeps d f Early = rests
+  taken_keeps d f NoLink = rests
 
   -- ## A message
 
@@ -173,17 +172,17 @@ module _ (line : Line) (c : ℕ) where
   pub keeps_session : (t : ℕ) → Keeps (close_session line c t)
   keeps_session t = both _ _ (both _ _ (λ k. still k _ refl) (λ k. still k _ refl)) (keeps_drop t)
 
-  answered_keeps : (reach : Reach) (m : TrainMessage) (body : TrainBody) → IsSessionOrReport body → Keeps (answered reach line c m body)
-  answered_keeps reach m InitiationOfSession is = both _ _ (both _ _ (keeps_session m.nid_engine) (λ k. still k _ refl)) (λ k. still k _ refl)
-  answered_keeps reach m SessionEstablished is = λ k. still k _ refl
-  answered_keeps reach m (Report position) is = keeps_report m.nid_engine position
-  answered_keeps reach m (TrainData position) is = absurd is
-  answered_keeps reach m (Request position) is = absurd is
-  answered_keeps reach m (ShorteningGranted stamp position) is = absurd is
-  answered_keeps reach m (ShorteningRejected stamp position) is = absurd is
-  answered_keeps reach m (EndOfMission position) is = absurd is
-  answered_keeps reach m TerminationOfSession is = absurd is
-  answered_keeps reach m (StartOfMission is_valid position) is = absurd is
+  answered_keeps : (m : TrainMessage) (body : TrainBody) → IsSessionOrReport body → Keeps (answered line c m body)
+  answered_keeps m InitiationOfSession is = both _ _ (both _ _ (keeps_session m.nid_engine) (λ k. still k _ refl)) (λ k. still k _ refl)
+  answered_keeps m SessionEstablished is = λ k. still k _ refl
+  answered_keeps m (Report position) is = keeps_report m.nid_engine position
+  answered_keeps m (TrainData position) is = absurd is
+  answered_keeps m (Request position) is = absurd is
+  answered_keeps m (ShorteningGranted stamp position) is = absurd is
+  answered_keeps m (ShorteningRejected stamp position) is = absurd is
+  answered_keeps m (EndOfMission position) is = absurd is
+  answered_keeps m TerminationOfSession is = absurd is
+  answered_keeps m (StartOfMission is_valid position) is = absurd is
 
-  pub heard_keeps : (reach : Reach) (m : TrainMessage) → IsSessionOrReport m.body → Keeps (hear_and_answer reach line c m)
-  heard_keeps reach m is = both (hear m) (answered reach line c m m.body) (λ k. still k _ refl) (answered_keeps reach m m.body is)
+  pub heard_keeps : (m : TrainMessage) → IsSessionOrReport m.body → Keeps (hear_and_answer line c m)
+  heard_keeps m is = both (hear m) (answered line c m m.body) (λ k. still k _ refl) (answered_keeps m m.body is)

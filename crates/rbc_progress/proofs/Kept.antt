@@ -5,9 +5,7 @@ use Rattle.std.proofs.lemmas.Bool.{cases_eq}
 use Rattle.rbc_ledger.specs.Sums.{one_if}
 use Rattle.rbc_ledger.specs.Chain.{after_all}
 use Rattle.rbc_ledger.proofs.Sums.{put_same, put_other}
-use Rattle.rbc_ledger.proofs.Network.{each_head}
 use Rattle.rbc_spec.specs.Maps.{put}
-use Rattle.rbc_spec.specs.Reach.{Reach}
 use Rattle.rbc_spec.specs.Line.{Line, IsLine, is_centre}
 use Rattle.rbc_spec.specs.Message.{TrainMessage}
 use Rattle.rbc_spec.specs.Frame.{Frame, Body, AskRight, GiveRight, RefuseRight, ReturnRight, RouteAsk, RouteInfo, RouteWithdraw, RouteReturn, Announce, Cancel, TakingOver, Yield}
@@ -21,7 +19,7 @@ use Rattle.rbc_lemmas.proofs.Puts.{itself, put_keeps}
 use Rattle.rbc_local.proofs.Worlds.{world_of}
 use Rattle.rbc_flow.specs.Flow.{Flow, flow_of}
 use Rattle.rbc_flow.specs.Pairs.{follows, handing_to, announces, count_if}
-use Rattle.rbc_pairs.specs.Orderly.{number_announced, IsHandedWithin, IsOrderly, IsTakenWith}
+use Rattle.rbc_pairs.specs.Orderly.{number_announced, IsOrderly, IsTakenWith}
 use Rattle.rbc_pairs.specs.Steps.{left_by, sent_by}
 use Rattle.rbc_pairs.specs.Worlds.{IsWorldSound}
 use Rattle.rbc_pairs.proofs.Steps.{step_orderly, step_taken}
@@ -101,8 +99,8 @@ module _ (t : ℕ) where
 
 -- ## An act
 
-module _ (reach : Reach) (t : ℕ) where
-  orderly_none : (k y : Centre) (frames : ℕ → List Body) → IsOrderly reach k y frames → y.announced ≡ k.announced → is_handing (k.mission t) ≡ false → is_handing (y.mission t) ≡ false
+module _ (t : ℕ) where
+  orderly_none : (k y : Centre) (frames : ℕ → List Body) → IsOrderly k y frames → y.announced ≡ k.announced → is_handing (k.mission t) ≡ false → is_handing (y.mission t) ≡ false
   orderly_none k y frames is same none = none_from (y.mission t) (λ d. none_after t (frames d) (number_announced (handing_to d (y.mission t))) (λ h. counted d h (is.anew d t h))
       (subst (λ x. after_all (follows t) (frames d) x ≡ Some (number_announced (handing_to d (y.mission t)))) (none_to d (k.mission t) none) (is.leads d t).leads))
     where
@@ -110,7 +108,7 @@ module _ (reach : Reach) (t : ℕ) where
       counted d h (inl is_none) = is_none
       counted d h (inr anew) = absurd (omega (arith, anew.0, anew.1, same))
 
-  taken_none : (a : ℕ) (f : Body) (k new : Centre) (frames : ℕ → List Body) → IsTakenWith reach a f k new frames → new.announced ≡ k.announced → is_handing (k.mission t) ≡ false → is_handing (new.mission t) ≡ false
+  taken_none : (a : ℕ) (f : Body) (k new : Centre) (frames : ℕ → List Body) → IsTakenWith a f k new frames → new.announced ≡ k.announced → is_handing (k.mission t) ≡ false → is_handing (new.mission t) ≡ false
   taken_none a f k new frames is same none = orderly_none is.y new frames is.behind (same ∙ sym is.taking.announced) (none_from (is.y.mission t) (λ d. ⊎_elim
       (λ (here : d ≡ a). subst (λ x. number_announced (handing_to x (is.y.mission t)) ≡ None) (sym here) (is.taking.number t ∙ none_to a (k.mission t) none))
       (λ (apart : d ≢ a). ap number_announced (is.taking.handing d t apart) ∙ none_to d (k.mission t) none)
@@ -118,7 +116,7 @@ module _ (reach : Reach) (t : ℕ) where
 
 -- ## A step of the world that announces none at c
 
-module _ (reach : Reach) (line : Line) (ok : IsLine line) (w : World) (sound : IsWorldSound reach line w) (c t : ℕ) (none : is_handing ((w.at c).mission t) ≡ false) where
+module _ (line : Line) (ok : IsLine line) (w : World) (sound : IsWorldSound line w) (c t : ℕ) (none : is_handing ((w.at c).mission t) ≡ false) where
   abbrev IsNone : Flow → Type 0
   IsNone u = (u.at c).announced ≡ (w.at c).announced → is_handing ((u.at c).mission t) ≡ false
 
@@ -133,17 +131,17 @@ module _ (reach : Reach) (line : Line) (ok : IsLine line) (w : World) (sound : I
           at : put w.at e new c ≡ new
           at = ap (put w.at e new) here ∙ put_same w.at e new
 
-  pub none_anew : (event : Event) (answer : Answer) (new : World) → world_step reach line w event ≡ Ok (answer, new) → (new.at c).announced ≡ (w.at c).announced → is_handing ((new.at c).mission t) ≡ false
-  none_anew = world_step_keeps reach line w sound.flow sound.numbered IsNone (λ same. none)
-      (λ e to event alone. acted_none e (left_by reach line e (w.at e) event)
-      (orderly_none reach t (w.at e) (left_by reach line e (w.at e) event) (sent_by reach line e (w.at e) event) (step_orderly reach line e event (w.at e) alone)))
-      (λ a e from to f head next. acted_none e (left_by reach line e (w.at e) (centre.Deliver a f))
-      (taken_none reach t a f.body (w.at e) (left_by reach line e (w.at e) (centre.Deliver a f)) (sent_by reach line e (w.at e) (centre.Deliver a f))
-      (step_taken reach line ok (flow_of w) sound.flow a e from to f head (each_head (λ i j g. IsHandedWithin reach g) (flow_of w) a e f.body head sound.within.bodies) next)))
+  pub none_anew : (event : Event) (answer : Answer) (new : World) → world_step line w event ≡ Ok (answer, new) → (new.at c).announced ≡ (w.at c).announced → is_handing ((new.at c).mission t) ≡ false
+  none_anew = world_step_keeps line w sound.flow sound.numbered IsNone (λ same. none)
+      (λ e to event alone. acted_none e (left_by line e (w.at e) event)
+      (orderly_none t (w.at e) (left_by line e (w.at e) event) (sent_by line e (w.at e) event) (step_orderly line e event (w.at e) alone)))
+      (λ a e from to f head next. acted_none e (left_by line e (w.at e) (centre.Deliver a f))
+      (taken_none t a f.body (w.at e) (left_by line e (w.at e) (centre.Deliver a f)) (sent_by line e (w.at e) (centre.Deliver a f))
+      (step_taken line ok (flow_of w) sound.flow a e from to f head next)))
 
 -- ## An event that goes on
 
-module _ (reach : Reach) (line : Line) (w : World) (answer : Answer) (new : World) (d : ℕ) where
+module _ (line : Line) (w : World) (answer : Answer) (new : World) (d : ℕ) where
   abbrev IsSame : Type 0
   IsSame = (new.at d).announced ≡ (w.at d).announced
 
@@ -154,27 +152,27 @@ module _ (reach : Reach) (line : Line) (w : World) (answer : Answer) (new : Worl
   stepped_same e trains (Some why) x same is = cc
   stepped_same e trains None x same is = subst (λ (y : World). (y.at d).announced ≡ (w.at d).announced) (ap (λ r. world_of w r) is) (put_keeps (λ (k : Centre). k.announced) w.at e x.1 same d)
 
-  takes_same : (e : ℕ) (trains : List ℕ) (event : centre.Event) → (left_by reach line e (w.at e) event).announced ≡ (w.at e).announced → takes reach line w e trains event ≡ Ok (answer, new) → IsSame
+  takes_same : (e : ℕ) (trains : List ℕ) (event : centre.Event) → (left_by line e (w.at e) event).announced ≡ (w.at e).announced → takes line w e trains event ≡ Ok (answer, new) → IsSame
   unfolding step
-  takes_same e trains event same is = stepped_same e trains (refusal line e (w.at e) event) (taken reach line e event (w.at e)) same is
+  takes_same e trains event same is = stepped_same e trains (refusal line e (w.at e) event) (taken line e event (w.at e)) same is
 
   message_same : (e : ℕ) (m : TrainMessage) (k : Centre) (o : Option Reason) → IsGoingOn (Bytes e (Ok m))
-      → (option_map_or {U = Effect} (λ why. record { reply = rest k; link = None; silence = Some why }) o (record { reply = hear_and_answer reach line e m k; link = None; silence = None })).reply.state.announced ≡ k.announced
+      → (option_map_or {U = Effect} (λ why. record { reply = rest k; link = None; silence = Some why }) o (record { reply = hear_and_answer line e m k; link = None; silence = None })).reply.state.announced ≡ k.announced
   message_same e m k (Some why) on = refl
-  message_same e m k None on = (heard_keeps line e reach m on.0 k).law
+  message_same e m k None on = (heard_keeps line e m on.0 k).law
 
   at_same : (b : Bool) (r : Result (Answer × World) Refusal) → (r ≡ Ok (answer, new) → IsSame) → (if b then r else Ok (NoCentre, w)) ≡ Ok (answer, new) → IsSame
   at_same true r same is = same is
   at_same false r same is = stays_same NoCentre is
 
-  sent_same : (a b : ℕ) (o : Option Frame) → option_map_or (λ f. takes reach line w b w.trains (centre.Deliver a f)) o (Ok (NotSent, w)) ≡ Ok (answer, new) → IsSame
+  sent_same : (a b : ℕ) (o : Option Frame) → option_map_or (λ f. takes line w b w.trains (centre.Deliver a f)) o (Ok (NotSent, w)) ≡ Ok (answer, new) → IsSame
   sent_same a b None is = stays_same NotSent is
   sent_same a b (Some f) is = takes_same b w.trains (centre.Deliver a f)
-      ((taken_keeps line b reach a f (link_answer line b (ticked (stamp_of (w.at b) (centre.Deliver a f)) (w.at b)) a f) (ticked (stamp_of (w.at b) (centre.Deliver a f)) (w.at b))).law) is
+      ((taken_keeps line b a f (link_answer line b (ticked (stamp_of (w.at b) (centre.Deliver a f)) (w.at b)) a f) (ticked (stamp_of (w.at b) (centre.Deliver a f)) (w.at b))).law) is
 
-  pub announced_same : (event : Event) → IsGoingOn event → world_step reach line w event ≡ Ok (answer, new) → IsSame
+  pub announced_same : (event : Event) → IsGoingOn event → world_step line w event ≡ Ok (answer, new) → IsSame
   unfolding world_step
-  announced_same (Bytes e (Ok m)) on is = at_same (is_centre line e) (takes reach line w e (mention line m.nid_engine w.trains) (centre.Train m)) (takes_same e (mention line m.nid_engine w.trains) (centre.Train m)
+  announced_same (Bytes e (Ok m)) on is = at_same (is_centre line e) (takes line w e (mention line m.nid_engine w.trains) (centre.Train m)) (takes_same e (mention line m.nid_engine w.trains) (centre.Train m)
       (message_same e m (ticked (stamp_of (w.at e) (centre.Train m)) (w.at e)) (silence line e (ticked (stamp_of (w.at e) (centre.Train m)) (w.at e)) m) on)) is
   announced_same (Bytes e (Err number)) on is = absurd on
   announced_same (Set e s) on is = absurd on
@@ -182,6 +180,6 @@ module _ (reach : Reach) (line : Line) (w : World) (answer : Answer) (new : Worl
   announced_same (Delivery a b number) on is = sent_same a b (frame_sent w a b number) is
 
 -- so it leaves no handover where there was none
-pub none_new : (reach : Reach) (line : Line) → IsLine line → (w : World) → IsWorldSound reach line w → (event : Event) → IsGoingOn event → (answer : Answer) (new : World) → world_step reach line w event ≡ Ok (answer, new)
+pub none_new : (line : Line) → IsLine line → (w : World) → IsWorldSound line w → (event : Event) → IsGoingOn event → (answer : Answer) (new : World) → world_step line w event ≡ Ok (answer, new)
     → (c t : ℕ) → is_handing ((w.at c).mission t) ≡ false → is_handing ((new.at c).mission t) ≡ false
-none_new reach line ok w sound event on answer new is c t none = none_anew reach line ok w sound c t none event answer new is (announced_same reach line w answer new c event on is)
+none_new line ok w sound event on answer new is c t none = none_anew line ok w sound c t none event answer new is (announced_same line w answer new c event on is)

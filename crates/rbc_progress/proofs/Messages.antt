@@ -4,7 +4,6 @@ use Rattle.std.specs.Option.{option_map_or}
 use Rattle.std.proofs.lemmas.Bool.{cases_Bool}
 use Rattle.rbc_ledger.proofs.Sums.{put_same}
 use Rattle.rbc_spec.specs.Maps.{put}
-use Rattle.rbc_spec.specs.Reach.{Reach}
 use Rattle.rbc_spec.specs.SectionRuns.{joined, behind, part_from, passing}
 use Rattle.rbc_spec.specs.Line.{Line, is_centre, train_number, registrar}
 use Rattle.rbc_spec.specs.Place.{Place, Position, covered, place_on, is_cleared}
@@ -130,19 +129,19 @@ without_proposal : (o : Option Mission) → is_handing (option_map (λ (m : Miss
 without_proposal None = refl
 without_proposal (Some m) = refl
 
-module _ (reach : Reach) (line : Line) (c t x : ℕ) (k : Centre) (known : is_some (train_number line t) ≡ true) where
+module _ (line : Line) (c t x : ℕ) (k : Centre) (known : is_some (train_number line t) ≡ true) where
   -- what is read of the state behind a message that is not silent
   left_is : {X : Type 0} (read : Centre → X) → ((i : Centre) (s : ℕ → List Frame) → read (record i { sent = s }) ≡ read i) → (body : TrainBody) → silence line c (ticked (k.clock + 1) k) (next t x body) ≡ None
-      → read (left_by reach line c k (Train (next t x body))) ≡ read (hear_and_answer reach line c (next t x body) (ticked (k.clock + 1) k)).state
-  left_is read apart body heard = apart (done reach line c k (Train (next t x body))).reply.state (λ d. k.sent d ++ frames_of (k.clock + 1) k (done reach line c k (Train (next t x body))).reply d)
+      → read (left_by line c k (Train (next t x body))) ≡ read (hear_and_answer line c (next t x body) (ticked (k.clock + 1) k)).state
+  left_is read apart body heard = apart (done line c k (Train (next t x body))).reply.state (λ d. k.sent d ++ frames_of (k.clock + 1) k (done line c k (Train (next t x body))).reply d)
       ∙ ap (λ (o : Option Reason). read (option_map_or {U = Effect} (λ why. record { reply = rest (ticked (k.clock + 1) k); link = None; silence = Some why }) o
-      (record { reply = hear_and_answer reach line c (next t x body) (ticked (k.clock + 1) k); link = None; silence = None })).reply.state) heard
+      (record { reply = hear_and_answer line c (next t x body) (ticked (k.clock + 1) k); link = None; silence = None })).reply.state) heard
 
   -- with the session closed, before a start that waited is dropped
   abbrev closed : Centre
   closed = record k { clock = k.clock + 1; heard = put k.heard t (Some (x + 1)); phase = put k.phase t Closed; mission = put k.mission t (option_map (λ (m : Mission). record m { proposal = None }) (k.mission t)) }
 
-  pub initiated : (p : Phase) → IsHanded t x p k → IsHanded t (x + 1) Opened (left_by reach line c k (Train (next t x InitiationOfSession)))
+  pub initiated : (p : Phase) → IsHanded t x p k → IsHanded t (x + 1) Opened (left_by line c k (Train (next t x InitiationOfSession)))
   unfolding ◌>>◌
   initiated p is = let heard = initiation_heard line c t x (ticked (k.clock + 1) k) known is.heard in record {
     handing = left_is (λ i. is_handing (i.mission t)) (λ i s. refl) InitiationOfSession heard ∙ ap (λ (g : ℕ → Option Mission). is_handing (g t)) (drop_mission line c t closed)
@@ -151,7 +150,7 @@ module _ (reach : Reach) (line : Line) (c t x : ℕ) (k : Centre) (known : is_so
     heard = left_is (λ i. i.heard t) (λ i s. refl) InitiationOfSession heard ∙ ap (λ (g : ℕ → Option ℕ). g t) (drop_heard line c t closed) ∙ put_there k.heard t (Some (x + 1));
   }
 
-  pub established : IsHanded t x Opened k → IsHanded t (x + 1) Up (left_by reach line c k (Train (next t x SessionEstablished)))
+  pub established : IsHanded t x Opened k → IsHanded t (x + 1) Up (left_by line c k (Train (next t x SessionEstablished)))
   unfolding ◌>>◌
   established is = let heard = established_heard line c t x (ticked (k.clock + 1) k) known is.heard is.phase_is in record {
     handing = left_is (λ i. is_handing (i.mission t)) (λ i s. refl) SessionEstablished heard ∙ is.handing;
@@ -160,27 +159,27 @@ module _ (reach : Reach) (line : Line) (c t x : ℕ) (k : Centre) (known : is_so
   }
 
   pub reported : (m : Mission) (p : Position) (new : Place) → k.mission t ≡ Some m → place_on line m.place.track p ≡ Some new → passing (is_cleared line new) m.hand ≡ m.hand.count → IsHanded t x Up k
-      → is_handing ((left_by reach line c k (Train (next t x (Report p)))).mission t) ≡ false
+      → is_handing ((left_by line c k (Train (next t x (Report p)))).mission t) ≡ false
   unfolding ◌>>◌
   reported m p new has placed all is = left_is (λ i. is_handing (i.mission t)) (λ i s. refl) (Report p) (report_heard line c t x (ticked (k.clock + 1) k) known is.heard m p new is.phase_is has placed)
       ∙ ap is_handing (report_none line c t m p new placed all (record k { clock = k.clock + 1; heard = put k.heard t (Some (x + 1)) }) has)
 
 -- ## In a world
 
-module _ (reach : Reach) (line : Line) (w : World) (c : ℕ) (to : is_centre line c ≡ true) (m : TrainMessage) (answer : Answer) (new : World) (P : Centre → Type 0) (after : P (left_by reach line c (w.at c) (Train m))) where
+module _ (line : Line) (w : World) (c : ℕ) (to : is_centre line c ≡ true) (m : TrainMessage) (answer : Answer) (new : World) (P : Centre → Type 0) (after : P (left_by line c (w.at c) (Train m))) where
   stepped_at : (o : Option Refusal) (x : Outcome × Centre) → P x.1 → stepped w c (mention line m.nid_engine w.trains) (option_map_or (λ why. Err why) o (Ok x)) ≡ Ok (answer, new) → P (new.at c)
   stepped_at (Some why) x p is = cc
   stepped_at None x p is = subst (λ (y : World). P (y.at c)) (ap (λ r. world_of w r) is) (subst P (sym (put_same w.at c x.1)) p)
 
-  takes_at : takes reach line w c (mention line m.nid_engine w.trains) (Train m) ≡ Ok (answer, new) → P (new.at c)
+  takes_at : takes line w c (mention line m.nid_engine w.trains) (Train m) ≡ Ok (answer, new) → P (new.at c)
   unfolding step
-  takes_at is = stepped_at (refusal line c (w.at c) (Train m)) (taken reach line c (Train m) (w.at c)) after is
+  takes_at is = stepped_at (refusal line c (w.at c) (Train m)) (taken line c (Train m) (w.at c)) after is
 
-  by_centre : (b : Bool) → b ≡ true → (if b then takes reach line w c (mention line m.nid_engine w.trains) (Train m) else Ok (NoCentre, w)) ≡ Ok (answer, new) → P (new.at c)
+  by_centre : (b : Bool) → b ≡ true → (if b then takes line w c (mention line m.nid_engine w.trains) (Train m) else Ok (NoCentre, w)) ≡ Ok (answer, new) → P (new.at c)
   by_centre true is done = takes_at done
   by_centre false is done = cc
 
   -- the step of a message leaves its centre so
-  pub left_at : world_step reach line w (Bytes c (Ok m)) ≡ Ok (answer, new) → P (new.at c)
+  pub left_at : world_step line w (Bytes c (Ok m)) ≡ Ok (answer, new) → P (new.at c)
   unfolding world_step
   left_at done = by_centre (is_centre line c) to done

@@ -7,7 +7,6 @@ use Rattle.std.proofs.lemmas.List.Quantifiers.{position-Some}
 use Rattle.std.proofs.lemmas.List.Elements.{All-nil, All-cons, All-head, All-tail}
 use Rattle.rbc_ledger.specs.Network.{way}
 use Rattle.rbc_ledger.specs.Chain.{after_all}
-use Rattle.rbc_spec.specs.Reach.{Reach}
 use Rattle.rbc_spec.specs.Line.{Line, Train, IsLine, is_centre, train_number}
 use Rattle.rbc_spec.specs.Message.{Report, InitiationOfSession, SessionEstablished, unknown_time}
 use Rattle.rbc_spec.specs.Frame.{Frame, Body}
@@ -44,7 +43,7 @@ ends_as : (t : ℕ) (fs : List Body) (start last : Option ℕ) → fs ≡ [] →
 unfolding after_all
 ends_as t fs start last none leads = same_number start last (subst (λ gs. after_all (follows t) gs start ≡ Some last) none leads)
 
-module _ (reach : Reach) (line : Line) (w : World) (reached : IsReachedSo reach line w) (at_rest : IsAtRest line w) (none : (c t : ℕ) → is_handing ((w.at c).mission t) ≡ false) where
+module _ (line : Line) (w : World) (reached : IsReachedSo line w) (at_rest : IsAtRest line w) (none : (c t : ℕ) → is_handing ((w.at c).mission t) ≡ false) where
   expects_none : (c t a : ℕ) → is_centre line c ≡ true → a < centre_count line → is_some ((w.at c).expects a t) ≡ false
   expects_none c t a to from = unexpected ((w.at c).expects a t) (ends_as t (way (flow_of w) a c) (number_expected ((w.at c).expects a t)) (number_announced (handing_to c ((w.at a).mission t))) empty
       (reached.sound.flow.pairs a c t (lt-ltb a (centre_count line) from) to).chain.leads ∙ none_to c ((w.at a).mission t) (none a t))
@@ -96,69 +95,69 @@ delivery_on (Bytes c read) is = absurd is
 delivery_on (Set c s) is = absurd is
 delivery_on (Unset c s) is = absurd is
 
-module _ (reach : Reach) (line : Line) (ok : IsLine line) where
+module _ (line : Line) (ok : IsLine line) where
   -- what is known of each world on the way
   record IsMid (w : World) : Type 0 where
-    reached : IsReachedSo reach line w
+    reached : IsReachedSo line w
     ranges : IsWorldInRange line w
 
   -- no mission has a handover in v that had none in w
   abbrev HasNoNew : World → World → Type 0
   HasNoNew w v = (c t : ℕ) → is_handing ((w.at c).mission t) ≡ false → is_handing ((v.at c).mission t) ≡ false
 
-  ends_here : (w : World) → (IsAtRest line w × (HasNoHandover line w ⊎ IsOutOfStamps line w)) ⊎ IsRefusedThere reach line w → GoesOn reach line w
-  ends_here w ends = record { events = []; going_on = All-nil IsGoingOn; answers = []; last = w; ran = run_of_none reach line w; ends = ends }
+  ends_here : (w : World) → (IsAtRest line w × (HasNoHandover line w ⊎ IsOutOfStamps line w)) ⊎ IsRefusedThere line w → GoesOn line w
+  ends_here w ends = record { events = []; going_on = All-nil IsGoingOn; answers = []; last = w; ran = run_of_none line w; ends = ends }
 
-  goes_first : (w : World) (event : Event) → IsGoingOn event → (answer : Answer) (new : World) → world_step reach line w event ≡ Ok (answer, new) → GoesOn reach line new → GoesOn reach line w
+  goes_first : (w : World) (event : Event) → IsGoingOn event → (answer : Answer) (new : World) → world_step line w event ≡ Ok (answer, new) → GoesOn line new → GoesOn line w
   goes_first w event on answer new is later = record {
     events = event ∷ later.events;
     going_on = All-cons IsGoingOn event later.events on later.going_on;
     answers = answer ∷ later.answers;
     last = later.last;
-    ran = whole_run reach line w event later.events (answer, new) (Ok (later.answers, later.last)) is later.ran;
+    ran = whole_run line w event later.events (answer, new) (Ok (later.answers, later.last)) is later.ran;
     ends = later.ends;
   }
 
-  mid_step : (w : World) → IsMid w → (event : Event) → IsGoingOn event → (answer : Answer) (new : World) → world_step reach line w event ≡ Ok (answer, new) → IsMid new
+  mid_step : (w : World) → IsMid w → (event : Event) → IsGoingOn event → (answer : Answer) (new : World) → world_step line w event ≡ Ok (answer, new) → IsMid new
   mid_step w mid event on answer new is = record {
-    reached = step_reached reach line ok w mid.reached event answer new is;
-    ranges = step_in_range reach line ok w mid.ranges event (in_range event on) answer new is;
+    reached = step_reached line ok w mid.reached event answer new is;
+    ranges = step_in_range line ok w mid.ranges event (in_range event on) answer new is;
   }
 
   -- an event is refused, or goes on
   by_event : (w : World) → IsMid w → (event : Event) → IsGoingOn event
-      → ((answer : Answer) (new : World) → world_step reach line w event ≡ Ok (answer, new) → IsMid new → HasNoNew w new → GoesOn reach line new) → GoesOn reach line w
-  by_event w mid event on later = by_result (world_step reach line w event) refl
+      → ((answer : Answer) (new : World) → world_step line w event ≡ Ok (answer, new) → IsMid new → HasNoNew w new → GoesOn line new) → GoesOn line w
+  by_event w mid event on later = by_result (world_step line w event) refl
     where
-      by_result : (r : Result (Answer × World) Refusal) → world_step reach line w event ≡ r → GoesOn reach line w
+      by_result : (r : Result (Answer × World) Refusal) → world_step line w event ≡ r → GoesOn line w
       by_result (Err why) is = ends_here w (inr (record { event = event; going_on = on; why = why; refused = is }))
       by_result (Ok (answer, new)) is = goes_first w event on answer new is
-          (later answer new is (mid_step w mid event on answer new is) (none_new reach line ok w mid.reached.sound event on answer new is))
+          (later answer new is (mid_step w mid event on answer new is) (none_new line ok w mid.reached.sound event on answer new is))
 
   same_end : (p q : List Answer × World) → ◌≡◌ {A = Result (List Answer × World) Refusal} (Ok p) (Ok q) → p ≡ q
   same_end p q e = cc
 
-  delivers_all : (events : List Event) → All IsDelivery events → (w : World) → IsMid w → (answers : List Answer) (last : World) → world_run reach line w events ≡ Ok (answers, last)
-      → (IsMid last → HasNoNew w last → GoesOn reach line last) → GoesOn reach line w
+  delivers_all : (events : List Event) → All IsDelivery events → (w : World) → IsMid w → (answers : List Answer) (last : World) → world_run line w events ≡ Ok (answers, last)
+      → (IsMid last → HasNoNew w last → GoesOn line last) → GoesOn line w
   unfolding world_run
   delivers_all [] all w mid answers last is later =
-      subst (λ (x : World). (IsMid x → HasNoNew w x → GoesOn reach line x) → GoesOn reach line w) (ap (λ (q : List Answer × World). q.1) (same_end ([], w) (answers, last) is))
+      subst (λ (x : World). (IsMid x → HasNoNew w x → GoesOn line x) → GoesOn line w) (ap (λ (q : List Answer × World). q.1) (same_end ([], w) (answers, last) is))
       (λ goes. goes mid (λ c t none. none)) later
   delivers_all (event ∷ events) all w mid answers last is later =
-      let first = bind_ok (world_step reach line w event) _ (answers, last) is in
-      let others = bind_ok (world_run reach line first.0.1 events) _ (answers, last) first.2 in
+      let first = bind_ok (world_step line w event) _ (answers, last) is in
+      let others = bind_ok (world_run line first.0.1 events) _ (answers, last) first.2 in
       let same : others.0.1 ≡ last = ap (λ (q : List Answer × World). q.1) (same_end (first.0.0 ∷ others.0.0, others.0.1) (answers, last) others.2) in
       let on = delivery_on event (All-head IsDelivery event events all) in
       goes_first w event on first.0.0 first.0.1 first.1
       (delivers_all events (All-tail IsDelivery event events all) first.0.1 (mid_step w mid event on first.0.0 first.0.1 first.1) others.0.0 others.0.1 others.1
-      (subst (λ (x : World). IsMid x → HasNoNew first.0.1 x → GoesOn reach line x) (sym same)
-      (λ at none. later at (λ c t before. none c t (none_new reach line ok w mid.reached.sound event on first.0.0 first.0.1 first.1 c t before)))))
+      (subst (λ (x : World). IsMid x → HasNoNew first.0.1 x → GoesOn line x) (sym same)
+      (λ at none. later at (λ c t before. none c t (none_new line ok w mid.reached.sound event on first.0.0 first.0.1 first.1 c t before)))))
 
-  to_rest : (w : World) → IsMid w → ((v : World) → IsMid v → IsAtRest line v → HasNoNew w v → GoesOn reach line v) → GoesOn reach line w
-  to_rest w mid later = let it = comes_to_rest reach line ok w mid.reached mid.ranges in
+  to_rest : (w : World) → IsMid w → ((v : World) → IsMid v → IsAtRest line v → HasNoNew w v → GoesOn line v) → GoesOn line w
+  to_rest w mid later = let it = comes_to_rest line ok w mid.reached mid.ranges in
       delivers_all it.events it.are_deliveries w mid it.answers it.last it.ran (λ at none. by_end it.last at none it.ends)
     where
-      by_end : (v : World) → IsMid v → HasNoNew w v → IsAtRest line v ⊎ IsStopped reach line v → GoesOn reach line v
+      by_end : (v : World) → IsMid v → HasNoNew w v → IsAtRest line v ⊎ IsStopped line v → GoesOn line v
       by_end v at none (inl rest) = later v at rest none
       by_end v at none (inr stopped) = ends_here v (inr (record { event = stopped.event; going_on = delivery_on stopped.event stopped.is_delivery; why = stopped.why; refused = stopped.refused }))
 
@@ -167,45 +166,45 @@ module _ (reach : Reach) (line : Line) (ok : IsLine line) where
   module _ (c t : ℕ) (to : is_centre line c ≡ true) (known : is_some (train_number line t) ≡ true) where
     -- behind which the handover has ended, and none has come
     abbrev Behind : World → Type 0
-    Behind w = (v : World) → IsMid v → HasNoNew w v → is_handing ((v.at c).mission t) ≡ false → GoesOn reach line v
+    Behind w = (v : World) → IsMid v → HasNoNew w v → is_handing ((v.at c).mission t) ≡ false → GoesOn line v
 
     some_mission : (o : Option Mission) → is_handing o ≡ true → (m : Mission) × (o ≡ Some m)
     some_mission None is = cc
     some_mission (Some m) is = (m, refl)
 
-    by_report : (w : World) → IsMid w → (x : ℕ) → x + 1 < unknown_time → IsHanded t x Up (w.at c) → Behind w → GoesOn reach line w
+    by_report : (w : World) → IsMid w → (x : ℕ) → x + 1 < unknown_time → IsHanded t x Up (w.at c) → Behind w → GoesOn line w
     by_report w mid x few is later =
         let m = some_mission ((w.at c).mission t) is.handing in
         let clear = clears line ok m.0.place m.0.hand ((mid.reached.sound.flow.centres c to).mission t m.0 m.1).hand in
         by_event w mid (Bytes c (Ok (next t x (Report (at_end line clear.section)))))
         (record {}, record { t_train = few; report = record { scale = omega arith; length = λ l same. let none : 0 ≡ l = cc in omega (arith, none) } })
-        (λ answer new done at none. later new at none (left_at reach line w c to (next t x (Report (at_end line clear.section))) answer new (λ k. is_handing (k.mission t) ≡ false)
-        (reported reach line c t x (w.at c) known m.0 (at_end line clear.section) clear.new m.1 clear.is_placed clear.is_all is) done))
+        (λ answer new done at none. later new at none (left_at line w c to (next t x (Report (at_end line clear.section))) answer new (λ k. is_handing (k.mission t) ≡ false)
+        (reported line c t x (w.at c) known m.0 (at_end line clear.section) clear.new m.1 clear.is_placed clear.is_all is) done))
 
-    by_established : (w : World) → IsMid w → (x : ℕ) → x + 2 < unknown_time → IsHanded t x Opened (w.at c) → Behind w → GoesOn reach line w
+    by_established : (w : World) → IsMid w → (x : ℕ) → x + 2 < unknown_time → IsHanded t x Opened (w.at c) → Behind w → GoesOn line w
     by_established w mid x few is later = by_event w mid (Bytes c (Ok (next t x SessionEstablished))) (record {}, record { t_train = omega (arith, few); report = record {} })
         (λ answer new done at none. by_report new at (x + 1) (omega (arith, few))
-        (left_at reach line w c to (next t x SessionEstablished) answer new (IsHanded t (x + 1) Up) (established reach line c t x (w.at c) known is) done)
+        (left_at line w c to (next t x SessionEstablished) answer new (IsHanded t (x + 1) Up) (established line c t x (w.at c) known is) done)
         (λ v there behind ended. later v there (λ d u before. behind d u (none d u before)) ended))
 
-    by_initiation : (w : World) → IsMid w → (x : ℕ) → x + 3 < unknown_time → (p : Phase) → IsHanded t x p (w.at c) → Behind w → GoesOn reach line w
+    by_initiation : (w : World) → IsMid w → (x : ℕ) → x + 3 < unknown_time → (p : Phase) → IsHanded t x p (w.at c) → Behind w → GoesOn line w
     by_initiation w mid x few p is later = by_event w mid (Bytes c (Ok (next t x InitiationOfSession))) (record {}, record { t_train = omega (arith, few); report = record {} })
         (λ answer new done at none. by_established new at (x + 1) (omega (arith, few))
-        (left_at reach line w c to (next t x InitiationOfSession) answer new (IsHanded t (x + 1) Opened) (initiated reach line c t x (w.at c) known p is) done)
+        (left_at line w c to (next t x InitiationOfSession) answer new (IsHanded t (x + 1) Opened) (initiated line c t x (w.at c) known p is) done)
         (λ v there behind ended. later v there (λ d u before. behind d u (none d u before)) ended))
 
     some_heard : (o : Option ℕ) → is_some o ≡ true → (x : ℕ) × (o ≡ Some x)
     some_heard None is = cc
     some_heard (Some x) is = (x, refl)
 
-    ends_one : (w : World) → IsMid w → IsAtRest line w → is_handing ((w.at c).mission t) ≡ true → (x : ℕ) → (w.at c).heard t ≡ Some x → Behind w → GoesOn reach line w
+    ends_one : (w : World) → IsMid w → IsAtRest line w → is_handing ((w.at c).mission t) ≡ true → (x : ℕ) → (w.at c).heard t ≡ Some x → Behind w → GoesOn line w
     ends_one w mid rest handing x heard later = ⊎_elim
         (λ (those : x + messages_for_report ((w.at c).phase t) < unknown_time). by_phase ((w.at c).phase t) refl those)
         (λ (none : unknown_time ≤ x + messages_for_report ((w.at c).phase t)). ends_here w
         (inl (rest, inr (record { c = c; t = t; last = x; of_line = to; handing = handing; heard = heard; none_left = none }))))
         (cases_lt (x + messages_for_report ((w.at c).phase t)) unknown_time)
       where
-        by_phase : (p : Phase) → (w.at c).phase t ≡ p → x + messages_for_report p < unknown_time → GoesOn reach line w
+        by_phase : (p : Phase) → (w.at c).phase t ≡ p → x + messages_for_report p < unknown_time → GoesOn line w
         by_phase Closed is those = by_initiation w mid x those Closed (record { handing = handing; phase_is = is; heard = heard }) later
         by_phase Opened is those = by_established w mid x those (record { handing = handing; phase_is = is; heard = heard }) later
         by_phase Up is those = by_report w mid x those (record { handing = handing; phase_is = is; heard = heard }) later
@@ -228,7 +227,7 @@ module _ (reach : Reach) (line : Line) (ok : IsLine line) where
 
   -- a handover that stands ends, and the line comes to rest again
   ends_there : (w : World) → IsMid w → IsAtRest line w → (c t : ℕ) → is_handing ((w.at c).mission t) ≡ true
-      → ((v : World) → IsMid v → IsAtRest line v → HasNoNew w v → is_handing ((v.at c).mission t) ≡ false → GoesOn reach line v) → GoesOn reach line w
+      → ((v : World) → IsMid v → IsAtRest line v → HasNoNew w v → is_handing ((v.at c).mission t) ≡ false → GoesOn line v) → GoesOn line w
   ends_there w mid rest c t handing later =
       let known = known_of w mid c t handing in
       let x = some_heard c t (of_line w mid c t handing) known.0 ((w.at c).heard t) known.1 in
@@ -262,7 +261,7 @@ module _ (reach : Reach) (line : Line) (ok : IsLine line) where
       by_place (inl below) = inl below
       by_place (inr here) = inr (here.0, by_train (p.nid_engine == t) refl here.0 here.1)
 
-  ends_at : (n : ℕ) → ((v : World) → IsMid v → IsAtRest line v → AreBelow v n → GoesOn reach line v) → (ts : List Train) (w : World) → IsMid w → IsAtRest line w → AreLeft w n ts → GoesOn reach line w
+  ends_at : (n : ℕ) → ((v : World) → IsMid v → IsAtRest line v → AreBelow v n → GoesOn line v) → (ts : List Train) (w : World) → IsMid w → IsAtRest line w → AreLeft w n ts → GoesOn line w
   ends_at n later [] w mid rest those = later w mid rest (λ c t handing. below c t (those c t handing))
     where
       below : (c t : ℕ) → (c < n) ⊎ ((c ≡ n) × (list_any (λ (q : Train). q.nid_engine == t) [] ≡ true)) → c < n
@@ -274,8 +273,8 @@ module _ (reach : Reach) (line : Line) (ok : IsLine line) where
       (λ (ended : is_handing ((w.at n).mission p.nid_engine) ≡ false). ends_at n later ts w mid rest (one_less n p ts w w (λ c t before. before) ended those))
       (cases_Bool (is_handing ((w.at n).mission p.nid_engine)))
 
-  ends_below : (n : ℕ) (w : World) → IsMid w → IsAtRest line w → AreBelow w n → GoesOn reach line w
-  ends_below zero w mid rest below = ends_here w (inl (rest, inl (no_handover reach line w mid.reached rest none)))
+  ends_below : (n : ℕ) (w : World) → IsMid w → IsAtRest line w → AreBelow w n → GoesOn line w
+  ends_below zero w mid rest below = ends_here w (inl (rest, inl (no_handover line w mid.reached rest none)))
     where
       none : (c t : ℕ) → is_handing ((w.at c).mission t) ≡ false
       none c t = ⊎_elim (λ (handing : is_handing ((w.at c).mission t) ≡ true). absurd (omega (arith, below c t handing))) (λ (so : is_handing ((w.at c).mission t) ≡ false). so)
@@ -286,6 +285,6 @@ module _ (reach : Reach) (line : Line) (ok : IsLine line) where
       at_last c t handing (inl low) = inl low
       at_last c t handing (inr high) = inr (omega (arith, high, below c t handing), known_among line t (known_of w mid c t handing).0)
 
-  pub goes_on : (w : World) → IsReachedSo reach line w → IsWorldInRange line w → GoesOn reach line w
+  pub goes_on : (w : World) → IsReachedSo line w → IsWorldInRange line w → GoesOn line w
   goes_on w reached ranges = to_rest w (record { reached = reached; ranges = ranges }) (λ v mid rest none. ends_below (centre_count line) v mid rest
       (λ c t handing. ltb-true c (centre_count line) (of_line v mid c t handing)))

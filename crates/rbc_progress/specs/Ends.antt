@@ -1,7 +1,6 @@
 -- Handovers that can end: what leads from a world to one at rest without a handover.
 use Rattle.std.specs.Prelude.{◌≡◌, ◌⊎◌, ℕ, ◌+◌, ◌≤◌, Bool, List, true, false, All, Option, Some, is_some, Ok, Err}
 use Rattle.rbc_spec.specs.Maps.{has}
-use Rattle.rbc_spec.specs.Reach.{Reach}
 use Rattle.rbc_spec.specs.Line.{Line, is_centre}
 use Rattle.rbc_spec.specs.Message.{TrainBody, Report, InitiationOfSession, SessionEstablished, unknown_time}
 use Rattle.rbc_spec.specs.Centre.{Mission, Phase, Closed, Opened, Up, is_expected}
@@ -49,17 +48,17 @@ pub record IsOutOfStamps (line : Line) (w : World) : Type 0 where
   pub none_left : unknown_time ≤ last + messages_for_report ((w.at c).phase t)
 
 -- the step of such an event is refused: a step clock is at its end, or a link is full
-pub record IsRefusedThere (reach : Reach) (line : Line) (w : World) : Type 0 where
+pub record IsRefusedThere (line : Line) (w : World) : Type 0 where
   pub event : Event
   pub going_on : IsGoingOn event
   pub why : Refusal
-  pub refused : world_step reach line w event ≡ Err why
+  pub refused : world_step line w event ≡ Err why
 
 -- finitely many deliveries and messages of trains lead from w to rest, with no handover or with a train that is out of stamps; or to a step that is refused
-pub record GoesOn (reach : Reach) (line : Line) (w : World) : Type 0 where
+pub record GoesOn (line : Line) (w : World) : Type 0 where
   pub events : List Event
   pub going_on : All IsGoingOn events
   pub answers : List Answer
   pub last : World
-  pub ran : world_run reach line w events ≡ Ok (answers, last)
-  pub ends : (IsAtRest line last × (HasNoHandover line last ⊎ IsOutOfStamps line last)) ⊎ IsRefusedThere reach line last
+  pub ran : world_run line w events ≡ Ok (answers, last)
+  pub ends : (IsAtRest line last × (HasNoHandover line last ⊎ IsOutOfStamps line last)) ⊎ IsRefusedThere line last

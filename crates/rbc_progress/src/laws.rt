@@ -1,7 +1,6 @@
 //! The law of the ends of handovers.
 
 ghost use Rattle.std.specs.Prelude.{◌≡◌, List, All, Ok};
-ghost use Rattle.rbc_spec.specs.Reach.{Reach};
 ghost use Rattle.rbc_spec.specs.Line.{Line, IsLine};
 ghost use Rattle.rbc_spec.specs.World.{World, Event, Answer, new_world, world_run};
 ghost use Rattle.rbc_ranges.specs.Stays.{IsReadInRange};
@@ -11,6 +10,6 @@ ghost use Rattle.rbc_progress.specs.Ends.{GoesOn};
 /// session or report a place, lead to rest with no handover: none is announced, claimed, expected or taken. Or a step is refused on the way there,
 /// at the end of a step clock or for a full link, or a train whose handover stands has no T_TRAIN left for its report.
 pub fn each_handover_can_end()
-    ensures { (reach : Reach) (line : Line) (events : List Event) (answers : List Answer) (w : World) → IsLine line → All IsReadInRange events
-        → world_run reach line (new_world line) events ≡ Ok (answers, w) → GoesOn reach line w }
+    ensures { (line : Line) (events : List Event) (answers : List Answer) (w : World) → IsLine line → All IsReadInRange events
+        → world_run line (new_world line) events ≡ Ok (answers, w) → GoesOn line w }
 {}

@@ -3,7 +3,6 @@ use Rattle.std.proofs.Common.{◌==◌, ◌≡◌, ℕ, Bool, true, false, List,
 use Rattle.std.specs.Prelude.{Contains}
 use Rattle.std.specs.Option.{option_map_or}
 use Rattle.rbc_spec.specs.Maps.{has}
-use Rattle.rbc_spec.specs.Reach.{Reach}
 use Rattle.rbc_spec.specs.Line.{Line, IsLine, Section, section, is_home, is_centre}
 use Rattle.rbc_spec.specs.Step.{Refusal}
 use Rattle.rbc_spec.specs.Outcome.{Outcome, Told, Done}
@@ -37,13 +36,13 @@ given_is t (Given u) h = ap (λ (x : ℕ). Given x) (eqb-true u t h)
 
 -- ## One event
 
-module _ (reach : Reach) (line : Line) (ok : IsLine line) (w new : World) (events : List Event) (answers : List Answer) (event : Event) (answer : Answer)
-    (before : world_run reach line (new_world line) events ≡ Ok (answers, w)) (is : world_step reach line w event ≡ Ok (answer, new)) where
+module _ (line : Line) (ok : IsLine line) (w new : World) (events : List Event) (answers : List Answer) (event : Event) (answer : Answer)
+    (before : world_run line (new_world line) events ≡ Ok (answers, w)) (is : world_step line w event ≡ Ok (answer, new)) where
   pub leaves_so : (t s : ℕ) → (read_off line w).mark s ≡ Given t → is_given_to t ((read_off line new).mark s) ≡ false → MayFree line w t s event
   leaves_so t s given not_given =
       let home = given_home line w t s given in
-      (promises reach line ok w new events answers event answer before is).freed t s (((run_sound reach line ok events answers w before).stands.mark s home.0 home.1).only_given t given)
-      (λ still. let wrong : true ≡ false = sym (ap (is_given_to t) (((sound_behind reach line ok w new events answers event answer before is).stands.mark s home.0 home.1).given t still).0 ∙ itself t) ∙ not_given in cc)
+      (promises line ok w new events answers event answer before is).freed t s (((run_sound line ok events answers w before).stands.mark s home.0 home.1).only_given t given)
+      (λ still. let wrong : true ≡ false = sym (ap (is_given_to t) (((sound_behind line ok w new events answers event answer before is).stands.mark s home.0 home.1).given t still).0 ∙ itself t) ∙ not_given in cc)
 
 -- ## Told back
 
@@ -54,18 +53,18 @@ home_is_centre line ok s c = by_section (section line s) refl
     by_section None at home = cc
     by_section (Some p) at home = subst (λ d. is_centre line d ≡ true) (eqb-true p.home c home) (home_below line ok s p at)
 
-module _ (reach : Reach) (line : Line) (ok : IsLine line) (w new : World) (events : List Event) (answers : List Answer) (event : Event) (o : Outcome) (c s : ℕ)
-    (before : world_run reach line (new_world line) events ≡ Ok (answers, w)) (is : world_step reach line w event ≡ Ok (Answered o, new)) (home : is_home line c s ≡ true) where
+module _ (line : Line) (ok : IsLine line) (w new : World) (events : List Event) (answers : List Answer) (event : Event) (o : Outcome) (c s : ℕ)
+    (before : world_run line (new_world line) events ≡ Ok (answers, w)) (is : world_step line w event ≡ Ok (Answered o, new)) (home : is_home line c s ≡ true) where
   sound : IsSound line new
-  sound = sound_behind reach line ok w new events answers event (Answered o) before is
+  sound = sound_behind line ok w new events answers event (Answered o) before is
 
   kept : KeepsPromises line w event (Answered o) new
-  kept = promises reach line ok w new events answers event (Answered o) before is
+  kept = promises line ok w new events answers event (Answered o) before is
 
   taken_back : (new.at c).book s ≡ centre.Shut → IsTakenBack line c s new
   taken_back shut = record {
     shut = shut;
-    not_wished = ((world_step_sound reach line ok w (world_run_sound reach line ok events (new_world line) (world_begins reach line) answers w before) event (Answered o) new is).flow.centres c
+    not_wished = ((world_step_sound line ok w (world_run_sound line ok events (new_world line) (world_begins line) answers w before) event (Answered o) new is).flow.centres c
         (home_is_centre line ok s c home)).unwished s (ap centre.is_unused shut);
     held_by_none = sound.one_place.sections s c home ∙ ap user shut;
     marked = (sound.stands.mark s c home).shut shut;
@@ -83,27 +82,27 @@ same_ok : (p q : List Answer × World) → ◌≡◌ {A = Result (List Answer ×
 same_ok p q e = cc
 
 -- one more event behind a run
-run_further : (reach : Reach) (line : Line) (event : Event) (answer : Answer) (new : World) (events : List Event) (w : World) (answers : List Answer) (last : World)
-    → world_run reach line w events ≡ Ok (answers, last) → world_step reach line last event ≡ Ok (answer, new) → world_run reach line w (events ++ event ∷ []) ≡ Ok (answers ++ answer ∷ [], new)
+run_further : (line : Line) (event : Event) (answer : Answer) (new : World) (events : List Event) (w : World) (answers : List Answer) (last : World)
+    → world_run line w events ≡ Ok (answers, last) → world_step line last event ≡ Ok (answer, new) → world_run line w (events ++ event ∷ []) ≡ Ok (answers ++ answer ∷ [], new)
 unfolding world_run
-run_further reach line event answer new [] w answers last is further =
-    subst (λ (q : List Answer × World). world_step reach line q.1 event ≡ Ok (answer, new) → world_run reach line w (event ∷ []) ≡ Ok (q.0 ++ answer ∷ [], new)) (same_ok ([], w) (answers, last) is)
-    (λ e. whole_run reach line w event [] (answer, new) (Ok ([], new)) e (run_of_none reach line new)) further
-run_further reach line event answer new (e ∷ events) w answers last is further =
-    let first = bind_ok (world_step reach line w e) _ (answers, last) is in
-    let others = bind_ok (world_run reach line first.0.1 events) _ (answers, last) first.2 in
+run_further line event answer new [] w answers last is further =
+    subst (λ (q : List Answer × World). world_step line q.1 event ≡ Ok (answer, new) → world_run line w (event ∷ []) ≡ Ok (q.0 ++ answer ∷ [], new)) (same_ok ([], w) (answers, last) is)
+    (λ e. whole_run line w event [] (answer, new) (Ok ([], new)) e (run_of_none line new)) further
+run_further line event answer new (e ∷ events) w answers last is further =
+    let first = bind_ok (world_step line w e) _ (answers, last) is in
+    let others = bind_ok (world_run line first.0.1 events) _ (answers, last) first.2 in
     let same = same_ok (first.0.0 ∷ others.0.0, others.0.1) (answers, last) others.2 in
-    let rest = run_further reach line event answer new events first.0.1 others.0.0 others.0.1 others.1
-    (subst (λ (u : World). world_step reach line u event ≡ Ok (answer, new)) (sym (ap (λ (q : List Answer × World). q.1) same)) further) in
-    whole_run reach line w e (events ++ event ∷ []) first.0 (Ok (others.0.0 ++ answer ∷ [], new)) first.1 rest ∙ ap (λ (q : List Answer × World). Ok (q.0 ++ answer ∷ [], new)) same
+    let rest = run_further line event answer new events first.0.1 others.0.0 others.0.1 others.1
+    (subst (λ (u : World). world_step line u event ≡ Ok (answer, new)) (sym (ap (λ (q : List Answer × World). q.1) same)) further) in
+    whole_run line w e (events ++ event ∷ []) first.0 (Ok (others.0.0 ++ answer ∷ [], new)) first.1 rest ∙ ap (λ (q : List Answer × World). Ok (q.0 ++ answer ∷ [], new)) same
 
-module _ (reach : Reach) (line : Line) (ok : IsLine line) (t s : ℕ) where
+module _ (line : Line) (ok : IsLine line) (t s : ℕ) where
   abbrev pub given_in : World → Bool
   given_in w = is_given_to t ((read_off line w).mark s)
 
   -- a later event, told with those before it
-  one_before : (w : World) (event : Event) (answer : Answer) (next : World) (events : List Event) → world_step reach line w event ≡ Ok (answer, next)
-      → IsFreedWithin reach line next events t s → IsFreedWithin reach line w (event ∷ events) t s
+  one_before : (w : World) (event : Event) (answer : Answer) (next : World) (events : List Event) → world_step line w event ≡ Ok (answer, next)
+      → IsFreedWithin line next events t s → IsFreedWithin line w (event ∷ events) t s
   one_before w event answer next events first it = record {
     front = event ∷ it.front;
     event = it.event;
@@ -111,7 +110,7 @@ module _ (reach : Reach) (line : Line) (ok : IsLine line) (t s : ℕ) where
     cut = ap (λ (es : List Event). event ∷ es) it.cut;
     answers = answer ∷ it.answers;
     before = it.before;
-    answered = whole_run reach line w event it.front (answer, next) (Ok (it.answers, it.before)) first it.answered;
+    answered = whole_run line w event it.front (answer, next) (Ok (it.answers, it.before)) first it.answered;
     answer = it.answer;
     behind = it.behind;
     done = it.done;
@@ -121,9 +120,9 @@ module _ (reach : Reach) (line : Line) (ok : IsLine line) (t s : ℕ) where
   }
 
   -- the event frees the section, or a later one does
-  now_or_later : (w : World) (event : Event) (answer : Answer) (next : World) (events past : List Event) (earlier : List Answer) → world_run reach line (new_world line) past ≡ Ok (earlier, w)
-      → world_step reach line w event ≡ Ok (answer, next) → given_in w ≡ true → (given_in next ≡ true → IsFreedWithin reach line next events t s) → (b : Bool) → given_in next ≡ b
-      → IsFreedWithin reach line w (event ∷ events) t s
+  now_or_later : (w : World) (event : Event) (answer : Answer) (next : World) (events past : List Event) (earlier : List Answer) → world_run line (new_world line) past ≡ Ok (earlier, w)
+      → world_step line w event ≡ Ok (answer, next) → given_in w ≡ true → (given_in next ≡ true → IsFreedWithin line next events t s) → (b : Bool) → given_in next ≡ b
+      → IsFreedWithin line w (event ∷ events) t s
   now_or_later w event answer next events past earlier before first given later true is = one_before w event answer next events first (later is)
   now_or_later w event answer next events past earlier before first given later false is = record {
     front = [];
@@ -132,25 +131,25 @@ module _ (reach : Reach) (line : Line) (ok : IsLine line) (t s : ℕ) where
     cut = refl;
     answers = [];
     before = w;
-    answered = run_of_none reach line w;
+    answered = run_of_none line w;
     answer = answer;
     behind = next;
     done = first;
     given = given_is t ((read_off line w).mark s) given;
     not_given = is;
-    may_free = leaves_so reach line ok w next past earlier event answer before first t s (given_is t ((read_off line w).mark s) given) is;
+    may_free = leaves_so line ok w next past earlier event answer before first t s (given_is t ((read_off line w).mark s) given) is;
   }
 
-  pub freed_within : (events : List Event) (w : World) (past : List Event) (earlier : List Answer) → world_run reach line (new_world line) past ≡ Ok (earlier, w)
-      → (answers : List Answer) (last : World) → world_run reach line w events ≡ Ok (answers, last) → given_in w ≡ true → given_in last ≡ false → IsFreedWithin reach line w events t s
+  pub freed_within : (events : List Event) (w : World) (past : List Event) (earlier : List Answer) → world_run line (new_world line) past ≡ Ok (earlier, w)
+      → (answers : List Answer) (last : World) → world_run line w events ≡ Ok (answers, last) → given_in w ≡ true → given_in last ≡ false → IsFreedWithin line w events t s
   unfolding world_run
   freed_within [] w past earlier before answers last is given not_given =
       absurd (let wrong : true ≡ false = sym given ∙ (ap (λ (q : List Answer × World). given_in q.1) (same_ok ([], w) (answers, last) is) ∙ not_given) in cc)
   freed_within (event ∷ events) w past earlier before answers last is given not_given =
-      let first = bind_ok (world_step reach line w event) _ (answers, last) is in
-      let others = bind_ok (world_run reach line first.0.1 events) _ (answers, last) first.2 in
+      let first = bind_ok (world_step line w event) _ (answers, last) is in
+      let others = bind_ok (world_run line first.0.1 events) _ (answers, last) first.2 in
       let same = same_ok (first.0.0 ∷ others.0.0, others.0.1) (answers, last) others.2 in
       now_or_later w event first.0.0 first.0.1 events past earlier before first.1 given
-      (λ still. freed_within events first.0.1 (past ++ event ∷ []) (earlier ++ first.0.0 ∷ []) (run_further reach line event first.0.0 first.0.1 past (new_world line) earlier w before first.1)
+      (λ still. freed_within events first.0.1 (past ++ event ∷ []) (earlier ++ first.0.0 ∷ []) (run_further line event first.0.0 first.0.1 past (new_world line) earlier w before first.1)
       others.0.0 others.0.1 others.1 still (ap (λ (q : List Answer × World). given_in q.1) same ∙ not_given))
       (given_in first.0.1) refl

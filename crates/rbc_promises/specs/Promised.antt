@@ -1,6 +1,5 @@
 -- What the centres of a line promise, read from the state that the line shows, of one event and of whole lists of events.
 use Rattle.std.specs.Prelude.{◌≡◌, ℕ, List, [], ◌∷◌, ◌++◌, false, Ok}
-use Rattle.rbc_spec.specs.Reach.{Reach}
 use Rattle.rbc_spec.specs.Line.{Line}
 use Rattle.rbc_spec.specs.Centre as centre
 use Rattle.rbc_spec.specs.LineCentre.{Shut, Given, is_given_to}
@@ -10,17 +9,17 @@ use Rattle.rbc_spec.specs.Promises.{MayFree, holders}
 
 -- among the events that go on from w there is one by which the section leaves the hand of the train, and it may: the train reports that it has cleared the
 -- section, or grants the request to give it up, to the centre that supervises it then
-pub record IsFreedWithin (reach : Reach) (line : Line) (w : World) (events : List Event) (t s : ℕ) : Type 0 where
+pub record IsFreedWithin (line : Line) (w : World) (events : List Event) (t s : ℕ) : Type 0 where
   pub front : List Event
   pub event : Event
   pub rest : List Event
   pub cut : events ≡ front ++ event ∷ rest
   pub answers : List Answer
   pub before : World
-  pub answered : world_run reach line w front ≡ Ok (answers, before)
+  pub answered : world_run line w front ≡ Ok (answers, before)
   pub answer : Answer
   pub behind : World
-  pub done : world_step reach line before event ≡ Ok (answer, behind)
+  pub done : world_step line before event ≡ Ok (answer, behind)
   pub given : (read_off line before).mark s ≡ Given t
   pub not_given : is_given_to t ((read_off line behind).mark s) ≡ false
   pub may_free : MayFree line before t s event

@@ -1,4 +1,4 @@
-//! Laws of what the centres of a line promise, at every reach: a section leaves a train's hand only by what the train said, in one step and in any list
+//! Laws of what the centres of a line promise: a section leaves a train's hand only by what the train said, in one step and in any list
 //! of events, and what is told back to the interlocking is nobody's. The functions do nothing: each contract is a law of the definitions.
 #![tactic(auto)]
 

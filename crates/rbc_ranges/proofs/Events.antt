@@ -3,7 +3,6 @@ use Rattle.std.proofs.Common.{◌≡◌, ℕ, ◌<◌, ◌==◌, not, if◌then�
 use Rattle.std.specs.Option.{option_map_or}
 use Rattle.std.proofs.lemmas.Option.{same_Some}
 use Rattle.rbc_spec.specs.Maps.{put}
-use Rattle.rbc_spec.specs.Reach.{Reach}
 use Rattle.rbc_spec.specs.Line.{Line, IsLine, is_centre, is_home, is_linked, train_number}
 use Rattle.rbc_spec.specs.Message.{TrainMessage, TrainBody, TrainData, Request, Report, ShorteningGranted, ShorteningRejected, EndOfMission, InitiationOfSession, TerminationOfSession, StartOfMission, SessionEstablished, unknown_time}
 use Rattle.rbc_spec.specs.Frame.{RouteWithdraw, IsEngine}
@@ -47,33 +46,33 @@ module _ (line : Line) (ok : IsLine line) (c : ℕ) where
       (then_goes line ok c (set_phase t Closed) (change_mission t (λ m. record m { proposal = None })) k (quiet line ok c old) (λ j is same. changes line ok c t (λ m. record m { proposal = None }) j same (λ n fine. fine)))
       (λ j is same. drops_wait line ok c t j same)
 
-  answers : (reach : Reach) (m : TrainMessage) (body : TrainBody) (k : Centre) → is_centre line c ≡ true → IsEngine m.nid_engine → IsReportInRange body → k.announced < k.clock → Kept line ok c k
-      → Goes line ok c (answered reach line c m body k)
-  answers reach m (TrainData position) k centre engine range room old = then_goes line ok c (change_mission m.nid_engine (λ n. record n { has_data = true })) _ k
+  answers : (m : TrainMessage) (body : TrainBody) (k : Centre) → is_centre line c ≡ true → IsEngine m.nid_engine → IsReportInRange body → k.announced < k.clock → Kept line ok c k
+      → Goes line ok c (answered line c m body k)
+  answers m (TrainData position) k centre engine range room old = then_goes line ok c (change_mission m.nid_engine (λ n. record n { has_data = true })) _ k
       (changes line ok c m.nid_engine (λ n. record n { has_data = true }) k old (λ n fine. fine)) (λ j is same. quiet line ok c same)
-  answers reach m (Request position) k centre engine range room old = requests line ok c m.nid_engine engine reach position k range room old
-  answers reach m (Report position) k centre engine range room old = reports line ok c centre m.nid_engine engine position range k old
-  answers reach m (ShorteningGranted stamp position) k centre engine range room old = grants_shortening line ok c centre m.nid_engine engine position range k old
-  answers reach m (ShorteningRejected stamp position) k centre engine range room old = changes line ok c m.nid_engine (λ n. record n { proposal = None }) k old (λ n fine. fine)
-  answers reach m (EndOfMission position) k centre engine range room old = ends line ok c centre m.nid_engine engine position range k old
-  answers reach m InitiationOfSession k centre engine range room old = then_goes line ok c (close_session line c m.nid_engine >> set_phase m.nid_engine Opened) _ k
+  answers m (Request position) k centre engine range room old = requests line ok c m.nid_engine engine position k range room old
+  answers m (Report position) k centre engine range room old = reports line ok c centre m.nid_engine engine position range k old
+  answers m (ShorteningGranted stamp position) k centre engine range room old = grants_shortening line ok c centre m.nid_engine engine position range k old
+  answers m (ShorteningRejected stamp position) k centre engine range room old = changes line ok c m.nid_engine (λ n. record n { proposal = None }) k old (λ n fine. fine)
+  answers m (EndOfMission position) k centre engine range room old = ends line ok c centre m.nid_engine engine position range k old
+  answers m InitiationOfSession k centre engine range room old = then_goes line ok c (close_session line c m.nid_engine >> set_phase m.nid_engine Opened) _ k
       (then_goes line ok c (close_session line c m.nid_engine) (set_phase m.nid_engine Opened) k (closes_session m.nid_engine k old) (λ j is same. quiet line ok c same)) (λ j is same. quiet line ok c same)
-  answers reach m TerminationOfSession k centre engine range room old = then_goes line ok c (close_session line c m.nid_engine) _ k (closes_session m.nid_engine k old) (λ j is same. quiet line ok c same)
-  answers reach m (StartOfMission is_valid position) k centre engine range room old = starts line ok c m.nid_engine engine centre reach is_valid position range k old
-  answers reach m SessionEstablished k centre engine range room old = quiet line ok c old
+  answers m TerminationOfSession k centre engine range room old = then_goes line ok c (close_session line c m.nid_engine) _ k (closes_session m.nid_engine k old) (λ j is same. quiet line ok c same)
+  answers m (StartOfMission is_valid position) k centre engine range room old = starts line ok c m.nid_engine engine centre is_valid position range k old
+  answers m SessionEstablished k centre engine range room old = quiet line ok c old
 
-  pub trains : (reach : Reach) (m : TrainMessage) (k : Centre) → is_centre line c ≡ true → HasMessageRanges m → k.announced < k.clock → Kept line ok c k → Goes line ok c (effect reach line c k (Train m)).reply
-  trains reach m k centre range room old = by_silence (silence line c k m) refl
+  pub trains : (m : TrainMessage) (k : Centre) → is_centre line c ≡ true → HasMessageRanges m → k.announced < k.clock → Kept line ok c k → Goes line ok c (effect line c k (Train m)).reply
+  trains m k centre range room old = by_silence (silence line c k m) refl
     where
       by_silence : (o : Option Reason) → silence line c k m ≡ o → Goes line ok c (option_map_or {U = Effect}
           (λ why. record { reply = rest k; link = None; silence = Some why }) o
-          (record { reply = hear_and_answer reach line c m k; link = None; silence = None })).reply
+          (record { reply = hear_and_answer line c m k; link = None; silence = None })).reply
       by_silence (Some why) is = quiet line ok c old
       by_silence None heard =
           let engine = known_engine line ok m.nid_engine (some_there (train_number line m.nid_engine) (foreign_first line c k m heard)) in
-          then_goes line ok c (hear m) (answered reach line c m m.body) k
+          then_goes line ok c (hear m) (answered line c m m.body) k
           (quiet line ok c (with_heard line ok c k m.nid_engine (Some m.t_train) old (λ time is. subst (λ x. x < unknown_time) (same_Some m.t_train time is) range.t_train)))
-          (λ j is same. answers reach m m.body j centre engine range.report (subst (λ (x : Centre). x.announced < x.clock) (sym is) room) same)
+          (λ j is same. answers m m.body j centre engine range.report (subst (λ (x : Centre). x.announced < x.clock) (sym is) room) same)
 
   -- ## The interlocking
 

@@ -5,7 +5,6 @@ use Rattle.std.specs.List.{find, range_with_len}
 use Rattle.std.proofs.lemmas.Option.{same_Some}
 use Rattle.std.proofs.lemmas.Bool.{and_parts, or_left, or_right, eqb-false}
 use Rattle.rbc_spec.specs.Maps.{has, put}
-use Rattle.rbc_spec.specs.Reach.{Reach, follows_rule}
 use Rattle.rbc_spec.specs.SectionRuns.{SectionRun, no_run, behind, within, is_empty, part_before, part_from, all_of}
 use Rattle.rbc_spec.specs.Line.{Line, Section, IsLine, is_centre, is_home, is_linked, next_centre, section, section_of_group}
 use Rattle.rbc_spec.specs.Sections.{is_on, is_on_track}
@@ -17,7 +16,7 @@ use Rattle.rbc_spec.specs.Centre.{Centre, Taken, Out, Mission, Handing, Expectat
 use Rattle.rbc_spec.specs.Acts.{Act, become, rest, ◌>>◌, with_some, send, booked, freed, returned, set_mission, change_mission, propose_if_so, return_right}
 use Rattle.rbc_spec.specs.Rules.{reject, begin, drop_wait}
 use Rattle.rbc_spec.specs.Links.{is_train, is_of_line, lendable, answered_ask, right_asked, right_given, right_refused, right_returned, route_asked, is_wanted, route_told, route_withdrawn, route_returned, announced, is_under, cancelled, claimed, taking_over, may_arrive, may_take, take_mission, yielded, expect, received}
-use Rattle.rbc_spec.specs.Step.{Deliver, body_taken, taken_by, offered, effect}
+use Rattle.rbc_spec.specs.Step.{Deliver, taken_by, offered, effect}
 use Rattle.rbc_lemmas.proofs.Lines.{one_home}
 use Rattle.rbc_lemmas.proofs.Runs.{each_within}
 use Rattle.rbc_lemmas.proofs.Longest.{longest_few}
@@ -230,16 +229,16 @@ module _ (line : Line) (ok : IsLine line) (c : ℕ) where
         handing = λ h at. cc;
       }
 
-  pub delivers : (reach : Reach) (d : ℕ) (f : Frame) (k : Centre) → HasBodyRange f.body → Kept line ok c k → Goes line ok c (effect reach line c k (Deliver d f)).reply
-  delivers reach d f k range old = by_link (is_linked line c d) refl
+  pub delivers : (d : ℕ) (f : Frame) (k : Centre) → HasBodyRange f.body → Kept line ok c k → Goes line ok c (effect line c k (Deliver d f)).reply
+  delivers d f k range old = by_link (is_linked line c d) refl
     where
-      by_answer : is_linked line c d ≡ true → (answer : LinkAnswer) → Goes line ok c (taken_by reach line c d f answer k)
-      by_answer from Next = then_goes line ok c (become (λ j. record j { taken = put j.taken d f.number })) (body_taken reach line c d f.body) k (quiet line ok c old)
-          (λ j is same. if_goes line ok c (follows_rule reach f.body) (received line c d f.body) rest j (λ follows. receives d f.body j from range same) (λ no. quiet line ok c same))
+      by_answer : is_linked line c d ≡ true → (answer : LinkAnswer) → Goes line ok c (taken_by line c d f answer k)
+      by_answer from Next = then_goes line ok c (become (λ j. record j { taken = put j.taken d f.number })) (received line c d f.body) k (quiet line ok c old)
+          (λ j is same. receives d f.body j from range same)
       by_answer from Old = quiet line ok c old
       by_answer from Early = quiet line ok c old
       by_answer from NoLink = quiet line ok c old
 
-      by_link : (b : Bool) → is_linked line c d ≡ b → Goes line ok c (taken_by reach line c d f (if b then offered (k.taken d) f.number else NoLink) k)
+      by_link : (b : Bool) → is_linked line c d ≡ b → Goes line ok c (taken_by line c d f (if b then offered (k.taken d) f.number else NoLink) k)
       by_link true from = by_answer from (offered (k.taken d) f.number)
       by_link false away = quiet line ok c old

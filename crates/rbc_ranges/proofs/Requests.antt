@@ -4,7 +4,6 @@ use Rattle.std.specs.Option.{option_map_or}
 use Rattle.std.proofs.lemmas.Option.{same_Some}
 use Rattle.std.proofs.lemmas.Bool.{and_parts, or_cases, or_left}
 use Rattle.rbc_spec.specs.Maps.{put}
-use Rattle.rbc_spec.specs.Reach.{Reach, asks_rights, lends_routes, hands_over}
 use Rattle.rbc_spec.specs.SectionRuns.{SectionRun, most_in_hand, within, behind, is_empty, part_from, joined, all_of}
 use Rattle.rbc_spec.specs.Line.{Line, IsLine, start, end, registrar, is_centre, is_home, is_linked, next_centre}
 use Rattle.rbc_spec.specs.Sections.{is_on, nid_rbc}
@@ -13,7 +12,7 @@ use Rattle.rbc_spec.specs.Message.{Authority, Transition}
 use Rattle.rbc_spec.specs.Frame.{AskRight, Announce, RouteAsk, IsEngine, IsHandoverNumber, HasRunRange, HasPlaceRange, yielded_place}
 use Rattle.rbc_spec.specs.Centre.{Centre, Taken, Mission, Handing, is_open, is_free, is_registrar_of}
 use Rattle.rbc_spec.specs.Acts.{Act, become, rest, ◌>>◌, where_so, send, say, booked, set_mission, change_mission, begun, part_at, announce, ask_route}
-use Rattle.rbc_spec.specs.Rules.{accept, reject, restart, begin, start_here, start_waiting, start_elsewhere, start_new, start_mission, may_follow, extension, extended_by, authority, announce_if_due, ask_route_if_due, at_border, grant, request}
+use Rattle.rbc_spec.specs.Rules.{accept, reject, restart, begin, start_here, start_waiting, start_new, start_mission, may_follow, extension, extended_by, authority, announce_if_due, ask_route_if_due, at_border, grant, request}
 use Rattle.rbc_lemmas.proofs.Lines.{one_home}
 use Rattle.rbc_lemmas.proofs.Runs.{within_true, within_joined, joined_count, joined_is, each_within}
 use Rattle.rbc_lemmas.proofs.Longest.{longest_few, longest_each}
@@ -47,8 +46,8 @@ module _ (line : Line) (ok : IsLine line) (c : ℕ) (t : ℕ) (engine : IsEngine
   placed : (place : Place) → HasPlaceRange (yielded_place place) → (n : Mission) → Fine n → Fine (record n { place = place; has_data = false; is_ended = false; proposal = None })
   placed place at n is = record { place = at; hand = is.hand; hand_home = is.hand_home; pool = is.pool; pool_home = is.pool_home; follows = is.follows; handing = is.handing }
 
-  module _ (centre : is_centre line c ≡ true) (reach : Reach) (is_valid : Bool) (position : Position) (range : HasPositionRanges position) where
-    pub starts : (k : Centre) → Kept line ok c k → Goes line ok c (start_mission reach line c t is_valid position k)
+  module _ (centre : is_centre line c ≡ true) (is_valid : Bool) (position : Position) (range : HasPositionRanges position) where
+    pub starts : (k : Centre) → Kept line ok c k → Goes line ok c (start_mission line c t is_valid position k)
     starts k old = or_reply line ok c (fit_place line is_valid position) _ (reject t k) (λ place fits. by_mission place fits) (λ none. quiet line ok c old)
       where
         at_place : (place : Place) → fit_place line is_valid position ≡ Some place → HasPlaceRange (yielded_place place)
@@ -75,8 +74,8 @@ module _ (line : Line) (ok : IsLine line) (c : ℕ) (t : ℕ) (engine : IsEngine
             (λ i was last. quiet line ok c last))
             (λ has. quiet line ok c same))
 
-        by_mission : (place : Place) → fit_place line is_valid position ≡ Some place → Goes line ok c (option_map_or (λ m. restart line t place m k) (k.mission t) (start_new reach line c t place k))
-        by_mission place fits = or_reply line ok c (k.mission t) (λ m. restart line t place m k) (start_new reach line c t place k)
+        by_mission : (place : Place) → fit_place line is_valid position ≡ Some place → Goes line ok c (option_map_or (λ m. restart line t place m k) (k.mission t) (start_new line c t place k))
+        by_mission place fits = or_reply line ok c (k.mission t) (λ m. restart line t place m k) (start_new line c t place k)
             (λ m at. if_goes line ok c (all_of (within m.hand) (covered line place)) (change_mission t (λ n. record n { place = place; has_data = false; is_ended = false; proposal = None }) >> accept t) (reject t) k
             (λ all. then_goes line ok c (change_mission t (λ n. record n { place = place; has_data = false; is_ended = false; proposal = None })) (accept t) k
             (changes line ok c t (λ n. record n { place = place; has_data = false; is_ended = false; proposal = None }) k old (placed place (at_place place fits))) (λ j is same. quiet line ok c same))
@@ -85,13 +84,13 @@ module _ (line : Line) (ok : IsLine line) (c : ℕ) (t : ℕ) (engine : IsEngine
             (λ free. by_registrar place (may_start place fits free) (is_registrar_of line c t) refl)
             (λ taken. quiet line ok c old))
           where
-            by_registrar : (place : Place) → HasStartRanges line c place → (b : Bool) → is_registrar_of line c t ≡ b → Goes line ok c ((if b then start_here line t place else start_elsewhere reach line t place) k)
+            by_registrar : (place : Place) → HasStartRanges line c place → (b : Bool) → is_registrar_of line c t ≡ b → Goes line ok c ((if b then start_here line t place else start_waiting line t place) k)
             by_registrar place may true here = if_reply line ok c (k.has_right t) _ (reject t k)
                 (λ right. then_goes line ok c (booked is_open (Taken t) (covered line place) >> become (λ j. record j { has_right = put j.has_right t false })) (begin line t place) k
                 (then_goes line ok c (booked is_open (Taken t) (covered line place)) _ k (books line ok c is_open (Taken t) (covered line place) k old (λ u d is. cc)) (λ j is same. quiet line ok c same))
                 (λ j is same. begins place j may same))
                 (λ no. quiet line ok c old)
-            by_registrar place may false away = if_goes line ok c (asks_rights reach) (start_waiting line t place) (reject t) k (λ asks. waits place may away) (λ no. quiet line ok c old)
+            by_registrar place may false away = waits place may away
 
   -- ## Requests
 
@@ -136,14 +135,12 @@ module _ (line : Line) (ok : IsLine line) (c : ℕ) (t : ℕ) (engine : IsEngine
       (engine, record { first = omega (arith, below); count = (omega (arith, below, more), omega (arith, some)); last = omega (arith, below) }) old)
       (λ j is same. quiet line ok c same)
 
-  borders : (reach : Reach) (d : ℕ) (k : Centre) → is_linked line c d ≡ true → HasRoom k → Kept line ok c k → Goes line ok c (at_border reach line c t d k)
-  borders reach d k linked room old = then_goes line ok c (if hands_over reach then announce_if_due line t d else rest) (ask_route_if_due line t d) k
-      (if_goes line ok c (hands_over reach) (announce_if_due line t d) rest k
-      (λ hands. or_reply line ok c (k.mission t) _ (rest k)
+  borders : (d : ℕ) (k : Centre) → is_linked line c d ≡ true → HasRoom k → Kept line ok c k → Goes line ok c (at_border line c t d k)
+  borders d k linked room old = then_goes line ok c (announce_if_due line t d) (ask_route_if_due line t d) k
+      (or_reply line ok c (k.mission t) _ (rest k)
       (λ m at. if_reply line ok c (is_none m.handing && not (is_empty (part_at line d m.place.track m.hand))) (announce line t m.place.group d m k) (rest k)
       (λ due. announces_it m.place.group d m k linked (old.mission t m at).place.track room old) (λ no. quiet line ok c old))
       (λ none. quiet line ok c old))
-      (λ no. quiet line ok c old))
       (λ j is same. or_reply line ok c (j.mission t) _ (rest j)
       (λ m at. if_reply line ok c _ (ask_route t d m j) (rest j) (λ due.
       let parts = and_parts ((is_home line d (behind m.hand) && is_on line m.place.track (behind m.hand)) && nat_lt m.hand.count most_in_hand) (is_empty m.pool && is_none (j.route_ask t)) due in
@@ -223,26 +220,25 @@ module _ (line : Line) (ok : IsLine line) (c : ℕ) (t : ℕ) (engine : IsEngine
           handing = fine.handing;
         }
 
-  pub requests : (reach : Reach) (position : Position) (k : Centre) → HasPositionRanges position → HasRoom k → Kept line ok c k → Goes line ok c (request reach line c t position k)
+  pub requests : (position : Position) (k : Centre) → HasPositionRanges position → HasRoom k → Kept line ok c k → Goes line ok c (request line c t position k)
   unfolding ◌>>◌
-  requests reach position k range room old = or_reply line ok c (k.mission t) _ (rest k)
-      (λ m at. or_goes line ok c (place_on line m.place.track position) (λ place. grant reach line c t (record m { place = place })) rest k
+  requests position k range room old = or_reply line ok c (k.mission t) _ (rest k)
+      (λ m at. or_goes line ok c (place_on line m.place.track position) (λ place. grant line c t (record m { place = place })) rest k
       (λ place on. grants (record m { place = place }) (moved m place (place_on_range line ok position range m.place.track place on) (old.mission t m at))) (λ none. quiet line ok c old))
       (λ none. quiet line ok c old)
     where
       moved : (m : Mission) (place : Place) → HasPlaceRange (yielded_place place) → Fine m → Fine (record m { place = place })
       moved m place at is = record { place = at; hand = is.hand; hand_home = is.hand_home; pool = is.pool; pool_home = is.pool_home; follows = is.follows; handing = is.handing }
 
-      grants : (m : Mission) → Fine m → Goes line ok c (grant reach line c t m k)
+      grants : (m : Mission) → Fine m → Goes line ok c (grant line c t m k)
       grants m fine =
           let n : Mission = extended_by (extension line c k m) m in
           let first : Act = (booked is_open (Taken t) (extension line c k m) >> set_mission t (Some n)) >> say t m.place.group (Authority (authority line n)) in
           then_goes line ok c first
-          (if lends_routes reach then option_map_or (at_border reach line c t) (next_centre line c m.place.track) rest else rest) k
+          (option_map_or (at_border line c t) (next_centre line c m.place.track) rest) k
           (then_goes line ok c (booked is_open (Taken t) (extension line c k m) >> set_mission t (Some n)) (say t m.place.group (Authority (authority line n))) k
           (then_goes line ok c (booked is_open (Taken t) (extension line c k m)) (set_mission t (Some n)) k (books line ok c is_open (Taken t) (extension line c k m) k old (λ u d is. cc))
           (λ j is same. sets line ok c t (Some n) j same (λ p was. subst Fine (same_Some n p was) (extended_range k m fine))))
           (λ j is same. quiet line ok c same))
-          (λ j is same. if_goes line ok c (lends_routes reach) _ rest j
-          (λ lends. or_goes line ok c (next_centre line c m.place.track) (at_border reach line c t) rest j
-          (λ d next. borders reach d j (next_linked line ok c m.place.track d next) (subst HasRoom (sym is) room) same) (λ none. quiet line ok c same)) (λ no. quiet line ok c same))
+          (λ j is same. or_goes line ok c (next_centre line c m.place.track) (at_border line c t) rest j
+          (λ d next. borders d j (next_linked line ok c m.place.track d next) (subst HasRoom (sym is) room) same) (λ none. quiet line ok c same))

@@ -2,7 +2,6 @@
 use Rattle.std.proofs.Common.{◌≡◌, inl, inr, ℕ, ◌+◌, ◌<◌, ◌≤◌, if◌then◌else◌, Bool, true, false, List, [], ◌∷◌, All, length, Some, None, nat_lt, refl, arith, ⊎_elim}
 use Rattle.std.proofs.lemmas.Bool.{ltb-false}
 use Rattle.std.proofs.lemmas.List.Elements.{All-nil, All-cons, All-head, All-tail}
-use Rattle.rbc_spec.specs.Reach.{Reach}
 use Rattle.rbc_spec.specs.SectionRuns.{behind}
 use Rattle.rbc_spec.specs.Line.{Line, IsLine, is_linked}
 use Rattle.rbc_spec.specs.Frame.{Body, AskRight, GiveRight, RefuseRight, ReturnRight, RouteAsk, RouteInfo, RouteWithdraw, RouteReturn, Announce, Cancel, TakingOver, Yield, Frame, HasBodyRange}
@@ -44,14 +43,14 @@ stamp_low line c k event none = ltb-false last_stamp (stamp_of k event) (not_pas
     not_past false b h = refl
 
 module _ (line : Line) (ok : IsLine line) (c : ℕ) where
-  effects : (reach : Reach) (event : Event) (k : Centre) → HasEventRanges line c event → k.announced < k.clock → HasStateRanges line c k → Goes line ok c (effect reach line c k event).reply
-  effects reach (Train m) k range room old = trains line ok c reach m k range.0 range.1 room old
-  effects reach (Set s) k range room old = sets_it line ok c s k old
-  effects reach (Unset s) k range room old = unsets_it line ok c s k old
-  effects reach (Deliver d f) k range room old = delivers line ok c reach d f k range old
+  effects : (event : Event) (k : Centre) → HasEventRanges line c event → k.announced < k.clock → HasStateRanges line c k → Goes line ok c (effect line c k event).reply
+  effects (Train m) k range room old = trains line ok c m k range.0 range.1 room old
+  effects (Set s) k range room old = sets_it line ok c s k old
+  effects (Unset s) k range room old = unsets_it line ok c s k old
+  effects (Deliver d f) k range room old = delivers line ok c d f k range old
 
-  pub stays_in_range : (reach : Reach) (k : Centre) (event : Event) → HasEventRanges line c event → HasStateRanges line c k → refusal line c k event ≡ None → StaysInRange reach line c k event
-  stays_in_range reach k event range old none =
+  pub stays_in_range : (k : Centre) (event : Event) → HasEventRanges line c event → HasStateRanges line c k → refusal line c k event ≡ None → StaysInRange line c k event
+  stays_in_range k event range old none =
       let stamp : ℕ = stamp_of k event in
       let above = stamp_above k event in
       let low = stamp_low line c k event none in
@@ -65,7 +64,7 @@ module _ (line : Line) (ok : IsLine line) (c : ℕ) where
         wait = old.wait;
         expects = old.expects;
       } in
-      let after = effects reach event (ticked stamp k) range (omega (arith, above, count)) now in
+      let after = effects event (ticked stamp k) range (omega (arith, above, count)) now in
       record { centre = after.centre; bodies = after.bodies }
 
 -- ## Its frames
@@ -110,9 +109,9 @@ frames_range line c d stamp n (b ∷ bs) sent count =
     (record { linked = one.linked; ranges = record { number = is.number; stamp = is.stamp; body = one.body } })
     (frames_range line c d stamp (n + 1) bs (All-tail (IsSentInRange line c d) b bs sent) (λ linked. All-tail IsCountedInRange first (numbered stamp (n + 1) bs) all))
 
-pub sends_in_range : (line : Line) → IsLine line → (c : ℕ) (reach : Reach) (k : Centre) (event : Event) → HasEventRanges line c event → HasStateRanges line c k → refusal line c k event ≡ None
-    → SendsInRange reach line c k event
-sends_in_range line ok c reach k event range old none d =
-    let after = stays_in_range line ok c reach k event range old none in
-    frames_range line c d (stamp_of k event) (length (k.sent d)) ((effect reach line c (ticked (stamp_of k event) k) event).reply.frames d) (after.bodies d)
-    (λ linked. counted d line c reach k event (holds_few line c k old) (takes_few line c event range) linked none)
+pub sends_in_range : (line : Line) → IsLine line → (c : ℕ) (k : Centre) (event : Event) → HasEventRanges line c event → HasStateRanges line c k → refusal line c k event ≡ None
+    → SendsInRange line c k event
+sends_in_range line ok c k event range old none d =
+    let after = stays_in_range line ok c k event range old none in
+    frames_range line c d (stamp_of k event) (length (k.sent d)) ((effect line c (ticked (stamp_of k event) k) event).reply.frames d) (after.bodies d)
+    (λ linked. counted d line c k event (holds_few line c k old) (takes_few line c event range) linked none)

@@ -1,6 +1,5 @@
 -- Steps and worlds in whose frames each field is in its range.
 use Rattle.std.specs.Prelude.{◌≡◌, ℕ, true, All, Ok}
-use Rattle.rbc_spec.specs.Reach.{Reach}
 use Rattle.rbc_spec.specs.Line.{Line, is_linked}
 use Rattle.rbc_spec.specs.Frame.{Frame, HasFrameRanges}
 use Rattle.rbc_spec.specs.Centre.{Centre}
@@ -15,15 +14,15 @@ pub record IsFrameInRange (line : Line) (a b : ℕ) (f : Frame) : Type 0 where
   pub ranges : HasFrameRanges f
 
 -- a step of centre c, which was k, leaves it in its ranges, and sends bodies in theirs on links alone
-abbrev pub StaysInRange : Reach → Line → ℕ → Centre → step.Event → Type 0
-StaysInRange reach line c k event =
+abbrev pub StaysInRange : Line → ℕ → Centre → step.Event → Type 0
+StaysInRange line c k event =
     let stamp = stamp_of k event in
-    let e = effect reach line c (ticked stamp k) event in
+    let e = effect line c (ticked stamp k) event in
     LeavesInRange line c (state_after stamp k e) e.reply.frames
 
 -- each frame of the step is in range
-abbrev pub SendsInRange : Reach → Line → ℕ → Centre → step.Event → Type 0
-SendsInRange reach line c k event = (d : ℕ) → All (IsFrameInRange line c d) ((taken reach line c event k).0.frames d)
+abbrev pub SendsInRange : Line → ℕ → Centre → step.Event → Type 0
+SendsInRange line c k event = (d : ℕ) → All (IsFrameInRange line c d) ((taken line c event k).0.frames d)
 
 -- a message that comes in bytes has its ranges; nothing is wanted of another event
 abbrev pub IsReadInRange : Event → Type 0

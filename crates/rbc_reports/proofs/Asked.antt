@@ -8,7 +8,6 @@ use Rattle.rbc_lemmas.proofs.Lists.{none_passes}
 use Rattle.rbc_lemmas.proofs.Puts.{put_there}
 use Rattle.rbc_spec.specs.Maps.{has}
 use Rattle.rbc_spec.specs.SectionRuns.{behind}
-use Rattle.rbc_spec.specs.Reach.{Reach}
 use Rattle.rbc_spec.specs.Line.{Line, IsLine, is_centre, end}
 use Rattle.rbc_spec.specs.Place.{Place, Position, has_room, place_on}
 use Rattle.rbc_spec.specs.Message.{TrainMessage, Request, Report, ShorteningGranted, EndOfMission}
@@ -129,15 +128,15 @@ in_two m whole own later k same = then_alike (hear m) whole (own >> later) k sam
 yields_nothing : (line : Line) (c t : ℕ) (x : Centre) → x.mission t ≡ None → yield_if_due line c t x ≡ rest x
 yields_nothing line c t x none = ap (λ (o : Option Mission). option_map_or (λ m. with_some (λ k. m.handing) (λ h. where_so (λ k. h.is_claimed && is_of_two line c h.to m.hand) (yield line c t m h)) x) o (rest x)) none
 
-grant_parts : (reach : Reach) (line : Line) (c t : ℕ) (m : Mission) (k : Centre) → grant reach line c t m k ≡ (extend line c t m >> border_of reach line c t m.place.track) k
+grant_parts : (line : Line) (c t : ℕ) (m : Mission) (k : Centre) → grant line c t m k ≡ (extend line c t m >> border_of line c t m.place.track) k
 unfolding ◌>>◌
-grant_parts reach line c t m k = refl
+grant_parts line c t m k = refl
 
 extended_so : (line : Line) (c t : ℕ) (m : Mission) (k : Centre) → (extend line c t m k).state.mission t ≡ Some (extended_by (extension line c k m) m)
 unfolding ◌>>◌
 extended_so line c t m k = put_there k.mission t (Some (extended_by (extension line c k m) m))
 
-module _ (reach : Reach) (line : Line) (c t_train t : ℕ) (position : Position) where
+module _ (line : Line) (c t_train t : ℕ) (position : Position) where
   report_parts : (j : Centre) → report line c t position j ≡ (own_report line c t position >> yield_if_due line c t) j
   report_parts j = by_mission (j.mission t) refl
     where
@@ -152,13 +151,13 @@ module _ (reach : Reach) (line : Line) (c t_train t : ℕ) (position : Position)
       by_mission None none = ap parts none ∙ sym (alike_then (own_report line c t position) (take_over line t) (yield_if_due line c t) j (ap own none)
           ∙ then_resting (take_over line t) (yield_if_due line c t) j (yields_nothing line c t (take_over line t j).state none))
 
-  pub report_in_parts : IsInParts reach line c (of_train t_train t (Report position)) (own_report line c t position) (yield_if_due line c t)
+  pub report_in_parts : IsInParts line c (of_train t_train t (Report position)) (own_report line c t position) (yield_if_due line c t)
   report_in_parts k none = let m = of_train t_train t (Report position) in in_two m (report line c t position) (own_report line c t position) (yield_if_due line c t) k (report_parts (hear m k).state)
 
-  pub end_in_parts : IsInParts reach line c (of_train t_train t (EndOfMission position)) (own_end line c t position) (yield_if_due line c t)
+  pub end_in_parts : IsInParts line c (of_train t_train t (EndOfMission position)) (own_end line c t position) (yield_if_due line c t)
   end_in_parts k none = let m = of_train t_train t (EndOfMission position) in in_two m (own_end line c t position >> yield_if_due line c t) (own_end line c t position) (yield_if_due line c t) k refl
 
-  pub granted_in_parts : (stamp : ℕ) → IsInParts reach line c (of_train t_train t (ShorteningGranted stamp position)) (own_granted line c t position) (yield_if_due line c t)
+  pub granted_in_parts : (stamp : ℕ) → IsInParts line c (of_train t_train t (ShorteningGranted stamp position)) (own_granted line c t position) (yield_if_due line c t)
   granted_in_parts stamp k none =
       let m = of_train t_train t (ShorteningGranted stamp position) in
       let here = asked line c t_train t k stamp position none in
@@ -178,20 +177,20 @@ module _ (reach : Reach) (line : Line) (c t_train t : ℕ) (position : Position)
           first : Act
           first = own_of n p
 
-  pub request_in_parts : IsInParts reach line c (of_train t_train t (Request position)) (own_request line c t position) (at_border_then reach line c t position)
+  pub request_in_parts : IsInParts line c (of_train t_train t (Request position)) (own_request line c t position) (at_border_then line c t position)
   request_in_parts k none =
       let m = of_train t_train t (Request position) in
       let here = has_place_for line c t_train t k position none in
-      in_two m (request reach line c t position) (own_request line c t position) (at_border_then reach line c t position) k (both_so (hear m k).state here.m here.at here.place here.on)
+      in_two m (request line c t position) (own_request line c t position) (at_border_then line c t position) k (both_so (hear m k).state here.m here.at here.place here.on)
     where
       both_so : (j : Centre) (n : Mission) → j.mission t ≡ Some n → (place : Place) → place_on line n.place.track position ≡ Some place
-          → request reach line c t position j ≡ (own_request line c t position >> at_border_then reach line c t position) j
+          → request line c t position j ≡ (own_request line c t position >> at_border_then line c t position) j
       both_so j n at place on =
-          ap (λ (o : Option Mission). option_map_or (λ x. option_map_or (λ p. grant reach line c t (record x { place = p })) (place_on line x.place.track position) rest j) o (rest j)) at
-          ∙ ap (λ (o : Option Place). option_map_or (λ p. grant reach line c t (record n { place = p })) o rest j) on
-          ∙ grant_parts reach line c t placed j
-          ∙ then_alike (extend line c t placed) (border_of reach line c t place.track) (at_border_then reach line c t position) j (sym border)
-          ∙ sym (alike_then (own_request line c t position) (extend line c t placed) (at_border_then reach line c t position) j
+          ap (λ (o : Option Mission). option_map_or (λ x. option_map_or (λ p. grant line c t (record x { place = p })) (place_on line x.place.track position) rest j) o (rest j)) at
+          ∙ ap (λ (o : Option Place). option_map_or (λ p. grant line c t (record n { place = p })) o rest j) on
+          ∙ grant_parts line c t placed j
+          ∙ then_alike (extend line c t placed) (border_of line c t place.track) (at_border_then line c t position) j (sym border)
+          ∙ sym (alike_then (own_request line c t position) (extend line c t placed) (at_border_then line c t position) j
           (ap (λ (o : Option Mission). option_map_or (λ x. option_map_or (λ p. extend line c t (record x { place = p })) (place_on line x.place.track position) rest j) o (rest j)) at
           ∙ ap (λ (o : Option Place). option_map_or (λ p. extend line c t (record n { place = p })) o rest j) on))
         where
@@ -201,17 +200,17 @@ module _ (reach : Reach) (line : Line) (c t_train t : ℕ) (position : Position)
           left : Centre
           left = (extend line c t placed j).state
 
-          border : at_border_then reach line c t position left ≡ border_of reach line c t place.track left
-          border = ap (λ (o : Option Mission). option_map_or (λ x. option_map_or (λ p. border_of reach line c t p.track) (place_on line x.place.track position) rest left) o (rest left)) (extended_so line c t placed j)
-              ∙ ap (λ (o : Option Place). option_map_or (λ p. border_of reach line c t p.track) o rest left) (ap (λ track. place_on line track position) (placed_on line n.place.track position place on).track_is ∙ on)
+          border : at_border_then line c t position left ≡ border_of line c t place.track left
+          border = ap (λ (o : Option Mission). option_map_or (λ x. option_map_or (λ p. border_of line c t p.track) (place_on line x.place.track position) rest left) o (rest left)) (extended_so line c t placed j)
+              ∙ ap (λ (o : Option Place). option_map_or (λ p. border_of line c t p.track) o rest left) (ap (λ track. place_on line track position) (placed_on line n.place.track position place on).track_is ∙ on)
 
 -- ## The whole answer
 
 -- an own step, and what follows it
-pub whole_is_heard : (reach : Reach) (line : Line) (c : ℕ) (m : TrainMessage) (own later : Act) → IsOwnStep line c m own → IsInParts reach line c m own later → LeadsOnward line c later
+pub whole_is_heard : (line : Line) (c : ℕ) (m : TrainMessage) (own later : Act) → IsOwnStep line c m own → IsInParts line c m own later → LeadsOnward line c later
     → (w : Flow) (v : LineState) (stamp : ℕ) → IsFlowSound line w → Shows line w v → is_centre line c ≡ true → silence line c (ticked stamp (w.at c)) m ≡ None
-    → LeadsHeard line w c m (hear_and_answer reach line c m (ticked stamp (w.at c))) v
-whole_is_heard reach line c m own later is parts leads w v stamp sound sees to none =
+    → LeadsHeard line w c m (hear_and_answer line c m (ticked stamp (w.at c))) v
+whole_is_heard line c m own later is parts leads w v stamp sound sees to none =
     let k = ticked stamp (w.at c) in
     let one = is w v stamp sound sees to none in
     subst (λ r. LeadsHeard line w c m r v) (sym (parts k none)) (heard_then line w c m k v (hear m >> own) later one

@@ -22,7 +22,6 @@ use Rattle.rbc_flow.specs.Sound.{IsFlowSound, IsMissionAt}
 use Rattle.rbc_flow.specs.Shows.{Shows}
 use Rattle.rbc_flow.specs.Leads.{said_by, replied}
 use Rattle.rbc_pairs.proofs.Messages.{goes_report_here}
-use Rattle.rbc_spec.specs.Reach.{Local}
 use Rattle.rbc_sound.proofs.Reports.{joined_without, not_away, report_here_sound}
 use Rattle.rbc_tokens.proofs.Tally.{mission_of}
 use Rattle.rbc_tokens.proofs.Messages.{fair_report_here, standing}
@@ -193,6 +192,6 @@ module _ (line : Line) (ok : IsLine line) (w : Flow) (sound : IsFlowSound line w
   -- ## All stays sound
 
   pub report_here_keeps : (position : Position) → IsFlowSound line (replied w c (report_here line c t position m k))
-  report_here_keeps position = act_sound line ok c Local w sound to (report_here line c t position m k) (report_here_sound line ok c t position m k (sound.centres c to) at)
+  report_here_keeps position = act_sound line ok c w sound to (report_here line c t position m k) (report_here_sound line ok c t position m k (sound.centres c to) at)
       (λ y counts ready. fair_report_here line c y counts t position m k (ap (mission_of y) at) is.pool_follows (standing line c y counts t m k at ready))
-      (goes_report_here Local line c t position m k at)
+      (goes_report_here line c t position m k at)

@@ -9,7 +9,6 @@ use Rattle.rbc_spec.specs.SectionRuns.{SectionRun, no_run, within, is_empty, joi
 use Rattle.rbc_spec.specs.Line.{Line, IsLine, is_centre, is_home, end}
 use Rattle.rbc_spec.specs.Place.{Place, Position, place_on}
 use Rattle.rbc_spec.specs.Message.{TrainMessage, ShorteningGranted}
-use Rattle.rbc_spec.specs.Reach.{Local}
 use Rattle.rbc_spec.specs.Centre.{Centre, Mission, Handing, Proposal}
 use Rattle.rbc_spec.specs.Acts.{Act, Reply, rest, ◌>>◌, leave, set_mission as set_here, change_mission as change_here, cancel, close, part_at}
 use Rattle.rbc_spec.specs.Rules.{cut}
@@ -188,13 +187,13 @@ module _ (line : Line) (ok : IsLine line) (w : Flow) (sound : IsFlowSound line w
   cuts = then_either (leave line c t m.place.track gone) (close line c t m) (set_here t (Some kept) >> cancels) (tail.count == m.hand.count) cut_all cut_part
 
   cut_keeps : IsFlowSound line (replied w c (cut line c t last_kept m k))
-  cut_keeps = act_sound line ok c Local w sound to (cut line c t last_kept m k) (cut_sound line ok c t last_kept m (unasked m) k (sound.centres c to) at refl is_before)
+  cut_keeps = act_sound line ok c w sound to (cut line c t last_kept m k) (cut_sound line ok c t last_kept m (unasked m) k (sound.centres c to) at refl is_before)
       (λ y counts ready. fair_cut line c y counts t last_kept m k (ap (mission_of y) at) is.pool_follows (λ so here. let stands = standing line c y counts t (unasked m) k at ready so here in
       record { hand_on = stands.hand_on; pool_on = stands.pool_on; alone = stands.alone; to_registrar = stands.to_registrar; to_centre = stands.to_centre }))
-      (goes_cut Local line c t last_kept m (unasked m) k at refl)
+      (goes_cut line c t last_kept m (unasked m) k at refl)
 
   rest_keeps : IsFlowSound line (replied w c (rest k))
-  rest_keeps = act_sound line ok c Local w sound to (rest k) (rest_sound line c k (sound.centres c to)) (λ y counts ready. fair_rest line c y k) (goes_rest Local k)
+  rest_keeps = act_sound line ok c w sound to (rest k) (rest_sound line c k (sound.centres c to)) (λ y counts ready. fair_rest line c y k) (goes_rest k)
 
   -- where the report has a place, and in time
   pub record Shortens (o : Option Place) (q : Reply) : Type 0 where
@@ -240,9 +239,9 @@ module _ (line : Line) (ok : IsLine line) (w : Flow) (sound : IsFlowSound line w
       (kept_shown line w sound v sees c t to m at (unasked m) (first start) refl first_sets)
 
   mid_sound : IsFlowSound line (replied w c (first start))
-  mid_sound = act_sound line ok c Local w sound to (first start)
+  mid_sound = act_sound line ok c w sound to (first start)
       (changed_sound line c start (sound.centres c to) t unasked (λ n has. refl) (λ n has. other_words line ok c start n n.has_data n.is_ended None ((sound.centres c to).mission t n has)))
-      (λ y counts ready. fair_change line c y t unasked start (λ n. (refl, refl))) (goes_change Local t unasked start (λ n. refl))
+      (λ y counts ready. fair_change line c y t unasked start (λ n. (refl, refl))) (goes_change t unasked start (λ n. refl))
 
   there : (mid.at c).mission t ≡ Some (unasked m)
   there = ap (λ (x : Centre). x.mission t) (state_then w c (first start)) ∙ first_sets.mission t ∙ put_there start.mission t (Some (unasked m))

@@ -8,7 +8,6 @@ use Rattle.rbc_spec.specs.SectionRuns.{no_run}
 use Rattle.rbc_spec.specs.Line.{Line, IsLine, is_centre}
 use Rattle.rbc_spec.specs.Place.{Place, Position, place_on}
 use Rattle.rbc_spec.specs.Message.{TrainMessage, EndOfMission}
-use Rattle.rbc_spec.specs.Reach.{Local}
 use Rattle.rbc_spec.specs.Centre.{Centre, Mission}
 use Rattle.rbc_spec.specs.Acts.{Act, Reply, rest, ◌>>◌, with_mission, returned, change_mission, return_pool}
 use Rattle.rbc_spec.specs.Rules.{report_here}
@@ -65,16 +64,16 @@ module _ (line : Line) (ok : IsLine line) (w : Flow) (sound : IsFlowSound line w
   ending_sound = then_sound line c (return_pool line c t m) (change_mission t last) k (pool_returned line ok c t m k (sound.centres c to))
       (λ j is there. changed_sound line c j there t last (λ n has. refl) (λ n has. other_words line ok c j n n.has_data true None (there.mission t n has)))
 
-  ending_goes : Goes Local k (ends line c t m k)
-  ending_goes = goes_then Local (return_pool line c t m) (change_mission t last) k
-      (goes_then Local (returned line c t m.place.track m.pool) (change_mission t poolless) k (goes_returned Local line c t m.place.track m.pool k) (goes_change Local t poolless _ (λ n. refl)))
-      (goes_change Local t last _ (λ n. refl))
+  ending_goes : Goes k (ends line c t m k)
+  ending_goes = goes_then (return_pool line c t m) (change_mission t last) k
+      (goes_then (returned line c t m.place.track m.pool) (change_mission t poolless) k (goes_returned line c t m.place.track m.pool k) (goes_change t poolless _ (λ n. refl)))
+      (goes_change t last _ (λ n. refl))
 
   pub ending_reaches : Reaches line w c (ends line c t m k) (ended t v)
   ending_reaches = record {
     shows = subst (λ o. Shows line (replied w c (ends line c t m k)) (set_mission t o v)) (sym (ap (option_map (λ (n : LineMission). record n { is_ended = true; proposal = None })) (sees.mission t c m at)))
         (kept_shown line w sound v sees c t to m at (last (poolless m)) (ends line c t m k) refl ending_sets);
-    sound = act_sound line ok c Local w sound to (ends line c t m k) ending_sound
+    sound = act_sound line ok c w sound to (ends line c t m k) ending_sound
         (λ y counts ready. fair_both line c y (return_pool line c t m) (change_mission t last) k (fair_return_pool line c y counts t m k at (standing line c y counts t m k at ready))
         (fair_change line c y t last _ (λ n. (refl, refl)))) ending_goes;
   }

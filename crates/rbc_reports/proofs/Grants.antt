@@ -7,7 +7,6 @@ use Rattle.rbc_ledger.specs.Resource.{placed}
 use Rattle.rbc_ledger.specs.Sums.{one_if}
 use Rattle.rbc_ledger.proofs.Places.{held_le_placed, two_held_le_placed}
 use Rattle.rbc_ledger.proofs.Sums.{one_if_true}
-use Rattle.rbc_lemmas.proofs.Acts.{then_rest}
 use Rattle.rbc_lemmas.proofs.Lists.{any-range_none}
 use Rattle.rbc_lemmas.specs.Runs.{IsLongest}
 use Rattle.rbc_lemmas.proofs.Puts.{itself}
@@ -18,11 +17,10 @@ use Rattle.rbc_spec.specs.Line.{Line, Section, IsLine, is_centre, is_home, end}
 use Rattle.rbc_spec.specs.Sections.{is_on}
 use Rattle.rbc_spec.specs.Place.{Place, Position, group_start, farthest, has_room, place_on}
 use Rattle.rbc_spec.specs.Message.{TrainMessage, Request, Authority}
-use Rattle.rbc_spec.specs.Reach.{Local}
 use Rattle.rbc_spec.specs.Centre as centre
 use Rattle.rbc_spec.specs.Centre.{Centre, Phase, Entry, Mission, is_open, is_free, is_used_for}
 use Rattle.rbc_spec.specs.Acts.{rest, ◌>>◌}
-use Rattle.rbc_spec.specs.Rules.{may_follow, extension, extended_by, authority, grant}
+use Rattle.rbc_spec.specs.Rules.{may_follow, extension, extended_by, authority}
 use Rattle.rbc_spec.specs.LineCentre as line_centre
 use Rattle.rbc_spec.specs.LineCentre.{LineState, LineMission, is_kept_for, is_mark_open, is_waiting, is_waiting_at, mark_all, change_mission, says, saying_of}
 use Rattle.rbc_spec.specs.OwnSteps.{Ends, off_track, not_free, full, too_far, may_be_given, Extends}
@@ -40,10 +38,10 @@ use Rattle.rbc_sight.proofs.Entering.{token_used}
 use Rattle.rbc_sight.proofs.Hands.{one_token}
 use Rattle.rbc_sight.proofs.Marks.{hand_at_centre, in_no_hand, kept_mark_of}
 use Rattle.rbc_sound.proofs.Places.{reported}
-use Rattle.rbc_sound.proofs.Requests.{grant_sound}
+use Rattle.rbc_sound.proofs.Requests.{extend_sound}
 use Rattle.rbc_tokens.proofs.Tally.{mission_of}
-use Rattle.rbc_tokens.proofs.Borders.{fair_grant}
-use Rattle.rbc_pairs.proofs.Messages.{goes_grant}
+use Rattle.rbc_tokens.proofs.Borders.{fair_extend}
+use Rattle.rbc_pairs.proofs.Messages.{goes_extend}
 use Rattle.rbc_reports.specs.Parts.{Answers, extend, own_request}
 use Rattle.rbc_reports.proofs.Keeps.{act_sound}
 use Rattle.rbc_reports.proofs.Reports.{track_is}
@@ -209,11 +207,9 @@ module _ (line : Line) (ok : IsLine line) (w : Flow) (sound : IsFlowSound line w
   said_so = (λ i. record { sayings = record { nid_engine = t; message = record { t_train = sym (sees.said t c) i + 1; nid_lrbg = place.group; body = Authority (authority_is i) } } ∷ []; words = [] })
 
   granted_keeps : IsFlowSound line (replied w c (extend line c t here k))
-  unfolding ◌>>◌
   granted_keeps = let there = placed_on line m.place.track position place on in
-      subst (λ r. IsFlowSound line (replied w c r)) (then_rest (extend line c t here) k)
-      (act_sound line ok c Local w sound to (grant Local line c t here k) (grant_sound line ok c k (sound.centres c to) t m place at there.track_is (reported line position place there.extent_is) Local)
-      (λ x counts ready. fair_grant line c x counts Local t here k (ap (mission_of x) at) is.pool_follows) (goes_grant Local line c t here m k at refl))
+      act_sound line ok c w sound to (extend line c t here k) (extend_sound line ok c k (sound.centres c to) t m place at there.track_is (reported line position place there.extent_is))
+      (λ x counts ready. fair_extend line c x counts t here k (ap (mission_of x) at) is.pool_follows) (goes_extend line c t here m k at refl)
 
   replied_so : Shows line (replied w c (extend line c t here k)) after
   unfolding ◌>>◌

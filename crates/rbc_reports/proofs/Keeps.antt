@@ -1,7 +1,6 @@
 -- What an act of a centre keeps: all of it, where it makes nothing of what is counted, leaves what is sound, and is orderly.
 use Rattle.std.proofs.Common.{◌≡◌, ℕ, true, arith}
 use Rattle.rbc_ledger.specs.Resource.{Resource, IsFair}
-use Rattle.rbc_spec.specs.Reach.{Reach}
 use Rattle.rbc_spec.specs.Line.{Line, IsLine, is_centre}
 use Rattle.rbc_spec.specs.Frame.{Body}
 use Rattle.rbc_spec.specs.Centre.{Centre}
@@ -39,11 +38,11 @@ module _ (line : Line) (ok : IsLine line) (c : ℕ) where
         as_fair k (came (lent_tally line c t s d).res) q (lent_tally line c t s d) is (makes (lent_tally line c t s d) is (lent_ready line (is_ordered line ok) c t s d (neighbours line ok) k sound));
   }
 
-  module _ (reach : Reach) (w : Flow) (sound : IsFlowSound line w) (to : is_centre line c ≡ true) (q : Reply) (leaves : LeavesSound line c q.state q.frames) where
+  module _ (w : Flow) (sound : IsFlowSound line w) (to : is_centre line c ≡ true) (q : Reply) (leaves : LeavesSound line c q.state q.frames) where
     -- by itself
-    pub act_keeps : IsFairAct line c (w.at c) nothing_came q.state q.frames → IsOrderly reach (w.at c) q.state q.frames → IsFlowSound line (replied w c q)
+    pub act_keeps : IsFairAct line c (w.at c) nothing_came q.state q.frames → IsOrderly (w.at c) q.state q.frames → IsFlowSound line (replied w c q)
     act_keeps fair orderly = acted_sound line w sound c to q.state q.frames leaves fair
-        (λ i j t at there. orderly_pairs reach w sound.counted c q.state q.frames orderly i j t (sound.pairs i j t at there))
+        (λ i j t at there. orderly_pairs w sound.counted c q.state q.frames orderly i j t (sound.pairs i j t at there))
 
-    pub act_sound : MakesNoMore (w.at c) nothing_came q → IsOrderly reach (w.at c) q.state q.frames → IsFlowSound line (replied w c q)
+    pub act_sound : MakesNoMore (w.at c) nothing_came q → IsOrderly (w.at c) q.state q.frames → IsFlowSound line (replied w c q)
     act_sound makes orderly = act_keeps (made_fair (w.at c) nothing_came q (sound.centres c to) makes) orderly

@@ -16,7 +16,6 @@ use Rattle.rbc_spec.specs.Line.{Line, IsLine, is_centre}
 use Rattle.rbc_spec.specs.Place.{Place, Position, place_on}
 use Rattle.rbc_spec.specs.Message.{TrainMessage, Report}
 use Rattle.rbc_spec.specs.Frame.{Body, TakingOver, Yield, yielded_place}
-use Rattle.rbc_spec.specs.Reach.{Local}
 use Rattle.rbc_spec.specs.Centre as centre
 use Rattle.rbc_spec.specs.Centre.{Centre, Mission, Expectation}
 use Rattle.rbc_spec.specs.Acts.{Reply, rest}
@@ -146,8 +145,8 @@ module _ (line : Line) (ok : IsLine line) (w : Flow) (sound : IsFlowSound line w
         (part_stays centre.Phase c v.phase k.phase (λ u. sees.phase u c)) (part_stays (Option ℕ) c v.heard k.heard (λ u. sees.heard u c)) (part_stays ℕ c v.said k.said (λ u. sees.said u c))
 
     pub taken_over_keeps : IsFlowSound line (replied w c (take_over line t k))
-    taken_over_keeps = act_sound line ok c Local w sound to (take_over line t k) (take_over_sound line ok c t k (sound.centres c to))
-        (λ y counts ready. fair_take_over line c y counts t k) (goes_take_over Local line t k)
+    taken_over_keeps = act_sound line ok c w sound to (take_over line t k) (take_over_sound line ok c t k (sound.centres c to))
+        (λ y counts ready. fair_take_over line c y counts t k) (goes_take_over line t k)
 
 -- ## A report
 

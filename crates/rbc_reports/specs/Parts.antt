@@ -1,7 +1,6 @@
 -- What a message that changes a mission comes to at its centre: the part that is the own step of the one line centre, and what follows it.
 use Rattle.std.specs.Prelude.{◌≡◌, ℕ, ◌*◌, true, if◌then◌else◌, Some, None, nat_le}
 use Rattle.std.specs.Option.{option_map_or}
-use Rattle.rbc_spec.specs.Reach.{Reach, lends_routes}
 use Rattle.rbc_spec.specs.Line.{Line, is_centre, end, next_centre}
 use Rattle.rbc_spec.specs.Place.{Position, place_on}
 use Rattle.rbc_spec.specs.Message.{TrainMessage, TrainBody, Authority}
@@ -50,11 +49,11 @@ abbrev pub own_request : Line → ℕ → ℕ → Position → Act
 own_request line c t position = with_mission t (λ m. option_map_or (λ place. extend line c t (record m { place = place })) (place_on line m.place.track position) rest)
 
 -- and what follows it, where the request has a place: what the centre does at the border
-abbrev pub border_of : Reach → Line → ℕ → ℕ → ℕ → Act
-border_of reach line c t track = if lends_routes reach then option_map_or (at_border reach line c t) (next_centre line c track) rest else rest
+abbrev pub border_of : Line → ℕ → ℕ → ℕ → Act
+border_of line c t track = option_map_or (at_border line c t) (next_centre line c track) rest
 
-abbrev pub at_border_then : Reach → Line → ℕ → ℕ → Position → Act
-at_border_then reach line c t position = with_mission t (λ m. option_map_or (λ place. border_of reach line c t place.track) (place_on line m.place.track position) rest)
+abbrev pub at_border_then : Line → ℕ → ℕ → Position → Act
+at_border_then line c t position = with_mission t (λ m. option_map_or (λ place. border_of line c t place.track) (place_on line m.place.track position) rest)
 
 -- ## The own step of the one line centre
 
@@ -76,8 +75,8 @@ IsOwnStep line c m own = (w : Flow) (v : LineState) (stamp : ℕ) → IsFlowSoun
     → silence line c (ticked stamp (w.at c)) m ≡ None → LeadsOwn line w c m ((hear m >> own) (ticked stamp (w.at c))) v
 
 -- what it comes to is this act, and then another
-abbrev pub IsInParts : Reach → Line → ℕ → TrainMessage → Act → Act → Type 0
-IsInParts reach line c m own later = (k : Centre) → silence line c k m ≡ None → hear_and_answer reach line c m k ≡ ((hear m >> own) >> later) k
+abbrev pub IsInParts : Line → ℕ → TrainMessage → Act → Act → Type 0
+IsInParts line c m own later = (k : Centre) → silence line c k m ≡ None → hear_and_answer line c m k ≡ ((hear m >> own) >> later) k
 
 -- an act of centre c, whatever it is in, leads to quiet steps
 abbrev pub LeadsOnward : Line → ℕ → Act → Type 0

@@ -2,7 +2,6 @@
 //! `IsOwnStep`), and that what it comes to is that part and what follows it (`IsInParts`).
 
 ghost use Rattle.std.specs.Prelude.{◌≡◌, ℕ, true, None};
-ghost use Rattle.rbc_spec.specs.Reach.{Reach};
 ghost use Rattle.rbc_spec.specs.Line.{Line, IsLine, is_centre};
 ghost use Rattle.rbc_spec.specs.Place.{Position};
 ghost use Rattle.rbc_spec.specs.Message.{TrainMessage};
@@ -22,8 +21,8 @@ ghost use Rattle.rbc_reports.specs.Parts.{own_report, own_end, own_granted, own_
 pub fn a_report_is_an_own_step()
     ensures own { (line : Line) (c t_train t : ℕ) (position : Position) → IsLine line
         → IsOwnStep line c (of_train t_train t (Report position)) (own_report line c t position) }
-    ensures parts { (reach : Reach) (line : Line) (c t_train t : ℕ) (position : Position)
-        → IsInParts reach line c (of_train t_train t (Report position)) (own_report line c t position) (yield_if_due line c t) }
+    ensures parts { (line : Line) (c t_train t : ℕ) (position : Position)
+        → IsInParts line c (of_train t_train t (Report position)) (own_report line c t position) (yield_if_due line c t) }
     ensures listens { (line : Line) (w : Flow) (v : LineState) (c t_train t stamp : ℕ) (position : Position) → IsLine line → IsFlowSound line w
         → Shows line w v → is_centre line c ≡ true → (w.at c).mission t ≡ None
         → silence line c (ticked stamp (w.at c)) (of_train t_train t (Report position)) ≡ None
@@ -34,8 +33,8 @@ pub fn a_report_is_an_own_step()
 pub fn an_end_of_mission_is_an_own_step()
     ensures own { (line : Line) (c t_train t : ℕ) (position : Position) → IsLine line
         → IsOwnStep line c (of_train t_train t (EndOfMission position)) (own_end line c t position) }
-    ensures parts { (reach : Reach) (line : Line) (c t_train t : ℕ) (position : Position)
-        → IsInParts reach line c (of_train t_train t (EndOfMission position)) (own_end line c t position) (yield_if_due line c t) }
+    ensures parts { (line : Line) (c t_train t : ℕ) (position : Position)
+        → IsInParts line c (of_train t_train t (EndOfMission position)) (own_end line c t position) (yield_if_due line c t) }
 {}
 
 /// A shortening that is granted: the request no longer stands, and the hand is cut behind the last section kept, with its pool, if the
@@ -43,8 +42,8 @@ pub fn an_end_of_mission_is_an_own_step()
 pub fn a_granted_shortening_is_an_own_step()
     ensures own { (line : Line) (c t_train t stamp : ℕ) (position : Position) → IsLine line
         → IsOwnStep line c (of_train t_train t (ShorteningGranted stamp position)) (own_granted line c t position) }
-    ensures parts { (reach : Reach) (line : Line) (c t_train t stamp : ℕ) (position : Position)
-        → IsInParts reach line c (of_train t_train t (ShorteningGranted stamp position)) (own_granted line c t position) (yield_if_due line c t) }
+    ensures parts { (line : Line) (c t_train t stamp : ℕ) (position : Position)
+        → IsInParts line c (of_train t_train t (ShorteningGranted stamp position)) (own_granted line c t position) (yield_if_due line c t) }
 {}
 
 /// A request: the hand is extended as far as it may go, by open sections of this centre and by those of the pool, and the authority for it is
@@ -52,14 +51,14 @@ pub fn a_granted_shortening_is_an_own_step()
 pub fn a_request_is_an_own_step()
     ensures own { (line : Line) (c t_train t : ℕ) (position : Position) → IsLine line
         → IsOwnStep line c (of_train t_train t (Request position)) (own_request line c t position) }
-    ensures parts { (reach : Reach) (line : Line) (c t_train t : ℕ) (position : Position)
-        → IsInParts reach line c (of_train t_train t (Request position)) (own_request line c t position) (at_border_then reach line c t position) }
+    ensures parts { (line : Line) (c t_train t : ℕ) (position : Position)
+        → IsInParts line c (of_train t_train t (Request position)) (own_request line c t position) (at_border_then line c t position) }
 {}
 
 /// Where what follows leads to quiet steps, whatever the centre is in, the whole answer is the own step and those.
 pub fn an_own_step_and_what_follows()
-    ensures { (reach : Reach) (line : Line) (c : ℕ) (m : TrainMessage) (own later : Act) → IsOwnStep line c m own
-        → IsInParts reach line c m own later → LeadsOnward line c later
+    ensures { (line : Line) (c : ℕ) (m : TrainMessage) (own later : Act) → IsOwnStep line c m own
+        → IsInParts line c m own later → LeadsOnward line c later
         → (w : Flow) (v : LineState) (stamp : ℕ) → IsFlowSound line w → Shows line w v → is_centre line c ≡ true
-        → silence line c (ticked stamp (w.at c)) m ≡ None → LeadsHeard line w c m (hear_and_answer reach line c m (ticked stamp (w.at c))) v }
+        → silence line c (ticked stamp (w.at c)) m ≡ None → LeadsHeard line w c m (hear_and_answer line c m (ticked stamp (w.at c))) v }
 {}

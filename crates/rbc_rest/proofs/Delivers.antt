@@ -10,7 +10,6 @@ use Rattle.rbc_ledger.proofs.Network.{counted_took}
 use Rattle.rbc_ledger.proofs.Places.{placed_parts}
 use Rattle.rbc_ledger.proofs.Resource.{placed_acted, placed_took, carried_none}
 use Rattle.rbc_spec.specs.Maps.{put}
-use Rattle.rbc_spec.specs.Reach.{Reach}
 use Rattle.rbc_spec.specs.Line.{Line, is_centre, is_border, is_registrar, is_linked}
 use Rattle.rbc_spec.specs.Frame.{Frame}
 use Rattle.rbc_spec.specs.Outcome.{Outcome, Next, Old, Early, NoLink}
@@ -35,7 +34,7 @@ use Rattle.rbc_tokens.specs.Steps.{done}
 use Rattle.rbc_pairs.specs.Steps.{left_by, sent_by}
 use Rattle.rbc_pairs.proofs.Worlds.{linked_next, sent_between}
 use Rattle.rbc_ranges.specs.Stays.{IsFrameInRange}
-use Rattle.rbc_rest.proofs.Sends.{load, left_of, less_left, Sends, taken_sends}
+use Rattle.rbc_rest.proofs.Sends.{load, left_of, less_left, Sends, received_sends}
 
 -- ## Links go both ways
 
@@ -109,25 +108,25 @@ module _ (line : Line) (w : World) (numbered : IsNumbered w) (sent : (a b : ℕ)
 
 -- ## Its delivery
 
-module _ (reach : Reach) (line : Line) (w : World) (sound : IsFlowSound line (flow_of w)) (numbered : IsNumbered w) where
+module _ (line : Line) (w : World) (sound : IsFlowSound line (flow_of w)) (numbered : IsNumbered w) where
   stepped_to : (c : ℕ) (o : Option Refusal) (x : Outcome × Centre) (answer : Answer) (new : World) → stepped w c w.trains (option_map_or (λ why. Err why) o (Ok x)) ≡ Ok (answer, new)
       → in_world w c x.1 w.trains ≡ new
   stepped_to c (Some why) x answer new is = cc
   stepped_to c None x answer new is = ap (λ r. world_of w r) is
 
-  takes_to : (c : ℕ) (event : centre.Event) (answer : Answer) (new : World) → takes reach line w c w.trains event ≡ Ok (answer, new) → in_world w c (left_by reach line c (w.at c) event) w.trains ≡ new
+  takes_to : (c : ℕ) (event : centre.Event) (answer : Answer) (new : World) → takes line w c w.trains event ≡ Ok (answer, new) → in_world w c (left_by line c (w.at c) event) w.trains ≡ new
   unfolding step
-  takes_to c event answer new = stepped_to c (refusal line c (w.at c) event) (taken reach line c event (w.at c)) answer new
+  takes_to c event answer new = stepped_to c (refusal line c (w.at c) event) (taken line c event (w.at c)) answer new
 
-  delivered_to : (a b number : ℕ) (f : Frame) (answer : Answer) (new : World) → frame_sent w a b number ≡ Some f → world_step reach line w (Delivery a b number) ≡ Ok (answer, new)
-      → in_world w b (left_by reach line b (w.at b) (centre.Deliver a f)) w.trains ≡ new
+  delivered_to : (a b number : ℕ) (f : Frame) (answer : Answer) (new : World) → frame_sent w a b number ≡ Some f → world_step line w (Delivery a b number) ≡ Ok (answer, new)
+      → in_world w b (left_by line b (w.at b) (centre.Deliver a f)) w.trains ≡ new
   unfolding world_step
   delivered_to a b number f answer new sent is = of_frame (frame_sent w a b number) sent is
     where
-      of_frame : (o : Option Frame) → o ≡ Some f → option_map_or (λ g. takes reach line w b w.trains (centre.Deliver a g)) o (Ok (NotSent, w)) ≡ Ok (answer, new)
-          → in_world w b (left_by reach line b (w.at b) (centre.Deliver a f)) w.trains ≡ new
+      of_frame : (o : Option Frame) → o ≡ Some f → option_map_or (λ g. takes line w b w.trains (centre.Deliver a g)) o (Ok (NotSent, w)) ≡ Ok (answer, new)
+          → in_world w b (left_by line b (w.at b) (centre.Deliver a f)) w.trains ≡ new
       of_frame None none done = cc
-      of_frame (Some g) same done = subst (λ h. in_world w b (left_by reach line b (w.at b) (centre.Deliver a h)) w.trains ≡ new) (same_Some g f same) (takes_to b (centre.Deliver a g) answer new done)
+      of_frame (Some g) same done = subst (λ h. in_world w b (left_by line b (w.at b) (centre.Deliver a h)) w.trains ≡ new) (same_Some g f same) (takes_to b (centre.Deliver a g) answer new done)
 
   module _ (a b number : ℕ) (f : Frame) (head : IsHead line w a b number f) where
     between : (is_centre line a ≡ true) × (is_centre line b ≡ true)
@@ -136,25 +135,25 @@ module _ (reach : Reach) (line : Line) (w : World) (sound : IsFlowSound line (fl
     takes_head : TakesHead (flow_of w) a b f.body
     takes_head = next_sent w numbered a b number f head.sent (linked_next (is_linked line b a) ((w.at b).taken a) f.number head.next).1
 
-    one_more : (x : ℕ) → (done reach line b (w.at b) (centre.Deliver a f)).reply.state.taken x ≡ put (w.at b).taken a ((w.at b).taken a + 1) x
-    one_more x = ap (λ (g : ℕ → ℕ). g x) (deliver_taken line b reach a (stamp_of (w.at b) (centre.Deliver a f)) f (w.at b)) ∙ ap (λ answer. taken_after a f answer (w.at b) x) head.next
+    one_more : (x : ℕ) → (done line b (w.at b) (centre.Deliver a f)).reply.state.taken x ≡ put (w.at b).taken a ((w.at b).taken a + 1) x
+    one_more x = ap (λ (g : ℕ → ℕ). g x) (deliver_taken line b a (stamp_of (w.at b) (centre.Deliver a f)) f (w.at b)) ∙ ap (λ answer. taken_after a f answer (w.at b) x) head.next
         ∙ ap (λ n. put (w.at b).taken a n x) (is_next ((w.at b).taken a) f.number (linked_next (is_linked line b a) ((w.at b).taken a) f.number head.next).1)
 
-    sends_little : (o : outcome.Taken) → o ≡ Next → Sends line b (left_of (centre_count line) f.body) (taken_by reach line b a f o (ticked (stamp_of (w.at b) (centre.Deliver a f)) (w.at b)))
+    sends_little : (o : outcome.Taken) → o ≡ Next → Sends line b (left_of (centre_count line) f.body) (taken_by line b a f o (ticked (stamp_of (w.at b) (centre.Deliver a f)) (w.at b)))
     unfolding ◌>>◌
-    sends_little Next is = record { law = (taken_sends line b reach a f.body (record (w.at b) { clock = stamp_of (w.at b) (centre.Deliver a f); taken = put (w.at b).taken a f.number })).law }
+    sends_little Next is = record { law = (received_sends line b a f.body (record (w.at b) { clock = stamp_of (w.at b) (centre.Deliver a f); taken = put (w.at b).taken a f.number })).law }
     sends_little Old is = cc
     sends_little Early is = cc
     sends_little NoLink is = cc
 
     -- the delivery leaves less work
-    pub less_work : (answer : Answer) (new : World) → world_step reach line w (Delivery a b number) ≡ Ok (answer, new)
+    pub less_work : (answer : Answer) (new : World) → world_step line w (Delivery a b number) ≡ Ok (answer, new)
         → placed (load (centre_count line)) (centre_count line) (flow_of new) + 1 ≤ placed (load (centre_count line)) (centre_count line) (flow_of w)
     less_work answer new is = subst (λ (x : World). placed (load (centre_count line)) (centre_count line) (flow_of x) + 1 ≤ placed (load (centre_count line)) (centre_count line) (flow_of w))
         (delivered_to a b number f answer new head.sent is) (omega (
           arith,
-          ap (placed (load (centre_count line)) (centre_count line)) (at_head w b (stamp_of (w.at b) (centre.Deliver a f)) (w.at b) (done reach line b (w.at b) (centre.Deliver a f)) w.trains (λ d. refl) a one_more),
-          placed_acted (load (centre_count line)) (centre_count line) (took (flow_of w) a b) b (left_by reach line b (w.at b) (centre.Deliver a f)) (sent_by reach line b (w.at b) (centre.Deliver a f))
+          ap (placed (load (centre_count line)) (centre_count line)) (at_head w b (stamp_of (w.at b) (centre.Deliver a f)) (w.at b) (done line b (w.at b) (centre.Deliver a f)) w.trains (λ d. refl) a one_more),
+          placed_acted (load (centre_count line)) (centre_count line) (took (flow_of w) a b) b (left_by line b (w.at b) (centre.Deliver a f)) (sent_by line b (w.at b) (centre.Deliver a f))
               (counted_took (flow_of w) a b f.body takes_head sound.counted) (ltb-true b (centre_count line) between.1),
           placed_took (load (centre_count line)) (centre_count line) (flow_of w) a b f.body takes_head (ltb-true a (centre_count line) between.0) (ltb-true b (centre_count line) between.1),
           (sends_little (link_answer line b (w.at b) a f) head.next).law,

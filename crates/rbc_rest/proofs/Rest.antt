@@ -9,7 +9,6 @@ use Rattle.rbc_ledger.specs.Resource.{carried, placed}
 use Rattle.rbc_ledger.proofs.Sums.{sum_same, sum_zero, link_le_links}
 use Rattle.rbc_ledger.proofs.Places.{placed_parts}
 use Rattle.rbc_ledger.proofs.Resource.{carried_more}
-use Rattle.rbc_spec.specs.Reach.{Reach}
 use Rattle.rbc_spec.specs.Line.{Line, IsLine, is_centre}
 use Rattle.rbc_spec.specs.Frame.{Frame}
 use Rattle.rbc_spec.specs.Step.{Refusal}
@@ -77,8 +76,8 @@ module _ (line : Line) (w : World) where
       link_le_links (centre_count line) (λ i j. carried (load (centre_count line)) i j (way (flow_of w) i j)) a b from to,
     ))
 
-    pub at_rest : (reach : Reach) → IsReachedSo reach line w → IsAtRest line w
-    at_rest reach reached = record {
+    pub at_rest : IsReachedSo line w → IsAtRest line w
+    at_rest reached = record {
       no_frames = none_in (λ a. flat_map (λ b. world.way w a b) (centres_of line)) (λ a from. none_in (λ b. world.way w a b) (λ b to. no_way a b from to));
       answered = λ c x to. none_stands line w (is_answered line w reached.answered) c to (none_from c to) (none_to c to) x;
       no_wait = λ c t to. none_waits line w (is_answered line w reached.answered) c to (none_from c to) (none_to c to) t;
@@ -92,7 +91,7 @@ module _ (line : Line) (w : World) where
 
 -- ## One delivery after another
 
-module _ (reach : Reach) (line : Line) (ok : IsLine line) where
+module _ (line : Line) (ok : IsLine line) where
   abbrev Work : World → ℕ
   Work w = placed (load (centre_count line)) (centre_count line) (flow_of w)
 
@@ -103,20 +102,20 @@ module _ (reach : Reach) (line : Line) (ok : IsLine line) where
     pub few : length events ≤ Work w
     pub answers : List Answer
     pub last : World
-    pub ran : world_run reach line w events ≡ Ok (answers, last)
-    pub ends : IsAtRest line last ⊎ IsStopped reach line last
+    pub ran : world_run line w events ≡ Ok (answers, last)
+    pub ends : IsAtRest line last ⊎ IsStopped line last
 
-  ends_here : (w : World) → IsAtRest line w ⊎ IsStopped reach line w → Ends w
-  ends_here w ends = record { events = []; are_deliveries = All-nil IsDelivery; few = omega arith; answers = []; last = w; ran = run_of_none reach line w; ends = ends }
+  ends_here : (w : World) → IsAtRest line w ⊎ IsStopped line w → Ends w
+  ends_here w ends = record { events = []; are_deliveries = All-nil IsDelivery; few = omega arith; answers = []; last = w; ran = run_of_none line w; ends = ends }
 
-  delivers : (w : World) (a b number : ℕ) (answer : Answer) (new : World) → world_step reach line w (Delivery a b number) ≡ Ok (answer, new) → Work new + 1 ≤ Work w → Ends new → Ends w
+  delivers : (w : World) (a b number : ℕ) (answer : Answer) (new : World) → world_step line w (Delivery a b number) ≡ Ok (answer, new) → Work new + 1 ≤ Work w → Ends new → Ends w
   delivers w a b number answer new is less later = record {
     events = Delivery a b number ∷ later.events;
     are_deliveries = All-cons IsDelivery (Delivery a b number) later.events (record {}) later.are_deliveries;
     few = omega (arith, less, later.few);
     answers = answer ∷ later.answers;
     last = later.last;
-    ran = whole_run reach line w (Delivery a b number) later.events (answer, new) (Ok (later.answers, later.last)) is later.ran;
+    ran = whole_run line w (Delivery a b number) later.events (answer, new) (Ok (later.answers, later.last)) is later.ran;
     ends = later.ends;
   }
 
@@ -124,25 +123,25 @@ module _ (reach : Reach) (line : Line) (ok : IsLine line) where
   none_or_some zero = inl refl
   none_or_some (suc n) = inr (omega arith)
 
-  module _ (m : ℕ) (w : World) (reached : IsReachedSo reach line w) (ranges : IsWorldInRange line w) (few : Work w ≤ suc m)
-      (later : (new : World) → IsReachedSo reach line new → IsWorldInRange line new → Work new ≤ m → Ends new) where
-    by_step : (a b number : ℕ) (f : Frame) → IsHead line w a b number f → (r : Result (Answer × World) Refusal) → world_step reach line w (Delivery a b number) ≡ r → Ends w
+  module _ (m : ℕ) (w : World) (reached : IsReachedSo line w) (ranges : IsWorldInRange line w) (few : Work w ≤ suc m)
+      (later : (new : World) → IsReachedSo line new → IsWorldInRange line new → Work new ≤ m → Ends new) where
+    by_step : (a b number : ℕ) (f : Frame) → IsHead line w a b number f → (r : Result (Answer × World) Refusal) → world_step line w (Delivery a b number) ≡ r → Ends w
     by_step a b number f head (Err why) is = ends_here w (inr (record { event = Delivery a b number; is_delivery = record {}; why = why; refused = is }))
     by_step a b number f head (Ok (answer, new)) is =
-        let less = less_work reach line w reached.sound.flow reached.sound.numbered a b number f head answer new is in
+        let less = less_work line w reached.sound.flow reached.sound.numbered a b number f head answer new is in
         delivers w a b number answer new is less
-        (later new (step_reached reach line ok w reached (Delivery a b number) answer new is) (step_in_range reach line ok w ranges (Delivery a b number) (record {}) answer new is) (omega (arith, less, few)))
+        (later new (step_reached line ok w reached (Delivery a b number) answer new is) (step_in_range line ok w ranges (Delivery a b number) (record {}) answer new is) (omega (arith, less, few)))
 
     one_more : (Work w ≡ 0) ⊎ (0 < Work w) → Ends w
-    one_more (inl none) = ends_here w (inl (at_rest line w none reach reached))
+    one_more (inl none) = ends_here w (inl (at_rest line w none reached))
     one_more (inr some) = let head = some_head line w reached.sound.numbered ranges.sent some in
-        by_step head.0 head.1 ((w.at head.1).taken head.0 + 1) head.2 head.3 (world_step reach line w (Delivery head.0 head.1 ((w.at head.1).taken head.0 + 1))) refl
+        by_step head.0 head.1 ((w.at head.1).taken head.0 + 1) head.2 head.3 (world_step line w (Delivery head.0 head.1 ((w.at head.1).taken head.0 + 1))) refl
 
-  leads_to_end : (most : ℕ) (w : World) → IsReachedSo reach line w → IsWorldInRange line w → Work w ≤ most → Ends w
-  leads_to_end zero w reached ranges few = ends_here w (inl (at_rest line w (omega (arith, few)) reach reached))
+  leads_to_end : (most : ℕ) (w : World) → IsReachedSo line w → IsWorldInRange line w → Work w ≤ most → Ends w
+  leads_to_end zero w reached ranges few = ends_here w (inl (at_rest line w (omega (arith, few)) reached))
   leads_to_end (suc m) w reached ranges few = one_more m w reached ranges few (leads_to_end m) (none_or_some (Work w))
 
-  pub comes_to_rest : (w : World) → IsReachedSo reach line w → IsWorldInRange line w → ComesToRest reach line w
+  pub comes_to_rest : (w : World) → IsReachedSo line w → IsWorldInRange line w → ComesToRest line w
   comes_to_rest w reached ranges = let it = leads_to_end (Work w) w reached ranges (omega arith) in record {
     events = it.events;
     are_deliveries = it.are_deliveries;

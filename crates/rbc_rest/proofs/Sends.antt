@@ -6,7 +6,6 @@ use Rattle.rbc_ledger.specs.Resource.{Resource, carried, sent_by}
 use Rattle.rbc_ledger.proofs.Sums.{sum_none, sum_more, sum_le}
 use Rattle.rbc_ledger.proofs.Resource.{carried_none, carried_more, sent_none, sent_append}
 use Rattle.rbc_spec.specs.Maps.{put, has}
-use Rattle.rbc_spec.specs.Reach.{Reach, follows_rule}
 use Rattle.rbc_spec.specs.SectionRuns.{SectionRun, no_run, within, is_empty, part_before, part_from, all_of, shared}
 use Rattle.rbc_spec.specs.Line.{Line, section, registrar}
 use Rattle.rbc_spec.specs.Sections.{nid_rbc, home_run}
@@ -200,7 +199,7 @@ module _ (line : Line) (c : ℕ) where
   if_so_sends : {m : ℕ} (b : Bool) (act : Act) → Each m act → Each m (if b then act else rest)
   if_so_sends {m} b act is = if_act b act rest (λ so. is) (λ so. none_more m)
 
-  received_sends : (d : ℕ) (f : Body) → Each (left_of (centre_count line) f) (received line c d f)
+  pub received_sends : (d : ℕ) (f : Body) → Each (left_of (centre_count line) f) (received line c d f)
   received_sends d (AskRight t) = of_train_sends t (right_asked line c d t) (sends_asked d t)
   received_sends d (GiveRight t) = of_train_sends t (right_given line c t) (sends_given t)
   received_sends d (RefuseRight t) = of_train_sends t (right_refused line c t) (sends_refused t)
@@ -215,7 +214,3 @@ module _ (line : Line) (c : ℕ) where
   received_sends d (TakingOver number t) = of_train_sends t (taking_over line c d number t) (behind (change_mission t (claimed d number)) (yield_if_due line c t) (λ k. quiet _ refl) (sends_yield_if t))
   received_sends d (Yield number t heard has_data is_ended place hand) = of_train_sends t _ (or_act (carried_place place) (yielded line c d number t hand heard has_data is_ended) rest
       (λ at. when (λ k. may_take line c k d number t at hand) _ (sends_taken d t heard (record { place = at; hand = hand; pool = no_run; has_data = has_data; is_ended = is_ended; proposal = None; handing = None }))) sends_rest)
-
-  -- as far as the reach
-  pub taken_sends : (reach : Reach) (d : ℕ) (f : Body) → Each (left_of (centre_count line) f) (if follows_rule reach f then received line c d f else rest)
-  taken_sends reach d f = if_act (follows_rule reach f) (received line c d f) rest (λ so. received_sends d f) (λ so. none_more (left_of (centre_count line) f))

@@ -1,7 +1,6 @@
 -- Frames on the way are few, and lead to few more: so a line comes to rest.
 use Rattle.std.specs.Prelude.{◌≡◌, ◌⊎◌, ℕ, ◌+◌, ◌≤◌, List, [], length, true, false, All, None, Ok, Err}
 use Rattle.std.specs.List.{sum_by}
-use Rattle.rbc_spec.specs.Reach.{Reach}
 use Rattle.rbc_spec.specs.Line.{Line, is_centre}
 use Rattle.rbc_spec.specs.Frame.{Body, AskRight, GiveRight, RouteAsk, RouteInfo, RouteWithdraw, TakingOver}
 use Rattle.rbc_spec.specs.Step.{Refusal}
@@ -35,18 +34,18 @@ pub record IsAtRest (line : Line) (w : World) : Type 0 where
   pub no_wait : (c t : ℕ) → is_centre line c ≡ true → (w.at c).wait t ≡ None
 
 -- a delivery is refused: a step clock is at its end, or a link is full
-pub record IsStopped (reach : Reach) (line : Line) (w : World) : Type 0 where
+pub record IsStopped (line : Line) (w : World) : Type 0 where
   pub event : Event
   pub is_delivery : IsDelivery event
   pub why : Refusal
-  pub refused : world_step reach line w event ≡ Err why
+  pub refused : world_step line w event ≡ Err why
 
 -- so many deliveries at most, one after another, lead from w to rest, or to a world that is stopped
-pub record ComesToRest (reach : Reach) (line : Line) (w : World) : Type 0 where
+pub record ComesToRest (line : Line) (w : World) : Type 0 where
   pub events : List Event
   pub are_deliveries : All IsDelivery events
   pub few : length events ≤ work line w
   pub answers : List Answer
   pub last : World
-  pub ran : world_run reach line w events ≡ Ok (answers, last)
-  pub ends : IsAtRest line last ⊎ IsStopped reach line last
+  pub ran : world_run line w events ≡ Ok (answers, last)
+  pub ends : IsAtRest line last ⊎ IsStopped line last

@@ -3,7 +3,6 @@ use Rattle.std.proofs.Common.{◌≡◌, ℕ, ◌+◌, ◌-◌, ◌<◌, ◌≤�
 use Rattle.std.proofs.lemmas.Bool.{cases_lt}
 use Rattle.std.proofs.lemmas.List.{append-nil}
 use Rattle.rbc_spec.specs.SectionRuns.{SectionRun, within, behind}
-use Rattle.rbc_spec.specs.Reach.{Whole as ToWhole}
 use Rattle.rbc_spec.specs.Line.{Line, start, end}
 use Rattle.rbc_spec.specs.Sections.{nid_rbc, is_on}
 use Rattle.rbc_spec.specs.Place.{Place, group_start}
@@ -111,7 +110,7 @@ module _ (line : Line) (c t next : ℕ) (k : Centre) (e : ℕ → Option Expecta
   over : with_supervision left at ≡ with_count announced (counted_to t said (with_supervision left k))
   over = λ i. record at { mission = λ u. put_over mid.engine mid.mission mid.mission k.mission u i; route_ask = λ u. put_over mid.engine asked mid.asked k.route_ask u i }
 
-  pub borders : at_border ToWhole line c t next k
+  pub borders : at_border line c t next k
       ≡ posted (λ d. notices t e one d ++ letters letter d) (replied (with_count announced (counted_to t said (with_supervision left k))) (sayings_of order) [])
   borders =
       in_turn (announce_if_due line t next) (ask_route_if_due line t next) k (posted (notices t e one) (replied at (sayings_of order) [])) (posted (letters letter) (replied (with_supervision left at) [] [])) tells asks_there

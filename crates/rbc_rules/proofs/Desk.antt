@@ -1,7 +1,6 @@
 -- What a message of a train comes to at a centre, by the parts of its state that it changes.
 use Rattle.std.proofs.Common.{◌≡◌, ℕ, List, [], ◌∷◌, Option, Some, None, refl, sym, ap, ◌∙◌, option_map}
 use Rattle.rbc_spec.specs.Maps.{put}
-use Rattle.rbc_spec.specs.Reach.{Whole as ToWhole}
 use Rattle.rbc_spec.specs.Line.{Line}
 use Rattle.rbc_spec.specs.Message.{TrainMessage, TrackBody, unknown_group}
 use Rattle.rbc_spec.specs.Outcome.{Reason, Saying}
@@ -37,13 +36,13 @@ abbrev pub by_reply : Reply → Effect
 by_reply r = record { reply = r; link = None; silence = None }
 
 pub silent_effect : (line : Line) (c : ℕ) (k : Centre) (m : TrainMessage) (why : Reason) → silence line c k m ≡ Some why
-    → effect ToWhole line c k (Train m) ≡ record { reply = rest k; link = None; silence = Some why }
+    → effect line c k (Train m) ≡ record { reply = rest k; link = None; silence = Some why }
 silent_effect line c k m why s = rw s refl
 
 -- a message without a reason of silence comes to what is answered where it was heard
-pub answered_effect : (line : Line) (c : ℕ) (k : Centre) (m : TrainMessage) (r : Reply) → silence line c k m ≡ None → answered ToWhole line c m m.body (hear m k).state ≡ r
-    → effect ToWhole line c k (Train m) ≡ by_reply r
-answered_effect line c k m r s e = rw s (ap by_reply (hear_then m (answered ToWhole line c m m.body) k ∙ e))
+pub answered_effect : (line : Line) (c : ℕ) (k : Centre) (m : TrainMessage) (r : Reply) → silence line c k m ≡ None → answered line c m m.body (hear m k).state ≡ r
+    → effect line c k (Train m) ≡ by_reply r
+answered_effect line c k m r s e = rw s (ap by_reply (hear_then m (answered line c m m.body) k ∙ e))
 
 -- ## Parts
 

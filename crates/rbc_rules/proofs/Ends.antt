@@ -2,7 +2,6 @@
 use Rattle.std.proofs.Common.{◌≡◌, ℕ, ◌++◌, true, false, List, [], map, Option, Some, None, is_some, option_map, refl, sym, ap, ◌∙◌}
 use Rattle.std.specs.Option.{option_map_or}
 use Rattle.std.proofs.lemmas.List.{append-nil}
-use Rattle.rbc_spec.specs.Reach.{Whole as ToWhole}
 use Rattle.rbc_spec.specs.SectionRuns.{SectionRun, no_run}
 use Rattle.rbc_spec.specs.Line.{Line}
 use Rattle.rbc_spec.specs.Place.{Position}
@@ -177,7 +176,7 @@ module _ (line : Line) (c : ℕ) (k : Centre) (stamp : ℕ) (old : TrainState) (
         → ((j : Centre) → HasTurn j ended_train → HasBook line c j book'
         → followed (reply_left line c mid.supervision.engine j both_heard) (yield_if_due line c mid.supervision.engine) ≡ reply_left line c mid.supervision.engine (with_turn new book'' j) last)
         → new ≡ record ended_train { said = new.said; supervision = record ended_train.supervision { mission = new.supervision.mission; hand = new.supervision.hand } }
-        → effect ToWhole line c k (Train m) ≡ by_reply (reply_left line c e (with_parts new book'' rights' k) last)
+        → effect line c k (Train m) ≡ by_reply (reply_left line c e (with_parts new book'' rights' k) last)
     ends new book'' last yields is =
         let stands : k.mission e ≡ Some n = h.parts.has_mission ∙ there in
         answered_effect line c k m _ (rw (h.known, h.parts.has_heard, h.timely, h.parts.has_phase, up, stands, goes_on) refl)

@@ -4,7 +4,6 @@ use Rattle.std.specs.Option.{option_map_or}
 use Rattle.std.proofs.lemmas.List.{append-nil}
 use Rattle.std.proofs.lemmas.Option.{same_Some}
 use Rattle.rbc_spec.specs.Maps.{put}
-use Rattle.rbc_spec.specs.Reach.{Whole as ToWhole}
 use Rattle.rbc_spec.specs.Line.{Line, is_home}
 use Rattle.rbc_spec.specs.Place.{Place, Position, extent, place_on}
 use Rattle.rbc_spec.specs.Message.{TrainMessage, Report}
@@ -38,7 +37,7 @@ module _ (line : Line) (c : ℕ) (k : Centre) (stamp : ℕ) (old : TrainState) (
 
   -- a train that another centre supervises, where it is not expected or is not in the area
   pub not_supervised : session_phase old.session_state ≡ Up → old.supervision.mission ≡ None → is_awaited line c k t position ≡ false
-      → effect ToWhole line c k (Train m) ≡ record { reply = replied (with_parts old book rights k) [] []; link = None; silence = Some NotSupervised }
+      → effect line c k (Train m) ≡ record { reply = replied (with_parts old book rights k) [] []; link = None; silence = Some NotSupervised }
   not_supervised up none away =
       silent_effect line c k m NotSupervised (rw (h.known, h.parts.has_heard, h.timely, h.parts.has_phase, up, h.parts.has_mission, none, away) refl)
       ∙ ap (λ (r : Reply). record { reply = r; link = None; silence = Some NotSupervised }) (same_parts line c k old book rights h.parts)
@@ -46,7 +45,7 @@ module _ (line : Line) (c : ℕ) (k : Centre) (stamp : ℕ) (old : TrainState) (
   -- and else its announcers are told
   pub takes_over : (e : List (Option Expectation)) (told : Announcers) → session_phase old.session_state ≡ Up → old.supervision.mission ≡ None → is_awaited line c k t position ≡ true
       → ((j : Centre) → HasExpectations line t j old.expectations → take_over line t j ≡ telling t told (expected_from e) (with_expectations t e j))
-      → effect ToWhole line c k (Train m)
+      → effect line c k (Train m)
       ≡ by_reply (reply_left line c t (with_parts (record old { heard = Some stamp; expectations = e }) book rights k)
       (record { saying = None; order = None; mail = mail_home 0 no_sections (notice.TakingOver told) None; told = [] }))
   takes_over e told up none here does =
@@ -68,7 +67,7 @@ module _ (line : Line) (c : ℕ) (k : Centre) (stamp : ℕ) (old : TrainState) (
       → ((j : Centre) → HasTurn j mid → HasBook line c j book'
       → followed (reply_left line c mid.supervision.engine j first) (yield_if_due line c mid.supervision.engine) ≡ reply_left line c mid.supervision.engine (with_turn new book'' j) heard)
       → new ≡ record mid { said = new.said; supervision = record mid.supervision { mission = new.supervision.mission; hand = new.supervision.hand } }
-      → effect ToWhole line c k (Train m) ≡ by_reply (reply_left line c t (with_parts new book'' rights' k) heard)
+      → effect line c k (Train m) ≡ by_reply (reply_left line c t (with_parts new book'' rights' k) heard)
   reports n place mid new book' book'' rights' first heard up there on engine homes does yields is =
       let at = heard_at line c k stamp old book rights h.parts in
       let stands : k.mission t ≡ Some n = h.parts.has_mission ∙ there in

@@ -3,7 +3,6 @@ use Rattle.std.proofs.Common.{◌≡◌, ℕ, ◌+◌, ◌-◌, ◌≤◌, ◌&&
 use Rattle.std.specs.Option.{option_map_or}
 use Rattle.std.proofs.lemmas.Bool.{cond-false, ne_eqb}
 use Rattle.rbc_spec.specs.Maps.{put}
-use Rattle.rbc_spec.specs.Reach.{Whole as ToWhole}
 use Rattle.rbc_spec.specs.SectionRuns.{SectionRun, within, behind, is_empty, joined}
 use Rattle.rbc_spec.specs.Line.{Line, end, next_centre}
 use Rattle.rbc_spec.specs.Place.{Place, Position, place_on, group_start}
@@ -75,7 +74,7 @@ module _ (line : Line) (c : ℕ) (k : Centre) (stamp : ℕ) (old : TrainState) (
       (new_is : new ≡ record { session_state = old.session_state; heard = Some stamp; said = new.said; supervision = new.supervision; waiting = old.waiting; expectations = old.expectations })
       (engine : new.supervision.engine ≡ left.engine) (number : new.supervision.number ≡ left.number) (so_many : k.announced ≡ announced)
       (borders : (e : ℕ → Option Expectation) (j : Centre) → HasSupervision j left → j.said left.engine ≡ old.said + 1 → j.announced ≡ announced
-      → option_map_or (at_border ToWhole line c left.engine) (next_centre line c place.track) rest j
+      → option_map_or (at_border line c left.engine) (next_centre line c place.track) rest j
       ≡ posted (λ d. notices left.engine e one d ++ letters letter d) (replied (with_count announced' (counted_to left.engine new.said (with_supervision new.supervision j))) (sayings_of order) [])) where
     abbrev mid : TrainState
     mid = record { session_state = old.session_state; heard = Some stamp; said = old.said + 1; supervision = left; waiting = old.waiting; expectations = old.expectations }
@@ -93,7 +92,7 @@ module _ (line : Line) (c : ℕ) (k : Centre) (stamp : ℕ) (old : TrainState) (
     given = (booked is_open (Taken t) (extension line c k from) >> set_mission t (Some more)) >> say t place.group (Authority (authority line more))
 
     abbrev bordering : Act
-    bordering = option_map_or (at_border ToWhole line c t) (next_centre line c place.track) rest
+    bordering = option_map_or (at_border line c t) (next_centre line c place.track) rest
 
     abbrev answer : List Said
     answer = record { nid_engine = left.engine; message = record { t_train = old.said + 1; nid_lrbg = place.group; body = Authority metres } } ∷ []
@@ -128,7 +127,7 @@ module _ (line : Line) (c : ℕ) (k : Centre) (stamp : ℕ) (old : TrainState) (
     borders_there : (e : ℕ → Option Expectation) → bordering (with_parts mid book' rights k) ≡ posted (told e) (replied (with_count announced' (with_parts new book' rights k)) (sayings_of order) [])
     borders_there e =
         let j = with_parts mid book' rights k in
-        subst (λ (u : ℕ). option_map_or (at_border ToWhole line c u) (next_centre line c place.track) rest j
+        subst (λ (u : ℕ). option_map_or (at_border line c u) (next_centre line c place.track) rest j
         ≡ posted (λ d. notices u e one d ++ letters letter d) (replied (with_count announced' (counted_to left.engine new.said (with_supervision new.supervision j))) (sayings_of order) [])) (ap (λ (x : SupervisionState). x.engine) is)
         (borders e j (record { has_mission = put_there k.mission left.engine left.mission; has_question = put_there k.route_ask left.engine left.asked }) (put_there k.said left.engine (old.said + 1)) so_many)
         ∙ (λ i. posted (told e) (replied (with_count announced' (supervision_over k mid book' rights new.said new.supervision engine number i)) (sayings_of order) []))
@@ -136,7 +135,7 @@ module _ (line : Line) (c : ℕ) (k : Centre) (stamp : ℕ) (old : TrainState) (
 
     pub grants_more : (e : ℕ → Option Expectation) → session_phase old.session_state ≡ Up → old.supervision.mission ≡ Some n → n.is_ended ≡ false → n.has_data ≡ true → is_some n.proposal ≡ false
         → place_on line n.place.track position ≡ Some place → grants.may_request line n.hand place ≡ true
-        → effect ToWhole line c k (Train m) ≡ by_reply (posted (told e) (replied (with_count announced' (with_parts new book' rights k)) (answer ++ sayings_of order) []))
+        → effect line c k (Train m) ≡ by_reply (posted (told e) (replied (with_count announced' (with_parts new book' rights k)) (answer ++ sayings_of order) []))
     grants_more e up there goes_on known none on may =
         let stands : k.mission t ≡ Some n = h.parts.has_mission ∙ there in
         answered_effect line c k m _ (rw (h.known, h.parts.has_heard, h.timely, h.parts.has_phase, up, stands, goes_on, known, none, on, may) refl)
@@ -157,11 +156,11 @@ some_mapped f None = refl
 -- what follows at a border for a train follows for the same train
 pub borders_as : (line : Line) (c track announced announced' : ℕ) (p q : TrainState) (said : ℕ) (new : SupervisionState) (order : Option Saying) (one : Notice) (letter : Option Letter) → p ≡ q
     → ((e : ℕ → Option Expectation) (j : Centre) → HasSupervision j p.supervision → j.said p.supervision.engine ≡ p.said → j.announced ≡ announced
-    → option_map_or (at_border ToWhole line c p.supervision.engine) (next_centre line c track) rest j
+    → option_map_or (at_border line c p.supervision.engine) (next_centre line c track) rest j
     ≡ posted (λ d. notices p.supervision.engine e one d ++ letters letter d) (replied (with_count announced' (counted_to p.supervision.engine said (with_supervision new j))) (sayings_of order) []))
     → (e : ℕ → Option Expectation) (j : Centre) → HasSupervision j q.supervision → j.said q.supervision.engine ≡ q.said → j.announced ≡ announced
-    → option_map_or (at_border ToWhole line c q.supervision.engine) (next_centre line c track) rest j
+    → option_map_or (at_border line c q.supervision.engine) (next_centre line c track) rest j
     ≡ posted (λ d. notices q.supervision.engine e one d ++ letters letter d) (replied (with_count announced' (counted_to q.supervision.engine said (with_supervision new j))) (sayings_of order) [])
 borders_as line c track announced announced' p q said new order one letter same = subst (λ (x : TrainState). (e : ℕ → Option Expectation) (j : Centre) → HasSupervision j x.supervision → j.said x.supervision.engine ≡ x.said → j.announced ≡ announced
-    → option_map_or (at_border ToWhole line c x.supervision.engine) (next_centre line c track) rest j
+    → option_map_or (at_border line c x.supervision.engine) (next_centre line c track) rest j
     ≡ posted (λ d. notices x.supervision.engine e one d ++ letters letter d) (replied (with_count announced' (counted_to x.supervision.engine said (with_supervision new j))) (sayings_of order) [])) same

@@ -2,7 +2,6 @@
 use Rattle.std.proofs.Common.{◌≡◌, ℕ, ◌+◌, ◌++◌, false, List, [], map, Some, None, option_map, refl, sym, ap, ◌∙◌}
 use Rattle.std.proofs.lemmas.List.{append-nil}
 use Rattle.rbc_spec.specs.Maps.{put}
-use Rattle.rbc_spec.specs.Reach.{Whole as ToWhole}
 use Rattle.rbc_spec.specs.Line.{Line}
 use Rattle.rbc_spec.specs.Message.{TrackBody, InitiationOfSession, TerminationOfSession, SessionEstablished, SystemVersion, TerminationAcknowledged, unknown_group}
 use Rattle.rbc_spec.specs.Outcome.{Word, Told}
@@ -40,7 +39,7 @@ module _ (line : Line) (c : ℕ) (k : Centre) (stamp : ℕ) (old : TrainState) (
   heard = record k { heard = put k.heard t (Some stamp) }
 
   pub established : session_phase old.session_state ≡ Opened → session_phase session ≡ Up
-      → effect ToWhole line c k (Train (record { t_train = stamp; nid_engine = t; body = SessionEstablished }))
+      → effect line c k (Train (record { t_train = stamp; nid_engine = t; body = SessionEstablished }))
       ≡ by_reply (replied (with_parts (turned old session (Some stamp) old.said old.supervision.mission) book rights k) [] [])
   established opened up =
       answered_effect line c k (record { t_train = stamp; nid_engine = t; body = SessionEstablished }) _
@@ -80,7 +79,7 @@ module _ (line : Line) (c : ℕ) (k : Centre) (stamp : ℕ) (old : TrainState) (
     }
 
     pub opened_again : session_phase session ≡ Opened
-        → effect ToWhole line c k (Train (record { t_train = stamp; nid_engine = t; body = InitiationOfSession }))
+        → effect line c k (Train (record { t_train = stamp; nid_engine = t; body = InitiationOfSession }))
         ≡ by_reply (replied (with_parts new book' rights k) (answer_to t (old.said + 1) SystemVersion) told)
     unfolding ◌>>◌
     opened_again opened =
@@ -91,7 +90,7 @@ module _ (line : Line) (c : ℕ) (k : Centre) (stamp : ℕ) (old : TrainState) (
         (append-nil (map (λ s. Told s) told ++ []) ∙ append-nil (map (λ s. Told s) told)))
 
     pub closed : is_closed (session_phase old.session_state) ≡ false → session_phase session ≡ Closed
-        → effect ToWhole line c k (Train (record { t_train = stamp; nid_engine = t; body = TerminationOfSession }))
+        → effect line c k (Train (record { t_train = stamp; nid_engine = t; body = TerminationOfSession }))
         ≡ by_reply (replied (with_parts new book' rights k) (answer_to t (old.said + 1) TerminationAcknowledged) told)
     unfolding ◌>>◌
     closed stood is =

@@ -1,6 +1,5 @@
 -- A train grants a request to shorten its authority: what comes of it is what its definition says.
 use Rattle.std.proofs.Common.{◌≡◌, ℕ, ◌*◌, ◌<◌, length, nat_le, ◌==◌, ◌&&◌, true, false, if◌then◌else◌, List, [], is_none, is_some, Option, Some, None, Result, Ok, Err, Bool, option_map, option_and_then, refl, sym, ap, ◌∙◌, subst}
-use Rattle.rbc_spec.specs.Reach.{Whole as ToWhole}
 use Rattle.rbc_spec.specs.SectionRuns.{SectionRun, joined}
 use Rattle.rbc_spec.specs.Line.{Line, end}
 use Rattle.rbc_spec.specs.Place.{Position}
@@ -102,7 +101,7 @@ module _ (line : Line) (c : ℕ) (k : Centre) (stamp : ℕ) (old : TrainState) (
       → ((j : Centre) → HasTurn j left → HasBook line c j book'
       → followed (reply_left line c left.supervision.engine j first) (yield_if_due line c left.supervision.engine) ≡ reply_left line c left.supervision.engine (with_turn new book'' j) last)
       → new ≡ record left { said = new.said; supervision = record left.supervision { mission = new.supervision.mission; hand = new.supervision.hand } }
-      → effect ToWhole line c k (Train m) ≡ by_reply (reply_left line c t (with_parts new book'' rights' k) last)
+      → effect line c k (Train m) ≡ by_reply (reply_left line c t (with_parts new book'' rights' k) last)
   answers act left new book' book'' rights' first last frees engine homes both yields is =
       let stands : k.mission t ≡ Some n = h.parts.has_mission ∙ there in
       answered_effect line c k m _ (rw (h.known, h.parts.has_heard, h.timely, h.parts.has_phase, up, stands, asked) refl)
@@ -114,7 +113,7 @@ module _ (line : Line) (c : ℕ) (k : Centre) (stamp : ℕ) (old : TrainState) (
   pub keeps_all : freeing line c t position n p ≡ rest → (new : TrainState) (book'' : Pages) (first last : Heard) → first ≡ record { saying = None; order = None; mail = mail_home n.place.track no_sections notice.Nothing None; told = [] }
       → ((j : Centre) → HasTurn j mid → HasBook line c j book → followed (reply_left line c t j first) (yield_if_due line c t) ≡ reply_left line c t (with_turn new book'' j) last)
       → new ≡ record mid { said = new.said; supervision = record mid.supervision { mission = new.supervision.mission; hand = new.supervision.hand } }
-      → effect ToWhole line c k (Train m) ≡ by_reply (reply_left line c t (with_parts new book'' rights k) last)
+      → effect line c k (Train m) ≡ by_reply (reply_left line c t (with_parts new book'' rights k) last)
   keeps_all frees new book'' first last nothing yields is =
       answers rest mid new book book'' rights first last frees refl (λ s. refl)
       (then_rest (change_mission t unasked) at ∙ dropped ∙ ap (reply_left line c t (with_parts mid book rights at)) (sym nothing)) yields is
@@ -129,7 +128,7 @@ module _ (line : Line) (c : ℕ) (k : Centre) (stamp : ℕ) (old : TrainState) (
       → ((j : Centre) → HasTurn j (record old { heard = Some stamp; supervision = left }) → HasBook line c j book'
       → followed (reply_left line c left.engine j first) (yield_if_due line c left.engine) ≡ reply_left line c left.engine (with_turn new book'' j) last)
       → new ≡ record (record old { heard = Some stamp; supervision = left }) { said = new.said; supervision = record left { mission = new.supervision.mission; hand = new.supervision.hand } }
-      → effect ToWhole line c k (Train m) ≡ by_reply (reply_left line c t (with_parts new book'' rights' k) last)
+      → effect line c k (Train m) ≡ by_reply (reply_left line c t (with_parts new book'' rights' k) last)
   gives_back keep left hand book' rights' told cancelled letter sections frees counts few is freed is_told goes cancels home new book'' first last first_is yields new_is =
       let run_is : rest_of keep (hand_of old.supervision) ≡ rest_of (kept_of p.last_kept n.hand) n.hand = λ i. rest_of (counts i) (hand_of (record old.supervision { mission = there i })) in
       let goes_is : run_of sections ≡ joined (rest_of (kept_of p.last_kept n.hand) n.hand) n.pool = goes ∙ (λ i. cut_run (counts i) (record old.supervision { mission = there i })) in

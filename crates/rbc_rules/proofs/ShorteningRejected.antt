@@ -1,7 +1,6 @@
 -- A train rejects a request to shorten its authority.
 use Rattle.std.proofs.Common.{◌≡◌, ℕ, false, [], Some, None, option_map, refl, ap}
 use Rattle.rbc_spec.specs.Maps.{put}
-use Rattle.rbc_spec.specs.Reach.{Whole as ToWhole}
 use Rattle.rbc_spec.specs.Line.{Line}
 use Rattle.rbc_spec.specs.Place.{Position}
 use Rattle.rbc_spec.specs.Message.{ShorteningRejected}
@@ -19,7 +18,7 @@ module _ (line : Line) (c : ℕ) (k : Centre) (stamp : ℕ) (old : TrainState) (
   unasked m = record m { proposal = None }
 
   pub rejects : (request : ℕ) (position : Position) (n : Mission) → session_phase old.session_state ≡ Up → old.supervision.mission ≡ Some n → is_unasked (Some n) (ShorteningRejected request position) ≡ false
-      → effect ToWhole line c k (Train (record { t_train = stamp; nid_engine = old.supervision.engine; body = ShorteningRejected request position }))
+      → effect line c k (Train (record { t_train = stamp; nid_engine = old.supervision.engine; body = ShorteningRejected request position }))
       ≡ by_reply (replied (with_parts (turned old old.session_state (Some stamp) old.said (option_map unasked old.supervision.mission)) book rights k) [] [])
   rejects request position n up there asked =
       let has = h.parts in

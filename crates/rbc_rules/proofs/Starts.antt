@@ -2,7 +2,6 @@
 use Rattle.std.proofs.Common.{◌≡◌, ℕ, ◌≤◌, ◌==◌, ◌&&◌, ◌+◌, if◌then◌else◌, Bool, true, false, [], ◌∷◌, Option, Some, None, option_map, is_some, refl, sym, ap, ◌∙◌, arith}
 use Rattle.std.specs.Option.{option_map_or}
 use Rattle.rbc_spec.specs.Maps.{put}
-use Rattle.rbc_spec.specs.Reach.{Whole as ToWhole}
 use Rattle.rbc_spec.specs.SectionRuns.{SectionRun, within, all_of}
 use Rattle.rbc_spec.specs.Line.{Line, IsLine, registrar}
 use Rattle.rbc_spec.specs.Place.{Place, Position, is_fit, covered, fit_place}
@@ -76,7 +75,7 @@ module _ (line : Line) (c : ℕ) (k : Centre) (old : TrainState) (book : Pages) 
   -- a start within the hand
   pub goes_on_again : (is_valid : Bool) (position : Position) (place : Place) (n : Mission) → fit_place line is_valid position ≡ Some place → old.supervision.mission ≡ Some n
       → all_of (within n.hand) (covered line place) ≡ true
-      → start_mission ToWhole line c t is_valid position k ≡ say t unknown_group TrainAccepted (with_parts (with_mission old (option_map (again place) old.supervision.mission)) book rights k)
+      → start_mission line c t is_valid position k ≡ say t unknown_group TrainAccepted (with_parts (with_mission old (option_map (again place) old.supervision.mission)) book rights k)
   unfolding ◌>>◌
   goes_on_again is_valid position place n fits there all =
       let stands : k.mission t ≡ Some n = has.has_mission ∙ there in
@@ -88,7 +87,7 @@ module _ (line : Line) (c : ℕ) (k : Centre) (old : TrainState) (book : Pages) 
 
   pub past_the_hand : (is_valid : Bool) (position : Position) (place : Place) (n : Mission) → fit_place line is_valid position ≡ Some place → old.supervision.mission ≡ Some n
       → all_of (within n.hand) (covered line place) ≡ false
-      → start_mission ToWhole line c t is_valid position k ≡ say t unknown_group TrainRejected (with_parts old book rights k)
+      → start_mission line c t is_valid position k ≡ say t unknown_group TrainRejected (with_parts old book rights k)
   past_the_hand is_valid position place n fits there all =
       let stands : k.mission t ≡ Some n = has.has_mission ∙ there in
       rw (fits, stands, all) rejected
@@ -96,10 +95,10 @@ module _ (line : Line) (c : ℕ) (k : Centre) (old : TrainState) (book : Pages) 
   -- a start of a new mission with released sections, at the registrar and elsewhere
   module _ (is_valid : Bool) (position : Position) (place : Place) (reply : Reply) (fits : fit_place line is_valid position ≡ Some place) (none : old.supervision.mission ≡ None)
       (free : all_of (is_free line c k) (covered line place) ≡ true) where
-    pub starts_here : is_registrar_of line c t ≡ true → start_here line t place k ≡ reply → start_mission ToWhole line c t is_valid position k ≡ reply
+    pub starts_here : is_registrar_of line c t ≡ true → start_here line t place k ≡ reply → start_mission line c t is_valid position k ≡ reply
     starts_here registered is = let missing : k.mission t ≡ None = has.has_mission ∙ none in rw (fits, missing, free, registered) is
 
-    pub starts_elsewhere : is_registrar_of line c t ≡ false → start_waiting line t place k ≡ reply → start_mission ToWhole line c t is_valid position k ≡ reply
+    pub starts_elsewhere : is_registrar_of line c t ≡ false → start_waiting line t place k ≡ reply → start_mission line c t is_valid position k ≡ reply
     starts_elsewhere registered is = let missing : k.mission t ≡ None = has.has_mission ∙ none in rw (fits, missing, free, registered) is
 
   -- the right is there
@@ -147,14 +146,14 @@ module _ (line : Line) (c : ℕ) (k : Centre) (old : TrainState) (book : Pages) 
 module _ (line : Line) (c : ℕ) (k : Centre) (stamp : ℕ) (old : TrainState) (book : Pages) (rights : Rights) (h : HearsTrain line c k stamp old book rights) (is_valid : Bool) (position : Position)
     (start : Start) (mid : TrainState) (book' : Pages) (rights' : Rights) (up : session_phase old.session_state ≡ Up) (none : old.waiting.wait ≡ None) (engine : mid.supervision.engine ≡ old.supervision.engine)
     (starting : (j : Centre) → HasParts line c j (record old { heard = Some stamp }) book rights
-    → start_mission ToWhole line c old.supervision.engine is_valid position j ≡ started old.supervision.engine start (with_parts mid book' rights' j)) where
+    → start_mission line c old.supervision.engine is_valid position j ≡ started old.supervision.engine start (with_parts mid book' rights' j)) where
   abbrev t' : ℕ
   t' = old.supervision.engine
 
   abbrev at : Centre
   at = heard_at line c k stamp old book rights h.parts
 
-  starts : effect ToWhole line c k (Train (record { t_train = stamp; nid_engine = old.supervision.engine; body = StartOfMission is_valid position }))
+  starts : effect line c k (Train (record { t_train = stamp; nid_engine = old.supervision.engine; body = StartOfMission is_valid position }))
       ≡ by_reply (started t' start (with_parts mid book' rights' at))
   starts =
       answered_effect line c k (record { t_train = stamp; nid_engine = t'; body = StartOfMission is_valid position }) _
@@ -164,7 +163,7 @@ module _ (line : Line) (c : ℕ) (k : Centre) (stamp : ℕ) (old : TrainState) (
   -- the train is answered behind it
   pub starts_answered : (body : TrackBody) (new : TrainState) (heard : Heard) → ((j : Centre) → started t' start j ≡ say t' unknown_group body j) → new ≡ record mid { said = mid.said + 1 }
       → sayings_of heard.saying ≡ answer_to mid.supervision.engine (mid.said + 1) body → heard.order ≡ None → heard.mail ≡ mail_of None → heard.told ≡ []
-      → effect ToWhole line c k (Train (record { t_train = stamp; nid_engine = old.supervision.engine; body = StartOfMission is_valid position }))
+      → effect line c k (Train (record { t_train = stamp; nid_engine = old.supervision.engine; body = StartOfMission is_valid position }))
       ≡ by_reply (reply_left line c t' (with_parts new book' rights' k) heard)
   starts_answered body new heard is left said order mail told =
       starts ∙ ap by_reply (is (with_parts mid book' rights' at) ∙ says t' unknown_group body mid book' rights' at engine
@@ -173,7 +172,7 @@ module _ (line : Line) (c : ℕ) (k : Centre) (stamp : ℕ) (old : TrainState) (
 
   -- or its start waits
   pub starts_waiting : (letter : Option Letter) → start ≡ Waiting letter
-      → effect ToWhole line c k (Train (record { t_train = stamp; nid_engine = old.supervision.engine; body = StartOfMission is_valid position }))
+      → effect line c k (Train (record { t_train = stamp; nid_engine = old.supervision.engine; body = StartOfMission is_valid position }))
       ≡ by_reply (posted (letters letter) (replied (with_parts mid book' rights' k) [] []))
   starts_waiting letter is =
       starts ∙ ap (λ (s : Start). by_reply (started t' s (with_parts mid book' rights' at))) is

@@ -1,6 +1,5 @@
 -- A message of a train: late or again, of a foreign engine, or one that is taken.
 use Rattle.std.proofs.Common.{◌≡◌, ℕ, true, false, List, [], ◌∷◌, Result, Some, None, is_none, refl, sym, ap, ◌∙◌}
-use Rattle.rbc_spec.specs.Reach.{Whole as ToWhole}
 use Rattle.rbc_spec.specs.Line.{Line, train_number}
 use Rattle.rbc_spec.specs.Message.{TrainMessage, TrainBody, TrainData, Request, Report, ShorteningGranted, ShorteningRejected, EndOfMission, InitiationOfSession, TerminationOfSession, StartOfMission, SessionEstablished, is_stale}
 use Rattle.rbc_spec.specs.Outcome.{Reason, StaleStamp, ForeignEngine, reasons_of}
@@ -51,19 +50,19 @@ announced_same k count is = λ i. record k { announced = is i }
 -- a message late or again leaves the parts as they are
 pub stale_left : (line : Line) (c : ℕ) (k : Centre) (p : TrainState) (book : Pages) (rights : Rights) (m : TrainMessage) → HasParts line c k p book rights → m.nid_engine ≡ p.supervision.engine
     → is_none (train_number line p.supervision.engine) ≡ false → is_stale m.t_train p.heard ≡ true → (count : ℕ) → k.announced ≡ count
-    → effect ToWhole line c k (Train m) ≡ record { reply = replied (with_count count (with_parts p book rights k)) [] []; link = None; silence = Some StaleStamp }
+    → effect line c k (Train m) ≡ record { reply = replied (with_count count (with_parts p book rights k)) [] []; link = None; silence = Some StaleStamp }
 stale_left line c k p book rights m has engine known stale count is =
     silent_effect line c k m StaleStamp (stale_silence line c k m (ap (λ (t : ℕ). is_none (train_number line t)) engine ∙ known)
     (ap (is_stale m.t_train) (ap k.heard engine ∙ has.has_heard) ∙ stale))
     ∙ ap (λ (r : Reply). record { reply = r; link = None; silence = Some StaleStamp }) (same_parts line c k p book rights has ∙ ap (λ (x : Centre). replied x [] []) (announced_same (with_parts p book rights k) count is))
 
 -- one message and the same
-pub heard_same : (line : Line) (c : ℕ) (k : Centre) (m n : TrainMessage) (e : Effect) → effect ToWhole line c k (Train n) ≡ e → m ≡ n → effect ToWhole line c k (Train m) ≡ e
-heard_same line c k m n e is same = ap (λ (x : TrainMessage). effect ToWhole line c k (Train x)) same ∙ is
+pub heard_same : (line : Line) (c : ℕ) (k : Centre) (m n : TrainMessage) (e : Effect) → effect line c k (Train n) ≡ e → m ≡ n → effect line c k (Train m) ≡ e
+heard_same line c k m n e is same = ap (λ (x : TrainMessage). effect line c k (Train x)) same ∙ is
 
 -- by which no handover is announced
 pub heard_as : (line : Line) (c : ℕ) (k : Centre) (m n : TrainMessage) (t : ℕ) (left : Centre) (r : Result Heard ReasonCode) (count : ℕ)
-    → effect ToWhole line c k (Train n) ≡ effect_left line c t left r → m ≡ n → left.announced ≡ count → effect ToWhole line c k (Train m) ≡ effect_left line c t (with_count count left) r
+    → effect line c k (Train n) ≡ effect_left line c t left r → m ≡ n → left.announced ≡ count → effect line c k (Train m) ≡ effect_left line c t (with_count count left) r
 heard_as line c k m n t left r count comes same is = heard_same line c k m n _ comes same ∙ ap (λ (x : Centre). effect_left line c t x r) (announced_same left count is)
 
 -- what stays where nothing was changed

@@ -1,7 +1,6 @@
 -- Train data of a mission that goes on are known, and acknowledged.
 use Rattle.std.proofs.Common.{◌≡◌, ℕ, ◌+◌, true, false, [], Some, option_map, refl, ap}
 use Rattle.rbc_spec.specs.Maps.{put}
-use Rattle.rbc_spec.specs.Reach.{Whole as ToWhole}
 use Rattle.rbc_spec.specs.Line.{Line}
 use Rattle.rbc_spec.specs.Place.{Position}
 use Rattle.rbc_spec.specs.Message.{TrainData, DataAcknowledged}
@@ -20,7 +19,7 @@ with_data m = record m { has_data = true }
 
 pub takes_data : (line : Line) (c : ℕ) (k : Centre) (stamp : ℕ) (old : TrainState) (book : Pages) (rights : Rights) (h : HearsTrain line c k stamp old book rights) (position : Position) (n : Mission)
     → session_phase old.session_state ≡ Up → old.supervision.mission ≡ Some n → n.is_ended ≡ false
-    → effect ToWhole line c k (Train (record { t_train = stamp; nid_engine = old.supervision.engine; body = TrainData position }))
+    → effect line c k (Train (record { t_train = stamp; nid_engine = old.supervision.engine; body = TrainData position }))
     ≡ by_reply (replied (with_parts (turned old old.session_state (Some stamp) (old.said + 1) (option_map with_data old.supervision.mission)) book rights k)
     (answer_to old.supervision.engine (old.said + 1) (DataAcknowledged stamp)) [])
 unfolding ◌>>◌

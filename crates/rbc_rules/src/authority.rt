@@ -5,7 +5,6 @@ ghost use Rattle.rbc_spec.specs.Centre as spec;
 ghost use Rattle.rbc_spec.specs.Line as track;
 ghost use Rattle.rbc_spec.specs.Place as place;
 ghost use Rattle.rbc_spec.specs.Message.{TrainData, Request};
-ghost use Rattle.rbc_spec.specs.Reach as reach;
 ghost use Rattle.rbc_spec.specs.Step as step;
 ghost use Rattle.rbc_book.specs.Book.{Pages, is_own};
 ghost use Rattle.rbc_right.specs.Rights.{Rights};
@@ -34,7 +33,7 @@ impl TrainState {
         requires count { self.old.said < 4294967294 }
         ensures exact { (line : track.Line) (c : ℕ) (book : Pages) (rights : Rights) (k : spec.Centre) (position : place.Position)
             → HearsTrain line c k t_train self.old book rights
-            → step.effect reach.Whole line c k (step.Train (record { t_train = t_train; nid_engine = self.old.supervision.engine; body = TrainData position }))
+            → step.effect line c k (step.Train (record { t_train = t_train; nid_engine = self.old.supervision.engine; body = TrainData position }))
             ≡ effect_left line c self.old.supervision.engine (with_parts self.new book rights k) result }
         ensures kept { KeepsTrain self.old self.new }
         ensures expectations { self.new.expectations ≡ self.old.expectations }
@@ -79,7 +78,7 @@ impl TrainState {
         requires on { IsOnTrack line.now self.old }
         requires held { IsHeld line.now centre self.old }
         ensures exact { (rights : Rights) (k : spec.Centre) → HearsTrain line.now centre k t_train self.old book.old rights → k.announced ≡ count.old
-            → step.effect reach.Whole line.now centre k (step.Train (record { t_train = t_train; nid_engine = self.old.supervision.engine; body = Request (position_of position.now) }))
+            → step.effect line.now centre k (step.Train (record { t_train = t_train; nid_engine = self.old.supervision.engine; body = Request (position_of position.now) }))
             ≡ effect_left line.now centre self.old.supervision.engine (with_count count.new (with_parts self.new book.new rights k)) result }
         ensures kept { KeepsTrain self.old self.new }
         ensures announced { (count.old ≤ count.new) × (count.new ≤ count.old + 1) }

@@ -7,7 +7,6 @@ ghost use Rattle.rbc_spec.specs.Message as order;
 ghost use Rattle.rbc_spec.specs.Sections.{nid_rbc};
 ghost use Rattle.rbc_spec.specs.Line.{next_centre, start};
 ghost use Rattle.rbc_spec.specs.Place.{group_start as start_of_group};
-ghost use Rattle.rbc_spec.specs.Reach as reach;
 ghost use Rattle.rbc_spec.specs.Acts.{rest};
 ghost use Rattle.rbc_spec.specs.Rules as rules;
 ghost use Rattle.rbc_msgs.specs.Bodies.{track_body};
@@ -56,7 +55,7 @@ impl TrainState {
         requires announced { count.old < 1073741823 }
         requires near { IsNear line.now self.old.supervision }
         ensures exact { (e : ℕ → Option spec.Expectation) (k : spec.Centre) → HasSupervision k self.old.supervision → k.said self.old.supervision.engine ≡ self.old.said → k.announced ≡ count.old
-            → option_map_or (rules.at_border reach.Whole line.now centre self.old.supervision.engine) (next_centre line.now centre track) rest k
+            → option_map_or (rules.at_border line.now centre self.old.supervision.engine) (next_centre line.now centre track) rest k
             ≡ posted (λ d. notices self.old.supervision.engine e result.notice d ++ letters result.letter d)
             (replied (with_count count.new (counted_to self.old.supervision.engine self.new.said (with_supervision self.new.supervision k))) (sayings_of result.order) []) }
         ensures left { self.new ≡ record self.old { said = self.new.said; supervision = self.new.supervision } }

@@ -4,7 +4,6 @@ ghost use Rattle.std.specs.Prelude.{◌≡◌, ◌<◌, ℕ, None, length, nat_l
 ghost use Rattle.rbc_spec.specs.Centre as spec;
 ghost use Rattle.rbc_spec.specs.Line as track;
 ghost use Rattle.rbc_spec.specs.Message.{Report};
-ghost use Rattle.rbc_spec.specs.Reach as reach;
 ghost use Rattle.rbc_spec.specs.Acts.{rest};
 ghost use Rattle.rbc_spec.specs.Links as links;
 ghost use Rattle.rbc_spec.specs.Step as step;
@@ -61,7 +60,7 @@ impl TrainState {
         requires up { session_phase self.old.session_state ≡ spec.Up }
         requires none { self.old.supervision.mission ≡ None }
         ensures exact { (book : Pages) (rights : Rights) (k : spec.Centre) → HearsTrain line.now centre k t_train self.old book rights
-            → step.effect reach.Whole line.now centre k (step.Train (record { t_train = t_train; nid_engine = self.old.supervision.engine; body = Report (position_of position.now) }))
+            → step.effect line.now centre k (step.Train (record { t_train = t_train; nid_engine = self.old.supervision.engine; body = Report (position_of position.now) }))
             ≡ effect_left line.now centre self.old.supervision.engine (with_parts self.new book rights k) result }
         ensures same { self.new ≡ record self.old { heard = self.new.heard; expectations = self.new.expectations } }
         ensures count { length self.new.expectations ≡ length self.old.expectations }

@@ -4,7 +4,6 @@ ghost use Rattle.std.specs.Prelude.{◌≡◌, ◌+◌, ◌<◌, ◌≤◌, ℕ,
 ghost use Rattle.rbc_spec.specs.Centre as spec;
 ghost use Rattle.rbc_spec.specs.Line.{train_number};
 ghost use Rattle.rbc_spec.specs.Message.{is_stale};
-ghost use Rattle.rbc_spec.specs.Reach as reach;
 ghost use Rattle.rbc_spec.specs.Step as step;
 ghost use Rattle.rbc_msgs.specs.StepMessage.{step_message};
 ghost use Rattle.rbc_msgs.specs.TrainText.{TrainText};
@@ -52,7 +51,7 @@ impl TrainState {
         requires count { self.old.said < 4294967293 }
         requires announced { count.old < 1073741823 }
         ensures exact { (k : spec.Centre) → HasParts line.now centre k self.old book.old registrar.old → is_none (train_number line.now self.old.supervision.engine) ≡ false
-            → k.announced ≡ count.old → step.effect reach.Whole line.now centre k (step.Train (step_message message.now)) ≡ effect_left line.now centre self.old.supervision.engine (with_count count.new (with_parts self.new book.new registrar.new k)) result }
+            → k.announced ≡ count.old → step.effect line.now centre k (step.Train (step_message message.now)) ≡ effect_left line.now centre self.old.supervision.engine (with_count count.new (with_parts self.new book.new registrar.new k)) result }
         ensures kept { KeepsTrain self.old self.new }
         ensures held { IsHeld line.now centre self.new }
         ensures covers { IsCovered line.now self.old.waiting → IsCovered line.now self.new.waiting }

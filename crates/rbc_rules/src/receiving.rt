@@ -3,8 +3,7 @@
 ghost use Rattle.std.specs.Prelude.{◌≡◌, ◌<◌, true, false, is_none, length};
 ghost use Rattle.rbc_spec.specs.Centre as spec;
 ghost use Rattle.rbc_spec.specs.Line.{is_centre, train_number};
-ghost use Rattle.rbc_spec.specs.Reach as reach;
-ghost use Rattle.rbc_spec.specs.Step as step;
+ghost use Rattle.rbc_spec.specs.Links.{received};
 ghost use Rattle.rbc_spec.specs.Frame.{HasBodyRange};
 ghost use Rattle.rbc_linkmsg.specs.Bodies.{body_of, engine_in};
 ghost use Rattle.rbc_wait.specs.Waits.{IsCovered};
@@ -40,7 +39,7 @@ impl TrainState {
         requires count { self.old.said < 4294967294 }
         requires range { HasBodyRange (body_of body) }
         ensures exact { (k : spec.Centre) → HasParts line.now centre k self.old book.old registrar.old → is_none (train_number line.now self.old.supervision.engine) ≡ false
-            → step.body_taken reach.Whole line.now centre from (body_of body) k ≡ reply_left line.now centre self.old.supervision.engine (with_parts self.new book.new registrar.new k) result }
+            → received line.now centre from (body_of body) k ≡ reply_left line.now centre self.old.supervision.engine (with_parts self.new book.new registrar.new k) result }
         ensures kept { KeepsTrain self.old self.new }
         ensures held { IsHeld line.now centre self.new }
         ensures session { self.new.session_state ≡ self.old.session_state }

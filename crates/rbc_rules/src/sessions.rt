@@ -4,7 +4,6 @@ ghost use Rattle.std.specs.Prelude.{◌≡◌, ◌<◌, ℕ};
 ghost use Rattle.rbc_spec.specs.Centre as spec;
 ghost use Rattle.rbc_spec.specs.Line as track;
 ghost use Rattle.rbc_spec.specs.Message.{InitiationOfSession, SessionEstablished, TerminationOfSession};
-ghost use Rattle.rbc_spec.specs.Reach as reach;
 ghost use Rattle.rbc_spec.specs.Step as step;
 ghost use Rattle.rbc_book.specs.Book.{Pages, is_own};
 ghost use Rattle.rbc_right.specs.Rights.{Rights};
@@ -36,7 +35,7 @@ impl TrainState {
         requires room { HasRoom sessions.old }
         requires count { self.old.said < 4294967294 }
         ensures exact { (line : track.Line) (c : ℕ) (rights : Rights) (k : spec.Centre) → HearsTrain line c k t_train self.old book.old rights
-            → step.effect reach.Whole line c k (step.Train (record { t_train = t_train; nid_engine = self.old.supervision.engine; body = InitiationOfSession }))
+            → step.effect line c k (step.Train (record { t_train = t_train; nid_engine = self.old.supervision.engine; body = InitiationOfSession }))
             ≡ effect_left line c self.old.supervision.engine (with_parts self.new book.new rights k) result }
         ensures kept { KeepsTrain self.old self.new }
         ensures expectations { self.new.expectations ≡ self.old.expectations }
@@ -67,7 +66,7 @@ impl TrainState {
     ) -> Result<Heard, Reason>
         requires stands { StandsFor sessions.old self.old.session_state self.old.supervision.engine }
         ensures exact { (line : track.Line) (c : ℕ) (book : Pages) (rights : Rights) (k : spec.Centre) → HearsTrain line c k t_train self.old book rights
-            → step.effect reach.Whole line c k (step.Train (record { t_train = t_train; nid_engine = self.old.supervision.engine; body = SessionEstablished }))
+            → step.effect line c k (step.Train (record { t_train = t_train; nid_engine = self.old.supervision.engine; body = SessionEstablished }))
             ≡ effect_left line c self.old.supervision.engine (with_parts self.new book rights k) result }
         ensures kept { KeepsTrain self.old self.new }
         ensures expectations { self.new.expectations ≡ self.old.expectations }
@@ -96,7 +95,7 @@ impl TrainState {
         requires stands { StandsFor sessions.old self.old.session_state self.old.supervision.engine }
         requires count { self.old.said < 4294967294 }
         ensures exact { (line : track.Line) (c : ℕ) (rights : Rights) (k : spec.Centre) → HearsTrain line c k t_train self.old book.old rights
-            → step.effect reach.Whole line c k (step.Train (record { t_train = t_train; nid_engine = self.old.supervision.engine; body = TerminationOfSession }))
+            → step.effect line c k (step.Train (record { t_train = t_train; nid_engine = self.old.supervision.engine; body = TerminationOfSession }))
             ≡ effect_left line c self.old.supervision.engine (with_parts self.new book.new rights k) result }
         ensures kept { KeepsTrain self.old self.new }
         ensures expectations { self.new.expectations ≡ self.old.expectations }

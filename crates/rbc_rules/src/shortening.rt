@@ -4,7 +4,6 @@ ghost use Rattle.std.specs.Prelude.{◌≡◌, ◌<◌, ℕ, option_map, length}
 ghost use Rattle.rbc_spec.specs.Centre as spec;
 ghost use Rattle.rbc_spec.specs.Message.{ShorteningGranted, ShorteningRejected};
 ghost use Rattle.rbc_spec.specs.Place as place;
-ghost use Rattle.rbc_spec.specs.Reach as reach;
 ghost use Rattle.rbc_spec.specs.Step as step;
 ghost use Rattle.rbc_msgs.specs.StepMessage.{position_of};
 ghost use Rattle.rbc_rules.specs.Desk.{HearsTrain, IsHeld, KeepsTrain, KeepsDesk, with_parts, effect_left};
@@ -44,7 +43,7 @@ impl TrainState {
         requires book { IsBookOf line.now centre book.old }
         requires held { IsHeld line.now centre self.old }
         ensures exact { (k : spec.Centre) → HearsTrain line.now centre k t_train self.old book.old registrar.old
-            → step.effect reach.Whole line.now centre k (step.Train (record { t_train = t_train; nid_engine = self.old.supervision.engine; body = ShorteningGranted request (position_of position.now) }))
+            → step.effect line.now centre k (step.Train (record { t_train = t_train; nid_engine = self.old.supervision.engine; body = ShorteningGranted request (position_of position.now) }))
             ≡ effect_left line.now centre self.old.supervision.engine (with_parts self.new book.new registrar.new k) result }
         ensures kept { KeepsTrain self.old self.new }
         ensures held { IsHeld line.now centre self.new }
@@ -96,7 +95,7 @@ impl TrainState {
     ) -> Result<Heard, Reason>
         ensures exact { (line : track.Line) (c : ℕ) (book : Pages) (rights : Rights) (k : spec.Centre) (position : place.Position)
             → HearsTrain line c k t_train self.old book rights
-            → step.effect reach.Whole line c k (step.Train (record { t_train = t_train; nid_engine = self.old.supervision.engine; body = ShorteningRejected request position }))
+            → step.effect line c k (step.Train (record { t_train = t_train; nid_engine = self.old.supervision.engine; body = ShorteningRejected request position }))
             ≡ effect_left line c self.old.supervision.engine (with_parts self.new book rights k) result }
         ensures kept { KeepsTrain self.old self.new }
         ensures expectations { self.new.expectations ≡ self.old.expectations }

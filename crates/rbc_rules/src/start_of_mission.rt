@@ -5,7 +5,6 @@ ghost use Rattle.rbc_spec.specs.Centre as spec;
 ghost use Rattle.rbc_spec.specs.Line as track;
 ghost use Rattle.rbc_spec.specs.Message.{StartOfMission};
 ghost use Rattle.rbc_spec.specs.Place.{covered, is_fit};
-ghost use Rattle.rbc_spec.specs.Reach as reach;
 ghost use Rattle.rbc_spec.specs.Rules as rules;
 ghost use Rattle.rbc_spec.specs.Step as step;
 ghost use Rattle.rbc_msgs.specs.StepMessage.{position_of, is_valid};
@@ -52,7 +51,7 @@ impl TrainState {
         requires count { self.old.said < 4294967294 }
         requires book { IsBookOf line.now centre book.old }
         ensures exact { (k : spec.Centre) → HearsTrain line.now centre k t_train self.old book.old registrar.old
-            → step.effect reach.Whole line.now centre k (step.Train (record { t_train = t_train; nid_engine = self.old.supervision.engine; body = StartOfMission (is_valid q_status) (position_of position.now) }))
+            → step.effect line.now centre k (step.Train (record { t_train = t_train; nid_engine = self.old.supervision.engine; body = StartOfMission (is_valid q_status) (position_of position.now) }))
             ≡ effect_left line.now centre self.old.supervision.engine (with_parts self.new book.new registrar.new k) result }
         ensures kept { KeepsTrain self.old self.new }
         ensures expectations { self.new.expectations ≡ self.old.expectations }
@@ -97,7 +96,7 @@ impl TrainState {
         requires book { IsBookOf line.now centre book.old }
         requires none { self.old.waiting.wait ≡ None }
         ensures exact { (k : spec.Centre) → HasParts line.now centre k self.old book.old registrar.old
-            → rules.start_mission reach.Whole line.now centre self.old.supervision.engine (is_valid q_status) (position_of position.now) k
+            → rules.start_mission line.now centre self.old.supervision.engine (is_valid q_status) (position_of position.now) k
             ≡ started self.old.supervision.engine result (with_parts self.new book.new registrar.new k) }
         ensures same { self.new ≡ record self.old { supervision = self.new.supervision; waiting = self.new.waiting } }
         ensures kept { KeepsTrain self.old self.new }

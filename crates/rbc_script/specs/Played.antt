@@ -1,6 +1,5 @@
 -- A script that is played on a world, and told as it goes.
 use Rattle.std.specs.Prelude.{◌≡◌, List, [], ◌∷◌, ◌++◌, Result, Ok, Err}
-use Rattle.rbc_spec.specs.Reach.{Whole}
 use Rattle.rbc_spec.specs.Line.{Line}
 use Rattle.rbc_spec.specs.World as spec
 use Rattle.rbc_spec.specs.World.{World, world_step}
@@ -26,7 +25,7 @@ abbrev pub IsPlayed : {T : Type 0} → (T → Telling → T → Type 0) → Line
 IsPlayed tells line w t [] v u = (v ≡ w) × (u ≡ t)
 IsPlayed {T} tells line w t (entry.Show ∷ rest) v u = (s : T) × tells t (Showing w) s × IsPlayed tells line w s rest v u
 IsPlayed {T} tells line w t (entry.Event event ∷ rest) v u =
-    (answer : spec.Answer) × (x : World) × (s r : T) × (world_step Whole line w (event_of event) ≡ Ok (answer, x))
+    (answer : spec.Answer) × (x : World) × (s r : T) × (world_step line w (event_of event) ≡ Ok (answer, x))
     × tells t (Coming event) s × tells s (Answering event answer) r × IsPlayed tells line x r rest v u
 
 -- The entries up to one are played so. Then its event is told to come, and its step is refused; nothing behind it is told, and the world
@@ -34,7 +33,7 @@ IsPlayed {T} tells line w t (entry.Event event ∷ rest) v u =
 abbrev pub IsStopped : {T : Type 0} → (T → Telling → T → Type 0) → Line → World → T → List Entry → StepFault → World → T → Type 0
 IsStopped {T} tells line w t entries fault v u =
     (front rest : List Entry) × (event : WorldEvent) × (s : T) × (entries ≡ front ++ entry.Event event ∷ rest)
-    × IsPlayed tells line w t front v s × tells s (Coming event) u × IsRefusal fault (world_step Whole line v (event_of event))
+    × IsPlayed tells line w t front v s × tells s (Coming event) u × IsRefusal fault (world_step line v (event_of event))
 
 -- what the call leaves; of a teller that did not take what it was told nothing is said
 abbrev pub Leaves : {T F : Type 0} → (T → Telling → T → Type 0) → Line → World → T → List Entry → Result (Unit {0}) (PlayFault F) → World → T → Type 0

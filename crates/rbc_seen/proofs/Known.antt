@@ -1,7 +1,6 @@
 -- What is known of a reached world is enough for all that comes.
 use Rattle.std.proofs.Common.{◌≡◌, ◌⊎◌, inl, inr, ◌&&◌, Bool, true, false, List, [], ◌∷◌, map, Ok, refl, ap, subst, arith}
 use Rattle.std.proofs.Props.{props}
-use Rattle.rbc_spec.specs.Reach.{Reach}
 use Rattle.rbc_spec.specs.Line.{Line, IsLine, is_centre}
 use Rattle.rbc_spec.specs.Frame.{Frame}
 use Rattle.rbc_spec.specs.LineCentre.{LineState}
@@ -22,8 +21,8 @@ use Rattle.rbc_seen.proofs.Decided.{body_prop, bodies_known, bodies_sound, pair_
 use Rattle.rbc_seen.proofs.Reached as reached
 
 -- there is one proof of it at most
-pub one_proof : (reach : Reach) (line : Line) (w : World) (p q : IsKnown reach line w) → p ≡ q
-one_proof reach line w = Prim.hlevel (props, body_prop)
+pub one_proof : (line : Line) (w : World) (p q : IsKnown line w) → p ≡ q
+one_proof line w = Prim.hlevel (props, body_prop)
 
 -- ## A reached world
 
@@ -40,30 +39,29 @@ one_away a b (inl is) = ap (λ x. x && b) is
 one_away true b (inr is) = is
 one_away false b (inr is) = refl
 
-module _ (reach : Reach) (line : Line) (ok : IsLine line) (events : List Event) (answers : List Answer) (w : World) (is : world_run reach line (new_world line) events ≡ Ok (answers, w)) where
-  met : Meets reach line w (read_off line w)
-  met = reached.meets reach line ok events answers w is
+module _ (line : Line) (ok : IsLine line) (events : List Event) (answers : List Answer) (w : World) (is : world_run line (new_world line) events ≡ Ok (answers, w)) where
+  met : Meets line w (read_off line w)
+  met = reached.meets line ok events answers w is
 
-  pub is_known : IsKnown reach line w
+  pub is_known : IsKnown line w
   is_known = record {
     centres = met.sound.flow.centres;
     no_mission = met.sound.flow.no_mission;
-    no_wait = (reached.waits reach line ok events answers w is).none;
+    no_wait = (reached.waits line ok events answers w is).none;
     no_sent = λ a b away. no_bodies ((w.at a).sent b) (met.sound.flow.no_sent a b (either_away (is_centre line a) (is_centre line b) away));
     numbered = met.sound.numbered;
     counted = met.sound.flow.counted;
     bodies = bodies_known line (flow_of w) met.sound.flow.bodies;
     pairs = λ a b t from to. pair_known (flow_of w) a b t (met.sound.flow.pairs a b t from to);
-    within = met.sound.within;
-    announced = reached.announced reach line ok events answers w is;
-    whole = reached.loses_nothing reach line ok events answers w is;
+    announced = reached.announced line ok events answers w is;
+    whole = reached.loses_nothing line ok events answers w is;
     lent = met.sound.flow.lent;
     shows = met.shows;
   }
 
 -- ## A world of which that is known
 
-module _ (reach : Reach) (line : Line) (w : World) (known : IsKnown reach line w) where
+module _ (line : Line) (w : World) (known : IsKnown line w) where
   pub flow : IsFlowSound line (flow_of w)
   flow = record {
     counted = known.counted;
@@ -77,30 +75,30 @@ module _ (reach : Reach) (line : Line) (w : World) (known : IsKnown reach line w
     pairs = λ a b t from to. pair_sound (flow_of w) a b t (known.pairs a b t from to);
   }
 
-  pub meets : Meets reach line w (read_off line w)
-  meets = record { sound = record { flow = flow; numbered = known.numbered; within = known.within }; shows = known.shows }
+  pub meets : Meets line w (read_off line w)
+  meets = record { sound = record { flow = flow; numbered = known.numbered }; shows = known.shows }
 
   pub stands : StandsFor line w (read_off line w)
-  stands = stands_read reach line w (read_off line w) meets
+  stands = stands_read line w (read_off line w) meets
 
   module _ (ok : IsLine line) where
     pub sound : IsSound line w
-    sound = reached.sound_met reach line ok w meets known.whole
+    sound = reached.sound_met line ok w meets known.whole
 
     -- ## A further event
 
-    module _ (new : World) (event : Event) (answer : Answer) (is : world_step reach line w event ≡ Ok (answer, new)) where
-      next : (u : LineState) × Goes line (read_off line w) event answer u × Meets reach line new u
-      next = each_event_goes reach line ok w (read_off line w) meets known.announced event answer new is
+    module _ (new : World) (event : Event) (answer : Answer) (is : world_step line w event ≡ Ok (answer, new)) where
+      next : (u : LineState) × Goes line (read_off line w) event answer u × Meets line new u
+      next = each_event_goes line ok w (read_off line w) meets known.announced event answer new is
 
       same : next.0 ≡ read_off line new
-      same = is_read reach line new next.0 next.2
+      same = is_read line new next.0 next.2
 
       pub goes : Goes line (read_off line w) event answer (read_off line new)
       goes = subst (λ (u : LineState). Goes line (read_off line w) event answer u) same next.1
 
       ends : StandsFor line new (read_off line new)
-      ends = stands_read reach line new (read_off line new) (subst (λ (u : LineState). Meets reach line new u) same next.2)
+      ends = stands_read line new (read_off line new) (subst (λ (u : LineState). Meets line new u) same next.2)
 
       pub promises : KeepsPromises line w event answer new
       promises = keeps_promises line w new event answer (waits_keep line w (read_off line w) flow known.shows (record { none = known.no_wait }))

@@ -3,6 +3,5 @@ pub mod Reached
 pub mod Known
 pub mod Missions
 pub mod Marks
-pub mod AtCentres
 pub mod Forced
 pub mod Whole

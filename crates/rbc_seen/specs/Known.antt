@@ -1,10 +1,9 @@
--- What is known of a world that events led to, at every reach. There is one proof of it at most, so a value may keep it: where a world is sound
+-- What is known of a world that events led to. There is one proof of it at most, so a value may keep it: where a world is sound
 -- by one of two reasons, this says the test that tells.
 use Rattle.std.specs.Prelude.{◌≡◌, ℕ, ◌+◌, ◌<◌, ◌≤◌, true, false, ◌&&◌, ◌||◌, [], Some, None, option_map, is_some, nat_lt, length}
 use Rattle.rbc_ledger.specs.Network.{IsCounted, EachOnTheWay, way}
 use Rattle.rbc_ledger.specs.Chain.{Chain}
 use Rattle.rbc_ledger.specs.Resource.{IsWithinCap}
-use Rattle.rbc_spec.specs.Reach.{Reach}
 use Rattle.rbc_spec.specs.SectionRuns.{SectionRun, within}
 use Rattle.rbc_spec.specs.Line.{Line, is_centre, is_home, next_centre, train_number}
 use Rattle.rbc_spec.specs.Place.{Place}
@@ -17,7 +16,6 @@ use Rattle.rbc_flow.specs.Numbers.{IsNumbered}
 use Rattle.rbc_flow.specs.Pairs.{follows, handing_to, before, after}
 use Rattle.rbc_flow.specs.Sound.{IsHandAt, IsCentreSound, LosesNothing}
 use Rattle.rbc_flow.specs.Shows.{Shows}
-use Rattle.rbc_pairs.specs.Orderly.{IsHandingWithin}
 use Rattle.rbc_whole.specs.Announced.{IsAnnounced}
 
 -- ## What is on the way
@@ -47,7 +45,7 @@ pub record IsPairKnown (w : Flow) (a b t : ℕ) : Type 0 where
 
 -- ## A world
 
-pub record IsKnown (reach : Reach) (line : Line) (w : World) : Type 0 where
+pub record IsKnown (line : Line) (w : World) : Type 0 where
   -- each centre is sound by itself; no other centre has anything, and nothing is sent to one
   pub centres : (c : ℕ) → is_centre line c ≡ true → IsCentreSound line c (w.at c)
   pub no_mission : (c t : ℕ) → is_centre line c ≡ false → (w.at c).mission t ≡ None
@@ -57,10 +55,9 @@ pub record IsKnown (reach : Reach) (line : Line) (w : World) : Type 0 where
   pub numbered : IsNumbered w
   pub counted : IsCounted (flow_of w)
   pub bodies : EachOnTheWay (IsBodyKnown line) (flow_of w)
-  -- any two centres agree on each handover; those that stand are within the reach, and each is announced as soon as it is due
+  -- any two centres agree on each handover, and each is announced as soon as it is due
   pub pairs : (a b t : ℕ) → is_centre line a ≡ true → is_centre line b ≡ true → IsPairKnown (flow_of w) a b t
-  pub within : IsHandingWithin reach (flow_of w)
-  pub announced : IsAnnounced reach line w
+  pub announced : IsAnnounced line w
   -- no right and no token of a section is lost or in two places, and what is lent has one name
   pub whole : LosesNothing line (flow_of w)
   pub lent : (t s d : ℕ) → IsWithinCap (lent line t s d) (centre_count line) (flow_of w)

@@ -1,4 +1,4 @@
-//! Laws of what is known of each world that events led to, at every reach, and of what is seen of it by looking at its centres and at the
+//! Laws of what is known of each world that events led to, and of what is seen of it by looking at its centres and at the
 //! frames on the way: who has a train's mission, and what a section is marked. The functions do nothing: each contract is a law of the
 //! definitions.
 #![tactic(auto)]

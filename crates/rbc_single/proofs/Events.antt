@@ -1,11 +1,11 @@
 -- Each event at the centres of a one-centre line is met without free choice.
 use Rattle.std.proofs.Common.{◌≡◌, ℕ, true, List, Ok, refl}
-use Rattle.rbc_spec.specs.Reach.{Local}
 use Rattle.rbc_spec.specs.Line.{Line, is_centre}
 use Rattle.rbc_spec.specs.Message.{TrainBody, TrainData, Request, Report, ShorteningGranted, ShorteningRejected, EndOfMission, InitiationOfSession, TerminationOfSession, StartOfMission, SessionEstablished}
 use Rattle.rbc_spec.specs.World.{World, Event, Answer, mention, world_step}
 use Rattle.rbc_spec.specs.Theorems.{IsOneCentreLine, GoesForced}
 use Rattle.rbc_local.specs.Local.{IsOrdered, IsLocal, local_read_off}
+use Rattle.rbc_local.proofs.Homes.{none_next}
 use Rattle.rbc_pieces.proofs.Sessions.{established, opened, ended, data_heard, rejected}
 use Rattle.rbc_pieces.proofs.Grants.{requested}
 use Rattle.rbc_pieces.proofs.Reports.{report_heard, end_heard}
@@ -24,7 +24,7 @@ module _ (line : Line) (ordered : IsOrdered line) (d : ℕ) (one : IsOneCentreLi
   message_piece c t_train t SessionEstablished trains at = message_goes line w local c t_train t trains at SessionEstablished (λ h. record { at_once = established line w local c t_train t trains at; accepts = tt })
   message_piece c t_train t (StartOfMission is_valid position) trains at = start_goes line ordered d one w local c t_train t trains at is_valid position
   message_piece c t_train t (TrainData position) trains at = message_goes line w local c t_train t trains at (TrainData position) (λ h. record { at_once = data_heard line w local c t_train t trains at position h; accepts = tt })
-  message_piece c t_train t (Request position) trains at = message_goes line w local c t_train t trains at (Request position) (λ h. record { at_once = requested line w local c t_train t trains at position h; accepts = tt })
+  message_piece c t_train t (Request position) trains at = message_goes line w local c t_train t trains at (Request position) (λ h. record { at_once = requested line w local c t_train t trains at (none_next line d one c) position h; accepts = tt })
   message_piece c t_train t (Report position) trains at = message_goes line w local c t_train t trains at (Report position) (λ h. record { at_once = report_heard line ordered w local c t_train t trains at position h; accepts = tt })
   message_piece c t_train t (ShorteningGranted asked position) trains at =
       message_goes line w local c t_train t trains at (ShorteningGranted asked position) (λ h. record { at_once = granted_heard line w local c t_train t trains at asked position h; accepts = tt })
@@ -33,7 +33,7 @@ module _ (line : Line) (ordered : IsOrdered line) (d : ℕ) (one : IsOneCentreLi
   message_piece c t_train t (EndOfMission position) trains at = message_goes line w local c t_train t trains at (EndOfMission position) (λ h. record { at_once = end_heard line ordered w local c t_train t trains at position h; accepts = tt })
 
   -- whatever happens, the one line centre goes on so
-  pub event_goes : (event : Event) (answer : Answer) (new : World) → world_step Local line w event ≡ Ok (answer, new) → GoesForced line (local_read_off line w) event answer (local_read_off line new)
+  pub event_goes : (event : Event) (answer : Answer) (new : World) → world_step line w event ≡ Ok (answer, new) → GoesForced line (local_read_off line w) event answer (local_read_off line new)
   event_goes = holds_of line w local (GoesForced line (local_read_off line w)) (record {
     message = λ c m. message_piece c m.t_train m.nid_engine m.body (mention line m.nid_engine w.trains);
     set = λ c s at. set_goes line w local c s w.trains at;

@@ -1,6 +1,5 @@
 -- The step of a message leaves no choice: it is silent for its reason, or answered at once.
 use Rattle.std.proofs.Common.{◌≡◌, ℕ, true, Option, Some, None, refl, sym, ap, ◌∙◌, inl, inr, List, [], Ok, subst}
-use Rattle.rbc_spec.specs.Reach.{Local}
 use Rattle.rbc_spec.specs.Line.{Line, is_centre}
 use Rattle.rbc_spec.specs.Message.{TrainBody}
 use Rattle.rbc_spec.specs.Outcome.{Reason}
@@ -26,14 +25,14 @@ module _ (line : Line) (w : World) (local : IsLocal line w) (c t_train t : ℕ) 
 
   -- the step of the message is a piece without free choice
   abbrev pub GoesForced : TrainBody → Type 0
-  GoesForced body = PieceOf body (step.effect Local line c (ticked line w local c t_train t trains at) (step.Train (message line w local c t_train t trains at body)))
+  GoesForced body = PieceOf body (step.effect line c (ticked line w local c t_train t trains at) (step.Train (message line w local c t_train t trains at body)))
 
   abbrev silence_of : TrainBody → Option Reason
   silence_of body = step.silence line c (ticked line w local c t_train t trains at) (message line w local c t_train t trains at body)
 
   silent_goes : (body : TrainBody) (why : Reason) → silence_of body ≡ Some why → GoesForced body
   silent_goes body why h =
-      let effect : step.effect Local line c (ticked line w local c t_train t trains at) (step.Train (message line w local c t_train t trains at body))
+      let effect : step.effect line c (ticked line w local c t_train t trains at) (step.Train (message line w local c t_train t trains at body))
       ≡ record { reply = record { state = ticked line w local c t_train t trains at; frames = λ d. []; sayings = []; words = [] }; link = None; silence = Some why } = rw h refl in
       let same = same_silence line w local c t t_train (stamp line w local c t_train t trains at) body ∙ h in
       subst (PieceOf body) (sym effect) (record {
@@ -63,7 +62,7 @@ module _ (line : Line) (w : World) (local : IsLocal line w) (c t_train t : ℕ) 
   answered_goes body h answers =
       let a = answers.at_once in
       let made : Reply = record { state = a.state; frames = (reply line w local c t_train t trains at body).frames; sayings = a.said.sayings; words = a.said.words } in
-      let effect : step.effect Local line c (ticked line w local c t_train t trains at) (step.Train (message line w local c t_train t trains at body)) ≡ record { reply = made; link = None; silence = None } =
+      let effect : step.effect line c (ticked line w local c t_train t trains at) (step.Train (message line w local c t_train t trains at body)) ≡ record { reply = made; link = None; silence = None } =
       rw h (λ i. record { reply = record { state = a.state_is i; frames = (reply line w local c t_train t trains at body).frames; sayings = a.sayings_are i; words = a.words_are i }; link = None; silence = None })
       in
       let same = same_silence line w local c t t_train (stamp line w local c t_train t trains at) body ∙ h in

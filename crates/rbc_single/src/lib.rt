@@ -6,7 +6,4 @@
 
 mod laws;
 
-pub use laws::{
-    each_event_leaves_no_choice, each_run_leaves_no_choice, no_mission_goes_on_elsewhere,
-    the_one_centre_theorem,
-};
+pub use laws::{each_event_leaves_no_choice, each_run_leaves_no_choice, the_one_centre_theorem};

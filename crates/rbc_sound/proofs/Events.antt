@@ -3,7 +3,6 @@ use Rattle.std.proofs.Common.{◌≡◌, ◌≢◌, ℕ, ◌==◌, ◌&&◌, not
 use Rattle.std.specs.Option.{option_map_or}
 use Rattle.std.proofs.lemmas.Bool.{and_parts, or_parts, not-true, both_ways}
 use Rattle.rbc_spec.specs.Maps.{put}
-use Rattle.rbc_spec.specs.Reach.{Reach, follows_rule}
 use Rattle.rbc_spec.specs.SectionRuns.{all_of}
 use Rattle.rbc_spec.specs.Line.{Line, IsLine, is_centre, is_linked, section, train_number}
 use Rattle.rbc_spec.specs.Place.{Position}
@@ -14,7 +13,7 @@ use Rattle.rbc_spec.specs.Centre.{Centre, Opened, Closed, Up, is_up}
 use Rattle.rbc_spec.specs.Acts.{Act, become, rest, ◌>>◌, hear, change_mission}
 use Rattle.rbc_spec.specs.Rules.{set_phase, drop_wait, close_session, answered}
 use Rattle.rbc_spec.specs.Links.{is_train, of_train, received, announced, route_withdrawn, route_returned, yielded}
-use Rattle.rbc_spec.specs.Step.{Event, Train, Set, Unset, Deliver, Effect, is_out_of_phase, silence, offered, body_taken, taken_by, hear_and_answer, effect, state_after, stamp_of, ticked}
+use Rattle.rbc_spec.specs.Step.{Event, Train, Set, Unset, Deliver, Effect, is_out_of_phase, silence, offered, taken_by, hear_and_answer, effect, state_after, stamp_of, ticked}
 use Rattle.rbc_lemmas.proofs.Puts.{put_here, put_other}
 use Rattle.rbc_local.proofs.Stays.{by_same}
 use Rattle.rbc_laws.proofs.Reasons.{not_for}
@@ -57,24 +56,24 @@ module _ (line : Line) (ok : IsLine line) (c : ℕ) where
   abbrev MayStart : TrainBody → Centre → ℕ → Type 0
   MayStart body k t = (is_valid : Bool) (position : Position) → body ≡ StartOfMission is_valid position → IsKnown line k t × (k.wait t ≡ None)
 
-  answer_sound : (reach : Reach) (m : TrainMessage) (body : TrainBody) (k : Centre) → IsCentreSound line c k → MayStart body k m.nid_engine → Sound line c (answered reach line c m body k)
-  answer_sound reach m (TrainData position) k old start = then_sound line c (change_mission m.nid_engine (λ n. record n { has_data = true })) _ k
+  answer_sound : (m : TrainMessage) (body : TrainBody) (k : Centre) → IsCentreSound line c k → MayStart body k m.nid_engine → Sound line c (answered line c m body k)
+  answer_sound m (TrainData position) k old start = then_sound line c (change_mission m.nid_engine (λ n. record n { has_data = true })) _ k
       (changed_sound line c k old m.nid_engine (λ n. record n { has_data = true }) (λ n at. refl)
       (λ n at. other_words line ok c k n true n.is_ended n.proposal (old.mission m.nid_engine n at)))
       (λ j is sound. said_sound line c j sound m.nid_engine)
-  answer_sound reach m (Request position) k old start = request_sound line ok c reach m.nid_engine position k old
-  answer_sound reach m (Report position) k old start = report_sound line ok c m.nid_engine position k old
-  answer_sound reach m (ShorteningGranted stamp position) k old start = granting_sound line ok c m.nid_engine position k old
-  answer_sound reach m (ShorteningRejected stamp position) k old start = changed_sound line c k old m.nid_engine (λ n. record n { proposal = None }) (λ n at. refl)
+  answer_sound m (Request position) k old start = request_sound line ok c m.nid_engine position k old
+  answer_sound m (Report position) k old start = report_sound line ok c m.nid_engine position k old
+  answer_sound m (ShorteningGranted stamp position) k old start = granting_sound line ok c m.nid_engine position k old
+  answer_sound m (ShorteningRejected stamp position) k old start = changed_sound line c k old m.nid_engine (λ n. record n { proposal = None }) (λ n at. refl)
       (λ n at. other_words line ok c k n n.has_data n.is_ended None (old.mission m.nid_engine n at))
-  answer_sound reach m (EndOfMission position) k old start = end_sound line ok c m.nid_engine position k old
-  answer_sound reach m InitiationOfSession k old start = then_sound line c (close_session line c m.nid_engine >> set_phase m.nid_engine Opened) _ k
+  answer_sound m (EndOfMission position) k old start = end_sound line ok c m.nid_engine position k old
+  answer_sound m InitiationOfSession k old start = then_sound line c (close_session line c m.nid_engine >> set_phase m.nid_engine Opened) _ k
       (then_sound line c (close_session line c m.nid_engine) (set_phase m.nid_engine Opened) k (closed_sound m.nid_engine k old) (λ j is sound. phase_sound line c j sound m.nid_engine Opened))
       (λ j is sound. said_sound line c j sound m.nid_engine)
-  answer_sound reach m TerminationOfSession k old start = then_sound line c (close_session line c m.nid_engine) _ k (closed_sound m.nid_engine k old) (λ j is sound. said_sound line c j sound m.nid_engine)
-  answer_sound reach m (StartOfMission is_valid position) k old start =
-      let may = start is_valid position refl in start_sound line ok c k old m.nid_engine reach is_valid position may.0 may.1
-  answer_sound reach m SessionEstablished k old start = phase_sound line c k old m.nid_engine Up
+  answer_sound m TerminationOfSession k old start = then_sound line c (close_session line c m.nid_engine) _ k (closed_sound m.nid_engine k old) (λ j is sound. said_sound line c j sound m.nid_engine)
+  answer_sound m (StartOfMission is_valid position) k old start =
+      let may = start is_valid position refl in start_sound line ok c k old m.nid_engine is_valid position may.0 may.1
+  answer_sound m SessionEstablished k old start = phase_sound line c k old m.nid_engine Up
 
   heard_sound : (m : TrainMessage) (k : Centre) → IsCentreSound line c k → Sound line c (hear m k)
   heard_sound m k old = leaves line c (free_sound line c k old (record k { heard = put k.heard m.nid_engine (Some m.t_train) }) refl refl refl refl
@@ -92,15 +91,15 @@ module _ (line : Line) (ok : IsLine line) (c : ℕ) where
         (sym (ap (is_out_of_phase k m.nid_engine) is) ∙ not_for line c k m (StartOfMission is_valid position) 3 WrongPhase is heard refl)).1,
   )
 
-  pub train_sound : (reach : Reach) (m : TrainMessage) (k : Centre) → IsCentreSound line c k → Sound line c (effect reach line c k (Train m)).reply
-  train_sound reach m k old = by_silence (silence line c k m) refl
+  pub train_sound : (m : TrainMessage) (k : Centre) → IsCentreSound line c k → Sound line c (effect line c k (Train m)).reply
+  train_sound m k old = by_silence (silence line c k m) refl
     where
       by_silence : (o : Option Reason) → silence line c k m ≡ o → Sound line c (option_map_or {U = Effect}
           (λ why. record { reply = rest k; link = None; silence = Some why }) o
-          (record { reply = hear_and_answer reach line c m k; link = None; silence = None })).reply
+          (record { reply = hear_and_answer line c m k; link = None; silence = None })).reply
       by_silence (Some why) is = rest_sound line c k old
-      by_silence None is = then_sound line c (hear m) (answered reach line c m m.body) k (heard_sound m k old)
-          (λ j same sound. answer_sound reach m m.body j sound (subst (λ (x : Centre). MayStart m.body x m.nid_engine) (sym same) (may_start m k is)))
+      by_silence None is = then_sound line c (hear m) (answered line c m m.body) k (heard_sound m k old)
+          (λ j same sound. answer_sound m m.body j sound (subst (λ (x : Centre). MayStart m.body x m.nid_engine) (sym same) (may_start m k is)))
 
   -- ## A frame
 
@@ -126,34 +125,34 @@ module _ (line : Line) (ok : IsLine line) (c : ℕ) where
     frame_sound (Yield number t heard has_data is_ended place hand) k range old = trained t _ k old (λ known. or_sound line c (carried_place place) (yielded line c d number t hand heard has_data is_ended) rest k
         (λ at is. yielded_sound line ok c d number t heard hand has_data is_ended at k old known range) (λ none. rest_sound line c k old))
 
-  pub deliver_sound : (reach : Reach) (d : ℕ) (f : Frame) (k : Centre) → HasHandRange f.body → IsCentreSound line c k → Sound line c (effect reach line c k (Deliver d f)).reply
-  deliver_sound reach d f k range old = by_link (is_linked line c d) refl
+  pub deliver_sound : (d : ℕ) (f : Frame) (k : Centre) → HasHandRange f.body → IsCentreSound line c k → Sound line c (effect line c k (Deliver d f)).reply
+  deliver_sound d f k range old = by_link (is_linked line c d) refl
     where
-      by_answer : is_linked line c d ≡ true → (answer : LinkAnswer) → Sound line c (taken_by reach line c d f answer k)
+      by_answer : is_linked line c d ≡ true → (answer : LinkAnswer) → Sound line c (taken_by line c d f answer k)
       by_answer linked Next =
           let ends = linked_apart line c d linked in
-          then_sound line c (become (λ j. record j { taken = put j.taken d f.number })) (body_taken reach line c d f.body) k
+          then_sound line c (become (λ j. record j { taken = put j.taken d f.number })) (received line c d f.body) k
           (leaves line c (free_sound line c k old (record k { taken = put k.taken d f.number }) refl refl refl refl (λ u is. is) (omega arith)) (none_sent line c))
-          (λ j is sound. if_sound line c (follows_rule reach f.body) (received line c d f.body) rest j (λ follows. frame_sound d ends.0 ends.1 f.body j range sound) (λ no. rest_sound line c j sound))
+          (λ j is sound. frame_sound d ends.0 ends.1 f.body j range sound)
       by_answer linked Old = rest_sound line c k old
       by_answer linked Early = rest_sound line c k old
       by_answer linked NoLink = rest_sound line c k old
 
-      by_link : (b : Bool) → is_linked line c d ≡ b → Sound line c (taken_by reach line c d f (if b then offered (k.taken d) f.number else NoLink) k)
+      by_link : (b : Bool) → is_linked line c d ≡ b → Sound line c (taken_by line c d f (if b then offered (k.taken d) f.number else NoLink) k)
       by_link true linked = by_answer linked (offered (k.taken d) f.number)
       by_link false linked = rest_sound line c k old
 
   -- ## The step
 
-  effect_sound : (reach : Reach) (event : Event) (k : Centre) → IsInRange event → IsCentreSound line c k → Sound line c (effect reach line c k event).reply
-  effect_sound reach (Train m) k range old = train_sound reach m k old
-  effect_sound reach (Set s) k range old = set_sound line ok c s k old
-  effect_sound reach (Unset s) k range old = unset_sound line ok c s k old
-  effect_sound reach (Deliver d f) k range old = deliver_sound reach d f k range old
+  effect_sound : (event : Event) (k : Centre) → IsInRange event → IsCentreSound line c k → Sound line c (effect line c k event).reply
+  effect_sound (Train m) k range old = train_sound m k old
+  effect_sound (Set s) k range old = set_sound line ok c s k old
+  effect_sound (Unset s) k range old = unset_sound line ok c s k old
+  effect_sound (Deliver d f) k range old = deliver_sound d f k range old
 
-  pub stays_sound : (reach : Reach) (k : Centre) (event : Event) → IsInRange event → IsCentreSound line c k → StaysSound reach line c k event
-  stays_sound reach k event range old =
+  pub stays_sound : (k : Centre) (event : Event) → IsInRange event → IsCentreSound line c k → StaysSound line c k event
+  stays_sound k event range old =
       let stamp : ℕ = stamp_of k event in
-      let e : Effect = effect reach line c (ticked stamp k) event in
-      let after = effect_sound reach event (ticked stamp k) range (free_sound line c k old (ticked stamp k) refl refl refl refl (λ u is. is) (omega arith)) in
+      let e : Effect = effect line c (ticked stamp k) event in
+      let after = effect_sound event (ticked stamp k) range (free_sound line c k old (ticked stamp k) refl refl refl refl (λ u is. is) (omega arith)) in
       leaves line c (free_sound line c e.reply.state after.centre (state_after stamp k e) refl refl refl refl (λ u is. is) (omega arith)) (sends_of line c after)

@@ -13,5 +13,3 @@ pub mod Handovers
 pub mod Events
 pub mod Ranges
 pub mod Worlds
-pub mod Within
-pub mod WithinEvents

@@ -5,7 +5,6 @@ use Rattle.std.proofs.lemmas.Option.{same_Some}
 use Rattle.std.proofs.lemmas.Bool.{and_parts, or_cases, both_ways}
 use Rattle.std.proofs.lemmas.List.Elements.{All-head, All-tail}
 use Rattle.rbc_ledger.specs.Sums.{one_if}
-use Rattle.rbc_spec.specs.Reach.{Reach, lends_routes, hands_over}
 use Rattle.rbc_spec.specs.SectionRuns.{SectionRun, most_in_hand, within, behind, is_empty, part_from, joined}
 use Rattle.rbc_spec.specs.Line.{Line, Section, IsLine, section, is_centre, is_home, next_centre}
 use Rattle.rbc_spec.specs.Sections.{is_on}
@@ -22,7 +21,7 @@ use Rattle.rbc_laws.proofs.Places.{placed_on}
 use Rattle.rbc_flow.specs.Counts.{wait_has}
 use Rattle.rbc_flow.specs.Sound.{IsHandAt, IsMissionAt, IsCentreSound}
 use Rattle.rbc_sound.proofs.Held.{Held, held, held_booked, held_mission, held_aside}
-use Rattle.rbc_sound.proofs.Sends.{Sound, leaves, none_sent, one_sent, then_sent, rest_sound, then_sound, if_sound, if_reply, or_sound, or_reply}
+use Rattle.rbc_sound.proofs.Sends.{Sound, leaves, none_sent, one_sent, then_sent, rest_sound, then_sound, if_reply, or_sound, or_reply}
 use Rattle.rbc_sound.proofs.Again.{grown_law, again, same_hand, free_sound, said_sound}
 use Rattle.rbc_sound.proofs.Places.{IsReported, reported}
 use Rattle.rbc_sound.proofs.Leaving.{held_changed, next_is_centre}
@@ -91,16 +90,14 @@ module _ (line : Line) (ok : IsLine line) (c : ℕ) where
   ask_sound t d m k old to = leaves line c (free_sound line c k old (ask_route t d m k).state refl refl refl refl (λ u is. is) (omega arith))
       (then_sent line c _ (λ e. []) (one_sent line c d _ k to (record {})) (none_sent line c))
 
-  pub border_sound : (reach : Reach) (t d : ℕ) (k : Centre) → IsCentreSound line c k → is_centre line d ≡ true
-      → ((m : Mission) → k.mission t ≡ Some m → next_centre line c m.place.track ≡ Some d) → Sound line c (at_border reach line c t d k)
-  border_sound reach t d k old to next = then_sound line c (if hands_over reach then announce_if_due line t d else rest) (ask_route_if_due line t d) k
-      (if_sound line c (hands_over reach) (announce_if_due line t d) rest k
-      (λ hands. or_reply line c (k.mission t) _ (rest k)
+  pub border_sound : (t d : ℕ) (k : Centre) → IsCentreSound line c k → is_centre line d ≡ true
+      → ((m : Mission) → k.mission t ≡ Some m → next_centre line c m.place.track ≡ Some d) → Sound line c (at_border line c t d k)
+  border_sound t d k old to next = then_sound line c (announce_if_due line t d) (ask_route_if_due line t d) k
+      (or_reply line c (k.mission t) _ (rest k)
       (λ m at. if_reply line c (is_none m.handing && not (is_empty (part_at line d m.place.track m.hand))) (announce line t m.place.group d m k) (rest k)
       (λ due. announce_sound t m.place.group d m k old at (some_is_none m.handing (and_parts (is_none m.handing) _ due).0) (next m at))
       (λ no. rest_sound line c k old))
       (λ none. rest_sound line c k old))
-      (λ local. rest_sound line c k old))
       (λ j is sound. or_reply line c (j.mission t) _ (rest j)
       (λ m at. if_reply line c _ (ask_route t d m j) (rest j) (λ due. ask_sound t d m j sound to) (λ no. rest_sound line c j sound))
       (λ none. rest_sound line c j sound))
@@ -191,25 +188,28 @@ module _ (line : Line) (ok : IsLine line) (c : ℕ) where
         ))
         (λ n this. (subst (IsMissionAt line c k) (same_Some (extended_by more here) n this) extended_is, old.mission_known t m at))
 
-    pub grant_sound : (reach : Reach) → Sound line c (grant reach line c t here k)
+    -- the hand is extended, and the authority for it is said
+    pub extend_sound : Sound line c (((booked is_open (Taken t) more >> set_mission t (Some (extended_by more here))) >> say t place.group (Authority (authority line (extended_by more here)))) k)
     unfolding ◌>>◌
-    grant_sound reach =
+    extend_sound = then_sound line c (booked is_open (Taken t) more >> set_mission t (Some (extended_by more here))) (say t place.group (Authority (authority line (extended_by more here)))) k
+        (leaves line c grown_sound (then_sent line c (λ d. []) (λ d. []) (none_sent line c) (none_sent line c))) (λ j this sound. said_sound line c j sound t)
+
+    pub grant_sound : Sound line c (grant line c t here k)
+    unfolding ◌>>◌
+    grant_sound =
         let says : Act = say t place.group (Authority (authority line (extended_by more here))) in
         let takes : Act = booked is_open (Taken t) more >> set_mission t (Some (extended_by more here)) in
-        let border : Act = if lends_routes reach then option_map_or (at_border reach line c t) (next_centre line c place.track) rest else rest in
-        then_sound line c (takes >> says) border k
-        (then_sound line c takes says k (leaves line c grown_sound (then_sent line c (λ d. []) (λ d. []) (none_sent line c) (none_sent line c))) (λ j this sound. said_sound line c j sound t))
-        (λ j this sound. if_sound line c (lends_routes reach) _ rest j
-        (λ lends. or_sound line c (next_centre line c place.track) (at_border reach line c t) rest j
-        (λ d next. border_sound reach t d j sound (next_is_centre line ok c d place.track next)
+        let border : Act = option_map_or (at_border line c t) (next_centre line c place.track) rest in
+        then_sound line c (takes >> says) border k extend_sound
+        (λ j this sound. or_sound line c (next_centre line c place.track) (at_border line c t) rest j
+        (λ d next. border_sound t d j sound (next_is_centre line ok c d place.track next)
         (λ n now. let n_is : extended_by more here ≡ n = same_Some _ n (sym grown_held.mission ∙ sym (ap (λ (x : Centre). x.mission t) this) ∙ now) in
         ap (λ (x : Mission). next_centre line c x.place.track) (sym n_is) ∙ next))
         (λ none. rest_sound line c j sound))
-        (λ home. rest_sound line c j sound))
 
-  pub request_sound : (reach : Reach) (t : ℕ) (position : Position) (k : Centre) → IsCentreSound line c k → Sound line c (request reach line c t position k)
-  request_sound reach t position k old = or_reply line c (k.mission t) _ (rest k)
-      (λ m at. or_sound line c (place_on line m.place.track position) (λ place. grant reach line c t (record m { place = place })) rest k
-      (λ place on. let there = placed_on line m.place.track position place on in grant_sound k old t m place at there.track_is (reported line position place there.extent_is) reach)
+  pub request_sound : (t : ℕ) (position : Position) (k : Centre) → IsCentreSound line c k → Sound line c (request line c t position k)
+  request_sound t position k old = or_reply line c (k.mission t) _ (rest k)
+      (λ m at. or_sound line c (place_on line m.place.track position) (λ place. grant line c t (record m { place = place })) rest k
+      (λ place on. let there = placed_on line m.place.track position place on in grant_sound k old t m place at there.track_is (reported line position place there.extent_is))
       (λ none. rest_sound line c k old))
       (λ none. rest_sound line c k old)

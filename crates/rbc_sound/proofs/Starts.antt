@@ -5,7 +5,6 @@ use Rattle.std.proofs.lemmas.Option.{same_Some}
 use Rattle.std.proofs.lemmas.Bool.{and_parts}
 use Rattle.rbc_ledger.specs.Sums.{one_if}
 use Rattle.rbc_spec.specs.Maps.{put}
-use Rattle.rbc_spec.specs.Reach.{Reach, asks_rights}
 use Rattle.rbc_spec.specs.SectionRuns.{within, all_of}
 use Rattle.rbc_spec.specs.Line.{Line, IsLine, is_home, next_centre, registrar}
 use Rattle.rbc_spec.specs.Sections.{is_on}
@@ -13,7 +12,7 @@ use Rattle.rbc_spec.specs.Place.{Place, Position, covered, fit_place}
 use Rattle.rbc_spec.specs.Frame.{AskRight}
 use Rattle.rbc_spec.specs.Centre.{Centre, Taken, Mission, is_open, is_taken_for, is_free, is_registrar_of}
 use Rattle.rbc_spec.specs.Acts.{Act, become, rest, ◌>>◌, where_so, send, booked, set_mission, change_mission, begun}
-use Rattle.rbc_spec.specs.Rules.{accept, reject, restart, start_here, start_waiting, start_elsewhere, start_new, start_mission}
+use Rattle.rbc_spec.specs.Rules.{accept, reject, restart, start_here, start_waiting, start_new, start_mission}
 use Rattle.rbc_local.specs.Local.{hand_has}
 use Rattle.rbc_local.proofs.Ordered.{is_ordered}
 use Rattle.rbc_lemmas.proofs.Runs.{each_within}
@@ -121,20 +120,17 @@ module _ (line : Line) (ok : IsLine line) (c : ℕ) (k : Centre) (old : IsCentre
             (λ no. rest_sound line c j sound))
             (λ i is last. leaves line c (free_sound line c i last (record i { has_asked = put i.has_asked t true }) refl refl refl refl (λ u has. has) (omega arith)) (none_sent line c))
 
-    start_elsewhere_sound : (reach : Reach) → Sound line c (start_elsewhere reach line t place k)
-    start_elsewhere_sound reach = if_sound line c (asks_rights reach) (start_waiting line t place) (reject t) k (λ asks. start_waiting_sound) (λ local. said_sound line c k old t)
-
-  pub start_sound : (reach : Reach) (is_valid : Bool) (position : Position) → IsKnown line k t → k.wait t ≡ None → Sound line c (start_mission reach line c t is_valid position k)
-  start_sound reach is_valid position known no_wait = or_reply line c (fit_place line is_valid position) _ (reject t k)
+  pub start_sound : (is_valid : Bool) (position : Position) → IsKnown line k t → k.wait t ≡ None → Sound line c (start_mission line c t is_valid position k)
+  start_sound is_valid position known no_wait = or_reply line c (fit_place line is_valid position) _ (reject t k)
       (λ place is.
       let fit = fit_is line is_valid position place is in
       let there = reported line position place fit.1 in
       let hand = fit_hand line (is_ordered line ok) place fit.0 there in
-      or_reply line c (k.mission t) (λ m. restart line t place m k) (start_new reach line c t place k)
+      or_reply line c (k.mission t) (λ m. restart line t place m k) (start_new line c t place k)
       (λ m at. restart_sound place m at hand there)
       (λ none. if_reply line c (all_of (is_free line c k) (covered line place)) _ (reject t k)
-      (λ free. if_sound line c (is_registrar_of line c t) (start_here line t place) (start_elsewhere reach line t place) k
+      (λ free. if_sound line c (is_registrar_of line c t) (start_here line t place) (start_waiting line t place) k
       (λ here. start_here_sound place known none no_wait hand free)
-      (λ away. start_elsewhere_sound place known none no_wait hand free reach))
+      (λ away. start_waiting_sound place known none no_wait hand free))
       (λ taken. said_sound line c k old t)))
       (λ none. said_sound line c k old t)

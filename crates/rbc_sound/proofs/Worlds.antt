@@ -1,4 +1,4 @@
--- The centres of each world are sound, at every reach.
+-- The centres of each world are sound.
 use Rattle.std.proofs.Common.{◌≡◌, ◌≢◌, ℕ, zero, suc, ◌+◌, ◌-◌, ◌==◌, Bool, true, false, if◌then◌else◌, List, [], ◌∷◌, length, Option, Some, None, Result, Ok, Err, slice_get, sym, ap, subst, All, ⊎_elim, refl}
 use Rattle.std.specs.Option.{option_map_or}
 use Rattle.std.proofs.lemmas.Bool.{cases_eq}
@@ -6,7 +6,6 @@ use Rattle.std.proofs.lemmas.Option.{same_Some}
 use Rattle.std.proofs.lemmas.List.Elements.{All-nil, All-cons, All-head, All-tail, All-append}
 use Rattle.rbc_ledger.proofs.Sums.{put_same, put_other}
 use Rattle.rbc_spec.specs.Maps.{put}
-use Rattle.rbc_spec.specs.Reach.{Reach}
 use Rattle.rbc_spec.specs.Line.{Line, IsLine, is_centre}
 use Rattle.rbc_spec.specs.Frame.{Frame, Body}
 use Rattle.rbc_spec.specs.Outcome.{Outcome}
@@ -39,7 +38,7 @@ pub new_sound : (line : Line) → AreCentresSound line (new_world line)
 unfolding new_world beginning
 new_sound line = record { centres = λ c. centre_begins line c; sent = λ a b. All-nil (Sent line a b) }
 
-module _ (reach : Reach) (line : Line) (ok : IsLine line) (w : World) (old : AreCentresSound line w) where
+module _ (line : Line) (ok : IsLine line) (w : World) (old : AreCentresSound line w) where
   put_sound : (c : ℕ) (k : Centre) (trains : List ℕ) → IsCentreSound line c k → ((b : ℕ) → All (Sent line c b) (k.sent b)) → AreCentresSound line (record { at = put w.at c k; trains = trains })
   put_sound c k trains sound sent = record {
     centres = λ d. ⊎_elim
@@ -64,12 +63,12 @@ module _ (reach : Reach) (line : Line) (ok : IsLine line) (w : World) (old : Are
   stepped_sound c trains (Some why) x sound sent answer new is = cc
   stepped_sound c trains None x sound sent answer new is = subst (AreCentresSound line) (ap (λ r. world_of w r) is) (put_sound c x.1 trains sound sent)
 
-  takes_sound : (c : ℕ) (trains : List ℕ) (event : centre.Event) → IsInRange event → LeavesAll (takes reach line w c trains event)
+  takes_sound : (c : ℕ) (trains : List ℕ) (event : centre.Event) → IsInRange event → LeavesAll (takes line w c trains event)
   unfolding step
   takes_sound c trains event range =
       let k : Centre = w.at c in
-      let after = stays_sound line ok c reach k event range (old.centres c) in
-      stepped_sound c trains (refusal line c k event) (taken reach line c event k) after.centre
+      let after = stays_sound line ok c k event range (old.centres c) in
+      stepped_sound c trains (refusal line c k event) (taken line c event k) after.centre
       (λ b. All-append (Sent line c b) (k.sent b) _ (old.sent c b) (numbered_sound line c b (stamp_of k event) (length (k.sent b)) _ (after.bodies b)))
 
   at_sound : (c : ℕ) (done : Result (Answer × World) Refusal) → LeavesAll done → LeavesAll (at_centre line w c done)
@@ -88,11 +87,11 @@ module _ (reach : Reach) (line : Line) (ok : IsLine line) (w : World) (old : Are
       by_number false e = each_sent line a b ((w.at a).sent b) (number - 1) f (old.sent a b) e
 
   delivered_sound : (a b number : ℕ) (o : Option Frame) → frame_sent w a b number ≡ o
-      → LeavesAll (option_map_or (λ f. takes reach line w b w.trains (centre.Deliver a f)) o (Ok (NotSent, w)))
+      → LeavesAll (option_map_or (λ f. takes line w b w.trains (centre.Deliver a f)) o (Ok (NotSent, w)))
   delivered_sound a b number None is = stands_still NotSent
   delivered_sound a b number (Some f) is = takes_sound b w.trains (centre.Deliver a f) (sound_hand line a b f.body (sent_sound a b number f is))
 
-  pub step_sound : (event : Event) → LeavesAll (world_step reach line w event)
+  pub step_sound : (event : Event) → LeavesAll (world_step line w event)
   unfolding world_step
   step_sound (Bytes c (Ok m)) = at_sound c _ (takes_sound c (mention line m.nid_engine w.trains) (centre.Train m) (record {}))
   step_sound (Bytes c (Err number)) = at_sound c _ (stands_still _)
@@ -106,12 +105,12 @@ last_of w (Ok x) = x.1
 last_of w (Err why) = w
 
 -- a run from a world whose centres are sound
-pub run_sound : (reach : Reach) (line : Line) → IsLine line → (events : List Event) (w : World) → AreCentresSound line w → (answers : List Answer) (last : World)
-    → world_run reach line w events ≡ Ok (answers, last) → AreCentresSound line last
+pub run_sound : (line : Line) → IsLine line → (events : List Event) (w : World) → AreCentresSound line w → (answers : List Answer) (last : World)
+    → world_run line w events ≡ Ok (answers, last) → AreCentresSound line last
 unfolding world_run
-run_sound reach line ok [] w old answers last is = subst (AreCentresSound line) (ap (λ r. last_of w r) is) old
-run_sound reach line ok (event ∷ events) w old answers last is =
-    let first = bind_ok (world_step reach line w event) _ (answers, last) is in
-    let others = bind_ok (world_run reach line first.0.1 events) _ (answers, last) first.2 in
+run_sound line ok [] w old answers last is = subst (AreCentresSound line) (ap (λ r. last_of w r) is) old
+run_sound line ok (event ∷ events) w old answers last is =
+    let first = bind_ok (world_step line w event) _ (answers, last) is in
+    let others = bind_ok (world_run line first.0.1 events) _ (answers, last) first.2 in
     subst (AreCentresSound line) (ap (λ r. last_of w r) others.2)
-    (run_sound reach line ok events first.0.1 (step_sound reach line ok w old event first.0.0 first.0.1 first.1) others.0.0 others.0.1 others.1)
+    (run_sound line ok events first.0.1 (step_sound line ok w old event first.0.0 first.0.1 first.1) others.0.0 others.0.1 others.1)

@@ -1,3 +1,2 @@
 pub mod Stays
 pub mod Worlds
-pub mod Within

@@ -1,6 +1,5 @@
 -- Steps that leave a sound centre sound.
 use Rattle.std.specs.Prelude.{ℕ, ◌≤◌}
-use Rattle.rbc_spec.specs.Reach.{Reach}
 use Rattle.rbc_spec.specs.SectionRuns.{most_in_hand}
 use Rattle.rbc_spec.specs.Line.{Line}
 use Rattle.rbc_spec.specs.Frame.{Body, Yield}
@@ -19,8 +18,8 @@ IsInRange (Deliver d f) = HasHandRange f.body
 IsInRange event = Unit {0}
 
 -- the step of an event at centre c, which was k, leaves the centre sound, and sends sound bodies to centres of the line alone
-abbrev pub StaysSound : Reach → Line → ℕ → Centre → Event → Type 0
-StaysSound reach line c k event =
+abbrev pub StaysSound : Line → ℕ → Centre → Event → Type 0
+StaysSound line c k event =
     let stamp = stamp_of k event in
-    let e = effect reach line c (ticked stamp k) event in
+    let e = effect line c (ticked stamp k) event in
     LeavesSound line c (state_after stamp k e) e.reply.frames

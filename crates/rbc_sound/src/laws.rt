@@ -1,7 +1,6 @@
 //! Laws of a sound centre.
 
 ghost use Rattle.std.specs.Prelude.{◌≡◌, ℕ, List, Ok};
-ghost use Rattle.rbc_spec.specs.Reach.{Reach};
 ghost use Rattle.rbc_spec.specs.Line.{Line, IsLine};
 ghost use Rattle.rbc_spec.specs.Frame.{Body, HasBodyRange};
 ghost use Rattle.rbc_spec.specs.Centre.{Centre, beginning};
@@ -11,18 +10,17 @@ ghost use Rattle.rbc_spec.specs.World.{World, Answer, new_world, world_run};
 ghost use Rattle.rbc_flow.specs.Sound.{IsCentreSound, IsBodySound};
 ghost use Rattle.rbc_sound.specs.Stays.{HasHandRange, IsInRange, StaysSound};
 ghost use Rattle.rbc_sound.specs.Worlds.{AreCentresSound};
-ghost use Rattle.rbc_sound.specs.Within.{IsCentreWithin, StaysWithin};
 
 /// At its beginning a centre is sound.
 pub fn a_centre_begins_sound()
     ensures { (line : Line) (c : ℕ) → IsCentreSound line c (beginning line c) }
 {}
 
-/// Whatever a train says, the interlocking wishes or another centre sends, at every reach: a sound centre stays sound, and what it sends
+/// Whatever a train says, the interlocking wishes or another centre sends: a sound centre stays sound, and what it sends
 /// is sound.
 pub fn a_centre_stays_sound()
-    ensures { (reach : Reach) (line : Line) (c : ℕ) (k : Centre) (event : Event) → IsLine line → IsInRange event → IsCentreSound line c k
-        → StaysSound reach line c k event }
+    ensures { (line : Line) (c : ℕ) (k : Centre) (event : Event) → IsLine line → IsInRange event → IsCentreSound line c k
+        → StaysSound line c k event }
 {}
 
 /// A frame whose fields lie in their ranges may be delivered, and so may one that a sound centre sent.
@@ -31,14 +29,8 @@ pub fn a_frame_in_range_has_a_hand()
     ensures sound { (line : Line) (a b : ℕ) (body : Body) → IsBodySound line a b body → HasHandRange body }
 {}
 
-/// At every reach, behind any list of events each centre of a line is sound by itself, and so is each body that one has sent.
+/// Behind any list of events each centre of a line is sound by itself, and so is each body that one has sent.
 pub fn each_centre_of_a_world_is_sound()
-    ensures { (reach : Reach) (line : Line) (events : List world.Event) (answers : List Answer) (w : World) → IsLine line
-        → world_run reach line (new_world line) events ≡ Ok (answers, w) → AreCentresSound line w }
-{}
-
-/// Where the centres of a reach hand no mission over, a centre announces no handover and sends no Yield, whatever happens to it.
-pub fn a_centre_stays_within_its_reach()
-    ensures begins { (reach : Reach) (line : Line) (c : ℕ) → IsCentreWithin reach (beginning line c) }
-    ensures stays { (reach : Reach) (line : Line) (c : ℕ) (k : Centre) (event : Event) → IsCentreWithin reach k → StaysWithin reach line c k event }
+    ensures { (line : Line) (events : List world.Event) (answers : List Answer) (w : World) → IsLine line
+        → world_run line (new_world line) events ≡ Ok (answers, w) → AreCentresSound line w }
 {}

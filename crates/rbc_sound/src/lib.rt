@@ -5,6 +5,6 @@
 mod laws;
 
 pub use laws::{
-    a_centre_begins_sound, a_centre_stays_sound, a_centre_stays_within_its_reach,
-    a_frame_in_range_has_a_hand, each_centre_of_a_world_is_sound,
+    a_centre_begins_sound, a_centre_stays_sound, a_frame_in_range_has_a_hand,
+    each_centre_of_a_world_is_sound,
 };

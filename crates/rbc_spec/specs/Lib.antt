@@ -8,7 +8,6 @@ pub mod Frame
 pub mod Outcome
 pub mod Centre
 pub mod Acts
-pub mod Reach
 pub mod Rules
 pub mod Links
 pub mod Step

@@ -2,7 +2,6 @@
 use Rattle.std.specs.Prelude.{ℕ, ◌+◌, ◌-◌, ◌*◌, ◌==◌, Bool, true, false, ◌&&◌, ◌||◌, not, if◌then◌else◌, [], ◌∷◌, Some, None, is_none, nat_lt, nat_le, option_map}
 use Rattle.std.specs.Option.{option_map_or}
 use Rattle.rbc_spec.specs.Maps.{has, put}
-use Rattle.rbc_spec.specs.Reach.{Reach, asks_rights, lends_routes, hands_over}
 use Rattle.rbc_spec.specs.SectionRuns.{SectionRun, no_run, most_in_hand, within, behind, is_empty, part_before, part_from, joined, longest, passing, all_of}
 use Rattle.rbc_spec.specs.Line.{Line, is_centre, is_home, end, next_centre, registrar}
 use Rattle.rbc_spec.specs.Sections.{is_on}
@@ -69,19 +68,16 @@ start_waiting line t place =
     >> where_so (λ k. not (k.has_asked t))
     (option_map_or (λ r. send r (AskRight t)) (registrar line t) rest >> become (λ k. record k { has_asked = put k.has_asked t true }))
 
-abbrev pub start_elsewhere : Reach → Line → ℕ → Place → Act
-start_elsewhere reach line t place = if asks_rights reach then start_waiting line t place else reject t
-
-abbrev pub start_new : Reach → Line → ℕ → ℕ → Place → Act
-start_new reach line c t place =
+abbrev pub start_new : Line → ℕ → ℕ → Place → Act
+start_new line c t place =
     choose (λ k. all_of (is_free line c k) (covered line place))
-    (if is_registrar_of line c t then start_here line t place else start_elsewhere reach line t place)
+    (if is_registrar_of line c t then start_here line t place else start_waiting line t place)
     (reject t)
 
-abbrev pub start_mission : Reach → Line → ℕ → ℕ → Bool → Position → Act
-start_mission reach line c t is_valid position k =
+abbrev pub start_mission : Line → ℕ → ℕ → Bool → Position → Act
+start_mission line c t is_valid position k =
     option_map_or
-    (λ place. option_map_or (λ m. restart line t place m k) (k.mission t) (start_new reach line c t place k))
+    (λ place. option_map_or (λ m. restart line t place m k) (k.mission t) (start_new line c t place k))
     (fit_place line is_valid position)
     (reject t k)
 
@@ -116,19 +112,19 @@ ask_route_if_due line t d = with_mission t (λ m. where_so
     (ask_route t d m))
 
 -- what follows an extension at the border to centre d
-abbrev pub at_border : Reach → Line → ℕ → ℕ → ℕ → Act
-at_border reach line c t d = (if hands_over reach then announce_if_due line t d else rest) >> ask_route_if_due line t d
+abbrev pub at_border : Line → ℕ → ℕ → ℕ → Act
+at_border line c t d = announce_if_due line t d >> ask_route_if_due line t d
 
-abbrev pub grant : Reach → Line → ℕ → ℕ → Mission → Act
-grant reach line c t m k =
+abbrev pub grant : Line → ℕ → ℕ → Mission → Act
+grant line c t m k =
     let r = extension line c k m in
     let n = extended_by r m in
     (((booked is_open (Taken t) r >> set_mission t (Some n)) >> say t m.place.group (Authority (authority line n)))
-    >> (if lends_routes reach then option_map_or (at_border reach line c t) (next_centre line c m.place.track) rest else rest)) k
+    >> option_map_or (at_border line c t) (next_centre line c m.place.track) rest) k
 
-abbrev pub request : Reach → Line → ℕ → ℕ → Position → Act
-request reach line c t position = with_mission t (λ m.
-    option_map_or (λ place. grant reach line c t (record m { place = place })) (place_on line m.place.track position) rest)
+abbrev pub request : Line → ℕ → ℕ → Position → Act
+request line c t position = with_mission t (λ m.
+    option_map_or (λ place. grant line c t (record m { place = place })) (place_on line m.place.track position) rest)
 
 -- ## Report (3.6.5)
 
@@ -199,16 +195,16 @@ answer_granted line c t position = with_mission t (λ m. with_some (λ k. m.prop
 
 -- ## A train's message
 
-abbrev pub answered : Reach → Line → ℕ → TrainMessage → TrainBody → Act
-answered reach line c m (TrainData position) =
+abbrev pub answered : Line → ℕ → TrainMessage → TrainBody → Act
+answered line c m (TrainData position) =
     change_mission m.nid_engine (λ n. record n { has_data = true }) >> say m.nid_engine unknown_group (DataAcknowledged m.t_train)
-answered reach line c m (Request position) = request reach line c m.nid_engine position
-answered reach line c m (Report position) = report line c m.nid_engine position
-answered reach line c m (ShorteningGranted stamp position) = answer_granted line c m.nid_engine position
-answered reach line c m (ShorteningRejected stamp position) = change_mission m.nid_engine (λ n. record n { proposal = None })
-answered reach line c m (EndOfMission position) = end_mission line c m.nid_engine position
-answered reach line c m InitiationOfSession =
+answered line c m (Request position) = request line c m.nid_engine position
+answered line c m (Report position) = report line c m.nid_engine position
+answered line c m (ShorteningGranted stamp position) = answer_granted line c m.nid_engine position
+answered line c m (ShorteningRejected stamp position) = change_mission m.nid_engine (λ n. record n { proposal = None })
+answered line c m (EndOfMission position) = end_mission line c m.nid_engine position
+answered line c m InitiationOfSession =
     (close_session line c m.nid_engine >> set_phase m.nid_engine Opened) >> say m.nid_engine unknown_group SystemVersion
-answered reach line c m TerminationOfSession = close_session line c m.nid_engine >> say m.nid_engine unknown_group TerminationAcknowledged
-answered reach line c m (StartOfMission is_valid position) = start_mission reach line c m.nid_engine is_valid position
-answered reach line c m SessionEstablished = set_phase m.nid_engine Up
+answered line c m TerminationOfSession = close_session line c m.nid_engine >> say m.nid_engine unknown_group TerminationAcknowledged
+answered line c m (StartOfMission is_valid position) = start_mission line c m.nid_engine is_valid position
+answered line c m SessionEstablished = set_phase m.nid_engine Up

@@ -3,7 +3,6 @@ use Rattle.std.specs.Prelude.{ℕ, ◌+◌, ◌-◌, ◌*◌, ◌==◌, Bool, tr
 use Rattle.std.specs.Option.{option_map_or}
 use Rattle.std.specs.List.{find, list_any, range_with_len}
 use Rattle.rbc_spec.specs.Maps.{has, put}
-use Rattle.rbc_spec.specs.Reach.{Reach, follows_rule}
 use Rattle.rbc_spec.specs.SectionRuns.{behind}
 use Rattle.rbc_spec.specs.Line.{Line, is_home, is_linked, end, train_number}
 use Rattle.rbc_spec.specs.Sections.{section_count}
@@ -109,20 +108,16 @@ offered count n = if n == count + 1 then Next else (if nat_le n count then Old e
 abbrev pub link_answer : Line → ℕ → Centre → ℕ → Frame → LinkAnswer
 link_answer line c k d f = if is_linked line c d then offered (k.taken d) f.number else NoLink
 
--- what the body of a frame comes to, as far as the centres follow the rules
-abbrev pub body_taken : Reach → Line → ℕ → ℕ → Body → Act
-body_taken reach line c d body = if follows_rule reach body then received line c d body else rest
-
 -- only the next frame is taken
-abbrev pub taken_by : Reach → Line → ℕ → ℕ → Frame → LinkAnswer → Act
-taken_by reach line c d f Next = become (λ k. record k { taken = put k.taken d f.number }) >> body_taken reach line c d f.body
-taken_by reach line c d f answer = rest
+abbrev pub taken_by : Line → ℕ → ℕ → Frame → LinkAnswer → Act
+taken_by line c d f Next = become (λ k. record k { taken = put k.taken d f.number }) >> received line c d f.body
+taken_by line c d f answer = rest
 
 -- ## The step
 
 -- a message that is not silent is heard and answered
-abbrev pub hear_and_answer : Reach → Line → ℕ → TrainMessage → Act
-hear_and_answer reach line c m = hear m >> answered reach line c m m.body
+abbrev pub hear_and_answer : Line → ℕ → TrainMessage → Act
+hear_and_answer line c m = hear m >> answered line c m m.body
 
 -- what an event does, with the link's answer and the reason of silence
 pub record Effect : Type 0 where
@@ -130,15 +125,15 @@ pub record Effect : Type 0 where
   pub link : Option LinkAnswer
   pub silence : Option Reason
 
-abbrev pub effect : Reach → Line → ℕ → Centre → Event → Effect
-effect reach line c k (Train m) = option_map_or
+abbrev pub effect : Line → ℕ → Centre → Event → Effect
+effect line c k (Train m) = option_map_or
     (λ why. record { reply = rest k; link = None; silence = Some why })
     (silence line c k m)
-    (record { reply = hear_and_answer reach line c m k; link = None; silence = None })
-effect reach line c k (Set s) = record { reply = set line c s k; link = None; silence = None }
-effect reach line c k (Unset s) = record { reply = unset line c s k; link = None; silence = None }
-effect reach line c k (Deliver d f) =
-    let answer = link_answer line c k d f in record { reply = taken_by reach line c d f answer k; link = Some answer; silence = None }
+    (record { reply = hear_and_answer line c m k; link = None; silence = None })
+effect line c k (Set s) = record { reply = set line c s k; link = None; silence = None }
+effect line c k (Unset s) = record { reply = unset line c s k; link = None; silence = None }
+effect line c k (Deliver d f) =
+    let answer = link_answer line c k d f in record { reply = taken_by line c d f answer k; link = Some answer; silence = None }
 
 -- the stamp of a step is one above the last, and above that of the frame that it is handed
 abbrev pub stamp_of : Centre → Event → ℕ
@@ -187,11 +182,11 @@ abbrev pub ticked : ℕ → Centre → Centre
 ticked stamp k = record k { clock = stamp }
 
 -- what an event comes to at a centre that does not refuse it
-abbrev pub taken : Reach → Line → ℕ → Event → Centre → Outcome × Centre
-taken reach line c event k =
+abbrev pub taken : Line → ℕ → Event → Centre → Outcome × Centre
+taken line c event k =
     let stamp = stamp_of k event in
-    let e = effect reach line c (ticked stamp k) event in
+    let e = effect line c (ticked stamp k) event in
     (outcome_of stamp k e, state_after stamp k e)
 
-unfoldable pub step : Reach → Line → ℕ → Event → Centre → Result (Outcome × Centre) Refusal
-step reach line c event k = option_map_or (λ why. Err why) (refusal line c k event) (Ok (taken reach line c event k))
+unfoldable pub step : Line → ℕ → Event → Centre → Result (Outcome × Centre) Refusal
+step line c event k = option_map_or (λ why. Err why) (refusal line c k event) (Ok (taken line c event k))

@@ -2,7 +2,6 @@
 use Rattle.std.specs.Prelude.{◌≡◌, ℕ, List, [], ◌∷◌, true, Option, Some, None, Ok}
 use Rattle.std.specs.List.{All}
 use Rattle.rbc_spec.specs.Line.{Line, IsLine}
-use Rattle.rbc_spec.specs.Reach.{Reach, Whole}
 use Rattle.rbc_spec.specs.Place.{Place, fit_place}
 use Rattle.rbc_spec.specs.Message.{TrainMessage, TrainBody, StartOfMission}
 use Rattle.rbc_spec.specs.Outcome.{Outcome, Reason}
@@ -20,14 +19,14 @@ use Rattle.rbc_spec.specs.Promises.{KeepsPromises, IsSound}
 -- Whatever happens to the centres of a line: what they answer and hold is a run of the one line centre
 abbrev pub WholeLineTheorem : Type 0
 WholeLineTheorem = (line : Line) (events : List Event) (answers : List Answer) (w : World)
-    → IsLine line → world_run Whole line (new_world line) events ≡ Ok (answers, w) → IsLineRun line events answers w
+    → IsLine line → world_run line (new_world line) events ≡ Ok (answers, w) → IsLineRun line events answers w
 
 -- Whatever has happened to the centres of a line, and whatever event they answer next: the one line centre may meet that event with the
 -- same answer, between the states that are read off them; the event keeps its promises, and the new world is sound. A refused event changes
 -- nothing, so this holds also of events behind refused ones
-abbrev pub EachEventTheorem : Reach → Type 0
-EachEventTheorem reach = (line : Line) (w new : World) (events : List Event) (answers : List Answer) (event : Event) (answer : Answer)
-    → IsLine line → world_run reach line (new_world line) events ≡ Ok (answers, w) → world_step reach line w event ≡ Ok (answer, new)
+abbrev pub EachEventTheorem : Type 0
+EachEventTheorem = (line : Line) (w new : World) (events : List Event) (answers : List Answer) (event : Event) (answer : Answer)
+    → IsLine line → world_run line (new_world line) events ≡ Ok (answers, w) → world_step line w event ≡ Ok (answer, new)
     → Goes line (read_off line w) event answer (read_off line new) × KeepsPromises line w event answer new × IsSound line new
 
 -- ## A one-centre line
@@ -93,4 +92,4 @@ pub record IsOneCentreRun (line : Line) (events : List Event) (answers : List An
 -- Where one centre has all sections and is every train's registrar, the run leaves no choice
 abbrev pub OneCentreTheorem : Type 0
 OneCentreTheorem = (line : Line) (c : ℕ) (events : List Event) (answers : List Answer) (w : World)
-    → IsLine line → IsOneCentreLine line c → world_run Whole line (new_world line) events ≡ Ok (answers, w) → IsOneCentreRun line events answers w
+    → IsLine line → IsOneCentreLine line c → world_run line (new_world line) events ≡ Ok (answers, w) → IsOneCentreRun line events answers w

@@ -3,7 +3,6 @@ use Rattle.std.specs.Prelude.{◌≡◌, ℕ, ◌-◌, List, [], ◌∷◌, ◌+
 use Rattle.std.specs.List.{list_any}
 use Rattle.std.specs.Option.{option_map_or}
 use Rattle.rbc_spec.specs.Maps.{put}
-use Rattle.rbc_spec.specs.Reach.{Reach}
 use Rattle.rbc_spec.specs.Line.{Line, is_centre, train_number}
 use Rattle.rbc_spec.specs.Message.{TrainMessage}
 use Rattle.rbc_spec.specs.Frame.{Frame}
@@ -66,21 +65,21 @@ stepped w c trains (Err why) = Err why
 abbrev pub at_centre : Line → World → ℕ → Result (Answer × World) Refusal → Result (Answer × World) Refusal
 at_centre line w c done = if is_centre line c then done else Ok (NoCentre, w)
 
-abbrev pub takes : Reach → Line → World → ℕ → List ℕ → centre.Event → Result (Answer × World) Refusal
-takes reach line w c trains event = stepped w c trains (step reach line c event (w.at c))
+abbrev pub takes : Line → World → ℕ → List ℕ → centre.Event → Result (Answer × World) Refusal
+takes line w c trains event = stepped w c trains (step line c event (w.at c))
 
 -- bytes at a centre of the line
-abbrev pub reads : Reach → Line → World → ℕ → Result TrainMessage ℕ → Result (Answer × World) Refusal
-reads reach line w c (Ok m) = takes reach line w c (mention line m.nid_engine w.trains) (centre.Train m)
-reads reach line w c (Err number) = Ok (Fault number, w)
+abbrev pub reads : Line → World → ℕ → Result TrainMessage ℕ → Result (Answer × World) Refusal
+reads line w c (Ok m) = takes line w c (mention line m.nid_engine w.trains) (centre.Train m)
+reads line w c (Err number) = Ok (Fault number, w)
 
 -- one event
-unfoldable pub world_step : Reach → Line → World → Event → Result (Answer × World) Refusal
-world_step reach line w (Bytes c read) = at_centre line w c (reads reach line w c read)
-world_step reach line w (Set c s) = at_centre line w c (takes reach line w c w.trains (centre.Set s))
-world_step reach line w (Unset c s) = at_centre line w c (takes reach line w c w.trains (centre.Unset s))
-world_step reach line w (Delivery a b number) =
-    option_map_or (λ f. takes reach line w b w.trains (centre.Deliver a f)) (frame_sent w a b number) (Ok (NotSent, w))
+unfoldable pub world_step : Line → World → Event → Result (Answer × World) Refusal
+world_step line w (Bytes c read) = at_centre line w c (reads line w c read)
+world_step line w (Set c s) = at_centre line w c (takes line w c w.trains (centre.Set s))
+world_step line w (Unset c s) = at_centre line w c (takes line w c w.trains (centre.Unset s))
+world_step line w (Delivery a b number) =
+    option_map_or (λ f. takes line w b w.trains (centre.Deliver a f)) (frame_sent w a b number) (Ok (NotSent, w))
 
 infixl 10 ◌>>=◌
 abbrev pub ◌>>=◌ : {A B : Type 0} → Result A Refusal → (A → Result B Refusal) → Result B Refusal
@@ -88,11 +87,11 @@ abbrev pub ◌>>=◌ : {A B : Type 0} → Result A Refusal → (A → Result B R
 (Err why) >>= next = Err why
 
 -- the answers to events one after another, and the world that they leave; or the first refusal
-unfoldable pub world_run : Reach → Line → World → List Event → Result (List Answer × World) Refusal
-world_run reach line w [] = Ok ([], w)
-world_run reach line w (event ∷ events) = do
-  first ← world_step reach line w event
-  others ← world_run reach line first.1 events
+unfoldable pub world_run : Line → World → List Event → Result (List Answer × World) Refusal
+world_run line w [] = Ok ([], w)
+world_run line w (event ∷ events) = do
+  first ← world_step line w event
+  others ← world_run line first.1 events
   Ok (first.0 ∷ others.0, others.1)
 
 -- the trains of the line that messages at centres of the line named, each once, by first mention
@@ -105,12 +104,12 @@ all_named line [] trains = trains
 all_named line (event ∷ events) trains = all_named line events (named line event trains)
 
 -- the events up to some place are answered, and the step of the event there is refused
-pub record IsRefused (reach : Reach) (line : Line) (w : World) (events : List Event) (why : Refusal) : Type 0 where
+pub record IsRefused (line : Line) (w : World) (events : List Event) (why : Refusal) : Type 0 where
   pub front : List Event
   pub event : Event
   pub rest : List Event
   pub answers : List Answer
   pub reached : World
   pub cut : events ≡ front ++ event ∷ rest
-  pub answered : world_run reach line w front ≡ Ok (answers, reached)
-  pub refused : world_step reach line reached event ≡ Err why
+  pub answered : world_run line w front ≡ Ok (answers, reached)
+  pub refused : world_step line reached event ≡ Err why

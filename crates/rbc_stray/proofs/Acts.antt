@@ -21,8 +21,12 @@ use Rattle.rbc_spec.specs.Acts.{Act, Reply, rest, ◌>>◌, send, say, booked, f
 use Rattle.rbc_spec.specs.Links.{is_train}
 use Rattle.rbc_flow.specs.Flow.{centre_count}
 use Rattle.rbc_asked.specs.Asked.{Question, OfRight, OfRoute, stands, questions}
-use Rattle.rbc_asked.proofs.Asking.{none_comes, LendsNoMore}
+use Rattle.rbc_asked.proofs.Asking.{none_comes}
 use Rattle.rbc_stray.specs.Questions.{HasAsked, IsBodyKnown, HasKnownOuts}
+
+-- a change of the book by which no section goes out
+abbrev pub LendsNoMore : Centre → Centre → Type 0
+LendsNoMore k y = (s t d : ℕ) → is_out_for t d (y.book s) ≡ true → is_out_for t d (k.book s) ≡ true
 
 module _ (line : Line) (c : ℕ) where
   -- an act of centre c, which was k, leaves it as y and sends these frames: what comes and what then stands anew is asked or answered by them

@@ -6,7 +6,6 @@ use Rattle.std.proofs.lemmas.Bool.{cases_eq, and_parts, eqb-true}
 use Rattle.std.proofs.lemmas.List.Elements.{All-nil, All-cons}
 use Rattle.rbc_ledger.proofs.Sums.{put_same, put_other}
 use Rattle.rbc_spec.specs.Maps.{put, has}
-use Rattle.rbc_spec.specs.Reach.{Reach, lends_routes, hands_over}
 use Rattle.rbc_spec.specs.SectionRuns.{SectionRun, no_run, most_in_hand, behind, is_empty, part_before, part_from, joined}
 use Rattle.rbc_spec.specs.Line.{Line, IsLine, Section, section, is_centre, is_home, end, next_centre}
 use Rattle.rbc_spec.specs.Sections.{is_on}
@@ -38,7 +37,7 @@ home_small line ok c s = by_section (section line s) refl
     by_section None at home = cc
     by_section (Some p) at home = ltb-true c (centre_count line) (subst (λ d. is_centre line d ≡ true) (eqb-true p.home c home) (home_below line ok s p at))
 
-module _ (reach : Reach) (line : Line) (ok : IsLine line) (c : ℕ) where
+module _ (line : Line) (ok : IsLine line) (c : ℕ) where
   -- ## Requests
 
   goes_announce_if : (t d : ℕ) (k : Centre) → is_train line t ≡ true → Goes line c k (announce_if_due line t d k)
@@ -97,20 +96,18 @@ module _ (reach : Reach) (line : Line) (ok : IsLine line) (c : ℕ) where
       (λ due_not. goes_rest line c k))
       (λ none. goes_rest line c k)
 
-  goes_border : (t d : ℕ) (k : Centre) → is_train line t ≡ true → Goes line c k (at_border reach line c t d k)
-  goes_border t d k known = goes_then line c (if hands_over reach then announce_if_due line t d else rest) (ask_route_if_due line t d) k
-      (goes_if_act line c (hands_over reach) (announce_if_due line t d) rest k (λ hands. goes_announce_if t d k known) (λ hands_not. goes_rest line c k)) (goes_ask_if t d _ known)
+  goes_border : (t d : ℕ) (k : Centre) → is_train line t ≡ true → Goes line c k (at_border line c t d k)
+  goes_border t d k known = goes_then line c (announce_if_due line t d) (ask_route_if_due line t d) k
+      (goes_announce_if t d k known) (goes_ask_if t d _ known)
 
-  goes_grant : (t : ℕ) (m : Mission) (k : Centre) → is_train line t ≡ true → Goes line c k (grant reach line c t m k)
+  goes_grant : (t : ℕ) (m : Mission) (k : Centre) → is_train line t ≡ true → Goes line c k (grant line c t m k)
   unfolding ◌>>◌
   goes_grant t m k known = goes_then line c ((booked is_open (Taken t) more >> set_mission t (Some longer)) >> say t m.place.group (Authority (authority line longer)))
-      (if lends_routes reach then option_map_or (at_border reach line c t) (next_centre line c m.place.track) rest else rest) k
+      (option_map_or (at_border line c t) (next_centre line c m.place.track) rest) k
       (goes_then line c (booked is_open (Taken t) more >> set_mission t (Some longer)) (say t m.place.group (Authority (authority line longer))) k
       (goes_then line c (booked is_open (Taken t) more) (set_mission t (Some longer)) k (goes_taken line c is_open t more k) (goes_set line c t (Some longer) _))
       (goes_say line c t m.place.group (Authority (authority line longer)) _))
-      (goes_if_act line c (lends_routes reach) (option_map_or (at_border reach line c t) (next_centre line c m.place.track) rest) rest _
-      (λ lends. goes_or_act line c (next_centre line c m.place.track) (at_border reach line c t) rest _ (λ d is. goes_border t d _ known) (λ none. goes_rest line c _))
-      (λ lends_not. goes_rest line c _))
+      (goes_or_act line c (next_centre line c m.place.track) (at_border line c t) rest _ (λ d is. goes_border t d _ known) (λ none. goes_rest line c _))
     where
       more : SectionRun
       more = extension line c k m
@@ -118,9 +115,9 @@ module _ (reach : Reach) (line : Line) (ok : IsLine line) (c : ℕ) where
       longer : Mission
       longer = extended_by more m
 
-  goes_request : (t : ℕ) (position : Position) (k : Centre) → is_train line t ≡ true → Goes line c k (request reach line c t position k)
+  goes_request : (t : ℕ) (position : Position) (k : Centre) → is_train line t ≡ true → Goes line c k (request line c t position k)
   goes_request t position k known = goes_or line c (k.mission t) _ k (rest k)
-      (λ m at. goes_or_act line c (place_on line m.place.track position) (λ place. grant reach line c t (record m { place = place })) rest k
+      (λ m at. goes_or_act line c (place_on line m.place.track position) (λ place. grant line c t (record m { place = place })) rest k
       (λ place is. goes_grant t (record m { place = place }) k known) (λ none. goes_rest line c k))
       (λ none. goes_rest line c k)
 
@@ -220,7 +217,7 @@ module _ (reach : Reach) (line : Line) (ok : IsLine line) (c : ℕ) where
 
   -- ## A message
 
-  pub goes_answered : (m : TrainMessage) (body : TrainBody) (k : Centre) → is_train line m.nid_engine ≡ true → Goes line c k (answered reach line c m body k)
+  pub goes_answered : (m : TrainMessage) (body : TrainBody) (k : Centre) → is_train line m.nid_engine ≡ true → Goes line c k (answered line c m body k)
   goes_answered m (TrainData position) k known = goes_then line c (change_mission m.nid_engine (λ n. record n { has_data = true }))
       (say m.nid_engine unknown_group (DataAcknowledged m.t_train)) k
       (goes_change line c m.nid_engine (λ n. record n { has_data = true }) k) (goes_say line c m.nid_engine unknown_group (DataAcknowledged m.t_train) _)
@@ -236,5 +233,5 @@ module _ (reach : Reach) (line : Line) (ok : IsLine line) (c : ℕ) where
       (goes_say line c m.nid_engine unknown_group SystemVersion _)
   goes_answered m TerminationOfSession k known = goes_then line c (close_session line c m.nid_engine) (say m.nid_engine unknown_group TerminationAcknowledged) k
       (goes_close_session line c m.nid_engine k) (goes_say line c m.nid_engine unknown_group TerminationAcknowledged _)
-  goes_answered m (StartOfMission is_valid position) k known = goes_start line c reach ok m.nid_engine is_valid position k known
+  goes_answered m (StartOfMission is_valid position) k known = goes_start line c ok m.nid_engine is_valid position k known
   goes_answered m SessionEstablished k known = still line c k _ refl refl refl (λ s u d out. out)

@@ -10,17 +10,16 @@ use Rattle.rbc_ledger.proofs.Network.{each_head}
 use Rattle.rbc_ledger.proofs.Resource.{carried_more}
 use Rattle.rbc_ledger.proofs.Places.{held_carried_le_placed}
 use Rattle.rbc_spec.specs.Maps.{has}
-use Rattle.rbc_spec.specs.Reach.{Reach, follows_rule}
-use Rattle.rbc_spec.specs.SectionRuns.{SectionRun, all_of}
+use Rattle.rbc_spec.specs.SectionRuns.{all_of}
 use Rattle.rbc_spec.specs.Line.{Line, IsLine, is_centre, is_home}
-use Rattle.rbc_spec.specs.Frame.{Body, YieldedPlace, AskRight, GiveRight, RefuseRight, ReturnRight, RouteAsk, RouteInfo, RouteWithdraw, RouteReturn, Announce, Cancel, TakingOver, Yield}
+use Rattle.rbc_spec.specs.Frame.{Body, AskRight, GiveRight, RefuseRight, ReturnRight, RouteAsk, RouteInfo, RouteWithdraw, RouteReturn, Announce, Cancel, TakingOver, Yield}
 use Rattle.rbc_spec.specs.Centre.{Expectation}
 use Rattle.rbc_spec.specs.Links.{is_of_line, is_train, is_under}
 use Rattle.rbc_lemmas.proofs.Lists.{none_is}
 use Rattle.rbc_lemmas.proofs.Puts.{itself}
 use Rattle.rbc_flow.specs.Flow.{Flow, centre_count}
 use Rattle.rbc_flow.specs.Pairs.{follows, is_number}
-use Rattle.rbc_flow.specs.Sound.{IsFlowSound, IsBodySound, IsWithinReach}
+use Rattle.rbc_flow.specs.Sound.{IsFlowSound, IsBodySound}
 use Rattle.rbc_flow.proofs.Basics.{some_cap}
 use Rattle.rbc_flow.proofs.Neighbours.{neighbours}
 use Rattle.rbc_flow.proofs.Taken.{body_sound, is_taken}
@@ -54,7 +53,7 @@ may_come false next mid is = cc
 pub known_head : (line : Line) (w : Flow) → EachOnTheWay (IsBodyKnown line) w → (a c : ℕ) (f : Body) → TakesHead w a c f → IsBodyKnown line a c f
 known_head line w bodies a c f takes = each_head (IsBodyKnown line) w a c f takes bodies
 
-module _ (reach : Reach) (line : Line) (ok : IsLine line) (w : Flow) (sound : IsFlowSound line w) (within_reach : IsWithinReach reach w) (asked : IsAsked reach line w)
+module _ (line : Line) (ok : IsLine line) (w : Flow) (sound : IsFlowSound line w) (asked : IsAsked line w)
     (bodies : EachOnTheWay (IsBodyKnown line) w) (a c : ℕ) (from : is_centre line a ≡ true) (to : is_centre line c ≡ true) where
   small : a < centre_count line
   small = ltb-true a (centre_count line) from
@@ -83,30 +82,30 @@ module _ (reach : Reach) (line : Line) (ok : IsLine line) (w : Flow) (sound : Is
           subst (λ h. (w.at h).has_asked t ≡ true) (eqb-true found.0 c both.0) both.1
 
   -- a frame with something inside has its place
-  placed_so : (f : Body) → (follows_rule reach f && (is_train line (train_of f) && has_place_for line c a (w.at c) f)) ≡ true → has_place_for line c a (w.at c) f ≡ true
-  placed_so f is = (and_parts (is_train line (train_of f)) (has_place_for line c a (w.at c) f) (and_parts (follows_rule reach f) (is_train line (train_of f) && has_place_for line c a (w.at c) f) is).1).1
+  placed_so : (f : Body) → (is_train line (train_of f) && has_place_for line c a (w.at c) f) ≡ true → has_place_for line c a (w.at c) f ≡ true
+  placed_so f is = (and_parts (is_train line (train_of f)) (has_place_for line c a (w.at c) f) is).1
 
   pub due_head : (f : Body) → TakesHead w a c f → IsDue line a c (w.at c) f
   due_head (AskRight t) takes = (known_head line w bodies a c (AskRight t) takes).sent
   due_head (GiveRight t) takes =
       let free = right_comes line w a c t (GiveRight t) sound from to takes (ap one_if (itself t)) in
-      let asks = and_parts ((w.at c).has_asked t) (not ((w.at c).has_right t)) (placed_so (GiveRight t) (looked_for reach line ok w sound within_reach asked a c from to (GiveRight t) takes)) in
+      let asks = and_parts ((w.at c).has_asked t) (not ((w.at c).has_right t)) (placed_so (GiveRight t) (looked_for line ok w sound asked a c from to (GiveRight t) takes)) in
       (asks.0, not_so ((w.at c).has_right t) free.no_right, none_is ((w.at c).mission t) free.no_mission)
   due_head (RefuseRight t) takes = refused_stands t takes
   due_head (ReturnRight t) takes =
       let free = right_comes line w a c t (ReturnRight t) sound from to takes (ap one_if (itself t)) in
-      (each_head (IsBodyAsked reach line) w a c (ReturnRight t) takes asked.bodies, not_so ((w.at c).has_right t) free.no_right, none_is ((w.at c).mission t) free.no_mission)
-  due_head (RouteAsk t first most) takes = (each_head (IsBodyAsked reach line) w a c (RouteAsk t first most) takes asked.bodies).1
+      (each_head (IsBodyAsked line) w a c (ReturnRight t) takes asked.bodies, not_so ((w.at c).has_right t) free.no_right, none_is ((w.at c).mission t) free.no_mission)
+  due_head (RouteAsk t first most) takes = each_head (IsBodyAsked line) w a c (RouteAsk t first most) takes asked.bodies
   due_head (RouteInfo t r) takes =
-      let place = placed_so (RouteInfo t r) (looked_for reach line ok w sound within_reach asked a c from to (RouteInfo t r) takes) in
+      let place = placed_so (RouteInfo t r) (looked_for line ok w sound asked a c from to (RouteInfo t r) takes) in
       let one = and_parts (has (λ first. first == r.first) ((w.at c).route_ask t) && (is_of_line line r && is_home line a r.first)) (all_of (is_home line a) r) place in
       let two = and_parts (has (λ first. first == r.first) ((w.at c).route_ask t)) (is_of_line line r && is_home line a r.first) one.0 in
       let three = and_parts (is_of_line line r) (is_home line a r.first) two.1 in
       (asked_from r.first ((w.at c).route_ask t) two.0, three.0, three.1, one.1)
   due_head (RouteWithdraw t s) takes = (known_head line w bodies a c (RouteWithdraw t s) takes).sent
   due_head (RouteReturn t r) takes = (
-    (each_head (IsBodyAsked reach line) w a c (RouteReturn t r) takes asked.bodies).1,
-    placed_so (RouteReturn t r) (looked_for reach line ok w sound within_reach asked a c from to (RouteReturn t r) takes),
+    (each_head (IsBodyAsked line) w a c (RouteReturn t r) takes asked.bodies).1,
+    placed_so (RouteReturn t r) (looked_for line ok w sound asked a c from to (RouteReturn t r) takes),
   )
   due_head (Announce number t track) takes =
       let led = chain_took (follows t) w a c (Announce number t track) _ _ takes (sound.pairs a c t from to).chain in
@@ -123,10 +122,3 @@ module _ (reach : Reach) (line : Line) (ok : IsLine line) (w : Flow) (sound : Is
       let near = neighbours line ok in
       let whole = body_sound line near w sound a c number t heard has_data is_ended carried hand from to small below takes in
       (whole.place, whole.is_carried, is_taken line near w sound a c number t heard has_data is_ended carried hand from to small below takes)
-
-  -- a Yield is acted on at the reach
-  pub yield_follows : (number t heard : ℕ) (has_data is_ended : Bool) (carried : YieldedPlace) (hand : SectionRun) → TakesHead w a c (Yield number t heard has_data is_ended carried hand)
-      → follows_rule reach (Yield number t heard has_data is_ended carried hand) ≡ true
-  yield_follows number t heard has_data is_ended carried hand takes =
-      let body : Body = Yield number t heard has_data is_ended carried hand in
-      (and_parts (follows_rule reach body) (is_train line t && has_place_for line c a (w.at c) body) (looked_for reach line ok w sound within_reach asked a c from to body takes)).0

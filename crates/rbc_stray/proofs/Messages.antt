@@ -4,7 +4,6 @@ use Rattle.std.proofs.lemmas.Bool.{cases_eq}
 use Rattle.rbc_ledger.specs.Sums.{one_if}
 use Rattle.rbc_ledger.proofs.Sums.{put_same, put_other}
 use Rattle.rbc_spec.specs.Maps.{put, has}
-use Rattle.rbc_spec.specs.Reach.{Reach, asks_rights}
 use Rattle.rbc_spec.specs.SectionRuns.{within, all_of}
 use Rattle.rbc_spec.specs.Line.{Line, IsLine, start}
 use Rattle.rbc_spec.specs.Place.{Place, Position, covered, group_start, fit_place}
@@ -135,7 +134,7 @@ module _ (line : Line) (c : ℕ) where
           (λ other. put_other k.has_asked t true u (λ is. let wrong : true ≡ false = sym (itself t) ∙ ap (λ v. t == v) (sym is) ∙ other in cc))
       counts (OfRoute u first) d = omega arith
 
-  module _ (reach : Reach) (ok : IsLine line) where
+  module _ (ok : IsLine line) where
     registered : (t : ℕ) → is_train line t ≡ true → (r : HasRegistrar line t) × (is_registrar_of line r.centre t ≡ true)
     registered t known = let r = registrar_known line ok c (rights_kept line c t) known in (r, ap (has (λ d. d == r.centre)) r.is ∙ itself r.centre)
 
@@ -146,10 +145,10 @@ module _ (line : Line) (c : ℕ) where
         by_asked true is = goes_asked t place k is
         by_asked false is = let r = registered t known in goes_ask_right t place r.0 k known r.1 is
 
-    goes_start_new : (t : ℕ) (place : Place) (k : Centre) → is_train line t ≡ true → Goes line c k (start_new reach line c t place k)
+    goes_start_new : (t : ℕ) (place : Place) (k : Centre) → is_train line t ≡ true → Goes line c k (start_new line c t place k)
     goes_start_new t place k known = goes_if line c (all_of (is_free line c k) (covered line place)) k _ (reject t k)
-        (λ free. goes_if_act line c (is_registrar_of line c t) (start_here line t place) (if asks_rights reach then start_waiting line t place else reject t) k (λ here. goes_start_here t place k)
-        (λ away. goes_if_act line c (asks_rights reach) (start_waiting line t place) (reject t) k (λ so. goes_start_waiting t place k known) (λ so. goes_reject t k)))
+        (λ free. goes_if_act line c (is_registrar_of line c t) (start_here line t place) (start_waiting line t place) k (λ here. goes_start_here t place k)
+        (λ away. goes_start_waiting t place k known))
         (λ used. goes_reject t k)
 
     goes_restart : (t : ℕ) (place : Place) (m : Mission) (k : Centre) → Goes line c k (restart line t place m k)
@@ -159,7 +158,7 @@ module _ (line : Line) (c : ℕ) where
         (goes_change line c t (λ n. record n { place = place; has_data = false; is_ended = false; proposal = None }) k) (goes_say line c t unknown_group TrainAccepted _))
         (λ fits_not. goes_reject t k)
 
-    pub goes_start : (t : ℕ) (is_valid : Bool) (position : Position) (k : Centre) → is_train line t ≡ true → Goes line c k (start_mission reach line c t is_valid position k)
+    pub goes_start : (t : ℕ) (is_valid : Bool) (position : Position) (k : Centre) → is_train line t ≡ true → Goes line c k (start_mission line c t is_valid position k)
     goes_start t is_valid position k known = goes_or line c (fit_place line is_valid position) _ k (reject t k)
-        (λ place at. goes_or line c (k.mission t) _ k (start_new reach line c t place k) (λ m has. goes_restart t place m k) (λ none. goes_start_new t place k known))
+        (λ place at. goes_or line c (k.mission t) _ k (start_new line c t place k) (λ m has. goes_restart t place m k) (λ none. goes_start_new t place k known))
         (λ none. goes_reject t k)

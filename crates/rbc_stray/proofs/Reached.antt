@@ -1,10 +1,8 @@
 -- What holds of each world that events led to.
 use Rattle.std.proofs.Common.{◌≡◌, ◌⊎◌, ℕ, ◌&&◌, Bool, true, List, Some, Ok, sym, ap, ◌∙◌, subst, ⊎_elim}
 use Rattle.std.proofs.lemmas.Bool.{and_parts}
-use Rattle.rbc_ledger.specs.Network.{TakesHead}
-use Rattle.rbc_spec.specs.Reach.{Reach, follows_rule}
 use Rattle.rbc_spec.specs.SectionRuns.{SectionRun, within}
-use Rattle.rbc_spec.specs.Line.{Line, IsLine, is_centre, is_home, is_linked}
+use Rattle.rbc_spec.specs.Line.{Line, IsLine, is_home}
 use Rattle.rbc_spec.specs.Place.{Place}
 use Rattle.rbc_spec.specs.Frame.{Frame, Body, YieldedPlace, yielded_place, GiveRight, RefuseRight, RouteInfo, RouteReturn, Yield}
 use Rattle.rbc_spec.specs.Outcome.{Next}
@@ -13,25 +11,20 @@ use Rattle.rbc_spec.specs.Links.{is_train, may_take}
 use Rattle.rbc_spec.specs.Step.{link_answer}
 use Rattle.rbc_spec.specs.World.{World, Event, Answer, Delivery, new_world, frame_sent, world_step, world_run}
 use Rattle.rbc_lemmas.proofs.Runs.{each_within}
-use Rattle.rbc_flow.specs.Flow.{flow_of}
-use Rattle.rbc_flow.proofs.Numbers.{next_sent}
-use Rattle.rbc_pairs.proofs.Steps.{within_reach}
-use Rattle.rbc_pairs.proofs.Worlds.{linked_next, sent_between}
 use Rattle.rbc_tokens.specs.Stray.{train_of}
 use Rattle.rbc_stray.specs.Due.{IsDue, IsFrameDue, IsTakenOver}
 use Rattle.rbc_stray.specs.Questions.{IsAnswered}
 use Rattle.rbc_stray.proofs.Counts.{is_answered}
-use Rattle.rbc_stray.proofs.Heads.{yield_follows}
 use Rattle.rbc_stray.proofs.Taken.{delivered_at, yield_taken}
 use Rattle.rbc_stray.proofs.Worlds.{IsReachedSo, frame_due, each_reached}
 
-module _ (reach : Reach) (line : Line) (ok : IsLine line) (events : List Event) (outcomes : List Answer) (w : World) (is : world_run reach line (new_world line) events ≡ Ok (outcomes, w)) where
-  reached : IsReachedSo reach line w
-  reached = each_reached reach line ok events outcomes w is
+module _ (line : Line) (ok : IsLine line) (events : List Event) (outcomes : List Answer) (w : World) (is : world_run line (new_world line) events ≡ Ok (outcomes, w)) where
+  reached : IsReachedSo line w
+  reached = each_reached line ok events outcomes w is
 
   module _ (a b number : ℕ) (f : Frame) (sent : frame_sent w a b number ≡ Some f) (next : link_answer line b (w.at b) a f ≡ Next) where
     pub due : IsFrameDue line w a b f
-    due = frame_due reach line ok w reached.sound reached.asked reached.answered a b number f sent next
+    due = frame_due line ok w reached.sound reached.asked reached.answered a b number f sent next
 
     due_as : (body : Body) → f.body ≡ body → IsDue line a b (w.at b) body
     due_as body same = subst (IsDue line a b (w.at b)) same due.due
@@ -47,12 +40,12 @@ module _ (reach : Reach) (line : Line) (ok : IsLine line) (events : List Event) 
         (each_within (λ e. is_home line b e && is_out_for t a ((w.at b).book e)) r (due_as (RouteReturn t r) brings).1 s in_run)
 
     pub taken_over : (t heard n : ℕ) (has_data is_ended : Bool) (carried : YieldedPlace) (hand : SectionRun) → f.body ≡ Yield n t heard has_data is_ended carried hand
-        → (answer : Answer) (new : World) → world_step reach line w (Delivery a b number) ≡ Ok (answer, new) → (place : Place) × (carried ≡ yielded_place place) × IsTakenOver a n t place hand (w.at b) (new.at b)
+        → (answer : Answer) (new : World) → world_step line w (Delivery a b number) ≡ Ok (answer, new) → (place : Place) × (carried ≡ yielded_place place) × IsTakenOver a n t place hand (w.at b) (new.at b)
     taken_over t heard n has_data is_ended carried hand hands answer new done = (
       it.0,
       it.1,
-      subst (IsTakenOver a n t it.0 hand (w.at b)) (sym (delivered_at reach line w a b number f answer new sent done))
-          (yield_taken reach line w a b n t heard has_data is_ended it.0 hand f body next known follows it.2),
+      subst (IsTakenOver a n t it.0 hand (w.at b)) (sym (delivered_at line w a b number f answer new sent done))
+          (yield_taken line w a b n t heard has_data is_ended it.0 hand f body next known it.2),
     )
       where
         it : (place : Place) × (carried ≡ yielded_place place) × (may_take line b (w.at b) a n t place hand ≡ true)
@@ -63,16 +56,6 @@ module _ (reach : Reach) (line : Line) (ok : IsLine line) (events : List Event) 
 
         known : is_train line t ≡ true
         known = subst (λ g. is_train line (train_of g) ≡ true) hands due.known
-
-        between : (is_centre line a ≡ true) × (is_centre line b ≡ true)
-        between = sent_between line w reached.sound.flow a b number f sent
-
-        head : TakesHead (flow_of w) a b f.body
-        head = next_sent w reached.sound.numbered a b number f sent (linked_next (is_linked line b a) ((w.at b).taken a) f.number next).1
-
-        follows : follows_rule reach f.body ≡ true
-        follows = subst (λ g. follows_rule reach g ≡ true) (sym hands) (yield_follows reach line ok (flow_of w) reached.sound.flow (within_reach reach (flow_of w) reached.sound.within) reached.asked
-            reached.answered.bodies a b between.0 between.1 n t heard has_data is_ended carried hand (subst (TakesHead (flow_of w) a b) hands head))
 
   -- ## Questions
 

@@ -1,9 +1,8 @@
 -- No step of a centre loses a question, by itself or at the head of a link, where the frame is due.
-use Rattle.std.proofs.Common.{◌≡◌, ◌≢◌, ℕ, ◌+◌, ◌<◌, ◌≤◌, Bool, true, false, if◌then◌else◌, Option, Some, None, refl, sym, ◌∙◌}
+use Rattle.std.proofs.Common.{◌≡◌, ◌≢◌, ℕ, ◌+◌, ◌<◌, ◌≤◌, true, Option, Some, None, refl}
 use Rattle.std.specs.Option.{option_map_or}
 use Rattle.rbc_ledger.specs.Resource.{sent_by as all_sent}
 use Rattle.rbc_spec.specs.Maps.{put}
-use Rattle.rbc_spec.specs.Reach.{Reach, Local, Rights, Routes, Whole, follows_rule}
 use Rattle.rbc_spec.specs.Line.{Line, IsLine}
 use Rattle.rbc_spec.specs.Message.{TrainMessage}
 use Rattle.rbc_spec.specs.Frame.{Frame, Body, AskRight, GiveRight, RefuseRight, ReturnRight, RouteAsk, RouteInfo, RouteWithdraw, RouteReturn, Announce, Cancel, TakingOver, Yield}
@@ -18,31 +17,14 @@ use Rattle.rbc_spec.specs.Step.{Event, Train, Set, Unset, Deliver, Effect, effec
 use Rattle.rbc_flow.specs.Flow.{centre_count}
 use Rattle.rbc_tokens.specs.Stray.{train_of}
 use Rattle.rbc_pairs.specs.Steps.{IsByItself, left_by, sent_by}
-use Rattle.rbc_asked.specs.Asked.{Question, OfRight, OfRoute, questions, IsBodyAsked}
+use Rattle.rbc_asked.specs.Asked.{Question, OfRight, OfRoute, questions}
 use Rattle.rbc_asked.proofs.Asking.{none_comes, comes_with}
 use Rattle.rbc_asked.proofs.Steps.{heard_train}
 use Rattle.rbc_stray.specs.Due.{IsDue}
 use Rattle.rbc_stray.specs.Questions.{HasKnownOuts}
-use Rattle.rbc_stray.proofs.Acts.{IsAnswering, Comes, Goes, still, goes_rest, goes_then, goes_if_act}
+use Rattle.rbc_stray.proofs.Acts.{IsAnswering, Comes, Goes, still, goes_rest, goes_then}
 use Rattle.rbc_stray.proofs.Answers.{goes_answered}
-use Rattle.rbc_stray.proofs.Frames.{is_question, none_inside, comes_aside, comes_received, goes_section_set, goes_section_unset}
-
--- a question or an answer that is sent has its rule at the reach
-asked_follows : (reach : Reach) (line : Line) (a c : ℕ) (f : Body) → IsBodyAsked reach line a c f → is_question f ≡ true → follows_rule reach f ≡ true
-asked_follows Local line a c f asked is = refl
-asked_follows Whole line a c f asked is = refl
-asked_follows Rights line a c (AskRight t) asked is = refl
-asked_follows Rights line a c (GiveRight t) asked is = refl
-asked_follows Rights line a c (RefuseRight t) asked is = refl
-asked_follows Rights line a c (RouteAsk t first most) asked is = asked.0
-asked_follows Rights line a c (RouteInfo t r) asked is = asked.0
-asked_follows Rights line a c f asked is = cc
-asked_follows Routes line a c (AskRight t) asked is = refl
-asked_follows Routes line a c (GiveRight t) asked is = refl
-asked_follows Routes line a c (RefuseRight t) asked is = refl
-asked_follows Routes line a c (RouteAsk t first most) asked is = refl
-asked_follows Routes line a c (RouteInfo t r) asked is = refl
-asked_follows Routes line a c f asked is = cc
+use Rattle.rbc_stray.proofs.Frames.{comes_received, goes_section_set, goes_section_unset}
 
 -- what is due does not look at the clock, nor at what was taken
 same_due : (line : Line) (a c stamp : ℕ) (taken : ℕ → ℕ) (k : Centre) (f : Body) → IsDue line a c k f → IsDue line a c (record k { clock = stamp; taken = taken }) f
@@ -59,23 +41,23 @@ same_due line a c stamp taken k (Cancel number t) is = is
 same_due line a c stamp taken k (TakingOver number t) is = is
 same_due line a c stamp taken k (Yield number t heard has_data is_ended place hand) is = is
 
-module _ (reach : Reach) (line : Line) (ok : IsLine line) (c : ℕ) where
+module _ (line : Line) (ok : IsLine line) (c : ℕ) where
   -- ## By itself
 
   goes_message : (m : TrainMessage) (k : Centre) (o : Option Reason) → step.silence line c k m ≡ o
       → Goes line c k (option_map_or {U = Effect} (λ why. record { reply = rest k; link = None; silence = Some why }) o
-      (record { reply = hear_and_answer reach line c m k; link = None; silence = None })).reply
+      (record { reply = hear_and_answer line c m k; link = None; silence = None })).reply
   goes_message m k (Some why) is = goes_rest line c k
-  goes_message m k None is = goes_then line c (hear m) (answered reach line c m m.body) k (still line c k _ refl refl refl (λ s t d out. out))
-      (goes_answered reach line ok c m m.body _ (heard_train line c k m is))
+  goes_message m k None is = goes_then line c (hear m) (answered line c m m.body) k (still line c k _ refl refl refl (λ s t d out. out))
+      (goes_answered line ok c m m.body _ (heard_train line c k m is))
 
-  goes_frame : (d : ℕ) (f : Frame) (k : Centre) (answer : outcome.Taken) → answer ≢ Next → Goes line c k (taken_by reach line c d f answer k)
+  goes_frame : (d : ℕ) (f : Frame) (k : Centre) (answer : outcome.Taken) → answer ≢ Next → Goes line c k (taken_by line c d f answer k)
   goes_frame d f k Next other = absurd (other refl)
   goes_frame d f k Old other = goes_rest line c k
   goes_frame d f k Early other = goes_rest line c k
   goes_frame d f k NoLink other = goes_rest line c k
 
-  goes_event : (event : Event) (k : Centre) → IsByItself line c k event → HasKnownOuts line k → Goes line c k (effect reach line c k event).reply
+  goes_event : (event : Event) (k : Centre) → IsByItself line c k event → HasKnownOuts line k → Goes line c k (effect line c k event).reply
   goes_event (Train m) k by_itself outs = goes_message m k (step.silence line c k m) refl
   goes_event (Set s) k by_itself outs = goes_section_set line ok c s k
   goes_event (Unset s) k by_itself outs = goes_section_unset line ok c s k outs
@@ -95,40 +77,34 @@ module _ (reach : Reach) (line : Line) (ok : IsLine line) (c : ℕ) where
       by_question (OfRight t) d = is.law (OfRight t) d
       by_question (OfRoute t first) d = is.law (OfRoute t first) d
 
-  pub step_answering : (event : Event) (k : Centre) → IsByItself line c k event → HasKnownOuts line k → IsAnswering line c none_comes k (left_by reach line c k event) (sent_by reach line c k event)
-  step_answering event k by_itself outs = of_step none_comes k (stamp_of k event) (effect reach line c (ticked (stamp_of k event) k) event)
+  pub step_answering : (event : Event) (k : Centre) → IsByItself line c k event → HasKnownOuts line k → IsAnswering line c none_comes k (left_by line c k event) (sent_by line c k event)
+  step_answering event k by_itself outs = of_step none_comes k (stamp_of k event) (effect line c (ticked (stamp_of k event) k) event)
       (goes_event event (ticked (stamp_of k event) k) (same_itself event (stamp_of k event) k by_itself) (record { each = outs.each }))
 
   -- ## At the head of a link
 
-  module _ (a : ℕ) (f : Frame) (small : a < centre_count line) (known : is_train line (train_of f.body) ≡ true) (asked : IsBodyAsked reach line a c f.body) where
-    comes_next : (k : Centre) → IsDue line a c k f.body → Comes line c (comes_with a c f.body) k (taken_by reach line c a f Next k)
+  module _ (a : ℕ) (f : Frame) (small : a < centre_count line) (known : is_train line (train_of f.body) ≡ true) where
+    comes_next : (k : Centre) → IsDue line a c k f.body → Comes line c (comes_with a c f.body) k (taken_by line c a f Next k)
     unfolding ◌>>◌
-    comes_next k due = counted (goes_if_act line c (follows_rule reach f.body) (received line c a f.body) rest j
-        (λ so. comes_received line ok c a f.body j small known (same_due line a c k.clock (put k.taken a f.number) k f.body due))
-        (λ so. comes_aside line ok c (comes_with a c f.body) j (rest j) (none_inside a c f.body (plain so (is_question f.body) refl)) (goes_rest line c j)))
+    comes_next k due = counted (comes_received line ok c a f.body j small known (same_due line a c k.clock (put k.taken a f.number) k f.body due))
       where
-        plain : follows_rule reach f.body ≡ false → (b : Bool) → is_question f.body ≡ b → is_question f.body ≡ false
-        plain so true is = absurd (let wrong : true ≡ false = sym (asked_follows reach line a c f.body asked is) ∙ so in cc)
-        plain so false is = is
-
         j : Centre
         j = (become (λ i. record i { taken = put i.taken a f.number }) k).state
 
-        counted : Comes line c (comes_with a c f.body) j ((if follows_rule reach f.body then received line c a f.body else rest) j) → Comes line c (comes_with a c f.body) k (taken_by reach line c a f Next k)
+        counted : Comes line c (comes_with a c f.body) j (received line c a f.body j) → Comes line c (comes_with a c f.body) k (taken_by line c a f Next k)
         counted comes = record { law = by_question; bodies = comes.bodies; outs = λ old. comes.outs (record { each = old.each }); waits = λ old. comes.waits (record { each = old.each }) }
           where
-            by_question : (x : Question) (d : ℕ) → comes_with a c f.body x d + (questions x d).cap c (taken_by reach line c a f Next k).state
-                ≤ all_sent (questions x d) (centre_count line) c (taken_by reach line c a f Next k).frames + (questions x d).cap c k
+            by_question : (x : Question) (d : ℕ) → comes_with a c f.body x d + (questions x d).cap c (taken_by line c a f Next k).state
+                ≤ all_sent (questions x d) (centre_count line) c (taken_by line c a f Next k).frames + (questions x d).cap c k
             by_question (OfRight t) d = comes.law (OfRight t) d
             by_question (OfRoute t first) d = comes.law (OfRoute t first) d
 
     pub taken_answering : (k : Centre) → link_answer line c k a f ≡ Next → IsDue line a c k f.body
-        → IsAnswering line c (comes_with a c f.body) k (left_by reach line c k (Deliver a f)) (sent_by reach line c k (Deliver a f))
-    taken_answering k next due = of_step (comes_with a c f.body) k (stamp_of k (Deliver a f)) (effect reach line c (ticked (stamp_of k (Deliver a f)) k) (Deliver a f))
+        → IsAnswering line c (comes_with a c f.body) k (left_by line c k (Deliver a f)) (sent_by line c k (Deliver a f))
+    taken_answering k next due = of_step (comes_with a c f.body) k (stamp_of k (Deliver a f)) (effect line c (ticked (stamp_of k (Deliver a f)) k) (Deliver a f))
         (by_answer (link_answer line c k a f) next)
       where
-        by_answer : (answer : outcome.Taken) → answer ≡ Next → Comes line c (comes_with a c f.body) (ticked (stamp_of k (Deliver a f)) k) (taken_by reach line c a f answer (ticked (stamp_of k (Deliver a f)) k))
+        by_answer : (answer : outcome.Taken) → answer ≡ Next → Comes line c (comes_with a c f.body) (ticked (stamp_of k (Deliver a f)) k) (taken_by line c a f answer (ticked (stamp_of k (Deliver a f)) k))
         by_answer Next at = comes_next (ticked (stamp_of k (Deliver a f)) k) (same_due line a c (stamp_of k (Deliver a f)) k.taken k f.body due)
         by_answer Old at = cc
         by_answer Early at = cc

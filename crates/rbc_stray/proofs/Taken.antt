@@ -4,7 +4,6 @@ use Rattle.std.specs.Option.{option_map_or}
 use Rattle.std.specs.List.{find, range_with_len}
 use Rattle.std.proofs.lemmas.Bool.{and_parts}
 use Rattle.rbc_spec.specs.Maps.{put, has}
-use Rattle.rbc_spec.specs.Reach.{Reach, follows_rule}
 use Rattle.rbc_spec.specs.SectionRuns.{SectionRun, no_run}
 use Rattle.rbc_spec.specs.Line.{Line, is_home}
 use Rattle.rbc_spec.specs.Place.{Place}
@@ -79,45 +78,44 @@ module _ (line : Line) (c a t : ℕ) (at : Place) (hand : SectionRun) where
 
 -- ## In a world
 
-module _ (reach : Reach) (line : Line) (w : World) where
+module _ (line : Line) (w : World) where
   stepped_at : (c : ℕ) (o : Option Refusal) (x : Outcome × Centre) (answer : Answer) (new : World) → stepped w c w.trains (option_map_or (λ why. Err why) o (Ok x)) ≡ Ok (answer, new) → new.at c ≡ x.1
   stepped_at c (Some why) x answer new is = cc
   stepped_at c None x answer new is = sym (ap (λ r. (world_of w r).at c) is) ∙ put_there w.at c x.1
 
-  takes_at : (c : ℕ) (event : centre.Event) (answer : Answer) (new : World) → takes reach line w c w.trains event ≡ Ok (answer, new) → new.at c ≡ (taken reach line c event (w.at c)).1
+  takes_at : (c : ℕ) (event : centre.Event) (answer : Answer) (new : World) → takes line w c w.trains event ≡ Ok (answer, new) → new.at c ≡ (taken line c event (w.at c)).1
   unfolding step
-  takes_at c event answer new = stepped_at c (refusal line c (w.at c) event) (taken reach line c event (w.at c)) answer new
+  takes_at c event answer new = stepped_at c (refusal line c (w.at c) event) (taken line c event (w.at c)) answer new
 
   -- what a delivery leaves at the centre that it comes to
-  pub delivered_at : (a b number : ℕ) (f : Frame) (answer : Answer) (new : World) → frame_sent w a b number ≡ Some f → world_step reach line w (Delivery a b number) ≡ Ok (answer, new)
-      → new.at b ≡ (taken reach line b (centre.Deliver a f) (w.at b)).1
+  pub delivered_at : (a b number : ℕ) (f : Frame) (answer : Answer) (new : World) → frame_sent w a b number ≡ Some f → world_step line w (Delivery a b number) ≡ Ok (answer, new)
+      → new.at b ≡ (taken line b (centre.Deliver a f) (w.at b)).1
   unfolding world_step
   delivered_at a b number f answer new sent is = of_frame (frame_sent w a b number) sent is
     where
-      of_frame : (o : Option Frame) → o ≡ Some f → option_map_or (λ g. takes reach line w b w.trains (centre.Deliver a g)) o (Ok (NotSent, w)) ≡ Ok (answer, new)
-          → new.at b ≡ (taken reach line b (centre.Deliver a f) (w.at b)).1
+      of_frame : (o : Option Frame) → o ≡ Some f → option_map_or (λ g. takes line w b w.trains (centre.Deliver a g)) o (Ok (NotSent, w)) ≡ Ok (answer, new)
+          → new.at b ≡ (taken line b (centre.Deliver a f) (w.at b)).1
       of_frame None none done = cc
-      of_frame (Some g) same done = subst (λ h. new.at b ≡ (taken reach line b (centre.Deliver a h) (w.at b)).1) (same_Some g f same) (takes_at b (centre.Deliver a g) answer new done)
+      of_frame (Some g) same done = subst (λ h. new.at b ≡ (taken line b (centre.Deliver a h) (w.at b)).1) (same_Some g f same) (takes_at b (centre.Deliver a g) answer new done)
 
   module _ (a b number t heard : ℕ) (has_data is_ended : Bool) (at : Place) (hand : SectionRun) (f : Frame) (body : f.body ≡ Yield number t heard has_data is_ended (yielded_place at) hand)
-      (next : link_answer line b (w.at b) a f ≡ Next) (known : is_train line t ≡ true) (follows : follows_rule reach f.body ≡ true) (may : may_take line b (w.at b) a number t at hand ≡ true) where
-    received_here : (j : Centre) → may_take line b j a number t at hand ≡ true → (g : Body) → g ≡ Yield number t heard has_data is_ended (yielded_place at) hand → follows_rule reach g ≡ true
-        → IsHere a t at hand ((if follows_rule reach g then received line b a g else rest) j).state
-    received_here j may_so g same so = subst (λ z. IsHere a t at hand ((if z then received line b a g else rest) j).state) (sym so)
-        (subst (λ h. IsHere a t at hand (received line b a h j).state) (sym same)
-        (subst (λ z. IsHere a t at hand ((if z then yielded line b a number t hand heard has_data is_ended at else rest) j).state) (sym known) (yield_here line b a t at hand number heard has_data is_ended j may_so)))
+      (next : link_answer line b (w.at b) a f ≡ Next) (known : is_train line t ≡ true) (may : may_take line b (w.at b) a number t at hand ≡ true) where
+    received_here : (j : Centre) → may_take line b j a number t at hand ≡ true → (g : Body) → g ≡ Yield number t heard has_data is_ended (yielded_place at) hand
+        → IsHere a t at hand (received line b a g j).state
+    received_here j may_so g same = subst (λ h. IsHere a t at hand (received line b a h j).state) (sym same)
+        (subst (λ z. IsHere a t at hand ((if z then yielded line b a number t hand heard has_data is_ended at else rest) j).state) (sym known) (yield_here line b a t at hand number heard has_data is_ended j may_so))
 
-    by_answer : (o : outcome.Taken) → o ≡ Next → IsHere a t at hand (taken_by reach line b a f o (ticked (stamp_of (w.at b) (centre.Deliver a f)) (w.at b))).state
+    by_answer : (o : outcome.Taken) → o ≡ Next → IsHere a t at hand (taken_by line b a f o (ticked (stamp_of (w.at b) (centre.Deliver a f)) (w.at b))).state
     unfolding ◌>>◌
     by_answer Next is =
-        let here = received_here (record (w.at b) { clock = stamp_of (w.at b) (centre.Deliver a f); taken = put (w.at b).taken a f.number }) may f.body body follows in
+        let here = received_here (record (w.at b) { clock = stamp_of (w.at b) (centre.Deliver a f); taken = put (w.at b).taken a f.number }) may f.body body in
         record { mission = here.mission; is_here = here.is_here; at_place = here.at_place; with_hand = here.with_hand; ends = here.ends }
     by_answer Old is = cc
     by_answer Early is = cc
     by_answer NoLink is = cc
 
-    -- a Yield that may be taken, and is followed
-    pub yield_taken : IsTakenOver a number t at hand (w.at b) (taken reach line b (centre.Deliver a f) (w.at b)).1
+    -- a Yield that may be taken
+    pub yield_taken : IsTakenOver a number t at hand (w.at b) (taken line b (centre.Deliver a f) (w.at b)).1
     yield_taken =
         let here = by_answer (link_answer line b (w.at b) a f) next in
         let one = and_parts (has (λ e. (e.number == number) && e.is_taking) ((w.at b).expects a t) && (is_none ((w.at b).mission t) && not ((w.at b).has_right t))) _ may in

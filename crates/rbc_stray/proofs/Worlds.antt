@@ -8,7 +8,6 @@ use Rattle.rbc_ledger.proofs.Network.{each_start, each_head, each_acted, each_to
 use Rattle.rbc_ledger.proofs.Resource.{at_cap_start, placed_exact, placed_exact_took}
 use Rattle.rbc_ledger.proofs.Sums.{put_same, put_other}
 use Rattle.rbc_spec.specs.Maps.{put}
-use Rattle.rbc_spec.specs.Reach.{Reach}
 use Rattle.rbc_spec.specs.Line.{Line, IsLine, is_centre, is_linked}
 use Rattle.rbc_spec.specs.Frame.{Frame, Body}
 use Rattle.rbc_spec.specs.Outcome.{Next}
@@ -21,7 +20,6 @@ use Rattle.rbc_flow.specs.Flow.{Flow, flow_of, centre_count}
 use Rattle.rbc_flow.proofs.Numbers.{next_sent}
 use Rattle.rbc_pairs.specs.Steps.{left_by, sent_by}
 use Rattle.rbc_pairs.specs.Worlds.{IsWorldSound}
-use Rattle.rbc_pairs.proofs.Steps.{within_reach}
 use Rattle.rbc_pairs.proofs.Worlds.{world_begins, world_step_sound, linked_next, sent_between}
 use Rattle.rbc_asked.specs.Asked.{Question, OfRight, OfRoute, questions, IsAsked, IsBodyAsked}
 use Rattle.rbc_asked.proofs.Asking.{none_comes, comes_with}
@@ -91,22 +89,21 @@ module _ (line : Line) (u : Flow) (counted : IsCounted u) (c : ℕ) (to : is_cen
     waits = waits_put is.waits old.waits;
   }
 
-module _ (reach : Reach) (line : Line) (ok : IsLine line) (w : World) (sound : IsWorldSound reach line w) (asked : IsAsked reach line (flow_of w)) (old : LeavesNone line (flow_of w)) where
-  pub step_answered : (event : Event) (answer : Answer) (new : World) → world_step reach line w event ≡ Ok (answer, new) → LeavesNone line (flow_of new)
-  step_answered = world_step_keeps reach line w sound.flow sound.numbered (LeavesNone line) old
-      (λ c to event alone. answered_acted line (flow_of w) sound.flow.counted c to (left_by reach line c (w.at c) event) (sent_by reach line c (w.at c) event)
-      (step_asking reach line ok c event (w.at c) alone).fair (step_answering reach line ok c event (w.at c) alone (old.outs c)) old)
-      (λ a c from to f head next. answered_taken line (flow_of w) sound.flow.counted c to (left_by reach line c (w.at c) (centre.Deliver a f)) (sent_by reach line c (w.at c) (centre.Deliver a f)) a f.body from head
-      (taken_asking reach line ok c a f (w.at c) next (each_head (IsBodyAsked reach line) (flow_of w) a c f.body head asked.bodies)).fair
-      (taken_answering reach line ok c a f (ltb-true a (centre_count line) from) (known_head line (flow_of w) old.bodies a c f.body head).known
-      (each_head (IsBodyAsked reach line) (flow_of w) a c f.body head asked.bodies) (w.at c) next
-      (due_head reach line ok (flow_of w) sound.flow (within_reach reach (flow_of w) sound.within) asked old.bodies a c from to f.body head)) old)
+module _ (line : Line) (ok : IsLine line) (w : World) (sound : IsWorldSound line w) (asked : IsAsked line (flow_of w)) (old : LeavesNone line (flow_of w)) where
+  pub step_answered : (event : Event) (answer : Answer) (new : World) → world_step line w event ≡ Ok (answer, new) → LeavesNone line (flow_of new)
+  step_answered = world_step_keeps line w sound.flow sound.numbered (LeavesNone line) old
+      (λ c to event alone. answered_acted line (flow_of w) sound.flow.counted c to (left_by line c (w.at c) event) (sent_by line c (w.at c) event)
+      (step_asking line ok c event (w.at c) alone).fair (step_answering line ok c event (w.at c) alone (old.outs c)) old)
+      (λ a c from to f head next. answered_taken line (flow_of w) sound.flow.counted c to (left_by line c (w.at c) (centre.Deliver a f)) (sent_by line c (w.at c) (centre.Deliver a f)) a f.body from head
+      (taken_asking line ok c a f (w.at c) next (each_head (IsBodyAsked line) (flow_of w) a c f.body head asked.bodies)).fair
+      (taken_answering line ok c a f (ltb-true a (centre_count line) from) (known_head line (flow_of w) old.bodies a c f.body head).known (w.at c) next
+      (due_head line ok (flow_of w) sound.flow asked old.bodies a c from to f.body head)) old)
 
   -- the next frame of a link is due
   pub frame_due : (a b number : ℕ) (f : Frame) → frame_sent w a b number ≡ Some f → link_answer line b (w.at b) a f ≡ Next → IsFrameDue line w a b f
   frame_due a b number f sent next = record {
     known = (known_head line (flow_of w) old.bodies a b f.body head).known;
-    due = due_head reach line ok (flow_of w) sound.flow (within_reach reach (flow_of w) sound.within) asked old.bodies a b between.0 between.1 f.body head;
+    due = due_head line ok (flow_of w) sound.flow asked old.bodies a b between.0 between.1 f.body head;
   }
     where
       between : (is_centre line a ≡ true) × (is_centre line b ≡ true)
@@ -118,33 +115,33 @@ module _ (reach : Reach) (line : Line) (ok : IsLine line) (w : World) (sound : I
 -- ## A run
 
 -- what is known of a world that events led to
-pub record IsReachedSo (reach : Reach) (line : Line) (w : World) : Type 0 where
-  pub sound : IsWorldSound reach line w
-  pub asked : IsAsked reach line (flow_of w)
+pub record IsReachedSo (line : Line) (w : World) : Type 0 where
+  pub sound : IsWorldSound line w
+  pub asked : IsAsked line (flow_of w)
   pub answered : LeavesNone line (flow_of w)
 
 same_ok : (p q : List Answer × World) → ◌≡◌ {A = Result (List Answer × World) Refusal} (Ok p) (Ok q) → p ≡ q
 same_ok p q e = cc
 
-pub step_reached : (reach : Reach) (line : Line) → IsLine line → (w : World) → IsReachedSo reach line w → (event : Event) (answer : Answer) (new : World) → world_step reach line w event ≡ Ok (answer, new)
-    → IsReachedSo reach line new
-step_reached reach line ok w old event answer new is = record {
-  sound = world_step_sound reach line ok w old.sound event answer new is;
-  asked = step_keeps_asked reach line ok w old.sound old.asked event answer new is;
-  answered = step_answered reach line ok w old.sound old.asked old.answered event answer new is;
+pub step_reached : (line : Line) → IsLine line → (w : World) → IsReachedSo line w → (event : Event) (answer : Answer) (new : World) → world_step line w event ≡ Ok (answer, new)
+    → IsReachedSo line new
+step_reached line ok w old event answer new is = record {
+  sound = world_step_sound line ok w old.sound event answer new is;
+  asked = step_keeps_asked line ok w old.sound old.asked event answer new is;
+  answered = step_answered line ok w old.sound old.asked old.answered event answer new is;
 }
 
-pub run_reached : (reach : Reach) (line : Line) → IsLine line → (events : List Event) (w : World) → IsReachedSo reach line w → (answers : List Answer) (last : World)
-    → world_run reach line w events ≡ Ok (answers, last) → IsReachedSo reach line last
+pub run_reached : (line : Line) → IsLine line → (events : List Event) (w : World) → IsReachedSo line w → (answers : List Answer) (last : World)
+    → world_run line w events ≡ Ok (answers, last) → IsReachedSo line last
 unfolding world_run
-run_reached reach line ok [] w old answers last is = subst (IsReachedSo reach line) (ap (λ (q : List Answer × World). q.1) (same_ok ([], w) (answers, last) is)) old
-run_reached reach line ok (event ∷ events) w old answers last is =
-    let first = bind_ok (world_step reach line w event) _ (answers, last) is in
-    let others = bind_ok (world_run reach line first.0.1 events) _ (answers, last) first.2 in
-    subst (IsReachedSo reach line) (ap (λ (q : List Answer × World). q.1) (same_ok (first.0.0 ∷ others.0.0, others.0.1) (answers, last) others.2))
-    (run_reached reach line ok events first.0.1 (step_reached reach line ok w old event first.0.0 first.0.1 first.1) others.0.0 others.0.1 others.1)
+run_reached line ok [] w old answers last is = subst (IsReachedSo line) (ap (λ (q : List Answer × World). q.1) (same_ok ([], w) (answers, last) is)) old
+run_reached line ok (event ∷ events) w old answers last is =
+    let first = bind_ok (world_step line w event) _ (answers, last) is in
+    let others = bind_ok (world_run line first.0.1 events) _ (answers, last) first.2 in
+    subst (IsReachedSo line) (ap (λ (q : List Answer × World). q.1) (same_ok (first.0.0 ∷ others.0.0, others.0.1) (answers, last) others.2))
+    (run_reached line ok events first.0.1 (step_reached line ok w old event first.0.0 first.0.1 first.1) others.0.0 others.0.1 others.1)
 
 -- whatever happens to a line
-pub each_reached : (reach : Reach) (line : Line) → IsLine line → (events : List Event) (answers : List Answer) (w : World) → world_run reach line (new_world line) events ≡ Ok (answers, w) → IsReachedSo reach line w
-each_reached reach line ok events answers w is =
-    run_reached reach line ok events (new_world line) (record { sound = world_begins reach line; asked = begins_asked reach line; answered = begins_answered line }) answers w is
+pub each_reached : (line : Line) → IsLine line → (events : List Event) (answers : List Answer) (w : World) → world_run line (new_world line) events ≡ Ok (answers, w) → IsReachedSo line w
+each_reached line ok events answers w is =
+    run_reached line ok events (new_world line) (record { sound = world_begins line; asked = begins_asked line; answered = begins_answered line }) answers w is

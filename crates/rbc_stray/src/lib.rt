@@ -1,4 +1,4 @@
-//! Laws of what comes in a world, at every reach: no frame that is the next of its link is stray, and each question that a centre asked is
+//! Laws of what comes in a world: no frame that is the next of its link is stray, and each question that a centre asked is
 //! on its way, or its answer is. The functions do nothing: each contract is a law of the definitions.
 #![tactic(auto)]
 

@@ -2,7 +2,6 @@
 use Rattle.std.proofs.Common.{◌≡◌, ℕ, ◌+◌, true, false, [], Option, Some, None, slice_get, refl, sym, ap}
 use Rattle.rbc_lemmas.proofs.Lists.{none_passes}
 use Rattle.rbc_spec.specs.Maps.{put, put_pair}
-use Rattle.rbc_spec.specs.Reach.{Reach}
 use Rattle.rbc_spec.specs.Line.{Line, is_centre}
 use Rattle.rbc_spec.specs.Place.{Position}
 use Rattle.rbc_spec.specs.Message.{TrainMessage, TrainBody, TrainData, ShorteningRejected, SessionEstablished, DataAcknowledged, unknown_group}
@@ -21,7 +20,7 @@ use Rattle.rbc_pieces.proofs.Missions.{some_of}
 use Rattle.rbc_talks.specs.Heard.{message}
 use Rattle.rbc_talks.proofs.Changes.{silent, heard_alone, one_said, shows_talk, shows_change}
 
-module _ (reach : Reach) (line : Line) (w : Flow) (v : LineState) (sound : IsFlowSound line w) (sees : Shows line w v) (c t_train t stamp : ℕ) (at : is_centre line c ≡ true) where
+module _ (line : Line) (w : Flow) (v : LineState) (sound : IsFlowSound line w) (sees : Shows line w v) (c t_train t stamp : ℕ) (at : is_centre line c ≡ true) where
   abbrev k : Centre
   k = ticked stamp (w.at c)
 
@@ -29,7 +28,7 @@ module _ (reach : Reach) (line : Line) (w : Flow) (v : LineState) (sound : IsFlo
   m body = message t_train t body
 
   abbrev reply : TrainBody → Reply
-  reply body = hear_and_answer reach line c (m body) k
+  reply body = hear_and_answer line c (m body) k
 
   abbrev is_silent : TrainBody → Type 0
   is_silent body = silence line c k (m body) ≡ None

@@ -10,7 +10,6 @@ use Rattle.rbc_lemmas.proofs.Lists.{filter-none}
 use Rattle.rbc_lemmas.proofs.Puts.{put_same, put_over, itself}
 use Rattle.rbc_lemmas.proofs.Runs.{filter_run}
 use Rattle.rbc_spec.specs.Maps.{has, put}
-use Rattle.rbc_spec.specs.Reach.{Reach}
 use Rattle.rbc_spec.specs.SectionRuns.{within}
 use Rattle.rbc_spec.specs.Line.{Line, Section, section, is_centre, is_home}
 use Rattle.rbc_spec.specs.Sections.{section_count}
@@ -211,9 +210,9 @@ module _ (line : Line) (w : Flow) (v : LineState) (sound : IsFlowSound line w) (
     none_told none = ap (λ (test : ℕ → Bool). map (λ s. Told s) (filter test (range_with_len 0 (section_count line)))) (λ i s. ap (λ b. b && v.wish s) (none_waits none s) i)
         ∙ ap (map (λ s. Told s)) (filter-none (range_with_len 0 (section_count line)))
 
-    module _ (reach : Reach) (stamp : ℕ) where
+    module _ (stamp : ℕ) where
       abbrev reply : TrainBody → Reply
-      reply body = hear_and_answer reach line c (m body) (ticked stamp k)
+      reply body = hear_and_answer line c (m body) (ticked stamp k)
 
       -- no start waits
       abbrev left : (ℕ → Phase) → Centre

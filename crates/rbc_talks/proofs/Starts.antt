@@ -1,27 +1,21 @@
 -- A start of mission: it is rejected, goes on within the train's hand, begins at the registrar, or waits for its right.
-use Rattle.std.proofs.Common.{◌≡◌, ℕ, ◌+◌, ◌&&◌, ◌||◌, not, if◌then◌else◌, Bool, true, false, List, [], ◌∷◌, ◌++◌, Option, Some, None, option_map, is_some, refl, sym, ap, ◌∙◌, subst, inl, inr, arith}
-use Rattle.std.proofs.lemmas.Bool.{and_parts}
+use Rattle.std.proofs.Common.{◌≡◌, ℕ, ◌+◌, ◌&&◌, if◌then◌else◌, Bool, true, false, List, [], ◌∷◌, ◌++◌, Option, Some, None, option_map, is_some, refl, sym, ap, ◌∙◌, subst, inl, inr, arith}
 use Rattle.rbc_ledger.specs.Network.{acted, to_one}
 use Rattle.rbc_ledger.proofs.Sums.{one_if_true}
-use Rattle.rbc_lemmas.proofs.Lists.{none_passes}
-use Rattle.rbc_lemmas.proofs.Puts.{itself}
 use Rattle.rbc_lemmas.proofs.Runs.{each_within}
 use Rattle.rbc_spec.specs.Maps.{put, put_pair}
-use Rattle.rbc_spec.specs.Reach.{Reach, asks_rights}
 use Rattle.rbc_spec.specs.SectionRuns.{within, all_of}
 use Rattle.rbc_spec.specs.Line.{Line, is_centre, is_home, registrar}
 use Rattle.rbc_spec.specs.Place.{Place, Position, covered, fit_place}
 use Rattle.rbc_spec.specs.Message.{TrainMessage, StartOfMission, TrackBody, TrainAccepted, TrainRejected, unknown_group}
 use Rattle.rbc_spec.specs.Frame.{Body, AskRight}
-use Rattle.rbc_spec.specs.Outcome.{reasons_of, WrongPhase}
 use Rattle.rbc_spec.specs.Centre as centre
-use Rattle.rbc_spec.specs.Centre.{Centre, Phase, is_open, is_free, is_unused, is_up, is_registrar_of}
+use Rattle.rbc_spec.specs.Centre.{Centre, Phase, is_open, is_free, is_registrar_of}
 use Rattle.rbc_spec.specs.Acts.{◌>>◌, Reply, begun}
-use Rattle.rbc_spec.specs.Step.{holds, silence, hear_and_answer, ticked}
+use Rattle.rbc_spec.specs.Step.{silence, hear_and_answer, ticked}
 use Rattle.rbc_spec.specs.LineCentre as line_centre
 use Rattle.rbc_spec.specs.LineCentre.{LineState, Said, nothing, hears, says, supervises, is_given_to, is_mark_open}
 use Rattle.rbc_spec.specs.OwnSteps.{Starts, Rejects, may_start, waits, begins, restarted, one_message}
-use Rattle.rbc_spec.specs.Quiet.{Dismiss}
 use Rattle.rbc_flow.specs.Flow.{Flow}
 use Rattle.rbc_flow.specs.Counts.{hands, missions}
 use Rattle.rbc_flow.specs.Keeping.{nothing_came}
@@ -32,13 +26,12 @@ use Rattle.rbc_sight.proofs.Frames.{sends_single, sends_both}
 use Rattle.rbc_sight.proofs.Marks.{hand_at_centre}
 use Rattle.rbc_sight.proofs.Missions.{none_here}
 use Rattle.rbc_sight.proofs.Shows.{part_stays, part_changes}
-use Rattle.rbc_pieces.proofs.Dismissals.{dismissal}
 use Rattle.rbc_talks.specs.Heard.{message}
 use Rattle.rbc_talks.proofs.Changes.{SendsNothing, silent, heard_alone, one_said, act, shows_talk, shows_change}
 use Rattle.rbc_talks.proofs.Elsewhere.{supervises_is}
 use Rattle.rbc_talks.proofs.Begins.{put_to_use, shows_begin, shows_wait}
 
-module _ (reach : Reach) (line : Line) (w : Flow) (v : LineState) (sound : IsFlowSound line w) (sees : Shows line w v) (c t_train t stamp : ℕ) (at : is_centre line c ≡ true)
+module _ (line : Line) (w : Flow) (v : LineState) (sound : IsFlowSound line w) (sees : Shows line w v) (c t_train t stamp : ℕ) (at : is_centre line c ≡ true)
     (is_valid : Bool) (position : Position) where
   abbrev k : Centre
   k = w.at c
@@ -47,7 +40,7 @@ module _ (reach : Reach) (line : Line) (w : Flow) (v : LineState) (sound : IsFlo
   m = message t_train t (StartOfMission is_valid position)
 
   abbrev reply : Reply
-  reply = hear_and_answer reach line c m (ticked stamp k)
+  reply = hear_and_answer line c m (ticked stamp k)
 
   abbrev now : LineState
   now = hears c m v
@@ -197,38 +190,9 @@ module _ (reach : Reach) (line : Line) (w : Flow) (v : LineState) (sound : IsFlo
 
         -- ## Elsewhere
 
-        module _ (away : is_registrar_of line c t ≡ false) (none_waits : k.wait t ≡ None) where
+        module _ (away : is_registrar_of line c t ≡ false) where
           waits_own : Starts line t c (fit_place line is_valid position) now nothing (waits line t c place now)
           waits_own = rw fit (rw unsupervised (rw (may_is ∙ all_free) (rw away (record { said_is = refl; new_is = refl }))))
-
-          -- it is dismissed at once
-          open_unused : (e : centre.Entry) → is_open e ≡ true → is_unused e ≡ true
-          open_unused centre.Shut h = cc
-          open_unused centre.Open h = refl
-          open_unused (centre.Taken u) h = cc
-          open_unused (centre.Out u d) h = cc
-
-          unwished_there : (s : ℕ) → within (covered line place) s ≡ true → now.wish s ≡ false
-          unwished_there s inside =
-              let parts = and_parts (is_home line c s) (is_open (k.book s)) (each_free s inside) in
-              sees.wish s c parts.0 ∙ (sound.centres c at).unwished s (open_unused (k.book s) parts.1)
-
-          dismissed : asks_rights reach ≡ false → Goes reply
-          unfolding ◌>>◌
-          dismissed asks_none =
-              let is : reply ≡ says_one told_one TrainRejected = rw fit (rw has_none (rw all_free (rw away (rw asks_none refl)))) in
-              subst (λ (r : Reply). LeadsHeard line w c m r v) (sym is) (record {
-                said = nothing;
-                mid = waits line t c place now;
-                own = waits_own;
-                quiets = Dismiss t c ∷ [];
-                later = one_message t c unknown_group TrainRejected [] now;
-                new = says t c now;
-                takes = dismissal line now t c place (sees.wait t c ∙ none_waits) (may_is ∙ all_free) unwished_there;
-                own_centre = rw (itself c) refl;
-                says = one_said_now TrainRejected;
-                shows = rejected_shown;
-              })
 
           -- it waits, and the registrar is asked, where it was not before
           abbrev waiting : (ℕ → Bool) → Centre
@@ -248,44 +212,28 @@ module _ (reach : Reach) (line : Line) (w : Flow) (v : LineState) (sound : IsFlo
             hands = λ u s. sends_both (hands u s) c (to_one r (AskRight t ∷ [])) (λ d. []) (sends_single (hands u s) c r (AskRight t) refl) ((silent c).hands u s);
           }
 
-          waits_on : asks_rights reach ≡ true → (b : Bool) → k.has_asked t ≡ b → (o : Option ℕ) → registrar line t ≡ o → Goes reply
+          waits_on : (b : Bool) → k.has_asked t ≡ b → (o : Option ℕ) → registrar line t ≡ o → Goes reply
           unfolding ◌>>◌
-          waits_on asks true asked o there = goes_waiting k.has_asked (λ d. []) (silent c) (rw fit (rw has_none (rw all_free (rw away (rw asks (rw asked refl))))))
-          waits_on asks false asked None there = goes_waiting (put k.has_asked t true) (λ d. []) (silent c) (rw fit (rw has_none (rw all_free (rw away (rw asks (rw asked (rw there refl)))))))
-          waits_on asks false asked (Some r) there = goes_waiting (put k.has_asked t true) (λ d. to_one r (AskRight t ∷ []) d ++ []) (asks_one r)
-              (rw fit (rw has_none (rw all_free (rw away (rw asks (rw asked (rw there refl)))))))
+          waits_on true asked o there = goes_waiting k.has_asked (λ d. []) (silent c) (rw fit (rw has_none (rw all_free (rw away (rw asked refl)))))
+          waits_on false asked None there = goes_waiting (put k.has_asked t true) (λ d. []) (silent c) (rw fit (rw has_none (rw all_free (rw away (rw asked (rw there refl))))))
+          waits_on false asked (Some r) there = goes_waiting (put k.has_asked t true) (λ d. to_one r (AskRight t ∷ []) d ++ []) (asks_one r)
+              (rw fit (rw has_none (rw all_free (rw away (rw asked (rw there refl))))))
 
-          starts_away : (b : Bool) → asks_rights reach ≡ b → Goes reply
-          starts_away true is = waits_on is (k.has_asked t) refl (registrar line t) refl
-          starts_away false is = dismissed is
+        starts_free : (b : Bool) → is_registrar_of line c t ≡ b → Goes reply
+        starts_free true is = starts_here is (k.has_right t) refl
+        starts_free false is = waits_on is (k.has_asked t) refl (registrar line t) refl
 
-        starts_free : k.wait t ≡ None → (b : Bool) → is_registrar_of line c t ≡ b → Goes reply
-        starts_free none true is = starts_here is (k.has_right t) refl
-        starts_free none false is = starts_away is none (asks_rights reach) refl
+      starts_new : (b : Bool) → all_of (is_free line c k) (covered line place) ≡ b → Goes reply
+      starts_new true is = starts_free is (is_registrar_of line c t) refl
+      starts_new false is = not_free is
 
-      starts_new : k.wait t ≡ None → (b : Bool) → all_of (is_free line c k) (covered line place) ≡ b → Goes reply
-      starts_new none true is = starts_free is none (is_registrar_of line c t) refl
-      starts_new none false is = not_free is
-
-    starts_at : k.wait t ≡ None → (o : Option centre.Mission) → k.mission t ≡ o → Goes reply
-    starts_at none None is = starts_new is none (all_of (is_free line c k) (covered line place)) refl
-    starts_at none (Some n) is = restarts n is (all_of (within n.hand) (covered line place)) refl
-
-  -- a start that is not silent finds none that waits
-  none_waiting : silence line c (ticked stamp k) m ≡ None → k.wait t ≡ None
-  none_waiting heard = by_wait (k.wait t) (or_right (not (is_up (k.phase t))) (is_some (k.wait t)) (none_passes (holds line c (ticked stamp k) m) (reasons_of m.body) 3 WrongPhase heard refl))
-    where
-      by_wait : (o : Option Place) → is_some o ≡ false → o ≡ None
-      by_wait None is = refl
-      by_wait (Some place) is = cc
-
-      or_right : (a b : Bool) → (a || b) ≡ false → b ≡ false
-      or_right true b is = cc
-      or_right false b is = is
+    starts_at : (o : Option centre.Mission) → k.mission t ≡ o → Goes reply
+    starts_at None is = starts_new is (all_of (is_free line c k) (covered line place)) refl
+    starts_at (Some n) is = restarts n is (all_of (within n.hand) (covered line place)) refl
 
   pub starts : silence line c (ticked stamp k) m ≡ None → Goes reply
   starts heard = by_place (fit_place line is_valid position) refl
     where
       by_place : (o : Option Place) → fit_place line is_valid position ≡ o → Goes reply
       by_place None is = without_place is
-      by_place (Some place) is = starts_at place is (none_waiting heard) (k.mission t) refl
+      by_place (Some place) is = starts_at place is (k.mission t) refl

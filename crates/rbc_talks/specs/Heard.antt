@@ -1,6 +1,5 @@
 -- What is claimed of a message that is heard at a centre of a line.
 use Rattle.std.specs.Prelude.{◌≡◌, ℕ, true, None}
-use Rattle.rbc_spec.specs.Reach.{Reach}
 use Rattle.rbc_spec.specs.Line.{Line, IsLine, is_centre}
 use Rattle.rbc_spec.specs.Message.{TrainMessage, TrainBody}
 use Rattle.rbc_spec.specs.LineCentre.{LineState}
@@ -15,7 +14,7 @@ message t_train t body = record { t_train = t_train; nid_engine = t; body = body
 
 -- a message with this body that is not silent, from train t to centre c: the one line centre, which shows a sound flow, takes its own step of it
 -- and then quiet steps of c, which say together what c says, and shows what the answer leaves
-abbrev pub IsHeardAs : Reach → TrainBody → Type 0
-IsHeardAs reach body = (line : Line) (w : Flow) (v : LineState) (c t_train t stamp : ℕ) → IsLine line → IsFlowSound line w → Shows line w v → is_centre line c ≡ true
+abbrev pub IsHeardAs : TrainBody → Type 0
+IsHeardAs body = (line : Line) (w : Flow) (v : LineState) (c t_train t stamp : ℕ) → IsLine line → IsFlowSound line w → Shows line w v → is_centre line c ≡ true
     → silence line c (ticked stamp (w.at c)) (message t_train t body) ≡ None
-    → LeadsHeard line w c (message t_train t body) (hear_and_answer reach line c (message t_train t body) (ticked stamp (w.at c))) v
+    → LeadsHeard line w c (message t_train t body) (hear_and_answer line c (message t_train t body) (ticked stamp (w.at c))) v

@@ -1,5 +1,5 @@
 //! Laws of the messages of sessions, of train data, of rejected requests to shorten, and of starts of mission: the one line centre takes its own
-//! step of each, at every reach, and shows what the answer leaves. The functions do nothing: each contract is a law of the definitions.
+//! step of each, and shows what the answer leaves. The functions do nothing: each contract is a law of the definitions.
 #![tactic(auto)]
 
 mod laws;

@@ -3,7 +3,6 @@ use Rattle.std.proofs.Common.{◌≡◌, ⊎_elim, inl, inr, ◌<◌, ℕ, ◌+�
 use Rattle.std.specs.Option.{option_map_or}
 use Rattle.std.proofs.lemmas.Bool.{and_parts, and_from, cases_lt, le-leb, leb-true, eqb-true}
 use Rattle.rbc_spec.specs.Maps.{put}
-use Rattle.rbc_spec.specs.Reach.{Reach, lends_routes, hands_over}
 use Rattle.rbc_spec.specs.SectionRuns.{SectionRun, most_in_hand, within, behind, is_empty, part_from}
 use Rattle.rbc_spec.specs.Line.{Line, is_home, start, end, next_centre}
 use Rattle.rbc_spec.specs.Sections.{is_on, nid_rbc}
@@ -66,12 +65,8 @@ module _ (line : Line) (c : ℕ) (y : Tally) (is : IsTally line c y) where
       (λ m has. fair_if line c y (((is_home line d (behind m.hand) && is_on line m.place.track (behind m.hand)) && nat_lt m.hand.count most_in_hand) && (is_empty m.pool && is_none (k.route_ask t))) k
       (ask_route t d m k) (rest k) (λ so. fair_ask t d m k) (λ so. fair_rest line c y k)) (λ none. fair_rest line c y k)
 
-  pub fair_border : (reach : Reach) (t d : ℕ) (k : Centre) → Makes line c y is k (at_border reach line c t d k)
-  fair_border reach t d k = fair_both line c y (if hands_over reach then announce_if_due line t d else rest) (ask_route_if_due line t d) k (by_reach (hands_over reach)) (fair_ask_if t d _)
-    where
-      by_reach : (b : Bool) → Makes line c y is k ((if b then announce_if_due line t d else rest) k)
-      by_reach true = fair_announce_if t d k
-      by_reach false = fair_rest line c y k
+  pub fair_border : (t d : ℕ) (k : Centre) → Makes line c y is k (at_border line c t d k)
+  fair_border t d k = fair_both line c y (announce_if_due line t d) (ask_route_if_due line t d) k (fair_announce_if t d k) (fair_ask_if t d _)
 
   -- ## A longer hand
 
@@ -149,27 +144,31 @@ module _ (line : Line) (c : ℕ) (y : Tally) (is : IsTally line c y) where
     granted_law has = mission_put line c y k t (Some (extended_by r m)) (y.entry e) (y.entry (if within r y.section && is_open e then Taken t else e))
         (λ here. omega (arith, has, extended here, joined_part y m.hand r (λ some more. refl))) (λ other. booked_open line c y is (Taken t) r e)
 
-  pub fair_grant : (reach : Reach) (t : ℕ) (m : Mission) (k : Centre) → mission_of y (k.mission t) ≡ whole y m.hand m.pool → Follows m → Makes line c y is k (grant reach line c t m k)
+  -- the hand is extended, and the authority for it is said
+  pub fair_extend : (t : ℕ) (m : Mission) (k : Centre) → mission_of y (k.mission t) ≡ whole y m.hand m.pool → Follows m → let more : SectionRun = extension line c k m in
+      Makes line c y is k (((booked is_open (Taken t) more >> set_mission t (Some (extended_by more m))) >> say t m.place.group (Authority (authority line (extended_by more m)))) k)
   unfolding ◌>>◌
-  fair_grant reach t m k has behind_hand = eased line c y 0 0 k (grant reach line c t m k) (omega (arith, granted_law t m k has)) (λ so. omega (arith, granted_back t m k so behind_hand has))
-      (fair_then line c y ((booked is_open (Taken t) more >> set_mission t (Some (extended_by more m))) >> say t m.place.group (Authority (authority line (extended_by more m))))
-      (if lends_routes reach then option_map_or (at_border reach line c t) (next_centre line c m.place.track) rest else rest) k
+  fair_extend t m k has behind_hand = let more : SectionRun = extension line c k m in
+      eased line c y 0 0 k _ (omega (arith, granted_law t m k has)) (λ so. omega (arith, granted_back t m k so behind_hand has))
       (fair_then line c y (booked is_open (Taken t) more >> set_mission t (Some (extended_by more m))) (say t m.place.group (Authority (authority line (extended_by more m)))) k
       (fair_then line c y (booked is_open (Taken t) more) (set_mission t (Some (extended_by more m))) k (fair_booked line c y is_open (Taken t) more k) (fair_set line c y t (Some (extended_by more m)) _))
       (fair_say line c y t m.place.group (Authority (authority line (extended_by more m))) _))
-      (by_reach (lends_routes reach) (next_centre line c m.place.track) _))
+
+  pub fair_grant : (t : ℕ) (m : Mission) (k : Centre) → mission_of y (k.mission t) ≡ whole y m.hand m.pool → Follows m → Makes line c y is k (grant line c t m k)
+  unfolding ◌>>◌
+  fair_grant t m k has behind_hand = fair_both line c y ((booked is_open (Taken t) more >> set_mission t (Some (extended_by more m))) >> say t m.place.group (Authority (authority line (extended_by more m))))
+      (option_map_or (at_border line c t) (next_centre line c m.place.track) rest) k (fair_extend t m k has behind_hand) (borders (next_centre line c m.place.track) _)
     where
       more : SectionRun
       more = extension line c k m
 
-      by_reach : (b : Bool) (o : Option ℕ) (j : Centre) → Makes line c y is j ((if b then option_map_or (at_border reach line c t) o rest else rest) j)
-      by_reach true None j = fair_rest line c y j
-      by_reach true (Some d) j = fair_border reach t d j
-      by_reach false o j = fair_rest line c y j
+      borders : (o : Option ℕ) (j : Centre) → Makes line c y is j (option_map_or (at_border line c t) o rest j)
+      borders None j = fair_rest line c y j
+      borders (Some d) j = fair_border t d j
 
-  pub fair_request : (reach : Reach) (t : ℕ) (position : Position) (k : Centre) → ((m : Mission) → k.mission t ≡ Some m → Follows m) → Makes line c y is k (request reach line c t position k)
-  fair_request reach t position k all = fair_or line c y (k.mission t) _ k (rest k) (λ m has. at_place m has (place_on line m.place.track position)) (λ none. fair_rest line c y k)
+  pub fair_request : (t : ℕ) (position : Position) (k : Centre) → ((m : Mission) → k.mission t ≡ Some m → Follows m) → Makes line c y is k (request line c t position k)
+  fair_request t position k all = fair_or line c y (k.mission t) _ k (rest k) (λ m has. at_place m has (place_on line m.place.track position)) (λ none. fair_rest line c y k)
     where
-      at_place : (m : Mission) → k.mission t ≡ Some m → (o : Option Place) → Makes line c y is k (option_map_or (λ place. grant reach line c t (record m { place = place })) o rest k)
+      at_place : (m : Mission) → k.mission t ≡ Some m → (o : Option Place) → Makes line c y is k (option_map_or (λ place. grant line c t (record m { place = place })) o rest k)
       at_place m has None = fair_rest line c y k
-      at_place m has (Some place) = fair_grant reach t (record m { place = place }) k (ap (mission_of y) has) (all m has)
+      at_place m has (Some place) = fair_grant t (record m { place = place }) k (ap (mission_of y) has) (all m has)

@@ -6,7 +6,6 @@ use Rattle.rbc_ledger.proofs.Sums.{sum_zero, put_same}
 use Rattle.rbc_ledger.specs.Resource.{carried, sent_by}
 use Rattle.rbc_ledger.proofs.Resource.{sent_none, carried_none, carried_more}
 use Rattle.rbc_spec.specs.Maps.{put, has}
-use Rattle.rbc_spec.specs.Reach.{Reach}
 use Rattle.rbc_spec.specs.SectionRuns.{SectionRun, no_run, within, behind, is_empty, part_before, part_from, joined}
 use Rattle.rbc_spec.specs.Line.{Line, end, is_centre}
 use Rattle.rbc_spec.specs.Place.{Place, Position, is_cleared, place_on}
@@ -223,18 +222,18 @@ module _ (line : Line) (c : ℕ) (y : Tally) (is : IsTally line c y) where
 
   -- ## A message
 
-  pub fair_answered : (reach : Reach) (m : TrainMessage) (body : TrainBody) (k : Centre) → AllFollow k → Ready line c y k → Makes line c y is k (answered reach line c m body k)
-  fair_answered reach m (TrainData position) k follows ready = fair_both line c y (change_mission m.nid_engine (λ n. record n { has_data = true })) (say m.nid_engine unknown_group (DataAcknowledged m.t_train)) k
+  pub fair_answered : (m : TrainMessage) (body : TrainBody) (k : Centre) → AllFollow k → Ready line c y k → Makes line c y is k (answered line c m body k)
+  fair_answered m (TrainData position) k follows ready = fair_both line c y (change_mission m.nid_engine (λ n. record n { has_data = true })) (say m.nid_engine unknown_group (DataAcknowledged m.t_train)) k
       (fair_change line c y m.nid_engine (λ n. record n { has_data = true }) k (λ n. (refl, refl))) (fair_say line c y m.nid_engine unknown_group (DataAcknowledged m.t_train) _)
-  fair_answered reach m (Request position) k follows ready = fair_request line c y is reach m.nid_engine position k (follows m.nid_engine)
-  fair_answered reach m (Report position) k follows ready = fair_report m.nid_engine position k follows ready
-  fair_answered reach m (ShorteningGranted stamp position) k follows ready = fair_or line c y (k.mission m.nid_engine) _ k (rest k)
+  fair_answered m (Request position) k follows ready = fair_request line c y is m.nid_engine position k (follows m.nid_engine)
+  fair_answered m (Report position) k follows ready = fair_report m.nid_engine position k follows ready
+  fair_answered m (ShorteningGranted stamp position) k follows ready = fair_or line c y (k.mission m.nid_engine) _ k (rest k)
       (λ n stands. fair_or line c y n.proposal _ k (rest k) (λ p asked. fair_granted m.nid_engine position n p k stands (follows m.nid_engine n stands) ready) (λ none. fair_rest line c y k)) (λ none. fair_rest line c y k)
-  fair_answered reach m (ShorteningRejected stamp position) k follows ready = fair_change line c y m.nid_engine (λ n. record n { proposal = None }) k (λ n. (refl, refl))
-  fair_answered reach m (EndOfMission position) k follows ready = fair_end_mission m.nid_engine position k follows ready
-  fair_answered reach m InitiationOfSession k follows ready = fair_both line c y (close_session line c m.nid_engine >> set_phase m.nid_engine Opened) (say m.nid_engine unknown_group SystemVersion) k
+  fair_answered m (ShorteningRejected stamp position) k follows ready = fair_change line c y m.nid_engine (λ n. record n { proposal = None }) k (λ n. (refl, refl))
+  fair_answered m (EndOfMission position) k follows ready = fair_end_mission m.nid_engine position k follows ready
+  fair_answered m InitiationOfSession k follows ready = fair_both line c y (close_session line c m.nid_engine >> set_phase m.nid_engine Opened) (say m.nid_engine unknown_group SystemVersion) k
       (fair_both line c y (close_session line c m.nid_engine) (set_phase m.nid_engine Opened) k (fair_close_session line c y is m.nid_engine k) (fair_plain line c y _ _ refl refl refl)) (fair_say line c y m.nid_engine unknown_group SystemVersion _)
-  fair_answered reach m TerminationOfSession k follows ready = fair_both line c y (close_session line c m.nid_engine) (say m.nid_engine unknown_group TerminationAcknowledged) k
+  fair_answered m TerminationOfSession k follows ready = fair_both line c y (close_session line c m.nid_engine) (say m.nid_engine unknown_group TerminationAcknowledged) k
       (fair_close_session line c y is m.nid_engine k) (fair_say line c y m.nid_engine unknown_group TerminationAcknowledged _)
-  fair_answered reach m (StartOfMission is_valid position) k follows ready = fair_start line c y is reach m.nid_engine is_valid position k
-  fair_answered reach m SessionEstablished k follows ready = fair_plain line c y k (set_phase m.nid_engine Up k) refl refl refl
+  fair_answered m (StartOfMission is_valid position) k follows ready = fair_start line c y is m.nid_engine is_valid position k
+  fair_answered m SessionEstablished k follows ready = fair_plain line c y k (set_phase m.nid_engine Up k) refl refl refl

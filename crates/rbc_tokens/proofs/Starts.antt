@@ -5,7 +5,6 @@ use Rattle.std.proofs.lemmas.Bool.{cases_eq, and_parts}
 use Rattle.rbc_ledger.proofs.Sums.{put_same, put_other}
 use Rattle.rbc_ledger.proofs.Resource.{sent_none}
 use Rattle.rbc_spec.specs.Maps.{put}
-use Rattle.rbc_spec.specs.Reach.{Reach, asks_rights}
 use Rattle.rbc_spec.specs.SectionRuns.{SectionRun, within, all_of}
 use Rattle.rbc_spec.specs.Line.{Line, is_home, registrar}
 use Rattle.rbc_spec.specs.Place.{Place, Position, covered, fit_place}
@@ -276,18 +275,17 @@ module _ (line : Line) (c : ℕ) (y : Tally) (is : IsTally line c y) where
           (fair_change line c y t (λ n. record n { place = place; has_data = false; is_ended = false; proposal = None }) k (λ n. (refl, refl))) (fair_accept t _)
       by_test false = fair_reject t k
 
-  fair_start_new : (reach : Reach) (t : ℕ) (place : Place) (k : Centre) → k.mission t ≡ None → Makes line c y is k (start_new reach line c t place k)
-  fair_start_new reach t place k none = fair_if line c y (all_of (is_free line c k) (covered line place)) k _ (reject t k)
-      (λ free. at_home (is_registrar_of line c t) (asks_rights reach)
+  fair_start_new : (t : ℕ) (place : Place) (k : Centre) → k.mission t ≡ None → Makes line c y is k (start_new line c t place k)
+  fair_start_new t place k none = fair_if line c y (all_of (is_free line c k) (covered line place)) k _ (reject t k)
+      (λ free. at_home (is_registrar_of line c t)
       (λ in_place. and_parts (is_home line c y.section) (is_open (k.book y.section)) (each_within (is_free line c k) (covered line place) free y.section in_place)))
       (λ so. fair_reject t k)
     where
-      at_home : (b z : Bool) → AllOpen (covered line place) (k.book y.section) → Makes line c y is k ((if b then start_here line t place else (if z then start_waiting line t place else reject t)) k)
-      at_home true z free = fair_start_here t place k free none
-      at_home false true free = fair_start_waiting t place k free
-      at_home false false free = fair_reject t k
+      at_home : (b : Bool) → AllOpen (covered line place) (k.book y.section) → Makes line c y is k ((if b then start_here line t place else start_waiting line t place) k)
+      at_home true free = fair_start_here t place k free none
+      at_home false free = fair_start_waiting t place k free
 
-  pub fair_start : (reach : Reach) (t : ℕ) (is_valid : Bool) (position : Position) (k : Centre) → Makes line c y is k (start_mission reach line c t is_valid position k)
-  fair_start reach t is_valid position k = fair_or line c y (fit_place line is_valid position) _ k (reject t k)
-      (λ place at. fair_or line c y (k.mission t) _ k (start_new reach line c t place k) (λ m has. fair_restart t place m k) (λ none. fair_start_new reach t place k none))
+  pub fair_start : (t : ℕ) (is_valid : Bool) (position : Position) (k : Centre) → Makes line c y is k (start_mission line c t is_valid position k)
+  fair_start t is_valid position k = fair_or line c y (fit_place line is_valid position) _ k (reject t k)
+      (λ place at. fair_or line c y (k.mission t) _ k (start_new line c t place k) (λ m has. fair_restart t place m k) (λ none. fair_start_new t place k none))
       (λ none. fair_reject t k)

@@ -1,8 +1,7 @@
 -- No step makes more than came.
-use Rattle.std.proofs.Common.{◌≡◌, ◌≢◌, ◌<◌, ◌&&◌, ◌||◌, sym, ℕ, Bool, true, false, if◌then◌else◌, Option, Some, None, refl, ap, ◌∙◌, arith}
+use Rattle.std.proofs.Common.{◌≡◌, ◌≢◌, ◌<◌, ◌&&◌, ◌||◌, sym, ℕ, true, false, Option, Some, None, refl, ap, ◌∙◌, arith}
 use Rattle.std.specs.Option.{option_map_or}
 use Rattle.rbc_spec.specs.Maps.{put}
-use Rattle.rbc_spec.specs.Reach.{Reach, follows_rule}
 use Rattle.rbc_spec.specs.Line.{Line}
 use Rattle.rbc_spec.specs.Message.{TrainMessage}
 use Rattle.rbc_spec.specs.Frame.{Frame, Body, AskRight, GiveRight, RefuseRight, ReturnRight, RouteAsk, RouteInfo, RouteWithdraw, RouteReturn, Announce, Cancel, TakingOver, Yield}
@@ -14,7 +13,7 @@ use Rattle.rbc_spec.specs.Rules.{answered}
 use Rattle.rbc_spec.specs.Links.{received, is_train}
 use Rattle.rbc_flow.specs.Flow.{centre_count}
 use Rattle.rbc_spec.specs.Step as step
-use Rattle.rbc_spec.specs.Step.{Event, Train, Set, Unset, Deliver, Effect, hear_and_answer, taken_by, body_taken, link_answer, stamp_of, ticked, state_after}
+use Rattle.rbc_spec.specs.Step.{Event, Train, Set, Unset, Deliver, Effect, hear_and_answer, taken_by, link_answer, stamp_of, ticked, state_after}
 use Rattle.rbc_flow.specs.Counts.{wait_has}
 use Rattle.rbc_flow.specs.Sound.{IsCentreSound}
 use Rattle.rbc_tokens.specs.Steps.{came_by, came_to, done, IsFairStep, IsExactStep}
@@ -42,55 +41,40 @@ same_place line c d stamp taken k (TakingOver number t) = refl
 same_place line c d stamp taken k (Yield number t heard has_data is_ended place hand) = refl
 
 module _ (line : Line) (c : ℕ) (y : Tally) (is : IsTally line c y) where
-  message_fair : (reach : Reach) (m : TrainMessage) (k : Centre) → AllFollow line c y is k → Ready line c y k → (o : Option Reason)
-      → Makes line c y is k (option_map_or {U = Effect} (λ why. record { reply = rest k; link = None; silence = Some why }) o (record { reply = hear_and_answer reach line c m k; link = None; silence = None })).reply
-  message_fair reach m k follows ready (Some why) = fair_rest line c y k
-  message_fair reach m k follows ready None = fair_both line c y (hear m) (answered reach line c m m.body) k (fair_plain line c y k (hear m k) refl refl refl)
-      (fair_answered line c y is reach m m.body (hear m k).state follows (ready_again line c y k (hear m k).state refl refl refl ready))
+  message_fair : (m : TrainMessage) (k : Centre) → AllFollow line c y is k → Ready line c y k → (o : Option Reason)
+      → Makes line c y is k (option_map_or {U = Effect} (λ why. record { reply = rest k; link = None; silence = Some why }) o (record { reply = hear_and_answer line c m k; link = None; silence = None })).reply
+  message_fair m k follows ready (Some why) = fair_rest line c y k
+  message_fair m k follows ready None = fair_both line c y (hear m) (answered line c m m.body) k (fair_plain line c y k (hear m k) refl refl refl)
+      (fair_answered line c y is m m.body (hear m k).state follows (ready_again line c y k (hear m k).state refl refl refl ready))
 
   -- where what is lost is counted, a frame that is the next of its link is from another centre of the line, and is looked for
-  abbrev pub IsDueBy : Reach → ℕ → Frame → Centre → outcome.Taken → Type 0
-  IsDueBy reach d f k answer = y.exact ≡ true → answer ≡ Next → ((d < centre_count line) × (c ≢ d)) × (is_looked_for reach line c d k f.body ≡ true)
+  abbrev pub IsDueBy : ℕ → Frame → Centre → outcome.Taken → Type 0
+  IsDueBy d f k answer = y.exact ≡ true → answer ≡ Next → ((d < centre_count line) × (c ≢ d)) × (is_looked_for line c d k f.body ≡ true)
 
-  frame_fair : (reach : Reach) (d : ℕ) (f : Frame) (k : Centre) → AllWaitHome line c y is k → Ready line c y k → (answer : outcome.Taken) → IsDueBy reach d f k answer
-      → Fair line c y k (came_by c d f answer y.res) 0 (taken_by reach line c d f answer k)
-  frame_fair reach d f k home ready Next due = eased line c y (y.res.inside d c f.body) 0 k (taken_by reach line c d f Next k) (omega arith) (λ so. omega arith)
-      (fair_then line c y (become (λ j. record j { taken = put j.taken d f.number })) (body_taken reach line c d f.body) k (fair_plain line c y k _ refl refl refl)
-      (by_rule (follows_rule reach f.body) refl))
+  frame_fair : (d : ℕ) (f : Frame) (k : Centre) → AllWaitHome line c y is k → Ready line c y k → (answer : outcome.Taken) → IsDueBy d f k answer
+      → Fair line c y k (came_by c d f answer y.res) 0 (taken_by line c d f answer k)
+  frame_fair d f k home ready Next due = eased line c y (y.res.inside d c f.body) 0 k (taken_by line c d f Next k) (omega arith) (λ so. omega arith)
+      (fair_then line c y (become (λ j. record j { taken = put j.taken d f.number })) (received line c d f.body) k (fair_plain line c y k _ refl refl refl)
+      (fair_received line c y is d f.body next home (ready_again line c y k next refl refl refl ready) (λ so. (due so refl).0)
+      (λ so here. ap (λ b. is_plain f.body || (is_train line (train_of f.body) && b)) (sym (same_place line c d k.clock (put k.taken d f.number) k f.body)) ∙ (due so refl).1)))
     where
       next : Centre
       next = (become (λ j. record j { taken = put j.taken d f.number }) k).state
-
-      followed : (p r : Bool) (rest_of : Bool) → (p || (r && rest_of)) ≡ true → (p || rest_of) ≡ true
-      followed true r rest_of h = refl
-      followed false true rest_of h = h
-      followed false false rest_of h = cc
-
-      plain_so : (p r : Bool) (rest_of : Bool) → (p || (r && rest_of)) ≡ true → r ≡ false → p ≡ true
-      plain_so true r rest_of h passed = refl
-      plain_so false true rest_of h passed = cc
-      plain_so false false rest_of h passed = cc
-
-      by_rule : (b : Bool) → follows_rule reach f.body ≡ b → Fair line c y next (y.res.inside d c f.body) 0 ((if b then received line c d f.body else rest) next)
-      by_rule true is_so = fair_received line c y is d f.body next home (ready_again line c y k next refl refl refl ready) (λ so. (due so refl).0)
-          (λ so here. ap (λ b. is_plain f.body || (is_train line (train_of f.body) && b)) (sym (same_place line c d k.clock (put k.taken d f.number) k f.body)) ∙ followed (is_plain f.body) (follows_rule reach f.body) _ (due so refl).1)
-      by_rule false passed = eased line c y (y.res.inside d c f.body) 0 next (rest next) (omega arith)
-          (λ so. omega (arith, is.plain d c f.body (plain_so (is_plain f.body) (follows_rule reach f.body) _ (due so refl).1 passed))) (fair_rest line c y next)
-  frame_fair reach d f k home ready Old due = fair_rest line c y k
-  frame_fair reach d f k home ready Early due = fair_rest line c y k
-  frame_fair reach d f k home ready NoLink due = fair_rest line c y k
+  frame_fair d f k home ready Old due = fair_rest line c y k
+  frame_fair d f k home ready Early due = fair_rest line c y k
+  frame_fair d f k home ready NoLink due = fair_rest line c y k
 
   -- the event brings no stray frame
-  abbrev pub BringsNoStray : Reach → Centre → Event → Type 0
-  BringsNoStray reach k (Deliver d f) = IsDueBy reach d f k (link_answer line c k d f)
-  BringsNoStray reach k event = Unit {0}
+  abbrev pub BringsNoStray : Centre → Event → Type 0
+  BringsNoStray k (Deliver d f) = IsDueBy d f k (link_answer line c k d f)
+  BringsNoStray k event = Unit {0}
 
-  event_fair : (reach : Reach) (event : Event) (k : Centre) → AllFollow line c y is k → AllWaitHome line c y is k → Ready line c y k → BringsNoStray reach k event
-      → Fair line c y k (came_to line c k event y.res) 0 (step.effect reach line c k event).reply
-  event_fair reach (Train m) k follows home ready due = message_fair reach m k follows ready (step.silence line c k m)
-  event_fair reach (Set s) k follows home ready due = fair_section_set line c y is s k
-  event_fair reach (Unset s) k follows home ready due = fair_section_unset line c y is s k
-  event_fair reach (Deliver d f) k follows home ready due = frame_fair reach d f k home ready (link_answer line c k d f) due
+  event_fair : (event : Event) (k : Centre) → AllFollow line c y is k → AllWaitHome line c y is k → Ready line c y k → BringsNoStray k event
+      → Fair line c y k (came_to line c k event y.res) 0 (step.effect line c k event).reply
+  event_fair (Train m) k follows home ready due = message_fair m k follows ready (step.silence line c k m)
+  event_fair (Set s) k follows home ready due = fair_section_set line c y is s k
+  event_fair (Unset s) k follows home ready due = fair_section_unset line c y is s k
+  event_fair (Deliver d f) k follows home ready due = frame_fair d f k home ready (link_answer line c k d f) due
 
   -- the clock is not counted
   same_came : (event : Event) (stamp : ℕ) (k : Centre) → came_to line c (ticked stamp k) event y.res ≡ came_to line c k event y.res
@@ -99,21 +83,21 @@ module _ (line : Line) (c : ℕ) (y : Tally) (is : IsTally line c y) where
   same_came (Unset s) stamp k = refl
   same_came (Deliver d f) stamp k = refl
 
-  module _ (reach : Reach) (k : Centre) (event : Event) (sound : IsCentreSound line c k) (ready : Ready line c y k) where
+  module _ (k : Centre) (event : Event) (sound : IsCentreSound line c k) (ready : Ready line c y k) where
     abbrev pub now : Centre
     now = ticked (stamp_of k event) k
 
-    fair : BringsNoStray reach now event → Fair line c y now (came_to line c now event y.res) 0 (step.effect reach line c now event).reply
-    fair due = event_fair reach event now (λ t m stands. (sound.mission t m stands).pool_follows) (λ t place waits covers. sound.wait_home t y.section (ap (λ o. wait_has line o y.section) waits ∙ covers))
+    fair : BringsNoStray now event → Fair line c y now (came_to line c now event y.res) 0 (step.effect line c now event).reply
+    fair due = event_fair event now (λ t m stands. (sound.mission t m stands).pool_follows) (λ t place waits covers. sound.wait_home t y.section (ap (λ o. wait_has line o y.section) waits ∙ covers))
         (ready_again line c y k now refl refl refl ready) due
 
-    none_brought : y.exact ≡ false → (e : Event) → BringsNoStray reach now e
+    none_brought : y.exact ≡ false → (e : Event) → BringsNoStray now e
     none_brought unlike (Deliver d f) = λ so. absurd (let wrong : true ≡ false = sym so ∙ unlike in cc)
     none_brought unlike (Train m) = record {}
     none_brought unlike (Set s) = record {}
     none_brought unlike (Unset s) = record {}
 
-    pub step_fair : y.exact ≡ false → IsFairStep y.res reach line c k event
+    pub step_fair : y.exact ≡ false → IsFairStep y.res line c k event
     step_fair unlike = record {
       law = omega (
         arith,
@@ -121,12 +105,12 @@ module _ (line : Line) (c : ℕ) (y : Tally) (is : IsTally line c y) where
         same_came event (stamp_of k event) k,
         is.held k,
         is.cap k,
-        is.held (state_after (stamp_of k event) k (done reach line c k event)),
-        is.cap (state_after (stamp_of k event) k (done reach line c k event)),
+        is.held (state_after (stamp_of k event) k (done line c k event)),
+        is.cap (state_after (stamp_of k event) k (done line c k event)),
       );
     }
 
-    pub step_exact : y.exact ≡ true → BringsNoStray reach now event → IsExactStep y.res reach line c k event
+    pub step_exact : y.exact ≡ true → BringsNoStray now event → IsExactStep y.res line c k event
     step_exact so due = record {
       law = omega (
         arith,
@@ -135,7 +119,7 @@ module _ (line : Line) (c : ℕ) (y : Tally) (is : IsTally line c y) where
         same_came event (stamp_of k event) k,
         is.held k,
         is.cap k,
-        is.held (state_after (stamp_of k event) k (done reach line c k event)),
-        is.cap (state_after (stamp_of k event) k (done reach line c k event)),
+        is.held (state_after (stamp_of k event) k (done line c k event)),
+        is.cap (state_after (stamp_of k event) k (done line c k event)),
       );
     }

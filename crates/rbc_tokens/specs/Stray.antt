@@ -1,7 +1,6 @@
 -- Frames that are looked for: what they have inside is not dropped. Any other frame with a right or a section inside is stray.
 use Rattle.std.specs.Prelude.{ℕ, ◌==◌, Bool, true, false, ◌&&◌, ◌||◌, not, is_none}
 use Rattle.rbc_spec.specs.Maps.{has}
-use Rattle.rbc_spec.specs.Reach.{Reach, follows_rule}
 use Rattle.rbc_spec.specs.SectionRuns.{all_of}
 use Rattle.rbc_spec.specs.Line.{Line, is_home}
 use Rattle.rbc_spec.specs.Frame.{Body, carried_place, AskRight, GiveRight, RefuseRight, ReturnRight, RouteAsk, RouteInfo, RouteWithdraw, RouteReturn, Announce, Cancel, TakingOver, Yield}
@@ -44,6 +43,6 @@ has_place_for line c d k (RouteReturn t r) = all_of (λ s. is_home line c s && i
 has_place_for line c d k (Yield number t heard has_data is_ended place hand) = has (λ at. may_take line c k d number t at hand) (carried_place place)
 has_place_for line c d k body = true
 
--- the frame is looked for: nothing is inside, or it is acted on at this reach, its train is of the line, and it has its place here
-abbrev pub is_looked_for : Reach → Line → ℕ → ℕ → Centre → Body → Bool
-is_looked_for reach line c d k body = is_plain body || (follows_rule reach body && (is_train line (train_of body) && has_place_for line c d k body))
+-- the frame is looked for: nothing is inside, or its train is of the line, and it has its place here
+abbrev pub is_looked_for : Line → ℕ → ℕ → Centre → Body → Bool
+is_looked_for line c d k body = is_plain body || (is_train line (train_of body) && has_place_for line c d k body)

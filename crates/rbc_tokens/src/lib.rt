@@ -1,4 +1,4 @@
-//! Laws of rights and of the tokens of sections: no step of a centre makes one, whatever its event, at every reach. The functions do
+//! Laws of rights and of the tokens of sections: no step of a centre makes one, whatever its event. The functions do
 //! nothing: each contract is a law of the definitions.
 #![tactic(auto)]
 

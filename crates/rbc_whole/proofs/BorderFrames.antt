@@ -6,7 +6,6 @@ use Rattle.std.proofs.lemmas.Bool.{and_parts}
 use Rattle.rbc_lemmas.proofs.Runs.{each_within}
 use Rattle.rbc_lemmas.proofs.Lines.{one_home}
 use Rattle.rbc_spec.specs.Maps.{has, put}
-use Rattle.rbc_spec.specs.Reach.{Reach, Whole, Local, Rights, Routes, hands_over}
 use Rattle.rbc_spec.specs.SectionRuns.{SectionRun, no_run, within, is_empty, part_before, part_from, all_of}
 use Rattle.rbc_spec.specs.Line.{Line, IsLine, Section, is_home, is_linked, next_centre, section, section_of_group}
 use Rattle.rbc_spec.specs.Place.{Place, group_start}
@@ -148,7 +147,7 @@ module _ (line : Line) (ok : IsLine line) (c : ℕ) where
   abbrev Known : Mission → Type 0
   Known n = IsHandAt line n.place n.hand × ((h : Handing) → n.handing ≡ Some h → next_centre line c n.place.track ≡ Some h.to)
 
-  answered_good : (m : TrainMessage) (body : TrainBody) (j : Centre) → ((t : ℕ) (n : Mission) → j.mission t ≡ Some n → Known n) → Good line c j → Good line c (answered Whole line c m body j).state
+  answered_good : (m : TrainMessage) (body : TrainBody) (j : Centre) → ((t : ℕ) (n : Mission) → j.mission t ≡ Some n → Known n) → Good line c j → Good line c (answered line c m body j).state
   answered_good m (TrainData position) j known good = (both line c _ _ (changes line c m.nid_engine (λ n. record n { has_data = true }) (λ n so. so)) (record { each = λ i g. g })).each j good
   answered_good m (Request position) j known good = request_good line ok c m.nid_engine position j good
   answered_good m (Report position) j known good = report_good line ok c m.nid_engine position j good
@@ -161,7 +160,7 @@ module _ (line : Line) (ok : IsLine line) (c : ℕ) where
   answered_good m SessionEstablished j known good = good
 
   message_good : (m : TrainMessage) (k : Centre) → ((t : ℕ) (n : Mission) → k.mission t ≡ Some n → Known n) → Good line c k → (o : Option Reason)
-      → Good line c (option_map_or {U = step.Effect} (λ why. record { reply = rest k; link = None; silence = Some why }) o (record { reply = hear_and_answer Whole line c m k; link = None; silence = None })).reply.state
+      → Good line c (option_map_or {U = step.Effect} (λ why. record { reply = rest k; link = None; silence = Some why }) o (record { reply = hear_and_answer line c m k; link = None; silence = None })).reply.state
   unfolding ◌>>◌
   message_good m k known good (Some why) = good
   message_good m k known good None = answered_good m m.body (hear m k).state known good
@@ -188,7 +187,7 @@ module _ (line : Line) (ok : IsLine line) (c : ℕ) where
       by_home true = good
       by_home false = (branch line c _ _ _ (both line c _ _ (record { each = λ j g. g }) (record { each = λ j g. g })) (both line c _ _ (both line c _ _ (record { each = λ j g. g }) (record { each = λ j g. g })) (wished_keeps s (k.book s)))).each k good
 
-  frame_good : (d : ℕ) (f : Frame) (answer : outcome.Taken) (k : Centre) → ((t s : ℕ) → wait_has line (k.wait t) s ≡ true → is_home line c s ≡ true) → Good line c k → Good line c (taken_by Whole line c d f answer k).state
+  frame_good : (d : ℕ) (f : Frame) (answer : outcome.Taken) (k : Centre) → ((t s : ℕ) → wait_has line (k.wait t) s ≡ true → is_home line c s ≡ true) → Good line c k → Good line c (taken_by line c d f answer k).state
   unfolding ◌>>◌
   frame_good d f Next k own good = received_good d f.body (record k { taken = put k.taken d f.number }) own good
   frame_good d f Old k own good = good
@@ -196,19 +195,12 @@ module _ (line : Line) (ok : IsLine line) (c : ℕ) where
   frame_good d f NoLink k own good = good
 
   effect_good : (k : Centre) (event : step.Event) → ((t : ℕ) (n : Mission) → k.mission t ≡ Some n → Known n) → ((t s : ℕ) → wait_has line (k.wait t) s ≡ true → is_home line c s ≡ true) → Good line c k
-      → Good line c (effect Whole line c k event).reply.state
+      → Good line c (effect line c k event).reply.state
   effect_good k (Train m) known own good = message_good m k known good (step.silence line c k m)
   effect_good k (step.Set s) known own good = set_good s k good
   effect_good k (step.Unset s) known own good = unset_good s k good
   effect_good k (step.Deliver d f) known own good = frame_good d f (link_answer line c k d f) k own good
 
-  whole_announces : (k : Centre) (event : step.Event) → IsCentreSound line c k → HasAnnounced line c k → HasAnnounced line c (taken Whole line c event k).1
-  whole_announces k event sound old = good_to line c (taken Whole line c event k).1 (effect_good (step.ticked (step.stamp_of k event) k) event
+  pub step_announces : (k : Centre) (event : step.Event) → IsCentreSound line c k → HasAnnounced line c k → HasAnnounced line c (taken line c event k).1
+  step_announces k event sound old = good_to line c (taken line c event k).1 (effect_good (step.ticked (step.stamp_of k event) k) event
       (λ t n at. let is = sound.mission t n at in (is.hand, is.handing_to)) sound.wait_home (good_from line c k old))
-
-  -- where centres hand missions over
-  pub step_announces : (reach : Reach) (k : Centre) (event : step.Event) → hands_over reach ≡ true → IsCentreSound line c k → HasAnnounced line c k → HasAnnounced line c (taken reach line c event k).1
-  step_announces Whole k event hands sound old = whole_announces k event sound old
-  step_announces Local k event hands sound old = cc
-  step_announces Rights k event hands sound old = cc
-  step_announces Routes k event hands sound old = cc

@@ -6,7 +6,6 @@ use Rattle.std.proofs.lemmas.Option.{same_Some}
 use Rattle.rbc_lemmas.proofs.Puts.{put_there, put_here, put_other}
 use Rattle.rbc_lemmas.proofs.Runs.{each_within, within_part_before, within_part_from}
 use Rattle.rbc_spec.specs.Maps.{put}
-use Rattle.rbc_spec.specs.Reach.{Whole}
 use Rattle.rbc_spec.specs.SectionRuns.{SectionRun, no_run, most_in_hand, within, behind, is_empty, part_before, part_from, joined, all_of}
 use Rattle.rbc_spec.specs.Line.{Line, IsLine, is_home, end, next_centre, registrar}
 use Rattle.rbc_spec.specs.Sections.{nid_rbc, is_on}
@@ -77,7 +76,7 @@ module _ (line : Line) (ok : IsLine line) (c t : ℕ) where
       (when line c (λ k. not (k.has_asked t)) (option_map_or (λ r. send r (AskRight t)) (registrar line t) rest >> become (λ k. record k { has_asked = put k.has_asked t true }))
       (both line c _ _ (of_option line c (registrar line t) _ _ (λ r. record { each = λ j g. g }) (record { each = λ j g. g })) (record { each = λ j g. g })))
 
-  pub start_good : (is_valid : Bool) (position : Position) (k : Centre) → ((m : Mission) → k.mission t ≡ Some m → IsHandAt line m.place m.hand) → Good line c k → Good line c (start_mission Whole line c t is_valid position k).state
+  pub start_good : (is_valid : Bool) (position : Position) (k : Centre) → ((m : Mission) → k.mission t ≡ Some m → IsHandAt line m.place m.hand) → Good line c k → Good line c (start_mission line c t is_valid position k).state
   unfolding ◌>>◌
   start_good is_valid position k hands good = by_place (fit_place line is_valid position) refl
     where
@@ -106,12 +105,12 @@ module _ (line : Line) (ok : IsLine line) (c t : ℕ) where
       fresh place false free r = good
 
       by_mission : (place : Place) → fit_place line is_valid position ≡ Some place → (o : Option Mission) → k.mission t ≡ o
-          → Good line c (option_map_or (λ m. restart line t place m k) o (start_new Whole line c t place k)).state
+          → Good line c (option_map_or (λ m. restart line t place m k) o (start_new line c t place k)).state
       by_mission place is (Some m) at = again place is m at (all_of (within m.hand) (covered line place)) refl
       by_mission place is None at = fresh place (all_of (is_free line c k) (covered line place)) refl (is_registrar_of line c t)
 
       by_place : (o : Option Place) → fit_place line is_valid position ≡ o
-          → Good line c (option_map_or (λ place. option_map_or (λ m. restart line t place m k) (k.mission t) (start_new Whole line c t place k)) o (reject t k)).state
+          → Good line c (option_map_or (λ place. option_map_or (λ m. restart line t place m k) (k.mission t) (start_new line c t place k)) o (reject t k)).state
       by_place None is = good
       by_place (Some place) is = by_mission place is (k.mission t) refl
 
@@ -269,23 +268,23 @@ module _ (line : Line) (ok : IsLine line) (c t : ℕ) where
           (λ (apart : u ≢ t). others u apart)
           (cases_eq u t)
 
-  pub request_good : (position : Position) (k : Centre) → Good line c k → Good line c (request Whole line c t position k).state
+  pub request_good : (position : Position) (k : Centre) → Good line c k → Good line c (request line c t position k).state
   unfolding ◌>>◌
   request_good position k good = by_mission (k.mission t)
     where
       longer : Mission → Centre
       longer m = (((booked is_open (Taken t) (extension line c k m) >> set_mission t (Some (extended_by (extension line c k m) m))) >> say t m.place.group (Authority (authority line (extended_by (extension line c k m) m)))) k).state
 
-      by_next : (m : Mission) (o : Option ℕ) → next_centre line c m.place.track ≡ o → Good line c (option_map_or (at_border Whole line c t) o rest (longer m)).state
+      by_next : (m : Mission) (o : Option ℕ) → next_centre line c m.place.track ≡ o → Good line c (option_map_or (at_border line c t) o rest (longer m)).state
       by_next m None next = put_so line c k.mission good t (Some (extended_by (extension line c k m) m)) (λ d next_is none. let wrong : None ≡ Some d = sym next ∙ next_is in cc)
       by_next m (Some d) next = (ask_keeps d).each (announce_if_due line t d (longer m)).state
           (announces_so (longer m) (extended_by (extension line c k m) m) d (put_there k.mission t (Some (extended_by (extension line c k m) m))) next
           (λ u apart. subst (IsSo line c) (sym (put_other k.mission t u (Some (extended_by (extension line c k m) m)) apart)) (good u)))
 
-      by_place : (m : Mission) (o : Option Place) → Good line c (option_map_or (λ place. grant Whole line c t (record m { place = place })) o rest k).state
+      by_place : (m : Mission) (o : Option Place) → Good line c (option_map_or (λ place. grant line c t (record m { place = place })) o rest k).state
       by_place m None = good
       by_place m (Some place) = by_next (record m { place = place }) (next_centre line c place.track) refl
 
-      by_mission : (o : Option Mission) → Good line c (option_map_or (λ m. option_map_or (λ place. grant Whole line c t (record m { place = place })) (place_on line m.place.track position) rest k) o (rest k)).state
+      by_mission : (o : Option Mission) → Good line c (option_map_or (λ m. option_map_or (λ place. grant line c t (record m { place = place })) (place_on line m.place.track position) rest k) o (rest k)).state
       by_mission None = good
       by_mission (Some m) = by_place m (place_on line m.place.track position)

@@ -1,12 +1,12 @@
 -- What the laws of each part say, in the form that is wanted of it.
 use Rattle.std.proofs.Common.{◌≡◌, ℕ, Bool, true, None, sym, subst}
 use Rattle.rbc_ledger.specs.Network.{took}
-use Rattle.rbc_spec.specs.Reach.{Reach, hands_over}
 use Rattle.rbc_spec.specs.Line.{Line, IsLine, is_centre}
 use Rattle.rbc_spec.specs.Place.{Position}
 use Rattle.rbc_spec.specs.Message.{TrainBody, Request, Report, ShorteningGranted, EndOfMission, TrainData, ShorteningRejected, InitiationOfSession, TerminationOfSession, StartOfMission, SessionEstablished}
 use Rattle.rbc_spec.specs.Centre.{Centre}
 use Rattle.rbc_spec.specs.Acts.{Act, Reply, yield_if_due}
+use Rattle.rbc_spec.specs.Links.{received}
 use Rattle.rbc_spec.specs.Step as step
 use Rattle.rbc_spec.specs.LineCentre.{LineState, hears}
 use Rattle.rbc_spec.specs.OwnSteps.{Own, Sets, Unsets}
@@ -52,111 +52,111 @@ of_heard line w c t_train t body r v leads = record {
 }
 
 -- whatever the clock of the centre shows
-heard_as : (reach : Reach) (line : Line) → IsLine line → (body : TrainBody) → IsHeardAs reach body → Answers reach line body
-heard_as reach line ok body is_heard w c k v t_train t at_work heard =
-    subst (λ (j : Centre). LeadsFrom line w c (Own line (hears c (message t_train t body) v) c (message t_train t body) body) (step.hear_and_answer reach line c (message t_train t body) j)) at_work.state
-    (of_heard line w c t_train t body (step.hear_and_answer reach line c (message t_train t body) (w.at c)) v
+heard_as : (line : Line) → IsLine line → (body : TrainBody) → IsHeardAs body → Answers line body
+heard_as line ok body is_heard w c k v t_train t at_work heard =
+    subst (λ (j : Centre). LeadsFrom line w c (Own line (hears c (message t_train t body) v) c (message t_train t body) body) (step.hear_and_answer line c (message t_train t body) j)) at_work.state
+    (of_heard line w c t_train t body (step.hear_and_answer line c (message t_train t body) (w.at c)) v
     (is_heard line w v c t_train t (w.at c).clock ok at_work.sound at_work.shows at_work.to
     (subst (λ (j : Centre). step.silence line c j (message t_train t body) ≡ None) (sym at_work.state) heard)))
 
-module _ (reach : Reach) (line : Line) (ok : IsLine line) where
-  pub initiated : Answers reach line InitiationOfSession
-  initiated = heard_as reach line ok InitiationOfSession (λ line w v c t_train t stamp ok sound sees at heard. begins line w v sound sees c t at t_train reach stamp)
+module _ (line : Line) (ok : IsLine line) where
+  pub initiated : Answers line InitiationOfSession
+  initiated = heard_as line ok InitiationOfSession (λ line w v c t_train t stamp ok sound sees at heard. begins line w v sound sees c t at t_train stamp)
 
-  pub terminated : Answers reach line TerminationOfSession
-  terminated = heard_as reach line ok TerminationOfSession (λ line w v c t_train t stamp ok sound sees at heard. ends line w v sound sees c t at t_train reach stamp)
+  pub terminated : Answers line TerminationOfSession
+  terminated = heard_as line ok TerminationOfSession (λ line w v c t_train t stamp ok sound sees at heard. ends line w v sound sees c t at t_train stamp)
 
-  pub session_established : Answers reach line SessionEstablished
-  session_established = heard_as reach line ok SessionEstablished (λ line w v c t_train t stamp ok sound sees at heard. established reach line w v sound sees c t_train t stamp at)
+  pub session_established : Answers line SessionEstablished
+  session_established = heard_as line ok SessionEstablished (λ line w v c t_train t stamp ok sound sees at heard. established line w v sound sees c t_train t stamp at)
 
-  pub started : (is_valid : Bool) (position : Position) → Answers reach line (StartOfMission is_valid position)
-  started is_valid position = heard_as reach line ok (StartOfMission is_valid position)
-      (λ line w v c t_train t stamp ok sound sees at heard. starts reach line w v sound sees c t_train t stamp at is_valid position heard)
+  pub started : (is_valid : Bool) (position : Position) → Answers line (StartOfMission is_valid position)
+  started is_valid position = heard_as line ok (StartOfMission is_valid position)
+      (λ line w v c t_train t stamp ok sound sees at heard. starts line w v sound sees c t_train t stamp at is_valid position heard)
 
-  pub had_data : (position : Position) → Answers reach line (TrainData position)
-  had_data position = heard_as reach line ok (TrainData position) (λ line w v c t_train t stamp ok sound sees at heard. data_heard reach line w v sound sees c t_train t stamp at position heard)
+  pub had_data : (position : Position) → Answers line (TrainData position)
+  had_data position = heard_as line ok (TrainData position) (λ line w v c t_train t stamp ok sound sees at heard. data_heard line w v sound sees c t_train t stamp at position heard)
 
-  pub shortening_rejected : (stamp : ℕ) (position : Position) → Answers reach line (ShorteningRejected stamp position)
-  shortening_rejected asked position = heard_as reach line ok (ShorteningRejected asked position)
-      (λ line w v c t_train t stamp ok sound sees at heard. rejected reach line w v sound sees c t_train t stamp at asked position heard)
+  pub shortening_rejected : (stamp : ℕ) (position : Position) → Answers line (ShorteningRejected stamp position)
+  shortening_rejected asked position = heard_as line ok (ShorteningRejected asked position)
+      (λ line w v c t_train t stamp ok sound sees at heard. rejected line w v sound sees c t_train t stamp at asked position heard)
 
   -- ## An own step, and what follows it
 
   -- whatever leads on behind the own part
   in_parts : (body : TrainBody) (own later : ℕ → ℕ → ℕ → Act) → ((c t_train t : ℕ) → IsOwnStep line c (message t_train t body) (own c t_train t))
-      → ((c t_train t : ℕ) → IsInParts reach line c (message t_train t body) (own c t_train t) (later c t_train t))
-      → ((c t_train t : ℕ) → is_centre line c ≡ true → LeadsOnward line c (later c t_train t)) → Answers reach line body
+      → ((c t_train t : ℕ) → IsInParts line c (message t_train t body) (own c t_train t) (later c t_train t))
+      → ((c t_train t : ℕ) → is_centre line c ≡ true → LeadsOnward line c (later c t_train t)) → Answers line body
   in_parts body own later is_own parts leads w c k v t_train t at_work heard =
-      subst (λ (j : Centre). LeadsFrom line w c (Own line (hears c (message t_train t body) v) c (message t_train t body) body) (step.hear_and_answer reach line c (message t_train t body) j)) at_work.state
-      (of_heard line w c t_train t body (step.hear_and_answer reach line c (message t_train t body) (w.at c)) v
-      (whole_is_heard reach line c (message t_train t body) (own c t_train t) (later c t_train t) (is_own c t_train t) (parts c t_train t) (leads c t_train t at_work.to) w v (w.at c).clock
+      subst (λ (j : Centre). LeadsFrom line w c (Own line (hears c (message t_train t body) v) c (message t_train t body) body) (step.hear_and_answer line c (message t_train t body) j)) at_work.state
+      (of_heard line w c t_train t body (step.hear_and_answer line c (message t_train t body) (w.at c)) v
+      (whole_is_heard line c (message t_train t body) (own c t_train t) (later c t_train t) (is_own c t_train t) (parts c t_train t) (leads c t_train t at_work.to) w v (w.at c).clock
       at_work.sound at_work.shows at_work.to (subst (λ (j : Centre). step.silence line c j (message t_train t body) ≡ None) (sym at_work.state) heard)))
 
   -- a handover that is claimed is yielded behind it, where that is due
   yields_behind : (c t_train t : ℕ) → is_centre line c ≡ true → LeadsOnward line c (yield_if_due line c t)
   yields_behind c t_train t to w v k sound sees is = yields_so line w c t k v ok sound sees to is
 
-  pub reported : (position : Position) → Answers reach line (Report position)
+  pub reported : (position : Position) → Answers line (Report position)
   reported position = in_parts (Report position) (λ c t_train t. own_report line c t position) (λ c t_train t. yield_if_due line c t)
-      (λ c t_train t. report_is_own line ok c t_train t position) (λ c t_train t. report_in_parts reach line c t_train t position) yields_behind
+      (λ c t_train t. report_is_own line ok c t_train t position) (λ c t_train t. report_in_parts line c t_train t position) yields_behind
 
-  pub ended : (position : Position) → Answers reach line (EndOfMission position)
+  pub ended : (position : Position) → Answers line (EndOfMission position)
   ended position = in_parts (EndOfMission position) (λ c t_train t. own_end line c t position) (λ c t_train t. yield_if_due line c t)
-      (λ c t_train t. end_is_own line ok c t_train t position) (λ c t_train t. end_in_parts reach line c t_train t position) yields_behind
+      (λ c t_train t. end_is_own line ok c t_train t position) (λ c t_train t. end_in_parts line c t_train t position) yields_behind
 
-  pub shortening_granted : (stamp : ℕ) (position : Position) → Answers reach line (ShorteningGranted stamp position)
+  pub shortening_granted : (stamp : ℕ) (position : Position) → Answers line (ShorteningGranted stamp position)
   shortening_granted stamp position = in_parts (ShorteningGranted stamp position) (λ c t_train t. own_granted line c t position) (λ c t_train t. yield_if_due line c t)
-      (λ c t_train t. granted_is_own line ok c t_train t position stamp) (λ c t_train t. granted_in_parts reach line c t_train t position stamp) yields_behind
+      (λ c t_train t. granted_is_own line ok c t_train t position stamp) (λ c t_train t. granted_in_parts line c t_train t position stamp) yields_behind
 
   -- where each handover is announced as soon as the border is in the hand
-  pub requested : (position : Position) (w : Flow) (c : ℕ) (k : Centre) (v : LineState) (t_train t : ℕ) → IsAtWork reach line w c k v → (hands_over reach ≡ true → HasAnnounced line c k)
+  pub requested : (position : Position) (w : Flow) (c : ℕ) (k : Centre) (v : LineState) (t_train t : ℕ) → IsAtWork line w c k v → HasAnnounced line c k
       → step.silence line c k (message t_train t (Request position)) ≡ None
       → LeadsFrom line w c (Own line (hears c (message t_train t (Request position)) v) c (message t_train t (Request position)) (Request position))
-      (step.hear_and_answer reach line c (message t_train t (Request position)) k)
+      (step.hear_and_answer line c (message t_train t (Request position)) k)
   requested position w c k v t_train t at_work announced heard =
       subst (λ (j : Centre). LeadsFrom line w c (Own line (hears c (message t_train t (Request position)) v) c (message t_train t (Request position)) (Request position))
-      (step.hear_and_answer reach line c (message t_train t (Request position)) j)) at_work.state
-      (of_heard line w c t_train t (Request position) (step.hear_and_answer reach line c (message t_train t (Request position)) (w.at c)) v
-      (request_heard reach line ok w v at_work.sound at_work.shows c t_train t at_work.to position (λ hands. subst (λ (j : Centre). HasAnnounced line c j) (sym at_work.state) (announced hands))
+      (step.hear_and_answer line c (message t_train t (Request position)) j)) at_work.state
+      (of_heard line w c t_train t (Request position) (step.hear_and_answer line c (message t_train t (Request position)) (w.at c)) v
+      (request_heard line ok w v at_work.sound at_work.shows c t_train t at_work.to position (subst (λ (j : Centre). HasAnnounced line c j) (sym at_work.state) announced)
       (subst (λ (j : Centre). step.silence line c j (message t_train t (Request position)) ≡ None) (sym at_work.state) heard)))
 
   -- ## The interlocking
 
-  pub set_leads_on : (w : Flow) (c s : ℕ) (k : Centre) (v : LineState) → IsAtWork reach line w c k v → LeadsFrom line w c (Sets line v c s) (step.set line c s k)
+  pub set_leads_on : (w : Flow) (c s : ℕ) (k : Centre) (v : LineState) → IsAtWork line w c k v → LeadsFrom line w c (Sets line v c s) (step.set line c s k)
   set_leads_on w c s k v at_work = subst (λ (j : Centre). LeadsFrom line w c (Sets line v c s) (step.set line c s j)) at_work.state (set_leads line w at_work.sound v at_work.shows c s at_work.to)
 
-  pub unset_leads_on : (w : Flow) (c s : ℕ) (k : Centre) (v : LineState) → IsAtWork reach line w c k v → LeadsFrom line w c (Unsets line v c s) (step.unset line c s k)
+  pub unset_leads_on : (w : Flow) (c s : ℕ) (k : Centre) (v : LineState) → IsAtWork line w c k v → LeadsFrom line w c (Unsets line v c s) (step.unset line c s k)
   unset_leads_on w c s k v at_work = subst (λ (j : Centre). LeadsFrom line w c (Unsets line v c s) (step.unset line c s j)) at_work.state (unset_leads line w at_work.sound v at_work.shows c s at_work.to ok)
 
   -- ## Frames
 
   -- whatever the state is called
-  brought : (f : Body) (w : Flow) (a c number : ℕ) (k : Centre) (v : LineState) → IsBrought reach line w a c f k v
-      → Leads line (took w a c) c (step.body_taken reach line c a f (took_frame a number (w.at c))) v → Leads line (took w a c) c (step.body_taken reach line c a f (took_frame a number k)) v
-  brought f w a c number k v brings leads = subst (λ (j : Centre). Leads line (took w a c) c (step.body_taken reach line c a f (took_frame a number j)) v) brings.at_work.state leads
+  brought : (f : Body) (w : Flow) (a c number : ℕ) (k : Centre) (v : LineState) → IsBrought line w a c f k v
+      → Leads line (took w a c) c (received line c a f (took_frame a number (w.at c))) v → Leads line (took w a c) c (received line c a f (took_frame a number k)) v
+  brought f w a c number k v brings leads = subst (λ (j : Centre). Leads line (took w a c) c (received line c a f (took_frame a number j)) v) brings.at_work.state leads
 
-  pub body_leads : (f : Body) → Brings reach line f
+  pub body_leads : (f : Body) → Brings line f
   body_leads (AskRight t) w a c number k v b = brought (AskRight t) w a c number k v b
-      (asked_leads reach line ok w b.at_work.sound v b.at_work.shows a c number b.from b.at_work.to t b.head)
+      (asked_leads line ok w b.at_work.sound v b.at_work.shows a c number b.from b.at_work.to t b.head)
   body_leads (GiveRight t) w a c number k v b = brought (GiveRight t) w a c number k v b
-      (given_leads reach line ok w b.at_work.sound v b.at_work.shows a c number b.from b.at_work.to t b.head)
+      (given_leads line ok w b.at_work.sound v b.at_work.shows a c number b.from b.at_work.to t b.head)
   body_leads (RefuseRight t) w a c number k v b = brought (RefuseRight t) w a c number k v b
-      (refused_leads reach line ok w b.at_work.sound v b.at_work.shows a c number b.from b.at_work.to t b.head)
+      (refused_leads line ok w b.at_work.sound v b.at_work.shows a c number b.from b.at_work.to t b.head)
   body_leads (ReturnRight t) w a c number k v b = brought (ReturnRight t) w a c number k v b
-      (returned_leads reach line ok w b.at_work.sound v b.at_work.shows a c number b.from b.at_work.to t b.head)
+      (returned_leads line ok w b.at_work.sound v b.at_work.shows a c number b.from b.at_work.to t b.head)
   body_leads (RouteAsk t first most) w a c number k v b = brought (RouteAsk t first most) w a c number k v b
-      (lent_leads reach line ok w b.at_work.sound v b.at_work.shows a c number b.from b.at_work.to t first most b.head)
+      (lent_leads line ok w b.at_work.sound v b.at_work.shows a c number b.from b.at_work.to t first most b.head)
   body_leads (RouteInfo t r) w a c number k v b = brought (RouteInfo t r) w a c number k v b
-      (told_leads reach line ok w b.at_work.sound v b.at_work.shows a c number b.from b.at_work.to (ends_of line c a b.linked).1 t r b.head)
+      (told_leads line ok w b.at_work.sound v b.at_work.shows a c number b.from b.at_work.to (ends_of line c a b.linked).1 t r b.head)
   body_leads (RouteWithdraw t s) w a c number k v b = brought (RouteWithdraw t s) w a c number k v b
-      (withdrawn_leads reach line ok w b.at_work.sound v b.at_work.shows a c number b.from b.at_work.to t s b.head)
+      (withdrawn_leads line ok w b.at_work.sound v b.at_work.shows a c number b.from b.at_work.to t s b.head)
   body_leads (RouteReturn t r) w a c number k v b = brought (RouteReturn t r) w a c number k v b
-      (home_leads reach line ok w b.at_work.sound v b.at_work.shows a c number b.from b.at_work.to t r b.head)
+      (home_leads line ok w b.at_work.sound v b.at_work.shows a c number b.from b.at_work.to t r b.head)
   body_leads (Announce h t track) w a c number k v b = brought (Announce h t track) w a c number k v b
-      (announce_leads reach line w v a c h t number (w.at c).clock ok b.at_work.sound b.at_work.within b.at_work.shows b.from b.at_work.to track b.head)
+      (announce_leads line w v a c h t number (w.at c).clock ok b.at_work.sound b.at_work.shows b.from b.at_work.to track b.head)
   body_leads (Cancel h t) w a c number k v b = brought (Cancel h t) w a c number k v b
-      (cancel_leads reach line w v a c h t number (w.at c).clock ok b.at_work.sound b.at_work.within b.at_work.shows b.from b.at_work.to b.head)
+      (cancel_leads line w v a c h t number (w.at c).clock ok b.at_work.sound b.at_work.shows b.from b.at_work.to b.head)
   body_leads (TakingOver h t) w a c number k v b = brought (TakingOver h t) w a c number k v b
-      (claim_body_leads line w v a c h t number (w.at c).clock ok b.at_work.sound b.at_work.shows b.from b.at_work.to b.head reach)
+      (claim_body_leads line w v a c h t number (w.at c).clock ok b.at_work.sound b.at_work.shows b.from b.at_work.to b.head)
   body_leads (Yield h t heard has_data is_ended carried hand) w a c number k v b = brought (Yield h t heard has_data is_ended carried hand) w a c number k v b
-      (yield_leads reach line w v a c h t heard number (w.at c).clock has_data is_ended carried hand ok b.at_work.sound b.at_work.shows b.from b.at_work.to b.head b.at_work.within)
+      (yield_leads line w v a c h t heard number (w.at c).clock has_data is_ended carried hand ok b.at_work.sound b.at_work.shows b.from b.at_work.to b.head)

@@ -1,14 +1,12 @@
 -- A centre's clock, and what it keeps of the links, are not shown.
-use Rattle.std.proofs.Common.{◌≡◌, ℕ, ◌==◌, Bool, true, false, if◌then◌else◌, List, [], ◌∷◌, Option, is_some, refl, sym, ap, ◌∙◌, subst}
-use Rattle.std.proofs.lemmas.List.Elements.{All-nil}
+use Rattle.std.proofs.Common.{◌≡◌, ℕ, ◌==◌, Bool, true, false, if◌then◌else◌, List, [], ◌∷◌, Option, refl, sym, ap, ◌∙◌, subst}
 use Rattle.rbc_ledger.specs.Network.{acted, took, TakesHead}
 use Rattle.rbc_ledger.specs.Resource.{placed}
-use Rattle.rbc_ledger.proofs.Network.{way_acted_none, each_acted}
-use Rattle.rbc_ledger.proofs.Sums.{put_same, put_keeps}
+use Rattle.rbc_ledger.proofs.Network.{way_acted_none}
+use Rattle.rbc_ledger.proofs.Sums.{put_same}
 use Rattle.rbc_ledger.proofs.Resource.{carried_none}
 use Rattle.rbc_flow.specs.Counts.{hands, missions}
 use Rattle.rbc_spec.specs.Maps.{put}
-use Rattle.rbc_spec.specs.Reach.{Reach}
 use Rattle.rbc_spec.specs.Line.{Line, is_centre, is_linked}
 use Rattle.rbc_spec.specs.Frame.{Frame, Body}
 use Rattle.rbc_spec.specs.Centre.{Centre, Phase}
@@ -16,14 +14,12 @@ use Rattle.rbc_spec.specs.LineCentre.{LineState}
 use Rattle.rbc_spec.specs.Acts.{Reply}
 use Rattle.rbc_spec.specs.Step.{ticked}
 use Rattle.rbc_flow.specs.Flow.{Flow}
-use Rattle.rbc_flow.specs.Pairs.{handing_to}
 use Rattle.rbc_flow.specs.Keeping.{nothing_came}
 use Rattle.rbc_flow.specs.Sound.{IsFlowSound}
 use Rattle.rbc_flow.specs.Shows.{Shows}
 use Rattle.rbc_flow.specs.Leads.{replied}
 use Rattle.rbc_flow.proofs.Compose.{acted_twice}
 use Rattle.rbc_flow.proofs.Kept.{aside_sound}
-use Rattle.rbc_pairs.specs.Orderly.{IsHandingWithin, IsHandedWithin}
 use Rattle.rbc_sight.proofs.Acts.{by_itself}
 use Rattle.rbc_sight.proofs.Shows.{unseen_shown, part_stays}
 use Rattle.rbc_whole.proofs.Work.{IsAtWork, IsBrought}
@@ -70,7 +66,7 @@ shows_stamped line w c k frames clock sent taken v sees =
 
 -- ## A step begins with its clock
 
-module _ (reach : Reach) (line : Line) (w : Flow) (c : ℕ) (v : LineState) (stamp : ℕ) (at_work : IsAtWork reach line w c (w.at c) v) where
+module _ (line : Line) (w : Flow) (c : ℕ) (v : LineState) (stamp : ℕ) (at_work : IsAtWork line w c (w.at c) v) where
   abbrev pub k : Centre
   k = ticked stamp (w.at c)
 
@@ -100,16 +96,10 @@ module _ (reach : Reach) (line : Line) (w : Flow) (c : ℕ) (v : LineState) (sta
       (part_stays (Option ℕ) c v.heard k.heard (λ t. at_work.shows.heard t c))
       (part_stays ℕ c v.said k.said (λ t. at_work.shows.said t c))
 
-  begun_within : IsHandingWithin reach begun
-  begun_within = record {
-    centres = λ d e t some. at_work.within.centres d e t (sym (ap is_some (put_keeps (λ j (z : Centre). handing_to e (z.mission t)) w.at c k refl d)) ∙ some);
-    bodies = each_acted (λ a b f. IsHandedWithin reach f) w c k (λ d. []) at_work.sound.counted (λ d. All-nil (IsHandedWithin reach)) at_work.within.bodies;
-  }
+  pub begun_at_work : IsAtWork line begun c k v
+  begun_at_work = record { sound = begun_sound; shows = begun_shown; to = at_work.to; state = put_same w.at c k }
 
-  pub begun_at_work : IsAtWork reach line begun c k v
-  begun_at_work = record { sound = begun_sound; within = begun_within; shows = begun_shown; to = at_work.to; state = put_same w.at c k }
-
-  pub begun_brought : (a : ℕ) (f : Body) → is_centre line a ≡ true → is_linked line c a ≡ true → TakesHead w a c f → IsBrought reach line begun a c f k v
+  pub begun_brought : (a : ℕ) (f : Body) → is_centre line a ≡ true → is_linked line c a ≡ true → TakesHead w a c f → IsBrought line begun a c f k v
   begun_brought a f from linked takes = record {
     at_work = begun_at_work;
     from = from;

@@ -2,7 +2,6 @@
 use Rattle.std.proofs.Common.{◌≡◌, ℕ, Bool, true, false, if◌then◌else◌, List, Option, Some, None, Result, Ok, Err, refl, sym, ap, ◌∙◌, subst}
 use Rattle.std.specs.Option.{option_map_or}
 use Rattle.std.proofs.lemmas.Option.{same_Some}
-use Rattle.rbc_spec.specs.Reach.{Reach}
 use Rattle.rbc_spec.specs.Line.{Line, IsLine, is_centre, is_linked}
 use Rattle.rbc_spec.specs.Message.{TrainMessage}
 use Rattle.rbc_spec.specs.Frame.{Frame}
@@ -25,7 +24,7 @@ use Rattle.rbc_whole.proofs.Silence.{silent_by_clock}
 use Rattle.rbc_whole.proofs.Still.{Met, silent_met, stray_met}
 use Rattle.rbc_whole.proofs.Pieces.{message_met, set_met, unset_met, frame_met}
 
-module _ (reach : Reach) (line : Line) (w : World) (v : LineState) (meets : Meets reach line w v) (IsNew : LineState → Type 0) (stays : IsNew v) where
+module _ (line : Line) (w : World) (v : LineState) (meets : Meets line w v) (IsNew : LineState → Type 0) (stays : IsNew v) where
   -- the one line centre may go on so with this answer, from a state that is as it has to be
   abbrev pub GoesOn : Event → Answer × World → Type 0
   GoesOn event x = (u : LineState) × IsNew u × Goes line v event x.0 u × Shows line (flow_of x.1) u
@@ -47,12 +46,12 @@ module _ (reach : Reach) (line : Line) (w : World) (v : LineState) (meets : Meet
   -- the step of a centre of the line is met so
   abbrev pub MetBy : (c : ℕ) → is_centre line c ≡ true → List ℕ → Event → step.Event → Type 0
   MetBy c to trains event own =
-      (met : Met reach line w v meets c to (stamp_of (w.at c) own) trains event (effect reach line c (step.ticked (stamp_of (w.at c) own) (w.at c)) own)) × IsNew met.0
+      (met : Met line w v meets c to (stamp_of (w.at c) own) trains event (effect line c (step.ticked (stamp_of (w.at c) own) (w.at c)) own)) × IsNew met.0
 
-  takes_goes : (event : Event) (c : ℕ) (to : is_centre line c ≡ true) (trains : List ℕ) (own : step.Event) → MetBy c to trains event own → Leaves event (takes reach line w c trains own)
+  takes_goes : (event : Event) (c : ℕ) (to : is_centre line c ≡ true) (trains : List ℕ) (own : step.Event) → MetBy c to trains event own → Leaves event (takes line w c trains own)
   unfolding step.step
   takes_goes event c to trains own met =
-      stepped_goes event c trains (step.refusal line c (w.at c) own) (step.taken reach line c own (w.at c)) (met.0.0, met.1, met.0.1, met.0.2)
+      stepped_goes event c trains (step.refusal line c (w.at c) own) (step.taken line c own (w.at c)) (met.0.0, met.1, met.0.1, met.0.2)
 
   at_goes : (event : Event) (c : ℕ) (done : Result (Answer × World) Refusal) → (is_centre line c ≡ true → Leaves event done) → (is_centre line c ≡ false → Goes line v event NoCentre v)
       → Leaves event (at_centre line w c done)
@@ -62,108 +61,108 @@ module _ (reach : Reach) (line : Line) (w : World) (v : LineState) (meets : Meet
       chosen true h g = h refl
       chosen false h g = stands_still event NoCentre (g refl)
 
-  pub message_goes : (c : ℕ) (m : TrainMessage) → ((to : is_centre line c ≡ true) → MetBy c to (mention line m.nid_engine w.trains) (Bytes c (Ok m)) (step.Train m)) → Leaves (Bytes c (Ok m)) (world_step reach line w (Bytes c (Ok m)))
+  pub message_goes : (c : ℕ) (m : TrainMessage) → ((to : is_centre line c ≡ true) → MetBy c to (mention line m.nid_engine w.trains) (Bytes c (Ok m)) (step.Train m)) → Leaves (Bytes c (Ok m)) (world_step line w (Bytes c (Ok m)))
   unfolding world_step
   message_goes c m met = at_goes (Bytes c (Ok m)) c _ (λ to. takes_goes (Bytes c (Ok m)) c to (mention line m.nid_engine w.trains) (step.Train m) (met to)) (λ nowhere. (nowhere, refl))
 
-  pub fault_goes : (c number : ℕ) → Leaves (Bytes c (Err number)) (world_step reach line w (Bytes c (Err number)))
+  pub fault_goes : (c number : ℕ) → Leaves (Bytes c (Err number)) (world_step line w (Bytes c (Err number)))
   unfolding world_step
   fault_goes c number = at_goes (Bytes c (Err number)) c _ (λ to. stands_still (Bytes c (Err number)) (Fault number) (to, refl, refl)) (λ nowhere. (nowhere, refl))
 
-  pub set_goes : (c s : ℕ) → ((to : is_centre line c ≡ true) → MetBy c to w.trains (Set c s) (step.Set s)) → Leaves (Set c s) (world_step reach line w (Set c s))
+  pub set_goes : (c s : ℕ) → ((to : is_centre line c ≡ true) → MetBy c to w.trains (Set c s) (step.Set s)) → Leaves (Set c s) (world_step line w (Set c s))
   unfolding world_step
   set_goes c s met = at_goes (Set c s) c _ (λ to. takes_goes (Set c s) c to w.trains (step.Set s) (met to)) (λ nowhere. (nowhere, refl))
 
-  pub unset_goes : (c s : ℕ) → ((to : is_centre line c ≡ true) → MetBy c to w.trains (Unset c s) (step.Unset s)) → Leaves (Unset c s) (world_step reach line w (Unset c s))
+  pub unset_goes : (c s : ℕ) → ((to : is_centre line c ≡ true) → MetBy c to w.trains (Unset c s) (step.Unset s)) → Leaves (Unset c s) (world_step line w (Unset c s))
   unfolding world_step
   unset_goes c s met = at_goes (Unset c s) c _ (λ to. takes_goes (Unset c s) c to w.trains (step.Unset s) (met to)) (λ nowhere. (nowhere, refl))
 
   pub delivery_goes : (a b number : ℕ) → ((f : Frame) → frame_sent w a b number ≡ Some f → (to : is_centre line b ≡ true) → MetBy b to w.trains (Delivery a b number) (step.Deliver a f))
-      → Leaves (Delivery a b number) (world_step reach line w (Delivery a b number))
+      → Leaves (Delivery a b number) (world_step line w (Delivery a b number))
   unfolding world_step
   delivery_goes a b number met = by_frame (frame_sent w a b number) refl
     where
-      by_frame : (o : Option Frame) → frame_sent w a b number ≡ o → Leaves (Delivery a b number) (option_map_or (λ f. takes reach line w b w.trains (step.Deliver a f)) o (Ok (NotSent, w)))
+      by_frame : (o : Option Frame) → frame_sent w a b number ≡ o → Leaves (Delivery a b number) (option_map_or (λ f. takes line w b w.trains (step.Deliver a f)) o (Ok (NotSent, w)))
       by_frame None sent = stands_still (Delivery a b number) NotSent refl
       by_frame (Some f) sent = let to = (sent_between line w meets.sound.flow a b number f sent).1 in takes_goes (Delivery a b number) b to w.trains (step.Deliver a f) (met f sent to)
 
 -- ## What leads nowhere
 
-module _ (reach : Reach) (line : Line) (ok : IsLine line) (w : World) (v : LineState) (meets : Meets reach line w v) where
+module _ (line : Line) (ok : IsLine line) (w : World) (v : LineState) (meets : Meets line w v) where
   abbrev IsStill : LineState → Type 0
   IsStill u = u ≡ v
 
-  stays_with : (event : Event) → Leaves reach line w v meets IsStill refl event (world_step reach line w event) → StaysWith reach line w v event
+  stays_with : (event : Event) → Leaves line w v meets IsStill refl event (world_step line w event) → StaysWith line w v event
   stays_with event leaves answer new is = let went = leaves answer new is in
-      subst (λ (u : LineState). Goes line v event answer u × Meets reach line new u) went.1
-      (went.2, record { sound = world_step_sound reach line ok w meets.sound event answer new is; shows = went.3 })
+      subst (λ (u : LineState). Goes line v event answer u × Meets line new u) went.1
+      (went.2, record { sound = world_step_sound line ok w meets.sound event answer new is; shows = went.3 })
 
-  pub silent_stays : (c : ℕ) (m : TrainMessage) (why : Reason) → step.silence line c (w.at c) m ≡ Some why → StaysWith reach line w v (Bytes c (Ok m))
-  silent_stays c m why is = stays_with (Bytes c (Ok m)) (message_goes reach line w v meets IsStill refl c m met)
+  pub silent_stays : (c : ℕ) (m : TrainMessage) (why : Reason) → step.silence line c (w.at c) m ≡ Some why → StaysWith line w v (Bytes c (Ok m))
+  silent_stays c m why is = stays_with (Bytes c (Ok m)) (message_goes line w v meets IsStill refl c m met)
     where
       stamp : ℕ
       stamp = stamp_of (w.at c) (step.Train m)
 
-      met : (to : is_centre line c ≡ true) → MetBy reach line w v meets IsStill refl c to (mention line m.nid_engine w.trains) (Bytes c (Ok m)) (step.Train m)
+      met : (to : is_centre line c ≡ true) → MetBy line w v meets IsStill refl c to (mention line m.nid_engine w.trains) (Bytes c (Ok m)) (step.Train m)
       met to = subst
-          (λ (o : Option Reason). (x : Met reach line w v meets c to stamp (mention line m.nid_engine w.trains) (Bytes c (Ok m)) (option_map_or {U = Effect}
+          (λ (o : Option Reason). (x : Met line w v meets c to stamp (mention line m.nid_engine w.trains) (Bytes c (Ok m)) (option_map_or {U = Effect}
           (λ why. record { reply = rest (step.ticked stamp (w.at c)); link = None; silence = Some why }) o
-          (record { reply = step.hear_and_answer reach line c m (step.ticked stamp (w.at c)); link = None; silence = None }))) × IsStill x.0)
+          (record { reply = step.hear_and_answer line c m (step.ticked stamp (w.at c)); link = None; silence = None }))) × IsStill x.0)
           (sym (silent_by_clock line c stamp (w.at c) m ∙ is))
-          (let stays = silent_met reach line w v meets c to stamp (mention line m.nid_engine w.trains) m why (silent_by_clock line c stamp (w.at c) m ∙ is) in ((v, stays.0, stays.1), refl))
+          (let stays = silent_met line w v meets c to stamp (mention line m.nid_engine w.trains) m why (silent_by_clock line c stamp (w.at c) m ∙ is) in ((v, stays.0, stays.1), refl))
 
-  pub stray_stays : (a b number : ℕ) (f : Frame) → frame_sent w a b number ≡ Some f → (link_answer line b (w.at b) a f ≡ Next → ⊥) → StaysWith reach line w v (Delivery a b number)
-  stray_stays a b number f sent stray = stays_with (Delivery a b number) (delivery_goes reach line w v meets IsStill refl a b number met)
+  pub stray_stays : (a b number : ℕ) (f : Frame) → frame_sent w a b number ≡ Some f → (link_answer line b (w.at b) a f ≡ Next → ⊥) → StaysWith line w v (Delivery a b number)
+  stray_stays a b number f sent stray = stays_with (Delivery a b number) (delivery_goes line w v meets IsStill refl a b number met)
     where
-      met : (g : Frame) → frame_sent w a b number ≡ Some g → (to : is_centre line b ≡ true) → MetBy reach line w v meets IsStill refl b to w.trains (Delivery a b number) (step.Deliver a g)
+      met : (g : Frame) → frame_sent w a b number ≡ Some g → (to : is_centre line b ≡ true) → MetBy line w v meets IsStill refl b to w.trains (Delivery a b number) (step.Deliver a g)
       met g there to = by_answer (link_answer line b (w.at b) a g) refl
         where
           stamp : ℕ
           stamp = stamp_of (w.at b) (step.Deliver a g)
 
           by_answer : (o : outcome.Taken) → link_answer line b (w.at b) a g ≡ o
-              → (x : Met reach line w v meets b to stamp w.trains (Delivery a b number) (record { reply = taken_by reach line b a g o (step.ticked stamp (w.at b)); link = Some o; silence = None })) × IsStill x.0
+              → (x : Met line w v meets b to stamp w.trains (Delivery a b number) (record { reply = taken_by line b a g o (step.ticked stamp (w.at b)); link = Some o; silence = None })) × IsStill x.0
           by_answer Next is = absurd (stray (ap (link_answer line b (w.at b) a) (same_Some f g (sym sent ∙ there)) ∙ is))
-          by_answer Old is = let stays = stray_met reach line w v meets b to stamp w.trains a number g Old refl in ((v, stays.0, stays.1), refl)
-          by_answer Early is = let stays = stray_met reach line w v meets b to stamp w.trains a number g Early refl in ((v, stays.0, stays.1), refl)
-          by_answer NoLink is = let stays = stray_met reach line w v meets b to stamp w.trains a number g NoLink refl in ((v, stays.0, stays.1), refl)
+          by_answer Old is = let stays = stray_met line w v meets b to stamp w.trains a number g Old refl in ((v, stays.0, stays.1), refl)
+          by_answer Early is = let stays = stray_met line w v meets b to stamp w.trains a number g Early refl in ((v, stays.0, stays.1), refl)
+          by_answer NoLink is = let stays = stray_met line w v meets b to stamp w.trains a number g NoLink refl in ((v, stays.0, stays.1), refl)
 
-  pub fault_stays : (c number : ℕ) → StaysWith reach line w v (Bytes c (Err number))
-  fault_stays c number = stays_with (Bytes c (Err number)) (fault_goes reach line w v meets IsStill refl c number)
+  pub fault_stays : (c number : ℕ) → StaysWith line w v (Bytes c (Err number))
+  fault_stays c number = stays_with (Bytes c (Err number)) (fault_goes line w v meets IsStill refl c number)
 
   -- at a centre that is not of the line, and of a frame never sent
-  pub nowhere_stays : (event : Event) → is_centre line (centre_of event) ≡ false → StaysWith reach line w v event
-  nowhere_stays (Bytes c (Ok m)) away = stays_with (Bytes c (Ok m)) (message_goes reach line w v meets IsStill refl c m (λ to. let wrong : true ≡ false = sym to ∙ away in cc))
+  pub nowhere_stays : (event : Event) → is_centre line (centre_of event) ≡ false → StaysWith line w v event
+  nowhere_stays (Bytes c (Ok m)) away = stays_with (Bytes c (Ok m)) (message_goes line w v meets IsStill refl c m (λ to. let wrong : true ≡ false = sym to ∙ away in cc))
   nowhere_stays (Bytes c (Err number)) away = fault_stays c number
-  nowhere_stays (Set c s) away = stays_with (Set c s) (set_goes reach line w v meets IsStill refl c s (λ to. let wrong : true ≡ false = sym to ∙ away in cc))
-  nowhere_stays (Unset c s) away = stays_with (Unset c s) (unset_goes reach line w v meets IsStill refl c s (λ to. let wrong : true ≡ false = sym to ∙ away in cc))
-  nowhere_stays (Delivery a b number) away = stays_with (Delivery a b number) (delivery_goes reach line w v meets IsStill refl a b number (λ f sent to. let wrong : true ≡ false = sym to ∙ away in cc))
+  nowhere_stays (Set c s) away = stays_with (Set c s) (set_goes line w v meets IsStill refl c s (λ to. let wrong : true ≡ false = sym to ∙ away in cc))
+  nowhere_stays (Unset c s) away = stays_with (Unset c s) (unset_goes line w v meets IsStill refl c s (λ to. let wrong : true ≡ false = sym to ∙ away in cc))
+  nowhere_stays (Delivery a b number) away = stays_with (Delivery a b number) (delivery_goes line w v meets IsStill refl a b number (λ f sent to. let wrong : true ≡ false = sym to ∙ away in cc))
 
-  pub unsent_stays : (a b number : ℕ) → frame_sent w a b number ≡ None → StaysWith reach line w v (Delivery a b number)
-  unsent_stays a b number none = stays_with (Delivery a b number) (delivery_goes reach line w v meets IsStill refl a b number (λ f sent to. let wrong : None ≡ Some f = sym none ∙ sent in cc))
+  pub unsent_stays : (a b number : ℕ) → frame_sent w a b number ≡ None → StaysWith line w v (Delivery a b number)
+  unsent_stays a b number none = stays_with (Delivery a b number) (delivery_goes line w v meets IsStill refl a b number (λ f sent to. let wrong : None ≡ Some f = sym none ∙ sent in cc))
 
 -- ## Every event
 
-module _ (reach : Reach) (line : Line) (ok : IsLine line) (w : World) (v : LineState) (meets : Meets reach line w v) (announced : IsAnnounced reach line w) where
+module _ (line : Line) (ok : IsLine line) (w : World) (v : LineState) (meets : Meets line w v) (announced : IsAnnounced line w) where
   abbrev Anything : LineState → Type 0
   Anything u = Unit {0}
 
-  event_goes : (event : Event) → Leaves reach line w v meets Anything tt event (world_step reach line w event)
-  event_goes (Bytes c (Ok m)) = message_goes reach line w v meets Anything tt c m
-      (λ to. (message_met reach line ok w v meets c to (announced c to) (stamp_of (w.at c) (step.Train m)) (mention line m.nid_engine w.trains) m, tt))
-  event_goes (Bytes c (Err number)) = fault_goes reach line w v meets Anything tt c number
-  event_goes (Set c s) = set_goes reach line w v meets Anything tt c s (λ to. (set_met reach line ok w v meets c to (announced c to) (stamp_of (w.at c) (step.Set s)) w.trains s, tt))
-  event_goes (Unset c s) = unset_goes reach line w v meets Anything tt c s (λ to. (unset_met reach line ok w v meets c to (announced c to) (stamp_of (w.at c) (step.Unset s)) w.trains s, tt))
-  event_goes (Delivery a b number) = delivery_goes reach line w v meets Anything tt a b number
+  event_goes : (event : Event) → Leaves line w v meets Anything tt event (world_step line w event)
+  event_goes (Bytes c (Ok m)) = message_goes line w v meets Anything tt c m
+      (λ to. (message_met line ok w v meets c to (announced c to) (stamp_of (w.at c) (step.Train m)) (mention line m.nid_engine w.trains) m, tt))
+  event_goes (Bytes c (Err number)) = fault_goes line w v meets Anything tt c number
+  event_goes (Set c s) = set_goes line w v meets Anything tt c s (λ to. (set_met line ok w v meets c to (announced c to) (stamp_of (w.at c) (step.Set s)) w.trains s, tt))
+  event_goes (Unset c s) = unset_goes line w v meets Anything tt c s (λ to. (unset_met line ok w v meets c to (announced c to) (stamp_of (w.at c) (step.Unset s)) w.trains s, tt))
+  event_goes (Delivery a b number) = delivery_goes line w v meets Anything tt a b number
       (λ f sent to. (
-        frame_met reach line ok w v meets b to (announced b to) (stamp_of (w.at b) (step.Deliver a f)) w.trains a number f (sent_between line w meets.sound.flow a b number f sent).0
+        frame_met line ok w v meets b to (announced b to) (stamp_of (w.at b) (step.Deliver a f)) w.trains a number f (sent_between line w meets.sound.flow a b number f sent).0
             (λ next. next_sent w meets.sound.numbered a b number f sent (linked_next (is_linked line b a) ((w.at b).taken a) f.number next).1),
         tt,
       ))
 
   -- whatever happens, the one line centre goes on so, and shows the new world
-  pub each_event_goes : (event : Event) (answer : Answer) (new : World) → world_step reach line w event ≡ Ok (answer, new)
-      → (u : LineState) × Goes line v event answer u × Meets reach line new u
+  pub each_event_goes : (event : Event) (answer : Answer) (new : World) → world_step line w event ≡ Ok (answer, new)
+      → (u : LineState) × Goes line v event answer u × Meets line new u
   each_event_goes event answer new is =
       let goes = event_goes event answer new is in
-      (goes.0, goes.2, record { sound = world_step_sound reach line ok w meets.sound event answer new is; shows = goes.3 })
+      (goes.0, goes.2, record { sound = world_step_sound line ok w meets.sound event answer new is; shows = goes.3 })

@@ -1,8 +1,7 @@
--- What a step tells the interlocking it tells by the order of sections, at every reach.
+-- What a step tells the interlocking it tells by the order of sections.
 use Rattle.std.proofs.Common.{ℕ, ◌+◌, Bool, true, false, not, ◌&&◌, if◌then◌else◌, Option, Some, None, is_none, is_some, nat_lt, nat_le, length, ◌*◌, refl, sym, ap, subst, ◌∙◌, List, ◌++◌, append-nil}
 use Rattle.std.specs.Option.{option_map_or}
 use Rattle.rbc_spec.specs.Maps.{put}
-use Rattle.rbc_spec.specs.Reach.{Reach, follows_rule}
 use Rattle.rbc_spec.specs.SectionRuns.{SectionRun, all_of, within, no_run, is_empty, part_before}
 use Rattle.rbc_spec.specs.Line.{Line, section, end, is_home}
 use Rattle.rbc_spec.specs.Place.{Position, covered, place_on}
@@ -81,18 +80,18 @@ module _ (line : Line) (c t : ℕ) where
       (quiet rest (record { each = λ k. refl })))) (yield_if_silent line c t)
 
 module _ (line : Line) (c : ℕ) where
-  answered_in_order : (reach : Reach) (m : TrainMessage) (body : TrainBody) → IsOrdered (answered reach line c m body)
-  answered_in_order reach m (TrainData position) = quiet _ (both _ _ (record { each = λ k. refl }) (record { each = λ k. refl }))
-  answered_in_order reach m (Request position) = quiet _ (request_silent line c m.nid_engine reach position)
-  answered_in_order reach m (Report position) = report_in_order line c m.nid_engine position
-  answered_in_order reach m (ShorteningGranted stamp position) = of_some TellsInOrder none_in_order _ _
+  answered_in_order : (m : TrainMessage) (body : TrainBody) → IsOrdered (answered line c m body)
+  answered_in_order m (TrainData position) = quiet _ (both _ _ (record { each = λ k. refl }) (record { each = λ k. refl }))
+  answered_in_order m (Request position) = quiet _ (request_silent line c m.nid_engine position)
+  answered_in_order m (Report position) = report_in_order line c m.nid_engine position
+  answered_in_order m (ShorteningGranted stamp position) = of_some TellsInOrder none_in_order _ _
       (λ n. of_some TellsInOrder none_in_order (λ k. n.proposal) _ (λ p. granted_in_order line c m.nid_engine position n p))
-  answered_in_order reach m (ShorteningRejected stamp position) = quiet _ (record { each = λ k. refl })
-  answered_in_order reach m (EndOfMission position) = end_in_order line c m.nid_engine position
-  answered_in_order reach m InitiationOfSession = then_none _ _ (then_none _ _ (close_session_in_order line c m.nid_engine) (record { each = λ k. refl })) (record { each = λ k. refl })
-  answered_in_order reach m TerminationOfSession = then_none _ _ (close_session_in_order line c m.nid_engine) (record { each = λ k. refl })
-  answered_in_order reach m (StartOfMission is_valid position) = quiet _ (start_silent line c m.nid_engine reach is_valid position)
-  answered_in_order reach m SessionEstablished = quiet _ (record { each = λ k. refl })
+  answered_in_order m (ShorteningRejected stamp position) = quiet _ (record { each = λ k. refl })
+  answered_in_order m (EndOfMission position) = end_in_order line c m.nid_engine position
+  answered_in_order m InitiationOfSession = then_none _ _ (then_none _ _ (close_session_in_order line c m.nid_engine) (record { each = λ k. refl })) (record { each = λ k. refl })
+  answered_in_order m TerminationOfSession = then_none _ _ (close_session_in_order line c m.nid_engine) (record { each = λ k. refl })
+  answered_in_order m (StartOfMission is_valid position) = quiet _ (start_silent line c m.nid_engine is_valid position)
+  answered_in_order m SessionEstablished = quiet _ (record { each = λ k. refl })
 
   trains : (t : ℕ) (act : Act) → IsOrdered act → IsOrdered (of_train line t act)
   trains t act tells = branch TellsInOrder none_in_order (is_train line t) act rest tells (quiet rest (record { each = λ k. refl }))
@@ -154,23 +153,23 @@ module _ (line : Line) (c : ℕ) where
 
   -- ## A step
 
-  message_in_order : (reach : Reach) (m : TrainMessage) (k : Centre) (o : Option Reason) → TellsInOrder (option_map_or {U = step.Effect} (λ why. record { reply = rest k; link = None; silence = Some why }) o
-      (record { reply = hear_and_answer reach line c m k; link = None; silence = None })).reply.words
-  message_in_order reach m k (Some why) = none_in_order
-  message_in_order reach m k None = (none_then _ _ (record { each = λ j. refl }) (answered_in_order reach m m.body)).each k
+  message_in_order : (m : TrainMessage) (k : Centre) (o : Option Reason) → TellsInOrder (option_map_or {U = step.Effect} (λ why. record { reply = rest k; link = None; silence = Some why }) o
+      (record { reply = hear_and_answer line c m k; link = None; silence = None })).reply.words
+  message_in_order m k (Some why) = none_in_order
+  message_in_order m k None = (none_then _ _ (record { each = λ j. refl }) (answered_in_order m m.body)).each k
 
-  frame_in_order : (reach : Reach) (d : ℕ) (f : Frame) (answer : outcome.Taken) (k : Centre) → TellsInOrder (taken_by reach line c d f answer k).words
+  frame_in_order : (d : ℕ) (f : Frame) (answer : outcome.Taken) (k : Centre) → TellsInOrder (taken_by line c d f answer k).words
   unfolding ◌>>◌
-  frame_in_order reach d f Next k = (branch TellsInOrder none_in_order (follows_rule reach f.body) _ _ (received_in_order d f.body) (quiet rest (record { each = λ j. refl }))).each (record k { taken = put k.taken d f.number })
-  frame_in_order reach d f Old k = none_in_order
-  frame_in_order reach d f Early k = none_in_order
-  frame_in_order reach d f NoLink k = none_in_order
+  frame_in_order d f Next k = (received_in_order d f.body).each (record k { taken = put k.taken d f.number })
+  frame_in_order d f Old k = none_in_order
+  frame_in_order d f Early k = none_in_order
+  frame_in_order d f NoLink k = none_in_order
 
-  pub effect_in_order : (reach : Reach) (k : Centre) (event : step.Event) → TellsInOrder (effect reach line c k event).reply.words
-  effect_in_order reach k (Train m) = message_in_order reach m k (step.silence line c k m)
-  effect_in_order reach k (step.Set s) = (set_in_order s).each k
-  effect_in_order reach k (step.Unset s) = (unset_in_order s).each k
-  effect_in_order reach k (step.Deliver d f) = frame_in_order reach d f (link_answer line c k d f) k
+  pub effect_in_order : (k : Centre) (event : step.Event) → TellsInOrder (effect line c k event).reply.words
+  effect_in_order k (Train m) = message_in_order m k (step.silence line c k m)
+  effect_in_order k (step.Set s) = (set_in_order s).each k
+  effect_in_order k (step.Unset s) = (unset_in_order s).each k
+  effect_in_order k (step.Deliver d f) = frame_in_order d f (link_answer line c k d f) k
 
-  pub step_in_order : (reach : Reach) (event : step.Event) (k : Centre) → TellsInOrder (taken reach line c event k).0.words
-  step_in_order reach event k = effect_in_order reach (step.ticked (step.stamp_of k event) k) event
+  pub step_in_order : (event : step.Event) (k : Centre) → TellsInOrder (taken line c event k).0.words
+  step_in_order event k = effect_in_order (step.ticked (step.stamp_of k event) k) event

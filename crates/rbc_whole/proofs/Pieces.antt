@@ -6,7 +6,6 @@ use Rattle.std.proofs.lemmas.Option.{same_Some}
 use Rattle.std.specs.Option.{option_map_or}
 use Rattle.rbc_ledger.specs.Network.{took, TakesHead}
 use Rattle.rbc_spec.specs.Maps.{put}
-use Rattle.rbc_spec.specs.Reach.{Reach, hands_over}
 use Rattle.rbc_spec.specs.Line.{Line, IsLine, is_centre, is_linked}
 use Rattle.rbc_spec.specs.Place.{Position, place_on}
 use Rattle.rbc_spec.specs.Message.{TrainMessage, TrainBody, TrainData, Request, Report, ShorteningGranted, ShorteningRejected, EndOfMission, InitiationOfSession, TerminationOfSession, StartOfMission, SessionEstablished}
@@ -18,6 +17,7 @@ use Rattle.rbc_spec.specs.Acts.{rest, ◌>>◌}
 use Rattle.rbc_spec.specs.LineCentre.{LineState, LineMission, Said, nothing, hears, is_at, supervises}
 use Rattle.rbc_spec.specs.OwnSteps.{Own, Sets, Unsets, SaysNothing, Reports, track_of}
 use Rattle.rbc_spec.specs.Quiet.{is_of_centre}
+use Rattle.rbc_spec.specs.Links.{received}
 use Rattle.rbc_spec.specs.Step as step
 use Rattle.rbc_spec.specs.Step.{Effect, effect, outcome_of, state_after, link_answer, taken_by}
 use Rattle.rbc_spec.specs.World.{World, Event, Bytes, Set, Unset, Delivery, centre_of}
@@ -89,19 +89,19 @@ module _ (line : Line) (v : LineState) (c t_train t : ℕ) (said : Said) (mid : 
 
 -- ## A step
 
-module _ (reach : Reach) (line : Line) (ok : IsLine line) (w : World) (v : LineState) (meets : Meets reach line w v) (c : ℕ) (to : is_centre line c ≡ true)
-    (announced : hands_over reach ≡ true → HasAnnounced line c (w.at c)) (stamp : ℕ) (trains : List ℕ) where
+module _ (line : Line) (ok : IsLine line) (w : World) (v : LineState) (meets : Meets line w v) (c : ℕ) (to : is_centre line c ≡ true)
+    (announced : HasAnnounced line c (w.at c)) (stamp : ℕ) (trains : List ℕ) where
   abbrev k : Centre
   k = step.ticked stamp (w.at c)
 
-  abbrev work : IsAtWork reach line (flow_of w) c (w.at c) v
-  work = at_work reach line w v meets c to stamp trains
+  abbrev work : IsAtWork line (flow_of w) c (w.at c) v
+  work = at_work line w v meets c to stamp trains
 
   abbrev ticking : Flow
-  ticking = begun reach line (flow_of w) c v stamp work
+  ticking = begun line (flow_of w) c v stamp work
 
   abbrev MetSo : Event → Effect → Type 0
-  MetSo event e = Met reach line w v meets c to stamp trains event e
+  MetSo event e = Met line w v meets c to stamp trains event e
 
   -- a step whose first part is an own step
   own_met : (event : Event) (e : Effect) (Owns : Said → LineState → Type 0) → ((said : Said) (mid : LineState) → Owns said mid → OwnStep line v event said mid None) → centre_of event ≡ c
@@ -121,26 +121,26 @@ module _ (reach : Reach) (line : Line) (ok : IsLine line) (w : World) (v : LineS
       in_order = order;
       says = λ i. record { said = h.says i; silence = answered i };
     },
-    shown_behind reach line w v meets c to stamp trains e h.new still (subst (λ (f : Flow). Shows line f h.new) (begun_replied reach line (flow_of w) c v stamp work e.reply) h.shows),
+    shown_behind line w v meets c to stamp trains e h.new still (subst (λ (f : Flow). Shows line f h.new) (begun_replied line (flow_of w) c v stamp work e.reply) h.shows),
   )
 
   -- ## A message
 
   abbrev of_silence : TrainMessage → Option Reason → Effect
-  of_silence m o = option_map_or {U = Effect} (λ why. record { reply = rest k; link = None; silence = Some why }) o (record { reply = step.hear_and_answer reach line c m k; link = None; silence = None })
+  of_silence m o = option_map_or {U = Effect} (λ why. record { reply = rest k; link = None; silence = Some why }) o (record { reply = step.hear_and_answer line c m k; link = None; silence = None })
 
   answers : (t_train t : ℕ) (body : TrainBody) → step.silence line c k (message t_train t body) ≡ None
-      → LeadsFrom line ticking c (Own line (hears c (message t_train t body) v) c (message t_train t body) body) (step.hear_and_answer reach line c (message t_train t body) k)
-  answers t_train t InitiationOfSession = initiated reach line ok ticking c k v t_train t (begun_at_work reach line (flow_of w) c v stamp work)
-  answers t_train t TerminationOfSession = terminated reach line ok ticking c k v t_train t (begun_at_work reach line (flow_of w) c v stamp work)
-  answers t_train t SessionEstablished = session_established reach line ok ticking c k v t_train t (begun_at_work reach line (flow_of w) c v stamp work)
-  answers t_train t (StartOfMission is_valid position) = started reach line ok is_valid position ticking c k v t_train t (begun_at_work reach line (flow_of w) c v stamp work)
-  answers t_train t (TrainData position) = had_data reach line ok position ticking c k v t_train t (begun_at_work reach line (flow_of w) c v stamp work)
-  answers t_train t (Request position) = requested reach line ok position ticking c k v t_train t (begun_at_work reach line (flow_of w) c v stamp work) announced
-  answers t_train t (Report position) = reported reach line ok position ticking c k v t_train t (begun_at_work reach line (flow_of w) c v stamp work)
-  answers t_train t (ShorteningGranted s position) = shortening_granted reach line ok s position ticking c k v t_train t (begun_at_work reach line (flow_of w) c v stamp work)
-  answers t_train t (ShorteningRejected s position) = shortening_rejected reach line ok s position ticking c k v t_train t (begun_at_work reach line (flow_of w) c v stamp work)
-  answers t_train t (EndOfMission position) = ended reach line ok position ticking c k v t_train t (begun_at_work reach line (flow_of w) c v stamp work)
+      → LeadsFrom line ticking c (Own line (hears c (message t_train t body) v) c (message t_train t body) body) (step.hear_and_answer line c (message t_train t body) k)
+  answers t_train t InitiationOfSession = initiated line ok ticking c k v t_train t (begun_at_work line (flow_of w) c v stamp work)
+  answers t_train t TerminationOfSession = terminated line ok ticking c k v t_train t (begun_at_work line (flow_of w) c v stamp work)
+  answers t_train t SessionEstablished = session_established line ok ticking c k v t_train t (begun_at_work line (flow_of w) c v stamp work)
+  answers t_train t (StartOfMission is_valid position) = started line ok is_valid position ticking c k v t_train t (begun_at_work line (flow_of w) c v stamp work)
+  answers t_train t (TrainData position) = had_data line ok position ticking c k v t_train t (begun_at_work line (flow_of w) c v stamp work)
+  answers t_train t (Request position) = requested line ok position ticking c k v t_train t (begun_at_work line (flow_of w) c v stamp work) announced
+  answers t_train t (Report position) = reported line ok position ticking c k v t_train t (begun_at_work line (flow_of w) c v stamp work)
+  answers t_train t (ShorteningGranted s position) = shortening_granted line ok s position ticking c k v t_train t (begun_at_work line (flow_of w) c v stamp work)
+  answers t_train t (ShorteningRejected s position) = shortening_rejected line ok s position ticking c k v t_train t (begun_at_work line (flow_of w) c v stamp work)
+  answers t_train t (EndOfMission position) = ended line ok position ticking c k v t_train t (begun_at_work line (flow_of w) c v stamp work)
 
   -- the own step of a message that a centre answers
   hears_or_listens : (m : TrainMessage) → step.silence line c k m ≡ None → (said : Said) (mid : LineState) → Own line (hears c m v) c m m.body said mid → Steps line v c m said mid None
@@ -151,47 +151,47 @@ module _ (reach : Reach) (line : Line) (ok : IsLine line) (w : World) (v : LineS
 
   by_silence : (m : TrainMessage) (o : Option Reason) → step.silence line c k m ≡ o → (of_silence m o).reply.state.taken ≡ (w.at c).taken → TellsInOrder (of_silence m o).reply.words
       → MetSo (Bytes c (Ok m)) (of_silence m o)
-  by_silence m (Some why) is still order = let stays = silent_met reach line w v meets c to stamp trains m why is in (v, stays.0, stays.1)
+  by_silence m (Some why) is still order = let stays = silent_met line w v meets c to stamp trains m why is in (v, stays.0, stays.1)
   by_silence m None is still order =
       own_met (Bytes c (Ok m)) (of_silence m None) (Own line (hears c m v) c m m.body) (λ said mid own. (to, hears_or_listens m is said mid own)) refl refl still order (answers m.t_train m.nid_engine m.body is)
 
-  pub message_met : (m : TrainMessage) → MetSo (Bytes c (Ok m)) (effect reach line c k (step.Train m))
-  message_met m = by_silence m (step.silence line c k m) refl (train_keeps line c reach m k) (effect_in_order line c reach k (step.Train m))
+  pub message_met : (m : TrainMessage) → MetSo (Bytes c (Ok m)) (effect line c k (step.Train m))
+  message_met m = by_silence m (step.silence line c k m) refl (train_keeps line c m k) (effect_in_order line c k (step.Train m))
 
   -- ## The interlocking
 
-  pub set_met : (s : ℕ) → MetSo (Set c s) (effect reach line c k (step.Set s))
-  set_met s = own_met (Set c s) (effect reach line c k (step.Set s)) (Sets line v c s) (λ said mid own. (to, own, refl)) refl refl ((set_keeps line c s).each k)
-      (effect_in_order line c reach k (step.Set s)) (set_leads_on reach line ok ticking c s k v (begun_at_work reach line (flow_of w) c v stamp work))
+  pub set_met : (s : ℕ) → MetSo (Set c s) (effect line c k (step.Set s))
+  set_met s = own_met (Set c s) (effect line c k (step.Set s)) (Sets line v c s) (λ said mid own. (to, own, refl)) refl refl ((set_keeps line c s).each k)
+      (effect_in_order line c k (step.Set s)) (set_leads_on line ok ticking c s k v (begun_at_work line (flow_of w) c v stamp work))
 
-  pub unset_met : (s : ℕ) → MetSo (Unset c s) (effect reach line c k (step.Unset s))
-  unset_met s = own_met (Unset c s) (effect reach line c k (step.Unset s)) (Unsets line v c s) (λ said mid own. (to, own, refl)) refl refl ((unset_keeps line c s).each k)
-      (effect_in_order line c reach k (step.Unset s)) (unset_leads_on reach line ok ticking c s k v (begun_at_work reach line (flow_of w) c v stamp work))
+  pub unset_met : (s : ℕ) → MetSo (Unset c s) (effect line c k (step.Unset s))
+  unset_met s = own_met (Unset c s) (effect line c k (step.Unset s)) (Unsets line v c s) (λ said mid own. (to, own, refl)) refl refl ((unset_keeps line c s).each k)
+      (effect_in_order line c k (step.Unset s)) (unset_leads_on line ok ticking c s k v (begun_at_work line (flow_of w) c v stamp work))
 
   -- ## A frame
 
   module _ (a number : ℕ) (f : Frame) (from : is_centre line a ≡ true) (head : link_answer line c (w.at c) a f ≡ Next → TakesHead (flow_of w) a c f.body) where
     abbrev of_answer : outcome.Taken → Effect
-    of_answer o = record { reply = taken_by reach line c a f o k; link = Some o; silence = None }
+    of_answer o = record { reply = taken_by line c a f o k; link = Some o; silence = None }
 
-    next_reply : taken_by reach line c a f Next k ≡ step.body_taken reach line c a f.body (took_frame a f.number k)
+    next_reply : taken_by line c a f Next k ≡ received line c a f.body (took_frame a f.number k)
     unfolding ◌>>◌
     next_reply = refl
 
-    next_follows : link_answer line c (w.at c) a f ≡ Next → Leads line (took ticking a c) c (taken_by reach line c a f Next k) v
+    next_follows : link_answer line c (w.at c) a f ≡ Next → Leads line (took ticking a c) c (taken_by line c a f Next k) v
     next_follows is = subst (λ (r : _). Leads line (took ticking a c) c r v) (sym next_reply)
-        (body_leads reach line ok f.body ticking a c f.number k v
-        (begun_brought reach line (flow_of w) c v stamp work a f.body from (linked_next (is_linked line c a) ((w.at c).taken a) f.number is).0 (head is)))
+        (body_leads line ok f.body ticking a c f.number k v
+        (begun_brought line (flow_of w) c v stamp work a f.body from (linked_next (is_linked line c a) ((w.at c).taken a) f.number is).0 (head is)))
 
     -- quiet steps alone
-    frame_piece : (o : outcome.Taken) (h : Leads line (took ticking a c) c (taken_by reach line c a f o k) v) → TellsInOrder (taken_by reach line c a f o k).words
+    frame_piece : (o : outcome.Taken) (h : Leads line (took ticking a c) c (taken_by line c a f o k) v) → TellsInOrder (taken_by line c a f o k).words
         → Piece line v (Delivery a c number) (outcome_of stamp (w.at c) (of_answer o)) h.new
     frame_piece o h order = record {
       own = nothing;
       mid = v;
       why = None;
       quiets = h.quiets;
-      later = said_by (taken_by reach line c a f o k);
+      later = said_by (taken_by line c a f o k);
       own_step = (refl, refl, refl);
       quiet_steps = h.takes;
       own_centre = h.own_centre;
@@ -200,7 +200,7 @@ module _ (reach : Reach) (line : Line) (ok : IsLine line) (w : World) (v : LineS
       says = refl;
     }
 
-    by_answer : (o : outcome.Taken) → link_answer line c (w.at c) a f ≡ o → (taken_by reach line c a f o k).state.taken ≡ taken_after a f o (w.at c) → TellsInOrder (taken_by reach line c a f o k).words
+    by_answer : (o : outcome.Taken) → link_answer line c (w.at c) a f ≡ o → (taken_by line c a f o k).state.taken ≡ taken_after a f o (w.at c) → TellsInOrder (taken_by line c a f o k).words
         → MetSo (Delivery a c number) (of_answer o)
     by_answer Next is taken order =
         let h = next_follows is in
@@ -211,11 +211,11 @@ module _ (reach : Reach) (line : Line) (ok : IsLine line) (w : World) (v : LineS
               (sym (at_head w c stamp (w.at c) (of_answer Next) trains (λ d. refl) a (λ x. ap (λ (g : ℕ → ℕ). g x) taken ∙ ap (λ n. put (w.at c).taken a n x) number_is)))
               (shows_stamped line (took (flow_of w) a c) c (of_answer Next).reply.state (of_answer Next).reply.frames (of_answer Next).reply.state.clock
               (state_after stamp (w.at c) (of_answer Next)).sent (of_answer Next).reply.state.taken h.new
-              (subst (λ (u : Flow). Shows line u h.new) (begun_taken reach line (flow_of w) c v stamp work a (of_answer Next).reply) h.shows)),
+              (subst (λ (u : Flow). Shows line u h.new) (begun_taken line (flow_of w) c v stamp work a (of_answer Next).reply) h.shows)),
         )
-    by_answer Old is taken order = let stays = stray_met reach line w v meets c to stamp trains a number f Old refl in (v, stays.0, stays.1)
-    by_answer Early is taken order = let stays = stray_met reach line w v meets c to stamp trains a number f Early refl in (v, stays.0, stays.1)
-    by_answer NoLink is taken order = let stays = stray_met reach line w v meets c to stamp trains a number f NoLink refl in (v, stays.0, stays.1)
+    by_answer Old is taken order = let stays = stray_met line w v meets c to stamp trains a number f Old refl in (v, stays.0, stays.1)
+    by_answer Early is taken order = let stays = stray_met line w v meets c to stamp trains a number f Early refl in (v, stays.0, stays.1)
+    by_answer NoLink is taken order = let stays = stray_met line w v meets c to stamp trains a number f NoLink refl in (v, stays.0, stays.1)
 
-    pub frame_met : MetSo (Delivery a c number) (effect reach line c k (step.Deliver a f))
-    frame_met = by_answer (link_answer line c (w.at c) a f) refl (deliver_taken line c reach a stamp f (w.at c)) (effect_in_order line c reach k (step.Deliver a f))
+    pub frame_met : MetSo (Delivery a c number) (effect line c k (step.Deliver a f))
+    frame_met = by_answer (link_answer line c (w.at c) a f) refl (deliver_taken line c a stamp f (w.at c)) (effect_in_order line c k (step.Deliver a f))

@@ -3,7 +3,6 @@ use Rattle.std.proofs.Common.{◌≡◌, ℕ, true, Option, Some, None, refl, sy
 use Rattle.std.specs.Option.{option_map_or}
 use Rattle.rbc_ledger.proofs.Sums.{put_same}
 use Rattle.rbc_lemmas.proofs.Puts.{put_there}
-use Rattle.rbc_spec.specs.Reach.{Reach, hands_over}
 use Rattle.rbc_spec.specs.SectionRuns.{is_empty}
 use Rattle.rbc_spec.specs.Line.{Line, IsLine, is_centre, next_centre}
 use Rattle.rbc_spec.specs.Place.{Place, Position, place_on}
@@ -27,8 +26,8 @@ use Rattle.rbc_reports.proofs.Asked.{request_is_own, request_in_parts, Placed, h
 use Rattle.rbc_whole.specs.Announced.{HasAnnounced}
 use Rattle.rbc_whole.proofs.Work.{message}
 
-module _ (reach : Reach) (line : Line) (ok : IsLine line) (w : Flow) (v : LineState) (sound : IsFlowSound line w) (sees : Shows line w v) (c t_train t : ℕ) (to : is_centre line c ≡ true)
-    (position : Position) (announced : hands_over reach ≡ true → HasAnnounced line c (w.at c)) (heard : step.silence line c (w.at c) (message t_train t (Request position)) ≡ None) where
+module _ (line : Line) (ok : IsLine line) (w : Flow) (v : LineState) (sound : IsFlowSound line w) (sees : Shows line w v) (c t_train t : ℕ) (to : is_centre line c ≡ true)
+    (position : Position) (announced : HasAnnounced line c (w.at c)) (heard : step.silence line c (w.at c) (message t_train t (Request position)) ≡ None) where
   abbrev k : Centre
   k = w.at c
 
@@ -63,23 +62,23 @@ module _ (reach : Reach) (line : Line) (ok : IsLine line) (w : Flow) (v : LineSt
   same_track = (placed_on line (here.m).place.track position here.place here.on).track_is
 
   -- what follows it
-  at_border : at_border_then reach line c t position left ≡ border_of reach line c t here.place.track left
-  at_border = ap (λ (o : Option Mission). option_map_or (λ x. option_map_or (λ p. border_of reach line c t p.track) (place_on line x.place.track position) rest left) o (rest left)) at_left
-      ∙ ap (λ (o : Option Place). option_map_or (λ p. border_of reach line c t p.track) o rest left) (ap (λ track. place_on line track position) same_track ∙ here.on)
+  at_border : at_border_then line c t position left ≡ border_of line c t here.place.track left
+  at_border = ap (λ (o : Option Mission). option_map_or (λ x. option_map_or (λ p. border_of line c t p.track) (place_on line x.place.track position) rest left) o (rest left)) at_left
+      ∙ ap (λ (o : Option Place). option_map_or (λ p. border_of line c t p.track) o rest left) (ap (λ track. place_on line track position) same_track ∙ here.on)
 
   is_request : IsRequestHeard line c k m here.m here.place
   is_request = record { position = position; asks = refl; heard = heard; mission = here.at; place_is = here.on }
 
-  unannounced : (d : ℕ) → next_centre line c here.place.track ≡ Some d → hands_over reach ≡ true → (here.m).handing ≡ None → is_empty (part_at line d here.place.track (here.m).hand) ≡ true
-  unannounced d next hands none = subst (λ track. is_empty (part_at line d track (here.m).hand) ≡ true) (sym same_track)
-      (announced hands t d here.m here.at (subst (λ track. next_centre line c track ≡ Some d) same_track next) none)
+  unannounced : (d : ℕ) → next_centre line c here.place.track ≡ Some d → (here.m).handing ≡ None → is_empty (part_at line d here.place.track (here.m).hand) ≡ true
+  unannounced d next none = subst (λ track. is_empty (part_at line d track (here.m).hand) ≡ true) (sym same_track)
+      (announced t d here.m here.at (subst (λ track. next_centre line c track ≡ Some d) same_track next) none)
 
   same_phase : left.phase t ≡ k.phase t
   unfolding ◌>>◌
   same_phase = refl
 
-  may : (d : ℕ) → next_centre line c here.place.track ≡ Some d → hands_over reach ≡ true → MayAnnounce line c t d left
-  may d next hands = request_may_announce line ok c d k m here.m here.place is_request ((sound.centres c to).mission t here.m here.at).hand left next (unannounced d next hands) at_left same_phase
+  may : (d : ℕ) → next_centre line c here.place.track ≡ Some d → MayAnnounce line c t d left
+  may d next = request_may_announce line ok c d k m here.m here.place is_request ((sound.centres c to).mission t here.m here.at).hand left next (unannounced d next) at_left same_phase
 
   abbrev first : Act
   first = hear m >> own_request line c t position
@@ -88,11 +87,11 @@ module _ (reach : Reach) (line : Line) (ok : IsLine line) (w : Flow) (v : LineSt
   unfolding ◌>>◌
   first_left = ap (λ (r : Reply). r.state) extends
 
-  pub request_heard : LeadsHeard line w c m (step.hear_and_answer reach line c m k) v
-  request_heard = subst (λ (r : Reply). LeadsHeard line w c m r v) (sym (request_in_parts reach line c t_train t position k heard))
-      (heard_then line w c m k v first (at_border_then reach line c t position) one
-      (subst (λ (r : Reply). Leads line (replied w c (first k)) c r one.mid) (sym (ap (at_border_then reach line c t position) first_left ∙ at_border))
-      (grants_so reach line (replied w c (first k)) c t here.place.track left one.mid ok one.sound one.shows to (put_same w.at c (first k).state ∙ first_left) may)))
+  pub request_heard : LeadsHeard line w c m (step.hear_and_answer line c m k) v
+  request_heard = subst (λ (r : Reply). LeadsHeard line w c m r v) (sym (request_in_parts line c t_train t position k heard))
+      (heard_then line w c m k v first (at_border_then line c t position) one
+      (subst (λ (r : Reply). Leads line (replied w c (first k)) c r one.mid) (sym (ap (at_border_then line c t position) first_left ∙ at_border))
+      (grants_so line (replied w c (first k)) c t here.place.track left one.mid ok one.sound one.shows to (put_same w.at c (first k).state ∙ first_left) may)))
     where
       one : LeadsOwn line w c m (first k) v
       one = request_is_own line ok c t_train t position w v (w.at c).clock sound sees to heard

@@ -1,6 +1,5 @@
 -- A message that is silent, and a frame that is not the next of its link, lead nowhere.
 use Rattle.std.proofs.Common.{◌≡◌, ℕ, true, List, [], Some, None, Ok, refl, sym, ap, ◌∙◌, subst, inl, inr}
-use Rattle.rbc_spec.specs.Reach.{Reach}
 use Rattle.rbc_spec.specs.Line.{Line, is_centre}
 use Rattle.rbc_spec.specs.Message.{TrainMessage}
 use Rattle.rbc_spec.specs.Frame.{Frame}
@@ -23,15 +22,15 @@ use Rattle.rbc_whole.proofs.Work.{IsAtWork}
 use Rattle.rbc_whole.proofs.Clocks.{shows_stamped, begun, begun_shown}
 use Rattle.rbc_whole.proofs.Silence as silence
 
-module _ (reach : Reach) (line : Line) (w : World) (v : LineState) (meets : Meets reach line w v) (c : ℕ) (to : is_centre line c ≡ true) (stamp : ℕ) (trains : List ℕ) where
-  pub at_work : IsAtWork reach line (flow_of w) c (w.at c) v
-  at_work = record { sound = meets.sound.flow; within = meets.sound.within; shows = meets.shows; to = to; state = refl }
+module _ (line : Line) (w : World) (v : LineState) (meets : Meets line w v) (c : ℕ) (to : is_centre line c ≡ true) (stamp : ℕ) (trains : List ℕ) where
+  pub at_work : IsAtWork line (flow_of w) c (w.at c) v
+  at_work = record { sound = meets.sound.flow; shows = meets.shows; to = to; state = refl }
 
   abbrev pub k : Centre
   k = step.ticked stamp (w.at c)
 
   abbrev pub ticking : Flow
-  ticking = begun reach line (flow_of w) c v stamp at_work
+  ticking = begun line (flow_of w) c v stamp at_work
 
   abbrev pub behind : Effect → World
   behind e = in_world w c (state_after stamp (w.at c) e) trains
@@ -47,7 +46,7 @@ module _ (reach : Reach) (line : Line) (w : World) (v : LineState) (meets : Meet
   -- a step that does nothing
   nothing_shown : (e : Effect) → e.reply ≡ rest k → Shows line (flow_of (behind e)) v
   nothing_shown e is = shown_behind e v (ap (λ (r : _). r.state.taken) is)
-      (subst (λ (r : _). Shows line (replied (flow_of w) c r) v) (sym is) (begun_shown reach line (flow_of w) c v stamp at_work))
+      (subst (λ (r : _). Shows line (replied (flow_of w) c r) v) (sym is) (begun_shown line (flow_of w) c v stamp at_work))
 
   -- or leaves the one line centre where it is
   abbrev pub Stays : Event → Effect → Type 0
@@ -73,7 +72,7 @@ module _ (reach : Reach) (line : Line) (w : World) (v : LineState) (meets : Meet
   )
 
   -- nor by a frame that is not the next of its link
-  pub stray_met : (a number : ℕ) (f : Frame) (o : outcome.Taken) → taken_by reach line c a f o k ≡ rest k → Stays (Delivery a c number) (record { reply = taken_by reach line c a f o k; link = Some o; silence = None })
+  pub stray_met : (a number : ℕ) (f : Frame) (o : outcome.Taken) → taken_by line c a f o k ≡ rest k → Stays (Delivery a c number) (record { reply = taken_by line c a f o k; link = Some o; silence = None })
   stray_met a number f o is = (
     record {
       own = nothing;
@@ -88,5 +87,5 @@ module _ (reach : Reach) (line : Line) (w : World) (v : LineState) (meets : Meet
       in_order = subst (λ (r : _). TellsInOrder r.words) (sym is) none_in_order;
       says = λ i. record { said = said_by (is i); silence = None };
     },
-    nothing_shown (record { reply = taken_by reach line c a f o k; link = Some o; silence = None }) is,
+    nothing_shown (record { reply = taken_by line c a f o k; link = Some o; silence = None }) is,
   )

@@ -3,7 +3,6 @@ use Rattle.std.proofs.Common.{◌≡◌, ℕ, Bool, true, false, if◌then◌els
 use Rattle.std.specs.Option.{option_map_or}
 use Rattle.rbc_ledger.proofs.Sums.{one_if_true, one_if_some}
 use Rattle.rbc_lemmas.proofs.Puts.{put_other}
-use Rattle.rbc_spec.specs.Reach.{Reach}
 use Rattle.rbc_spec.specs.SectionRuns.{within}
 use Rattle.rbc_spec.specs.Line.{Line, is_centre, is_home}
 use Rattle.rbc_spec.specs.Place.{Place, covered}
@@ -36,7 +35,7 @@ begins_so line = record { none = λ c t away. refl }
 
 -- ## Whatever happens
 
-module _ (reach : Reach) (line : Line) (w : World) (sound : IsFlowSound line (flow_of w)) (old : WaitsAtCentres line w) where
+module _ (line : Line) (w : World) (sound : IsFlowSound line (flow_of w)) (old : WaitsAtCentres line w) where
   abbrev Leaves : Result (Answer × World) Refusal → Type 0
   Leaves r = (answer : Answer) (new : World) → r ≡ Ok (answer, new) → WaitsAtCentres line new
 
@@ -56,16 +55,16 @@ module _ (reach : Reach) (line : Line) (w : World) (sound : IsFlowSound line (fl
       chosen true h = h refl
       chosen false h = stands_still NoCentre
 
-  delivery_so : (a b number : ℕ) (o : Option Frame) → frame_sent w a b number ≡ o → Leaves (option_map_or (λ f. takes reach line w b w.trains (step.Deliver a f)) o (Ok (NotSent, w)))
+  delivery_so : (a b number : ℕ) (o : Option Frame) → frame_sent w a b number ≡ o → Leaves (option_map_or (λ f. takes line w b w.trains (step.Deliver a f)) o (Ok (NotSent, w)))
   delivery_so a b number None sent = stands_still NotSent
-  delivery_so a b number (Some f) sent = stepped_so b (sent_between line w sound a b number f sent).1 w.trains (step.step reach line b (step.Deliver a f) (w.at b))
+  delivery_so a b number (Some f) sent = stepped_so b (sent_between line w sound a b number f sent).1 w.trains (step.step line b (step.Deliver a f) (w.at b))
 
-  pub event_so : (event : Event) → Leaves (world_step reach line w event)
+  pub event_so : (event : Event) → Leaves (world_step line w event)
   unfolding world_step
-  event_so (Bytes c (Ok m)) = at_so c _ (λ to. stepped_so c to (mention line m.nid_engine w.trains) (step.step reach line c (step.Train m) (w.at c)))
+  event_so (Bytes c (Ok m)) = at_so c _ (λ to. stepped_so c to (mention line m.nid_engine w.trains) (step.step line c (step.Train m) (w.at c)))
   event_so (Bytes c (Err number)) = at_so c _ (λ to. stands_still _)
-  event_so (Set c s) = at_so c _ (λ to. stepped_so c to w.trains (step.step reach line c (step.Set s) (w.at c)))
-  event_so (Unset c s) = at_so c _ (λ to. stepped_so c to w.trains (step.step reach line c (step.Unset s) (w.at c)))
+  event_so (Set c s) = at_so c _ (λ to. stepped_so c to w.trains (step.step line c (step.Set s) (w.at c)))
+  event_so (Unset c s) = at_so c _ (λ to. stepped_so c to w.trains (step.step line c (step.Unset s) (w.at c)))
   event_so (Delivery a b number) = delivery_so a b number (frame_sent w a b number) refl
 
 -- ## What waits is kept

@@ -2,7 +2,6 @@
 use Rattle.std.proofs.Common.{◌≡◌, ℕ, Bool, true, false, not, ◌&&◌, if◌then◌else◌, Option, Some, None, is_none, is_some, nat_lt, refl, ap, ◌∙◌, List, [], ◌++◌}
 use Rattle.std.specs.Option.{option_map_or}
 use Rattle.rbc_spec.specs.Maps.{has, put}
-use Rattle.rbc_spec.specs.Reach.{Reach, asks_rights, lends_routes, hands_over}
 use Rattle.rbc_spec.specs.SectionRuns.{SectionRun, part_from, all_of, within, most_in_hand, behind, is_empty, part_before}
 use Rattle.rbc_spec.specs.Line.{Line, section, registrar, next_centre, is_home}
 use Rattle.rbc_spec.specs.Sections.{nid_rbc, is_on}
@@ -12,7 +11,7 @@ use Rattle.rbc_spec.specs.Frame.{GiveRight, RefuseRight, RouteInfo, RouteReturn}
 use Rattle.rbc_spec.specs.Outcome.{Word}
 use Rattle.rbc_spec.specs.Centre.{Centre, Entry, Shut, Open, Taken, Out, Mission, Handing, is_registrar_of, is_free, is_open, is_up}
 use Rattle.rbc_spec.specs.Acts.{Act, become, booked, returned, is_of_two, say, send, change_mission, part_at, may_propose, rest, ◌>>◌, where_so, with_some, cancel, return_right, close, propose, propose_if_so, announce, ask_route, end_order, yield, yield_if_due}
-use Rattle.rbc_spec.specs.Rules.{accept, choose, restart, begin, start_here, start_waiting, start_elsewhere, start_new, start_mission, announce_if_due, ask_route_if_due, at_border, grant, request, reject}
+use Rattle.rbc_spec.specs.Rules.{accept, choose, restart, begin, start_here, start_waiting, start_new, start_mission, announce_if_due, ask_route_if_due, at_border, grant, request, reject}
 use Rattle.rbc_spec.specs.Links.{lendable, is_wanted, right_asked, right_given, right_returned, route_asked, route_told, route_withdrawn, take_mission}
 use Rattle.rbc_spec.specs.Step.{wished}
 
@@ -95,8 +94,8 @@ module _ (line : Line) (c t : ℕ) where
 
   -- ## Messages
 
-  pub start_silent : (reach : Reach) (is_valid : Bool) (position : Position) → IsSilent (start_mission reach line c t is_valid position)
-  start_silent reach is_valid position = record { each = λ k. by_place k (fit_place line is_valid position) }
+  pub start_silent : (is_valid : Bool) (position : Position) → IsSilent (start_mission line c t is_valid position)
+  start_silent is_valid position = record { each = λ k. by_place k (fit_place line is_valid position) }
     where
       waiting : (place : Place) → IsSilent (start_waiting line t place)
       waiting place = both _ _ (both _ _ (record { each = λ k. refl }) (record { each = λ k. refl })) (when IsNone refl _ _ (both _ _ (of_option IsNone refl (registrar line t) _ _ (λ r. record { each = λ k. refl }) (record { each = λ k. refl })) (record { each = λ k. refl })))
@@ -105,19 +104,19 @@ module _ (line : Line) (c t : ℕ) where
       here place = chosen IsNone refl (λ k. k.has_right t) ((booked is_open (Taken t) (covered line place) >> become (λ k. record k { has_right = put k.has_right t false })) >> begin line t place) (reject t)
           (both _ _ (both _ _ (record { each = λ k. refl }) (record { each = λ k. refl })) (both _ _ (record { each = λ k. refl }) (record { each = λ k. refl }))) (record { each = λ k. refl })
 
-      fresh : (place : Place) → IsSilent (start_new reach line c t place)
-      fresh place = chosen IsNone refl (λ k. all_of (is_free line c k) (covered line place)) (if is_registrar_of line c t then start_here line t place else start_elsewhere reach line t place) (reject t)
-          (branch IsNone refl (is_registrar_of line c t) (start_here line t place) (start_elsewhere reach line t place) (here place) (branch IsNone refl (asks_rights reach) (start_waiting line t place) (reject t) (waiting place) (record { each = λ k. refl }))) (record { each = λ k. refl })
+      fresh : (place : Place) → IsSilent (start_new line c t place)
+      fresh place = chosen IsNone refl (λ k. all_of (is_free line c k) (covered line place)) (if is_registrar_of line c t then start_here line t place else start_waiting line t place) (reject t)
+          (branch IsNone refl (is_registrar_of line c t) (start_here line t place) (start_waiting line t place) (here place) (waiting place)) (record { each = λ k. refl })
 
       again : (place : Place) (m : Mission) → IsSilent (restart line t place m)
       again place m = branch IsNone refl (all_of (within m.hand) (covered line place)) (change_mission t (λ n. record n { place = place; has_data = false; is_ended = false; proposal = None }) >> accept t) (reject t)
           (both _ _ (record { each = λ k. refl }) (record { each = λ k. refl })) (record { each = λ k. refl })
 
-      by_mission : (k : Centre) (place : Place) (o : Option Mission) → (option_map_or (λ m. restart line t place m k) o (start_new reach line c t place k)).words ≡ []
+      by_mission : (k : Centre) (place : Place) (o : Option Mission) → (option_map_or (λ m. restart line t place m k) o (start_new line c t place k)).words ≡ []
       by_mission k place None = (fresh place).each k
       by_mission k place (Some m) = (again place m).each k
 
-      by_place : (k : Centre) (o : Option Place) → (option_map_or (λ place. option_map_or (λ m. restart line t place m k) (k.mission t) (start_new reach line c t place k)) o (reject t k)).words ≡ []
+      by_place : (k : Centre) (o : Option Place) → (option_map_or (λ place. option_map_or (λ m. restart line t place m k) (k.mission t) (start_new line c t place k)) o (reject t k)).words ≡ []
       by_place k None = refl
       by_place k (Some place) = by_mission k place (k.mission t)
 
@@ -131,17 +130,17 @@ module _ (line : Line) (c t : ℕ) where
   pub ask_if_silent : (d : ℕ) → IsSilent (ask_route_if_due line t d)
   ask_if_silent d = of_some IsNone refl (λ k. k.mission t) (λ m. where_so (may_ask d m) (ask_route t d m)) (λ m. when IsNone refl (may_ask d m) (ask_route t d m) (ask_silent d m))
 
-  pub border_silent : (reach : Reach) (d : ℕ) → IsSilent (at_border reach line c t d)
-  border_silent reach d = both _ _ (branch IsNone refl (hands_over reach) (announce_if_due line t d) rest (announce_if_silent d) (record { each = λ k. refl })) (ask_if_silent d)
+  pub border_silent : (d : ℕ) → IsSilent (at_border line c t d)
+  border_silent d = both _ _ (announce_if_silent d) (ask_if_silent d)
 
-  pub grant_silent : (reach : Reach) (m : Mission) → IsSilent (grant reach line c t m)
-  grant_silent reach m = record {
+  pub grant_silent : (m : Mission) → IsSilent (grant line c t m)
+  grant_silent m = record {
     each = λ k. (both _ _ (both _ _ (both _ _ (record { each = λ k. refl }) (record { each = λ k. refl })) (record { each = λ k. refl }))
-        (branch IsNone refl (lends_routes reach) _ _ (of_option IsNone refl (next_centre line c m.place.track) _ _ (λ d. border_silent reach d) (record { each = λ k. refl })) (record { each = λ k. refl }))).each k;
+        (of_option IsNone refl (next_centre line c m.place.track) _ _ (λ d. border_silent d) (record { each = λ k. refl }))).each k;
   }
 
-  pub request_silent : (reach : Reach) (position : Position) → IsSilent (request reach line c t position)
-  request_silent reach position = of_some IsNone refl _ _ (λ m. of_option IsNone refl (place_on line m.place.track position) _ _ (λ place. grant_silent reach (record m { place = place })) (record { each = λ k. refl }))
+  pub request_silent : (position : Position) → IsSilent (request line c t position)
+  request_silent position = of_some IsNone refl _ _ (λ m. of_option IsNone refl (place_on line m.place.track position) _ _ (λ place. grant_silent (record m { place = place })) (record { each = λ k. refl }))
 
   -- ## Frames
 

@@ -1,6 +1,5 @@
 -- A handover is announced as soon as the hand has a section of the next centre.
 use Rattle.std.specs.Prelude.{◌≡◌, ℕ, true, Some, None}
-use Rattle.rbc_spec.specs.Reach.{Reach, hands_over}
 use Rattle.rbc_spec.specs.SectionRuns.{is_empty}
 use Rattle.rbc_spec.specs.Line.{Line, is_centre, next_centre}
 use Rattle.rbc_spec.specs.Centre.{Centre, Mission}
@@ -12,6 +11,6 @@ abbrev pub HasAnnounced : Line → ℕ → Centre → Type 0
 HasAnnounced line c k = (t d : ℕ) (m : Mission) → k.mission t ≡ Some m → next_centre line c m.place.track ≡ Some d → m.handing ≡ None
     → is_empty (part_at line d m.place.track m.hand) ≡ true
 
--- where centres hand missions over
-abbrev pub IsAnnounced : Reach → Line → World → Type 0
-IsAnnounced reach line w = (c : ℕ) → is_centre line c ≡ true → hands_over reach ≡ true → HasAnnounced line c (w.at c)
+-- so it is with each centre of the line
+abbrev pub IsAnnounced : Line → World → Type 0
+IsAnnounced line w = (c : ℕ) → is_centre line c ≡ true → HasAnnounced line c (w.at c)

@@ -1,6 +1,5 @@
 -- A world of centres and what the one line centre shows of it.
 use Rattle.std.specs.Prelude.{◌≡◌, Ok}
-use Rattle.rbc_spec.specs.Reach.{Reach}
 use Rattle.rbc_spec.specs.Line.{Line}
 use Rattle.rbc_spec.specs.LineCentre.{LineState}
 use Rattle.rbc_spec.specs.World.{World, Event, Answer, world_step}
@@ -10,10 +9,10 @@ use Rattle.rbc_flow.specs.Shows.{Shows}
 use Rattle.rbc_pairs.specs.Worlds.{IsWorldSound}
 
 -- all of the world is sound, and the one line centre's state shows it
-pub record Meets (reach : Reach) (line : Line) (w : World) (v : LineState) : Type 0 where
-  pub sound : IsWorldSound reach line w
+pub record Meets (line : Line) (w : World) (v : LineState) : Type 0 where
+  pub sound : IsWorldSound line w
   pub shows : Shows line (flow_of w) v
 
 -- whatever the centres answer to the event, the one line centre, whose state is v, may give that answer and stay as it is, and it meets the new world
-abbrev pub StaysWith : Reach → Line → World → LineState → Event → Type 0
-StaysWith reach line w v event = (answer : Answer) (new : World) → world_step reach line w event ≡ Ok (answer, new) → Goes line v event answer v × Meets reach line new v
+abbrev pub StaysWith : Line → World → LineState → Event → Type 0
+StaysWith line w v event = (answer : Answer) (new : World) → world_step line w event ≡ Ok (answer, new) → Goes line v event answer v × Meets line new v

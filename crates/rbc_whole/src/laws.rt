@@ -1,7 +1,6 @@
 //! Laws of whole lines.
 
 ghost use Rattle.std.specs.Prelude.{◌≡◌, ◌≢◌, ◌⊎◌, ℕ, List, true, false, Some, None, Ok, Err};
-ghost use Rattle.rbc_spec.specs.Reach.{Reach};
 ghost use Rattle.rbc_spec.specs.Line.{Line, IsLine, is_centre};
 ghost use Rattle.rbc_spec.specs.Frame.{Frame};
 ghost use Rattle.rbc_spec.specs.Message.{TrainMessage};
@@ -19,43 +18,43 @@ ghost use Rattle.rbc_spec.specs.Promises.{KeepsPromises, IsSafe, IsSound};
 ghost use Rattle.rbc_spec.specs.Theorems.{WholeLineTheorem, EachEventTheorem};
 ghost use Rattle.rbc_whole.specs.Meets.{Meets, StaysWith};
 
-/// What a step tells the interlocking it tells by the order of sections, at every reach and in every state of a centre.
+/// What a step tells the interlocking it tells by the order of sections and in every state of a centre.
 pub fn each_step_tells_in_order()
-    ensures { (reach : Reach) (line : Line) (c : ℕ) (k : Centre) (event : Event) → TellsInOrder (taken reach line c event k).0.words }
+    ensures { (line : Line) (c : ℕ) (k : Centre) (event : Event) → TellsInOrder (taken line c event k).0.words }
 {}
 
 /// The one line centre's beginning meets a new world. What meets a world is read off it, and stands for it.
 pub fn what_meets_a_world()
-    ensures beginning { (reach : Reach) (line : Line) → Meets reach line (new_world line) line_beginning }
-    ensures read { (reach : Reach) (line : Line) (w : World) (v : LineState) → Meets reach line w v → v ≡ read_off line w }
-    ensures stands { (reach : Reach) (line : Line) (w : World) (v : LineState) → Meets reach line w v → StandsFor line w (read_off line w) }
+    ensures beginning { (line : Line) → Meets line (new_world line) line_beginning }
+    ensures read { (line : Line) (w : World) (v : LineState) → Meets line w v → v ≡ read_off line w }
+    ensures stands { (line : Line) (w : World) (v : LineState) → Meets line w v → StandsFor line w (read_off line w) }
 {}
 
 /// The one line centre leaves a message without an answer for the same reason as the centre that it comes to. Where the centre answers, it
 /// has none, or may listen to the train; and where it has none the centre answers.
 pub fn the_line_centre_is_silent_alike()
-    ensures silent { (reach : Reach) (line : Line) (w : World) (v : LineState) (c : ℕ) (m : TrainMessage) (why : Reason) → Meets reach line w v
+    ensures silent { (line : Line) (w : World) (v : LineState) (c : ℕ) (m : TrainMessage) (why : Reason) → Meets line w v
         → step.silence line c (w.at c) m ≡ Some why → run.silence line v c m ≡ Some why }
-    ensures heard { (reach : Reach) (line : Line) (w : World) (v : LineState) (c : ℕ) (m : TrainMessage) → Meets reach line w v
+    ensures heard { (line : Line) (w : World) (v : LineState) (c : ℕ) (m : TrainMessage) → Meets line w v
         → step.silence line c (w.at c) m ≡ None → (run.silence line v c m ≡ None) ⊎ (run.may_listen line c m.body (run.silence line v c m) ≡ true) }
-    ensures answered { (reach : Reach) (line : Line) (w : World) (v : LineState) (c : ℕ) (m : TrainMessage) → Meets reach line w v
+    ensures answered { (line : Line) (w : World) (v : LineState) (c : ℕ) (m : TrainMessage) → Meets line w v
         → run.silence line v c m ≡ None → step.silence line c (w.at c) m ≡ None }
 {}
 
-/// What leads nowhere at the centres leads nowhere at the one line centre, at every reach: it gives the same answer, and its state meets the
+/// What leads nowhere at the centres leads nowhere at the one line centre: it gives the same answer, and its state meets the
 /// new world. So it is with a message that is silent, bytes that spell none, a frame that is not the next of its link, one that was never
 /// sent, and an event at a centre that is not of the line.
 pub fn what_leads_nowhere()
-    ensures silent { (reach : Reach) (line : Line) (w : World) (v : LineState) (c : ℕ) (m : TrainMessage) (why : Reason) → IsLine line → Meets reach line w v
-        → step.silence line c (w.at c) m ≡ Some why → StaysWith reach line w v (Bytes c (Ok m)) }
-    ensures unspelled { (reach : Reach) (line : Line) (w : World) (v : LineState) (c number : ℕ) → IsLine line → Meets reach line w v
-        → StaysWith reach line w v (Bytes c (Err number)) }
-    ensures stray { (reach : Reach) (line : Line) (w : World) (v : LineState) (a b number : ℕ) (f : Frame) → IsLine line → Meets reach line w v
-        → frame_sent w a b number ≡ Some f → link_answer line b (w.at b) a f ≢ Next → StaysWith reach line w v (Delivery a b number) }
-    ensures unsent { (reach : Reach) (line : Line) (w : World) (v : LineState) (a b number : ℕ) → IsLine line → Meets reach line w v
-        → frame_sent w a b number ≡ None → StaysWith reach line w v (Delivery a b number) }
-    ensures nowhere { (reach : Reach) (line : Line) (w : World) (v : LineState) (event : world.Event) → IsLine line → Meets reach line w v
-        → is_centre line (centre_of event) ≡ false → StaysWith reach line w v event }
+    ensures silent { (line : Line) (w : World) (v : LineState) (c : ℕ) (m : TrainMessage) (why : Reason) → IsLine line → Meets line w v
+        → step.silence line c (w.at c) m ≡ Some why → StaysWith line w v (Bytes c (Ok m)) }
+    ensures unspelled { (line : Line) (w : World) (v : LineState) (c number : ℕ) → IsLine line → Meets line w v
+        → StaysWith line w v (Bytes c (Err number)) }
+    ensures stray { (line : Line) (w : World) (v : LineState) (a b number : ℕ) (f : Frame) → IsLine line → Meets line w v
+        → frame_sent w a b number ≡ Some f → link_answer line b (w.at b) a f ≢ Next → StaysWith line w v (Delivery a b number) }
+    ensures unsent { (line : Line) (w : World) (v : LineState) (a b number : ℕ) → IsLine line → Meets line w v
+        → frame_sent w a b number ≡ None → StaysWith line w v (Delivery a b number) }
+    ensures nowhere { (line : Line) (w : World) (v : LineState) (event : world.Event) → IsLine line → Meets line w v
+        → is_centre line (centre_of event) ≡ false → StaysWith line w v event }
 {}
 
 /// Whatever happens to the centres of a line: what they answer and hold is a run of the one line centre.
@@ -63,35 +62,35 @@ pub fn the_whole_line_theorem()
     ensures { WholeLineTheorem }
 {}
 
-/// So it is at every reach. The run ends in the state that is read off the centres, and the world that they are is sound.
+/// So it is. The run ends in the state that is read off the centres, and the world that they are is sound.
 pub fn each_run_is_the_line_centres()
-    ensures run { (reach : Reach) (line : Line) (events : List world.Event) (answers : List Answer) (w : World) → IsLine line
-        → world_run reach line (new_world line) events ≡ Ok (answers, w) → IsLineRun line events answers w }
-    ensures last { (reach : Reach) (line : Line) (events : List world.Event) (answers : List Answer) (w : World) → IsLine line
-        → world_run reach line (new_world line) events ≡ Ok (answers, w) → run.Run line line_beginning events answers (read_off line w) }
-    ensures sound { (reach : Reach) (line : Line) (events : List world.Event) (answers : List Answer) (w : World) → IsLine line
-        → world_run reach line (new_world line) events ≡ Ok (answers, w) → IsSound line w }
+    ensures run { (line : Line) (events : List world.Event) (answers : List Answer) (w : World) → IsLine line
+        → world_run line (new_world line) events ≡ Ok (answers, w) → IsLineRun line events answers w }
+    ensures last { (line : Line) (events : List world.Event) (answers : List Answer) (w : World) → IsLine line
+        → world_run line (new_world line) events ≡ Ok (answers, w) → run.Run line line_beginning events answers (read_off line w) }
+    ensures sound { (line : Line) (events : List world.Event) (answers : List Answer) (w : World) → IsLine line
+        → world_run line (new_world line) events ≡ Ok (answers, w) → IsSound line w }
 {}
 
-/// Behind any list of events, at every reach, the one line centre may meet each further event with the same answer, between the states that
+/// Behind any list of events, the one line centre may meet each further event with the same answer, between the states that
 /// are read off the centres. The event keeps its promises, the state that is read off stands for the new world, and that is safe and sound: no
 /// right and no token of a section is lost.
 pub fn each_event_is_met()
-    ensures goes { (reach : Reach) (line : Line) (w new : World) (events : List world.Event) (answers : List Answer) (event : world.Event) (answer : Answer) → IsLine line
-        → world_run reach line (new_world line) events ≡ Ok (answers, w) → world_step reach line w event ≡ Ok (answer, new)
+    ensures goes { (line : Line) (w new : World) (events : List world.Event) (answers : List Answer) (event : world.Event) (answer : Answer) → IsLine line
+        → world_run line (new_world line) events ≡ Ok (answers, w) → world_step line w event ≡ Ok (answer, new)
         → run.Goes line (read_off line w) event answer (read_off line new) }
-    ensures promises { (reach : Reach) (line : Line) (w new : World) (events : List world.Event) (answers : List Answer) (event : world.Event) (answer : Answer) → IsLine line
-        → world_run reach line (new_world line) events ≡ Ok (answers, w) → world_step reach line w event ≡ Ok (answer, new)
+    ensures promises { (line : Line) (w new : World) (events : List world.Event) (answers : List Answer) (event : world.Event) (answer : Answer) → IsLine line
+        → world_run line (new_world line) events ≡ Ok (answers, w) → world_step line w event ≡ Ok (answer, new)
         → KeepsPromises line w event answer new }
-    ensures stands { (reach : Reach) (line : Line) (w new : World) (events : List world.Event) (answers : List Answer) (event : world.Event) (answer : Answer) → IsLine line
-        → world_run reach line (new_world line) events ≡ Ok (answers, w) → world_step reach line w event ≡ Ok (answer, new)
+    ensures stands { (line : Line) (w new : World) (events : List world.Event) (answers : List Answer) (event : world.Event) (answer : Answer) → IsLine line
+        → world_run line (new_world line) events ≡ Ok (answers, w) → world_step line w event ≡ Ok (answer, new)
         → StandsFor line new (read_off line new) × IsSafe line new }
-    ensures sound { (reach : Reach) (line : Line) (w new : World) (events : List world.Event) (answers : List Answer) (event : world.Event) (answer : Answer) → IsLine line
-        → world_run reach line (new_world line) events ≡ Ok (answers, w) → world_step reach line w event ≡ Ok (answer, new)
+    ensures sound { (line : Line) (w new : World) (events : List world.Event) (answers : List Answer) (event : world.Event) (answer : Answer) → IsLine line
+        → world_run line (new_world line) events ≡ Ok (answers, w) → world_step line w event ≡ Ok (answer, new)
         → IsSound line new }
 {}
 
-/// So the law of each event of a line holds at every reach, without a premise.
+/// So the law of each event of a line holds, without a premise.
 pub fn each_event_of_the_line()
-    ensures { (reach : Reach) → EachEventTheorem reach }
+    ensures { EachEventTheorem }
 {}

@@ -16,31 +16,30 @@ use Rattle.rbc_seen.proofs.Missions.{missions_seen}
 use Rattle.rbc_seen.proofs.Marks.{sections_seen}
 use Rattle.rbc_seen.proofs.Forced as forced
 use Rattle.rbc_centre.specs.Views.{frame_number}
-use Rattle.rbc_world.specs.Built.{built}
 use Rattle.rbc_world.specs.Reached.{WasReached}
 
 -- ## Behind the events that led to it
 
-module _ (line : Line) (w : World) (ok : IsLine line) (reached : ∥ WasReached built line w ∥₁) where
-  pub world_known : IsKnown built line w
-  world_known = ∥∥₁_elim reached (seen.one_proof built line w) (λ r. seen.is_known built line ok r.events r.answers w r.run)
+module _ (line : Line) (w : World) (ok : IsLine line) (reached : ∥ WasReached line w ∥₁) where
+  pub world_known : IsKnown line w
+  world_known = ∥∥₁_elim reached (seen.one_proof line w) (λ r. seen.is_known line ok r.events r.answers w r.run)
 
   -- the state that is read off it stands for it, and is seen by looking at its centres
   pub world_stands : StandsFor line w (read_off line w)
-  world_stands = seen.stands built line w world_known
+  world_stands = seen.stands line w world_known
 
   pub world_missions : AreMissionsSeen line w
-  world_missions = missions_seen line w (seen.flow built line w world_known) world_known.shows
+  world_missions = missions_seen line w (seen.flow line w world_known) world_known.shows
 
   pub world_sections : AreSectionsSeen line w
-  world_sections = sections_seen line w (seen.flow built line w world_known) world_known.shows
+  world_sections = sections_seen line w (seen.flow line w world_known) world_known.shows
 
   pub world_sound : IsSound line w
-  world_sound = seen.sound built line w world_known ok
+  world_sound = seen.sound line w world_known ok
 
   -- on a one-centre line no other centre has a part in it
   pub world_local : (c : ℕ) → IsOneCentreLine line c → IsLocal line w
-  world_local c one = ∥∥₁_elim reached (forced.one_proof line w) (λ r. forced.stays_local built line ok c one r.events r.answers w r.run)
+  world_local c one = ∥∥₁_elim reached (forced.one_proof line w) (λ r. forced.stays_local line ok c one r.events r.answers w r.run)
 
 -- ## Frames that were sent
 
@@ -53,7 +52,7 @@ none_at number = by_number (number == 0)
     by_number false = refl
 
 -- each was sent to a centre of the line
-pub receiver : (line : Line) (w : World) (a b number : ℕ) → IsKnown built line w → (o : Option Frame) → o ≡ frame_sent w a b number → IfSome o (λ f. is_centre line b ≡ true)
+pub receiver : (line : Line) (w : World) (a b number : ℕ) → IsKnown line w → (o : Option Frame) → o ≡ frame_sent w a b number → IfSome o (λ f. is_centre line b ≡ true)
 receiver line w a b number known None is = tt
 receiver line w a b number known (Some f) is = by_centre (is_centre line b) refl
   where

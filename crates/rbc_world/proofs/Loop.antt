@@ -1,8 +1,8 @@
 -- A run of a world as it goes on, and what a whole one is.
-use Rattle.std.proofs.Common.{◌≡◌, ℕ, ◌+◌, ◌<◌, ◌≤◌, zero, suc, List, [], ◌∷◌, ◌++◌, length, map, drop, get_or, Result, Ok, Err, refl, sym, ap, subst, arith}
+use Rattle.std.proofs.Common.{◌≡◌, ℕ, ◌+◌, ◌<◌, ◌≤◌, zero, suc, List, [], ◌∷◌, ◌++◌, length, map, drop, get_or, Result, Ok, Err, refl, sym, ap, arith}
 use Rattle.std.specs.Result.{IfOk, IfErr}
 use Rattle.rbc_spec.specs.Line.{Line, IsLine}
-use Rattle.rbc_spec.specs.Step.{Refusal, ClockEnd as AtClockEnd, LinkFull as AtLinkFull}
+use Rattle.rbc_spec.specs.Step.{ClockEnd as AtClockEnd, LinkFull as AtLinkFull}
 use Rattle.rbc_spec.specs.LineCentre.{line_beginning}
 use Rattle.rbc_spec.specs.World.{World, Event, Answer, world_step, world_run, new_world, all_named}
 use Rattle.rbc_spec.specs.Run.{Run}
@@ -13,35 +13,34 @@ use Rattle.rbc_seen.proofs.Whole.{Reaches, at_start, stops_at, run_names, run_re
 use Rattle.rbc_seen.proofs.Forced as forced
 use Rattle.rbc_centre.specs.declared.fault.StepFault.{StepFault}
 use Rattle.rbc_centre.specs.declared.fault.StepFault.TheVariants.{Memory, LinkFull, ClockEnd}
-use Rattle.rbc_world.specs.Built.{built}
 use Rattle.rbc_world.specs.Answers.{Gives, IsRefusal, IsRefusedRun}
 
 -- at the first event
-pub starts : (line : Line) (all : List Event) (answers : List Answer) (w : World) → answers ≡ [] → w ≡ new_world line → Reaches built line all all answers w
-starts line all answers w none new = rw (none, new) (at_start built line all)
+pub starts : (line : Line) (all : List Event) (answers : List Answer) (w : World) → answers ≡ [] → w ≡ new_world line → Reaches line all all answers w
+starts line all answers w none new = rw (none, new) (at_start line all)
 
 pub stops : (line : Line) (all rest : List Event) (answers : List Answer) (w : World) (event : Event) (fault : StepFault)
-    → Reaches built line all (event ∷ rest) answers w → IsRefusal fault (world_step built line w event) → IsRefusal fault (world_run built line (new_world line) all)
+    → Reaches line all (event ∷ rest) answers w → IsRefusal fault (world_step line w event) → IsRefusal fault (world_run line (new_world line) all)
 stops line all rest answers w event Memory so_far s = tt
-stops line all rest answers w event LinkFull so_far s = stops_at built line all rest answers w event AtLinkFull so_far s
-stops line all rest answers w event ClockEnd so_far s = stops_at built line all rest answers w event AtClockEnd so_far s
+stops line all rest answers w event LinkFull so_far s = stops_at line all rest answers w event AtLinkFull so_far s
+stops line all rest answers w event ClockEnd so_far s = stops_at line all rest answers w event AtClockEnd so_far s
 
 -- ## What a whole run is
 
 module _ {X : Type 0} (line : Line) (events : List Event) (answers : X → List Answer) (world : X → World) where
   -- what the definition of a world's run gives
   abbrev Runs : Result X StepFault → Type 0
-  Runs result = Gives (λ o. (answers o, world o)) result (world_run built line (new_world line) events)
+  Runs result = Gives (λ o. (answers o, world o)) result (world_run line (new_world line) events)
 
   pub names_trains : (result : Result X StepFault) → Runs result → IfOk result (λ o. (world o).trains ≡ all_named line events [])
   unfolding new_world
-  names_trains (Ok o) e = run_names built line (new_world line) events (answers o) (world o) e
+  names_trains (Ok o) e = run_names line (new_world line) events (answers o) (world o) e
   names_trains (Err fault) e = tt
 
-  refused_by : (fault : StepFault) → IsRefusal fault (world_run built line (new_world line) events) → IsRefusedRun line events fault
+  refused_by : (fault : StepFault) → IsRefusal fault (world_run line (new_world line) events) → IsRefusedRun line events fault
   refused_by Memory e = tt
-  refused_by LinkFull e = run_refused built line events AtLinkFull (new_world line) e
-  refused_by ClockEnd e = run_refused built line events AtClockEnd (new_world line) e
+  refused_by LinkFull e = run_refused line events AtLinkFull (new_world line) e
+  refused_by ClockEnd e = run_refused line events AtClockEnd (new_world line) e
 
   pub is_refused : (result : Result X StepFault) → Runs result → IfErr result (IsRefusedRun line events)
   is_refused (Ok o) e = tt
@@ -49,25 +48,25 @@ module _ {X : Type 0} (line : Line) (events : List Event) (answers : X → List 
 
   module _ (ok : IsLine line) where
     pub is_line_run : (result : Result X StepFault) → Runs result → IfOk result (λ o. IsLineRun line events (answers o) (world o))
-    is_line_run (Ok o) e = the_run built line ok events (answers o) (world o) e
+    is_line_run (Ok o) e = the_run line ok events (answers o) (world o) e
     is_line_run (Err fault) e = tt
 
     pub is_sound : (result : Result X StepFault) → Runs result → IfOk result (λ o. IsSound line (world o))
-    is_sound (Ok o) e = run_sound built line ok events (answers o) (world o) e
+    is_sound (Ok o) e = run_sound line ok events (answers o) (world o) e
     is_sound (Err fault) e = tt
 
     pub ends_read : (result : Result X StepFault) → Runs result → IfOk result (λ o. Run line line_beginning events (answers o) (read_off line (world o)))
-    ends_read (Ok o) e = (run_read built line ok events (answers o) (world o) e).0
+    ends_read (Ok o) e = (run_read line ok events (answers o) (world o) e).0
     ends_read (Err fault) e = tt
 
     -- on a one-centre line
     module _ (c : ℕ) (one : IsOneCentreLine line c) where
       pub is_one_centre_run : (result : Result X StepFault) → Runs result → IfOk result (λ o. IsOneCentreRun line events (answers o) (world o))
-      is_one_centre_run (Ok o) e = forced.run_is built line ok c one events (answers o) (world o) e
+      is_one_centre_run (Ok o) e = forced.run_is line ok c one events (answers o) (world o) e
       is_one_centre_run (Err fault) e = tt
 
       pub ends_forced : (result : Result X StepFault) → Runs result → IfOk result (λ o. ForcedRun line line_beginning events (answers o) (read_off line (world o)))
-      ends_forced (Ok o) e = forced.run_read built line ok c one events (answers o) (world o) e
+      ends_forced (Ok o) e = forced.run_read line ok c one events (answers o) (world o) e
       ends_forced (Err fault) e = tt
 
 -- ## The events to come

@@ -2,7 +2,6 @@
 use Rattle.std.proofs.Common.{◌≡◌, ℕ, ◌<◌, true, List, [], ◌∷◌, ◌++◌, length, Some, slice_get, set, Result, Ok, Err, refl, sym, ap, subst, ◌∙◌}
 use Rattle.std.proofs.Math.Logic.{∥∥₁_map}
 use Rattle.std.specs.Result.{OnErr}
-use Rattle.rbc_spec.specs.Reach.{Reach}
 use Rattle.rbc_spec.specs.Line.{Line, is_centre}
 use Rattle.rbc_spec.specs.Message.{TrainMessage}
 use Rattle.rbc_spec.specs.Outcome.{Outcome}
@@ -19,7 +18,6 @@ use Rattle.rbc_centre.specs.declared.event.Event.{Event as CentreEvent}
 use Rattle.rbc_centre.specs.declared.event.Event.TheVariants as of_centre
 use Rattle.rbc_centre.specs.declared.outcome.Outcome.{Outcome as OutcomeInMemory}
 use Rattle.rbc_centre.specs.declared.fault.StepFault.{StepFault}
-use Rattle.rbc_world.specs.Built.{built}
 use Rattle.rbc_world.specs.States.{stands_for}
 use Rattle.rbc_world.specs.Reached.{WasReached, MayBeTold}
 use Rattle.rbc_world.proofs.Steps.{is_centre_within, at_centre, set_told, unset_told, delivered, step_ok, told_ok, world_kept}
@@ -28,42 +26,42 @@ of_ok : {X : Type 0} (p q : X) → ◌≡◌ {A = Result X Refusal} (Ok p) (Ok q
 of_ok p q e = cc
 
 -- one event behind those of a run
-run_on : (reach : Reach) (line : Line) (events : List Event) (w mid new : World) (answers : List Answer) (event : Event) (answer : Answer)
-    → world_run reach line w events ≡ Ok (answers, mid) → world_step reach line mid event ≡ Ok (answer, new) → world_run reach line w (events ++ event ∷ []) ≡ Ok (answers ++ answer ∷ [], new)
-run_on reach line [] w mid new answers event answer is s =
-    let same : ([], w) ≡ (answers, mid) = of_ok ([], w) (answers, mid) (sym (run_of_none reach line w) ∙ is) in
-    let first : world_step reach line w event ≡ Ok (answer, new) = ap (λ (q : List Answer × World). world_step reach line q.1 event) same ∙ s in
-    subst (λ (q : List Answer × World). world_run reach line w (event ∷ []) ≡ Ok (q.0 ++ answer ∷ [], new)) same
-    (whole_run reach line w event [] (answer, new) (Ok ([], new)) first (run_of_none reach line new))
-run_on reach line (e ∷ events) w mid new answers event answer is s =
-    let first = bind_ok (world_step reach line w e) _ (answers, mid) (sym (run_of_cons reach line w e events) ∙ is) in
-    let others = bind_ok (world_run reach line first.0.1 events) _ (answers, mid) first.2 in
+run_on : (line : Line) (events : List Event) (w mid new : World) (answers : List Answer) (event : Event) (answer : Answer)
+    → world_run line w events ≡ Ok (answers, mid) → world_step line mid event ≡ Ok (answer, new) → world_run line w (events ++ event ∷ []) ≡ Ok (answers ++ answer ∷ [], new)
+run_on line [] w mid new answers event answer is s =
+    let same : ([], w) ≡ (answers, mid) = of_ok ([], w) (answers, mid) (sym (run_of_none line w) ∙ is) in
+    let first : world_step line w event ≡ Ok (answer, new) = ap (λ (q : List Answer × World). world_step line q.1 event) same ∙ s in
+    subst (λ (q : List Answer × World). world_run line w (event ∷ []) ≡ Ok (q.0 ++ answer ∷ [], new)) same
+    (whole_run line w event [] (answer, new) (Ok ([], new)) first (run_of_none line new))
+run_on line (e ∷ events) w mid new answers event answer is s =
+    let first = bind_ok (world_step line w e) _ (answers, mid) (sym (run_of_cons line w e events) ∙ is) in
+    let others = bind_ok (world_run line first.0.1 events) _ (answers, mid) first.2 in
     let same : (first.0.0 ∷ others.0.0, others.0.1) ≡ (answers, mid) = of_ok (first.0.0 ∷ others.0.0, others.0.1) (answers, mid) others.2 in
-    let last : world_step reach line others.0.1 event ≡ Ok (answer, new) = ap (λ (q : List Answer × World). world_step reach line q.1 event) same ∙ s in
-    subst (λ (q : List Answer × World). world_run reach line w (e ∷ (events ++ event ∷ [])) ≡ Ok (q.0 ++ answer ∷ [], new)) same
-    (whole_run reach line w e (events ++ event ∷ []) first.0 (Ok (others.0.0 ++ answer ∷ [], new)) first.1 (run_on reach line events first.0.1 others.0.1 new others.0.0 event answer others.1 last))
+    let last : world_step line others.0.1 event ≡ Ok (answer, new) = ap (λ (q : List Answer × World). world_step line q.1 event) same ∙ s in
+    subst (λ (q : List Answer × World). world_run line w (e ∷ (events ++ event ∷ [])) ≡ Ok (q.0 ++ answer ∷ [], new)) same
+    (whole_run line w e (events ++ event ∷ []) first.0 (Ok (others.0.0 ++ answer ∷ [], new)) first.1 (run_on line events first.0.1 others.0.1 new others.0.0 event answer others.1 last))
 
 -- no event leads to the beginning
-led_to_beginning : (line : Line) (w : World) → w ≡ new_world line → WasReached built line w
-led_to_beginning line w new = record { events = []; answers = []; run = run_of_none built line (new_world line) ∙ ap (λ (v : World). Ok ([], v)) (sym new) }
+led_to_beginning : (line : Line) (w : World) → w ≡ new_world line → WasReached line w
+led_to_beginning line w new = record { events = []; answers = []; run = run_of_none line (new_world line) ∙ ap (λ (v : World). Ok ([], v)) (sym new) }
 
-pub begins : (line own : Line) (w : World) → own ≡ line → w ≡ new_world line → ∥ WasReached built own w ∥₁
-begins line own w same new = subst (λ (l : Line). ∥ WasReached built l w ∥₁) (sym same) ∣ led_to_beginning line w new ∣₁
+pub begins : (line own : Line) (w : World) → own ≡ line → w ≡ new_world line → ∥ WasReached own w ∥₁
+begins line own w same new = subst (λ (l : Line). ∥ WasReached l w ∥₁) (sym same) ∣ led_to_beginning line w new ∣₁
 
 -- a step leads on
-led_on : (line : Line) (w new : World) (event : Event) (answer : Answer) → world_step built line w event ≡ Ok (answer, new) → WasReached built line w → WasReached built line new
+led_on : (line : Line) (w new : World) (event : Event) (answer : Answer) → world_step line w event ≡ Ok (answer, new) → WasReached line w → WasReached line new
 led_on line w new event answer s before = record {
   events = before.events ++ event ∷ [];
   answers = before.answers ++ answer ∷ [];
-  run = run_on built line before.events (new_world line) w new before.answers event answer before.run s;
+  run = run_on line before.events (new_world line) w new before.answers event answer before.run s;
 }
 
-goes_on : (line : Line) (w new : World) (event : Event) (answer : Answer) → world_step built line w event ≡ Ok (answer, new) → ∥ WasReached built line w ∥₁ → ∥ WasReached built line new ∥₁
+goes_on : (line : Line) (w new : World) (event : Event) (answer : Answer) → world_step line w event ≡ Ok (answer, new) → ∥ WasReached line w ∥₁ → ∥ WasReached line new ∥₁
 goes_on line w new event answer s before = ∥∥₁_map before (led_on line w new event answer s)
 
 -- so does what a centre of the line is told
 told_on : (line : Line) (w new : World) (c : ℕ) (event : CentreEvent) (answer : Answer) → is_centre line c ≡ true → MayBeTold w c event
-    → told_at line w c (takes built line w c w.trains (one_event event)) ≡ Ok (answer, new) → ∥ WasReached built line w ∥₁ → ∥ WasReached built line new ∥₁
+    → told_at line w c (takes line w c w.trains (one_event event)) ≡ Ok (answer, new) → ∥ WasReached line w ∥₁ → ∥ WasReached line new ∥₁
 told_on line w new c (of_centre.Train m) answer here never s before = absurd never
 told_on line w new c (of_centre.Set n) answer here said s before = goes_on line w new (Set c n) answer (set_told line w c n ∙ s) before
 told_on line w new c (of_centre.Unset n) answer here said s before = goes_on line w new (Unset c n) answer (unset_told line w c n ∙ s) before
@@ -73,22 +71,22 @@ told_on line w new c (of_centre.Deliver from frame) answer here sent s before =
 -- ## A centre of the world steps
 
 module _ (line : Line) (cs : List Centre) (trains : List ℕ) (c : ℕ) (k new : Centre) (at : slice_get cs c ≡ Some k) (within : c < length cs)
-    (of_line : one.line_of k ≡ line) (of_number : one.number_of k ≡ c) (each : length cs ≡ length line.centres) (before : ∥ WasReached built line (stands_for line cs trains) ∥₁) where
+    (of_line : one.line_of k ≡ line) (of_number : one.number_of k ≡ c) (each : length cs ≡ length line.centres) (before : ∥ WasReached line (stands_for line cs trains) ∥₁) where
   -- a refused step leaves the world that was reached
-  pub reached_still : (after : List ℕ) → after ≡ trains → one.state_of new ≡ one.state_of k → ∥ WasReached built line (stands_for line (set cs c new) after) ∥₁
-  reached_still after same kept = subst (λ (w : World). ∥ WasReached built line w ∥₁) (sym (ap (stands_for line (set cs c new)) same ∙ world_kept line cs trains c k new at within kept)) before
+  pub reached_still : (after : List ℕ) → after ≡ trains → one.state_of new ≡ one.state_of k → ∥ WasReached line (stands_for line (set cs c new) after) ∥₁
+  reached_still after same kept = subst (λ (w : World). ∥ WasReached line w ∥₁) (sym (ap (stands_for line (set cs c new)) same ∙ world_kept line cs trains c k new at within kept)) before
 
   -- behind what the centre is told
   pub reached_by_word : (event : CentreEvent) (result : Result OutcomeInMemory StepFault) → MayBeTold (stands_for line cs trains) c event
-      → Steps (λ o. (outcome_of o, one.state_of new)) result (step.step built (one.line_of k) (one.number_of k) (one_event event) (one.state_of k)) → OnErr result (one.state_of new ≡ one.state_of k)
-      → ∥ WasReached built line (stands_for line (set cs c new) trains) ∥₁
+      → Steps (λ o. (outcome_of o, one.state_of new)) result (step.step (one.line_of k) (one.number_of k) (one_event event) (one.state_of k)) → OnErr result (one.state_of new ≡ one.state_of k)
+      → ∥ WasReached line (stands_for line (set cs c new) trains) ∥₁
   reached_by_word event (Ok o) said s kept =
       told_on line (stands_for line cs trains) (stands_for line (set cs c new) trains) c event (Answered (outcome_of o)) (is_centre_within line cs c each within) said (told_ok line cs trains (one_event event) c k new at within of_line of_number each (outcome_of o) s) before
   reached_by_word event (Err fault) said s kept = reached_still trains refl kept
 
   -- behind a train's message
-  pub reached_by_message : (m : TrainMessage) (outcome : Outcome) (after : List ℕ) → step.step built (one.line_of k) (one.number_of k) (step.Train m) (one.state_of k) ≡ Ok (outcome, one.state_of new)
-      → after ≡ mention line m.nid_engine trains → ∥ WasReached built line (stands_for line (set cs c new) after) ∥₁
+  pub reached_by_message : (m : TrainMessage) (outcome : Outcome) (after : List ℕ) → step.step (one.line_of k) (one.number_of k) (step.Train m) (one.state_of k) ≡ Ok (outcome, one.state_of new)
+      → after ≡ mention line m.nid_engine trains → ∥ WasReached line (stands_for line (set cs c new) after) ∥₁
   unfolding stands_for
   reached_by_message m outcome after s named =
       goes_on line (stands_for line cs trains) (stands_for line (set cs c new) after) (Bytes c (Ok m)) (Answered outcome)

@@ -11,7 +11,6 @@ use Rattle.rbc_msgs.specs.TrainText.{TrainText}
 use Rattle.rbc_msgs.specs.TrainReading.{read_train}
 use Rattle.rbc_msgs.specs.Kept.{kept_packets, IsBehindPackets}
 use Rattle.rbc_msgs.specs.declared.fault.MsgFault.{MsgFault}
-use Rattle.rbc_world.specs.Built.{built}
 use Rattle.rbc_world.specs.declared.event.WorldEvent.{WorldEvent}
 use Rattle.rbc_world.specs.declared.event.WorldEvent.TheVariants as event
 use Rattle.rbc_centre.specs.declared.fault.StepFault.{StepFault}
@@ -54,5 +53,5 @@ IfWanted result so = Unit {0}
 -- a whole run is refused for want of memory, or as one of its steps is
 abbrev pub IsRefusedRun : Line → List Event → StepFault → Type 0
 IsRefusedRun line events Memory = Unit {0}
-IsRefusedRun line events LinkFull = IsRefused built line (new_world line) events AtLinkFull
-IsRefusedRun line events ClockEnd = IsRefused built line (new_world line) events AtClockEnd
+IsRefusedRun line events LinkFull = IsRefused line (new_world line) events AtLinkFull
+IsRefusedRun line events ClockEnd = IsRefused line (new_world line) events AtClockEnd

@@ -1,4 +1,3 @@
-pub mod Built
 pub mod Views
 pub mod Answers
 pub mod States

@@ -1,16 +1,15 @@
 -- Worlds that events led to.
 use Rattle.std.specs.Prelude.{◌≡◌, ℕ, List, Ok, Some}
-use Rattle.rbc_spec.specs.Reach.{Reach}
 use Rattle.rbc_spec.specs.Line.{Line}
 use Rattle.rbc_spec.specs.World.{World, Event, Answer, new_world, frame_sent, world_run}
 use Rattle.rbc_centre.specs.declared.event.Event.{Event as CentreEvent}
 use Rattle.rbc_centre.specs.declared.event.Event.TheVariants as of_centre
 
 -- some list of events, each with its answer, led from the line's beginning to this world
-pub record WasReached (reach : Reach) (line : Line) (w : World) : Type 0 where
+pub record WasReached (line : Line) (w : World) : Type 0 where
   pub events : List Event
   pub answers : List Answer
-  pub run : world_run reach line (new_world line) events ≡ Ok (answers, w)
+  pub run : world_run line (new_world line) events ≡ Ok (answers, w)
 
 -- centre c of this world may be told it: the interlocking says it, or it is a frame that was sent to the centre under some number
 abbrev pub MayBeTold : World → ℕ → CentreEvent → Type 0

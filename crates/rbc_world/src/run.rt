@@ -1,11 +1,10 @@
-ghost use Rattle.std.specs.Prelude.{◌≡◌, ◌≢◌, ℕ, [], map, IfOk, IfErr};
-ghost use Rattle.rbc_spec.specs.World.{new_world, world_run, all_named, IsRefused};
+ghost use Rattle.std.specs.Prelude.{◌≡◌, ℕ, [], map, IfOk, IfErr};
+ghost use Rattle.rbc_spec.specs.World.{new_world, world_run, all_named};
 ghost use Rattle.rbc_spec.specs.LineCentre.{line_beginning};
 ghost use Rattle.rbc_spec.specs.Run as line_run;
 ghost use Rattle.rbc_spec.specs.ReadOff.{IsLineRun, read_off};
 ghost use Rattle.rbc_spec.specs.Promises.{IsSound};
 ghost use Rattle.rbc_spec.specs.Theorems.{IsOneCentreLine, IsOneCentreRun, ForcedRun};
-ghost use Rattle.rbc_world.specs.Built.{built};
 ghost use Rattle.rbc_world.specs.World.{state_of};
 ghost use Rattle.rbc_world.specs.Views.{event_of, answer_of};
 ghost use Rattle.rbc_world.specs.Answers.{Gives, IsRefusedRun};
@@ -53,14 +52,14 @@ impl World {
         ensures trains { IfOk result (λ o. (state_of o.world).trains ≡ all_named line.now (map event_of events.now) []) }
         // But for want of memory a run is refused exactly where one of its steps is.
         ensures refused { IfErr result (IsRefusedRun line.now (map event_of events.now)) }
-        ensures exact { Gives (λ o. (map answer_of o.answers.items, state_of o.world)) result (world_run built line.now (new_world line.now) (map event_of events.now)) }
+        ensures exact { Gives (λ o. (map answer_of o.answers.items, state_of o.world)) result (world_run line.now (new_world line.now) (map event_of events.now)) }
     {
         known_line(line);
         World::outputs(alloc, line, events)
     }
 
     fn outputs(alloc: Global, line: &Line, events: &[WorldEvent]) -> Result<Outputs, StepFault>
-        ensures { Gives (λ o. (map answer_of o.answers.items, state_of o.world)) result (world_run built line.now (new_world line.now) (map event_of events.now)) }
+        ensures { Gives (λ o. (map answer_of o.answers.items, state_of o.world)) result (world_run line.now (new_world line.now) (map event_of events.now)) }
     {
         let mut world = World::new(alloc, line)?;
         let mut answers = Vec::with_capacity(alloc, events.len())?;

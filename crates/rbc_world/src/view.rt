@@ -6,7 +6,6 @@ ghost use Rattle.rbc_spec.specs.ReadOff.{StandsFor, read_off};
 ghost use Rattle.rbc_flow.specs.Shows.{shown};
 ghost use Rattle.rbc_seen.specs.Seen.{is_in_its_hand};
 ghost use Rattle.rbc_book.specs.Entries.{entry_of};
-ghost use Rattle.rbc_world.specs.Built.{built};
 ghost use Rattle.rbc_world.specs.Reached.{WasReached};
 ghost use Rattle.rbc_world.specs.World.{line_of, state_of};
 ghost use Rattle.rbc_world.specs.View.{mark_shown, held_shown, seat_of, EachOf, AreTrainsSeen, ShowsSection, ShowsSession, Shows};
@@ -118,7 +117,7 @@ impl World {
         // That state stands for the centres and those frames.
         ensures stands { StandsFor (line_of self.now) (state_of self.now) (read_off (line_of self.now) (state_of self.now)) }
         // Some list of events led from the line's beginning to the centres as they are.
-        ensures reached { ∥ WasReached built (line_of self.now) (state_of self.now) ∥₁ }
+        ensures reached { ∥ WasReached (line_of self.now) (state_of self.now) ∥₁ }
     {
         known_line(&self.line);
         let trains = self.train_views(alloc)?;

@@ -1,4 +1,4 @@
-ghost use Rattle.std.specs.Prelude.{◌≡◌, ◌<◌, ◌≤◌, ◌==◌, ◌&&◌, ℕ, true, not, if◌then◌else◌, nat_eq, is_none, is_some, length, slice_get, IfOk, IfErr, IfSome, OnOk, OnErr, Some};
+ghost use Rattle.std.specs.Prelude.{◌≡◌, ◌<◌, ◌==◌, ◌&&◌, ℕ, true, not, if◌then◌else◌, nat_eq, is_none, is_some, length, slice_get, IfOk, IfErr, IfSome, OnOk, OnErr, Some};
 ghost use Rattle.std.specs.List.{list_any};
 ghost use Rattle.rbc_spec.specs.Line.{IsLine, is_centre, train_number};
 ghost use Rattle.rbc_spec.specs.World.{new_world, world_step, at_centre, takes, mention, frame_sent, Bytes, Delivery};
@@ -6,7 +6,6 @@ ghost use Rattle.rbc_spec.specs.Step.{Train};
 ghost use Rattle.rbc_msgs.specs.StepMessage.{step_message};
 ghost use Rattle.rbc_msgs.specs.TrainReading.{read_train};
 ghost use Rattle.indexmap.specs.IndexSet.{spare, insert_key};
-ghost use Rattle.rbc_world.specs.Built.{built};
 ghost use Rattle.rbc_world.specs.States.{AtBeginning, stands_for};
 ghost use Rattle.rbc_world.specs.Reached.{WasReached, MayBeTold};
 ghost use Rattle.rbc_world.specs.Views.{IsFaultOf};
@@ -38,7 +37,7 @@ pub struct World {
     ghost each_centre: { length centres.items ≡ length line.centres },
     ghost one_line: { (c : ℕ) → (k : Centre) → slice_get centres.items c ≡ Some k → one.line_of k ≡ line },
     ghost in_order: { (c : ℕ) → (k : Centre) → slice_get centres.items c ≡ Some k → one.number_of k ≡ c },
-    ghost reached: { ∥ WasReached built line (stands_for line centres.items trains.keys) ∥₁ },
+    ghost reached: { ∥ WasReached line (stands_for line centres.items trains.keys) ∥₁ },
 }
 
 impl World {
@@ -50,7 +49,7 @@ impl World {
     pub fn new(alloc: Global, line: &Line) -> Result<World, AllocError>
         ensures line { IfOk result (λ w. line_of w ≡ line.now) }
         ensures beginning { IfOk result (λ w. state_of w ≡ new_world line.now) }
-        ensures reached { IfOk result (λ w. ∥ WasReached built (line_of w) (state_of w) ∥₁) }
+        ensures reached { IfOk result (λ w. ∥ WasReached (line_of w) (state_of w) ∥₁) }
     {
         Ok(World {
             alloc,
@@ -73,12 +72,12 @@ impl World {
         ensures line { line_of self.new ≡ line_of self.old }
         // What is answered and left is what the definition of a world's step gives.
         ensures exact { Gives (λ a. (answer_of a, state_of self.new)) result
-            (world_step built (line_of self.old) (state_of self.old) (event_of event.now)) }
+            (world_step (line_of self.old) (state_of self.old) (event_of event.now)) }
         // It is one piece of the one line centre's run, or none.
         ensures piece { IfOk result (λ a. Goes (line_of self.old) (read_off (line_of self.old) (state_of self.old))
             (event_of event.now) (answer_of a) (read_off (line_of self.old) (state_of self.new))) }
         // Some list of events led from the line's beginning to the world that is left.
-        ensures reached { ∥ WasReached built (line_of self.new) (state_of self.new) ∥₁ }
+        ensures reached { ∥ WasReached (line_of self.new) (state_of self.new) ∥₁ }
         // The state that is read off the centres stands for them, whatever was refused before.
         ensures stands { StandsFor (line_of self.new) (state_of self.new) (read_off (line_of self.new) (state_of self.new)) }
         // So each train has one supervisor at most, each section one train, and no section in use and no right is lost or in two places.
@@ -102,7 +101,7 @@ impl World {
     fn take(&mut self, event: &WorldEvent) -> Result<Answer, StepFault>
         ensures line { line_of self.new ≡ line_of self.old }
         ensures exact { Gives (λ a. (answer_of a, state_of self.new)) result
-            (world_step built (line_of self.old) (state_of self.old) (event_of event.now)) }
+            (world_step (line_of self.old) (state_of self.old) (event_of event.now)) }
         ensures memory { IfWanted result (TakesMemory (line_of self.old) (state_of self.old) event.now) }
         ensures err { OnErr result (state_of self.new ≡ state_of self.old) }
     {
@@ -119,7 +118,7 @@ impl World {
         requires { MayBeTold (state_of self.old) c event.now }
         ensures line { line_of self.new ≡ line_of self.old }
         ensures exact { Gives (λ a. (answer_of a, state_of self.new)) result
-            (at_centre (line_of self.old) (state_of self.old) c (takes built (line_of self.old) (state_of self.old) c (state_of self.old).trains (one_event event.now))) }
+            (at_centre (line_of self.old) (state_of self.old) c (takes (line_of self.old) (state_of self.old) c (state_of self.old).trains (one_event event.now))) }
         ensures memory { one_step.IsWantedBy ((state_of self.old).at c) (one_event event.now) result }
         ensures err { OnErr result (state_of self.new ≡ state_of self.old) }
     {
@@ -134,7 +133,7 @@ impl World {
     fn deliver(&mut self, from: u8, to: u8, number: u32) -> Result<Answer, StepFault>
         ensures line { line_of self.new ≡ line_of self.old }
         ensures exact { Gives (λ a. (answer_of a, state_of self.new)) result
-            (world_step built (line_of self.old) (state_of self.old) (Delivery from to number)) }
+            (world_step (line_of self.old) (state_of self.old) (Delivery from to number)) }
         ensures memory { IfWanted result (is_some (frame_sent (state_of self.old) from to number) ≡ true) }
         ensures err { OnErr result (state_of self.new ≡ state_of self.old) }
     {
@@ -162,7 +161,7 @@ impl World {
     fn receive(&mut self, c: u8, bytes: &[u8]) -> Result<Answer, StepFault>
         ensures line { line_of self.new ≡ line_of self.old }
         ensures exact { Gives (λ a. (answer_of a, state_of self.new)) result
-            (world_step built (line_of self.old) (state_of self.old) (Bytes c (numbered (read_train bytes.now)))) }
+            (world_step (line_of self.old) (state_of self.old) (Bytes c (numbered (read_train bytes.now)))) }
         ensures memory { IfWanted result ((is_centre (line_of self.old) c ≡ true) × BytesTakeMemory (line_of self.old) (state_of self.old).trains (read_train bytes.now)) }
         ensures err { OnErr result (state_of self.new ≡ state_of self.old) }
     {
@@ -181,7 +180,7 @@ impl World {
         requires { c < length self.old.centres.items }
         ensures line { line_of self.new ≡ line_of self.old }
         ensures exact { Gives (λ a. (answer_of a, state_of self.new)) result
-            (takes built (line_of self.old) (state_of self.old) c (mention (line_of self.old) message.nid_engine (state_of self.old).trains) (Train (step_message message))) }
+            (takes (line_of self.old) (state_of self.old) c (mention (line_of self.old) message.nid_engine (state_of self.old).trains) (Train (step_message message))) }
         // Memory is wanted only for a session, a frame or a first mention.
         ensures memory { IfWanted result (MakesRoom (line_of self.old) (state_of self.old).trains (step_message message)) }
         ensures err { OnErr result (state_of self.new ≡ state_of self.old) }

@@ -1,7 +1,6 @@
 -- A small line of two centres, and the worlds that some events lead to.
 use Rattle.std.specs.Prelude.{ℕ, ◌+◌, true, List, [], ◌∷◌, ◌++◌, Some, None, pos, Result, Ok, Err}
 use Rattle.rbc_spec.specs.Maps.{put_pair}
-use Rattle.rbc_spec.specs.Reach.{Whole}
 use Rattle.rbc_spec.specs.SectionRuns.{SectionRun}
 use Rattle.rbc_spec.specs.Line.{Line}
 use Rattle.rbc_spec.specs.Place.{Position, Place}
@@ -79,7 +78,7 @@ left_by w (Err why) = w
 
 -- the world behind these events, on a new line
 unfoldable pub behind : List Event → World
-behind events = left_by (new_world small) (world_run Whole small (new_world small) events)
+behind events = left_by (new_world small) (world_run small (new_world small) events)
 
 abbrev pub flow : List Event → Flow
 flow events = flow_of (behind events)

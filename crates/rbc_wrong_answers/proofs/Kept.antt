@@ -7,7 +7,6 @@ use Rattle.rbc_ledger.specs.Resource.{IsWithinCap, IsAtCap}
 use Rattle.rbc_ledger.proofs.Sums.{put_same, put_other}
 use Rattle.rbc_ledger.proofs.Resource.{placed_sound, placed_sound_took, placed_exact_took}
 use Rattle.rbc_spec.specs.Maps.{put}
-use Rattle.rbc_spec.specs.Reach.{Reach, Whole}
 use Rattle.rbc_spec.specs.Line.{Line, IsLine, is_centre, registrar}
 use Rattle.rbc_spec.specs.Place.{Place, covered}
 use Rattle.rbc_spec.specs.Frame.{AskRight}
@@ -55,12 +54,12 @@ pub answered : (line : Line) → IsLine line → (w : Flow) (a c t : ℕ) → Is
 answered line ok w a c t counted from to takes known here x d full =
     placed_exact_took (questions x d) (centre_count line) w a c (AskRight t) (right_asked line c a t (w.at c)).state (right_asked line c a t (w.at c)).frames counted
     (ltb-true a (centre_count line) from) (ltb-true c (centre_count line) to) takes
-    (record { law = omega (arith, ((comes_asked Whole line ok c a t (w.at c)).fair x d).law, (answering.comes_asked line c a t (w.at c) known (ltb-true a (centre_count line) from) here).law x d) }) full
+    (record { law = omega (arith, ((comes_asked line ok c a t (w.at c)).fair x d).law, (answering.comes_asked line c a t (w.at c) known (ltb-true a (centre_count line) from) here).law x d) }) full
 
 module _ (line : Line) (ok : IsLine line) (c : ℕ) where
   -- the right of a start that waits is asked for, of the registrar, where it was not
   asks_right : (t : ℕ) (j : Centre) → j.has_asked t ≡ false
-      → Goes Whole line c j ((option_map_or (λ r. send r (AskRight t)) (registrar line t) rest >> become (λ i. record i { has_asked = put i.has_asked t true })) j)
+      → Goes line c j ((option_map_or (λ r. send r (AskRight t)) (registrar line t) rest >> become (λ i. record i { has_asked = put i.has_asked t true })) j)
   unfolding ◌>>◌
   asks_right t j none = by_registrar (registrar line t)
     where
@@ -80,17 +79,17 @@ module _ (line : Line) (ok : IsLine line) (c : ℕ) where
       more true = refl
       more false = refl
 
-      by_registrar : (o : Option ℕ) → Goes Whole line c j ((option_map_or (λ r. send r (AskRight t)) o rest >> become (λ i. record i { has_asked = put i.has_asked t true })) j)
-      by_registrar None = ends_one Whole line c none_comes j y now (λ s u d out. out)
-      by_registrar (Some r) = sends_one Whole line c none_comes r (AskRight t) j y _ (λ d. more (d == r)) (counts r) (record {}) (λ old. old)
+      by_registrar : (o : Option ℕ) → Goes line c j ((option_map_or (λ r. send r (AskRight t)) o rest >> become (λ i. record i { has_asked = put i.has_asked t true })) j)
+      by_registrar None = ends_one line c none_comes j y now
+      by_registrar (Some r) = sends_one line c none_comes r (AskRight t) j y _ (λ d. more (d == r)) (counts r) (record {})
 
-  waits_asked : (t : ℕ) (place : Place) (k : Centre) → Goes Whole line c k (start_waiting line t place k)
-  waits_asked t place k = goes_then Whole line c waits (where_so (λ j. not (j.has_asked t)) asks_it) k
-      (goes_then Whole line c (booked is_open (Taken t) (covered line place)) (become (λ j. record j { wait = put j.wait t (Some place) })) k
-      (goes_taken Whole line c is_open t (covered line place) k)
-      (still Whole line c _ _ refl refl (λ s u d out. out)))
-      (goes_if Whole line c (not ((waits k).state.has_asked t)) (waits k).state (asks_it (waits k).state) (rest (waits k).state)
-      (λ so. asks_right t (waits k).state (not_so ((waits k).state.has_asked t) so)) (λ so. goes_rest Whole line c (waits k).state))
+  waits_asked : (t : ℕ) (place : Place) (k : Centre) → Goes line c k (start_waiting line t place k)
+  waits_asked t place k = goes_then line c waits (where_so (λ j. not (j.has_asked t)) asks_it) k
+      (goes_then line c (booked is_open (Taken t) (covered line place)) (become (λ j. record j { wait = put j.wait t (Some place) })) k
+      (goes_taken line c is_open t (covered line place) k)
+      (still line c _ _ refl refl))
+      (goes_if line c (not ((waits k).state.has_asked t)) (waits k).state (asks_it (waits k).state) (rest (waits k).state)
+      (λ so. asks_right t (waits k).state (not_so ((waits k).state.has_asked t) so)) (λ so. goes_rest line c (waits k).state))
     where
       waits : Act
       waits = booked is_open (Taken t) (covered line place) >> become (λ j. record j { wait = put j.wait t (Some place) })
@@ -109,7 +108,7 @@ module _ (line : Line) (ok : IsLine line) (c : ℕ) where
 
 -- ## Tokens
 
-pub none_lost : (reach : Reach) (line : Line) → IsLine line → (events : List Event) (answers : List Answer) (w : World) → world_run reach line (new_world line) events ≡ Ok (answers, w)
-    → (event : Event) (answer : Answer) (new : World) → world_step reach line w event ≡ Ok (answer, new) → (t s : ℕ) → IsAtCap (tokens line t s) (centre_count line) (flow_of new)
-none_lost reach line ok events answers w before event answer new is t s = let reached = each_reached reach line ok events answers w before in
-    (step_loses_nothing reach line ok w reached.sound reached.asked (never_lost reach line ok events answers w before) event answer new is).tokens t s
+pub none_lost : (line : Line) → IsLine line → (events : List Event) (answers : List Answer) (w : World) → world_run line (new_world line) events ≡ Ok (answers, w)
+    → (event : Event) (answer : Answer) (new : World) → world_step line w event ≡ Ok (answer, new) → (t s : ℕ) → IsAtCap (tokens line t s) (centre_count line) (flow_of new)
+none_lost line ok events answers w before event answer new is t s = let reached = each_reached line ok events answers w before in
+    (step_loses_nothing line ok w reached.sound reached.asked (never_lost line ok events answers w before) event answer new is).tokens t s

@@ -3,7 +3,6 @@
 ghost use Rattle.std.specs.Prelude.{◌≡◌, ℕ, true, List, Ok};
 ghost use Rattle.rbc_ledger.specs.Network.{took, TakesHead, IsCounted};
 ghost use Rattle.rbc_ledger.specs.Resource.{IsWithinCap, IsAtCap};
-ghost use Rattle.rbc_spec.specs.Reach.{Reach};
 ghost use Rattle.rbc_spec.specs.Line.{Line, IsLine, is_centre};
 ghost use Rattle.rbc_spec.specs.Place.{Place};
 ghost use Rattle.rbc_spec.specs.Frame.Body.{AskRight, RouteReturn};
@@ -53,8 +52,8 @@ pub fn no_right_is_asked_for_twice()
 /// Whatever is delivered behind any list of events, each token of a section in use is then in one place. Where sections that come home stay in use, they are
 /// in use and nowhere.
 pub fn no_return_is_swallowed()
-    ensures the_rule_keeps { (reach : Reach) (line : Line) (events : List Event) (answers : List Answer) (w new : World) (answer : Answer) (a b number t s : ℕ) → IsLine line
-        → world_run reach line (new_world line) events ≡ Ok (answers, w) → world_step reach line w (Delivery a b number) ≡ Ok (answer, new)
+    ensures the_rule_keeps { (line : Line) (events : List Event) (answers : List Answer) (w new : World) (answer : Answer) (a b number t s : ℕ) → IsLine line
+        → world_run line (new_world line) events ≡ Ok (answers, w) → world_step line w (Delivery a b number) ≡ Ok (answer, new)
         → IsAtCap (tokens line t s) (centre_count line) (flow_of new) }
     ensures the_wrong_rule_breaks { TakesHead (flow returning) 0 1 (RouteReturn 1 (only 2))
         × FallsShort (tokens small 1 2) small (flow returning) (replied (took (flow returning) 0 1) 1 (swallowing_return small 1 0 1 (only 2) ((flow returning).at 1))) }

@@ -2,4 +2,4 @@ use Rattle.rbc_asked.proofs.Worlds.{begins_asked}
 use Rattle.rbc_asked.proofs.laws.a_line_begins_asked.Goals as goal
 
 pub returns : goal.returns
-returns ctx reach line = begins_asked reach line
+returns ctx line = begins_asked line

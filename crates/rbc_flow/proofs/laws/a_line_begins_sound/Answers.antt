@@ -1,4 +1,4 @@
-use Rattle.rbc_flow.proofs.Begins.{line_begins, line_begins_whole, line_begins_numbered, line_begins_within, line_shows}
+use Rattle.rbc_flow.proofs.Begins.{line_begins, line_begins_whole, line_begins_numbered, line_shows}
 use Rattle.rbc_flow.proofs.laws.a_line_begins_sound.Goals as goal
 
 pub returns-clause-sound : goal.returns-clause-sound
@@ -9,9 +9,6 @@ returns-clause-whole c line = line_begins_whole line
 
 pub returns-clause-numbered : goal.returns-clause-numbered
 returns-clause-numbered c line = line_begins_numbered line
-
-pub returns-clause-within : goal.returns-clause-within
-returns-clause-within c reach line = line_begins_within reach line
 
 pub returns-clause-shown : goal.returns-clause-shown
 returns-clause-shown c line = line_shows line

@@ -2,7 +2,7 @@ use Rattle.rbc_flow.proofs.Numbers.{world_step_numbered, sent_number, next_sent}
 use Rattle.rbc_flow.proofs.laws.each_frame_keeps_its_number.Goals as goal
 
 pub returns-clause-kept : goal.returns-clause-kept
-returns-clause-kept ctx reach line w event answer new has is = world_step_numbered reach line w has event answer new is
+returns-clause-kept ctx line w event answer new has is = world_step_numbered line w has event answer new is
 
 pub returns-clause-number : goal.returns-clause-number
 returns-clause-number ctx w has a b number f is = sent_number w has a b number f is

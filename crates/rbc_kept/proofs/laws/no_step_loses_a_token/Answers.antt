@@ -2,4 +2,4 @@ use Rattle.rbc_kept.proofs.Tokens.{no_token_lost}
 use Rattle.rbc_kept.proofs.laws.no_step_loses_a_token.Goals as goal
 
 pub returns : goal.returns
-returns ctx reach line c t s k event ok range sound order due = no_token_lost line ok reach c t s k event range sound order due
+returns ctx line c t s k event ok range sound order due = no_token_lost line ok c t s k event range sound order due

@@ -2,7 +2,7 @@ use Rattle.rbc_kept.proofs.Worlds.{step_loses_nothing, never_lost}
 use Rattle.rbc_kept.proofs.laws.nothing_is_ever_lost.Goals as goal
 
 pub returns-clause-step : goal.returns-clause-step
-returns-clause-step ctx reach line w event answer new ok sound asked whole is = step_loses_nothing reach line ok w sound asked whole event answer new is
+returns-clause-step ctx line w event answer new ok sound asked whole is = step_loses_nothing line ok w sound asked whole event answer new is
 
 pub returns-clause-run : goal.returns-clause-run
-returns-clause-run ctx reach line events answers w ok is = never_lost reach line ok events answers w is
+returns-clause-run ctx line events answers w ok is = never_lost line ok events answers w is

@@ -5,7 +5,7 @@ pub returns-clause-beginning : goal.returns-clause-beginning
 returns-clause-beginning a = begins
 
 pub returns-clause-step : goal.returns-clause-step
-returns-clause-step a reach line c k event = step_keeps line c reach event k
+returns-clause-step a line c k event = step_keeps line c event k
 
 pub returns-clause-wanted : goal.returns-clause-wanted
 returns-clause-wanted a line k t first m r asks stands has = wanted_is line r m (asks t first m stands has)

@@ -8,7 +8,7 @@ pub returns-clause-sayings : goal.returns-clause-sayings
 returns-clause-sayings a = sayings_are
 
 pub returns-clause-frames : goal.returns-clause-frames
-returns-clause-frames a reach line c d k m = frames_are reach line c k m d
+returns-clause-frames a line c d k m = frames_are line c k m d
 
 pub returns-clause-words : goal.returns-clause-words
 returns-clause-words a = words_are

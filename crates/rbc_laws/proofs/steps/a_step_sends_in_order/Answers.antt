@@ -2,4 +2,4 @@ use Rattle.rbc_laws.proofs.SentTaken.{in_order}
 use Rattle.rbc_laws.proofs.steps.a_step_sends_in_order.Goals as goal
 
 pub returns : goal.returns
-returns a reach line c d k event h few = in_order d line c reach k event h few
+returns a line c d k event h few = in_order d line c k event h few

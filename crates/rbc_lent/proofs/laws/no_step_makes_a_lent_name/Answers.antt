@@ -6,5 +6,5 @@ use Rattle.rbc_lent.proofs.Lent.{lent_tally, lent_counted, lent_ready}
 use Rattle.rbc_lent.proofs.laws.no_step_makes_a_lent_name.Goals as goal
 
 pub returns : goal.returns
-returns ctx reach line c t s d k event ok sound =
-    step_fair line c (lent_tally line c t s d) (lent_counted line (is_ordered line ok) c t s d) reach k event sound (lent_ready line (is_ordered line ok) c t s d (neighbours line ok) k sound) refl
+returns ctx line c t s d k event ok sound =
+    step_fair line c (lent_tally line c t s d) (lent_counted line (is_ordered line ok) c t s d) k event sound (lent_ready line (is_ordered line ok) c t s d (neighbours line ok) k sound) refl

@@ -8,7 +8,7 @@ pub returns-clause-announces : goal.returns-clause-announces
 returns-clause-announces o line w c t d k v = announces_so line w c t d k v
 
 pub returns-clause-both : goal.returns-clause-both
-returns-clause-both o reach line w c t d k v = border_so reach line w c t d k v
+returns-clause-both o line w c t d k v = border_so line w c t d k v
 
 pub returns-clause-grants : goal.returns-clause-grants
-returns-clause-grants o reach line w c t track k v = grants_so reach line w c t track k v
+returns-clause-grants o line w c t track k v = grants_so line w c t track k v

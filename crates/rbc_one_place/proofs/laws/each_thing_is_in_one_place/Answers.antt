@@ -2,4 +2,4 @@ use Rattle.rbc_one_place.proofs.Where.{in_one_place}
 use Rattle.rbc_one_place.proofs.laws.each_thing_is_in_one_place.Goals as goal
 
 pub returns : goal.returns
-returns ctx reach line events answers w ok is = in_one_place reach line ok events answers w is
+returns ctx line events answers w ok is = in_one_place line ok events answers w is

@@ -2,4 +2,4 @@ use Rattle.rbc_pairs.proofs.Worlds.{world_step_sound}
 use Rattle.rbc_pairs.proofs.laws.each_step_keeps_all_sound.Goals as goal
 
 pub returns : goal.returns
-returns o reach line w event answer new ok old is = world_step_sound reach line ok w old event answer new is
+returns o line w event answer new ok old is = world_step_sound line ok w old event answer new is

@@ -5,5 +5,5 @@ use Rattle.rbc_progress.proofs.Rounds.{goes_on}
 use Rattle.rbc_progress.proofs.laws.each_handover_can_end.Goals as goal
 
 pub returns : goal.returns
-returns ctx reach line events answers w ok ranges before = goes_on reach line ok w (each_reached reach line ok events answers w before)
-    (run_in_range reach line ok events (new_world line) ranges (new_in_range line) answers w before)
+returns ctx line events answers w ok ranges before = goes_on line ok w (each_reached line ok events answers w before)
+    (run_in_range line ok events (new_world line) ranges (new_in_range line) answers w before)

@@ -3,4 +3,4 @@ use Rattle.rbc_ranges.proofs.Worlds.{new_in_range, run_in_range}
 use Rattle.rbc_ranges.proofs.laws.each_frame_of_a_world_has_its_ranges.Goals as goal
 
 pub returns : goal.returns
-returns o reach line events answers w ok range is = run_in_range reach line ok events (new_world line) range (new_in_range line) answers w is
+returns o line events answers w ok range is = run_in_range line ok events (new_world line) range (new_in_range line) answers w is

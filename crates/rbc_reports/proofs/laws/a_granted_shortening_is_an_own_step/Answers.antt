@@ -5,4 +5,4 @@ pub returns-clause-own : goal.returns-clause-own
 returns-clause-own ctx line c t_train t stamp position ok = granted_is_own line ok c t_train t position stamp
 
 pub returns-clause-parts : goal.returns-clause-parts
-returns-clause-parts ctx reach line c t_train t stamp position = granted_in_parts reach line c t_train t position stamp
+returns-clause-parts ctx line c t_train t stamp position = granted_in_parts line c t_train t position stamp

@@ -6,7 +6,7 @@ pub returns-clause-own : goal.returns-clause-own
 returns-clause-own ctx line c t_train t position ok = report_is_own line ok c t_train t position
 
 pub returns-clause-parts : goal.returns-clause-parts
-returns-clause-parts ctx reach line c t_train t position = report_in_parts reach line c t_train t position
+returns-clause-parts ctx line c t_train t position = report_in_parts line c t_train t position
 
 pub returns-clause-listens : goal.returns-clause-listens
 returns-clause-listens ctx line w v c t_train t stamp position ok sound sees to none heard = listens line ok w sound v sees c to t_train t stamp position none heard

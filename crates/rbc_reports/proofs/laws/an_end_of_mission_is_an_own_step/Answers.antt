@@ -5,4 +5,4 @@ pub returns-clause-own : goal.returns-clause-own
 returns-clause-own ctx line c t_train t position ok = end_is_own line ok c t_train t position
 
 pub returns-clause-parts : goal.returns-clause-parts
-returns-clause-parts ctx reach line c t_train t position = end_in_parts reach line c t_train t position
+returns-clause-parts ctx line c t_train t position = end_in_parts line c t_train t position

@@ -5,5 +5,5 @@ use Rattle.rbc_rest.proofs.Rest.{comes_to_rest}
 use Rattle.rbc_rest.proofs.laws.each_line_comes_to_rest.Goals as goal
 
 pub returns : goal.returns
-returns ctx reach line events answers w ok ranges before = comes_to_rest reach line ok w (each_reached reach line ok events answers w before)
-    (run_in_range reach line ok events (new_world line) ranges (new_in_range line) answers w before)
+returns ctx line events answers w ok ranges before = comes_to_rest line ok w (each_reached line ok events answers w before)
+    (run_in_range line ok events (new_world line) ranges (new_in_range line) answers w before)

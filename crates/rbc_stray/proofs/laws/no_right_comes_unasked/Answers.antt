@@ -2,4 +2,4 @@ use Rattle.rbc_stray.proofs.Reached.{right_asked}
 use Rattle.rbc_stray.proofs.laws.no_right_comes_unasked.Goals as goal
 
 pub returns : goal.returns
-returns ctx reach line events answers w a b number t f ok is sent next comes = right_asked reach line ok events answers w is a b number f sent next t comes
+returns ctx line events answers w a b number t f ok is sent next comes = right_asked line ok events answers w is a b number f sent next t comes

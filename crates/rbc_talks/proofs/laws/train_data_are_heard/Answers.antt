@@ -2,4 +2,4 @@ use Rattle.rbc_talks.proofs.Data.{data_heard}
 use Rattle.rbc_talks.proofs.laws.train_data_are_heard.Goals as goal
 
 pub returns : goal.returns
-returns ctx reach position line w v c t_train t stamp ok sound sees at heard = data_heard reach line w v sound sees c t_train t stamp at position heard
+returns ctx position line w v c t_train t stamp ok sound sees at heard = data_heard line w v sound sees c t_train t stamp at position heard

@@ -2,16 +2,16 @@ use Rattle.rbc_whole.proofs.Events.{silent_stays, stray_stays, fault_stays, nowh
 use Rattle.rbc_whole.proofs.laws.what_leads_nowhere.Goals as goal
 
 pub returns-clause-silent : goal.returns-clause-silent
-returns-clause-silent ctx reach line w v c m why ok meets is = silent_stays reach line ok w v meets c m why is
+returns-clause-silent ctx line w v c m why ok meets is = silent_stays line ok w v meets c m why is
 
 pub returns-clause-unspelled : goal.returns-clause-unspelled
-returns-clause-unspelled ctx reach line w v c number ok meets = fault_stays reach line ok w v meets c number
+returns-clause-unspelled ctx line w v c number ok meets = fault_stays line ok w v meets c number
 
 pub returns-clause-stray : goal.returns-clause-stray
-returns-clause-stray ctx reach line w v a b number f ok meets sent stray = stray_stays reach line ok w v meets a b number f sent stray
+returns-clause-stray ctx line w v a b number f ok meets sent stray = stray_stays line ok w v meets a b number f sent stray
 
 pub returns-clause-unsent : goal.returns-clause-unsent
-returns-clause-unsent ctx reach line w v a b number ok meets none = unsent_stays reach line ok w v meets a b number none
+returns-clause-unsent ctx line w v a b number ok meets none = unsent_stays line ok w v meets a b number none
 
 pub returns-clause-nowhere : goal.returns-clause-nowhere
-returns-clause-nowhere ctx reach line w v event ok meets away = nowhere_stays reach line ok w v meets event away
+returns-clause-nowhere ctx line w v event ok meets away = nowhere_stays line ok w v meets event away

@@ -1,5 +1,4 @@
 use Rattle.std.proofs.Common.{◌∙◌}
-use Rattle.rbc_spec.specs.Reach.{Whole as ToWhole}
 use Rattle.rbc_spec.specs.Step.{Deliver, taken, has_full_link}
 use Rattle.rbc_centre.proofs.Turns.{state_same, on_err}
 use Rattle.rbc_centre.proofs.centre.Centre.deliver.Goals as goal
@@ -16,4 +15,4 @@ pub returns-clause-exact : goal.returns-clause-exact
 returns-clause-exact c =
     let same = c.in_ok-reserve_frames.ensures.same in
     c.take_frame.ensures.exact
-    ∙ (λ i. taken ToWhole (same.line i) (same.number i) (Deliver c.args.from c.args.frame.now) (state_same c.args.self.now c.reserve_frames.new.self same i))
+    ∙ (λ i. taken (same.line i) (same.number i) (Deliver c.args.from c.args.frame.now) (state_same c.args.self.now c.reserve_frames.new.self same i))

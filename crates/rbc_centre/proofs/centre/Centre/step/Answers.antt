@@ -1,6 +1,5 @@
 use Rattle.std.proofs.Common.{◌≡◌, ◌∙◌, ◌+◌, ap, sym, refl, arith, Ok, inl, inr}
 use Rattle.std.proofs.lemmas.Result.{err_from_is_err_and}
-use Rattle.rbc_spec.specs.Reach.{Whole as ToWhole}
 use Rattle.rbc_spec.specs.Step.{taken, stamp_of}
 use Rattle.rbc_centre.specs.State.{stands_for}
 use Rattle.rbc_centre.specs.States.{state_of}
@@ -88,13 +87,13 @@ pub returns-in_ok-take-in-Train-clause-exact : goal.returns-in_ok-take-in-Train-
 returns-in_ok-take-in-Train-clause-exact c =
     let k = c.args.self.now in
     taken_step k.line k.number (state_of k) (event_of c.args.event.now) c.in_ok-may_step.ensures.ok
-    ∙ ap (λ x. Ok x) (ap (λ (e : Event). taken ToWhole k.line k.number (event_of e) (state_of k)) c.in-Train.is ∙ sym c.in_ok-take-in-Train.ensures.exact)
+    ∙ ap (λ x. Ok x) (ap (λ (e : Event). taken k.line k.number (event_of e) (state_of k)) c.in-Train.is ∙ sym c.in_ok-take-in-Train.ensures.exact)
 
 pub returns-in-Set-clause-exact : goal.returns-in-Set-clause-exact
 returns-in-Set-clause-exact c =
     let k = c.args.self.now in
     taken_step k.line k.number (state_of k) (event_of c.args.event.now) c.in_ok-may_step.ensures.ok
-    ∙ ap (λ x. Ok x) (ap (λ (e : Event). taken ToWhole k.line k.number (event_of e) (state_of k)) c.in-Set.is ∙ sym c.set.ensures.exact)
+    ∙ ap (λ x. Ok x) (ap (λ (e : Event). taken k.line k.number (event_of e) (state_of k)) c.in-Set.is ∙ sym c.set.ensures.exact)
 
 pub returns-in_err-unset-in-Unset-clause-exact : goal.returns-in_err-unset-in-Unset-clause-exact
 returns-in_err-unset-in-Unset-clause-exact c =
@@ -106,10 +105,10 @@ pub returns-in_ok-unset-in-Unset-clause-exact : goal.returns-in_ok-unset-in-Unse
 returns-in_ok-unset-in-Unset-clause-exact c =
     let k = c.args.self.now in
     taken_step k.line k.number (state_of k) (event_of c.args.event.now) c.in_ok-may_step.ensures.ok
-    ∙ ap (λ x. Ok x) (ap (λ (e : Event). taken ToWhole k.line k.number (event_of e) (state_of k)) c.in-Unset.is ∙ sym c.in_ok-unset-in-Unset.ensures.exact)
+    ∙ ap (λ x. Ok x) (ap (λ (e : Event). taken k.line k.number (event_of e) (state_of k)) c.in-Unset.is ∙ sym c.in_ok-unset-in-Unset.ensures.exact)
 
 pub returns-in_ok-deliver-in-Deliver-clause-exact : goal.returns-in_ok-deliver-in-Deliver-clause-exact
 returns-in_ok-deliver-in-Deliver-clause-exact c =
     let k = c.args.self.now in
     taken_step k.line k.number (state_of k) (event_of c.args.event.now) c.in_ok-may_step.ensures.ok
-    ∙ ap (λ x. Ok x) (ap (λ (e : Event). taken ToWhole k.line k.number (event_of e) (state_of k)) c.in-Deliver.is ∙ sym c.in_ok-deliver-in-Deliver.ensures.exact)
+    ∙ ap (λ x. Ok x) (ap (λ (e : Event). taken k.line k.number (event_of e) (state_of k)) c.in-Deliver.is ∙ sym c.in_ok-deliver-in-Deliver.ensures.exact)

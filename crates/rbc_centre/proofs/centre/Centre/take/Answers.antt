@@ -1,6 +1,5 @@
 use Rattle.std.proofs.Common.{◌≡◌, ◌∙◌, ◌+◌, ap, sym, None, Some, is_none, arith, refl, []}
 use Rattle.rbc_spec.specs.Line.{train_number}
-use Rattle.rbc_spec.specs.Reach.{Whole as ToWhole}
 use Rattle.rbc_spec.specs.Outcome.{ForeignEngine, Outcome}
 use Rattle.rbc_spec.specs.Centre as centre
 use Rattle.rbc_spec.specs.Step.{Train, effect, taken, ticked, has_full_link}
@@ -21,14 +20,14 @@ foreign : (c : In_default) → (
   outcome_with (c.args.self.now.clock + 1) (λ d. []) [] [] None (Some ForeignEngine),
   stands_for c.args.self.now.line c.args.self.now.number (c.args.self.now.clock + 1) c.args.self.now.book c.args.self.now.desk c.args.self.now.links c.args.self.now.trains.items,
 )
-    ≡ taken ToWhole c.args.self.now.line c.args.self.now.number (Train (step_message c.args.message.now)) (state_of c.args.self.now)
+    ≡ taken c.args.self.now.line c.args.self.now.number (Train (step_message c.args.message.now)) (state_of c.args.self.now)
 foreign c =
     let k = c.args.self.now in
     let m = step_message c.args.message.now in
     let now = k.clock + 1 in
     let none : train_number k.line m.nid_engine ≡ None = sym (c.train_number.ensures.value ∙ ap (train_number k.line) c.nid_engine.ensures.value) ∙ c.in_default.is in
     let left = stands_for k.line k.number now k.book k.desk k.links k.trains.items in
-    let is : effect ToWhole k.line k.number (ticked now (state_of k)) (Train m) ≡ effect_of (replied left (λ d. []) [] []) None (Some ForeignEngine) =
+    let is : effect k.line k.number (ticked now (state_of k)) (Train m) ≡ effect_of (replied left (λ d. []) [] []) None (Some ForeignEngine) =
     silent_effect k.line k.number (ticked now (state_of k)) m ForeignEngine (foreign_silence k.line k.number (ticked now (state_of k)) m (ap is_none none))
     ∙ ap (λ (x : centre.Centre). effect_of (replied x (λ d. []) [] []) None (Some ForeignEngine)) (ticked_is k.line k.number k.clock now k.book k.desk k.links k.trains.items) in
     says k.line k.number k.clock now k.book k.book k.desk k.desk k.links k.links k.trains.items k.trains.items (Train m) (heard_stamp k m) (λ d. refl) [] [] None (Some ForeignEngine) is _ refl
@@ -72,4 +71,4 @@ pub returns-clause-exact : goal.returns-clause-exact
 returns-clause-exact c =
     let same = c.in_ok-make_room.ensures.same in
     c.hear_train.ensures.exact
-    ∙ (λ i. taken ToWhole (same.line i) (same.number i) (Train (step_message c.args.message.now)) (state_same c.args.self.now c.make_room.new.self same i))
+    ∙ (λ i. taken (same.line i) (same.number i) (Train (step_message c.args.message.now)) (state_same c.args.self.now c.make_room.new.self same i))

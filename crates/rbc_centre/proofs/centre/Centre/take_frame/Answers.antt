@@ -5,8 +5,8 @@ use Rattle.std.proofs.lemmas.Option.{slice_get_read}
 use Rattle.rbc_spec.specs.Frame.{Body, HasBodyRange}
 use Rattle.rbc_spec.specs.Line.{train_number}
 use Rattle.rbc_spec.specs.Outcome.{Outcome, Told}
-use Rattle.rbc_spec.specs.Reach.{Whole as ToWhole}
-use Rattle.rbc_spec.specs.Step.{Deliver, body_taken}
+use Rattle.rbc_spec.specs.Step.{Deliver}
+use Rattle.rbc_spec.specs.Links.{received}
 use Rattle.rbc_sound.proofs.Ranges.{range_hand}
 use Rattle.rbc_linkmsg.specs.Bodies.{engine_in}
 use Rattle.rbc_session.specs.declared.session.SessionState.{SessionState}
@@ -18,7 +18,7 @@ use Rattle.rbc_centre.specs.State.{stands_for}
 use Rattle.rbc_centre.specs.Posts.{MayPost}
 use Rattle.rbc_centre.specs.Sent.{frames_to}
 use Rattle.rbc_centre.specs.Views.{link_of, outcome_heard}
-use Rattle.rbc_centre.proofs.Deliveries.{not_next, deliver_stamp, delivered_allowed, received_may, offered_as, untaken, ignored, received, silent, stays_silent, next_from}
+use Rattle.rbc_centre.proofs.Deliveries.{not_next, deliver_stamp, delivered_allowed, received_may, offered_as, untaken, ignored, train_takes, silent, stays_silent, next_from}
 use Rattle.rbc_centre.proofs.States.{number_within, counted_later, each_of_train_still}
 use Rattle.rbc_centre.proofs.Rows.{later_of}
 use Rattle.rbc_centre.proofs.Turns.{within, of_train, has_number, has_count, each_counted, turns, stays, sent_by}
@@ -221,9 +221,9 @@ post-frames-requires-clause-may c =
     let old = c.index_mut-train.result.now in
     let at = slice_get_read _ _ _ _ refl (number_within k.line k.trains.items t i number k.train_count) c.index_mut-train.ensures.value in
     let heard = c.receive-heard.result in
-    let effect = received k clock d f c.offer.new.self (link_of c.of-answer.result) is (ap link_of c.in-Next.is) t i old number at c.receive-heard.new.self c.receive-heard.new.book c.receive-heard.new.registrar
+    let effect = train_takes k clock d f c.offer.new.self (link_of c.of-answer.result) is (ap link_of c.in-Next.is) t i old number at c.receive-heard.new.self c.receive-heard.new.book c.receive-heard.new.registrar
     c.receive-heard.ensures.kept c.receive-heard.ensures.desk heard
-    (λ x has known. ap (λ (b : Body). body_taken ToWhole k.line k.number d b x) (sym c.body-body.ensures.value) ∙ c.receive-heard.ensures.exact x has known) in
+    (λ x has known. ap (λ (b : Body). received k.line k.number d b x) (sym c.body-body.ensures.value) ∙ c.receive-heard.ensures.exact x has known) in
     subst (λ (u : ℕ). (e : ℕ) → MayPost c.offer.new.self e (mail_to k.line k.number u (expected_from c.receive-heard.new.self.expectations) heard.mail e)) ((of_train k t i old number at).engine ∙ c.engine.ensures ∙ sym c.engine-2.ensures)
     (received_may k d f clock c.offer.new.self _ old (expected_from c.receive-heard.new.self.expectations) heard (link_of c.of-answer.result) (deliver_stamp k d f ∙ ap (λ n. n + 1) latest) c.offer.ensures.sent effect (delivered_allowed k d f c.requires.time c.requires.numbers)
     (subst HasBodyRange c.body-body.ensures.value c.body-body.ensures.range) c.offer.ensures.linked c.offer.ensures.room c.requires.frames)
@@ -252,8 +252,8 @@ invariant_of-self-2 c =
     let desk = c.receive-heard.ensures.desk in
     let answer = link_of c.of-answer.result in
     let next = ap link_of c.in-Next.is in
-    let effect = received k clock d f c.offer.new.self answer is next t i old number at new c.receive-heard.new.book c.receive-heard.new.registrar kept desk heard
-    (λ x has known. ap (λ (b : Body). body_taken ToWhole k.line k.number d b x) (sym c.body-body.ensures.value) ∙ c.receive-heard.ensures.exact x has known) in
+    let effect = train_takes k clock d f c.offer.new.self answer is next t i old number at new c.receive-heard.new.book c.receive-heard.new.registrar kept desk heard
+    (λ x has known. ap (λ (b : Body). received k.line k.number d b x) (sym c.body-body.ensures.value) ∙ c.receive-heard.ensures.exact x has known) in
     let train = of_train k t i old number at in
     let stamp = deliver_stamp k d f ∙ ap (λ n. n + 1) latest in
     let range = subst HasBodyRange c.body-body.ensures.value c.body-body.ensures.range in
@@ -309,8 +309,8 @@ returns-clause-exact c =
     let desk = c.receive-heard.ensures.desk in
     let answer = link_of c.of-answer.result in
     let next = ap link_of c.in-Next.is in
-    let effect = received k clock d f c.offer.new.self answer is next t i old number at new c.receive-heard.new.book c.receive-heard.new.registrar kept desk heard
-    (λ x has known. ap (λ (b : Body). body_taken ToWhole k.line k.number d b x) (sym c.body-body.ensures.value) ∙ c.receive-heard.ensures.exact x has known) in
+    let effect = train_takes k clock d f c.offer.new.self answer is next t i old number at new c.receive-heard.new.book c.receive-heard.new.registrar kept desk heard
+    (λ x has known. ap (λ (b : Body). received k.line k.number d b x) (sym c.body-body.ensures.value) ∙ c.receive-heard.ensures.exact x has known) in
     let left = stands_for k.line k.number clock c.receive-heard.new.book (record { registrar = c.receive-heard.new.registrar; handovers = k.desk.handovers }) c.post-frames.new.links (set k.trains.items i new) in
     let sent = sent_by k.line k.number c.engine-2.result old.supervision.engine clock (expected_from new.expectations) heard.mail c.offer.new.self c.post-frames.new.links (frames_to c.post-frames.result)
     (c.engine-2.ensures ∙ sym c.engine.ensures ∙ sym (of_train k t i old number at).engine) c.post-frames.ensures.posted c.post-frames.ensures.frames in

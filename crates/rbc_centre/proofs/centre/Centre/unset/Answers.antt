@@ -1,5 +1,4 @@
 use Rattle.std.proofs.Common.{◌∙◌, ap, sym}
-use Rattle.rbc_spec.specs.Reach.{Whole as ToWhole}
 use Rattle.rbc_spec.specs.Step.{Unset, taken, has_full_link}
 use Rattle.rbc_book.specs.Book.{Pages, entry_at}
 use Rattle.rbc_book.specs.Entries.{entry_of}
@@ -30,4 +29,4 @@ pub returns-clause-exact : goal.returns-clause-exact
 returns-clause-exact c =
     let same = c.in_ok-reserve_frames.ensures.same in
     c.withdraw.ensures.exact
-    ∙ (λ i. taken ToWhole (same.line i) (same.number i) (Unset c.args.s) (state_same c.args.self.now c.reserve_frames.new.self same i))
+    ∙ (λ i. taken (same.line i) (same.number i) (Unset c.args.s) (state_same c.args.self.now c.reserve_frames.new.self same i))

@@ -1,6 +1,5 @@
 use Rattle.std.proofs.Common.{◌∙◌, ◌++◌, [], ap, sym}
 use Rattle.std.specs.Option.{option_map_or}
-use Rattle.rbc_spec.specs.Reach.{Whole as ToWhole}
 use Rattle.rbc_spec.specs.Acts.{rest}
 use Rattle.rbc_spec.specs.Rules.{at_border}
 use Rattle.rbc_handover.specs.Giving.{with_count}
@@ -21,7 +20,7 @@ returns-clause-exact c = λ e k has counts so_many.
     let announced = c.announce-order.new.count in
     let letter = c.ask_route-letter.result in
     let left = c.ask_route-letter.ensures.left in
-    ap (λ o. option_map_or (at_border ToWhole line c.args.centre t) o rest k) (sym c.next_centre.ensures ∙ c.in-Some.is)
+    ap (λ o. option_map_or (at_border line c.args.centre t) o rest k) (sym c.next_centre.ensures ∙ c.in-Some.is)
     ∙ borders line c.args.centre t c.in-Some.next k e one order letter mid.said announced mid.supervision c.ask_route-letter.new.self.supervision.asked c.announce-order.ensures.supervision.engine
     (c.announce-order.ensures.exact e k has counts so_many)
     (λ j there. c.ask_route-letter.ensures.exact j there ∙ (λ i. posted (letters letter) (replied (with_supervision (left i).supervision j) [] [])))

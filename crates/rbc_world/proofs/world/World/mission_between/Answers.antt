@@ -1,7 +1,7 @@
 use Rattle.std.proofs.Common.{◌≡◌, ◌∙◌, ◌<◌, ◌≤◌, ℕ, List, Some, length, drop, get_or, slice_get, refl, sym, ap, subst, option_and_then, option_map, arith}
 use Rattle.std.proofs.lemmas.Option.{slice_get_read}
 use Rattle.rbc_spec.specs.Frame.{Frame}
-use Rattle.rbc_spec.specs.ReadOff.{Held, handed_over}
+use Rattle.rbc_spec.specs.ReadOff.{handed_over}
 use Rattle.rbc_spec.specs.Centre as centre
 use Rattle.rbc_centre.specs.States as one
 use Rattle.rbc_centre.specs.declared.centre.Centre.{Centre}

@@ -1,4 +1,4 @@
-use Rattle.std.proofs.Common.{◌≡◌, ◌∙◌, ◌<◌, ◌≤◌, ℕ, length, sym, ap, subst, option_map, arith}
+use Rattle.std.proofs.Common.{◌∙◌, ◌<◌, ◌≤◌, ℕ, length, sym, ap, subst, option_map, arith}
 use Rattle.rbc_world.specs.World.{line_of, state_of}
 use Rattle.rbc_world.specs.View.{held_shown}
 use Rattle.rbc_world.specs.Missions.{carried_between}

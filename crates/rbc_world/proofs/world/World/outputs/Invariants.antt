@@ -1,5 +1,4 @@
 use Rattle.std.proofs.Common.{◌≡◌, map, drop}
-use Rattle.rbc_world.specs.Built.{built}
 use Rattle.rbc_world.specs.World.{line_of, state_of}
 use Rattle.rbc_world.specs.Views.{event_of, answer_of}
 use Rattle.rbc_seen.proofs.Whole.{Reaches}
@@ -8,5 +7,5 @@ use Rattle.rbc_world.proofs.world.World.outputs.Given as goal
 abbrev pub invariant-loop-event : goal.invariant-loop-event
 invariant-loop-event l = record {
   line : line_of l.world ≡ l.line;
-  reaches : Reaches built l.line (map event_of l.events) (map event_of (drop l.event-index l.events)) (map answer_of l.answers.items) (state_of l.world);
+  reaches : Reaches l.line (map event_of l.events) (map event_of (drop l.event-index l.events)) (map answer_of l.answers.items) (state_of l.world);
 }

@@ -25,7 +25,7 @@ some_at (x ∷ xs) zero low = (x, refl)
 some_at (x ∷ xs) (suc n) low = some_at xs n (omega (arith, low))
 
 -- a fit place is one
-fit_of : (line : Line) (is_valid : Bool) (o : Option Place) (place : Place) → option_map_or (λ p. if is_valid && is_fit line p then Some p else None) o None ≡ Some place → is_fit line place ≡ true
+pub fit_of : (line : Line) (is_valid : Bool) (o : Option Place) (place : Place) → option_map_or (λ p. if is_valid && is_fit line p then Some p else None) o None ≡ Some place → is_fit line place ≡ true
 fit_of line is_valid None place is = cc
 fit_of line is_valid (Some p) place is = by_fit (is_valid && is_fit line p) refl is
   where
