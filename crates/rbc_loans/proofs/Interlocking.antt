@@ -1,7 +1,8 @@
 -- A set and an unset: the own step of the one line centre, and behind an unset of a section in use a request to shorten, or nothing.
-use Rattle.std.proofs.Common.{◌≡◌, ◌≢◌, ℕ, ◌==◌, not, Bool, true, false, if◌then◌else◌, List, [], ◌∷◌, Option, None, refl, sym, ap, ◌∙◌, subst, arith, append-nil, ⊎_elim}
+use Rattle.std.proofs.Common.{◌≡◌, ◌≢◌, ℕ, ◌==◌, not, Bool, true, false, if◌then◌else◌, List, [], ◌∷◌, Option, Some, None, refl, sym, ap, ◌∙◌, subst, arith, append-nil, eq-eqb, ⊎_elim}
 use Rattle.std.specs.Prelude.{MatchBool}
-use Rattle.std.proofs.lemmas.Bool.{cases_eq}
+use Rattle.std.specs.Option.{option_map_or}
+use Rattle.std.proofs.lemmas.Bool.{cases_eq, and_from}
 use Rattle.rbc_ledger.specs.Network.{acted}
 use Rattle.rbc_ledger.proofs.Resource.{carried_none}
 use Rattle.rbc_spec.specs.Maps.{has, put}
@@ -10,20 +11,21 @@ use Rattle.rbc_spec.specs.Place.{Place}
 use Rattle.rbc_spec.specs.Frame.{Body, RouteWithdraw}
 use Rattle.rbc_spec.specs.Outcome.{Done, Asked, NotHome}
 use Rattle.rbc_spec.specs.Centre as centre
-use Rattle.rbc_spec.specs.Centre.{Centre, Phase, Entry, is_unused}
-use Rattle.rbc_spec.specs.Acts.{Act, Reply, rest, become, ◌>>◌, send, propose_if_so}
+use Rattle.rbc_spec.specs.Centre.{Centre, Phase, Entry, Mission, is_unused}
+use Rattle.rbc_spec.specs.Acts.{Act, Reply, rest, become, ◌>>◌, where_so, send, may_propose, propose}
 use Rattle.rbc_spec.specs.Rules.{tell}
 use Rattle.rbc_spec.specs.Step.{wished, make, set, unset}
 use Rattle.rbc_spec.specs.LineCentre as line_centre
 use Rattle.rbc_spec.specs.LineCentre.{LineState, Mark, Said, nothing}
 use Rattle.rbc_spec.specs.OwnSteps.{Tells, is_unused_mark, set_mark, wished_back}
+use Rattle.rbc_spec.specs.Quiet.{Quiet, Propose, TakesAll}
 use Rattle.rbc_lemmas.proofs.Puts.{put_here, put_other, put_over}
 use Rattle.rbc_flow.specs.Flow.{Flow, centre_count}
 use Rattle.rbc_flow.specs.Counts.{hands, missions}
 use Rattle.rbc_flow.specs.Keeping.{nothing_came}
 use Rattle.rbc_flow.specs.Sound.{IsFlowSound, IsCentreSound}
 use Rattle.rbc_flow.specs.Shows.{Shows, shown, is_in_hand}
-use Rattle.rbc_flow.specs.Leads.{said_by, replied, Leads}
+use Rattle.rbc_flow.specs.Leads.{said_by, replied}
 use Rattle.rbc_flow.proofs.Compose.{acted_twice}
 use Rattle.rbc_sight.specs.Acts.{IsAct, SendsNone}
 use Rattle.rbc_sight.specs.After.{MarkAfter}
@@ -38,8 +40,8 @@ use Rattle.rbc_sound.proofs.Sends.{leaves, none_sent}
 use Rattle.rbc_tokens.proofs.Tally.{fair_plain}
 use Rattle.rbc_pairs.proofs.Orderly.{still}
 use Rattle.rbc_moves.proofs.Keeps.{act_sound}
-use Rattle.rbc_moves.proofs.Proposals.{propose_leads}
-use Rattle.rbc_loans.specs.Interlocking.{LeadsFrom}
+use Rattle.rbc_moves.proofs.Proposals.{proposal_takes}
+use Rattle.rbc_loans.specs.Interlocking.{LeadsFrom, LeadsAtOnce, LeadsUnset, asked_for}
 
 -- a section that is used at its home is so marked
 same_use : (e : Entry) (given : ℕ → Bool) → is_unused_mark (shown e given) ≡ is_unused e
@@ -56,21 +58,28 @@ same_use (centre.Out t d) given = by_given (given t)
     by_given true = refl
     by_given false = refl
 
+-- an own step alone
+abbrev pub from_once : (line : Line) (w : Flow) (c : ℕ) (Own : Said → LineState → Type 0) (r : Reply) → LeadsAtOnce line w c Own r → LeadsFrom line w c Own r
+from_once line w c Own r once = record {
+  said = said_by r;
+  mid = once.mid;
+  own = once.own;
+  quiets = [];
+  later = nothing;
+  new = once.mid;
+  takes = (refl, refl);
+  own_centre = refl;
+  says = λ i. record { sayings = sym (append-nil r.sayings) i; words = sym (append-nil r.words) i };
+  shows = once.shows;
+}
+
 module _ (line : Line) (w : Flow) (sound : IsFlowSound line w) (v : LineState) (sees : Shows line w v) (c s : ℕ) (to : is_centre line c ≡ true) where
-  -- an own step alone
-  at_once : (Own : Said → LineState → Type 0) (r : Reply) (new : LineState) → Own (said_by r) new → Shows line (replied w c r) new → LeadsFrom line w c Own r
-  at_once Own r new own shows = record {
-    said = said_by r;
-    mid = new;
-    own = own;
-    quiets = [];
-    later = nothing;
-    new = new;
-    takes = (refl, refl);
-    own_centre = refl;
-    says = λ i. record { sayings = sym (append-nil r.sayings) i; words = sym (append-nil r.words) i };
-    shows = shows;
-  }
+  abbrev at_once : (Own : Said → LineState → Type 0) (r : Reply) (new : LineState) → Own (said_by r) new → Shows line (replied w c r) new → LeadsAtOnce line w c Own r
+  at_once Own r new own shows = record { mid = new; own = own; shows = shows }
+
+  -- and then these quiet steps
+  abbrev FollowedBy : (Said → LineState → Type 0) → List Quiet → Reply → Type 0
+  FollowedBy Own quiets r = (h : LeadsFrom line w c Own r) × (h.quiets ≡ quiets)
 
   -- ## What is shown
 
@@ -189,40 +198,68 @@ module _ (line : Line) (w : Flow) (sound : IsFlowSound line w) (v : LineState) (
           old : IsCentreSound line c (w.at c)
           old = sound.centres c to
 
+      abbrev Asking : Said → LineState → Type 0
+      Asking = Tells (Asked s ∷ []) (wished_back s true v)
+
+      asked_once : (r : Reply) → said_by r ≡ record { sayings = []; words = Asked s ∷ [] } → Shows line (replied w c r) (wished_back s true v) → FollowedBy Asking [] r
+      asked_once r says shows = (from_once line w c Asking r (at_once Asking r (wished_back s true v) (record { said_is = says; new_is = refl }) shows), refl)
+
+      abbrev proposing : ℕ → Mission → Bool → Act
+      proposing t m b j = if b then propose line t s m j else rest j
+
       -- the own step, and then what the entry asks for
-      wished_leads : (e : Entry) → is_unused e ≡ false → LeadsFrom line w c (Tells (Asked s ∷ []) (wished_back s true v)) ((asks >> wished line s e) (w.at c))
+      wished_leads : (e : Entry) → is_unused e ≡ false → FollowedBy Asking (asked_for line c s (w.at c) e) ((asks >> wished line s e) (w.at c))
       unfolding ◌>>◌
       wished_leads centre.Shut so = cc
       wished_leads centre.Open so = cc
-      wished_leads (centre.Out t d) so = at_once (Tells (Asked s ∷ []) (wished_back s true v)) ((asks >> send d (RouteWithdraw t s)) (w.at c)) (wished_back s true v) (record { said_is = refl; new_is = refl })
+      wished_leads (centre.Out t d) so = asked_once ((asks >> send d (RouteWithdraw t s)) (w.at c)) refl
           (wish_shows true (send d (RouteWithdraw t s) (w.at c)).frames (λ u. sends_single (missions u) c d (RouteWithdraw t s) refl) (λ u x. sends_single (hands u x) c d (RouteWithdraw t s) refl))
-      wished_leads (centre.Taken t) so = record {
-        said = record { sayings = []; words = Asked s ∷ [] };
-        mid = wished_back s true v;
-        own = record { said_is = refl; new_is = refl };
-        quiets = two.quiets;
-        later = said_by (propose_if_so line t s wishing);
-        new = two.new;
-        takes = two.takes;
-        own_centre = two.own_centre;
-        says = refl;
-        shows = subst (λ u. Shows line u two.new) (acted_twice w c wishing (propose_if_so line t s wishing).state (λ d. []) (propose_if_so line t s wishing).frames) two.shows;
-      }
+      wished_leads (centre.Taken t) so = by_mission ((w.at c).mission t) refl
         where
-          two : Leads line (acted w c wishing (λ d. [])) c (propose_if_so line t s wishing) (wished_back s true v)
-          two = propose_leads line (acted w c wishing (λ d. [])) c t s wishing (wished_back s true v) ok wishing_sound (wish_shows true (λ d. []) none_sent_now no_hand_now) to (put_here w.at c c wishing refl)
+          still : FollowedBy Asking [] ((asks >> rest) (w.at c))
+          still = asked_once ((asks >> rest) (w.at c)) refl (wish_shows true (λ d. []) none_sent_now no_hand_now)
+
+          by_may : (m : Mission) → (w.at c).mission t ≡ Some m → (b : Bool) → may_propose line t s m wishing ≡ b
+              → FollowedBy Asking (if b then Propose t c s ∷ [] else []) ((asks >> proposing t m b) (w.at c))
+          by_may m at false may = still
+          by_may m at true may = (
+            record {
+              said = record { sayings = []; words = Asked s ∷ [] };
+              mid = wished_back s true v;
+              own = record { said_is = refl; new_is = refl };
+              quiets = Propose t c s ∷ [];
+              later = said_by (propose line t s m wishing);
+              new = two.0;
+              takes = two.1;
+              own_centre = and_from (c == c) true (eq-eqb c c refl) refl;
+              says = refl;
+              shows = subst (λ u. Shows line u two.0) (acted_twice w c wishing (propose line t s m wishing).state (λ d. []) (propose line t s m wishing).frames) two.2;
+            },
+            refl,
+          )
+            where
+              two : (new : LineState) × TakesAll line (wished_back s true v) (Propose t c s ∷ []) (said_by (propose line t s m wishing)) new
+                  × Shows line (replied (acted w c wishing (λ d. [])) c (propose line t s m wishing)) new
+              two = proposal_takes line (acted w c wishing (λ d. [])) c t s wishing (wished_back s true v) wishing_sound (wish_shows true (λ d. []) none_sent_now no_hand_now) to (put_here w.at c c wishing refl)
+                  m at may
+
+          by_mission : (o : Option Mission) → (w.at c).mission t ≡ o
+              → FollowedBy Asking (if has (λ m. may_propose line t s m (w.at c)) o then Propose t c s ∷ [] else [])
+              ((asks >> (λ j. option_map_or (λ m. where_so (may_propose line t s m) (propose line t s m) j) o (rest j))) (w.at c))
+          by_mission None at = still
+          by_mission (Some m) at = by_may m at (may_propose line t s m wishing) refl
 
   -- ## Set
 
   abbrev SetsSo : Bool → Bool → Said → LineState → Type 0
   SetsSo h m said new = MatchBool h (Tells (Done s ∷ []) (if m then set_mark s line_centre.Open v else wished_back s false v) said new) (Tells (NotHome s ∷ []) v said new)
 
-  pub set_leads : LeadsFrom line w c (SetsSo (is_home line c s) (is_unused_mark (v.mark s))) (set line c s (w.at c))
+  pub set_leads : LeadsAtOnce line w c (SetsSo (is_home line c s) (is_unused_mark (v.mark s))) (set line c s (w.at c))
   unfolding ◌>>◌
   set_leads = by_home (is_home line c s) refl (is_unused_mark (v.mark s)) refl (is_unused ((w.at c).book s)) refl
     where
       by_home : (h : Bool) → is_home line c s ≡ h → (m : Bool) → is_unused_mark (v.mark s) ≡ m → (u : Bool) → is_unused ((w.at c).book s) ≡ u
-          → LeadsFrom line w c (SetsSo h m)
+          → LeadsAtOnce line w c (SetsSo h m)
           (if not h then tell (NotHome s) (w.at c) else (become (λ j. record j { wish = put j.wish s false }) >> ((if u then make s centre.Open false else rest) >> tell (Done s))) (w.at c))
       by_home false away m marked u is = at_once (SetsSo false m) (tell (NotHome s) (w.at c)) v (record { said_is = refl; new_is = refl }) still_shows
       by_home true home true marked true unused = at_once (SetsSo true true) _ (set_mark s line_centre.Open v) (record { said_is = refl; new_is = refl })
@@ -238,16 +275,25 @@ module _ (line : Line) (w : Flow) (sound : IsFlowSound line w) (v : LineState) (
   abbrev UnsetsSo : Bool → Bool → Said → LineState → Type 0
   UnsetsSo h m said new = MatchBool h (MatchBool m (Tells (Done s ∷ []) (set_mark s line_centre.Shut v) said new) (Tells (Asked s ∷ []) (wished_back s true v) said new)) (Tells (NotHome s ∷ []) v said new)
 
-  pub unset_leads : IsLine line → LeadsFrom line w c (UnsetsSo (is_home line c s) (is_unused_mark (v.mark s))) (unset line c s (w.at c))
+  unused_unasked : (e : Entry) → is_unused e ≡ true → asked_for line c s (w.at c) e ≡ []
+  unused_unasked centre.Shut unused = refl
+  unused_unasked centre.Open unused = refl
+  unused_unasked (centre.Taken t) unused = cc
+  unused_unasked (centre.Out t d) unused = cc
+
+  pub unset_leads : IsLine line → LeadsUnset line w c s (unset line c s (w.at c)) v
   unfolding ◌>>◌
-  unset_leads ok = by_home (is_home line c s) refl (is_unused_mark (v.mark s)) refl (is_unused ((w.at c).book s)) refl
+  unset_leads ok = let leads = by_home (is_home line c s) refl (is_unused_mark (v.mark s)) refl (is_unused ((w.at c).book s)) refl in record { leads = leads.0; asks = leads.1 }
     where
       by_home : (h : Bool) → is_home line c s ≡ h → (m : Bool) → is_unused_mark (v.mark s) ≡ m → (u : Bool) → is_unused ((w.at c).book s) ≡ u
-          → LeadsFrom line w c (UnsetsSo h m)
+          → FollowedBy (UnsetsSo h m) (if h then asked_for line c s (w.at c) ((w.at c).book s) else [])
           (if not h then tell (NotHome s) (w.at c) else (if u then (make s centre.Shut false >> tell (Done s)) else ((become (λ j. record j { wish = put j.wish s true }) >> tell (Asked s)) >> wished line s ((w.at c).book s))) (w.at c))
-      by_home false away m marked u is = at_once (UnsetsSo false m) (tell (NotHome s) (w.at c)) v (record { said_is = refl; new_is = refl }) still_shows
-      by_home true home true marked true unused = at_once (UnsetsSo true true) _ (set_mark s line_centre.Shut v) (record { said_is = refl; new_is = refl })
-          (entry_shows home centre.Shut line_centre.Shut (λ d there book. shut line w c nothing_came (made home centre.Shut line_centre.Shut) (λ e. []) (made_flow home centre.Shut line_centre.Shut) s d (made_act home centre.Shut line_centre.Shut) there (v.mark s) home book))
+      by_home false away m marked u is = (from_once line w c (UnsetsSo false m) (tell (NotHome s) (w.at c)) (at_once (UnsetsSo false m) (tell (NotHome s) (w.at c)) v (record { said_is = refl; new_is = refl }) still_shows), refl)
+      by_home true home true marked true unused = (
+        from_once line w c (UnsetsSo true true) _ (at_once (UnsetsSo true true) _ (set_mark s line_centre.Shut v) (record { said_is = refl; new_is = refl })
+            (entry_shows home centre.Shut line_centre.Shut (λ d there book. shut line w c nothing_came (made home centre.Shut line_centre.Shut) (λ e. []) (made_flow home centre.Shut line_centre.Shut) s d (made_act home centre.Shut line_centre.Shut) there (v.mark s) home book))),
+        sym (unused_unasked ((w.at c).book s) unused),
+      )
       by_home true home false marked false used = wished_leads home ok used ((w.at c).book s) used
       by_home true home true marked false used = absurd (let wrong : true ≡ false = sym marked ∙ use_shown home ∙ used in cc)
       by_home true home false marked true unused = absurd (let wrong : false ≡ true = sym marked ∙ use_shown home ∙ unused in cc)

@@ -14,7 +14,7 @@ use Rattle.rbc_spec.specs.Acts.{rest, ◌>>◌, may_propose, propose, propose_if
 use Rattle.rbc_spec.specs.LineCentre as line_centre
 use Rattle.rbc_spec.specs.LineCentre.{LineState, LineMission, Said, says, At}
 use Rattle.rbc_spec.specs.OwnSteps.{one_message}
-use Rattle.rbc_spec.specs.Quiet.{Propose, Proposes}
+use Rattle.rbc_spec.specs.Quiet.{Propose, Proposes, TakesAll}
 use Rattle.rbc_spec.specs.ReadOff.{seen}
 use Rattle.rbc_flow.specs.Flow.{Flow}
 use Rattle.rbc_flow.specs.Counts.{hands, missions}
@@ -56,10 +56,10 @@ module _ (line : Line) (w : Flow) (sound : IsFlowSound line w) (v : LineState) (
     abbrev asked : ℕ → Mission
     asked count = record m { proposal = Some (record { stamp = count + 1; last_kept = s - 1 }) }
 
-    abbrev asks : ℕ → LineMission → LineMission
+    abbrev pub asks : ℕ → LineMission → LineMission
     asks count n = record n { proposal = Some (record { stamp = count + 1; last_kept = s - 1 }) }
 
-    abbrev after : LineState
+    abbrev pub after : LineState
     after = says t c (line_centre.change_mission t (asks (v.said t c)) v)
 
     not_first : m.hand.first < s
@@ -92,7 +92,7 @@ module _ (line : Line) (w : Flow) (sound : IsFlowSound line w) (v : LineState) (
     seen_so : option_map (asks (v.said t c)) (v.mission t) ≡ Some (seen c (asked ((w.at c).said t)))
     seen_so = ap (λ (n : ℕ). option_map (asks n) (v.mission t)) (sees.said t c) ∙ ap (option_map (asks ((w.at c).said t))) (sees.mission t c m at)
 
-    shows_so : Shows line (replied w c (propose line t s m (w.at c))) after
+    pub shows_so : Shows line (replied w c (propose line t s m (w.at c))) after
     unfolding ◌>>◌
     shows_so = subst (λ (o : Option LineMission). Shows line (replied w c (propose line t s m (w.at c))) (says t c (line_centre.set_mission t o v))) (sym seen_so)
         (changed_shown line w sound v sees c to t m (asked ((w.at c).said t)) (propose line t s m (w.at c)).state (λ d. []) (λ u d. carried_none (missions u) c d) (λ u e d. carried_none (hands u e) c d) at refl refl refl
@@ -100,11 +100,14 @@ module _ (line : Line) (w : Flow) (sound : IsFlowSound line w) (v : LineState) (
         (λ u. ap (λ n. put (w.at c).said t (n + 1) u) (sym (sees.said t c)))) refl refl refl
         (ap (λ (o : Option Mission). put (w.at c).mission t (option_map (λ (n : Mission). record n { proposal = Some (record { stamp = (w.at c).said t + 1; last_kept = s - 1 }) }) o)) at))
 
+    pub takes_so : TakesAll line v (Propose t c s ∷ []) (said_by (propose line t s m (w.at c))) after
+    takes_so = one_quiet line w c v (Propose t c s) (said_by (propose line t s m (w.at c))) after proposes
+
     proposal_moves : Moves line w c (propose line t s m (w.at c)) v
     proposal_moves = record {
       quiets = Propose t c s ∷ [];
       new = after;
-      takes = one_quiet line w c v (Propose t c s) (said_by (propose line t s m (w.at c))) after proposes;
+      takes = takes_so;
       own_centre = and_from (c == c) true (eq-eqb c c refl) refl;
       shows = shows_so;
     }
@@ -113,6 +116,15 @@ module _ (line : Line) (w : Flow) (sound : IsFlowSound line w) (v : LineState) (
   propose_moves = moves_or line w c v ((w.at c).mission t) _ (rest (w.at c))
       (λ m at. moves_if line w c v (may_propose line t s m (w.at c)) (propose line t s m (w.at c)) (rest (w.at c)) (λ may. proposal_moves m at may) (λ no. rest_moves line w sound v sees c to))
       (λ none. rest_moves line w sound v sees c to)
+
+-- where it may be made it is that one quiet step
+pub proposal_takes : (line : Line) (w : Flow) (c t s : ℕ) (k : Centre) (v : LineState) → IsFlowSound line w → Shows line w v → is_centre line c ≡ true → w.at c ≡ k
+    → (m : Mission) → k.mission t ≡ Some m → may_propose line t s m k ≡ true
+    → (new : LineState) × TakesAll line v (Propose t c s ∷ []) (said_by (propose line t s m k)) new × Shows line (replied w c (propose line t s m k)) new
+proposal_takes line w c t s k v sound sees to is = subst
+    (λ (x : Centre). (m : Mission) → x.mission t ≡ Some m → may_propose line t s m x ≡ true
+    → (new : LineState) × TakesAll line v (Propose t c s ∷ []) (said_by (propose line t s m x)) new × Shows line (replied w c (propose line t s m x)) new) is
+    (λ m at may. (after line w sound v sees c to t s m at may, takes_so line w sound v sees c to t s m at may, shows_so line w sound v sees c to t s m at may))
 
 pub propose_leads : (line : Line) (w : Flow) (c t s : ℕ) (k : Centre) (v : LineState) → IsLine line → IsFlowSound line w → Shows line w v → is_centre line c ≡ true → w.at c ≡ k
     → Leads line w c (propose_if_so line t s k) v

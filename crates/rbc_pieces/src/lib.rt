@@ -1,8 +1,3 @@
-//! Centres that have their missions to themselves: what is read off them, and, in `proofs/`, what each event at them is for the one
-//! line centre. A mission begins, runs and ends at one centre, its train's registrar. The functions here do nothing: each contract
-//! is a law of the definitions, for the crates above to cite from `proofs/`.
+//! Lemmas of the pieces of the one line centre's run, of what each piece keeps of the promises, and of lists of events taken apart. They stand in
+//! `proofs/`, for the crates above to cite. No code.
 #![tactic(auto)]
-
-mod laws;
-
-pub use laws::{each_world_is_sound, same_reasons_of_silence, what_is_read_off};

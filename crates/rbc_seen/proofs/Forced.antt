@@ -10,6 +10,8 @@ use Rattle.rbc_local.specs.Local.{IsLocal}
 use Rattle.rbc_local.proofs.Ordered.{is_ordered}
 use Rattle.rbc_local.proofs.Worlds.{new_local, run_local}
 use Rattle.rbc_single.proofs.Whole as single
+use Rattle.rbc_seen.specs.Known.{IsKnown}
+use Rattle.rbc_seen.proofs.Known.{meets}
 
 -- there is one proof at most that no other centre has a part
 pub one_proof : (line : Line) (w : World) (p q : IsLocal line w) → p ≡ q
@@ -25,6 +27,6 @@ module _ (line : Line) (ok : IsLine line) (c : ℕ) (one : IsOneCentreLine line 
   pub run_read : (events : List Event) (answers : List Answer) (w : World) → world_run line (new_world line) events ≡ Ok (answers, w) → ForcedRun line line_beginning events answers (read_off line w)
   run_read events answers w is = single.run_read line ok c one events answers w is
 
-  -- a step, where no other centre has a part
-  pub forced : (w : World) → IsLocal line w → (event : Event) (answer : Answer) (new : World) → world_step line w event ≡ Ok (answer, new) → GoesForced line (read_off line w) event answer (read_off line new)
-  forced w local event answer new is = single.step_read line ok c one w new event answer local is
+  -- a step from a world of which that is known, where no other centre has a part
+  pub forced : (w : World) → IsKnown line w → IsLocal line w → (event : Event) (answer : Answer) (new : World) → world_step line w event ≡ Ok (answer, new) → GoesForced line (read_off line w) event answer (read_off line new)
+  forced w known local event answer new is = single.step_read line ok c one w new event answer (meets line w known) local is

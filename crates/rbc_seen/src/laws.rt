@@ -50,7 +50,7 @@ pub fn each_event_is_forced()
     ensures local { (line : Line) (c : ℕ) (events : List Event) (answers : List Answer) (w : World) → IsLine line → IsOneCentreLine line c
         → world_run line (new_world line) events ≡ Ok (answers, w) → IsLocal line w }
     ensures one_proof { (line : Line) (w : World) (p q : IsLocal line w) → p ≡ q }
-    ensures forced { (line : Line) (c : ℕ) (w new : World) (event : Event) (answer : Answer) → IsLine line → IsOneCentreLine line c → IsLocal line w
+    ensures forced { (line : Line) (c : ℕ) (w new : World) (event : Event) (answer : Answer) → IsLine line → IsOneCentreLine line c → IsKnown line w → IsLocal line w
         → world_step line w event ≡ Ok (answer, new) → GoesForced line (read_off line w) event answer (read_off line new) }
     ensures forced_behind { (line : Line) (c : ℕ) (events : List Event) (answers : List Answer) (w new : World) (event : Event) (answer : Answer)
         → IsLine line → IsOneCentreLine line c → world_run line (new_world line) events ≡ Ok (answers, w)

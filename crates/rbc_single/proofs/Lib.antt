@@ -1,5 +1,7 @@
+pub mod Silence
+pub mod Alone
 pub mod Messages
-pub mod Starts
+pub mod Asks
 pub mod Tellings
 pub mod Events
 pub mod Whole

@@ -1,93 +1,92 @@
--- The step of a message leaves no choice: it is silent for its reason, or answered at once.
-use Rattle.std.proofs.Common.{◌≡◌, ℕ, true, Option, Some, None, refl, sym, ap, ◌∙◌, inl, inr, List, [], Ok, subst}
-use Rattle.rbc_spec.specs.Line.{Line, is_centre}
-use Rattle.rbc_spec.specs.Message.{TrainBody}
-use Rattle.rbc_spec.specs.Outcome.{Reason}
-use Rattle.rbc_spec.specs.Acts.{Reply}
+-- A message at a centre of a one-centre line leaves no choice: it is silent for its reason, or the own step alone answers it.
+use Rattle.std.proofs.Common.{◌≡◌, ℕ, true, List, [], Option, Some, None, Ok, refl, sym, ap, ◌∙◌, inl, append-nil, ⊎_elim}
+use Rattle.std.specs.Option.{option_map_or}
+use Rattle.rbc_spec.specs.Line.{Line, IsLine, is_centre}
+use Rattle.rbc_spec.specs.Message.{TrainMessage}
+use Rattle.rbc_spec.specs.Outcome.{Outcome, Reason}
+use Rattle.rbc_spec.specs.Centre.{Centre}
+use Rattle.rbc_spec.specs.Acts.{rest}
+use Rattle.rbc_spec.specs.LineCentre.{LineState, Said, nothing}
 use Rattle.rbc_spec.specs.Step as step
-use Rattle.rbc_spec.specs.Step.{Effect}
-use Rattle.rbc_spec.specs.LineCentre.{Said, nothing}
-use Rattle.rbc_spec.specs.World.{World, Bytes}
-use Rattle.rbc_spec.specs.Run.{OwnStep, silent, heard}
-use Rattle.rbc_spec.specs.Theorems.{ForcedPiece, IsStartAccepted}
-use Rattle.rbc_local.specs.Local.{IsLocal, local_read_off}
-use Rattle.rbc_pieces.specs.Pieces.{with_centre}
-use Rattle.rbc_pieces.proofs.Silence.{same_silence}
-use Rattle.rbc_pieces.proofs.InOrder.{none_in_order, piece_in_order}
-use Rattle.rbc_pieces.proofs.Messages.{AtOnce, now, stamp, ticked, message, reply, before, nothing_more, unseen}
+use Rattle.rbc_spec.specs.Step.{Effect, effect, outcome_of, state_after}
+use Rattle.rbc_spec.specs.World.{World, Event, Bytes}
+use Rattle.rbc_spec.specs.Run as run
+use Rattle.rbc_spec.specs.Run.{Piece, Spoken, Steps, silent, heard, listened, TellsInOrder}
+use Rattle.rbc_spec.specs.Theorems.{IsOneCentreLine, ForcedPiece}
+use Rattle.rbc_local.specs.Local.{IsLocal}
+use Rattle.rbc_flow.specs.Flow.{flow_of, in_world}
+use Rattle.rbc_flow.specs.Shows.{Shows}
+use Rattle.rbc_flow.specs.Leads.{said_by}
+use Rattle.rbc_flow.proofs.Takes.{train_keeps}
+use Rattle.rbc_whole.specs.Meets.{Meets}
+use Rattle.rbc_whole.proofs.InOrder.{effect_in_order}
+use Rattle.rbc_whole.proofs.Silence.{silent_by_clock}
+use Rattle.rbc_whole.proofs.Still.{silent_met, shown_behind}
+use Rattle.rbc_single.proofs.Silence.{heard_alike}
+use Rattle.rbc_single.proofs.Alone.{alone, accepted}
 
-module _ (line : Line) (w : World) (local : IsLocal line w) (c t_train t : ℕ) (trains : List ℕ) (at : is_centre line c ≡ true) where
-  -- what a step with this effect shows of the one line centre
-  abbrev PieceOf : TrainBody → Effect → Type 0
-  PieceOf body e =
-      ForcedPiece line (now line w local c t_train t trains at) (Bytes c (Ok (message line w local c t_train t trains at body))) (step.outcome_of (stamp line w local c t_train t trains at) (w.at c) e)
-      (local_read_off line (with_centre w c (step.state_after (stamp line w local c t_train t trains at) (w.at c) e) trains))
+-- why nothing is said is the reason of the one line centre
+reason_is : (line : Line) (v : LineState) (c : ℕ) (m : TrainMessage) (said : Said) (new : LineState) (why : Option Reason) (reason : Reason) → why ≡ Some reason
+    → Steps line v c m said new why → why ≡ run.silence line v c m
+reason_is line v c m said new why reason is (silent other so same none stays) = same ∙ sym so
+reason_is line v c m said new why reason is (heard so none hears) = absurd (let wrong : None ≡ Some reason = sym none ∙ is in cc)
+reason_is line v c m said new why reason is (listened may none says stays) = absurd (let wrong : None ≡ Some reason = sym none ∙ is in cc)
 
-  -- the step of the message is a piece without free choice
-  abbrev pub GoesForced : TrainBody → Type 0
-  GoesForced body = PieceOf body (step.effect line c (ticked line w local c t_train t trains at) (step.Train (message line w local c t_train t trains at body)))
+-- a piece of a message that is silent has no choice
+silent_forced : (line : Line) (v : LineState) (c : ℕ) (m : TrainMessage) (outcome : Outcome) (new : LineState) (reason : Reason) → outcome.silence ≡ Some reason
+    → Piece line v (Bytes c (Ok m)) outcome new → ForcedPiece line v (Bytes c (Ok m)) outcome new
+silent_forced line v c m outcome new reason is p =
+    let why : p.why ≡ Some reason = sym (ap (λ (s : Spoken). s.silence) p.says) ∙ is in
+    record {
+      piece = p;
+      own_step = record {
+        silent = reason_is line v c m p.own p.mid p.why reason why p.own_step.1;
+        starts = λ none. absurd (let wrong : None ≡ Some reason = sym none ∙ why in cc);
+      };
+      quiet_steps = ⊎_elim (λ (none : p.why ≡ None). absurd (let wrong : None ≡ Some reason = sym none ∙ why in cc)) (λ (none : p.quiets ≡ []). none) p.none_if_silent;
+    }
 
-  abbrev silence_of : TrainBody → Option Reason
-  silence_of body = step.silence line c (ticked line w local c t_train t trains at) (message line w local c t_train t trains at body)
+module _ (line : Line) (ok : IsLine line) (d : ℕ) (one : IsOneCentreLine line d) (w : World) (v : LineState) (meets : Meets line w v) (local : IsLocal line w) (c : ℕ) (to : is_centre line c ≡ true)
+    (stamp : ℕ) (trains : List ℕ) where
+  abbrev k : Centre
+  k = step.ticked stamp (w.at c)
 
-  silent_goes : (body : TrainBody) (why : Reason) → silence_of body ≡ Some why → GoesForced body
-  silent_goes body why h =
-      let effect : step.effect line c (ticked line w local c t_train t trains at) (step.Train (message line w local c t_train t trains at body))
-      ≡ record { reply = record { state = ticked line w local c t_train t trains at; frames = λ d. []; sayings = []; words = [] }; link = None; silence = Some why } = rw h refl in
-      let same = same_silence line w local c t t_train (stamp line w local c t_train t trains at) body ∙ h in
-      subst (PieceOf body) (sym effect) (record {
-        piece = record {
-          own = nothing;
-          mid = now line w local c t_train t trains at;
-          why = Some why;
-          quiets = [];
-          later = nothing;
-          own_step = (at, silent why same refl refl refl);
-          quiet_steps = (refl, unseen line w c _ trains (record { book = refl; wish = refl; phase = refl; heard = refl; said = refl; mission = refl }));
-          own_centre = refl;
-          none_if_silent = inr refl;
-          in_order = none_in_order;
-          says = refl;
-        };
-        own_step = record { silent = sym same; starts = λ none. cc };
-        quiet_steps = refl;
-      })
+  -- what the effect of an event comes to
+  abbrev pub IsForced : Event → Effect → Type 0
+  IsForced event e = (new : LineState) × ForcedPiece line v event (outcome_of stamp (w.at c) e) new × Shows line (flow_of (in_world w c (state_after stamp (w.at c) e) trains)) new
 
-  -- the message is answered at once, a start wherever it may be
-  pub record Answers (body : TrainBody) : Type 0 where
-    pub at_once : AtOnce line w local c t_train t trains at body
-    pub accepts : IsStartAccepted line (before line w local c t_train t trains at body) c (message line w local c t_train t trains at body) body at_once.said at_once.mid
+  abbrev of_silence : TrainMessage → Option Reason → Effect
+  of_silence m o = option_map_or {U = Effect} (λ why. record { reply = rest k; link = None; silence = Some why }) o (record { reply = step.hear_and_answer line c m k; link = None; silence = None })
 
-  answered_goes : (body : TrainBody) → silence_of body ≡ None → Answers body → GoesForced body
-  answered_goes body h answers =
-      let a = answers.at_once in
-      let made : Reply = record { state = a.state; frames = (reply line w local c t_train t trains at body).frames; sayings = a.said.sayings; words = a.said.words } in
-      let effect : step.effect line c (ticked line w local c t_train t trains at) (step.Train (message line w local c t_train t trains at body)) ≡ record { reply = made; link = None; silence = None } =
-      rw h (λ i. record { reply = record { state = a.state_is i; frames = (reply line w local c t_train t trains at body).frames; sayings = a.sayings_are i; words = a.words_are i }; link = None; silence = None })
-      in
-      let same = same_silence line w local c t t_train (stamp line w local c t_train t trains at) body ∙ h in
-      let own_step : OwnStep line (now line w local c t_train t trains at) (Bytes c (Ok (message line w local c t_train t trains at body))) a.said a.mid None = (at, heard same refl (record { own = a.own_step })) in
-      subst (PieceOf body) (sym effect) (record {
-        piece = record {
-          own = a.said;
-          mid = a.mid;
-          why = None;
-          quiets = [];
-          later = nothing;
-          own_step = own_step;
-          quiet_steps = (refl, a.shown);
-          own_centre = refl;
-          none_if_silent = inl refl;
-          in_order = piece_in_order line (now line w local c t_train t trains at) (Bytes c (Ok (message line w local c t_train t trains at body))) a.said a.mid None nothing a.said own_step refl (nothing_more a.said);
-          says = ap (λ (said : Said). record { said = said; silence = None }) (nothing_more a.said);
-        };
-        own_step = record { silent = sym same; starts = λ none. answers.accepts };
-        quiet_steps = refl;
-      })
+  by_silence : (m : TrainMessage) (o : Option Reason) → step.silence line c k m ≡ o → (of_silence m o).reply.state.taken ≡ (w.at c).taken → TellsInOrder (of_silence m o).reply.words
+      → IsForced (Bytes c (Ok m)) (of_silence m o)
+  by_silence m (Some why) is still order =
+      let stays = silent_met line w v meets c to stamp trains m why is in
+      (v, silent_forced line v c m (outcome_of stamp (w.at c) (of_silence m (Some why))) v why refl stays.0, stays.1)
+  by_silence m None is still order =
+      let a = alone line ok d one w v meets local c to stamp m.t_train m.nid_engine m.body is in
+      let said : Said = said_by (step.hear_and_answer line c m k) in
+      let hears : run.silence line v c m ≡ None = heard_alike line w v meets local c m.t_train m.nid_engine m.body (sym (silent_by_clock line c stamp (w.at c) m) ∙ is) in (
+        a.mid,
+        record {
+          piece = record {
+            own = said;
+            mid = a.mid;
+            why = None;
+            quiets = [];
+            later = nothing;
+            own_step = (to, heard hears refl (record { own = a.own }));
+            quiet_steps = (refl, refl);
+            own_centre = refl;
+            none_if_silent = inl refl;
+            in_order = order;
+            says = λ i. record { said = record { sayings = sym (append-nil said.sayings) i; words = sym (append-nil said.words) i }; silence = None };
+          };
+          own_step = record { silent = sym hears; starts = λ none. accepted line ok d one w v meets local c to stamp m.t_train m.nid_engine m.body a };
+          quiet_steps = refl;
+        },
+        shown_behind line w v meets c to stamp trains (of_silence m None) a.mid still a.shows,
+      )
 
-  pub message_goes : (body : TrainBody) → (silence_of body ≡ None → Answers body) → GoesForced body
-  message_goes body answers = by_silence (silence_of body) refl
-    where
-      by_silence : (o : Option Reason) → silence_of body ≡ o → GoesForced body
-      by_silence (Some why) is = silent_goes body why is
-      by_silence None is = answered_goes body is (answers is)
+  pub message_forced : (m : TrainMessage) → IsForced (Bytes c (Ok m)) (effect line c k (step.Train m))
+  message_forced m = by_silence m (step.silence line c k m) refl (train_keeps line c m k) (effect_in_order line c k (step.Train m))

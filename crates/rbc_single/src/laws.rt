@@ -6,15 +6,15 @@ ghost use Rattle.rbc_spec.specs.LineCentre.{line_beginning};
 ghost use Rattle.rbc_spec.specs.World.{World, Event, Answer, new_world, world_step, world_run};
 ghost use Rattle.rbc_spec.specs.ReadOff.{read_off};
 ghost use Rattle.rbc_spec.specs.Theorems.{IsOneCentreLine, GoesForced, ForcedRun, OneCentreTheorem};
-ghost use Rattle.rbc_local.specs.Local.{IsLocal, local_read_off};
+ghost use Rattle.rbc_local.specs.Local.{IsLocal};
+ghost use Rattle.rbc_whole.specs.Meets.{Meets};
 
-/// Whatever happens to the centres of such a line, the one line centre meets it with the same answer and without free
-/// choice, and goes on from what is read off them afterwards.
+/// Whatever happens to the centres of such a line, where no other centre has a part in what they have and the state that is read off them shows
+/// them: the one line centre meets it with the same answer and without free choice, and goes on from what is read off them afterwards.
 pub fn each_event_leaves_no_choice()
-    ensures read { (line : Line) (c : ℕ) (w new : World) (event : Event) (answer : Answer) → IsLine line → IsOneCentreLine line c → IsLocal line w
-        → world_step line w event ≡ Ok (answer, new) → GoesForced line (read_off line w) event answer (read_off line new) }
-    ensures off { (line : Line) (c : ℕ) (w new : World) (event : Event) (answer : Answer) → IsLine line → IsOneCentreLine line c → IsLocal line w
-        → world_step line w event ≡ Ok (answer, new) → GoesForced line (local_read_off line w) event answer (local_read_off line new) }
+    ensures { (line : Line) (c : ℕ) (w new : World) (event : Event) (answer : Answer) → IsLine line → IsOneCentreLine line c
+        → Meets line w (read_off line w) → IsLocal line w → world_step line w event ≡ Ok (answer, new)
+        → GoesForced line (read_off line w) event answer (read_off line new) }
 {}
 
 /// What the centres of such a line answer, from the line's beginning on, leads the one line centre without free choice to the

@@ -1,5 +1,5 @@
 -- What is shown behind a message that changes a mission and sessions alone, and a message that the own step answers alone.
-use Rattle.std.proofs.Common.{◌≡◌, ◌≢◌, ℕ, ◌+◌, Bool, true, List, [], ◌∷◌, Option, Some, option_map, refl, sym, ap, ◌∙◌, subst, arith, ⊎_elim, append-nil}
+use Rattle.std.proofs.Common.{◌≡◌, ◌≢◌, ℕ, ◌+◌, Bool, true, List, [], ◌∷◌, Option, Some, option_map, refl, sym, ap, ◌∙◌, subst, arith, ⊎_elim}
 use Rattle.std.proofs.lemmas.Bool.{cases_eq}
 use Rattle.rbc_ledger.specs.Sums.{one_if}
 use Rattle.rbc_ledger.specs.Network.{acted}
@@ -15,7 +15,7 @@ use Rattle.rbc_spec.specs.Centre as centre
 use Rattle.rbc_spec.specs.Centre.{Centre, Phase}
 use Rattle.rbc_spec.specs.Acts.{Reply}
 use Rattle.rbc_spec.specs.SectionRuns.{SectionRun, within}
-use Rattle.rbc_spec.specs.LineCentre.{LineState, LineMission, Mark, hears, nothing}
+use Rattle.rbc_spec.specs.LineCentre.{LineState, LineMission, Mark, hears}
 use Rattle.rbc_spec.specs.OwnSteps.{Own, one_message}
 use Rattle.rbc_spec.specs.ReadOff.{seen}
 use Rattle.rbc_local.specs.Local.{hand_has}
@@ -24,7 +24,7 @@ use Rattle.rbc_flow.specs.Counts.{hands, missions}
 use Rattle.rbc_flow.specs.Keeping.{nothing_came}
 use Rattle.rbc_flow.specs.Sound.{IsFlowSound}
 use Rattle.rbc_flow.specs.Shows.{Shows}
-use Rattle.rbc_flow.specs.Leads.{said_by, replied, LeadsHeard}
+use Rattle.rbc_flow.specs.Leads.{said_by, replied}
 use Rattle.rbc_sight.specs.Acts.{IsAct, SendsNone}
 use Rattle.rbc_sight.specs.After.{PartAfter, MarkAfter, MissionAfter}
 use Rattle.rbc_sight.specs.After.MissionAfter.{stays, is_here}
@@ -33,22 +33,12 @@ use Rattle.rbc_sight.proofs.Frames.{sends_none}
 use Rattle.rbc_sight.proofs.Hands.{mark_stays}
 use Rattle.rbc_sight.proofs.Missions.{supervised}
 use Rattle.rbc_sight.proofs.Shows.{part_stays, shows_after, unseen_shown}
+use Rattle.rbc_talks.specs.Heard.{LeadsAlone}
 
 -- the own step is all that a message comes to
 pub heard_alone : (line : Line) (w : Flow) (c : ℕ) (m : TrainMessage) (v : LineState) (r : Reply) (mid : LineState) → Own line (hears c m v) c m m.body (said_by r) mid
-    → Shows line (replied w c r) mid → LeadsHeard line w c m r v
-heard_alone line w c m v r mid own shows = record {
-  said = said_by r;
-  mid = mid;
-  own = own;
-  quiets = [];
-  later = nothing;
-  new = mid;
-  takes = (refl, refl);
-  own_centre = refl;
-  says = λ i. record { sayings = sym (append-nil r.sayings) i; words = sym (append-nil r.words) i };
-  shows = shows;
-}
+    → Shows line (replied w c r) mid → LeadsAlone line w c m r v
+heard_alone line w c m v r mid own shows = record { mid = mid; own = own; shows = shows }
 
 -- a message that a centre says is counted as the line shows it
 pub one_said : (line : Line) (w : Flow) (v : LineState) (c t group : ℕ) (body : TrackBody) (words : List Word) → Shows line w v

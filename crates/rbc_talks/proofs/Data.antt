@@ -1,5 +1,5 @@
 -- Sessions that are established, train data, and rejected requests to shorten.
-use Rattle.std.proofs.Common.{◌≡◌, ℕ, ◌+◌, true, false, [], Option, Some, None, slice_get, refl, sym, ap}
+use Rattle.std.proofs.Common.{◌≡◌, ℕ, ◌+◌, true, false, [], Option, Some, None, is_none, slice_get, refl, sym, ap}
 use Rattle.rbc_lemmas.proofs.Lists.{none_passes}
 use Rattle.rbc_spec.specs.Maps.{put, put_pair}
 use Rattle.rbc_spec.specs.Line.{Line, is_centre}
@@ -14,11 +14,14 @@ use Rattle.rbc_spec.specs.OwnSteps.{with_phase, without_ask}
 use Rattle.rbc_flow.specs.Flow.{Flow}
 use Rattle.rbc_flow.specs.Sound.{IsFlowSound}
 use Rattle.rbc_flow.specs.Shows.{Shows}
-use Rattle.rbc_flow.specs.Leads.{LeadsHeard}
 use Rattle.rbc_sight.proofs.Shows.{part_stays, part_changes}
-use Rattle.rbc_pieces.proofs.Missions.{some_of}
-use Rattle.rbc_talks.specs.Heard.{message}
+use Rattle.rbc_talks.specs.Heard.{message, LeadsAlone}
 use Rattle.rbc_talks.proofs.Changes.{silent, heard_alone, one_said, shows_talk, shows_change}
+
+-- what is not none is something
+some_of : {X : Type 0} (o : Option X) → is_none o ≡ false → (x : X) × (o ≡ Some x)
+some_of None is = cc
+some_of (Some x) is = (x, refl)
 
 module _ (line : Line) (w : Flow) (v : LineState) (sound : IsFlowSound line w) (sees : Shows line w v) (c t_train t stamp : ℕ) (at : is_centre line c ≡ true) where
   abbrev k : Centre
@@ -34,7 +37,7 @@ module _ (line : Line) (w : Flow) (v : LineState) (sound : IsFlowSound line w) (
   is_silent body = silence line c k (m body) ≡ None
 
   abbrev Heard : TrainBody → Type 0
-  Heard body = LeadsHeard line w c (m body) (reply body) v
+  Heard body = LeadsAlone line w c (m body) (reply body) v
 
   -- a reason for which the message was not left without an answer
   pub not_for : (body : TrainBody) (n : ℕ) (why : Reason) → is_silent body → slice_get (reasons_of body) n ≡ Some why → holds line c k (m body) why ≡ false

@@ -29,11 +29,11 @@ use Rattle.rbc_flow.specs.Counts.{wait_has}
 use Rattle.rbc_flow.specs.Keeping.{nothing_came}
 use Rattle.rbc_flow.specs.Sound.{IsFlowSound}
 use Rattle.rbc_flow.specs.Shows.{Shows}
-use Rattle.rbc_flow.specs.Leads.{said_by, LeadsHeard}
+use Rattle.rbc_flow.specs.Leads.{said_by}
 use Rattle.rbc_sight.specs.After.{MarkAfter, MissionAfter}
 use Rattle.rbc_sight.proofs.Entering.{opened, shut}
 use Rattle.rbc_sight.proofs.Shows.{part_changes, shows_after}
-use Rattle.rbc_talks.specs.Heard.{message}
+use Rattle.rbc_talks.specs.Heard.{message, LeadsAlone}
 use Rattle.rbc_talks.proofs.Changes.{silent, heard_alone, one_said, act, mark_same, mission_same, hand_changes, mission_changes}
 use Rattle.rbc_talks.proofs.Elsewhere.{none_here}
 
@@ -197,12 +197,12 @@ module _ (line : Line) (w : Flow) (v : LineState) (sound : IsFlowSound line w) (
     }
 
     opens : (y : Centre) (is_freed : ℕ → Bool) (words : List Word) → IsEnded y is_freed Opened t_train → words ≡ told line (is_waiting_at line v t c) v
-        → LeadsHeard line w c (m InitiationOfSession) (answer y SystemVersion words) v
+        → LeadsAlone line w c (m InitiationOfSession) (answer y SystemVersion words) v
     opens y is_freed words is same = heard_alone line w c (m InitiationOfSession) v (answer y SystemVersion words) (after y is_freed Opened t_train InitiationOfSession is)
         (says_end y is_freed Opened InitiationOfSession SystemVersion words is same) (shows_end y is_freed Opened t_train InitiationOfSession is)
 
     closes : (y : Centre) (is_freed : ℕ → Bool) (words : List Word) → IsEnded y is_freed Closed t_train → words ≡ told line (is_waiting_at line v t c) v
-        → LeadsHeard line w c (m TerminationOfSession) (answer y TerminationAcknowledged words) v
+        → LeadsAlone line w c (m TerminationOfSession) (answer y TerminationAcknowledged words) v
     closes y is_freed words is same = heard_alone line w c (m TerminationOfSession) v (answer y TerminationAcknowledged words) (after y is_freed Closed t_train TerminationOfSession is)
         (says_end y is_freed Closed TerminationOfSession TerminationAcknowledged words is same) (shows_end y is_freed Closed t_train TerminationOfSession is)
 
@@ -266,32 +266,32 @@ module _ (line : Line) (w : Flow) (v : LineState) (sound : IsFlowSound line w) (
           mission = λ u. refl;
         }
 
-      pub begins : LeadsHeard line w c (m InitiationOfSession) (reply InitiationOfSession) v
+      pub begins : LeadsAlone line w c (m InitiationOfSession) (reply InitiationOfSession) v
       unfolding ◌>>◌
       begins = by_wait (k.wait t) refl
         where
-          by_wait : (o : Option Place) → k.wait t ≡ o → LeadsHeard line w c (m InitiationOfSession) (reply InitiationOfSession) v
+          by_wait : (o : Option Place) → k.wait t ≡ o → LeadsAlone line w c (m InitiationOfSession) (reply InitiationOfSession) v
           by_wait None none =
               let is : reply InitiationOfSession ≡ answer (left (put (put k.phase t Closed) t Opened)) SystemVersion [] = rw none refl in
-              subst (λ (r : Reply). LeadsHeard line w c (m InitiationOfSession) r v) (sym is)
+              subst (λ (r : Reply). LeadsAlone line w c (m InitiationOfSession) r v) (sym is)
               (opens (left (put (put k.phase t Closed) t Opened)) (λ s. false) [] (is_left none _ Opened (put_over t Opened Closed k.phase)) (sym (none_told none)))
           by_wait (Some place) waits =
               let is : reply InitiationOfSession ≡ answer (dropped place waits (put (put k.phase t Closed) t Opened)) SystemVersion (opening_words place waits) = rw waits refl in
-              subst (λ (r : Reply). LeadsHeard line w c (m InitiationOfSession) r v) (sym is)
+              subst (λ (r : Reply). LeadsAlone line w c (m InitiationOfSession) r v) (sym is)
               (opens (dropped place waits (put (put k.phase t Closed) t Opened)) (is_given_back place waits) (opening_words place waits) (is_dropped place waits _ Opened (put_over t Opened Closed k.phase))
               (append-nil ((freed_words place waits ++ []) ++ []) ∙ append-nil (freed_words place waits ++ []) ∙ append-nil (freed_words place waits) ∙ same_told place waits))
 
-      pub ends : LeadsHeard line w c (m TerminationOfSession) (reply TerminationOfSession) v
+      pub ends : LeadsAlone line w c (m TerminationOfSession) (reply TerminationOfSession) v
       unfolding ◌>>◌
       ends = by_wait (k.wait t) refl
         where
-          by_wait : (o : Option Place) → k.wait t ≡ o → LeadsHeard line w c (m TerminationOfSession) (reply TerminationOfSession) v
+          by_wait : (o : Option Place) → k.wait t ≡ o → LeadsAlone line w c (m TerminationOfSession) (reply TerminationOfSession) v
           by_wait None none =
               let is : reply TerminationOfSession ≡ answer (left (put k.phase t Closed)) TerminationAcknowledged [] = rw none refl in
-              subst (λ (r : Reply). LeadsHeard line w c (m TerminationOfSession) r v) (sym is)
+              subst (λ (r : Reply). LeadsAlone line w c (m TerminationOfSession) r v) (sym is)
               (closes (left (put k.phase t Closed)) (λ s. false) [] (is_left none _ Closed (λ u. refl)) (sym (none_told none)))
           by_wait (Some place) waits =
               let is : reply TerminationOfSession ≡ answer (dropped place waits (put k.phase t Closed)) TerminationAcknowledged (closing_words place waits) = rw waits refl in
-              subst (λ (r : Reply). LeadsHeard line w c (m TerminationOfSession) r v) (sym is)
+              subst (λ (r : Reply). LeadsAlone line w c (m TerminationOfSession) r v) (sym is)
               (closes (dropped place waits (put k.phase t Closed)) (is_given_back place waits) (closing_words place waits) (is_dropped place waits _ Closed (λ u. refl))
               (append-nil (freed_words place waits ++ []) ∙ append-nil (freed_words place waits) ∙ same_told place waits))

@@ -21,12 +21,12 @@ use Rattle.rbc_flow.specs.Counts.{hands, missions}
 use Rattle.rbc_flow.specs.Keeping.{nothing_came}
 use Rattle.rbc_flow.specs.Sound.{IsFlowSound}
 use Rattle.rbc_flow.specs.Shows.{Shows, shown, is_in_hand}
-use Rattle.rbc_flow.specs.Leads.{said_by, LeadsHeard}
+use Rattle.rbc_flow.specs.Leads.{said_by}
 use Rattle.rbc_sight.proofs.Frames.{sends_single, sends_both}
 use Rattle.rbc_sight.proofs.Marks.{hand_at_centre}
 use Rattle.rbc_sight.proofs.Missions.{none_here}
 use Rattle.rbc_sight.proofs.Shows.{part_stays, part_changes}
-use Rattle.rbc_talks.specs.Heard.{message}
+use Rattle.rbc_talks.specs.Heard.{message, LeadsAlone}
 use Rattle.rbc_talks.proofs.Changes.{SendsNothing, silent, heard_alone, one_said, act, shows_talk, shows_change}
 use Rattle.rbc_talks.proofs.Elsewhere.{supervises_is}
 use Rattle.rbc_talks.proofs.Begins.{put_to_use, shows_begin, shows_wait}
@@ -46,7 +46,7 @@ module _ (line : Line) (w : Flow) (v : LineState) (sound : IsFlowSound line w) (
   now = hears c m v
 
   abbrev Goes : Reply → Type 0
-  Goes r = LeadsHeard line w c m r v
+  Goes r = LeadsAlone line w c m r v
 
   -- the centre says one message, or nothing
   abbrev says_one : Centre → TrackBody → Reply
@@ -78,7 +78,7 @@ module _ (line : Line) (w : Flow) (v : LineState) (sound : IsFlowSound line w) (
   rejects = record { said_is = refl; new_is = refl }
 
   goes_rejected : reply ≡ says_one told_one TrainRejected → Starts line t c (fit_place line is_valid position) now (one_message t c unknown_group TrainRejected [] now) (says t c now) → Goes reply
-  goes_rejected is own = subst (λ (r : Reply). LeadsHeard line w c m r v) (sym is)
+  goes_rejected is own = subst (λ (r : Reply). LeadsAlone line w c m r v) (sym is)
       (heard_alone line w c m v (says_one told_one TrainRejected) (says t c now)
       (subst (λ (said : Said). Starts line t c (fit_place line is_valid position) now said (says t c now)) (sym (one_said_now TrainRejected)) own) rejected_shown)
 
@@ -109,7 +109,7 @@ module _ (line : Line) (w : Flow) (v : LineState) (sound : IsFlowSound line w) (
           let is : reply ≡ says_one restarting TrainAccepted = rw fit (rw has (rw inside (rw has refl))) in
           let own : Starts line t c (fit_place line is_valid position) now (one_message t c unknown_group TrainAccepted [] now) (says t c (restarted t place now)) =
           rw fit (rw supervised (rw (in_hand_is ∙ inside) (record { said_is = refl; new_is = refl }))) in
-          subst (λ (r : Reply). LeadsHeard line w c m r v) (sym is)
+          subst (λ (r : Reply). LeadsAlone line w c m r v) (sym is)
           (heard_alone line w c m v (says_one restarting TrainAccepted) (says t c (restarted t place now))
           (subst (λ (said : Said). Starts line t c (fit_place line is_valid position) now said (says t c (restarted t place now))) (sym (one_said_now TrainAccepted)) own)
           (shows_change line w v sound sees c at restarting (λ d. []) (silent c) t n has (λ x. record x { place = place; has_data = false; is_ended = false; proposal = None })
@@ -147,7 +147,7 @@ module _ (line : Line) (w : Flow) (v : LineState) (sound : IsFlowSound line w) (
       free_is_open s true home = ap (λ x. is_home line c s && x) (ap is_mark_open (sees.mark s c home) ∙ open_shown (k.book s) (is_in_hand line w s))
       free_is_open s false home = ap (λ b. b && is_mark_open (v.mark s)) home ∙ sym (ap (λ b. b && is_open (k.book s)) home)
 
-      may_is : may_start line now c place ≡ all_of (is_free line c k) (covered line place)
+      pub may_is : may_start line now c place ≡ all_of (is_free line c k) (covered line place)
       may_is = ap (λ (test : ℕ → Bool). all_of test (covered line place)) (λ i s. free_is_open s (is_home line c s) refl i)
 
       not_free : all_of (is_free line c k) (covered line place) ≡ false → Goes reply
@@ -155,7 +155,7 @@ module _ (line : Line) (w : Flow) (v : LineState) (sound : IsFlowSound line w) (
       not_free out = goes_rejected (rw fit (rw has_none (rw out refl))) (rw fit (rw unsupervised (rw (may_is ∙ out) rejects)))
 
       module _ (all_free : all_of (is_free line c k) (covered line place) ≡ true) where
-        each_free : (s : ℕ) → within (covered line place) s ≡ true → is_free line c k s ≡ true
+        pub each_free : (s : ℕ) → within (covered line place) s ≡ true → is_free line c k s ≡ true
         each_free s inside = each_within (is_free line c k) (covered line place) all_free s inside
 
         abbrev book : ℕ → centre.Entry
@@ -171,15 +171,17 @@ module _ (line : Line) (w : Flow) (v : LineState) (sound : IsFlowSound line w) (
           abbrev beginning : Centre
           beginning = record told_one { book = book; has_right = put k.has_right t false; mission = put k.mission t (Some (begun line place)) }
 
-          right_there : k.has_right t ≡ true → Goes reply
+          pub accepted_is : k.has_right t ≡ true → reply ≡ says_one beginning TrainAccepted
           unfolding ◌>>◌
+          accepted_is right = rw fit (rw has_none (rw all_free (rw here (rw right refl))))
+
+          right_there : k.has_right t ≡ true → Goes reply
           right_there right =
-              let is : reply ≡ says_one beginning TrainAccepted = rw fit (rw has_none (rw all_free (rw here (rw right refl)))) in
               let nowhere : v.mission t ≡ None = sees.no_mission t (none_here line w c nothing_came beginning (λ d. []) (acted w c beginning (λ d. [])) t sound
               (act line w v sound sees c at beginning (λ d. []) (silent c)) (omega (arith, one_if_true (k.has_right t) right))).1 in
               let own : Starts line t c (fit_place line is_valid position) now (one_message t c unknown_group TrainAccepted [] now) (says t c (begins line t c place now)) =
               rw fit (rw unsupervised (rw (may_is ∙ all_free) (rw here (inl (nowhere, record { said_is = refl; new_is = refl }))))) in
-              subst (λ (r : Reply). LeadsHeard line w c m r v) (sym is)
+              subst (λ (r : Reply). LeadsAlone line w c m r v) (sym (accepted_is right))
               (heard_alone line w c m v (says_one beginning TrainAccepted) (says t c (begins line t c place now))
               (subst (λ (said : Said). Starts line t c (fit_place line is_valid position) now said (says t c (begins line t c place now))) (sym (one_said_now TrainAccepted)) own)
               (shows_begin line w v sound sees c t at place each_free t_train beginning right has_none refl refl refl refl refl refl refl))
@@ -202,7 +204,7 @@ module _ (line : Line) (w : Flow) (v : LineState) (sound : IsFlowSound line w) (
           asking asked frames = record { state = waiting asked; frames = frames; sayings = []; words = [] }
 
           goes_waiting : (asked : ℕ → Bool) (frames : ℕ → List Body) → SendsNothing c frames → reply ≡ asking asked frames → Goes reply
-          goes_waiting asked frames sends is = subst (λ (r : Reply). LeadsHeard line w c m r v) (sym is)
+          goes_waiting asked frames sends is = subst (λ (r : Reply). LeadsAlone line w c m r v) (sym is)
               (heard_alone line w c m v (asking asked frames) (waits line t c place now) waits_own
               (shows_wait line w v sound sees c t at place each_free t_train (waiting asked) frames sends refl refl refl refl refl refl refl))
 

@@ -13,7 +13,7 @@ use Rattle.rbc_spec.specs.OwnSteps.{Own, Sets, Unsets}
 use Rattle.rbc_flow.specs.Flow.{Flow, took_frame}
 use Rattle.rbc_flow.specs.Leads.{Leads, LeadsHeard}
 use Rattle.rbc_spec.specs.Frame.{Body, AskRight, GiveRight, RefuseRight, ReturnRight, RouteAsk, RouteInfo, RouteWithdraw, RouteReturn, Announce, Cancel, TakingOver, Yield}
-use Rattle.rbc_talks.specs.Heard.{IsHeardAs}
+use Rattle.rbc_talks.specs.Heard.{IsHeardAs, LeadsAlone}
 use Rattle.rbc_talks.proofs.Data.{established, data_heard, rejected}
 use Rattle.rbc_talks.proofs.Ends.{begins, ends}
 use Rattle.rbc_talks.proofs.Starts.{starts}
@@ -26,7 +26,7 @@ use Rattle.rbc_handings.proofs.Announced.{announce_leads, cancel_leads}
 use Rattle.rbc_handings.proofs.Claimed.{claim_body_leads}
 use Rattle.rbc_handings.proofs.Yielded.{yield_leads}
 use Rattle.rbc_loans.specs.Interlocking.{LeadsFrom}
-use Rattle.rbc_loans.proofs.Interlocking.{set_leads, unset_leads}
+use Rattle.rbc_loans.proofs.Interlocking.{from_once, set_leads, unset_leads}
 use Rattle.rbc_loans.proofs.Lending.{lent_leads}
 use Rattle.rbc_loans.proofs.Told.{told_leads, withdrawn_leads}
 use Rattle.rbc_loans.proofs.Homes.{home_leads}
@@ -51,11 +51,17 @@ of_heard line w c t_train t body r v leads = record {
   shows = leads.shows;
 }
 
+-- where it is the own step alone
+of_alone : (line : Line) (w : Flow) (c t_train t : ℕ) (body : TrainBody) (r : Reply) (v : LineState) → LeadsAlone line w c (message t_train t body) r v
+    → LeadsFrom line w c (Own line (hears c (message t_train t body) v) c (message t_train t body) body) r
+of_alone line w c t_train t body r v alone = from_once line w c (Own line (hears c (message t_train t body) v) c (message t_train t body) body) r
+    (record { mid = alone.mid; own = alone.own; shows = alone.shows })
+
 -- whatever the clock of the centre shows
 heard_as : (line : Line) → IsLine line → (body : TrainBody) → IsHeardAs body → Answers line body
 heard_as line ok body is_heard w c k v t_train t at_work heard =
     subst (λ (j : Centre). LeadsFrom line w c (Own line (hears c (message t_train t body) v) c (message t_train t body) body) (step.hear_and_answer line c (message t_train t body) j)) at_work.state
-    (of_heard line w c t_train t body (step.hear_and_answer line c (message t_train t body) (w.at c)) v
+    (of_alone line w c t_train t body (step.hear_and_answer line c (message t_train t body) (w.at c)) v
     (is_heard line w v c t_train t (w.at c).clock ok at_work.sound at_work.shows at_work.to
     (subst (λ (j : Centre). step.silence line c j (message t_train t body) ≡ None) (sym at_work.state) heard)))
 
@@ -123,10 +129,11 @@ module _ (line : Line) (ok : IsLine line) where
   -- ## The interlocking
 
   pub set_leads_on : (w : Flow) (c s : ℕ) (k : Centre) (v : LineState) → IsAtWork line w c k v → LeadsFrom line w c (Sets line v c s) (step.set line c s k)
-  set_leads_on w c s k v at_work = subst (λ (j : Centre). LeadsFrom line w c (Sets line v c s) (step.set line c s j)) at_work.state (set_leads line w at_work.sound v at_work.shows c s at_work.to)
+  set_leads_on w c s k v at_work = subst (λ (j : Centre). LeadsFrom line w c (Sets line v c s) (step.set line c s j)) at_work.state
+      (from_once line w c (Sets line v c s) (step.set line c s (w.at c)) (set_leads line w at_work.sound v at_work.shows c s at_work.to))
 
   pub unset_leads_on : (w : Flow) (c s : ℕ) (k : Centre) (v : LineState) → IsAtWork line w c k v → LeadsFrom line w c (Unsets line v c s) (step.unset line c s k)
-  unset_leads_on w c s k v at_work = subst (λ (j : Centre). LeadsFrom line w c (Unsets line v c s) (step.unset line c s j)) at_work.state (unset_leads line w at_work.sound v at_work.shows c s at_work.to ok)
+  unset_leads_on w c s k v at_work = subst (λ (j : Centre). LeadsFrom line w c (Unsets line v c s) (step.unset line c s j)) at_work.state (unset_leads line w at_work.sound v at_work.shows c s at_work.to ok).leads
 
   -- ## Frames
 

@@ -43,11 +43,11 @@ use Rattle.rbc_whole.proofs.Still.{at_work, Met, shown_behind, silent_met, stray
 
 -- ## A train that is listened to
 
-why_listened : (line : Line) (c : ℕ) (position : Position) (o : Option Reason) → may_listen line c (Report position) o ≡ true → o ≡ Some NotSupervised
+pub why_listened : (line : Line) (c : ℕ) (position : Position) (o : Option Reason) → may_listen line c (Report position) o ≡ true → o ≡ Some NotSupervised
 why_listened line c position (Some NotSupervised) h = refl
 why_listened line c position o h = cc
 
-not_here : (c : ℕ) (o : Option LineMission) → not (option_map_or (λ m. is_at c m.supervisor && true) o false) ≡ true → option_map_or (λ m. is_at c m.supervisor) o false ≡ false
+pub not_here : (c : ℕ) (o : Option LineMission) → not (option_map_or (λ m. is_at c m.supervisor && true) o false) ≡ true → option_map_or (λ m. is_at c m.supervisor) o false ≡ false
 not_here c None h = refl
 not_here c (Some m) h = by_centre (is_at c m.supervisor) h
   where
@@ -55,7 +55,7 @@ not_here c (Some m) h = by_centre (is_at c m.supervisor) h
     by_centre true e = cc
     by_centre false e = refl
 
-found : (test : Reason → Bool) (why : Reason) (xs : List Reason) → find test xs ≡ Some why → test why ≡ true
+pub found : (test : Reason → Bool) (why : Reason) (xs : List Reason) → find test xs ≡ Some why → test why ≡ true
 found test why [] is = cc
 found test why (x ∷ xs) is = by_test (λ e. found test why xs e) (test x) refl is
   where

@@ -67,10 +67,10 @@ module _ (line : Line) (ok : IsLine line) (w new : World) (events : List Event) 
   behind = subst (λ (u : LineState). Meets line new u) same next.2
 
   -- between the states that are read off
-  pub goes : Goes line (read_off line w) event answer (read_off line new)
+  goes : Goes line (read_off line w) event answer (read_off line new)
   goes = subst (λ (u : LineState). Goes line (read_off line w) event answer u) same next.1
 
-  pub ends : StandsFor line new (read_off line new)
+  ends : StandsFor line new (read_off line new)
   ends = stands_read line new (read_off line new) behind
 
   pub promises : KeepsPromises line w event answer new

@@ -1,6 +1,6 @@
 //! Laws of whole lines.
 
-ghost use Rattle.std.specs.Prelude.{◌≡◌, ◌≢◌, ◌⊎◌, ℕ, List, true, false, Some, None, Ok, Err};
+ghost use Rattle.std.specs.Prelude.{◌≡◌, ◌≢◌, ◌⊎◌, ℕ, true, false, Some, None, Ok, Err};
 ghost use Rattle.rbc_spec.specs.Line.{Line, IsLine, is_centre};
 ghost use Rattle.rbc_spec.specs.Frame.{Frame};
 ghost use Rattle.rbc_spec.specs.Message.{TrainMessage};
@@ -10,11 +10,10 @@ ghost use Rattle.rbc_spec.specs.Step as step;
 ghost use Rattle.rbc_spec.specs.Step.{Event, taken, link_answer};
 ghost use Rattle.rbc_spec.specs.LineCentre.{LineState, line_beginning};
 ghost use Rattle.rbc_spec.specs.World as world;
-ghost use Rattle.rbc_spec.specs.World.{World, Answer, Bytes, Delivery, centre_of, new_world, frame_sent, world_step, world_run};
+ghost use Rattle.rbc_spec.specs.World.{World, Bytes, Delivery, centre_of, new_world, frame_sent};
 ghost use Rattle.rbc_spec.specs.Run as run;
 ghost use Rattle.rbc_spec.specs.Run.{TellsInOrder};
-ghost use Rattle.rbc_spec.specs.ReadOff.{StandsFor, IsLineRun, read_off};
-ghost use Rattle.rbc_spec.specs.Promises.{KeepsPromises, IsSafe, IsSound};
+ghost use Rattle.rbc_spec.specs.ReadOff.{StandsFor, read_off};
 ghost use Rattle.rbc_spec.specs.Theorems.{WholeLineTheorem, EachEventTheorem};
 ghost use Rattle.rbc_whole.specs.Meets.{Meets, StaysWith};
 
@@ -62,35 +61,8 @@ pub fn the_whole_line_theorem()
     ensures { WholeLineTheorem }
 {}
 
-/// So it is. The run ends in the state that is read off the centres, and the world that they are is sound.
-pub fn each_run_is_the_line_centres()
-    ensures run { (line : Line) (events : List world.Event) (answers : List Answer) (w : World) → IsLine line
-        → world_run line (new_world line) events ≡ Ok (answers, w) → IsLineRun line events answers w }
-    ensures last { (line : Line) (events : List world.Event) (answers : List Answer) (w : World) → IsLine line
-        → world_run line (new_world line) events ≡ Ok (answers, w) → run.Run line line_beginning events answers (read_off line w) }
-    ensures sound { (line : Line) (events : List world.Event) (answers : List Answer) (w : World) → IsLine line
-        → world_run line (new_world line) events ≡ Ok (answers, w) → IsSound line w }
-{}
-
-/// Behind any list of events, the one line centre may meet each further event with the same answer, between the states that
-/// are read off the centres. The event keeps its promises, the state that is read off stands for the new world, and that is safe and sound: no
-/// right and no token of a section is lost.
-pub fn each_event_is_met()
-    ensures goes { (line : Line) (w new : World) (events : List world.Event) (answers : List Answer) (event : world.Event) (answer : Answer) → IsLine line
-        → world_run line (new_world line) events ≡ Ok (answers, w) → world_step line w event ≡ Ok (answer, new)
-        → run.Goes line (read_off line w) event answer (read_off line new) }
-    ensures promises { (line : Line) (w new : World) (events : List world.Event) (answers : List Answer) (event : world.Event) (answer : Answer) → IsLine line
-        → world_run line (new_world line) events ≡ Ok (answers, w) → world_step line w event ≡ Ok (answer, new)
-        → KeepsPromises line w event answer new }
-    ensures stands { (line : Line) (w new : World) (events : List world.Event) (answers : List Answer) (event : world.Event) (answer : Answer) → IsLine line
-        → world_run line (new_world line) events ≡ Ok (answers, w) → world_step line w event ≡ Ok (answer, new)
-        → StandsFor line new (read_off line new) × IsSafe line new }
-    ensures sound { (line : Line) (w new : World) (events : List world.Event) (answers : List Answer) (event : world.Event) (answer : Answer) → IsLine line
-        → world_run line (new_world line) events ≡ Ok (answers, w) → world_step line w event ≡ Ok (answer, new)
-        → IsSound line new }
-{}
-
-/// So the law of each event of a line holds, without a premise.
+/// Whatever has happened to the centres of a line, the one line centre may meet each further event with the same answer, between the states that
+/// are read off the centres. The event keeps its promises, and the new world is sound: no right and no token of a section is lost.
 pub fn each_event_of_the_line()
     ensures { EachEventTheorem }
 {}

@@ -4,7 +4,6 @@
 mod laws;
 
 pub use laws::{
-    each_event_is_met, each_event_of_the_line, each_run_is_the_line_centres,
-    each_step_tells_in_order, the_line_centre_is_silent_alike, the_whole_line_theorem,
-    what_leads_nowhere, what_meets_a_world,
+    each_event_of_the_line, each_step_tells_in_order, the_line_centre_is_silent_alike,
+    the_whole_line_theorem, what_leads_nowhere, what_meets_a_world,
 };

@@ -156,5 +156,5 @@ module _ (line : Line) (ok : IsLine line) (w new : World) (e : WorldEvent) (reac
   -- on a one-centre line it leaves no choice
   pub step_forced : (d : ℕ) → IsOneCentreLine line d → (result : Result Answer StepFault) → Steps result
       → IfOk result (λ a. GoesForced line (read_off line w) (event_of e) (answer_of a) (read_off line new))
-  step_forced d one (Ok a) s = forced line ok d one w (world_local line w ok reached d one) (event_of e) (answer_of a) new s
+  step_forced d one (Ok a) s = forced line ok d one w (world_known line w ok reached) (world_local line w ok reached d one) (event_of e) (answer_of a) new s
   step_forced d one (Err fault) s = tt

@@ -1,3 +1,4 @@
+use Rattle.rbc_seen.proofs.Known.{is_known}
 use Rattle.rbc_seen.proofs.Forced.{one_proof, stays_local, run_is, run_read, forced}
 use Rattle.rbc_seen.proofs.laws.each_event_is_forced.Goals as goal
 
@@ -8,11 +9,11 @@ pub returns-clause-one_proof : goal.returns-clause-one_proof
 returns-clause-one_proof o line w p q = one_proof line w p q
 
 pub returns-clause-forced : goal.returns-clause-forced
-returns-clause-forced o line c w new event answer ok one local is = forced line ok c one w local event answer new is
+returns-clause-forced o line c w new event answer ok one known local is = forced line ok c one w known local event answer new is
 
 pub returns-clause-forced_behind : goal.returns-clause-forced_behind
 returns-clause-forced_behind o line c events answers w new event answer ok one before is =
-    forced line ok c one w (stays_local line ok c one events answers w before) event answer new is
+    forced line ok c one w (is_known line ok events answers w before) (stays_local line ok c one events answers w before) event answer new is
 
 pub returns-clause-run : goal.returns-clause-run
 returns-clause-run o line c events answers w ok one is = run_is line ok c one events answers w is
