@@ -5,3 +5,4 @@ pub mod Node
 pub mod Counted
 pub mod Sent
 pub mod Gather
+pub mod Look

@@ -4,10 +4,12 @@ ghost use Rattle.rbc_spec.specs.Line.{is_centre};
 ghost use Rattle.rbc_centre.specs.States.{number_of};
 ghost use Rattle.rbc_centre.specs.Views.{outcome_of};
 ghost use Rattle.rbc_log.specs.Log.{IsReplaying};
-ghost use Rattle.rbc_node.specs.Node.{centre_of, CommitsAt, RefusesAt, IsFrameOf};
+ghost use Rattle.rbc_node.specs.Node.{centre_of, CommitsAt, RefusesAt, IsFrameOf, IsLogOf};
+ghost use Rattle.rbc_node.specs.Look.{log_seen};
 
 use crate::fault::ShareFault;
 use crate::gate::Gate;
+use crate::look::Look;
 use crate::share::Share;
 use rbc_centre::{Event, Frame, Outcome};
 use rbc_line::Line;
@@ -73,6 +75,13 @@ impl Node {
     {
         let log = self.locked(rt);
         log.frame(to, number)
+    }
+
+    /// Takes the lock of the log once, for as long as what is given is kept, and lends the log: one of the centre that replays.
+    pub fn look<R: Wait>(&self, rt: &R) -> Look<'_>
+        ensures { IsLogOf (centre_of self.now) (log_seen result) }
+    {
+        Look::at(self.locked(rt))
     }
 
     /// The log that it held.

@@ -1,9 +1,14 @@
+ghost use Rattle.std.specs.Prelude.{◌≡◌, IfOk, IfErr, OnErr};
+ghost use Rattle.rbc_centre.specs.Views.{outcome_of};
+ghost use Rattle.rbc_node.specs.Node.{centre_of, CommitsAt, RefusesAt};
+
 use crate::outlet::Outlet;
 use rbc_centre::{Event, Outcome};
 use rbc_node::{Gate, Node, Share, ShareFault};
 use std::sync::Wait;
 
 /// A centre as its workers see it: its node, who is told of each commit, and where answers go on to.
+#[derive(Drop)]
 pub struct Desk<'a, G, O> {
     pub node: &'a Node,
     pub gate: &'a G,
@@ -11,13 +16,17 @@ pub struct Desk<'a, G, O> {
 }
 
 impl<G: Gate, O: Outlet> Desk<'_, G, O> {
-    /// Commits an event with the share, and lets the answer go on.
+    /// Commits an event with the share as the node does, and lets the answer go on.
     pub fn commit<R: Wait>(
         &self,
         rt: &R,
         share: &mut Share,
         event: Event,
-    ) -> Result<Outcome, ShareFault> {
+    ) -> Result<Outcome, ShareFault>
+        ensures commits { IfOk result (λ o. CommitsAt (centre_of self.now.node.now) share.old share.new event (outcome_of o)) }
+        ensures refused { IfErr result (RefusesAt (centre_of self.now.node.now) share.old event) }
+        ensures err { OnErr result (share.new ≡ share.old) }
+    {
         let outcome = self.node.commit(rt, self.gate, share, event)?;
         self.outlet.answered(rt, &outcome);
         Ok(outcome)

@@ -1,4 +1,4 @@
-use Rattle.std.proofs.Common.{◌≡◌, ◌∙◌, length, rules}
+use Rattle.std.proofs.Common.{◌≡◌, length, rules}
 use Rattle.std.proofs.Math.ListN.{replicate}
 use Rattle.rbc_node.specs.Counted.{counted}
 use Rattle.rbc_node.specs.Gather.{places_of}

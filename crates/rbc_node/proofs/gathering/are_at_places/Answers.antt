@@ -1,4 +1,4 @@
-use Rattle.std.proofs.Common.{◌≡◌, ◌≤◌, ◌<◌, length, below_more, rules, arith, slice_get, sym, ◌∙◌, ap, Some}
+use Rattle.std.proofs.Common.{◌≡◌, ◌≤◌, length, below_more, rules, arith, slice_get, sym, ◌∙◌, ap, Some}
 use Rattle.std.proofs.lemmas.Option.{same_Some, slice_get_read, slice_get_within}
 use Rattle.rbc_centre.specs.States.{line_of, number_of}
 use Rattle.rbc_log.specs.Log.{LogValue, IsReplaying}

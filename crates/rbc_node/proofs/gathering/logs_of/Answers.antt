@@ -1,4 +1,4 @@
-use Rattle.std.proofs.Common.{◌+◌, [], ◌∷◌, All, arith, subst, sym}
+use Rattle.std.proofs.Common.{[], ◌∷◌, All, arith, subst, sym}
 use Rattle.std.proofs.lemmas.List.Elements.{All-append, All-cons, All-nil}
 use Rattle.rbc_log.specs.Log.{IsReplaying}
 use Rattle.rbc_node.proofs.gathering.logs_of.Goals as goal
