@@ -1,7 +1,8 @@
-use crate::files::Files;
+use crate::files::{Files, Rows};
 use rbc_status::Fault;
-use std::alloc::AllocError;
-use std::io::ErrorKind;
+use std::alloc::{AllocError, Global};
+use std::fs::File;
+use std::io::{BufRead, BufReader, ErrorKind};
 use std::rt::Env;
 use std::{env, fs, rt};
 
@@ -12,6 +13,22 @@ pub struct Disk<'a, R>(pub &'a R);
 impl<R: rt::Files + AllocGlobal> Files for Disk<'_, R> {
     fn text(&self, name: &str) -> Option<String> {
         fs::read_to_string(self.0, name).ok()
+    }
+
+    // A file of any length is read line by line.
+    fn each_row<T: Rows>(&self, alloc: Global, name: &str, rows: &mut T) -> Option<()> {
+        let file = File::open(self.0, name).ok()?;
+        let mut reader = BufReader::new(alloc, file).ok()?;
+        let mut row = String::new(alloc);
+        for _ in 0..u64::MAX {
+            row.clear();
+            if reader.read_line(&mut row).ok()? == 0 {
+                break;
+            }
+            let row = row.as_str();
+            rows.row(row.strip_suffix('\n').unwrap_or(row));
+        }
+        Some(())
     }
 }
 

@@ -1,6 +1,28 @@
+use std::alloc::Global;
+
 /// Where the program reads its files.
 pub trait Files {
     /// The text of the file of this name; none where it can't be read: it is not there, it is not UTF-8, or there is no
     /// memory for its text.
     fn text(&self, name: &str) -> Option<String>;
+
+    /// Gives each line of the file of this name, without the line feed that ends it; a last line needs none. None where the file can't be
+    /// read, though some lines were given then.
+    fn each_row<T: Rows>(&self, _alloc: Global, name: &str, rows: &mut T) -> Option<()> {
+        let text = self.text(name)?;
+        let text = text.as_str();
+        if text.is_empty() {
+            return Some(());
+        }
+        let text = text.strip_suffix('\n').unwrap_or(text);
+        for row in text.split('\n') {
+            rows.row(row);
+        }
+        Some(())
+    }
+}
+
+/// Who takes the lines of a text.
+pub trait Rows {
+    fn row(&mut self, row: &str);
 }

@@ -1,7 +1,8 @@
 //! What `rbcline` does: it reads words, a line file and a script, runs the script on the line, and prints what comes out; it
-//! shows messages, and what a run printed, in words; and it draws a run.
+//! shows messages, and what a run printed, in words; it draws a run; and it audits what was printed.
 #![tactic(auto)]
 
+mod audit;
 pub mod command;
 mod diagram;
 pub mod disk;
@@ -9,7 +10,6 @@ mod explain;
 pub mod files;
 mod in_words;
 mod picture;
-mod print;
-mod run;
+pub mod run;
 mod teller;
-mod words;
+pub mod words;

@@ -1,7 +1,7 @@
 //! A line as a reader wants to see it: its centres, its tracks with their sections and borders, and its trains.
 
-use crate::print::name_of;
 use rbc_line::{Line, Section};
+use rbc_print::name_of;
 use rbc_status::Fault;
 use std::io::Write;
 

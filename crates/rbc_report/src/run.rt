@@ -1,7 +1,7 @@
 use crate::files::Files;
-use crate::print::print_counts;
 use crate::teller::Printer;
 use rbc_line::Line;
+use rbc_print::print_counts;
 use rbc_script::play::{PlayFault, play};
 use rbc_script::script::{Entry, script_of};
 use rbc_status::Fault;

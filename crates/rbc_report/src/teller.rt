@@ -1,7 +1,7 @@
 //! What is printed of a script as it is played.
 
-use crate::print::{print_answer, print_event, print_line};
 use rbc_line::Line;
+use rbc_print::{print_answer, print_event, print_line, print_show};
 use rbc_script::play::Teller;
 use rbc_status::Fault;
 use rbc_world::{Answer, World, WorldEvent};
@@ -30,7 +30,7 @@ impl<W: Write> Teller for Printer<'_, W> {
     ghost tells = { λ _ _ _. Unit {0} };
 
     fn show(&mut self, world: &World) -> Result<(), Fault<'static>> {
-        writeln!(self.out, "> show")?;
+        print_show(self.out)?;
         self.show_line(world)
     }
 

@@ -1,5 +1,5 @@
 use clap::error::ErrorKind;
-use clap::{Arg, ArgMatches, Command, Error};
+use clap::{Arg, ArgAction, ArgMatches, Command, Error};
 use rbc_status::Fault;
 use std::alloc::{AllocError, Global};
 use std::convert::AsStr;
@@ -8,17 +8,48 @@ use std::convert::AsStr;
 #[derive(Clone, Copy, Debug, PartialEq, Eq)]
 pub enum Request<'a> {
     /// Read the line, and say how much of each thing it has.
-    Check { file: &'a str },
+    Check {
+        file: &'a str,
+    },
     /// Say all that is wrong in the line file, or show the line.
-    Explain { file: &'a str },
+    Explain {
+        file: &'a str,
+    },
     /// Run the script on the line.
-    Run { file: &'a str, script: &'a str },
+    Run {
+        file: &'a str,
+        script: &'a str,
+    },
+    /// Run the events of a print again, and hold its lines against it.
+    Audit {
+        file: &'a str,
+        printed: &'a str,
+    },
+    /// Let the centres of the line run: the first listens at this port, the others behind it.
+    Serve {
+        file: &'a str,
+        port: u16,
+        is_quiet: bool,
+    },
+    /// Be a train: send the lines of the file to the centre at this port.
+    Drive {
+        port: u16,
+        file: &'a str,
+    },
     /// Show the message of these hexadecimal digits field by field.
-    Message { digits: &'a str },
+    Message {
+        digits: &'a str,
+    },
     /// Say what `run` printed in words.
-    Printed { file: &'a str, printed: &'a str },
+    Printed {
+        file: &'a str,
+        printed: &'a str,
+    },
     /// Draw what `run` printed.
-    Picture { file: &'a str, printed: &'a str },
+    Picture {
+        file: &'a str,
+        printed: &'a str,
+    },
 }
 
 /// Reads the words behind the program's name.
@@ -43,6 +74,19 @@ fn named<'a>(matches: &ArgMatches<'a>) -> Option<Request<'a>> {
     if let Some(words) = matches.subcommand_matches("words") {
         return named_words(words);
     }
+    if let Some(serve) = matches.subcommand_matches("serve") {
+        return named_serve(serve);
+    }
+    if let Some(drive) = matches.subcommand_matches("drive") {
+        let port = port_of(drive.get_str("PORT")?)?;
+        let file = drive.get_str("FILE")?;
+        return Some(Request::Drive { port, file });
+    }
+    if let Some(audit) = matches.subcommand_matches("audit") {
+        let file = audit.get_str("FILE")?;
+        let printed = audit.get_str("PRINTED")?;
+        return Some(Request::Audit { file, printed });
+    }
     if let Some(picture) = matches.subcommand_matches("picture") {
         let file = picture.get_str("FILE")?;
         let printed = picture.get_str("PRINTED")?;
@@ -58,6 +102,26 @@ fn named_words<'a>(words: &ArgMatches<'a>) -> Option<Request<'a>> {
     let file = words.get_str("FILE")?;
     let printed = words.get_str("PRINTED")?;
     Some(Request::Printed { file, printed })
+}
+
+fn named_serve<'a>(words: &ArgMatches<'a>) -> Option<Request<'a>> {
+    Some(Request::Serve {
+        file: words.get_str("FILE")?,
+        port: port_of(words.get_str("PORT")?)?,
+        is_quiet: words.get_flag("quiet"),
+    })
+}
+
+// A port: a number from 1 to 65 535, without a sign.
+fn port_of(word: &str) -> Option<u16> {
+    if word.starts_with('+') {
+        return None;
+    }
+    match word.parse() {
+        Ok(0) => None,
+        Ok(port) => Some(port),
+        Err(_) => None,
+    }
 }
 
 fn named_run<'a>(matches: &ArgMatches<'a>) -> Option<Request<'a>> {
@@ -80,6 +144,9 @@ fn rbcline<'a>(alloc: Global) -> Result<Command<'a>, AllocError> {
     let command = command.subcommand(check(alloc)?)?;
     let command = command.subcommand(explain(alloc)?)?;
     let command = command.subcommand(run(alloc)?)?;
+    let command = command.subcommand(serve(alloc)?)?;
+    let command = command.subcommand(drive(alloc)?)?;
+    let command = command.subcommand(audit(alloc)?)?;
     let command = command.subcommand(words(alloc)?)?;
     command.subcommand(picture(alloc)?)
 }
@@ -104,6 +171,43 @@ fn run<'a>(alloc: Global) -> Result<Command<'a>, AllocError> {
     );
     let command = command.arg(file(alloc, "FILE", "The line file"))?;
     command.arg(file(alloc, "SCRIPT", "The script, one event a line"))
+}
+
+fn serve<'a>(alloc: Global) -> Result<Command<'a>, AllocError> {
+    let command = Command::new(alloc, "serve").about(
+        "Lets the centres of a line run on this host: trains and the interlocking connect to them. After `stop` it prints what happened",
+    );
+    let quiet = Arg::new(alloc, "quiet")
+        .long("quiet")
+        .action(ArgAction::SetTrue)
+        .help("Says nothing on standard error while the centres run");
+    let command = command.arg(quiet)?;
+    let command = command.arg(file(alloc, "FILE", "The line file"))?;
+    command.arg(file(
+        alloc,
+        "PORT",
+        "The port of the first centre; the others follow, and behind them the interlocking",
+    ))
+}
+
+fn drive<'a>(alloc: Global) -> Result<Command<'a>, AllocError> {
+    let command = Command::new(alloc, "drive").about(
+        "Sends messages to a centre as a train does, and prints what it answers",
+    );
+    let command = command.arg(file(alloc, "PORT", "The port of the centre"))?;
+    command.arg(file(
+        alloc,
+        "FILE",
+        "Messages in hexadecimal, one a line, or `wait N` to read N answers",
+    ))
+}
+
+fn audit<'a>(alloc: Global) -> Result<Command<'a>, AllocError> {
+    let command = Command::new(alloc, "audit").about(
+        "Runs the events of a print again, and says whether all its lines are equal, or which differs first",
+    );
+    let command = command.arg(file(alloc, "FILE", "The line file"))?;
+    command.arg(file(alloc, "PRINTED", "What `run` or `serve` printed"))
 }
 
 fn words<'a>(alloc: Global) -> Result<Command<'a>, AllocError> {

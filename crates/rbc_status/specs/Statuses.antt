@@ -1,16 +1,18 @@
 -- The exit statuses of the program.
 use Rattle.std.specs.Prelude.{◌≡◌, ℕ, ◌⊎◌, Result, Ok, Err}
 use Rattle.rbc_status.specs.declared.fault.Fault.{Fault}
-use Rattle.rbc_status.specs.declared.fault.Fault.TheVariants.{Words, Usage, CannotRead, Line, Script, Step, Message, Write}
+use Rattle.rbc_status.specs.declared.fault.Fault.TheVariants.{Words, Usage, CannotRead, Line, Script, Step, Message, Differs, Socket, Write}
 
 -- the status that stands for a fault
 abbrev pub status_of : Fault → ℕ
+status_of Differs = 1
 status_of Words = 2
 status_of (Usage usage) = 2
 status_of (CannotRead name) = 3
 status_of (Script row) = 3
 status_of (Line why) = 4
 status_of (Step why) = 5
+status_of Socket = 6
 status_of Write = 6
 status_of (Message why) = 7
 

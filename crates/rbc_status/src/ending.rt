@@ -20,7 +20,7 @@ pub fn report<O: Write, E: Write>(fault: &Fault, out: &mut O, err: &mut E) -> u8
     ensures { IsReported fault.now result }
 {
     let told = match fault {
-        Fault::Write => Ok(()),
+        Fault::Write | Fault::Differs => Ok(()),
         Fault::Usage(usage) if usage.use_stderr() => tell(err, format_args!("{usage}")),
         Fault::Usage(help) => tell(out, format_args!("{help}")),
         _ => tell(err, format_args!("{fault}\n")),

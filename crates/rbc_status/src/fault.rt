@@ -29,6 +29,12 @@ pub enum Fault<'a> {
     /// The bytes that are to be shown are no message.
     #[error("rbcline: message fault {number}", number = .0.number())]
     Message(MsgFault),
+    /// An audit found a line that differs; it is printed already.
+    #[error("rbcline: the print differs")]
+    Differs,
+    /// A port can't be listened on, or a connection failed, ended early, or brought what is no message.
+    #[error("rbcline: socket")]
+    Socket,
     /// What the program wrote was refused. Nothing more is written.
     #[error("rbcline: cannot write")]
     Write,
@@ -42,11 +48,12 @@ impl Fault<'_> {
         ensures { result ≡ status_of self.now }
     {
         match self {
+            Fault::Differs => 1,
             Fault::Words | Fault::Usage(_) => 2,
             Fault::CannotRead(_) | Fault::Script(_) => 3,
             Fault::Line(_) => 4,
             Fault::Step(_) => 5,
-            Fault::Write => 6,
+            Fault::Socket | Fault::Write => 6,
             Fault::Message(_) => 7,
         }
     }

@@ -1,5 +1,3 @@
-//! What `run` prints: events, what they lead to, and the line.
-
 use rbc_centre::{Body, Frames, LinkAnswer, Outcome, Saying, StepFault, Word};
 use rbc_line::Line;
 use rbc_msgs::encode_track;
@@ -48,6 +46,12 @@ pub fn print_event<W: Write>(
     Ok(())
 }
 
+/// Prints that the line is to be shown, as a line of a script, after `> `.
+pub fn print_show<W: Write>(out: &mut W) -> Result<(), Fault<'static>> {
+    writeln!(out, "> show")?;
+    Ok(())
+}
+
 /// Prints what an event leads to.
 pub fn print_answer<W: Write>(
     alloc: Global,
@@ -67,7 +71,8 @@ pub fn print_answer<W: Write>(
     Ok(())
 }
 
-fn print_outcome<W: Write>(
+/// Prints what a step of a centre, by its name, answered.
+pub fn print_outcome<W: Write>(
     alloc: Global,
     out: &mut W,
     line: &Line,
@@ -184,7 +189,8 @@ fn supervisor_of(view: &LineView, nid_engine: u32) -> Option<u8> {
     None
 }
 
-fn print_section<W: Write>(
+/// Prints what a section is used for.
+pub fn print_section<W: Write>(
     out: &mut W,
     line: &Line,
     number: usize,
@@ -202,7 +208,8 @@ fn print_section<W: Write>(
     Ok(())
 }
 
-fn print_train<W: Write>(
+/// Prints which centre supervises a train.
+pub fn print_train<W: Write>(
     out: &mut W,
     line: &Line,
     nid_engine: u32,

@@ -1,0 +1,41 @@
+-- Texts as lines, and the first line in which two texts differ.
+use Rattle.std.specs.Prelude.{◌≡◌, ℕ, ◌+◌, ◌<◌, ◌==◌, Bool, true, false, if◌then◌else◌, List, [], ◌∷◌, length, take, drop, Option, Some, None}
+use Rattle.std.specs.Str.{bytes_eq}
+
+-- a byte more at the front of the first line, if there is one
+abbrev pub with_byte : ℕ → List (List ℕ) → List (List ℕ)
+with_byte b [] = []
+with_byte b (row ∷ rows) = (b ∷ row) ∷ rows
+
+-- the lines of a text, each without the line feed that ends it; what stands behind the last line feed is no line
+abbrev pub lines_of : List ℕ → List (List ℕ)
+lines_of [] = []
+lines_of (b ∷ bs) = if b == 10 then [] ∷ lines_of bs else with_byte b (lines_of bs)
+
+-- the number of the first line in which two texts differ, if their first lines have number n; where one text ends first, it is the first line
+-- that only one has
+abbrev pub first_difference : ℕ → List (List ℕ) → List (List ℕ) → Option ℕ
+first_difference n [] [] = None
+first_difference n [] (row ∷ rows) = Some n
+first_difference n (due ∷ dues) [] = Some n
+first_difference n (due ∷ dues) (row ∷ rows) = if bytes_eq due row then first_difference (n + 1) dues rows else Some n
+
+-- whether no line is left
+abbrev pub is_over : List (List ℕ) → Bool
+is_over [] = true
+is_over (due ∷ dues) = false
+
+-- whether a line is the one that has to come next
+abbrev pub is_next : List ℕ → List (List ℕ) → Bool
+is_next row [] = false
+is_next row (due ∷ dues) = bytes_eq due row
+
+-- the lines that have to come behind a line that came
+abbrev pub left_behind : List ℕ → List (List ℕ) → List (List ℕ)
+left_behind row [] = []
+left_behind row (due ∷ dues) = if bytes_eq due row then dues else due ∷ dues
+
+-- the first line of a text ends there, where the text has one
+abbrev pub Ends : List ℕ → Option ℕ → Type 0
+Ends text None = lines_of text ≡ []
+Ends text (Some end) = (end < length text) × (lines_of text ≡ take end text ∷ lines_of (drop (end + 1) text))
