@@ -1,18 +1,39 @@
-//! `rbcline`, the program of the radio block centres: it runs a script of events on a line, and prints what comes out.
+//! `rbcline`, the program of the radio block centres: it runs a script of events on a line, or lets the centres of the line run for trains
+//! that connect to them, and prints what comes out.
 #![tactic(auto)]
 
+mod centres;
+mod train;
+
+use crate::centres::run_centres;
+use crate::train::run_train;
 use rbc_report::command::command;
 use rbc_report::disk::{Disk, words_of};
-use rbc_status::report;
+use rbc_report::words::{Request, requested};
+use rbc_status::{ended, report};
 use std::io;
 use std::process::ExitCode;
 
 fn main(rt: HostRuntime) -> ExitCode {
     let mut out = io::writer(&rt);
     let mut err = rt.stderr();
-    let status = match words_of(&rt) {
-        Ok(words) => command(rt.alloc(), &words, &Disk(&rt), &mut out, &mut err),
-        Err(fault) => report(&fault, &mut out, &mut err),
+    let words = match words_of(&rt) {
+        Ok(words) => words,
+        Err(fault) => return ExitCode::from(report(&fault, &mut out, &mut err)),
+    };
+    let status = match requested(rt.alloc(), &words) {
+        Ok(
+            Request::Serve {
+                file,
+                port,
+                is_quiet,
+            },
+        ) => run_centres(&rt, file, port, is_quiet, &mut out, &mut err),
+        Ok(Request::Drive { port, file }) => {
+            let done = run_train(&rt, port, file, &mut out);
+            ended(done, &mut out, &mut err)
+        }
+        _ => command(rt.alloc(), &words, &Disk(&rt), &mut out, &mut err),
     };
     ExitCode::from(status)
 }

@@ -1,0 +1,41 @@
+//! A train by hand.
+
+use rbc_drive::{DriveFault, drive, steps_of};
+use rbc_report::disk::Disk;
+use rbc_report::files::Files as _;
+use rbc_status::Fault;
+use std::alloc::AllocError;
+use std::io::Write;
+use std::net::{IpAddr, Ipv4Addr, Net, SocketAddr, TcpStream};
+use std::rt::Files;
+
+/// Sends the lines of a file to the centre at this port of this host, and prints what it reads.
+pub fn run_train<'a, R: Net<Stream = TcpStream> + Files + AllocGlobal, O: Write>(
+    rt: &R,
+    port: u16,
+    file: &'a str,
+    out: &mut O,
+) -> Result<(), Fault<'a>> {
+    let Some(text) = Disk(rt).text(file) else {
+        return Err(Fault::CannotRead(file));
+    };
+    match run_text(rt, port, text.as_str(), out) {
+        Ok(()) => Ok(()),
+        Err(DriveFault::Memory) => Err(AllocError.into()),
+        Err(DriveFault::Form(row)) => Err(Fault::Script(row)),
+        Err(DriveFault::Socket) => Err(Fault::Socket),
+        Err(DriveFault::Write) => Err(Fault::Write),
+    }
+}
+
+fn run_text<R: Net<Stream = TcpStream> + AllocGlobal, O: Write>(
+    rt: &R,
+    port: u16,
+    text: &str,
+    out: &mut O,
+) -> Result<(), DriveFault> {
+    let steps = steps_of(rt.alloc(), text)?;
+    let address = SocketAddr::new(IpAddr::V4(Ipv4Addr::LOCALHOST), port);
+    let mut stream = TcpStream::connect(rt, address)?;
+    drive(rt.alloc(), &steps, &mut stream, out)
+}

@@ -1,0 +1,78 @@
+ghost use Rattle.std.specs.Prelude.{◌≡◌, IfOk};
+
+use crate::fault::DriveFault;
+use crate::steps::Step;
+use rbc_msgs::decode_track;
+use std::alloc::Global;
+use std::io::{Read, Write};
+
+/// How many bytes a message has at most.
+const MOST_BYTES: usize = 1023;
+
+/// How many bytes hold NID_MESSAGE and L_MESSAGE.
+const HEAD: usize = 3;
+
+/// Takes the steps one after another over a connection to a centre, and prints each message that it reads in hexadecimal.
+pub fn drive<C: Read + Write, O: Write>(
+    alloc: Global,
+    steps: &[Step],
+    connection: &mut C,
+    out: &mut O,
+) -> Result<(), DriveFault> {
+    for step in steps {
+        match step {
+            Step::Send(bytes) => connection.write_all(bytes)?,
+            Step::Wait(count) => {
+                wait(alloc, *count, connection, out)?;
+            }
+        }
+    }
+    Ok(())
+}
+
+/// Reads so many messages, and prints each. It gives how many were read.
+fn wait<C: Read, O: Write>(
+    alloc: Global,
+    count: u16,
+    connection: &mut C,
+    out: &mut O,
+) -> Result<u16, DriveFault>
+    ensures { IfOk result (λ read. read ≡ count) }
+{
+    let mut read = 0;
+    for _ in 0..count {
+        print_next(alloc, connection, out)?;
+        read += 1;
+    }
+    Ok(read)
+}
+
+// Reads one message of a centre, and prints it.
+fn print_next<C: Read, O: Write>(
+    alloc: Global,
+    connection: &mut C,
+    out: &mut O,
+) -> Result<(), DriveFault> {
+    let mut buffer = [0u8; MOST_BYTES];
+    connection.read_exact(&mut buffer[..HEAD])?;
+    let length = length_of(buffer[1], buffer[2]);
+    if length < HEAD || length > MOST_BYTES {
+        return Err(DriveFault::Socket);
+    }
+    connection.read_exact(&mut buffer[HEAD..length])?;
+    let bytes = &buffer[..length];
+    if decode_track(bytes).is_err() {
+        return Err(DriveFault::Socket);
+    }
+    let digits = hex::encode_upper(alloc, bytes)?;
+    let printed = writeln!(out, "{digits}");
+    if printed.is_err() || out.flush().is_err() {
+        return Err(DriveFault::Write);
+    }
+    Ok(())
+}
+
+// L_MESSAGE: the ten bits behind NID_MESSAGE.
+fn length_of(second: u8, third: u8) -> usize {
+    usize::from(second) * 4 + usize::from(third) / 64
+}

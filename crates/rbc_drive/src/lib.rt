@@ -1,0 +1,10 @@
+//! A train by hand: lines of bytes that are sent to a centre, and the messages that it answers.
+#![tactic(auto)]
+
+mod connection;
+mod fault;
+mod steps;
+
+pub use connection::drive;
+pub use fault::DriveFault;
+pub use steps::{Step, StepsFault, steps_of};

@@ -1,0 +1,2 @@
+mod Bidden
+mod Printed

@@ -1,0 +1,22 @@
+use Rattle.std.proofs.Common.{IfOk, IfErr, sym, subst, rules}
+use Rattle.rbc_script.specs.Script.{rows}
+use Rattle.rbc_script.specs.Entries.{AreAsked}
+use Rattle.rbc_serve.specs.Commands.{Bids, IsNoCommand}
+use Rattle.rbc_serve.proofs.Bidden.{bids, bids_nothing}
+use Rattle.rbc_serve.proofs.command.command_of.Goals as goal
+
+pub returns-in-Ok-clause-ok : goal.returns-in-Ok-clause-ok
+returns-in-Ok-clause-ok c =
+    subst
+    (λ r. IfOk r (Bids c.args.line.now c.args.row.now))
+    (sym c.ok_or.ensures.value)
+    (bids c.args.line.now c.args.row.now _ c.command_in.result c.command_in.ensures
+    (subst (AreAsked c.args.line.now (rows c.args.row.now)) (sym c.deref.ensures.value) c.in-Ok.ensures.asked))
+
+pub returns-in-Ok-clause-err : goal.returns-in-Ok-clause-err
+returns-in-Ok-clause-err c =
+    subst
+    (λ r. IfErr r (IsNoCommand c.args.line.now c.args.row.now))
+    (sym c.ok_or.ensures.value)
+    (bids_nothing c.args.line.now c.args.row.now _ c.command_in.result (search rules) c.command_in.ensures
+    (subst (AreAsked c.args.line.now (rows c.args.row.now)) (sym c.deref.ensures.value) c.in-Ok.ensures.asked))

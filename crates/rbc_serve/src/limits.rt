@@ -1,0 +1,28 @@
+//! How much of each thing there is at most, and how long each wait takes.
+
+/// How many frames a directed link carries.
+pub(crate) const CELLS: u32 = 65_536;
+
+/// How many connections a centre serves at once, beside one for each train of the line.
+pub(crate) const SPARE: usize = 8;
+
+/// How many connections the control door serves at once.
+pub(crate) const CONTROLS: usize = 4;
+
+/// How many replies wait for one train at most. One more, and its connection is cut.
+pub(crate) const REPLIES: usize = 256;
+
+/// How many bytes a line at the control door has at most.
+pub(crate) const MOST_ROW: usize = 4_096;
+
+/// How long a write may wait for a client that reads nothing, in seconds. Then its connection is cut.
+pub(crate) const PATIENCE: u64 = 10;
+
+/// How long a train may say nothing, in seconds. Then its connection counts as lost.
+pub(crate) const SILENCE: u64 = 600;
+
+/// How long a door rests at most before it looks for a connection again, in milliseconds.
+pub(crate) const DOOR_REST: u64 = 20;
+
+/// How long a control connection waits for a line before it looks whether the centres still run, in milliseconds.
+pub(crate) const CONTROL_REST: u64 = 100;

@@ -1,0 +1,80 @@
+use rbc_centre::Event;
+use rbc_line::Line;
+use rbc_log::{CentreLog, Entry};
+use std::alloc::{AllocError, Global};
+
+/// Which trains the centres have heard of, and when first.
+#[derive(Drop)]
+pub(crate) struct Roster {
+    // By the trains' places in the line file.
+    first: Vec<Option<Mention>>,
+    // By the centres' numbers: how many entries of the log were looked at.
+    looked: Vec<usize>,
+}
+
+/// When a message named a train: the stamp of its step, and the centre.
+#[derive(Clone, Copy, Debug, PartialEq, Eq, PartialOrd, Ord)]
+struct Mention {
+    stamp: u32,
+    centre: u8,
+}
+
+impl Roster {
+    /// No train was heard of.
+    pub fn new(alloc: Global, line: &Line) -> Result<Roster, AllocError> {
+        Ok(Roster {
+            first: vec![in alloc; None; line.train_count() as usize]?,
+            looked: vec![in alloc; 0usize; line.centre_count() as usize]?,
+        })
+    }
+
+    /// Looks at what came to a centre since it was looked at last.
+    pub fn read_on(&mut self, line: &Line, log: &CentreLog) {
+        let centre = log.number() as usize;
+        let Some(looked) = self.looked.get_mut(centre) else {
+            return;
+        };
+        let from = *looked;
+        *looked = log.entries().len();
+        if let Some(entries) = log.entries().get(from..) {
+            for entry in entries {
+                self.read(line, entry);
+            }
+        }
+    }
+
+    fn read(&mut self, line: &Line, entry: &Entry) {
+        let Event::Train(message) = &entry.event else {
+            return;
+        };
+        let Some(train) = line.train_number(message.nid_engine()) else {
+            return;
+        };
+        let mention = Mention {
+            stamp: entry.outcome.stamp,
+            centre: entry.centre,
+        };
+        if let Some(place) = self.first.get_mut(train as usize) {
+            match place {
+                Some(first) if *first <= mention => {}
+                _ => *place = Some(mention),
+            }
+        }
+    }
+
+    /// The trains that were heard of, by their places in the line file, in the order in which they were first heard of.
+    pub fn order(&self, alloc: Global) -> Result<Vec<usize>, AllocError> {
+        let mut heard = Vec::new(alloc);
+        for (train, first) in self.first.iter().enumerate() {
+            if let Some(first) = first {
+                heard.push((*first, train))?;
+            }
+        }
+        heard.sort_by_key(|item| item.0)?;
+        let mut trains = Vec::with_capacity(alloc, heard.len())?;
+        for (_, train) in heard.iter() {
+            trains.push(*train)?;
+        }
+        Ok(trains)
+    }
+}

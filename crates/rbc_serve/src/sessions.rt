@@ -1,0 +1,122 @@
+use crate::hall::{Hall, Seat};
+use crate::limits::{PATIENCE, REPLIES, SILENCE};
+use crate::noted::NotedWire;
+use crate::notes::Notes;
+use crossbeam_channel::{Receiver, bounded};
+use rbc_exchange::{Connection, Exchange, Wire};
+use rbc_intake::Reads;
+use rbc_node::{Node, Open};
+use rbc_print::name_of;
+use rbc_replies::{Reply, run_writer};
+use rbc_workers::{SessionEnd, run_session};
+use std::alloc::{AllocError, Global};
+use std::net::{Shutdown, TcpStream};
+use std::sync::{Arc, Wait};
+use std::thread;
+use std::thread::Threads;
+use std::time::Duration;
+
+/// Serves a train's connection at a centre to its end.
+pub(crate) fn serve_train<R: Threads + Wait + Sync, N: Notes + Sync>(
+    rt: &R,
+    hall: &Hall<'_>,
+    notes: &N,
+    centre: u8,
+    seat: &Seat,
+    stream: TcpStream,
+) {
+    let name = name_of(hall.line, centre);
+    let number = seat.number;
+    let at = centre as usize;
+    let (Some(node), Some(exchange)) = (hall.nodes.get(at), hall.exchanges.get(at)) else {
+        return;
+    };
+    let Ok((stream, replies)) = entered(rt, hall.alloc, exchange, number, stream) else {
+        notes.note(format_args!("{name}: a train is refused, memory ran out"));
+        return;
+    };
+    notes.note(format_args!("{name}: train connection {number} begins"));
+    let noted = NotedWire {
+        wire: Wire { exchange, number },
+        notes,
+        name,
+    };
+    let (end, ()) = thread::join(
+        rt,
+        || read_messages(rt, hall.alloc, node, seat, &stream, &noted),
+        || write_replies(rt, &replies, &stream),
+    );
+    tell_end(notes, name, number, end);
+}
+
+// Takes the connection into the exchange, and gives it with the replies that are to be written.
+fn entered<R: Wait>(
+    rt: &R,
+    alloc: Global,
+    exchange: &Exchange<'_>,
+    number: usize,
+    stream: TcpStream,
+) -> Result<(Arc<TcpStream, Global>, Receiver<Reply>), AllocError> {
+    let _ = stream.set_nodelay(true);
+    let _ = stream.set_read_timeout(Some(Duration::from_secs(SILENCE)));
+    let _ = stream.set_write_timeout(Some(Duration::from_secs(PATIENCE)));
+    let stream = Arc::new(alloc, stream)?;
+    let (sender, replies) = bounded(alloc, REPLIES)?;
+    let connection = Connection {
+        replies: sender,
+        stream: Arc::try_clone(&stream)?,
+    };
+    exchange.enter(rt, number, connection);
+    Ok((stream, replies))
+}
+
+// Commits what the train says, and says how it ended: none where the train was too slow to take its answers.
+fn read_messages<R: Wait, N: Notes>(
+    rt: &R,
+    alloc: Global,
+    node: &Node,
+    seat: &Seat,
+    stream: &TcpStream,
+    noted: &NotedWire<'_, N>,
+) -> Option<SessionEnd> {
+    let mut shares = seat.shares.lock(rt);
+    let share = shares.first_mut()?;
+    let mut source = Reads::new(stream);
+    let end = run_session(rt, alloc, node, &Open, share, &mut source, noted);
+    if noted.wire.exchange.leave(rt, seat.number) {
+        Some(end)
+    } else {
+        None
+    }
+}
+
+// Writes the replies of a connection. Behind the last one the connection is ended for the reader too.
+fn write_replies<R: Wait>(rt: &R, replies: &Receiver<Reply>, stream: &TcpStream) {
+    let mut out = stream;
+    let _ = run_writer(rt, replies, &mut out);
+    let _ = stream.shutdown(Shutdown::Both);
+}
+
+fn tell_end<N: Notes>(notes: &N, name: &str, number: usize, end: Option<SessionEnd>) {
+    match end {
+        Some(SessionEnd::EndOfStream) => {
+            notes.note(format_args!("{name}: train connection {number} ends"));
+        }
+        Some(SessionEnd::Fault(fault)) => {
+            let fault = fault.number();
+            notes.note(format_args!(
+                "{name}: train connection {number} is ended, stream fault {fault}"
+            ));
+        }
+        Some(SessionEnd::Device) => {
+            notes.note(format_args!("{name}: train connection {number} is lost"));
+        }
+        Some(SessionEnd::Refused(fault)) => {
+            let fault = fault.number();
+            notes.note(format_args!("{name}: train connection {number} is ended, refused {fault}"));
+        }
+        None => notes.note(format_args!(
+            "{name}: train connection {number} is cut, its train is too slow"
+        )),
+    }
+}

@@ -1,0 +1,15 @@
+//! Tests of the running centres: trains and the interlocking as threads of one process, over loopback.
+#![tactic(auto)]
+
+#[cfg(test)]
+mod client;
+#[cfg(test)]
+mod interlocking;
+#[cfg(test)]
+mod line;
+#[cfg(test)]
+mod railway;
+#[cfg(test)]
+mod sessions;
+#[cfg(test)]
+mod trains;

@@ -1,0 +1,52 @@
+//! The line of the tests.
+
+use crate::client::{Done, Missed};
+use rbc_line::Line;
+use std::alloc::Global;
+use std::test::*;
+
+const TWO_CENTRES: &str = "nid_c = 5
+[[centre]]
+name = \"A\"
+nid_rbc = 1
+[[centre]]
+name = \"B\"
+nid_rbc = 2
+[[track]]
+name = \"main\"
+section = [
+  { length = 1000, home = \"A\", balise = 100 },
+  { length = 1000, home = \"A\", balise = 101 },
+  { length = 1000, home = \"B\", balise = 102 },
+]
+[[train]]
+engine = 1
+registrar = \"A\"
+[[train]]
+engine = 2
+registrar = \"B\"
+";
+
+pub const A: usize = 0;
+
+pub const CONTROL: usize = 2;
+
+/// Sections 0 and 1 of centre A, and then section 2 of centre B. Train 1 is registered at A, train 2 at B.
+pub fn two_centres(alloc: Global) -> Result<Line, Fail> {
+    Ok(
+        Line::from_toml(alloc, TWO_CENTRES)
+            .ok()
+            .ok_or("the line file is accepted")?,
+    )
+}
+
+// Train 1 opens its session.
+pub const INITIATION_OF_ONE: &str = "9B028000000040000040";
+
+// The first five of its ten bytes.
+pub const HALF_AN_INITIATION: &str = "9B02800000";
+
+/// The bytes that these digits spell.
+pub fn bytes_of(alloc: Global, digits: &str) -> Done<Vec<u8>> {
+    hex::decode(alloc, digits).ok().ok_or(Missed::Digits)
+}
