@@ -1,11 +1,12 @@
 // Events in any order on a small line of three centres: what trains may say at a wrong time, with wrong stamps and places, and frames that
 // come late, again and out of turn. They are not timed; they are there to be answered alike.
 
-use crate::draw::Draw;
-use crate::line::{Line, Section, Train};
-use crate::state::{Mission, Phase};
-use crate::train::{Report, Said, encode};
-use crate::world::{Event, World};
+use crate::peer::draw::Draw;
+use crate::peer::line::{Line, Section, Train};
+use crate::peer::state::{Mission, Phase};
+use crate::peer::train::{Report, Said, encode};
+use crate::peer::world::{Event, World};
+use crate::traffic::supervisor;
 
 const CENTRES: u8 = 3;
 
@@ -86,7 +87,7 @@ fn train(line: &Line, world: &World, time: &mut u32, draw: &mut Draw) -> Event {
     let i = draw.below(line.trains.len() as u32) as usize;
     *time += 1;
     let stamp = if draw.one_in(30) { time.saturating_sub(draw.below(9)) } else { *time };
-    let centre = match world.supervisor(i) {
+    let centre = match supervisor(world, i) {
         Some(centre) if !draw.one_in(3) => centre as u8,
         _ => draw.below(CENTRES.into()) as u8,
     };

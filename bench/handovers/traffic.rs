@@ -1,10 +1,10 @@
 // A line of eight centres, and trains that run over all of them: on each track one is under way at a time, and each frame is delivered
 // soon, some of them twice.
 
-use crate::draw::Draw;
-use crate::line::{Line, Section, Train};
-use crate::train::{DOUBT, Report, Said, encode};
-use crate::world::{Event, World};
+use crate::peer::draw::Draw;
+use crate::peer::line::{Line, Section, Train};
+use crate::peer::train::{DOUBT, Report, Said, encode};
+use crate::peer::world::{Event, World};
 
 const CENTRES: u8 = 8;
 const TRACKS: u8 = 4;
@@ -216,6 +216,11 @@ impl Traffic<'_> {
     fn check(&self, track: &Track, i: usize, deed: Deed) {
         let k = if let Pass(k) = deed { k } else { 0 };
         let home = self.world.line.sections[(track.first + k) as usize].home;
-        assert_eq!(self.world.supervisor(i), Some(home as usize), "train {i} at section {k}");
+        assert_eq!(supervisor(&self.world, i), Some(home as usize), "train {i} at section {k}");
     }
+}
+
+/// The supervisor of a train, if one has its mission.
+pub fn supervisor(world: &World, i: usize) -> Option<usize> {
+    world.centres.iter().position(|k| k.trains[i].mission.is_some())
 }

@@ -1,15 +1,15 @@
 // Events in any order on a small line: much of what trains may say at a wrong time, with wrong stamps, places and bytes. They are
 // not timed; they are there to be answered alike.
 
-use crate::centre::Phase;
-use crate::draw::Draw;
-use crate::line::{Line, Section, Train};
-use crate::train::{Report, Said, encode};
-use crate::world::{Event, World};
+use crate::peer::draw::Draw;
+use crate::peer::line::{Line, Section, Train};
+use crate::peer::state::Phase;
+use crate::peer::train::{Report, Said, encode};
+use crate::peer::world::{Event, World};
 
 const FOREIGN: u32 = 999_999;
 
-/// Three tracks of twelve short sections and four trains, all of the first of two centres: the plain peer has no rules between centres.
+/// Three tracks of twelve short sections and four trains, all of the first of two centres, so that each mission is at that centre alone.
 pub fn line_of(draw: &mut Draw) -> Line {
     let mut list: Vec<Section> = Vec::new();
     for s in 0..36 {

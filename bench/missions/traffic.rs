@@ -1,9 +1,9 @@
 // A line, and whole missions on it: each run of eight sections has its trains, one under way at a time.
 
-use crate::draw::Draw;
-use crate::line::{Line, Section, Train};
-use crate::train::{DOUBT, Report, Said, encode};
-use crate::world::Event;
+use crate::peer::draw::Draw;
+use crate::peer::line::{Line, Section, Train};
+use crate::peer::train::{DOUBT, Report, Said, encode};
+use crate::peer::world::Event;
 
 pub const SECTIONS_EACH: u16 = 8;
 const TRACKS: u16 = 4;

@@ -1,6 +1,6 @@
 // What trains say, as bytes.
 
-use crate::bits::Writer;
+use super::bits::Writer;
 
 /// A position report: the front is so far behind the balise group, in metres, with doubts of 5 m both ways.
 #[derive(Clone, Copy)]

@@ -1,6 +1,6 @@
 // What centres say to each other, and the bytes of it.
 
-use crate::line::{Place, Run};
+use super::line::{Place, Run};
 
 /// A mission as it goes to the next centre.
 #[derive(Clone, Copy)]

@@ -1,11 +1,11 @@
 // What goes between centres: rights, sections over a border, and handovers.
 
-use crate::centre::{Centre, part_of};
-use crate::frames::{Body, Yielded};
-use crate::line::{Line, Place, Run};
-use crate::message::{Position, Reply};
-use crate::rules::MOST_SECTIONS;
-use crate::state::*;
+use super::centre::{Centre, part_of};
+use super::frames::{Body, Yielded};
+use super::line::{Line, Place, Run};
+use super::message::{Position, Reply};
+use super::rules::MOST_SECTIONS;
+use super::state::*;
 
 const SECTIONS: u16 = 512;
 

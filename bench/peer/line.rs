@@ -1,6 +1,6 @@
 // The line as a centre looks it up: sections by number and by balise group, trains by engine, and what a place tells of them.
 
-use crate::message::Position;
+use super::message::Position;
 use std::collections::HashMap;
 use std::hash::{BuildHasherDefault, Hasher};
 

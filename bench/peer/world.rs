@@ -1,10 +1,10 @@
 // The centres of a line with the frames between them: an event goes in, and what is answered comes out, also as lines of text.
 
-use crate::centre::Centre;
-use crate::frames;
-use crate::line::Line;
-use crate::message::{Fault, decode};
-use crate::state::{Outcome, Refused, Taken, Word};
+use super::centre::Centre;
+use super::frames;
+use super::line::Line;
+use super::message::{Fault, decode};
+use super::state::{Outcome, Refused, Taken, Word};
 use std::fmt::Write;
 
 pub enum Event {
@@ -79,11 +79,6 @@ impl<'a> World<'a> {
         };
         let frame = *frame;
         Ok(Answer::Outcome(to, self.centres[to as usize].deliver(self.line, from, number, &frame)?))
-    }
-
-    /// The supervisor of a train, if one has its mission.
-    pub fn supervisor(&self, i: usize) -> Option<usize> {
-        self.centres.iter().position(|k| k.trains[i].mission.is_some())
     }
 
     /// What is answered, as lines of text behind the stamp of the step.

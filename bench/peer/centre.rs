@@ -1,9 +1,9 @@
 // A radio block centre of a line with borders: what it answers to a message, a set, an unset and a frame.
 
-use crate::frames::{Body as Sent, Frame};
-use crate::line::{Line, Run};
-use crate::message::{Body, Message, encode};
-use crate::state::*;
+use super::frames::{Body as Sent, Frame};
+use super::line::{Line, Run};
+use super::message::{Body, Message, encode};
+use super::state::*;
 
 pub struct Centre {
     pub number: u8,

@@ -1,8 +1,8 @@
 // What a radio block centre of a line with borders keeps, and what a step of it comes to.
 
-use crate::frames::Body as Sent;
-use crate::line::{Place, Run};
-use crate::message::{NO_GROUP, Reply};
+use super::frames::Body as Sent;
+use super::line::{Place, Run};
+use super::message::{NO_GROUP, Reply};
 
 pub const LAST_STAMP: u32 = 1_073_741_823;
 pub const MOST_FRAMES: usize = 65_536;

@@ -1,6 +1,6 @@
 // The messages of trains as they are read, and those of a centre as they are written (SUBSET-026 chapters 7 and 8).
 
-use crate::bits::{Reader, Writer};
+use super::bits::{Reader, Writer};
 
 /// Why bytes are no message, by the number that is printed.
 #[derive(Clone, Copy, Debug, PartialEq, Eq)]

@@ -1,10 +1,10 @@
 // What each message does at a centre (SUBSET-026 3.5, 3.6, 3.8, 5.4, 5.5).
 
-use crate::centre::Centre;
-use crate::frames::Body as Sent;
-use crate::line::{Line, Place, Run};
-use crate::message::{Position, Reply};
-use crate::state::*;
+use super::centre::Centre;
+use super::frames::Body as Sent;
+use super::line::{Line, Place, Run};
+use super::message::{Position, Reply};
+use super::state::*;
 
 pub const MOST_SECTIONS: u16 = 32;
 pub const MOST_METRES: u32 = 32_767;

@@ -1,0 +1,15 @@
+// Radio block centres in plain Rust, with all rules, and the events and answers of a line of them. They share no code with the proved ones, and
+// are only measured against them.
+
+mod bits;
+mod border;
+mod centre;
+pub mod draw;
+mod frames;
+pub mod line;
+mod message;
+mod rules;
+pub mod script;
+pub mod state;
+pub mod train;
+pub mod world;

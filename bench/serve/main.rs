@@ -1,0 +1,58 @@
+// Clients of running centres, and a bare echo server beside them.
+// Words: line; echo PORT PORTS; release PORT; load centres|echo PORT SECONDS WINDOW TIME; soak PORT SECONDS; stop PORT; missing PRINTED HEARD.
+
+#[path = "../peer/bits.rs"]
+#[allow(dead_code)]
+mod bits;
+#[path = "../peer/draw.rs"]
+#[allow(dead_code)]
+mod draw;
+mod echo;
+mod heard;
+mod line;
+mod load;
+#[path = "../peer/train.rs"]
+#[allow(dead_code)]
+mod said;
+mod train;
+mod trouble;
+
+use crate::load::{Other, Plan};
+use crate::trouble::Soak;
+use std::error::Error;
+use std::time::{Duration, Instant};
+
+fn main() -> Result<(), Box<dyn Error>> {
+    let words: Vec<String> = std::env::args().skip(1).collect();
+    let words: Vec<&str> = words.iter().map(String::as_str).collect();
+    match words[..] {
+        ["line"] => print!("{}", line::line_file()),
+        ["echo", first, ports] => echo::serve(first.parse()?, ports.parse()?)?,
+        ["release", first] => load::release(first.parse()?)?,
+        ["stop", first] => load::stop(first.parse()?)?,
+        ["load", other, first, seconds, window, time] => {
+            let other = if other == "echo" { Other::Echo } else { Other::Centres };
+            let (first_port, seconds) = (first.parse()?, seconds.parse()?);
+            let plan = Plan { first_port, seconds, window: window.parse()?, time: time.parse()? };
+            let (answered, took) = load::run(other, plan)?;
+            println!("{} {answered} {:.1}", (answered as f64 / took.as_secs_f64()) as u64, took.as_secs_f64());
+        }
+        ["soak", first, seconds] => {
+            let until = Instant::now() + Duration::from_secs(seconds.parse()?);
+            let outcome = trouble::soak(Soak { first_port: first.parse()?, until })?;
+            eprintln!("the train that reads nothing was cut {} times", outcome.cuts);
+            for line in outcome.heard.iter().flat_map(|heard| &heard.lines) {
+                println!("{line}");
+            }
+        }
+        ["missing", printed, heard] => {
+            let (print, heard) = (std::fs::read_to_string(printed)?, std::fs::read_to_string(heard)?);
+            match heard::missing(&print, &heard) {
+                Some(line) => return Err(format!("the print lacks {line}").into()),
+                None => println!("the print has all {} lines that were heard", heard.lines().count()),
+            }
+        }
+        _ => return Err("words refused".into()),
+    }
+    Ok(())
+}
