@@ -57,8 +57,9 @@ impl TrainState {
     {
         self.supervision.claim(from, number);
         let none = SectionRun { first: 0, count: 0 };
-        let claimed = Heard::returned(self.track(), none);
-        self.yield_if_due(line, centre, book, claimed)
+        let mut claimed = Heard::returned(self.track(), none);
+        self.yield_if_due(line, centre, book, &mut claimed);
+        claimed
     }
 
     // The track of its mission; the first, where none stands.
@@ -73,19 +74,20 @@ impl TrainState {
 
     /// Behind what a step has come to so far, the mission is yielded where that is due: its pool goes home, the mission goes in one frame, and
     /// a train that is no more to come here is ordered to end its session.
+    #[inline(always)]
     pub(crate) fn yield_if_due(
         &mut self,
         line: &Line,
         centre: u8,
         book: &mut Book,
-        heard: Heard,
-    ) -> Heard
+        heard: &mut Heard,
+    )
         requires count { self.old.said < 4294967294 }
         requires held { IsHeldBy self.old.supervision.engine self.old.supervision.hand book.old }
-        requires may { MayYield self.old.supervision heard }
+        requires may { MayYield self.old.supervision heard.old }
         ensures exact { (k : spec.Centre) → HasTurn k self.old → lending.HasBook line.now centre k book.old
-            → followed (reply_left line.now centre self.old.supervision.engine k heard) (acts.yield_if_due line.now centre self.old.supervision.engine)
-            ≡ reply_left line.now centre self.old.supervision.engine (with_turn self.new book.new k) result }
+            → followed (reply_left line.now centre self.old.supervision.engine k heard.old) (acts.yield_if_due line.now centre self.old.supervision.engine)
+            ≡ reply_left line.now centre self.old.supervision.engine (with_turn self.new book.new k) heard.new }
         ensures left { self.new ≡ record self.old { said = self.new.said; supervision = record self.old.supervision { mission = self.new.supervision.mission; hand = self.new.supervision.hand } } }
         ensures counted { (self.old.said ≤ self.new.said) × (self.new.said ≤ self.old.said + 1) }
         ensures held { IsHeldBy self.old.supervision.engine self.new.supervision.hand book.new }
@@ -93,11 +95,11 @@ impl TrainState {
     {
         let nid_engine = self.nid_engine();
         let Some(yielded) = self.supervision.yield_if_due(line, centre, book) else {
-            return heard;
+            return;
         };
         let letter = yield_letter(nid_engine, self.heard, yielded);
         let order = self.order_if_gone(line, centre, yielded.is_gone);
-        heard.and_yields(yielded.pool, letter, order)
+        heard.and_yields(yielded.pool, letter, order);
     }
 
     // The order to end its session, for a train that is no more to come here.

@@ -89,30 +89,17 @@ impl Heard {
 
     /// Then the mission is yielded: this pool goes home too, behind the others of the track, the letter takes the mission, and the train is
     /// ordered this or nothing.
-    pub(crate) fn and_yields(self, pool: SectionRun, letter: Letter, order: Option<Saying>) -> Heard
-        ensures { result ≡ record self {
+    pub(crate) fn and_yields(&mut self, pool: SectionRun, letter: Letter, order: Option<Saying>)
+        ensures { self.new ≡ record self.old {
           order = order;
-          mail = record self.mail { second = (if is_empty (run_of pool) then self.mail.second else pool); letter = Some letter };
+          mail = record self.old.mail { second = (if is_empty (run_of pool) then self.old.mail.second else pool); letter = Some letter };
         } }
     {
-        let Heard {
-            saying,
-            order: _,
-            mail,
-            told,
-        } = self;
-        let second = if pool.is_empty() { mail.second } else { pool };
-        let mail = Mail {
-            second,
-            letter: Some(letter),
-            ..mail
-        };
-        Heard {
-            saying,
-            order,
-            mail,
-            told,
+        if !pool.is_empty() {
+            self.mail.second = pool;
         }
+        self.mail.letter = Some(letter);
+        self.order = order;
     }
 
     /// Sections of this track go home.

@@ -62,8 +62,9 @@ impl TrainState {
             return Err(Reason::NoPlace);
         };
         self.heard = Some(t_train);
-        let heard = self.clear(line, centre, book, registrar, place);
-        Ok(self.yield_if_due(line, centre, book, heard))
+        let mut heard = self.clear(line, centre, book, registrar, place);
+        self.yield_if_due(line, centre, book, &mut heard);
+        Ok(heard)
     }
 
     /// Message 150: what the train has cleared is given back, where its report has a place; then its mission is ended, and its pool goes
@@ -108,7 +109,9 @@ impl TrainState {
         let heard = self.report_here(line, centre, book, registrar, track, position);
         let pool = self.supervision.return_pool();
         self.supervision.end_mission();
-        Ok(self.yield_if_due(line, centre, book, heard.with_second(pool)))
+        let mut heard = heard.with_second(pool);
+        self.yield_if_due(line, centre, book, &mut heard);
+        Ok(heard)
     }
 
     // What the train has cleared leaves its hand, where the report has a place on this track.

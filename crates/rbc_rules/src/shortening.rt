@@ -73,15 +73,17 @@ impl TrainState {
                 self.heard = Some(t_train);
                 let released = self.supervision.shorten(line, keep, book);
                 let track = mission.place.track;
-                let heard = self.released(line, centre, registrar, track, released);
-                Ok(self.yield_if_due(line, centre, book, heard))
+                let mut heard = self.released(line, centre, registrar, track, released);
+                self.yield_if_due(line, centre, book, &mut heard);
+                Ok(heard)
             }
             Ok(Cut::Nothing) => {
                 self.heard = Some(t_train);
                 self.supervision.forget_proposal();
                 let none = SectionRun { first: 0, count: 0 };
-                let heard = Heard::returned(mission.place.track, none);
-                Ok(self.yield_if_due(line, centre, book, heard))
+                let mut heard = Heard::returned(mission.place.track, none);
+                self.yield_if_due(line, centre, book, &mut heard);
+                Ok(heard)
             }
             Err(_) => Err(Reason::Unasked),
         }

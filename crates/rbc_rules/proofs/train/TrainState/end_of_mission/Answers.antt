@@ -34,7 +34,7 @@ yield_if_due-requires-clause-may c =
     let heard = c.report_here-heard.result in
     let ends = may_end c.report_here-heard.new.self.supervision heard c.return_pool-pool.result m.place.track c.report_here-heard.ensures.order c.report_here-heard.ensures.mail c.report_here-heard.ensures.letter
     (λ x stands. c.report_here-heard.ensures.track m x there refl stands) in
-    subst (λ (h : Heard). MayYield c.end_mission.new.self h) (sym c.with_second.ensures) (subst (λ (x : SupervisionState). MayYield x (record heard { mail = record heard.mail { second = c.return_pool-pool.result } })) (sym (done (goal.at.yield_if_due-requires-clause-may c).After-end_mission)) ends)
+    subst (λ (h : Heard). MayYield c.end_mission.new.self h) (sym c.with_second-heard.ensures) (subst (λ (x : SupervisionState). MayYield x (record heard { mail = record heard.mail { second = c.return_pool-pool.result } })) (sym (done (goal.at.yield_if_due-requires-clause-may c).After-end_mission)) ends)
 
 pub returns-clause-exact : goal.returns-clause-exact
 returns-clause-exact c = λ k h.
@@ -56,9 +56,9 @@ returns-clause-exact c = λ k h.
     (sym c.known-known.ensures.phase ∙ ap phase_of c.in-Up.is) there c.if-mission.false
     c.report_here-heard.ensures.kept.engine c.report_here-heard.ensures.desk.homes kept (c.report_here-heard.ensures.exact m there refl) c.report_here-heard.ensures.order
     c.report_here-heard.ensures.mail c.report_here-heard.ensures.letter (λ x stands. c.report_here-heard.ensures.track m x there refl stands) c.return_pool-pool.ensures.run
-    new book'' c.yield_if_due.result
-    (yields_so line c.args.centre (record mid { supervision = c.end_mission.new.self }) (record mid { supervision = finished mid.supervision }) new book' book'' c.with_second.result both c.yield_if_due.result
-    (λ i. record mid { supervision = done (goal.at.returns-clause-exact c).After-end_mission i }) c.with_second.ensures c.yield_if_due.ensures.exact)
+    new book'' c.yield_if_due.new.heard
+    (yields_so line c.args.centre (record mid { supervision = c.end_mission.new.self }) (record mid { supervision = finished mid.supervision }) new book' book'' c.with_second-heard.result both c.yield_if_due.new.heard
+    (λ i. record mid { supervision = done (goal.at.returns-clause-exact c).After-end_mission i }) c.with_second-heard.ensures c.yield_if_due.ensures.exact)
     (c.yield_if_due.ensures.left ∙ (λ i. record mid { said = new.said; supervision = record (done (goal.at.returns-clause-exact c).After-end_mission i) { mission = new.supervision.mission; hand = new.supervision.hand } }))
 
 pub returns-clause-held : goal.returns-clause-held

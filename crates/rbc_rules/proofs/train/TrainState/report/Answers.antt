@@ -35,7 +35,7 @@ returns-clause-exact c = λ k h.
     let there = sym c.known-known.ensures.mission ∙ ap (λ o. mission_by o hand pool (handing_in old.supervision)) c.in-Some.is in
     let on = sym c.place_on.ensures.value ∙ ap (option_map place_of) c.in-Some-place_on.is in
     reports line c.args.centre k c.args.t_train old c.args.book.now c.args.registrar.now (position_of c.args.position.now) h
-    m (place_of c.in-Some-place_on.place) c.clear-heard.new.self c.yield_if_due.new.self c.clear-heard.new.book c.yield_if_due.new.book c.clear-heard.new.registrar c.clear-heard.result c.yield_if_due.result
+    m (place_of c.in-Some-place_on.place) c.clear-heard.new.self c.yield_if_due.new.self c.clear-heard.new.book c.yield_if_due.new.book c.clear-heard.new.registrar c.clear-heard.result c.yield_if_due.new.heard
     (sym c.known-known.ensures.phase ∙ ap phase_of c.in-Up.is) there on c.clear-heard.ensures.kept.engine (λ s. c.clear-heard.ensures.desk.homes s ∙ c.requires.book s)
     (c.clear-heard.ensures.exact m there (sym (on_track line m.place.track (position_of c.args.position.now) (place_of c.in-Some-place_on.place) on)))
     c.yield_if_due.ensures.exact c.yield_if_due.ensures.left

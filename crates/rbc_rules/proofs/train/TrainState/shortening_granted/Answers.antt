@@ -86,7 +86,7 @@ returns-in-Ok-Keep-clause-exact c = λ k h.
     c.shorten-released.ensures.supervision c.shorten-released.ensures.book c.shorten-released.ensures.told c.shorten-released.ensures.returned c.shorten-released.ensures.cancelled
     (goes_as line c.args.centre old.supervision.engine left.engine c.shorten-released.result.right (right_left old.supervision left) c.released-heard.result.mail.letter c.args.registrar.now c.released-heard.new.registrar
     (ap (λ (x : SupervisionState). x.engine) c.shorten-released.ensures.supervision) c.shorten-released.ensures.right c.released-heard.ensures.right)
-    c.yield_if_due.new.self c.yield_if_due.new.book c.released-heard.result c.yield_if_due.result (first_is (goal.at.returns-in-Ok-Keep-clause-exact c).After-released-heard) c.yield_if_due.ensures.exact c.yield_if_due.ensures.left
+    c.yield_if_due.new.self c.yield_if_due.new.book c.released-heard.result c.yield_if_due.new.heard (first_is (goal.at.returns-in-Ok-Keep-clause-exact c).After-released-heard) c.yield_if_due.ensures.exact c.yield_if_due.ensures.left
 
 pub yield_if_due-requires-in-Ok-Nothing-clause-held : goal.yield_if_due-requires-in-Ok-Nothing-clause-held
 yield_if_due-requires-in-Ok-Nothing-clause-held c =
@@ -117,8 +117,8 @@ returns-in-Ok-Nothing-clause-exact c = λ k h.
     (ap (λ (s : ℕ). is_unasked (Some m) (ShorteningGranted s position)) (sym c.value.ensures.value) ∙ sym (c.in-Ok-Nothing.ensures.reason m position refl))
     (c.in-Ok-Nothing.ensures.rules c.args.centre old.supervision.engine position m p (record { proposal = standing; place = c.front_on-front.ensures })
     ∙ ap (act_of line c.args.centre old.supervision.engine m p) c.in-Ok-Nothing.field-0-is)
-    last.new.self last.new.book c.returned-heard.result last.result c.returned-heard.ensures
-    (yields_so line c.args.centre (record heard { supervision = c.forget_proposal.new.self }) mid last.new.self c.args.book.now last.new.book c.returned-heard.result c.returned-heard.result last.result
+    last.new.self last.new.book c.returned-heard.result last.new.heard c.returned-heard.ensures
+    (yields_so line c.args.centre (record heard { supervision = c.forget_proposal.new.self }) mid last.new.self c.args.book.now last.new.book c.returned-heard.result c.returned-heard.result last.new.heard
     (λ i. record heard { supervision = c.forget_proposal.ensures i }) refl last.ensures.exact)
     (last.ensures.left ∙ (λ i. record heard { said = last.new.self.said; supervision = record (c.forget_proposal.ensures i) { mission = last.new.self.supervision.mission; hand = last.new.self.supervision.hand } }))
 

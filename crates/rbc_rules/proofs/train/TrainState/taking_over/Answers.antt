@@ -37,7 +37,7 @@ returns-clause-exact c = λ rights k has.
     let old = c.args.self.now in
     let t = old.supervision.engine in
     let mid : TrainState = record old { supervision = c.claim.new.self } in
-    then_yields line n t (change_mission t (claimed c.args.from c.args.number)) k mid c.yield_if_due.new.self c.args.book.now c.yield_if_due.new.book rights c.returned-claimed.result c.yield_if_due.result
+    then_yields line n t (change_mission t (claimed c.args.from c.args.number)) k mid c.yield_if_due.new.self c.args.book.now c.yield_if_due.new.book rights c.returned-claimed.result c.yield_if_due.new.heard
     (ap (λ (x : SupervisionState). x.engine) c.claim.ensures) c.requires.book
     (ap (λ (x : Centre). replied x [] []) (mission_changed line n k old c.args.book.now rights has (claimed c.args.from c.args.number))
     ∙ (λ i. replied (with_parts (record old { supervision = sym c.claim.ensures i }) c.args.book.now rights k) [] [])

@@ -22,7 +22,7 @@ returns-in_default-clause-exact c = λ k has pages.
     let left = c.yield_if_due.new.self in
     let book' = c.yield_if_due.new.book in
     let same = c.yield_if_due.ensures.none c.in_default.is in
-    rests line c.args.centre k old c.args.book.now has c.args.heard (record old { supervision = left }) book' (λ i. record old { supervision = same.0 i }) same.1
+    rests line c.args.centre k old c.args.book.now has c.args.heard.now (record old { supervision = left }) book' (λ i. record old { supervision = same.0 i }) same.1
     (c.yield_if_due.ensures.exact k has.supervision pages
     ∙ ap (λ o. option_map_or (sends_off line c.args.centre old.supervision.engine) o rest (with_supervision left (with_book book' k))) c.in_default.is)
 
@@ -52,7 +52,7 @@ returns-clause-exact c = λ k has pages.
     let new = c.order_if_gone-order.new.self in
     let order = c.order_if_gone-order.result in
     let at = with_supervision (record old.supervision { mission = None; hand = left.hand }) (with_book book' k) in
-    goes line n k old c.args.book.now has c.args.heard y c.yield_letter-letter.result order new left.hand book' was (c.requires.may was.mission was.there was.handing)
+    goes line n k old c.args.book.now has c.args.heard.now y c.yield_letter-letter.result order new left.hand book' was (c.requires.may was.mission was.there was.handing)
     c.yield_letter-letter.ensures.to
     (c.yield_letter-letter.ensures.body
     ∙ ap (λ (u : ℕ). Yield y.handover.number u (option_map_or (λ n. n) old.heard 0) y.mission.has_data y.mission.is_ended (yielded_place (place_of y.mission.place)) (run_of y.hand)) c.nid_engine-nid_engine.ensures)
