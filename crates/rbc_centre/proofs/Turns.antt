@@ -169,6 +169,10 @@ unfolding stands_for
 heard_stamp k m = refl
 
 -- and of what the interlocking says
+pub set_stamp : (k : CentreCode) (s : ℕ) → step.stamp_of (state_of k) (Set s) ≡ k.clock + 1
+unfolding stands_for
+set_stamp k s = refl
+
 pub unset_stamp : (k : CentreCode) (s : ℕ) → step.stamp_of (state_of k) (Unset s) ≡ k.clock + 1
 unfolding stands_for
 unset_stamp k s = refl

@@ -216,7 +216,7 @@ impl Centre {
 
     // Whether a step may be taken whose stamp is above this.
     #[inline(always)]
-    fn may_take(&self, stamp: u32) -> Result<(), StepFault>
+    pub(crate) fn may_take(&self, stamp: u32) -> Result<(), StepFault>
         ensures ok { OnOk result ((stamp < 1073741823) × (has_full_link (line_of self.now) (number_of self.now) (state_of self.now) ≡ false)) }
         ensures err { IfErr result (λ fault. IsRefusalOf fault (if nat_lt 1073741823 (stamp + 1) then Some spec.ClockEnd
             else (if has_full_link (line_of self.now) (number_of self.now) (state_of self.now) then Some spec.LinkFull else None))) }

@@ -7,12 +7,13 @@ ghost use Rattle.rbc_spec.specs.Step as step;
 ghost use Rattle.rbc_spec.specs.Step.{has_full_link};
 ghost use Rattle.rbc_book.specs.Book.{entry_at};
 ghost use Rattle.rbc_link.specs.Links as links;
-ghost use Rattle.rbc_centre.specs.Answer.{TakesMemory};
+ghost use Rattle.rbc_centre.specs.Answer.{Steps, IsWantedBy, TakesMemory};
 ghost use Rattle.rbc_centre.specs.Rooms.{HasFrameRoom};
 ghost use Rattle.rbc_centre.specs.States.{line_of, number_of, state_of};
 ghost use Rattle.rbc_centre.specs.Views.{outcome_of};
 
 use crate::centre::Centre;
+use crate::fault::StepFault;
 use crate::outcome::{Outcome, Word};
 use crate::posted::post_letter;
 use rbc_book::{Entry, NotHome, Unset};
@@ -21,6 +22,34 @@ use rbc_rules::Letter;
 use std::alloc::AllocError;
 
 impl Centre {
+    /// The interlocking releases a section: the step of that event.
+    #[inline(always)]
+    pub fn step_set(&mut self, s: u16) -> Result<Outcome, StepFault>
+        ensures line { line_of self.new ≡ line_of self.old }
+        ensures number { number_of self.new ≡ number_of self.old }
+        ensures exact { Steps (λ o. (outcome_of o, state_of self.new)) result
+            (step.step (line_of self.old) (number_of self.old) (step.Set s) (state_of self.old)) }
+        ensures memory { IsWantedBy (state_of self.old) (step.Set s) result }
+        ensures err { OnErr result (state_of self.new ≡ state_of self.old) }
+    {
+        self.may_take(self.clock)?;
+        Ok(self.set(s))
+    }
+
+    /// The interlocking takes a section back: the step of that event.
+    #[inline(always)]
+    pub fn step_unset(&mut self, s: u16) -> Result<Outcome, StepFault>
+        ensures line { line_of self.new ≡ line_of self.old }
+        ensures number { number_of self.new ≡ number_of self.old }
+        ensures exact { Steps (λ o. (outcome_of o, state_of self.new)) result
+            (step.step (line_of self.old) (number_of self.old) (step.Unset s) (state_of self.old)) }
+        ensures memory { IsWantedBy (state_of self.old) (step.Unset s) result }
+        ensures err { OnErr result (state_of self.new ≡ state_of self.old) }
+    {
+        self.may_take(self.clock)?;
+        Ok(self.unset(s)?)
+    }
+
     /// The interlocking releases a section.
     pub(crate) fn set(&mut self, s: u16) -> Outcome
         requires time { self.old.clock < 1073741823 }

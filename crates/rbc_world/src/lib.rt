@@ -3,6 +3,7 @@
 #![tactic(auto)]
 
 mod event;
+mod interlocking;
 mod missions;
 mod run;
 mod view;

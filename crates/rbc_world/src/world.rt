@@ -107,13 +107,13 @@ impl World {
     {
         match event {
             WorldEvent::Train { centre, bytes } => self.receive(*centre, bytes),
-            WorldEvent::Set { centre, section } => self.tell(*centre, &Event::Set(*section)),
-            WorldEvent::Unset { centre, section } => self.tell(*centre, &Event::Unset(*section)),
+            WorldEvent::Set { centre, section } => self.set(*centre, *section),
+            WorldEvent::Unset { centre, section } => self.unset(*centre, *section),
             WorldEvent::Deliver { from, to, number } => self.deliver(*from, *to, *number),
         }
     }
 
-    // The interlocking says something to a centre, or a frame that was sent to it comes.
+    // A centre takes what it may be told, as a frame that was sent to it.
     fn tell(&mut self, c: u8, event: &Event) -> Result<Answer, StepFault>
         requires { MayBeTold (state_of self.old) c event.now }
         ensures line { line_of self.new ≡ line_of self.old }
