@@ -48,6 +48,8 @@ pub(crate) fn post(
     if is_nothing(line, centre, mail) {
         return Frames::nothing();
     }
+    // The copy keeps the mail of a step that sends nothing in registers.
+    let mail = *mail;
     post_all(
         links,
         room,
@@ -56,7 +58,7 @@ pub(crate) fn post(
         nid_engine,
         stamp,
         expectations,
-        mail,
+        &mail,
     )
 }
 

@@ -27,7 +27,18 @@ pub(crate) fn part_to(line: &Line, centre: u8, to: u8, track: u8, run: SectionRu
 }
 
 /// Whether all these sections are of the home of the centre that returns them, so that none goes to another.
+#[inline(always)]
 pub(crate) fn stays(line: &Line, centre: u8, sections: SectionRun) -> bool
+    ensures { IsTrue result → (t track d : ℕ) → going_home line.now centre t track (run_of sections) d ≡ [] }
+{
+    if sections.is_empty() {
+        return true;
+    }
+    all_stay(line, centre, sections)
+}
+
+// Whether each of these sections is of the centre's home.
+fn all_stay(line: &Line, centre: u8, sections: SectionRun) -> bool
     ensures { IsTrue result → (t track d : ℕ) → going_home line.now centre t track (run_of sections) d ≡ [] }
 {
     let end = u32::from(sections.first) + u32::from(sections.count);
