@@ -8,7 +8,7 @@ use Rattle.rbc_spec.specs.Outcome.{Outcome}
 use Rattle.rbc_spec.specs.Centre as centre
 use Rattle.rbc_spec.specs.Centre.{Mission}
 use Rattle.rbc_spec.specs.Step as step
-use Rattle.rbc_spec.specs.Step.{Event, Train as TrainEvent, Set, Unset, Deliver}
+use Rattle.rbc_spec.specs.Step.{Event}
 use Rattle.rbc_lemmas.proofs.Lines.{on_line}
 use Rattle.rbc_lemmas.proofs.Runs.{within_from}
 use Rattle.rbc_local.specs.Local.{IsOrdered}

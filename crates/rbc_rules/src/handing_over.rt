@@ -6,7 +6,7 @@ ghost use Rattle.rbc_spec.specs.Centre as spec;
 ghost use Rattle.rbc_spec.specs.Frame.{Yield, yielded_place};
 ghost use Rattle.rbc_spec.specs.Acts as acts;
 ghost use Rattle.rbc_spec.specs.Links as links;
-ghost use Rattle.rbc_book.specs.Book.{is_own, Pages};
+ghost use Rattle.rbc_book.specs.Book.{is_own};
 ghost use Rattle.rbc_right.specs.Rights.{Rights};
 ghost use Rattle.rbc_border.specs.Lending as lending;
 ghost use Rattle.rbc_claims.specs.Sections.{IsHeldBy};

@@ -1,6 +1,6 @@
 //! A message of a train, at a radio block centre.
 
-ghost use Rattle.std.specs.Prelude.{◌≡◌, ◌+◌, ◌<◌, ◌≤◌, ℕ, true, false, is_none, length};
+ghost use Rattle.std.specs.Prelude.{◌≡◌, ◌+◌, ◌<◌, ◌≤◌, true, false, is_none, length};
 ghost use Rattle.rbc_spec.specs.Centre as spec;
 ghost use Rattle.rbc_spec.specs.Line.{train_number};
 ghost use Rattle.rbc_spec.specs.Message.{is_stale};

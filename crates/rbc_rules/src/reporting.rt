@@ -1,6 +1,6 @@
 //! A train position report (3.6.5) and the end of mission (5.5): what the train has cleared leaves its hand, and then a handover may be due.
 
-ghost use Rattle.std.specs.Prelude.{◌≡◌, ◌<◌, ℕ, length, Some, None, is_some, true};
+ghost use Rattle.std.specs.Prelude.{◌≡◌, ◌<◌, length, Some, None, is_some, true};
 ghost use Rattle.rbc_spec.specs.Centre as spec;
 ghost use Rattle.rbc_spec.specs.Message.{Report, EndOfMission};
 ghost use Rattle.rbc_spec.specs.Step as step;

@@ -1,6 +1,6 @@
 //! Whether a train may start its mission (5.4).
 
-ghost use Rattle.std.specs.Prelude.{◌≡◌, ◌&&◌, ◌<◌, ℕ, option_map, true, IfSome};
+ghost use Rattle.std.specs.Prelude.{◌≡◌, ◌&&◌, ◌<◌, option_map, true, IfSome};
 ghost use Rattle.rbc_spec.specs.Centre as spec;
 ghost use Rattle.rbc_spec.specs.Centre.{is_free};
 ghost use Rattle.rbc_spec.specs.Place as place;
