@@ -11,12 +11,13 @@ ghost use Rattle.rbc_session.specs.Sessions as sessions;
 ghost use Rattle.rbc_link.specs.Links as links;
 ghost use Rattle.rbc_ranges.specs.Ranges.{HasMessageRanges};
 ghost use Rattle.rbc_rules.specs.Letters.{tells_others};
-ghost use Rattle.rbc_centre.specs.Answer.{TakesMemory};
+ghost use Rattle.rbc_centre.specs.Answer.{Steps, IsWantedBy, TakesMemory};
 ghost use Rattle.rbc_centre.specs.Rooms.{HasFrameRoom};
 ghost use Rattle.rbc_centre.specs.States.{line_of, number_of, state_of, IsSame};
 ghost use Rattle.rbc_centre.specs.Views.{outcome_of};
 
 use crate::centre::Centre;
+use crate::fault::StepFault;
 use crate::outcome::Outcome;
 use crate::posted::post;
 use crate::ranges::look_at_ranges;
@@ -37,11 +38,43 @@ impl Centre {
         ensures memory { OnErr result (TakesMemory (state_of self.old) (spec.Train (step_message message.now))) }
         ensures err { OnErr result (state_of self.new ≡ state_of self.old) }
     {
-        look_at_ranges(message);
         let Some(i) = self.line.train_number(message.nid_engine()) else {
+            look_at_ranges(message);
             self.clock += 1;
             return Ok(Outcome::silent(self.clock, Reason::ForeignEngine));
         };
+        self.take_from(i, message)
+    }
+
+    /// Takes a message of the train with this place in the line file: the step of that event.
+    #[inline(always)]
+    pub fn hear_from(&mut self, number: u8, message: &TrainMsg) -> Result<Outcome, StepFault>
+        requires { train_number (line_of self.old) message.now.nid_engine ≡ Some number }
+        ensures line { line_of self.new ≡ line_of self.old }
+        ensures number { number_of self.new ≡ number_of self.old }
+        ensures exact { Steps (λ o. (outcome_of o, state_of self.new)) result
+            (spec.step (line_of self.old) (number_of self.old) (spec.Train (step_message message.now)) (state_of self.old)) }
+        ensures memory { IsWantedBy (state_of self.old) (spec.Train (step_message message.now)) result }
+        ensures err { OnErr result (state_of self.new ≡ state_of self.old) }
+    {
+        self.may_take(self.clock)?;
+        Ok(self.take_from(number, message)?)
+    }
+
+    // The step of a message of train number i of the line, at a centre that refuses none.
+    #[inline(always)]
+    fn take_from(&mut self, i: u8, message: &TrainMsg) -> Result<Outcome, AllocError>
+        requires time { self.old.clock < 1073741823 }
+        requires numbers { has_full_link (line_of self.old) (number_of self.old) (state_of self.old) ≡ false }
+        requires number { train_number (line_of self.old) message.now.nid_engine ≡ Some i }
+        ensures line { line_of self.new ≡ line_of self.old }
+        ensures number { number_of self.new ≡ number_of self.old }
+        ensures exact { IfOk result (λ o. (outcome_of o, state_of self.new)
+            ≡ spec.taken (line_of self.old) (number_of self.old) (spec.Train (step_message message.now)) (state_of self.old)) }
+        ensures memory { OnErr result (TakesMemory (state_of self.old) (spec.Train (step_message message.now))) }
+        ensures err { OnErr result (state_of self.new ≡ state_of self.old) }
+    {
+        look_at_ranges(message);
         self.make_room(i as usize, message)?;
         Ok(self.hear_train(i as usize, message))
     }

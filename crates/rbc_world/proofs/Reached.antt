@@ -1,8 +1,8 @@
 -- The events that led to a world go on by one.
-use Rattle.std.proofs.Common.{◌≡◌, ℕ, ◌<◌, true, List, [], ◌∷◌, ◌++◌, length, Some, slice_get, set, Result, Ok, Err, refl, sym, ap, subst, ◌∙◌}
+use Rattle.std.proofs.Common.{◌≡◌, ℕ, ◌<◌, true, List, [], ◌∷◌, ◌++◌, length, Some, None, slice_get, set, Result, Ok, Err, refl, sym, ap, subst, ◌∙◌}
 use Rattle.std.proofs.Math.Logic.{∥∥₁_map}
 use Rattle.std.specs.Result.{OnErr}
-use Rattle.rbc_spec.specs.Line.{Line, is_centre}
+use Rattle.rbc_spec.specs.Line.{Line, is_centre, train_number}
 use Rattle.rbc_spec.specs.Message.{TrainMessage}
 use Rattle.rbc_spec.specs.Outcome.{Outcome}
 use Rattle.rbc_spec.specs.Step as step
@@ -20,6 +20,7 @@ use Rattle.rbc_centre.specs.declared.outcome.Outcome.{Outcome as OutcomeInMemory
 use Rattle.rbc_centre.specs.declared.fault.StepFault.{StepFault}
 use Rattle.rbc_world.specs.States.{stands_for}
 use Rattle.rbc_world.specs.Reached.{WasReached, MayBeTold}
+use Rattle.rbc_world.proofs.Mentions.{foreign_mention}
 use Rattle.rbc_world.proofs.Steps.{is_centre_within, at_centre, set_told, unset_told, delivered, step_ok, told_ok, world_kept}
 
 of_ok : {X : Type 0} (p q : X) → ◌≡◌ {A = Result X Refusal} (Ok p) (Ok q) → p ≡ q
@@ -91,3 +92,10 @@ module _ (line : Line) (cs : List Centre) (trains : List ℕ) (c : ℕ) (k new :
   reached_by_message m outcome after s named =
       goes_on line (stands_for line cs trains) (stands_for line (set cs c new) after) (Bytes c (Ok m)) (Answered outcome)
       (at_centre line (stands_for line cs trains) cs c (Ok m) each within ∙ step_ok line cs trains (step.Train m) c k new at within of_line of_number outcome (mention line m.nid_engine trains) after s named) before
+
+  -- behind a message of no train of the line, or its refusal
+  pub reached_by_foreign : (m : TrainMessage) (result : Result OutcomeInMemory StepFault) → train_number line m.nid_engine ≡ None
+      → Steps (λ o. (outcome_of o, one.state_of new)) result (step.step (one.line_of k) (one.number_of k) (step.Train m) (one.state_of k)) → OnErr result (one.state_of new ≡ one.state_of k)
+      → ∥ WasReached line (stands_for line (set cs c new) trains) ∥₁
+  reached_by_foreign m (Ok o) none s kept = reached_by_message m (outcome_of o) trains s (sym (foreign_mention line trains m.nid_engine none))
+  reached_by_foreign m (Err fault) none s kept = reached_still trains refl kept

@@ -5,3 +5,4 @@ pub mod Reached
 pub mod World
 pub mod View
 pub mod Missions
+pub mod Named

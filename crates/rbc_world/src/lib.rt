@@ -3,6 +3,7 @@
 #![tactic(auto)]
 
 mod event;
+mod hearing;
 mod interlocking;
 mod missions;
 mod run;

@@ -1,14 +1,12 @@
-ghost use Rattle.std.specs.Prelude.{◌≡◌, ◌<◌, ◌==◌, ◌&&◌, ℕ, true, not, if◌then◌else◌, nat_eq, is_none, is_some, length, slice_get, IfOk, IfErr, IfSome, OnOk, OnErr, Some};
-ghost use Rattle.std.specs.List.{list_any};
-ghost use Rattle.rbc_spec.specs.Line.{IsLine, is_centre, train_number};
-ghost use Rattle.rbc_spec.specs.World.{new_world, world_step, at_centre, takes, mention, frame_sent, Bytes, Delivery};
-ghost use Rattle.rbc_spec.specs.Step.{Train};
-ghost use Rattle.rbc_msgs.specs.StepMessage.{step_message};
+ghost use Rattle.std.specs.Prelude.{◌≡◌, ◌<◌, ℕ, true, false, is_some, length, slice_get, IfOk, IfErr, IfSome, OnErr, Some};
+ghost use Rattle.rbc_spec.specs.Line.{IsLine, is_centre};
+ghost use Rattle.rbc_spec.specs.World.{new_world, world_step, at_centre, takes, frame_sent, Bytes, Delivery};
 ghost use Rattle.rbc_msgs.specs.TrainReading.{read_train};
-ghost use Rattle.indexmap.specs.IndexSet.{spare, insert_key};
 ghost use Rattle.rbc_world.specs.States.{AtBeginning, stands_for};
 ghost use Rattle.rbc_world.specs.Reached.{WasReached, MayBeTold};
 ghost use Rattle.rbc_world.specs.Views.{IsFaultOf};
+ghost use Rattle.rbc_world.specs.Named.{AreNamed};
+ghost use Rattle.std.proofs.Math.ListN.{replicate};
 ghost use Rattle.rbc_centre.specs.declared.fault.StepFault.TheVariants.{Memory};
 ghost use Rattle.rbc_spec.specs.Run.{Goes};
 ghost use Rattle.rbc_spec.specs.ReadOff.{StandsFor, read_off};
@@ -23,7 +21,7 @@ use crate::event::{Answer, WorldEvent};
 use indexmap::IndexSet;
 use rbc_centre::{Centre, Event, Frame, StepFault};
 use rbc_line::Line;
-use rbc_msgs::{MsgFault, TrainMsg, decode_train};
+use rbc_msgs::{MsgFault, decode_train};
 use std::alloc::{AllocError, Global};
 
 /// The centres of a line side by side.
@@ -33,17 +31,21 @@ pub struct World {
     pub(crate) line: Line,
     pub(crate) centres: Vec<Centre>,
     /// The trains of the line that messages have named, in the order of first mention.
-    trains: IndexSet<u32>,
+    pub(crate) trains: IndexSet<u32>,
+    /// Whether messages have named a train, by its place in the line file.
+    pub(crate) named: Vec<bool>,
     ghost each_centre: { length centres.items ≡ length line.centres },
     ghost one_line: { (c : ℕ) → (k : Centre) → slice_get centres.items c ≡ Some k → one.line_of k ≡ line },
     ghost in_order: { (c : ℕ) → (k : Centre) → slice_get centres.items c ≡ Some k → one.number_of k ≡ c },
+    ghost each_train: { length named.items ≡ length line.trains },
+    ghost are_named: { AreNamed line named.items trains.keys },
     ghost reached: { ∥ WasReached line (stands_for line centres.items trains.keys) ∥₁ },
 }
 
 impl World {
     ghost use Rattle.rbc_world.specs.World.{line_of, state_of};
     ghost use Rattle.rbc_world.specs.Views.{event_of, answer_of, numbered};
-    ghost use Rattle.rbc_world.specs.Answers.{Gives, TakesMemory, BytesTakeMemory, MakesRoom, IfWanted};
+    ghost use Rattle.rbc_world.specs.Answers.{Gives, TakesMemory, BytesTakeMemory, IfWanted};
 
     /// The centres of the line at their beginning. A copy of the line is kept.
     pub fn new(alloc: Global, line: &Line) -> Result<World, AllocError>
@@ -56,6 +58,7 @@ impl World {
             line: line.copied(alloc)?,
             centres: centres_of(alloc, line)?,
             trains: IndexSet::new(alloc),
+            named: none_named(alloc, line)?,
         })
     }
 
@@ -173,25 +176,6 @@ impl World {
             Err(fault) => unread(fault),
         }
     }
-
-    // A message comes to a centre of the line. Where it is the first mention of its train, room for that is made first.
-    #[inline(always)]
-    fn hear(&mut self, c: usize, message: TrainMsg) -> Result<Answer, StepFault>
-        requires { c < length self.old.centres.items }
-        ensures line { line_of self.new ≡ line_of self.old }
-        ensures exact { Gives (λ a. (answer_of a, state_of self.new)) result
-            (takes (line_of self.old) (state_of self.old) c (mention (line_of self.old) message.nid_engine (state_of self.old).trains) (Train (step_message message))) }
-        // Memory is wanted only for a session, a frame or a first mention.
-        ensures memory { IfWanted result (MakesRoom (line_of self.old) (state_of self.old).trains (step_message message)) }
-        ensures err { OnErr result (state_of self.new ≡ state_of self.old) }
-    {
-        let nid_engine = message.nid_engine();
-        let is_first = is_first_mention(&self.line, &self.trains, nid_engine);
-        make_room(&mut self.trains, is_first)?;
-        let outcome = self.centres[c].hear(&message)?;
-        add_mention(&mut self.trains, nid_engine, is_first);
-        Ok(Answer::Outcome(outcome))
-    }
 }
 
 // Every rule of a line holds of each line.
@@ -199,6 +183,13 @@ pub(crate) fn known_line(line: &Line)
     ensures { IsLine line.now }
 {
     line.centre_count();
+}
+
+// No train of the line is named yet.
+fn none_named(alloc: Global, line: &Line) -> Result<Vec<bool>, AllocError>
+    ensures { IfOk result (λ named. named.items ≡ replicate (length line.now.trains) false) }
+{
+    vec![in alloc; false; line.train_count() as usize]
 }
 
 // The centres of the line, in order.
@@ -228,36 +219,5 @@ fn unread(fault: MsgFault) -> Result<Answer, StepFault>
         | MsgFault::Packet
         | MsgFault::Missing
         | MsgFault::Value => Ok(Answer::Fault(fault)),
-    }
-}
-
-// Whether the train is of the line, and no message named it before.
-fn is_first_mention(line: &Line, trains: &IndexSet<u32>, nid_engine: u32) -> bool
-    ensures { result ≡ not (is_none (train_number line.now nid_engine)) && not (list_any (λ u. nid_engine == u) trains.now.keys) }
-{
-    line.train_number(nid_engine).is_some() && !trains.contains(&nid_engine)
-}
-
-// Room for a first mention.
-fn make_room(trains: &mut IndexSet<u32>, is_first: bool) -> Result<(), AllocError>
-    ensures keys { trains.new.keys ≡ trains.old.keys }
-    ensures room { OnOk result (is_first ≡ true → 0 < spare trains.new) }
-    ensures wanted { OnErr result (is_first ≡ true) }
-{
-    if is_first {
-        trains.reserve(1)?;
-    }
-    Ok(())
-}
-
-// A message of the train was heard, perhaps the first.
-fn add_mention(trains: &mut IndexSet<u32>, nid_engine: u32, is_first: bool)
-    requires { is_first ≡ true → 0 < spare trains.old }
-    ensures { trains.new.keys ≡ (if is_first then insert_key nat_eq trains.old.keys nid_engine else trains.old.keys) }
-{
-    if is_first {
-        let Ok(_) = trains.insert(nid_engine) else {
-            unreachable!()
-        };
     }
 }

@@ -49,8 +49,8 @@ invariant_of-self c =
       each_train = k.each_train;
       counted = counted_later k.trains.items k.clock (k.clock + 1) (omega arith) k.counted;
       announced = let few = k.announced in omega (arith, few);
-      sound = sound_left k.line k.number (state_of k) _ (Train m) _ k.line_rules tt (foreign c) k.sound;
-      ranged = ranged_left k.line k.number (state_of k) _ (Train m) _ k.line_rules tt (foreign c) (heard_allowed k c.requires.time c.requires.numbers m) (k.of_line, c.look_at_ranges.ensures) k.ranged;
+      sound = sound_left k.line k.number (state_of k) _ (Train m) _ k.line_rules tt (foreign (goal.at.invariant_of-self c).In_default) k.sound;
+      ranged = ranged_left k.line k.number (state_of k) _ (Train m) _ k.line_rules tt (foreign (goal.at.invariant_of-self c).In_default) (heard_allowed k c.requires.time c.requires.numbers m) (k.of_line, c.look_at_ranges.ensures) k.ranged;
     }
 
 pub returns-in_default-clause-exact : goal.returns-in_default-clause-exact
@@ -58,17 +58,3 @@ returns-in_default-clause-exact c =
     let k = c.args.self.now in
     let left = stands_for k.line k.number (k.clock + 1) k.book k.desk k.links k.trains.items in
     ap (λ (o : Outcome). (o, left)) c.silent.ensures ∙ foreign (goal.at.returns-in_default-clause-exact c).In_default
-
-pub returns-in_err-make_room-clause-err : goal.returns-in_err-make_room-clause-err
-returns-in_err-make_room-clause-err c = on_err c.from_residual.result (state_same c.args.self.now c.make_room.new.self c.in_err-make_room.ensures.same)
-
-pub hear_train-requires-clause-numbers : goal.hear_train-requires-clause-numbers
-hear_train-requires-clause-numbers c =
-    let same = c.in_ok-make_room.ensures.same in
-    (λ i. has_full_link (same.line i) (same.number i) (state_same c.args.self.now c.make_room.new.self same i)) ∙ c.requires.numbers
-
-pub returns-clause-exact : goal.returns-clause-exact
-returns-clause-exact c =
-    let same = c.in_ok-make_room.ensures.same in
-    c.hear_train.ensures.exact
-    ∙ (λ i. taken (same.line i) (same.number i) (Train (step_message c.args.message.now)) (state_same c.args.self.now c.make_room.new.self same i))

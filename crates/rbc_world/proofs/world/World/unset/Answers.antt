@@ -49,6 +49,8 @@ invariant_of-self c =
     let at : slice_get cs c.args.c ≡ Some c.index_mut.result.now = slice_get_read _ _ _ _ refl within c.index_mut.ensures.value in
     record {
       each_centre = simp length-set w.each_centre;
+      each_train = w.each_train;
+      are_named = w.are_named;
       one_line = each_kept (λ d k. one.line_of k ≡ w.line) cs c.args.c c.step_unset.new.self within (c.step_unset.ensures.line ∙ w.one_line _ _ at) w.one_line;
       in_order = each_kept (λ d k. one.number_of k ≡ d) cs c.args.c c.step_unset.new.self within (c.step_unset.ensures.number ∙ w.in_order _ _ at) w.in_order;
       reached = reached_by_word w.line cs w.trains.keys c.args.c c.index_mut.result.now c.step_unset.new.self at within (w.one_line _ _ at) (w.in_order _ _ at) w.each_centre w.reached
