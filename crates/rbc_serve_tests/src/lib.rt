@@ -1,8 +1,7 @@
 //! Tests of the running centres: trains and the interlocking as threads of one process, over loopback.
 #![tactic(auto)]
 
-#[cfg(test)]
-mod client;
+pub mod client;
 #[cfg(test)]
 mod interlocking;
 #[cfg(test)]
