@@ -1,12 +1,12 @@
 -- What notes know, place by place.
-use Rattle.std.proofs.Common.{◌≡◌, ℕ, zero, suc, ◌+◌, ◌-◌, ◌<◌, ◌≤◌, ◌==◌, ◌≢◌, List, [], ◌∷◌, ◌++◌, Option, Some, None, Bool, true, false, if◌then◌else◌, slice_get, length, refl, sym, ap, subst, ◌∙◌, arith, inl, inr, slice_set, IfSome}
+use Rattle.std.proofs.Common.{◌≡◌, ℕ, zero, suc, ◌+◌, ◌-◌, ◌<◌, List, [], ◌∷◌, ◌++◌, Option, Some, None, Bool, if◌then◌else◌, slice_get, length, refl, sym, ap, subst, ◌∙◌, arith, inl, inr, slice_set, IfSome}
 use Rattle.std.specs.Option.{option_and_then}
-use Rattle.std.proofs.lemmas.Option.{slice_get_within, slice_get_past, slice_get-get_or}
+use Rattle.std.proofs.lemmas.Option.{slice_get_within, slice_get-get_or}
 use Rattle.std.proofs.Math.ListN.{get_or}
 use Rattle.std.proofs.lemmas.Bool.Decides.{eqb_tells}
 use Rattle.once_cell.specs.declared.race.note.Note.{Note}
 use Rattle.once_cell.specs.declared.race.once_box.OnceBox.{OnceBox}
-use Rattle.once_cell.specs.Once.{cell_name, Agrees}
+use Rattle.once_cell.specs.Once.{Agrees}
 use Rattle.rbc_linkmsg.specs.declared.frame.Frame.{Frame}
 use Rattle.rbc_board.specs.Known.{known_at, AreNotesOf}
 

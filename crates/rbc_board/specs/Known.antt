@@ -1,5 +1,5 @@
 -- What notes of a row of cells know.
-use Rattle.std.specs.Prelude.{◌≡◌, ℕ, ◌+◌, ◌-◌, ◌≤◌, ◌<◌, List, Option, Some, None, slice_get, length, if◌then◌else◌, ◌==◌}
+use Rattle.std.specs.Prelude.{◌≡◌, ℕ, ◌-◌, List, Option, Some, None, slice_get, length, if◌then◌else◌, ◌==◌}
 use Rattle.std.specs.Option.{option_and_then}
 use Rattle.once_cell.specs.declared.race.note.Note.{Note}
 use Rattle.once_cell.specs.declared.race.once_box.OnceBox.{OnceBox}

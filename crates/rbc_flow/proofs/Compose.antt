@@ -1,5 +1,5 @@
 -- Acts one after another, and the quiet steps that they come to.
-use Rattle.std.proofs.Common.{◌≡◌, ℕ, ◌==◌, Bool, true, false, if◌then◌else◌, List, [], ◌∷◌, ◌++◌, refl, sym, ap, ◌∙◌, subst, append_assoc, append-nil, ⊎_elim, ◌≢◌}
+use Rattle.std.proofs.Common.{◌≡◌, ℕ, ◌==◌, Bool, true, false, if◌then◌else◌, List, [], ◌∷◌, ◌++◌, refl, sym, ap, ◌∙◌, subst, append_assoc, ⊎_elim, ◌≢◌}
 use Rattle.std.specs.List.{list_all}
 use Rattle.std.proofs.lemmas.Bool.{cases_eq, and_from}
 use Rattle.std.proofs.lemmas.List.Folds.{list_all-append}
@@ -9,8 +9,8 @@ use Rattle.rbc_ledger.specs.Network.{Net, acted}
 use Rattle.rbc_spec.specs.Line.{Line}
 use Rattle.rbc_spec.specs.Centre.{Centre}
 use Rattle.rbc_spec.specs.Message.{TrainMessage}
-use Rattle.rbc_spec.specs.Acts.{Act, ◌>>◌, rest, Reply}
-use Rattle.rbc_spec.specs.LineCentre.{LineState, Said, nothing}
+use Rattle.rbc_spec.specs.Acts.{Act, ◌>>◌, rest}
+use Rattle.rbc_spec.specs.LineCentre.{LineState, Said}
 use Rattle.rbc_spec.specs.Quiet.{Quiet, is_of_centre, TakesAll, both}
 use Rattle.rbc_flow.specs.Flow.{Flow}
 use Rattle.rbc_flow.specs.Sound.{IsFlowSound}
@@ -92,19 +92,4 @@ module _ (line : Line) (w : Flow) (c : ℕ) (m : TrainMessage) (k : Centre) (v :
     own_centre = two.own_centre;
     says = refl;
     shows = subst (λ u. Shows line u two.new) (acted_twice w c (a k).state (b (a k).state).state (a k).frames (b (a k).state).frames) two.shows;
-  }
-
-  -- the own step alone
-  pub heard_alone : (r : Reply) → LeadsOwn line w c m r v → LeadsHeard line w c m r v
-  heard_alone r one = record {
-    said = said_by r;
-    mid = one.mid;
-    own = one.own;
-    quiets = [];
-    later = nothing;
-    new = one.mid;
-    takes = (refl, refl);
-    own_centre = refl;
-    says = λ i. record { sayings = sym (append-nil r.sayings) i; words = sym (append-nil r.words) i };
-    shows = one.shows;
   }

@@ -16,7 +16,7 @@ use Rattle.rbc_spec.specs.Place.{Place}
 use Rattle.rbc_spec.specs.Frame.{Body, YieldedPlace, Yield, yielded_place}
 use Rattle.rbc_spec.specs.Centre.{Centre, Phase, Mission, Entry, Taken, is_out_for, is_used_for}
 use Rattle.rbc_spec.specs.LineCentre as line_centre
-use Rattle.rbc_spec.specs.LineCentre.{LineState, LineMission, At, nothing}
+use Rattle.rbc_spec.specs.LineCentre.{LineState, At, nothing}
 use Rattle.rbc_spec.specs.Quiet.{TakesUp}
 use Rattle.rbc_spec.specs.ReadOff.{seen}
 use Rattle.rbc_local.specs.Local.{hand_has}

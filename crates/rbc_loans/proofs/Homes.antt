@@ -15,7 +15,7 @@ use Rattle.rbc_spec.specs.Sections.{section_count}
 use Rattle.rbc_spec.specs.Place.{Place}
 use Rattle.rbc_spec.specs.Frame.{RouteReturn}
 use Rattle.rbc_spec.specs.Centre as centre
-use Rattle.rbc_spec.specs.Centre.{Centre, Entry, Phase, is_taken_for, is_out_for, is_used_for, uses_some, is_expected}
+use Rattle.rbc_spec.specs.Centre.{Centre, Phase, is_taken_for, is_out_for, is_used_for, uses_some, is_expected}
 use Rattle.rbc_spec.specs.Acts.{Reply, rest, where_so, freed, end_order}
 use Rattle.rbc_spec.specs.Links.{route_returned, received}
 use Rattle.rbc_spec.specs.LineCentre as line_centre

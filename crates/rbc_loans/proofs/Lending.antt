@@ -17,7 +17,7 @@ use Rattle.rbc_spec.specs.Centre.{Centre, Entry, Phase, is_open, is_free, is_use
 use Rattle.rbc_spec.specs.Acts.{Reply, rest, ◌>>◌, send, booked}
 use Rattle.rbc_spec.specs.Links.{lendable, route_asked, received}
 use Rattle.rbc_spec.specs.LineCentre as line_centre
-use Rattle.rbc_spec.specs.LineCentre.{LineState, Mark, nothing, mark_all}
+use Rattle.rbc_spec.specs.LineCentre.{LineState, nothing, mark_all}
 use Rattle.rbc_spec.specs.Quiet.{Keep, is_of_centre, TakesAll}
 use Rattle.rbc_flow.specs.Flow.{Flow, took_frame, centre_count}
 use Rattle.rbc_flow.specs.Counts.{hands, missions}

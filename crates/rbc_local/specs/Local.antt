@@ -1,16 +1,13 @@
 -- A local centre, in whose missions no other centre has a part, and what stays true of it.
-use Rattle.std.specs.Prelude.{◌≡◌, ℕ, ◌≤◌, Bool, true, false, ◌&&◌, [], Option, Some, None, option_map, is_none}
-use Rattle.std.specs.Option.{option_map_or, option_and_then}
+use Rattle.std.specs.Prelude.{◌≡◌, ℕ, ◌≤◌, Bool, true, false, ◌&&◌, [], Option, Some, None, is_none}
+use Rattle.std.specs.Option.{option_map_or}
 use Rattle.rbc_spec.specs.SectionRuns.{no_run, within}
-use Rattle.rbc_spec.specs.Line.{Line, is_home, section, end, registrar}
+use Rattle.rbc_spec.specs.Line.{Line, is_home, end}
 use Rattle.rbc_spec.specs.Sections.{is_on, home_run}
 use Rattle.rbc_spec.specs.Place.{Place, covers, covered}
-use Rattle.rbc_spec.specs.Centre.{Centre, Entry, Mission, is_unused, is_taken_for, is_out_for, is_registrar_of}
+use Rattle.rbc_spec.specs.Centre.{Centre, Mission, is_unused, is_taken_for, is_out_for, is_registrar_of}
 use Rattle.rbc_spec.specs.Centre as centre
-use Rattle.rbc_spec.specs.LineCentre as line_centre
-use Rattle.rbc_spec.specs.LineCentre.{LineState, Mark}
 use Rattle.rbc_spec.specs.World.{World}
-use Rattle.rbc_spec.specs.ReadOff.{seen}
 
 -- what the order of a line's sections gives: those that a place covers are a run, and so are those of one home on a track; on one track
 -- the ends rise
@@ -50,24 +47,3 @@ pub record IsLocalAt (line : Line) (c : ℕ) (k : Centre) : Type 0 where
 -- each centre of the world is so
 pub record IsLocal (line : Line) (w : World) : Type 0 where
   pub each : (c : ℕ) → IsLocalAt line c (w.at c)
-
--- ## What is read off such a world
-
--- a taken section is given, any other is as the book has it
-abbrev pub local_mark : Entry → Mark
-local_mark centre.Shut = line_centre.Shut
-local_mark centre.Open = line_centre.Open
-local_mark (centre.Taken t) = line_centre.Given t
-local_mark (centre.Out t d) = line_centre.Given t
-
--- sections as their homes have them, and each train's mission as its registrar has it
-abbrev pub local_read_off : Line → World → LineState
-local_read_off line w = record {
-  mark = λ s. option_map_or (λ p. local_mark ((w.at p.home).book s)) (section line s) line_centre.Shut;
-  wish = λ s. option_map_or (λ p. (w.at p.home).wish s) (section line s) false;
-  phase = λ t c. (w.at c).phase t;
-  heard = λ t c. (w.at c).heard t;
-  said = λ t c. (w.at c).said t;
-  wait = λ t c. None;
-  mission = λ t. option_and_then (λ r. option_map (seen r) ((w.at r).mission t)) (registrar line t);
-}

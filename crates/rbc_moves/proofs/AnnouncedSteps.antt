@@ -13,7 +13,7 @@ use Rattle.rbc_spec.specs.Acts.{Act, hear, become, booked, returned, send, chang
 use Rattle.rbc_spec.specs.Rules.{tell, choose, drop_wait, begin, grant, granted, answered, reject}
 use Rattle.rbc_spec.specs.Links.{claimed, received, of_train, is_train, lendable, expect, is_under, may_take, may_arrive, answered_ask, is_wanted, right_asked, right_given, right_refused, right_returned, route_asked, route_told, route_withdrawn, route_returned, announced, cancelled, taking_over, take_mission, yielded}
 use Rattle.rbc_spec.specs.Step as step
-use Rattle.rbc_spec.specs.Step.{Train, taken, link_answer, taken_by, effect, set, unset, wished, make, hear_and_answer}
+use Rattle.rbc_spec.specs.Step.{Train, taken, link_answer, taken_by, set, unset, wished, make, hear_and_answer}
 use Rattle.std.proofs.lemmas.Bool.{and_parts}
 use Rattle.rbc_spec.specs.Line.{IsLine}
 use Rattle.rbc_flow.specs.Sound.{IsHandAt}

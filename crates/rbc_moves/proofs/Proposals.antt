@@ -12,7 +12,7 @@ use Rattle.rbc_spec.specs.Message.{ShorteningRequest}
 use Rattle.rbc_spec.specs.Centre.{Centre, Phase, Closed, Opened, Up, is_up, Mission}
 use Rattle.rbc_spec.specs.Acts.{rest, ◌>>◌, may_propose, propose, propose_if_so}
 use Rattle.rbc_spec.specs.LineCentre as line_centre
-use Rattle.rbc_spec.specs.LineCentre.{LineState, LineMission, Said, says, At}
+use Rattle.rbc_spec.specs.LineCentre.{LineState, LineMission, says}
 use Rattle.rbc_spec.specs.OwnSteps.{one_message}
 use Rattle.rbc_spec.specs.Quiet.{Propose, Proposes, TakesAll}
 use Rattle.rbc_spec.specs.ReadOff.{seen}

@@ -15,10 +15,10 @@ use Rattle.rbc_spec.specs.Line.{Line, section, is_centre, is_home, end}
 use Rattle.rbc_spec.specs.Sections.{is_on}
 use Rattle.rbc_spec.specs.Place.{Place, has_room}
 use Rattle.rbc_spec.specs.Centre as centre
-use Rattle.rbc_spec.specs.Centre.{Centre, Phase, Entry, Mission, is_open, is_free, is_used_for}
+use Rattle.rbc_spec.specs.Centre.{Centre, Phase, Mission, is_open, is_free, is_used_for}
 use Rattle.rbc_spec.specs.Rules.{may_follow, extension, extended_by}
 use Rattle.rbc_spec.specs.LineCentre as line_centre
-use Rattle.rbc_spec.specs.LineCentre.{LineState, LineMission, is_kept_for, is_mark_open, is_waiting, is_waiting_at, mark_all, change_mission, says, saying_of}
+use Rattle.rbc_spec.specs.LineCentre.{LineState, LineMission, mark_all, change_mission, says}
 use Rattle.rbc_spec.specs.ReadOff.{seen}
 use Rattle.rbc_local.specs.Local.{hand_has}
 use Rattle.rbc_flow.specs.Flow.{Flow, centre_count}

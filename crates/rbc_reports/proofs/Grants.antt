@@ -18,11 +18,11 @@ use Rattle.rbc_spec.specs.Sections.{is_on}
 use Rattle.rbc_spec.specs.Place.{Place, Position, group_start, farthest, has_room, place_on}
 use Rattle.rbc_spec.specs.Message.{TrainMessage, Request, Authority}
 use Rattle.rbc_spec.specs.Centre as centre
-use Rattle.rbc_spec.specs.Centre.{Centre, Phase, Entry, Mission, is_open, is_free, is_used_for}
+use Rattle.rbc_spec.specs.Centre.{Centre, Entry, Mission, is_open, is_free}
 use Rattle.rbc_spec.specs.Acts.{rest, ◌>>◌}
 use Rattle.rbc_spec.specs.Rules.{may_follow, extension, extended_by, authority}
 use Rattle.rbc_spec.specs.LineCentre as line_centre
-use Rattle.rbc_spec.specs.LineCentre.{LineState, LineMission, is_kept_for, is_mark_open, is_waiting, is_waiting_at, mark_all, change_mission, says, saying_of}
+use Rattle.rbc_spec.specs.LineCentre.{LineState, is_kept_for, is_mark_open, is_waiting, is_waiting_at, saying_of}
 use Rattle.rbc_spec.specs.OwnSteps.{Ends, off_track, not_free, full, too_far, may_be_given, Extends}
 use Rattle.rbc_spec.proofs.Places.{section_on}
 use Rattle.rbc_laws.proofs.Places.{placed_on}

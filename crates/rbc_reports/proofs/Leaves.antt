@@ -21,7 +21,7 @@ use Rattle.rbc_spec.specs.Centre as centre
 use Rattle.rbc_spec.specs.Centre.{Centre, Phase, Mission, is_taken_for}
 use Rattle.rbc_spec.specs.Acts.{Act, Reply, ◌>>◌, leave}
 use Rattle.rbc_spec.specs.LineCentre as line_centre
-use Rattle.rbc_spec.specs.LineCentre.{LineState, Said, is_given_to, release, close_if_empty, set_mission}
+use Rattle.rbc_spec.specs.LineCentre.{LineState, is_given_to, release, close_if_empty, set_mission}
 use Rattle.rbc_spec.specs.OwnSteps.{release_words}
 use Rattle.rbc_spec.specs.ReadOff.{seen}
 use Rattle.rbc_local.specs.Local.{hand_has}

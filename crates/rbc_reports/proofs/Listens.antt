@@ -10,7 +10,7 @@ use Rattle.rbc_spec.specs.Outcome.{ForeignEngine, StaleStamp, NoSession, WrongPh
 use Rattle.rbc_spec.specs.Centre.{Centre, Phase, is_up, is_closed}
 use Rattle.rbc_spec.specs.LineCentre.{LineState, LineMission, hears, is_at, nothing}
 use Rattle.rbc_spec.specs.Run as run
-use Rattle.rbc_spec.specs.Run.{Steps, listened, may_listen, has_here, has_front_at}
+use Rattle.rbc_spec.specs.Run.{Steps, listened, may_listen, has_front_at}
 use Rattle.rbc_spec.specs.Step.{silence, is_awaited, ticked}
 use Rattle.rbc_flow.specs.Flow.{Flow}
 use Rattle.rbc_flow.specs.Sound.{IsFlowSound}

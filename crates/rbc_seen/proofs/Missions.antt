@@ -13,7 +13,7 @@ use Rattle.rbc_spec.specs.Frame.{Frame, Yield, yielded_place}
 use Rattle.rbc_spec.specs.Centre.{Mission}
 use Rattle.rbc_spec.specs.LineCentre.{LineMission, At}
 use Rattle.rbc_spec.specs.World.{World}
-use Rattle.rbc_spec.specs.ReadOff.{StandsFor, read_off, seen, supervised, at_centre, on_the_way, IsMissionOf, IsHandOf, Held, held, held_at, handed_over, centres_of, frames_on_way, all_held}
+use Rattle.rbc_spec.specs.ReadOff.{read_off, seen, supervised, at_centre, on_the_way, IsMissionOf, IsHandOf, Held, held, held_at, handed_over, centres_of, frames_on_way, all_held}
 use Rattle.rbc_spec.specs.ReadOff as off
 use Rattle.rbc_flow.specs.Flow.{flow_of, centre_count}
 use Rattle.rbc_flow.specs.Counts.{missions}

@@ -7,7 +7,7 @@ use Rattle.rbc_lemmas.proofs.Puts.{put_keeps}
 use Rattle.rbc_spec.specs.Line.{Line, is_home}
 use Rattle.rbc_spec.specs.Frame.{Body}
 use Rattle.rbc_spec.specs.Centre as centre
-use Rattle.rbc_spec.specs.Centre.{Centre, Entry, is_used_for}
+use Rattle.rbc_spec.specs.Centre.{Centre, is_used_for}
 use Rattle.rbc_spec.specs.LineCentre as line_centre
 use Rattle.rbc_spec.specs.LineCentre.{Mark}
 use Rattle.rbc_flow.specs.Flow.{Flow, centre_count}

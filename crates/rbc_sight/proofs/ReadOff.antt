@@ -17,7 +17,7 @@ use Rattle.rbc_spec.specs.Centre.{Entry, is_used_for}
 use Rattle.rbc_spec.specs.LineCentre as line_centre
 use Rattle.rbc_spec.specs.LineCentre.{LineState, LineMission}
 use Rattle.rbc_spec.specs.World.{World}
-use Rattle.rbc_spec.specs.ReadOff.{IsHandOf, at_centre, on_the_way, IsMissionOf, supervised, IsGiven, Held, all_held, held, holder, mark_of, read_off, StandsFor, seen}
+use Rattle.rbc_spec.specs.ReadOff.{IsHandOf, at_centre, on_the_way, IsMissionOf, supervised, Held, all_held, held, holder, mark_of, read_off, StandsFor, seen}
 use Rattle.rbc_spec.specs.ReadOff as off
 use Rattle.rbc_flow.specs.Flow.{flow_of, centre_count}
 use Rattle.rbc_flow.specs.Counts.{missions}

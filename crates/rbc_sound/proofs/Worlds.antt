@@ -11,7 +11,7 @@ use Rattle.rbc_spec.specs.Frame.{Frame, Body}
 use Rattle.rbc_spec.specs.Outcome.{Outcome}
 use Rattle.rbc_spec.specs.Centre.{Centre, beginning}
 use Rattle.rbc_spec.specs.Step as centre
-use Rattle.rbc_spec.specs.Step.{Refusal, step, refusal, taken, numbered, frames_of, stamp_of, ticked, effect, state_after}
+use Rattle.rbc_spec.specs.Step.{Refusal, step, refusal, taken, numbered, stamp_of}
 use Rattle.rbc_spec.specs.World.{World, Event, Bytes, Set, Unset, Delivery, Answer, NoCentre, NotSent, new_world, frame_sent, mention, stepped, at_centre, takes, world_step, world_run}
 use Rattle.rbc_local.proofs.Worlds.{world_of, bind_ok}
 use Rattle.rbc_flow.specs.Sound.{IsCentreSound, IsBodySound}

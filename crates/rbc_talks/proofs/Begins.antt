@@ -15,7 +15,7 @@ use Rattle.rbc_spec.specs.Centre as centre
 use Rattle.rbc_spec.specs.Centre.{Centre, Phase, is_open, is_used_for, is_free}
 use Rattle.rbc_spec.specs.Acts.{begun}
 use Rattle.rbc_spec.specs.LineCentre as line_centre
-use Rattle.rbc_spec.specs.LineCentre.{LineState, hears, says}
+use Rattle.rbc_spec.specs.LineCentre.{LineState, says}
 use Rattle.rbc_spec.specs.OwnSteps.{begins, begun_at, waits}
 use Rattle.rbc_spec.specs.ReadOff.{seen}
 use Rattle.rbc_local.specs.Local.{hand_has}

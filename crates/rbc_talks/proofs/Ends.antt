@@ -21,7 +21,7 @@ use Rattle.rbc_spec.specs.Centre.{Centre, Phase, Closed, Opened, is_taken_for}
 use Rattle.rbc_spec.specs.Acts.{◌>>◌, Reply}
 use Rattle.rbc_spec.specs.Step.{hear_and_answer, ticked}
 use Rattle.rbc_spec.specs.LineCentre as line_centre
-use Rattle.rbc_spec.specs.LineCentre.{LineState, LineMission, Said, hears, says, told, is_at, is_waiting_at}
+use Rattle.rbc_spec.specs.LineCentre.{LineState, LineMission, hears, says, told, is_waiting_at}
 use Rattle.rbc_spec.specs.OwnSteps.{with_phase, session_ends, without_proposal, one_message, Says}
 use Rattle.rbc_spec.specs.ReadOff.{seen}
 use Rattle.rbc_flow.specs.Flow.{Flow}

@@ -22,7 +22,7 @@ use Rattle.rbc_spec.specs.Step as step
 use Rattle.rbc_spec.specs.Step.{Effect, effect, outcome_of, state_after, link_answer, taken_by}
 use Rattle.rbc_spec.specs.World.{World, Event, Bytes, Set, Unset, Delivery, centre_of}
 use Rattle.rbc_spec.specs.Run as run
-use Rattle.rbc_spec.specs.Run.{Piece, OwnStep, Steps, silent, heard, listened, TellsInOrder, may_listen}
+use Rattle.rbc_spec.specs.Run.{Piece, OwnStep, Steps, heard, listened, TellsInOrder, may_listen}
 use Rattle.rbc_flow.specs.Flow.{Flow, flow_of, took_frame}
 use Rattle.rbc_flow.specs.Numbers.{taken_after}
 use Rattle.rbc_flow.specs.Shows.{Shows}

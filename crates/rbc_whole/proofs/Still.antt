@@ -3,13 +3,13 @@ use Rattle.std.proofs.Common.{◌≡◌, ℕ, true, List, [], Some, None, Ok, re
 use Rattle.rbc_spec.specs.Line.{Line, is_centre}
 use Rattle.rbc_spec.specs.Message.{TrainMessage}
 use Rattle.rbc_spec.specs.Frame.{Frame}
-use Rattle.rbc_spec.specs.Outcome.{Reason, reasons_of, NotSupervised, Next, Old, Early, NoLink}
+use Rattle.rbc_spec.specs.Outcome.{Reason}
 use Rattle.rbc_spec.specs.Outcome as outcome
 use Rattle.rbc_spec.specs.Centre.{Centre}
 use Rattle.rbc_spec.specs.Acts.{rest}
 use Rattle.rbc_spec.specs.LineCentre.{LineState, nothing}
 use Rattle.rbc_spec.specs.Step as step
-use Rattle.rbc_spec.specs.Step.{Effect, effect, outcome_of, state_after, link_answer, taken_by}
+use Rattle.rbc_spec.specs.Step.{Effect, outcome_of, state_after, taken_by}
 use Rattle.rbc_spec.specs.World.{World, Event, Bytes, Delivery}
 use Rattle.rbc_spec.specs.Run.{Piece, silent, TellsInOrder}
 use Rattle.rbc_flow.specs.Flow.{Flow, flow_of, in_world}

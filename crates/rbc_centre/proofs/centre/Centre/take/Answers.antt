@@ -2,7 +2,7 @@ use Rattle.std.proofs.Common.{◌≡◌, ◌∙◌, ◌+◌, ap, sym, None, Some
 use Rattle.rbc_spec.specs.Line.{train_number}
 use Rattle.rbc_spec.specs.Outcome.{ForeignEngine, Outcome}
 use Rattle.rbc_spec.specs.Centre as centre
-use Rattle.rbc_spec.specs.Step.{Train, effect, taken, ticked, has_full_link}
+use Rattle.rbc_spec.specs.Step.{Train, effect, taken, ticked}
 use Rattle.rbc_msgs.specs.StepMessage.{step_message}
 use Rattle.rbc_rules.proofs.Desk.{silent_effect}
 use Rattle.rbc_rules.proofs.Takes.{foreign_silence}
@@ -11,7 +11,7 @@ use Rattle.rbc_centre.specs.States.{state_of}
 use Rattle.rbc_centre.proofs.Kept.{sound_left, ranged_left}
 use Rattle.rbc_centre.proofs.States.{counted_later}
 use Rattle.rbc_centre.proofs.Steps.{ticked_is, says, replied, effect_of, outcome_with}
-use Rattle.rbc_centre.proofs.Turns.{heard_stamp, heard_allowed, state_same, on_err}
+use Rattle.rbc_centre.proofs.Turns.{heard_stamp, heard_allowed}
 use Rattle.rbc_centre.proofs.centre.Centre.take.Goals.{In_default}
 use Rattle.rbc_centre.proofs.centre.Centre.take.Goals as goal
 
