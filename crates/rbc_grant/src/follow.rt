@@ -1,6 +1,7 @@
 ghost use Rattle.std.specs.Prelude.{◌≡◌, ◌-◌, ◌≤◌, ◌||◌};
 ghost use Rattle.rbc_spec.specs.SectionRuns.{behind, longest, within};
 ghost use Rattle.rbc_spec.specs.Centre.{is_open};
+ghost use Rattle.rbc_spec.specs.Place.{group_start};
 ghost use Rattle.rbc_book.specs.Book.{entry_at};
 ghost use Rattle.rbc_hand.specs.SectionRuns.{run_of};
 ghost use Rattle.rbc_place.specs.Places.{place_of};
@@ -9,25 +10,29 @@ ghost use Rattle.rbc_grant.specs.Grants as grants;
 use rbc_book::Book;
 use rbc_hand::{Hand, SectionRun};
 use rbc_line::Line;
-use rbc_place::{Place, group_start, is_on, section_end};
+use rbc_place::{Place, is_on, section_end};
 
 /// The greatest distance from a balise group at which a movement authority may end, in metres.
 pub(crate) const MOST_METRES: u32 = 32_767;
 
-/// How many sections follow the hand, one after another, with at most 32 in the hand.
+/// How many sections follow the hand, one after another, with at most 32 in the hand, where the place's group is at this start.
 pub(crate) fn following(
     line: &Line,
     book: &Book,
     pool: SectionRun,
     hand: SectionRun,
     place: &Place,
+    start: u32,
 ) -> u16
+    requires start { start ≡ group_start line.now (place_of place.now) }
+    requires bound { start ≤ 1024000 }
     ensures value { result ≡ longest (grants.may_follow line.now book.now (run_of pool) (place_of place.now)) (behind (run_of hand)) (32 - hand.count) }
     ensures bound { result ≤ 32 - hand.count }
 {
     let room = Hand::ROOM.saturating_sub(hand.count);
     for k in 0..room {
-        if !may_follow(line, book, pool, place, hand.behind() + u32::from(k)) {
+        let s = hand.behind() + u32::from(k);
+        if !may_follow(line, book, pool, place, start, s) {
             return k;
         }
     }
@@ -35,8 +40,11 @@ pub(crate) fn following(
 }
 
 // Whether the section may follow in the hand of a train at this place: on its track, open in this book or of the pool, and its end not
-// too far from the group.
-fn may_follow(line: &Line, book: &Book, pool: SectionRun, place: &Place, s: u32) -> bool
+// too far from the group, which is at this start.
+#[inline(always)]
+fn may_follow(line: &Line, book: &Book, pool: SectionRun, place: &Place, start: u32, s: u32) -> bool
+    requires start { start ≡ group_start line.now (place_of place.now) }
+    requires bound { start ≤ 1024000 }
     ensures { result ≡ grants.may_follow line.now book.now (run_of pool) (place_of place.now) s }
 {
     if s >= u32::from(line.section_count()) {
@@ -44,7 +52,7 @@ fn may_follow(line: &Line, book: &Book, pool: SectionRun, place: &Place, s: u32)
     }
     is_on(line, place.track, s)
         && is_free(book, pool, s as u16)
-        && section_end(line, s) <= group_start(line, place) + MOST_METRES
+        && section_end(line, s) <= start + MOST_METRES
 }
 
 // Whether the section is open in this book, or of the pool.

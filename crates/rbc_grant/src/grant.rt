@@ -31,6 +31,7 @@ pub fn hand_end(line: &Line, hand: SectionRun) -> u32
 
 /// Whether a request from this place may be answered: the safe front end is not past the hand's end, which is at most 32 767
 /// metres past the balise group of the place.
+#[inline(always)]
 pub fn may_request(line: &Line, hand: SectionRun, place: &Place) -> bool
     ensures { result ≡ grants.may_request line.now (run_of hand) (place_of place.now) }
 {
@@ -41,6 +42,7 @@ pub fn may_request(line: &Line, hand: SectionRun, place: &Place) -> bool
 /// The answer to a request (message 132 answered by message 3): the hand is extended by the longest run of sections that
 /// follow it on the train's track, each open in this centre's book or of the train's pool, with at most 32 sections in the hand and
 /// an end at most 32 767 metres past the balise group of the place.
+#[inline(always)]
 pub fn answer_request(
     line: &Line,
     book: &Book,
@@ -58,10 +60,11 @@ pub fn answer_request(
     // L_ENDSECTION has room for it, where the request may be answered.
     ensures fits { grants.may_request line.now (run_of hand) (place_of place.now) ≡ true → result.end ≤ 32767 }
 {
-    let sections = following(line, book, pool, hand, place);
+    let start = group_start(line, place);
+    let sections = following(line, book, pool, hand, place, start);
     let last = (hand.behind() + u32::from(sections)).saturating_sub(1);
     Grant {
         sections,
-        end: section_end(line, last).saturating_sub(group_start(line, place)),
+        end: section_end(line, last).saturating_sub(start),
     }
 }

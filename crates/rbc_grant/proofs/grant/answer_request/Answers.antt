@@ -20,4 +20,4 @@ returns-clause-fits c asked =
     (omega (arith, c.following-sections.ensures.value))) asked in
     let last : c.saturating_sub-last.result ≡ behind (run_of c.args.hand) + c.following-sections.result - 1 = omega (arith, c.saturating_sub-last.ensures, c.behind.ensures, c.from.ensures) in
     let ends : c.section_end.result ≡ end c.args.line.now (behind (run_of c.args.hand) + c.following-sections.result - 1) = c.section_end.ensures.value ∙ ap (end c.args.line.now) last in
-    omega (arith, room, ends, c.group_start.ensures.value, c.saturating_sub.ensures)
+    omega (arith, room, ends, c.group_start-start.ensures.value, c.saturating_sub.ensures)
