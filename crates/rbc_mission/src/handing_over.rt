@@ -93,7 +93,27 @@ impl Supervision {
     /// The mission is yielded, where that is due: its handover is claimed, and each section of its hand is of this centre's home or of the accepting
     /// one's. Then no mission stands here: sections of this home are out for the train at the accepting centre, the names of the others
     /// and the right go there, and the pool has to be returned. None exactly where it is not due, and then nothing changes.
+    #[inline(always)]
     pub fn yield_if_due(&mut self, line: &Line, centre: u8, book: &mut Book) -> Option<Yielded>
+        requires held { IsHeldBy self.old.engine self.old.hand book.old }
+        ensures none { result ≡ None → (self.new ≡ self.old) × (book.new ≡ book.old) }
+        ensures gone { IfSome result (λ y. self.new ≡ record self.old { mission = None; hand = self.new.hand }) }
+        ensures was { IfSome result (WasHandedOver self.old) }
+        ensures held { IsHeldBy self.old.engine self.new.hand book.new }
+        ensures homes { (s : ℕ) → is_own book.new s ≡ is_own book.old s }
+        ensures exact { (k : spec.Centre) → HasSupervision k self.old → HasBook line.now centre k book.old
+            → acts.yield_if_due line.now centre self.old.engine k
+            ≡ option_map_or (sends_off line.now centre self.old.engine) result acts.rest (with_supervision self.new (with_book book.new k)) }
+    {
+        if !self.handover.stands() {
+            return None;
+        }
+        self.yield_claimed(line, centre, book)
+    }
+
+    // The mission is yielded where that is due, as a handover may stand.
+    #[inline(never)]
+    fn yield_claimed(&mut self, line: &Line, centre: u8, book: &mut Book) -> Option<Yielded>
         requires held { IsHeldBy self.old.engine self.old.hand book.old }
         ensures none { result ≡ None → (self.new ≡ self.old) × (book.new ≡ book.old) }
         ensures gone { IfSome result (λ y. self.new ≡ record self.old { mission = None; hand = self.new.hand }) }

@@ -115,6 +115,7 @@ impl Supervision {
     }
 
     /// The train is at this place, and so many sections come behind its last: first those of its pool, and then open ones.
+    #[inline(always)]
     pub fn lengthen(&mut self, place: Place, count: u16, book: &mut Book)
         requires { (m : spec.Mission) → self.old.mission ≡ Some m → MayGrow m count book.old }
         ensures supervision { self.new ≡ record self.old { mission = option_map (with_next (place_of place) count) self.old.mission; hand = self.new.hand } }

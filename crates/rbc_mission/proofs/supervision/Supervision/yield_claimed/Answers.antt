@@ -13,7 +13,7 @@ use Rattle.rbc_mission.specs.Handovers.{sends_off}
 use Rattle.rbc_mission.specs.declared.handing_over.Yielded.{Yielded}
 use Rattle.rbc_mission.proofs.Missions.{stands}
 use Rattle.rbc_mission.proofs.Yields.{stood, none_where, goes_off}
-use Rattle.rbc_mission.proofs.supervision.Supervision.yield_if_due.Goals as goal
+use Rattle.rbc_mission.proofs.supervision.Supervision.yield_claimed.Goals as goal
 
 pub returns-in_err-handing-clause-held : goal.returns-in_err-handing-clause-held
 returns-in_err-handing-clause-held c = subst (λ (x : SupervisionState). IsHeldBy c.args.self.now.engine x.hand c.args.book.now) (sym c.self.view_is) c.requires.held
