@@ -29,6 +29,7 @@ use rbc_vars::{LEndsection, TTrain};
 
 impl TrainState {
     /// Message 129: the train data of a mission that goes on are known, and acknowledged.
+    #[inline(never)]
     pub(crate) fn train_data(&mut self, t_train: u32) -> Result<Heard, Reason>
         requires count { self.old.said < 4294967294 }
         ensures exact { (line : track.Line) (c : ℕ) (book : Pages) (rights : Rights) (k : spec.Centre) (position : place.Position)
@@ -62,6 +63,7 @@ impl TrainState {
 
     /// Message 132: the hand is extended by the sections that may follow it, first those of the pool, and the authority is given up to
     /// its end. At a border a handover is announced, and the next centre is asked for the sections behind it, where they are due.
+    #[inline(never)]
     pub(crate) fn request(
         &mut self,
         line: &Line,

@@ -30,6 +30,7 @@ use rbc_session::Sessions;
 impl TrainState {
     /// Takes a message of this train, at centre c with this book, these rights, these sessions and so many handovers announced: what it
     /// comes to, or why it is left without an answer, which changes nothing. There is room for a session that it opens.
+    #[inline(always)]
     pub fn take(
         &mut self,
         line: &Line,
@@ -64,6 +65,7 @@ impl TrainState {
         if self.is_stale(t_train) {
             return Err(Reason::StaleStamp);
         }
+        // Each of these writes what the message comes to straight to its place: inlined here, it would be copied part by part.
         match message.body() {
             TrainBody::InitiationOfSession => self.initiation_of_session(book, sessions, t_train),
             TrainBody::TerminationOfSession => self.termination_of_session(book, sessions, t_train),

@@ -26,6 +26,7 @@ use rbc_session::Phase;
 impl TrainState {
     /// Message 136: the sections of the hand that the train has cleared are given back, and a mission without a section closes; then it is
     /// yielded, where that is due. Of a train that another centre hands over to this one, its announcers are told that this one takes over.
+    #[inline(never)]
     pub(crate) fn report(
         &mut self,
         line: &Line,
@@ -69,6 +70,7 @@ impl TrainState {
 
     /// Message 150: what the train has cleared is given back, where its report has a place; then its mission is ended, and its pool goes
     /// home; then it is yielded, where that is due.
+    #[inline(never)]
     pub(crate) fn end_of_mission(
         &mut self,
         line: &Line,
@@ -115,6 +117,7 @@ impl TrainState {
     }
 
     // What the train has cleared leaves its hand, where the report has a place on this track.
+    #[inline(never)]
     fn report_here(
         &mut self,
         line: &Line,
@@ -148,6 +151,7 @@ impl TrainState {
     }
 
     /// The train is at this place of its track: what it has cleared is given back, and a mission without a section closes.
+    #[inline(always)]
     pub(crate) fn clear(
         &mut self,
         line: &Line,

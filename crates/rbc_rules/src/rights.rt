@@ -128,6 +128,7 @@ impl TrainState {
     }
 
     // What leaves a mission on this track: what it gives back is told, lent sections and its right go home, and its handover is cancelled.
+    #[inline(always)]
     pub(crate) fn released(
         &self,
         line: &Line,

@@ -25,6 +25,7 @@ use rbc_session::{Phase, Sessions};
 impl TrainState {
     /// Message 155: a session that stands is closed, with a request to shorten that stands and a start of mission that waits, and
     /// another is opened.
+    #[inline(never)]
     pub(crate) fn initiation_of_session(
         &mut self,
         book: &mut Book,
@@ -59,6 +60,7 @@ impl TrainState {
     }
 
     /// Message 159: the session, if it was opened, is up.
+    #[inline(never)]
     pub(crate) fn session_established(
         &mut self,
         sessions: &mut Sessions,
@@ -86,6 +88,7 @@ impl TrainState {
     }
 
     /// Message 156: the session that stands is closed, with a request to shorten that stands and a start of mission that waits.
+    #[inline(never)]
     pub(crate) fn termination_of_session(
         &mut self,
         book: &mut Book,

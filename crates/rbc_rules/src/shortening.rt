@@ -28,6 +28,7 @@ use rbc_vars::TTrain;
 impl TrainState {
     /// Message 137: the request that is answered stands no more. A train that has not run past the proposed end gives back what
     /// is behind it, and a mission without a section closes; then it is yielded, where that is due.
+    #[inline(never)]
     pub(crate) fn shortening_granted(
         &mut self,
         line: &Line,
@@ -90,6 +91,7 @@ impl TrainState {
     }
 
     /// Message 138: the request that is answered, if it stands, stands no more.
+    #[inline(never)]
     pub(crate) fn shortening_rejected(
         &mut self,
         t_train: u32,

@@ -38,6 +38,7 @@ use rbc_vars::QStatus;
 
 impl TrainState {
     /// Message 157, at this centre: the train is accepted or rejected, or its start waits for the right.
+    #[inline(never)]
     pub(crate) fn start_of_mission(
         &mut self,
         line: &Line,

@@ -174,6 +174,7 @@ impl TrainState {
     }
 
     /// Asks the train to end its movement authority before a section (3.8.6), where that may be asked.
+    #[inline(never)]
     pub fn ask_back(&mut self, line: &Line, s: u16) -> Option<Saying>
         requires count { self.old.said < 4294967294 }
         ensures exact { (k : spec.Centre) → HasTrain k self.old.supervision.engine self.old
