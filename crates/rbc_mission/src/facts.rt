@@ -36,3 +36,13 @@ impl MissionFacts {
         if is_left { Some(self) } else { None }
     }
 }
+
+/// The mission closes, unless it is left.
+#[inline(always)]
+pub(crate) fn close_unless(mission: &mut Option<MissionFacts>, is_left: bool)
+    ensures { mission.new ≡ (if is_left then mission.old else None) }
+{
+    if !is_left {
+        *mission = None;
+    }
+}

@@ -7,7 +7,7 @@ ghost use Rattle.rbc_place.specs.Places.{place_of};
 ghost use Rattle.rbc_shorten.specs.Facts.{proposal_of};
 
 use crate::cancelling::{cancel_unless, keeps_border};
-use crate::facts::MissionFacts;
+use crate::facts::{MissionFacts, close_unless};
 use crate::held;
 use crate::released::{Released, leaving};
 use crate::supervision::Supervision;
@@ -143,13 +143,14 @@ impl Supervision {
         ensures returned { run_of result.returned ≡ cleared_run count self.old }
         ensures cancelled { result.cancelled ≡ handover_left self.old self.new }
     {
-        let Some(mission) = self.mission else {
+        let Some(mission) = &mut self.mission else {
             return Released::nothing();
         };
+        mission.place = place;
         let first = self.hand.run().first;
         let told = rbc_claims::clear(&mut self.hand, count, self.nid_engine, book);
         let is_left = !self.hand.is_empty();
-        self.mission = MissionFacts { place, ..mission }.stay(is_left);
+        close_unless(&mut self.mission, is_left);
         let right = held::let_go(&mut self.right, is_left);
         let returned = leaving(SectionRun { first, count }, &mut self.border, is_left);
         let cancelled = cancel_unless(&mut self.handover, is_left);
