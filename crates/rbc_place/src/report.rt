@@ -14,6 +14,7 @@ const UNKNOWN: u64 = 32_767;
 
 /// The place of a report. None where its balise group is not of the line, where the train does not run in level 2 in the
 /// direction of the line, or where a distance is unknown.
+#[inline(always)]
 #[tactic(auto, unfolding(rbc_spec::specs::Place::extent))]
 pub fn extent(line: &Line, position: &Position) -> Option<Place>
     ensures value { option_map place_of result ≡ spec.extent line.now (position_of position.now) }
@@ -29,6 +30,7 @@ pub fn extent(line: &Line, position: &Position) -> Option<Place>
 }
 
 /// The place of a report, where it is on this track.
+#[inline(always)]
 pub fn place_on(line: &Line, track: u8, position: &Position) -> Option<Place>
     ensures value { option_map place_of result ≡ spec.place_on line.now track (position_of position.now) }
     // NID_LRBG has 24 bits.
