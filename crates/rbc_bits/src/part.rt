@@ -26,6 +26,7 @@ impl<'a> Model for BitPart<'a> {
 }
 
 impl<'a> BitPart<'a> {
+    #[inline(always)]
     pub(crate) fn new(word: BitWord, others: BitReader<'a>) -> BitPart<'a>
         requires { (word ≡ []) ⊎ (others ≡ []) }
         ensures { result ≡ word ++ others.entry }

@@ -92,17 +92,24 @@ impl<'a> BitReader<'a> {
     pub fn part(self) -> BitPart<'a>
         ensures { result ≡ self.entry }
     {
-        match self.word() {
-            Some(word) => {
-                let others = BitReader {
-                    bytes: self.bytes,
-                    used: self.used,
-                    left: 0,
-                };
-                BitPart::new(word, others)
-            }
+        match self.word_part() {
+            Some(part) => part,
             None => BitPart::new(BitWord::empty(), self),
         }
+    }
+
+    /// The same, where they stand in one word.
+    #[inline(always)]
+    pub fn word_part(&self) -> Option<BitPart<'a>>
+        ensures { IfSome result (λ part. part ≡ self.now) }
+    {
+        let word = self.word()?;
+        let others = BitReader {
+            bytes: self.bytes,
+            used: self.used,
+            left: 0,
+        };
+        Some(BitPart::new(word, others))
     }
 
     // The bits that are left as one word, where they are few, and so many bytes stand before their end.

@@ -74,9 +74,8 @@ track_packet-parts fields rest =
 
 -- ---- what the code read is spelled so
 
-pub train-found : (old part left new : List Bool) (fields : List Field) → old ≡ field 13 (21 + length part) ++ (part ++ new) → part ≡ joined fields ++ left → left ≡ [] → old ≡ joined (train_packet fields) ++ new
-train-found old part left new fields header all none =
-    let whole : part ≡ joined fields = all ∙ ap (λ t. joined fields ++ t) none ∙ append-nil (joined fields) in
+pub train_found : (old part new : List Bool) (fields : List Field) → old ≡ field 13 (21 + length part) ++ (part ++ new) → part ≡ joined fields → old ≡ joined (train_packet fields) ++ new
+train_found old part new fields header whole =
     header ∙ ap (λ t. field 13 (21 + length t) ++ (t ++ new)) whole ∙ sym (train_packet-parts fields new)
 
 pub track-found : (old part left new : List Bool) (fields : List Field) → old ≡ field 2 1 ++ (field 13 (23 + length part) ++ (part ++ new)) → part ≡ joined fields ++ left → left ≡ [] → old ≡ joined (track_packet fields) ++ new

@@ -87,10 +87,15 @@ position_fields_at bits = do
     level.1,
   )
 
+-- all bits behind the header, and the bits behind the packet
+abbrev pub position_part_at : List Bool → List Bool → Result (Position × List Bool) PacketFault
+position_part_at bits rest = do
+  position ← position_fields_at bits
+  _ ← none_left position.1
+  Ok (position.0, rest)
+
 -- the packet behind NID_PACKET, and the bits behind it
 unfoldable pub position_at : List Bool → Result (Position × List Bool) PacketFault
 position_at bits = do
   part ← train_part_at bits
-  position ← position_fields_at part.0
-  _ ← none_left position.1
-  Ok (position.0, part.1)
+  position_part_at part.0 part.1

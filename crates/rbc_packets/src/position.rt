@@ -1,8 +1,8 @@
-ghost use Rattle.std.specs.Prelude.{◌≡◌, ◌+◌, ◌≤◌, ◌++◌, ◌∷◌, IfOk, OnOk, IsOkUnless, Bool, List, Ok};
+ghost use Rattle.std.specs.Prelude.{◌≡◌, ◌+◌, ◌≤◌, ◌++◌, ◌∷◌, IfOk, IfSome, OnOk, IsOkUnless, Bool, List, Ok};
 ghost use Rattle.rbc_packets.specs.Layout.{joined, widths, train_packet};
 ghost use Rattle.rbc_packets.specs.Steps.{Takes};
 ghost use Rattle.rbc_packets.specs.PositionSpelling.{position_fields, running_fields, RunningFits, PositionFits};
-ghost use Rattle.rbc_packets.specs.PositionReading.{position_at, position_fields_at};
+ghost use Rattle.rbc_packets.specs.PositionReading.{position_at, position_part_at, position_fields_at};
 
 use crate::fault::PacketFault;
 use crate::level::Level;
@@ -33,6 +33,9 @@ pub struct Position {
 // The bits of the header and of the fields that each report has, but for Q_LENGTH and M_LEVEL.
 const FIXED_BITS: u64 = 109;
 
+// The fewest bits behind the header.
+const LEAST_BITS: u32 = 93;
+
 impl Position {
     /// NID_PACKET of a position report.
     pub const NID_PACKET: u64 = 0;
@@ -58,7 +61,31 @@ impl Position {
         ensures fits { IfOk result PositionFits }
     {
         let bits = train_part(reader)?;
-        let mut part = bits.part();
+        let position = match in_word(&bits) {
+            Some(part) => Position::whole(part)?,
+            None => Position::far(bits)?,
+        };
+        Ok(position)
+    }
+
+    // All bits behind the header, which stand in no word. It is a function of its own, so that the fields of the others are read with no test
+    // of where they stand.
+    #[inline(never)]
+    fn far(bits: BitReader) -> Result<Self, PacketFault>
+        ensures exact { (rest : List Bool) → Takes (λ x. x) result rest (position_part_at bits.entry rest) }
+        ensures taken { IfOk result (λ p. bits.entry ≡ joined (position_fields p)) }
+        ensures fits { IfOk result PositionFits }
+    {
+        Position::whole(bits.part())
+    }
+
+    // All bits behind the header.
+    #[inline(always)]
+    fn whole(mut part: BitPart) -> Result<Self, PacketFault>
+        ensures exact { (rest : List Bool) → Takes (λ x. x) result rest (position_part_at part.entry rest) }
+        ensures taken { IfOk result (λ p. part.entry ≡ joined (position_fields p)) }
+        ensures fits { IfOk result PositionFits }
+    {
         let position = Position::fields(&mut part)?;
         end(part)?;
         Ok(position)
@@ -123,4 +150,15 @@ impl Position {
         writer.put(self.m_mode.value(), 4)?;
         Ok(())
     }
+}
+
+// All bits behind the header in one word, where they may be enough.
+#[inline(always)]
+fn in_word<'a>(bits: &BitReader<'a>) -> Option<BitPart<'a>>
+    ensures { IfSome result (λ part. part ≡ bits.now) }
+{
+    if bits.remaining() < LEAST_BITS {
+        return None;
+    }
+    bits.word_part()
 }
