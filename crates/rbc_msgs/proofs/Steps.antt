@@ -1,5 +1,5 @@
 -- What is spelled so is read, for each part that all messages have.
-use Rattle.std.proofs.Common.{◌≡◌, ℕ, ◌+◌, ◌*◌, ◌^◌, ◌<◌, ◌≤◌, Bool, true, false, eqb, ltb, leb, List, [], ◌++◌, length, take, replicate, Ok, refl, sym, ap, ◌∙◌, eq-eqb, arith}
+use Rattle.std.proofs.Common.{◌≡◌, ℕ, ◌+◌, ◌*◌, ◌^◌, ◌<◌, ◌≤◌, Bool, true, false, eqb, ltb, leb, List, [], ◌∷◌, ◌++◌, length, take, replicate, Ok, refl, sym, ap, ◌∙◌, eq-eqb, arith}
 use Rattle.std.proofs.lemmas.Bool.{le-ltb, lt-leb, ne_eqb}
 use Rattle.std.proofs.lemmas.Nat.{pow_pos}
 use Rattle.std.proofs.lemmas.List.{append-nil, nil_from_length, length-append}
@@ -63,3 +63,7 @@ filling-found bits rest n v n-is few zero-is e =
     let none : rest ≡ [] = nil_from_length rest (omega (arith, ap length e, length-append (field n v) rest, length-field n v)) in
     let all : bits ≡ field n 0 = e ∙ ap (λ t. field n v ++ t) none ∙ append-nil (field n v) ∙ ap (field n) zero-is in
     (omega arith, all ∙ field-zero n ∙ ap (λ k. replicate k false) n-is)
+
+pub none-filling : (bits : List Bool) → length bits ≡ 0 → IsFilling bits
+none-filling [] e = (omega arith, refl)
+none-filling (b ∷ bits) e = absurd (omega (arith, e))

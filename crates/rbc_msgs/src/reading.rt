@@ -121,6 +121,9 @@ pub(crate) fn end(mut reader: BitReader, more: MsgFault) -> Result<(), MsgFault>
     if left >= 8 {
         return Err(more);
     }
+    if left == 0 {
+        return Ok(());
+    }
     if take(&mut reader, left)? != 0 {
         return Err(MsgFault::Padding);
     }

@@ -142,7 +142,24 @@ fn data_packet(alloc: Global, reader: &mut BitReader) -> Result<Opaque, MsgFault
 }
 
 /// The further packets, as long as 8 bits or more are left.
+#[inline(always)]
 pub(crate) fn read_further(alloc: Global, reader: &mut BitReader) -> Result<Vec<Opaque>, MsgFault>
+    ensures exact { TakesUnless MsgFault.Memory (λ v. v.items) result reader.new (further_at (length reader.old) reader.old) }
+    ensures taken { IfOk result (λ v. reader.old ≡ flat_map packet_bits v.items ++ reader.new) }
+    ensures fits { IfOk result (λ v. AllByRecursion IsFurther v.items) }
+    // Memory is wanted only for a further packet.
+    ensures memory { IfErr result (λ e. e ≡ MsgFault.Memory → MayKeep (λ x. x.0) (further_at (length reader.old) reader.old)) }
+{
+    if reader.remaining() < 8 {
+        return Ok(Vec::new(alloc));
+    }
+    let further = read_some(alloc, reader)?;
+    Ok(further)
+}
+
+// The same, where there may be some: a call of its own, since few messages have any.
+#[inline(never)]
+fn read_some(alloc: Global, reader: &mut BitReader) -> Result<Vec<Opaque>, MsgFault>
     ensures exact { TakesUnless MsgFault.Memory (λ v. v.items) result reader.new (further_at (length reader.old) reader.old) }
     ensures taken { IfOk result (λ v. reader.old ≡ flat_map packet_bits v.items ++ reader.new) }
     ensures fits { IfOk result (λ v. AllByRecursion IsFurther v.items) }

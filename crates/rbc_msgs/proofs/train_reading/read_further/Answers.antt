@@ -1,38 +1,7 @@
-use Rattle.std.proofs.Common.{length, ap, length-append, arith}
-use Rattle.std.proofs.lemmas.Result.{err_from_is_err_and}
-use Rattle.rbc_msgs.specs.TrainSpelling.{packet_bits}
-use Rattle.rbc_msgs.proofs.TrainLaws.{length-packet}
-use Rattle.rbc_msgs.proofs.Further.{none-read, one-more, all-read, none-more}
-use Rattle.rbc_msgs.proofs.Kept.{further-kept}
+use Rattle.std.proofs.Common.{[], arith}
+use Rattle.rbc_msgs.proofs.Further.{none-read, all-read}
 use Rattle.rbc_msgs.proofs.train_reading.read_further.Goals as goal
 
-pub loop-alloc-init : goal.loop-alloc-init
-loop-alloc-init c = rw c.new-further.ensures.items (none-read c.args.reader.now)
-
-pub loop-alloc-preserved : goal.loop-alloc-preserved
-loop-alloc-preserved c =
-    rw c.in_ok-push.ensures.items (one-more c.args.reader.now c.loop-alloc.reader c.further_packet.new.reader c.loop-alloc.further.items c.in_ok-further_packet.field-0 c.loop-alloc.invariant (omega (arith, c.remaining.ensures)) c.in_ok-further_packet.ensures.taken c.in_ok-further_packet.ensures.exact c.in_ok-further_packet.ensures.fits)
-
-pub loop-alloc-smaller : goal.loop-alloc-smaller
-loop-alloc-smaller c =
-    let p = c.in_ok-further_packet.field-0 in
-    omega (arith, ap length c.in_ok-further_packet.ensures.taken, length-append (packet_bits p) c.further_packet.new.reader, length-packet p)
-
-pub returns-in_err-further_packet-clause-exact : goal.returns-in_err-further_packet-clause-exact
-returns-in_err-further_packet-clause-exact c =
-    let p = err_from_is_err_and c.from_residual.result c.from_residual.ensures.1 in
-    rw (p.1, p.2) (λ ne. none-more c.args.reader.now c.loop-alloc.reader c.loop-alloc.further.items _ c.loop-alloc.invariant (omega (arith, c.remaining.ensures)) (c.in_err-further_packet.ensures.exact ne))
-
-pub returns-clause-exact : goal.returns-clause-exact
-returns-clause-exact c =
-    all-read c.args.reader.now c.loop-alloc.reader c.loop-alloc.further.items c.loop-alloc.invariant (omega (arith, c.remaining.ensures))
-
-pub returns-in_err-further_packet-clause-memory : goal.returns-in_err-further_packet-clause-memory
-returns-in_err-further_packet-clause-memory c =
-    let p = err_from_is_err_and c.from_residual.result c.from_residual.ensures.1 in
-    rw p.1 (λ e. further-kept c.args.reader.now c.loop-alloc.reader c.loop-alloc.further.items c.loop-alloc.invariant (omega (arith, c.remaining.ensures)))
-
-pub returns-in_err-push-clause-memory : goal.returns-in_err-push-clause-memory
-returns-in_err-push-clause-memory c =
-    let p = err_from_is_err_and c.from_residual-in_err-push.result c.from_residual-in_err-push.ensures.1 in
-    rw p.1 (λ e. further-kept c.args.reader.now c.loop-alloc.reader c.loop-alloc.further.items c.loop-alloc.invariant (omega (arith, c.remaining.ensures)))
+pub returns-then-remaining-lt8-clause-exact : goal.returns-then-remaining-lt8-clause-exact
+returns-then-remaining-lt8-clause-exact c =
+    rw c.new.ensures.items (all-read c.args.reader.now c.args.reader.now [] (none-read c.args.reader.now) (omega (arith, c.if-remaining-lt8.true, c.remaining.ensures)))
