@@ -1,5 +1,6 @@
 -- The links of a centre, by the numbers of the other centres.
-use Rattle.std.specs.Prelude.{ℕ, ◌≤◌, ◌≡◌, Bool, true, false, List, [], length, slice_get}
+use Rattle.std.specs.Prelude.{ℕ, ◌≤◌, ◌≡◌, ◌&&◌, nat_lt, Bool, true, false, List, [], length, slice_get}
+use Rattle.std.specs.List.{list_any, range_with_len}
 use Rattle.std.specs.Option.{option_map_or}
 use Rattle.rbc_link.specs.declared.sent.Sent.{Sent}
 use Rattle.rbc_link.specs.declared.link.Link.{Link}
@@ -31,3 +32,12 @@ pub record KeepsLinks {B : Type 0} (old new : List (Link B)) : Type 0 where
 -- on each link there is room for so many frames more
 abbrev pub HasRoom : {B : Type 0} → List (Link B) → ℕ → Type 0
 HasRoom links count = (d : ℕ) → has_link links d ≡ true → count ≤ room_to links d
+
+-- some link has fewer than four numbers left
+abbrev pub is_some_full : {B : Type 0} → List (Link B) → Bool
+is_some_full links = list_any (λ d. has_link links d && nat_lt 65532 (length (sent_to links d))) (range_with_len 0 (length links))
+
+-- a step may send what it has to: no link is full, and each has room for four frames more
+pub record IsReady {B : Type 0} (links : List (Link B)) : Type 0 where
+  pub room : HasRoom links 4
+  pub numbers : is_some_full links ≡ false

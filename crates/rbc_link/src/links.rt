@@ -21,6 +21,8 @@ use std::marker::Model;
 pub struct Links<B> {
     /// Of each centre of the line, itself too.
     links: Vec<Link<B>>,
+    /// It is known that no link is full and that each has room for the frames of a step. Nothing came or went since that was looked at.
+    is_ready: bool,
 }
 
 impl<B> Model for Links<B> {
@@ -30,6 +32,11 @@ impl<B> Model for Links<B> {
     ghost Value = { List (Link B) };
 
     ghost view = { λ l. l.links.items };
+
+    ghost use Rattle.std.specs.Prelude.{◌≡◌, true};
+    ghost use Rattle.rbc_link.specs.Links.{IsReady};
+
+    ghost invariant = { λ l. l.is_ready ≡ true → IsReady l.links.items };
 }
 
 impl<B> Links<B> {
@@ -47,7 +54,10 @@ impl<B> Links<B> {
         for d in 0..count {
             links.push_reserved(Link::new(alloc, line.linked(centre, d)));
         }
-        Ok(Links { links })
+        Ok(Links {
+            links,
+            is_ready: false,
+        })
     }
 
     /// Whether there is a link with this centre.
@@ -109,23 +119,47 @@ impl<B> Links<B> {
         if !self.has(from) {
             return None;
         }
+        self.is_ready = false;
         Some(self.links[from as usize].offer(number))
     }
 
     /// Whether some link has fewer than four numbers left. Then no step is taken.
+    #[inline(always)]
     pub fn is_full(&self) -> bool
         ensures { result ≡ list_any (λ d. has_link self.now d && nat_lt 65532 (length (sent_to self.now d))) (range_with_len 0 (length self.now)) }
     {
+        if self.is_ready {
+            return false;
+        }
         is_some_full(self.links.as_slice())
     }
 
     /// Makes room for so many frames more on each link, so that sending them takes no memory. A refusal changes nothing but the room.
+    #[inline(always)]
     pub fn reserve(&mut self, count: usize) -> Result<(), AllocError>
         ensures keeps { KeepsLinks self.old self.new }
         ensures room { OnOk result (HasRoom self.new count) }
         ensures succeeds { HasRoom self.old count → IsOk result }
     {
-        reserve_each(&mut self.links, count)
+        if self.is_ready && count <= FRAMES_TO_ONE {
+            return Ok(());
+        }
+        self.make_ready(count)
+    }
+
+    // Makes the room, and looks at all links.
+    #[inline(never)]
+    fn make_ready(&mut self, count: usize) -> Result<(), AllocError>
+        ensures keeps { KeepsLinks self.old self.new }
+        ensures room { OnOk result (HasRoom self.new count) }
+        ensures succeeds { HasRoom self.old count → IsOk result }
+    {
+        self.is_ready = false;
+        reserve_each(&mut self.links, count)?;
+        if FRAMES_TO_ONE <= count && !self.is_full() {
+            self.is_ready = true;
+        }
+        Ok(())
     }
 
     /// Sends a centre a frame with this body and the stamp of the step: its number is the next of the link. There is room for it, and
@@ -143,9 +177,13 @@ impl<B> Links<B> {
             ≡ frames_by meaning (sent_to self.old d) ++ numbered stamp (length (sent_to self.old d)) (if d == to then meaning body ∷ [] else []) }
         ensures room { (d : ℕ) → room_to self.old d ≡ room_to self.new d + (if d == to then 1 else 0) }
     {
+        self.is_ready = false;
         self.links[to as usize].send(stamp, body)
     }
 }
+
+// How many frames a step sends on one link at the most.
+const FRAMES_TO_ONE: usize = 4;
 
 // How many numbers a link has left, at the least, where a step is taken.
 const NUMBERS_LEFT: u32 = 4;
