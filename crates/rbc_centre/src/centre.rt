@@ -205,6 +205,7 @@ impl Centre {
     }
 
     // Makes room for the frames of one step. A refusal changes nothing but the room.
+    #[inline(always)]
     pub(crate) fn reserve_frames(&mut self) -> Result<(), AllocError>
         ensures same { IsSame self.old self.new }
         ensures links { OnOk result (links.HasRoom self.new.links 4) }

@@ -27,6 +27,7 @@ impl FrameRoom {
     }
 
     /// Makes room for the frames of one step, where there is none.
+    #[inline(always)]
     pub fn reserve(&mut self) -> Result<(), AllocError>
         ensures room { OnOk result (HasFrameRoom self.new) }
         ensures succeeds { HasFrameRoom self.old → IsOk result }

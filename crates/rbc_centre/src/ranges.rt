@@ -7,6 +7,7 @@ use rbc_msgs::{TrainBody, TrainMsg};
 use rbc_packets::{Position, TrainLength};
 
 /// A message of a train has its ranges.
+#[inline(always)]
 pub(crate) fn look_at_ranges(message: &TrainMsg)
     ensures { HasMessageRanges (step_message message.now) }
 {

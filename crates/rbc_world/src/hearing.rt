@@ -77,6 +77,7 @@ impl World {
 }
 
 // Whether no message named the train with this place in the line file before.
+#[inline(always)]
 fn is_first_mention(named: &Vec<bool>, i: usize) -> bool
     requires { i < length named.now.items }
     ensures { slice_get named.now.items i ≡ Some (not result) }
@@ -85,6 +86,7 @@ fn is_first_mention(named: &Vec<bool>, i: usize) -> bool
 }
 
 // Room for a first mention.
+#[inline(always)]
 fn make_room(trains: &mut IndexSet<u32>, is_first: bool) -> Result<(), AllocError>
     ensures keys { trains.new.keys ≡ trains.old.keys }
     ensures room { OnOk result (is_first ≡ true → 0 < spare trains.new) }
@@ -97,6 +99,7 @@ fn make_room(trains: &mut IndexSet<u32>, is_first: bool) -> Result<(), AllocErro
 }
 
 // A message of the train with this place in the line file was heard, perhaps the first.
+#[inline(always)]
 fn add_mention(
     trains: &mut IndexSet<u32>,
     named: &mut Vec<bool>,
