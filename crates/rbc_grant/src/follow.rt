@@ -16,6 +16,7 @@ use rbc_place::{Place, is_on, section_end};
 pub(crate) const MOST_METRES: u32 = 32_767;
 
 /// How many sections follow the hand, one after another, with at most 32 in the hand, where the place's group is at this start.
+#[inline(always)]
 pub(crate) fn following(
     line: &Line,
     book: &Book,

@@ -119,6 +119,7 @@ fn start_of_mission(reader: &mut BitReader) -> Result<TrainBody, MsgFault>
 
 // Packet 0, which has to stand there.
 #[tactic(auto, unfolding(crate::specs::TrainReading::position_packet_at, rbc_packets::specs::Layout::joined))]
+#[inline(always)]
 fn position(reader: &mut BitReader) -> Result<Position, MsgFault>
     ensures exact { Takes (λ x. x) result reader.new (position_packet_at reader.old) }
     ensures taken { IfOk result (λ p. reader.old ≡ joined (position_packet p) ++ reader.new) }

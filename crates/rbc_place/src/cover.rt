@@ -27,6 +27,7 @@ pub fn covers(line: &Line, place: &Place, s: u16) -> bool
 }
 
 /// The sections that the train may stand in, as a run.
+#[inline(always)]
 pub fn covered(line: &Line, place: &Place) -> SectionRun
     ensures value { run_of result ≡ spec.covered line.now (place_of place.now) }
     // Each of them is a section of the line.

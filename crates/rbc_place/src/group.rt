@@ -8,6 +8,7 @@ use rbc_line::Line;
 
 /// Where the section starts whose balise group the place names, in metres from the start of the track; 0 where the group is
 /// not of the line.
+#[inline(always)]
 pub fn group_start(line: &Line, place: &Place) -> u32
     ensures value { result ≡ spec.group_start line.now (place_of place.now) }
     ensures bound { result ≤ 1024000 }

@@ -29,6 +29,7 @@ pub struct Asking {
 
 /// The request to shorten that asks the train to end its authority before section `s`, in a message with T_TRAIN `stamp`; none
 /// where no such request may be made.
+#[inline(always)]
 pub fn ask_back(line: &Line, train: &Train, s: u16, stamp: u32) -> Option<Asking>
     ensures exact { (handing : Option spec.Handing) (k : spec.Centre) → IsTrain k handing train.now stamp → propose_if_so line.now train.now.nid_engine s k ≡ asked_back train.now.nid_engine k result }
     ensures room { IfSome result (λ a. a.l_endsection ≤ 32767) }
