@@ -106,28 +106,24 @@ fn take_no_more(part: &mut BitPart) -> Result<(), PacketFault>
     take_fixed(part, 1, 0)
 }
 
-#[tactic(auto, unfolding(crate::specs::Layout::joined))]
+// The four fields are one of 24 bits.
+#[tactic(auto, unfolding(rbc_bits::specs::Bits::field, crate::specs::Layout::joined))]
 #[inline(always)]
 fn put_sections(writer: &mut BitWriter) -> Result<(), PacketFault>
     ensures ok { OnOk result (writer.new ≡ writer.old ++ joined ((2, 1) ∷ (7, 0) ∷ (10, 1023) ∷ (5, 0) ∷ [])) }
     ensures memory { IsOkUnless result PacketFault.Memory }
 {
-    writer.put(1, 2)?;
-    writer.put(0, 7)?;
-    writer.put(1023, 10)?;
-    writer.put(0, 5)?;
+    writer.put(4_227_040, 24)?;
     Ok(())
 }
 
-#[tactic(auto, unfolding(crate::specs::Layout::joined))]
+// The four fields are one of 4 bits.
+#[tactic(auto, unfolding(rbc_bits::specs::Bits::field, crate::specs::Layout::joined))]
 #[inline(always)]
 fn put_no_more(writer: &mut BitWriter) -> Result<(), PacketFault>
     ensures ok { OnOk result (writer.new ≡ writer.old ++ joined ((1, 0) ∷ (1, 0) ∷ (1, 0) ∷ (1, 0) ∷ [])) }
     ensures memory { IsOkUnless result PacketFault.Memory }
 {
-    writer.put(0, 1)?;
-    writer.put(0, 1)?;
-    writer.put(0, 1)?;
-    writer.put(0, 1)?;
+    writer.put(0, 4)?;
     Ok(())
 }
