@@ -1,8 +1,8 @@
 -- The bits of fields that stand one behind the other.
-use Rattle.std.proofs.Common.{◌≡◌, ℕ, ◌+◌, Bool, List, [], ◌∷◌, ◌++◌, length, refl, sym, ap, ◌∙◌, append_assoc, length-append, arith}
+use Rattle.std.proofs.Common.{◌≡◌, ℕ, ◌+◌, ◌*◌, ◌^◌, ◌<◌, Bool, List, [], ◌∷◌, ◌++◌, length, refl, sym, ap, ◌∙◌, append_assoc, length-append, arith}
 use Rattle.std.proofs.lemmas.List.{append-nil}
 use Rattle.rbc_bits.specs.Bits.{field}
-use Rattle.rbc_bits.proofs.Fields.{length-field}
+use Rattle.rbc_bits.proofs.Fields.{length-field, field-append}
 use Rattle.rbc_packets.specs.Layout.{Field, joined, widths}
 use Rattle.rbc_packets.specs.Packet.{Packet}
 use Rattle.rbc_packets.specs.OpaqueReading.{opaque_bits}
@@ -57,3 +57,12 @@ pub opaque-written : (w head all bits : List Bool) (n l : ℕ) (p : Packet) → 
 unfolding opaque_bits joined
 opaque-written w head all bits n l p head-is all-is n-is l-is bits-is =
     rw (all-is, head-is, n-is, l-is, bits-is) (simp (append-nil, append_assoc))
+
+-- the header of a centre's packet is one field
+pub track_header-at_once : (nid_packet l_packet : ℕ) → l_packet < 2 ^ 13 → field 23 (32768 * nid_packet + 8192 + l_packet) ≡ joined ((8, nid_packet) ∷ (2, 1) ∷ (13, l_packet) ∷ [])
+unfolding joined
+track_header-at_once nid_packet l_packet fits =
+    let low = 1 * 2 ^ 13 + l_packet in
+    let value : 32768 * nid_packet + 8192 + l_packet ≡ nid_packet * 2 ^ 15 + low = omega arith in
+    ap (field 23) value ∙ sym (field-append 8 15 nid_packet low (omega arith))
+    ∙ ap (λ t. field 8 nid_packet ++ t) (sym (field-append 2 13 1 l_packet fits) ∙ ap (λ t. field 2 1 ++ t) (sym (append-nil (field 13 l_packet))))

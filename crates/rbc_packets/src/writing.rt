@@ -26,7 +26,7 @@ pub(crate) fn put_train_header(
     Ok(())
 }
 
-/// NID_PACKET, Q_DIR (nominal) and L_PACKET of a packet of a centre.
+/// NID_PACKET, Q_DIR (nominal) and L_PACKET of a packet of a centre, as one field of 23 bits.
 #[tactic(auto, unfolding(crate::specs::Layout::joined))]
 #[inline(always)]
 pub(crate) fn put_track_header(
@@ -39,9 +39,7 @@ pub(crate) fn put_track_header(
     ensures ok { OnOk result (writer.new ≡ writer.old ++ joined ((8, nid_packet) ∷ (2, 1) ∷ (13, l_packet) ∷ [])) }
     ensures memory { IsOkUnless result PacketFault.Memory }
 {
-    writer.put(nid_packet, 8)?;
-    writer.put(1, 2)?;
-    writer.put(l_packet, 13)?;
+    writer.put(32_768 * nid_packet + 8_192 + l_packet, 23)?;
     Ok(())
 }
 
