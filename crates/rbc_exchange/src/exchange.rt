@@ -5,7 +5,7 @@ use rbc_line::Line;
 use rbc_replies::Reply;
 use rbc_workers::Outlet;
 use std::alloc::{AllocError, Global};
-use std::sync::{Mutex, Wait};
+use std::sync::{Arc, Mutex, Wait};
 use std::thread::Parker;
 
 /// The connections of trains at a centre, and the bells of the links that its frames go to.
@@ -13,7 +13,7 @@ use std::thread::Parker;
 pub struct Exchange<'a> {
     alloc: Global,
     line: &'a Line,
-    board: Mutex<Switchboard<Connection>>,
+    board: Mutex<Switchboard<Arc<Connection, Global>>>,
     links: &'a [Parker],
 }
 
@@ -35,13 +35,23 @@ impl<'a> Exchange<'a> {
     }
 
     /// Takes a connection in under this number. It serves no train yet.
-    pub fn enter<R: Wait>(&self, rt: &R, number: usize, connection: Connection) {
+    pub fn enter<R: Wait>(
+        &self,
+        rt: &R,
+        number: usize,
+        connection: Connection,
+    ) -> Result<(), AllocError> {
+        let connection = Arc::new(self.alloc, connection)?;
         self.board.lock(rt).enter(number, connection);
+        Ok(())
     }
 
-    /// Lets the connection of this number go, and says whether it was there: not if its train was too slow.
+    /// Lets the connection of this number go, and says whether its train was fast enough for its answers.
     pub fn leave<R: Wait>(&self, rt: &R, number: usize) -> bool {
-        self.board.lock(rt).leave(number).is_some()
+        match self.board.lock(rt).leave(number) {
+            Some(connection) => !connection.is_cut(),
+            None => false,
+        }
     }
 
     // From now on the connection serves the train of this engine, and no other.
@@ -51,25 +61,41 @@ impl<'a> Exchange<'a> {
         }
     }
 
-    // Hands a message to the connection that serves its engine, if one does. A connection whose train is too slow to take it is cut.
-    fn say<R: Wait>(&self, rt: &R, saying: &Saying) {
-        let Some(train) = self.line.train_number(saying.nid_engine) else {
+    // The connection that serves this engine, with its number, if one does. The board is free again behind it.
+    fn serving<R: Wait>(
+        &self,
+        rt: &R,
+        nid_engine: u32,
+    ) -> Option<(usize, Arc<Connection, Global>)> {
+        let train = self.line.train_number(nid_engine)?;
+        let board = self.board.lock(rt);
+        let number = board.number_for(train as usize)?;
+        let connection = board.connection(number)?;
+        Some((number, Arc::try_clone(connection).ok()?))
+    }
+
+    // Says a message over the connection that serves its engine, if one does. A connection that the calling thread reads is told by its number.
+    fn say<R: Wait>(&self, rt: &R, own: Option<usize>, saying: &Saying) {
+        let Some((number, connection)) = self.serving(rt, saying.nid_engine) else {
             return;
         };
-        let mut board = self.board.lock(rt);
-        let Some(number) = board.number_for(train as usize) else {
+        match Reply::new(self.alloc, saying.message) {
+            Ok(reply) if own == Some(number) => connection.answer(rt, reply),
+            Ok(reply) => connection.say(rt, reply),
+            Err(_) => connection.cut(),
+        }
+    }
+
+    // Says all messages of an outcome, and rings the bells where it has frames.
+    fn tell<R: Wait>(&self, rt: &R, own: Option<usize>, outcome: &Outcome) {
+        for saying in outcome.sayings.as_slice() {
+            self.say(rt, own, saying);
+        }
+        if outcome.frames.is_empty() {
             return;
-        };
-        let Some(connection) = board.connection(number) else {
-            return;
-        };
-        let is_taken = match Reply::new(self.alloc, saying.message) {
-            Ok(reply) => connection.offer(rt, reply),
-            Err(_) => false,
-        };
-        if !is_taken {
-            connection.cut();
-            board.leave(number);
+        }
+        for bell in self.links {
+            bell.unpark();
         }
     }
 }
@@ -78,15 +104,7 @@ impl Outlet for Exchange<'_> {
     fn opened<R: Wait>(&self, _rt: &R, _nid_engine: u32) {}
 
     fn answered<R: Wait>(&self, rt: &R, outcome: &Outcome) {
-        for saying in outcome.sayings.as_slice() {
-            self.say(rt, saying);
-        }
-        if outcome.frames.is_empty() {
-            return;
-        }
-        for bell in self.links {
-            bell.unpark();
-        }
+        self.tell(rt, None, outcome);
     }
 }
 
@@ -104,6 +122,6 @@ impl Outlet for Wire<'_> {
     }
 
     fn answered<R: Wait>(&self, rt: &R, outcome: &Outcome) {
-        self.exchange.answered(rt, outcome);
+        self.exchange.tell(rt, Some(self.number), outcome);
     }
 }

@@ -6,5 +6,5 @@ mod connection;
 mod exchange;
 mod switchboard;
 
-pub use connection::Connection;
+pub use connection::{Connection, Shared};
 pub use exchange::{Exchange, Wire};

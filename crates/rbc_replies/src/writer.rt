@@ -30,8 +30,8 @@ pub fn run_writer<R: Wait, W: Write>(
     Ok(())
 }
 
-// Writes all bytes, or, where a write fails, the first of them.
-fn write_whole<W: Write>(out: &mut W, bytes: &[u8]) -> Result<(), WriteFailed>
+/// Writes all bytes, or, where a write fails, the first of them.
+pub(crate) fn write_whole<W: Write>(out: &mut W, bytes: &[u8]) -> Result<(), WriteFailed>
     ensures ok { OnOk result (Appends (W.contents out.old) (W.contents out.new) bytes.now) }
     ensures err { OnErr result ((n : ℕ) × Appends (W.contents out.old) (W.contents out.new) (take n bytes.now)) }
 {

@@ -3,11 +3,11 @@ use crate::limits::{PATIENCE, REPLIES, SILENCE};
 use crate::noted::NotedWire;
 use crate::notes::Notes;
 use crossbeam_channel::{Receiver, bounded};
-use rbc_exchange::{Connection, Exchange, Wire};
+use rbc_exchange::{Connection, Exchange, Shared, Wire};
 use rbc_intake::Reads;
 use rbc_node::{Node, Open};
 use rbc_print::name_of;
-use rbc_replies::{Reply, run_writer};
+use rbc_replies::{Pipe, Reply, run_writer};
 use rbc_workers::{SessionEnd, run_session};
 use std::alloc::{AllocError, Global};
 use std::net::{Shutdown, TcpStream};
@@ -31,7 +31,7 @@ pub(crate) fn serve_train<R: Threads + Wait + Sync, N: Notes + Sync>(
     let (Some(node), Some(exchange)) = (hall.nodes.get(at), hall.exchanges.get(at)) else {
         return;
     };
-    let Ok((stream, replies)) = entered(rt, hall.alloc, exchange, number, stream) else {
+    let Ok(ends) = entered(rt, hall.alloc, exchange, number, stream) else {
         notes.note(format_args!("{name}: a train is refused, memory ran out"));
         return;
     };
@@ -43,31 +43,41 @@ pub(crate) fn serve_train<R: Threads + Wait + Sync, N: Notes + Sync>(
     };
     let (end, ()) = thread::join(
         rt,
-        || read_messages(rt, hall.alloc, node, seat, &stream, &noted),
-        || write_replies(rt, &replies, &stream),
+        || read_messages(rt, hall.alloc, node, seat, &ends.stream, &noted),
+        || write_replies(rt, &ends),
     );
     tell_end(notes, name, number, end);
 }
 
-// Takes the connection into the exchange, and gives it with the replies that are to be written.
+// What the two threads of a connection have of it.
+#[derive(Drop)]
+struct Ends {
+    stream: Arc<TcpStream, Global>,
+    pipe: Arc<Pipe<Shared>, Global>,
+    replies: Receiver<Reply>,
+}
+
+// Takes the connection into the exchange.
 fn entered<R: Wait>(
     rt: &R,
     alloc: Global,
     exchange: &Exchange<'_>,
     number: usize,
     stream: TcpStream,
-) -> Result<(Arc<TcpStream, Global>, Receiver<Reply>), AllocError> {
+) -> Result<Ends, AllocError> {
     let _ = stream.set_nodelay(true);
     let _ = stream.set_read_timeout(Some(Duration::from_secs(SILENCE)));
     let _ = stream.set_write_timeout(Some(Duration::from_secs(PATIENCE)));
     let stream = Arc::new(alloc, stream)?;
+    let pipe = Arc::new(alloc, Pipe::new(Shared(Arc::try_clone(&stream)?)))?;
     let (sender, replies) = bounded(alloc, REPLIES)?;
-    let connection = Connection {
-        replies: sender,
-        stream: Arc::try_clone(&stream)?,
-    };
-    exchange.enter(rt, number, connection);
-    Ok((stream, replies))
+    let connection = Connection::new(sender, Arc::try_clone(&pipe)?, Arc::try_clone(&stream)?);
+    exchange.enter(rt, number, connection)?;
+    Ok(Ends {
+        stream,
+        pipe,
+        replies,
+    })
 }
 
 // Commits what the train says, and says how it ended: none where the train was too slow to take its answers.
@@ -90,11 +100,10 @@ fn read_messages<R: Wait, N: Notes>(
     }
 }
 
-// Writes the replies of a connection. Behind the last one the connection is ended for the reader too.
-fn write_replies<R: Wait>(rt: &R, replies: &Receiver<Reply>, stream: &TcpStream) {
-    let mut out = stream;
-    let _ = run_writer(rt, replies, &mut out);
-    let _ = stream.shutdown(Shutdown::Both);
+// Writes the replies of a connection that wait. Behind the last one the connection is ended for the reader too.
+fn write_replies<R: Wait>(rt: &R, ends: &Ends) {
+    let _ = run_writer(rt, &ends.replies, &mut ends.pipe.end(rt));
+    let _ = ends.stream.shutdown(Shutdown::Both);
 }
 
 fn tell_end<N: Notes>(notes: &N, name: &str, number: usize, end: Option<SessionEnd>) {

@@ -1,0 +1,85 @@
+use crate::reply::Reply;
+use crate::writer::{WriteFailed, write_whole};
+use std::io;
+use std::io::{ErrorKind, Write};
+use std::sync::atomic::{AtomicU64, Ordering};
+use std::sync::{Mutex, Wait};
+
+/// Where the replies of one connection are written. Its writer writes those that wait; where none waits, the thread that reads the connection
+/// writes its own. So a reply is never written among the bytes of another, and never in front of one that waits.
+#[derive(Drop)]
+pub struct Pipe<W: Drop> {
+    // How many bytes wait for the writer.
+    waiting: AtomicU64,
+    // None behind a reply that was not written whole.
+    out: Mutex<Option<W>>,
+}
+
+/// What became of a reply that was to be written at once.
+#[derive(Clone, Copy, Debug, PartialEq, Eq)]
+pub enum Now {
+    /// It was written whole.
+    Written,
+    /// Nothing was written of it, since others wait.
+    Later,
+}
+
+impl<W: Write + Drop> Pipe<W> {
+    /// The pipe to this writer. No reply waits.
+    pub fn new(out: W) -> Pipe<W> {
+        Pipe {
+            waiting: AtomicU64::new(0),
+            out: Mutex::new(Some(out)),
+        }
+    }
+
+    /// From now on this reply waits. It is said before the reply is handed to the connection's writer.
+    pub fn expect(&self, reply: &Reply) {
+        self.waiting
+            .fetch_add(reply.bytes().len() as u64, Ordering::SeqCst);
+    }
+
+    /// Writes a reply, if no other waits. Behind a write that fails nothing more is written.
+    pub fn write_now<R: Wait>(&self, rt: &R, reply: &Reply) -> Result<Now, WriteFailed> {
+        let mut place = self.out.lock(rt);
+        if self.waiting.load(Ordering::SeqCst) != 0 {
+            return Ok(Now::Later);
+        }
+        let Some(out) = &mut *place else {
+            return Err(WriteFailed);
+        };
+        if write_whole(out, reply.bytes()).is_err() {
+            *place = None;
+            return Err(WriteFailed);
+        }
+        Ok(Now::Written)
+    }
+
+    /// The pipe's end at which its writer writes the replies that wait.
+    pub fn end<'a, R: Wait>(&'a self, rt: &'a R) -> PipeEnd<'a, R, W> {
+        PipeEnd { rt, pipe: self }
+    }
+}
+
+/// The end of a pipe at which its writer writes the replies that wait.
+#[derive(Drop)]
+pub struct PipeEnd<'a, R, W: Drop> {
+    rt: &'a R,
+    pipe: &'a Pipe<W>,
+}
+
+impl<R: Wait, W: Write + Drop> Write for PipeEnd<'_, R, W> {
+    fn write(&mut self, bytes: &[u8]) -> io::Result<usize> {
+        let mut place = self.pipe.out.lock(self.rt);
+        let Some(out) = &mut *place else {
+            return Err(io::Error::from(ErrorKind::BrokenPipe));
+        };
+        let count = out.write(bytes)?;
+        self.pipe.waiting.fetch_sub(count as u64, Ordering::SeqCst);
+        Ok(count)
+    }
+
+    fn flush(&mut self) -> io::Result<()> {
+        Ok(())
+    }
+}
