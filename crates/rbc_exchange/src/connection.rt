@@ -1,12 +1,11 @@
 use crossbeam_channel::{Sender, TrySendError};
 use rbc_replies::{Now, Pipe, Reply};
 use std::alloc::Global;
-use std::io;
 use std::io::Write;
 use std::net::{Shutdown, TcpStream};
 use std::sync::atomic::{AtomicBool, Ordering};
 use std::sync::{Arc, Wait};
-use std::thread;
+use std::{io, thread};
 
 /// How often a reply is offered to the channel of a connection before the train counts as too slow.
 const OFFERS: u32 = 100;

@@ -9,6 +9,8 @@ mod line;
 #[cfg(test)]
 mod railway;
 #[cfg(test)]
+mod replies;
+#[cfg(test)]
 mod sessions;
 #[cfg(test)]
 mod trains;

@@ -46,6 +46,12 @@ pub const INITIATION_OF_ONE: &str = "9B028000000040000040";
 // The first five of its ten bytes.
 pub const HALF_AN_INITIATION: &str = "9B02800000";
 
+// The centre answers with its version.
+pub const VERSION: &str = "2002C00000005FFFFFE800";
+
+// It acknowledges train 2's mission.
+pub const ACCEPTED: &str = "2902800000009FFFFFE0";
+
 /// The bytes that these digits spell.
 pub fn bytes_of(alloc: Global, digits: &str) -> Done<Vec<u8>> {
     hex::decode(alloc, digits).ok().ok_or(Missed::Digits)

@@ -1,5 +1,5 @@
 use crate::client::{Done, Missed, TURNS, connect, heard, say};
-use crate::line::{INITIATION_OF_ONE, bytes_of, two_centres};
+use crate::line::{ACCEPTED, INITIATION_OF_ONE, VERSION, bytes_of, two_centres};
 use crate::railway::{Addresses, audited, printed_with};
 use rbc_audit::Verdict;
 use std::alloc::Global;
@@ -12,11 +12,6 @@ use std::thread::Threads;
 // Train 2 opens its session and starts a mission in section 1.
 const START_OF_TWO: &str =
     "9B0280000000400000809F0280000000800000809D0680000000C00000900040A0280CA096140050014406400418";
-
-// The centre answers with its version, and acknowledges train 2's mission.
-const VERSION: &str = "2002C00000005FFFFFE800";
-
-const ACCEPTED: &str = "2902800000009FFFFFE0";
 
 /// Whether train 1 was answered.
 #[derive(Drop)]
