@@ -58,6 +58,7 @@ impl BitWriter {
     }
 
     /// The bytes: the bits written, followed by 0 to 7 zero bits.
+    #[inline(always)]
     pub fn finish(self) -> Result<Vec<u8>, BitFault>
         ensures ok { IfOk result (λ bytes. bits_of bytes.items ≡ filled self) }
         ensures memory { IsOkUnless result BitFault.Memory }
@@ -76,7 +77,7 @@ impl BitWriter {
 }
 
 // A field with which 64 bits are full, behind bits that are held: eight bytes more. What comes out are the bits behind them.
-#[inline(never)]
+#[inline(always)]
 fn push_full(
     bytes: &mut Vec<u8>,
     held: u64,

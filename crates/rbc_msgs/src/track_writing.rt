@@ -80,6 +80,7 @@ pub(crate) fn header(
 
 /// What stands behind the header.
 #[tactic(auto, unfolding(rbc_packets::specs::Layout::joined))]
+#[inline(always)]
 pub(crate) fn body(mut writer: BitWriter, body: TrackBody) -> Result<BitWriter, EncodeFault>
     ensures ok { IfOk result (λ w. w ≡ writer ++ joined (track_body_fields (track_body body))) }
     ensures fits { OnOk result (TrackBodyFits (track_body body)) }
