@@ -56,13 +56,15 @@ fn drive(other: Other, plan: Plan, number: usize, answered: &AtomicU64, start: &
     let stream = connect(train.port(plan.first_port));
     start.wait();
     let mut stream = stream?;
+    // Nothing is left in it behind the last answer of a mission's requests.
+    let mut input = BufReader::with_capacity(4096, stream.try_clone()?);
     let until = Instant::now() + Duration::from_secs(plan.seconds);
     while Instant::now() < until {
         if other == Other::Centres {
             begin(&mut stream, &mut train, &mut Deaf)?;
         }
         for k in [0, RELEASED / 2] {
-            requests(other, plan, &mut stream, &mut train, k, answered)?;
+            requests(other, plan, (&mut stream, &mut input), &mut train, k, answered)?;
         }
         if other == Other::Centres {
             end(&mut stream, &mut train, &mut Deaf)?;
@@ -72,7 +74,14 @@ fn drive(other: Other, plan: Plan, number: usize, answered: &AtomicU64, start: &
 }
 
 // Half of a mission's requests, from the k-th section. So many at a time are sent together.
-fn requests(kind: Other, plan: Plan, stream: &mut TcpStream, train: &mut Train, k: usize, answered: &AtomicU64) -> io::Result<()> {
+fn requests(
+    kind: Other,
+    plan: Plan,
+    (stream, input): (&mut TcpStream, &mut BufReader<TcpStream>),
+    train: &mut Train,
+    k: usize,
+    answered: &AtomicU64,
+) -> io::Result<()> {
     let place = train.report(k);
     let mut bytes = Vec::new();
     let mut back = Vec::new();
@@ -84,10 +93,10 @@ fn requests(kind: Other, plan: Plan, stream: &mut TcpStream, train: &mut Train, 
         }
         stream.write_all(&bytes)?;
         match kind {
-            Other::Centres => authorities(stream, plan.window)?,
+            Other::Centres => authorities(input, plan.window)?,
             Other::Echo => {
                 back.resize(bytes.len(), 0);
-                stream.read_exact(&mut back)?;
+                input.read_exact(&mut back)?;
             }
         }
         answered.fetch_add(u64::from(plan.window), Ordering::Relaxed);
@@ -96,10 +105,9 @@ fn requests(kind: Other, plan: Plan, stream: &mut TcpStream, train: &mut Train, 
 }
 
 // So many answers, each a movement authority.
-fn authorities(stream: &mut TcpStream, count: u32) -> io::Result<()> {
-    let mut input = BufReader::with_capacity(4096, stream);
+fn authorities(input: &mut BufReader<TcpStream>, count: u32) -> io::Result<()> {
     for _ in 0..count {
-        let answer = read_message(&mut input)?;
+        let answer = read_message(input)?;
         if answer[0] != AUTHORITY {
             return Err(other(&format!("answer {} in place of an authority", answer[0])));
         }

@@ -85,8 +85,8 @@ pub fn read_message(stream: &mut impl Read) -> io::Result<Vec<u8>> {
     if length < head.len() {
         return Err(other("a message that is too short"));
     }
-    let mut message = head.to_vec();
-    message.resize(length, 0);
+    let mut message = vec![0; length];
+    message[..head.len()].copy_from_slice(&head);
     stream.read_exact(&mut message[head.len()..])?;
     Ok(message)
 }
