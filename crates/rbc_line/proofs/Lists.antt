@@ -132,3 +132,13 @@ All-unmap P f xs holds k d h =
 pub AreDistinct-unmap : {X Y : Type 0} (key : Y → ℕ) (f : X → Y) (xs : List X) → AreDistinct key (map f xs) → AreDistinct (λ x. key (f x)) xs
 AreDistinct-unmap key f xs apart = λ i j x y a b e.
     apart i j (f x) (f y) (slice_get-map f xs i ∙ ap (option_map f) a) (slice_get-map f xs j ∙ ap (option_map f) b) e
+
+-- the first element that passes
+pub position_at : {X : Type 0} (p : X → Bool) (xs : List X) (i : ℕ) (x : X) → slice_get xs i ≡ Some x → p x ≡ true → ((j : ℕ) (y : X) → j < i → slice_get xs j ≡ Some y → p y ≡ false) → position p xs ≡ Some i
+position_at p [] i x at passes before = absurd (none-some x at)
+position_at p (y ∷ ys) zero x at passes before =
+    let same : y ≡ x = same_Some y x at in
+    rw (same, position-cons p x ys, passes)
+position_at p (y ∷ ys) (suc i) x at passes before =
+    rw (position-cons p y ys, before 0 y (omega arith) refl)
+    (ap (option_map suc) (position_at p ys i x at passes (λ j z lt h. before (suc j) z (omega arith) h)))

@@ -5,11 +5,12 @@ use Rattle.std.proofs.lemmas.Bool.Decides.{nat_tests}
 use Rattle.std.proofs.lemmas.List.{length-take}
 use Rattle.std.proofs.lemmas.List.Elements.{All-take}
 use Rattle.std.proofs.lemmas.Option.{slice_get-map, slice_get_within, get_or_from_slice_get}
-use Rattle.rbc_spec.specs.Line.{Line, Section, Train, section, start, next_centre, train_number, registrar, IsLine}
+use Rattle.rbc_spec.specs.Line.{Line, Section, Train, section, start, next_centre, section_of_group, train_number, registrar, IsLine}
 use Rattle.rbc_line.specs.declared.parts.Section.{Section as SectionRow}
 use Rattle.rbc_line.specs.declared.parts.Train.{Train as TrainRow}
 use Rattle.rbc_line.specs.Views.{section_of, train_of, placed_section, listed_train}
 use Rattle.rbc_line.specs.Tables.{HasStarts}
+use Rattle.rbc_line.proofs.TableSteps.{key_at}
 use Rattle.rbc_line.proofs.Lists.{find-zip_none, find-position_none, find-position_some, sum_by-filter_le}
 
 with_start : (o : Option SectionRow) (m : ℕ) → ((row : SectionRow) → o ≡ Some row → row.start ≡ m) → o ≡ option_map (λ p. record { track = p.track; start = m; metres = p.metres; home = p.home; balise = p.balise }) (option_map section_of o)
@@ -102,3 +103,15 @@ registrar-at line t i placed =
 
 pub registrar-none : (line : Line) (t : ℕ) → None ≡ train_number line t → None ≡ registrar line t
 registrar-none line t none = sym (ap (option_map (λ p. p.registrar)) (find-position_none (λ p. p.nid_engine == t) line.trains (sym none)))
+
+-- the row that has the engine is the train's place
+pub train_number-at : (line : Line) (rows : List TrainRow) (i t : ℕ) (row : TrainRow) → IsLine line → line.trains ≡ map train_of rows → slice_get rows i ≡ Some row → row.nid_engine ≡ t → Some i ≡ train_number line t
+train_number-at line rows i t row rules same at engine =
+    let is_train : slice_get line.trains i ≡ Some (train_of row) = rw same (slice_get-map train_of rows i ∙ ap (option_map train_of) at) in
+    sym (key_at (λ p. p.nid_engine) line.trains i (train_of row) t rules.distinct.engines is_train engine)
+
+-- the row that has the balise group is its section
+pub section_of_group-at : (line : Line) (rows : List SectionRow) (s q : ℕ) (row : SectionRow) → IsLine line → line.sections ≡ map section_of rows → slice_get rows s ≡ Some row → line.nid_c * 16384 + row.balise ≡ q → Some s ≡ section_of_group line q
+section_of_group-at line rows s q row rules same at group =
+    let is_section : slice_get line.sections s ≡ Some (section_of row) = rw same (slice_get-map section_of rows s ∙ ap (option_map section_of) at) in
+    sym (key_at (λ p. line.nid_c * 16384 + p.balise) line.sections s (section_of row) q (λ i j x y a b e. rules.distinct.balises i j x y a b (omega (arith, e))) is_section group)

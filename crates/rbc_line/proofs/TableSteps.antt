@@ -11,7 +11,7 @@ use Rattle.rbc_line.specs.declared.parts.Rows.{Rows}
 use Rattle.rbc_line.specs.declared.parts.Section.{Section as SectionRow}
 use Rattle.rbc_line.specs.Tables.{Numbers}
 use Rattle.rbc_line.specs.Views.{section_of, train_of, line_of_rows}
-use Rattle.rbc_line.proofs.Lists.{slice_get_take, position_more, position_none, zip-map, list_any-map, find-map}
+use Rattle.rbc_line.proofs.Lists.{slice_get_take, position_at, position_more, position_none, zip-map, list_any-map, find-map}
 
 -- the elements before a place have other keys
 none_before : {X : Type 0} (key : X → ℕ) (xs : List X) (i : ℕ) (x : X) (q : ℕ) → AreDistinct key xs → slice_get xs i ≡ Some x → (key x == q) ≡ true → position (λ p. key p == q) (take i xs) ≡ None
@@ -20,6 +20,15 @@ none_before key xs i x q apart at same =
     let place = slice_get_take i xs j y found in
     elim (cases_Bool (key y == q)) [
       | inl equal ↦ absurd (let keys : key y ≡ key x = grind (arith, nat_tests) in omega (arith, apart j i y x place.1 at keys, place.0))
+      | inr other ↦ other
+    ])
+
+-- the element that has the key is the first that has it
+pub key_at : {X : Type 0} (key : X → ℕ) (xs : List X) (i : ℕ) (x : X) (q : ℕ) → AreDistinct key xs → slice_get xs i ≡ Some x → key x ≡ q → position (λ p. key p == q) xs ≡ Some i
+key_at key xs i x q apart at same =
+    position_at (λ p. key p == q) xs i x at (grind (arith, nat_tests)) (λ j y lt found.
+    elim (cases_Bool (key y == q)) [
+      | inl equal ↦ absurd (let keys : key y ≡ key x = grind (arith, nat_tests) in omega (arith, apart j i y x found at keys))
       | inr other ↦ other
     ])
 

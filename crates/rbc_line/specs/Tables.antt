@@ -3,7 +3,7 @@ use Rattle.std.specs.Prelude.{◌≡◌, ℕ, ◌+◌, ◌*◌, ◌<◌, Bool, L
 use Rattle.std.specs.HashMap.{HashMap, get}
 use Rattle.std.specs.declared.hash.FoldHasher.{FoldHasher}
 use Rattle.std.specs.declared.hash.BuildHasherDefault.{BuildHasherDefault}
-use Rattle.rbc_spec.specs.Line.{Line, IsLine, start, section_of_group, train_number, is_linked, next_centre}
+use Rattle.rbc_spec.specs.Line.{Line, IsLine, start, section_of_group, is_linked, next_centre}
 use Rattle.rbc_line.specs.declared.parts.Section.{Section as SectionRow}
 
 -- a map from numbers to numbers
@@ -23,10 +23,9 @@ abbrev pub HasNextCentres : Line → List (Option ℕ) → Type 0
 HasNextCentres line nexts = (c k : ℕ) → c < 8 → k < 4 → slice_get nexts (c * 4 + k) ≡ Some (next_centre line c k)
 
 -- all rules of a line, and the tables agree with it
-pub record IsTabled (line : Line) (rows : List SectionRow) (by_group by_engine : Numbers) (pairs : List Bool) (followers : List (Option ℕ)) : Type 0 where
+pub record IsTabled (line : Line) (rows : List SectionRow) (by_group : Numbers) (pairs : List Bool) (followers : List (Option ℕ)) : Type 0 where
   pub rules : IsLine line
   pub starts : HasStarts line rows
   pub groups : (q : ℕ) → get nat_eq by_group q ≡ section_of_group line q
-  pub engines : (q : ℕ) → get nat_eq by_engine q ≡ train_number line q
   pub links : HasLinks line pairs
   pub nexts : HasNextCentres line followers

@@ -3,8 +3,11 @@ ghost use Rattle.std.specs.Str.{bytes_eq};
 ghost use Rattle.rbc_spec.specs.Line.{IsLine, is_home, section_of_group, train_number, registrar, is_linked, next_centre};
 ghost use Rattle.rbc_line.specs.Views.{placed_section, listed_train};
 
+use crate::guesses::Guesses;
 use crate::parts::{Rows, Section, Train};
-use crate::tables::{engines_of, groups_of, links_of, next_centres_of};
+use crate::tables::{
+    engine_guesses_of, group_guesses_of, groups_of, links_of, next_centres_of, nid_lrbg_of,
+};
 use std::alloc::{AllocError, Global};
 use std::collections::HashMap;
 use std::marker::Model;
@@ -14,7 +17,8 @@ use std::marker::Model;
 pub struct Line {
     rows: Rows,
     groups: HashMap<u32, u16>,
-    engines: HashMap<u32, u8>,
+    group_guesses: Guesses,
+    engine_guesses: Guesses,
     links: [bool; 64],
     next_centres: [Option<u8>; 32],
 }
@@ -28,7 +32,7 @@ impl Model for Line {
 
     ghost view = { λ l. line_of_rows l.rows };
 
-    ghost invariant = { λ l. IsTabled (line_of_rows l.rows) l.rows.sections.items l.groups l.engines l.links l.next_centres };
+    ghost invariant = { λ l. IsTabled (line_of_rows l.rows) l.rows.sections.items l.groups l.links l.next_centres };
 }
 
 impl Line {
@@ -42,13 +46,15 @@ impl Line {
         ensures { IfOk result (λ line. line ≡ line_of_rows rows) }
     {
         let groups = groups_of(alloc, rows.nid_c, &rows.sections)?;
-        let engines = engines_of(alloc, &rows.trains)?;
+        let group_guesses = group_guesses_of(alloc, &rows.sections)?;
+        let engine_guesses = engine_guesses_of(alloc, &rows.trains)?;
         let links = links_of(&rows);
         let next_centres = next_centres_of(&rows);
         Ok(Line {
             rows,
             groups,
-            engines,
+            group_guesses,
+            engine_guesses,
             links,
             next_centres,
         })
@@ -168,19 +174,55 @@ impl Line {
     }
 
     /// The section whose balise group has this NID_LRBG.
+    #[inline(always)]
     pub fn section_of_group(&self, nid_lrbg: u32) -> Option<u16>
         ensures value { result ≡ section_of_group self.now nid_lrbg }
         ensures bound { IfSome result (λ s. s < length self.now.sections) }
+    {
+        let guess = self.group_guesses.of(nid_lrbg);
+        match self.rows.sections.get(guess as usize) {
+            Some(section) if nid_lrbg_of(self.rows.nid_c, section.balise) == nid_lrbg => Some(
+                guess,
+            ),
+            _ => self.mapped_section(nid_lrbg),
+        }
+    }
+
+    /// The section whose balise group has this NID_LRBG, where the guess is none.
+    #[inline(never)]
+    fn mapped_section(&self, nid_lrbg: u32) -> Option<u16>
+        ensures { result ≡ section_of_group self.now nid_lrbg }
     {
         self.groups.get(&nid_lrbg).copied()
     }
 
     /// The place of a train in the line file, from 0; none for a foreign engine.
+    #[inline(always)]
     pub fn train_number(&self, nid_engine: u32) -> Option<u8>
         ensures value { result ≡ train_number self.now nid_engine }
         ensures bound { IfSome result (λ i. i < length self.now.trains) }
     {
-        self.engines.get(&nid_engine).copied()
+        let guess = self.engine_guesses.of(nid_engine);
+        match self.rows.trains.get(guess as usize) {
+            Some(train) if train.nid_engine == nid_engine => Some(guess as u8),
+            _ => self.listed_number(nid_engine),
+        }
+    }
+
+    /// The place of a train in the line file, where the guess is none.
+    #[inline(never)]
+    fn listed_number(&self, nid_engine: u32) -> Option<u8>
+        ensures { result ≡ train_number self.now nid_engine }
+    {
+        match self
+            .rows
+            .trains
+            .iter()
+            .position(|train| train.nid_engine == nid_engine)
+        {
+            Some(i) => Some(i as u8),
+            None => None,
+        }
     }
 
     /// The train at this place of the line file.

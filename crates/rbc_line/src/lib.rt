@@ -8,6 +8,7 @@ mod document;
 mod draft;
 mod fault;
 mod faults;
+mod guesses;
 mod homes;
 mod layout;
 pub mod limits;

@@ -6,9 +6,18 @@ ghost use Rattle.rbc_spec.specs.Line.{AreDistinct, is_border, is_registrar, is_l
 ghost use Rattle.rbc_line.specs.Tables.{HasLinks, HasNextCentres};
 ghost use Rattle.rbc_line.specs.Views.{line_of_rows};
 
+use crate::guesses::Guesses;
 use crate::parts::{Rows, Section, Train};
 use std::alloc::{AllocError, Global};
 use std::collections::HashMap;
+
+/// The NID_LRBG of a balise group: NID_C and NID_BG together (SUBSET-026 7.5).
+#[inline(always)]
+pub(crate) fn nid_lrbg_of(nid_c: u16, nid_bg: u16) -> u32
+    ensures { result ≡ nid_c * 16384 + nid_bg }
+{
+    u32::from(nid_c) * 16384 + u32::from(nid_bg)
+}
 
 /// The section of each balise group, by NID_LRBG.
 pub(crate) fn groups_of(
@@ -25,24 +34,31 @@ pub(crate) fn groups_of(
 {
     let mut groups = HashMap::new(alloc);
     for (s, section) in sections.iter().enumerate() {
-        let nid_lrbg = u32::from(nid_c) * 16384 + u32::from(section.balise);
-        groups.insert(nid_lrbg, s as u16)?;
+        groups.insert(nid_lrbg_of(nid_c, section.balise), s as u16)?;
     }
     Ok(groups)
 }
 
-/// The place of each train, by NID_ENGINE.
-pub(crate) fn engines_of(alloc: Global, trains: &[Train]) -> Result<HashMap<u32, u8>, AllocError>
-    requires few { length trains.now ≤ 64 }
-    requires apart { AreDistinct (λ p. p.nid_engine) trains.now }
-    ensures { IfOk result
-        (λ m. (q : ℕ) → get nat_eq m q ≡ position (λ p. p.nid_engine == q) trains.now) }
+/// Where the section of each balise group may stand, by NID_BG.
+pub(crate) fn group_guesses_of(alloc: Global, sections: &[Section]) -> Result<Guesses, AllocError>
+    requires few { length sections.now ≤ 512 }
 {
-    let mut engines = HashMap::new(alloc);
-    for (i, train) in trains.iter().enumerate() {
-        engines.insert(train.nid_engine, i as u8)?;
+    let mut guesses = Guesses::new(alloc)?;
+    for (s, section) in sections.iter().enumerate() {
+        guesses.note(u32::from(section.balise), s as u16);
     }
-    Ok(engines)
+    Ok(guesses)
+}
+
+/// Where each train may stand, by NID_ENGINE.
+pub(crate) fn engine_guesses_of(alloc: Global, trains: &[Train]) -> Result<Guesses, AllocError>
+    requires few { length trains.now ≤ 64 }
+{
+    let mut guesses = Guesses::new(alloc)?;
+    for (i, train) in trains.iter().enumerate() {
+        guesses.note(train.nid_engine, i as u16);
+    }
+    Ok(guesses)
 }
 
 /// Whether a section of home b follows one of home a on a track.

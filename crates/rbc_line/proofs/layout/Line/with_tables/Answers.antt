@@ -1,5 +1,5 @@
 use Rattle.std.proofs.Common.{◌==◌, ◌+◌, ◌*◌, sym, ◌∙◌}
-use Rattle.rbc_line.specs.Views.{section_of, train_of, line_of_rows}
+use Rattle.rbc_line.specs.Views.{section_of, line_of_rows}
 use Rattle.rbc_line.proofs.Lists.{All-unmap, AreDistinct-unmap, position-map}
 use Rattle.rbc_line.proofs.Rows.{InRange}
 use Rattle.rbc_line.proofs.layout.Line.with_tables.Goals as goal
@@ -12,16 +12,11 @@ pub groups_of-requires-clause-apart : goal.groups_of-requires-clause-apart
 groups_of-requires-clause-apart c =
     rw c.deref.ensures.value (AreDistinct-unmap (λ p. p.balise) section_of c.args.rows.sections.items c.requires.line.distinct.balises)
 
-pub engines_of-requires-clause-apart : goal.engines_of-requires-clause-apart
-engines_of-requires-clause-apart c =
-    rw c.deref-2.ensures.value (AreDistinct-unmap (λ p. p.nid_engine) train_of c.args.rows.trains.items c.requires.line.distinct.engines)
-
 pub invariant_of-result : goal.invariant_of-result
 invariant_of-result c = record {
   rules = c.requires.line;
   starts = c.requires.starts;
   groups = λ q. (rw c.deref.ensures.value at c.in_ok-groups.ensures) q ∙ sym (position-map (λ p. c.args.rows.nid_c * 16384 + p.balise == q) section_of c.args.rows.sections.items);
-  engines = λ q. (rw c.deref-2.ensures.value at c.in_ok-engines.ensures) q ∙ sym (position-map (λ p. p.nid_engine == q) train_of c.args.rows.trains.items);
   links = c.links_of-links.ensures;
   nexts = c.next_centres_of-next_centres.ensures;
 }

@@ -1,0 +1,50 @@
+ghost use Rattle.std.specs.Prelude.{◌≡◌, ◌%◌, IfOk, replicate, get_or, set};
+
+use std::alloc::{AllocError, Global};
+use std::marker::Model;
+
+/// How many guesses there are: as many numbers that follow each other have each one of their own.
+const ROOM: usize = 1024;
+
+/// For each remainder of a number, the row where a number of that remainder may stand. A guess promises nothing: whoever takes it looks
+/// whether it is the row.
+#[derive(Drop)]
+pub(crate) struct Guesses {
+    rows: Vec<u16>,
+}
+
+impl Model for Guesses {
+    ghost use Rattle.std.specs.Prelude.{◌≡◌, ℕ, List, length};
+
+    ghost Value = { List ℕ };
+
+    ghost view = { λ g. g.rows.items };
+
+    ghost invariant = { λ g. length g.rows.items ≡ 1024 };
+}
+
+impl Guesses {
+    /// Every number may stand in the first row.
+    pub(crate) fn new(alloc: Global) -> Result<Guesses, AllocError>
+        ensures { IfOk result (λ guesses. guesses ≡ replicate 1024 0) }
+    {
+        Ok(Guesses {
+            rows: vec![in alloc; 0u16; ROOM]?,
+        })
+    }
+
+    /// The number stands in this row.
+    pub(crate) fn note(&mut self, number: u32, row: u16)
+        ensures { self.new ≡ set self.old (number % 1024) row }
+    {
+        self.rows[number as usize % ROOM] = row;
+    }
+
+    /// The row where the number may stand.
+    #[inline(always)]
+    pub(crate) fn of(&self, number: u32) -> u16
+        ensures { result ≡ get_or self.now (number % 1024) 0 }
+    {
+        self.rows[number as usize % ROOM]
+    }
+}
