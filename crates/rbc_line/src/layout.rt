@@ -36,7 +36,7 @@ impl Model for Line {
 }
 
 impl Line {
-    ghost use Rattle.rbc_line.specs.Tables.{HasStarts};
+    ghost use Rattle.rbc_line.specs.Tables.{HasStarts, HasLinks, HasNextCentres};
     ghost use Rattle.rbc_line.specs.Views.{line_of_rows};
 
     /// The line of these rows, with its look-up tables.
@@ -45,11 +45,27 @@ impl Line {
         requires starts { HasStarts (line_of_rows rows) rows.sections.items }
         ensures { IfOk result (λ line. line ≡ line_of_rows rows) }
     {
+        let links = links_of(&rows);
+        let next_centres = next_centres_of(&rows);
+        Line::with_centre_tables(alloc, rows, links, next_centres)
+    }
+
+    /// The line of these rows, where the tables of its centres are made.
+    fn with_centre_tables(
+        alloc: Global,
+        rows: Rows,
+        links: [bool; 64],
+        next_centres: [Option<u8>; 32],
+    ) -> Result<Line, AllocError>
+        requires line { IsLine (line_of_rows rows) }
+        requires starts { HasStarts (line_of_rows rows) rows.sections.items }
+        requires links { HasLinks (line_of_rows rows) links }
+        requires nexts { HasNextCentres (line_of_rows rows) next_centres }
+        ensures { IfOk result (λ line. line ≡ line_of_rows rows) }
+    {
         let groups = groups_of(alloc, rows.nid_c, &rows.sections)?;
         let group_guesses = group_guesses_of(alloc, &rows.sections)?;
         let engine_guesses = engine_guesses_of(alloc, &rows.trains)?;
-        let links = links_of(&rows);
-        let next_centres = next_centres_of(&rows);
         Ok(Line {
             rows,
             groups,
@@ -65,7 +81,8 @@ impl Line {
         ensures value { IfOk result (λ line. line ≡ self.now) }
         ensures line { IfOk result IsLine }
     {
-        Line::with_tables(alloc, self.rows.copied(alloc)?)
+        let rows = self.rows.copied(alloc)?;
+        Line::with_centre_tables(alloc, rows, self.links, self.next_centres)
     }
 
     /// The country or region that the line's balise groups belong to (NID_C).
@@ -179,11 +196,10 @@ impl Line {
         ensures value { result ≡ section_of_group self.now nid_lrbg }
         ensures bound { IfSome result (λ s. s < length self.now.sections) }
     {
+        let nid_c = self.rows.nid_c;
         let guess = self.group_guesses.of(nid_lrbg);
         match self.rows.sections.get(guess as usize) {
-            Some(section) if nid_lrbg_of(self.rows.nid_c, section.balise) == nid_lrbg => Some(
-                guess,
-            ),
+            Some(section) if nid_lrbg_of(nid_c, section.balise) == nid_lrbg => Some(guess),
             _ => self.mapped_section(nid_lrbg),
         }
     }

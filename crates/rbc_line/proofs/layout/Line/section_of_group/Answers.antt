@@ -1,4 +1,4 @@
-use Rattle.std.proofs.Common.{◌≡◌, Some, refl, ap, sym, ◌∙◌}
+use Rattle.std.proofs.Common.{◌≡◌, ◌+◌, ◌*◌, Some, refl, ap, sym, ◌∙◌, arith}
 use Rattle.std.specs.List.{slice_get}
 use Rattle.std.proofs.lemmas.Option.{slice_get_read}
 use Rattle.rbc_spec.specs.Line.{section_of_group}
@@ -10,5 +10,6 @@ returns-in-Some-clause-value c =
     let row = c.in-Some.ensures.lookup in
     let at : slice_get c.self.inside.rows.sections.items c.of-guess.result ≡ Some c.in-Some.section.now =
     ap (λ rows. slice_get rows c.of-guess.result) (sym c.deref.ensures.value) ∙ slice_get_read c.deref.result.now _ c.of-guess.result _ refl row.3.0 row.1 in
-    section_of_group-at _ c.self.inside.rows.sections.items c.of-guess.result c.args.nid_lrbg c.in-Some.section.now c.self.invariant.rules refl at (sym c.nid_lrbg_of.ensures ∙ c.if-nid_lrbg_of-nid_lrbg.true)
+    let group : c.self.inside.rows.nid_c * 16384 + c.in-Some.section.now.balise ≡ c.args.nid_lrbg = omega arith in
+    section_of_group-at _ c.self.inside.rows.sections.items c.of-guess.result c.args.nid_lrbg c.in-Some.section.now c.self.invariant.rules refl at group
     ∙ ap (λ line. section_of_group line c.args.nid_lrbg) c.self.view_is

@@ -2,7 +2,7 @@ use Rattle.std.proofs.Common.{◌==◌, ◌+◌, ◌*◌, sym, ◌∙◌}
 use Rattle.rbc_line.specs.Views.{section_of, line_of_rows}
 use Rattle.rbc_line.proofs.Lists.{All-unmap, AreDistinct-unmap, position-map}
 use Rattle.rbc_line.proofs.Rows.{InRange}
-use Rattle.rbc_line.proofs.layout.Line.with_tables.Goals as goal
+use Rattle.rbc_line.proofs.layout.Line.with_centre_tables.Goals as goal
 
 pub groups_of-requires-clause-range : goal.groups_of-requires-clause-range
 groups_of-requires-clause-range c =
@@ -17,6 +17,6 @@ invariant_of-result c = record {
   rules = c.requires.line;
   starts = c.requires.starts;
   groups = λ q. (rw c.deref.ensures.value at c.in_ok-groups.ensures) q ∙ sym (position-map (λ p. c.args.rows.nid_c * 16384 + p.balise == q) section_of c.args.rows.sections.items);
-  links = c.links_of-links.ensures;
-  nexts = c.next_centres_of-next_centres.ensures;
+  links = c.requires.links;
+  nexts = c.requires.nexts;
 }
