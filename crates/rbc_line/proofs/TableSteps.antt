@@ -1,15 +1,15 @@
 -- The look-up tables, one entry at a time.
-use Rattle.std.proofs.Common.{◌≡◌, ℕ, suc, inl, inr, ◌+◌, ◌<◌, ◌==◌, ◌≢◌, Bool, true, false, not, cond, ◌&&◌, ◌||◌, ltb, nat_eq, List, length, get_or, take, drop, Option, Some, None, option_map, refl, ap, sym, ◌∙◌, arith}
+use Rattle.std.proofs.Common.{◌≡◌, ℕ, suc, inl, inr, ◌+◌, ◌%◌, ◌<◌, ◌==◌, ◌≢◌, Bool, true, false, not, cond, ◌&&◌, ◌||◌, ltb, nat_eq, List, length, get_or, set, take, drop, Option, Some, None, option_map, refl, ap, sym, ◌∙◌, arith, length-set, get_or-set_other, get_or-set_same}
 use Rattle.std.specs.List.{position, find, list_any, slice_get, zip}
 use Rattle.std.specs.HashMap.{get, Updates}
 use Rattle.std.proofs.lemmas.Bool.{cases_Bool}
 use Rattle.std.proofs.lemmas.Bool.Decides.{nat_tests}
 use Rattle.std.proofs.lemmas.List.{drop-map}
-use Rattle.std.proofs.lemmas.Option.{slice_get-get_or}
+use Rattle.std.proofs.lemmas.Option.{slice_get-get_or, same_Some}
 use Rattle.rbc_spec.specs.Line.{AreDistinct, Line, Section, is_border, is_registrar, is_linked, next_centre}
 use Rattle.rbc_line.specs.declared.parts.Rows.{Rows}
 use Rattle.rbc_line.specs.declared.parts.Section.{Section as SectionRow}
-use Rattle.rbc_line.specs.Tables.{Numbers}
+use Rattle.rbc_line.specs.Tables.{Numbers, HasGuessesOf}
 use Rattle.rbc_line.specs.Views.{section_of, train_of, line_of_rows}
 use Rattle.rbc_line.proofs.Lists.{slice_get_take, position_at, position_more, position_none, zip-map, list_any-map, find-map}
 
@@ -43,6 +43,29 @@ key_more key xs i d m n apart within before put q =
     ∙ ap (cond (key (get_or xs i d) == q) (Some i)) (before q)
     ∙ position_more (λ p. key p == q) xs i (get_or xs i d) at (none_before key xs i (get_or xs i d) q apart at)
     ∙ ap (λ k. position (λ p. key p == q) (take k xs)) next
+
+-- one more guess
+pub guess_more : {X : Type 0} (key : X → ℕ) (xs : List X) (i : ℕ) (d : X) (guesses : List ℕ) → length guesses ≡ 1024 → i < length xs → HasGuessesOf i key xs guesses
+    → (length (set guesses (key (get_or xs i d) % 1024) i) ≡ 1024) × HasGuessesOf (i + 1) key xs (set guesses (key (get_or xs i d) % 1024) i)
+guess_more {X} key xs i d guesses len within before =
+    let here : slice_get xs i ≡ Some (get_or xs i d) = slice_get-get_or xs i d within in
+    let room : key (get_or xs i d) % 1024 < length guesses = omega arith in (
+      length-set guesses (key (get_or xs i d) % 1024) i ∙ len,
+      λ j x lt at alone.
+          elim (cases_Bool (key (get_or xs i d) % 1024 == key x % 1024)) [
+            | inl same ↦
+                let equal : key (get_or xs i d) % 1024 ≡ key x % 1024 = grind (arith, nat_tests) in
+                let own : i ≡ j = alone i (get_or xs i d) (omega arith) here equal in
+                rw (← equal) (rw get_or-set_same own)
+            | inr other ↦
+                let differ : key x % 1024 ≢ key (get_or xs i d) % 1024 = λ equal. absurd (grind (arith, nat_tests)) in
+                let earlier : j < i = elim (cases_Bool (j == i)) [
+                  | inl equal ↦ absurd (let place : j ≡ i = grind (arith, nat_tests) in differ (ap (λ y. key y % 1024) (same_Some x (get_or xs i d) (sym at ∙ ap (slice_get xs) place ∙ here))))
+                  | inr apart ↦ grind (arith, nat_tests)
+                ] in
+                rw get_or-set_other (before j x earlier at (λ k y less found keys. alone k y (omega arith) found keys))
+          ],
+    )
 
 -- two rows as the sections that they stand for
 abbrev pair_of : SectionRow × SectionRow → Section × Section

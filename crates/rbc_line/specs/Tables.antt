@@ -1,5 +1,5 @@
 -- The look-up tables that stand beside a line.
-use Rattle.std.specs.Prelude.{◌≡◌, ℕ, ◌+◌, ◌*◌, ◌<◌, Bool, List, Option, Some, slice_get, nat_eq}
+use Rattle.std.specs.Prelude.{◌≡◌, ℕ, ◌+◌, ◌*◌, ◌%◌, ◌<◌, Bool, List, get_or, Option, Some, slice_get, nat_eq}
 use Rattle.std.specs.HashMap.{HashMap, get}
 use Rattle.std.specs.declared.hash.FoldHasher.{FoldHasher}
 use Rattle.std.specs.declared.hash.BuildHasherDefault.{BuildHasherDefault}
@@ -21,6 +21,12 @@ HasLinks line links = (a b : ℕ) → a < 8 → b < 8 → slice_get links (a * 8
 -- for each centre and track the centre that follows
 abbrev pub HasNextCentres : Line → List (Option ℕ) → Type 0
 HasNextCentres line nexts = (c k : ℕ) → c < 8 → k < 4 → slice_get nexts (c * 4 + k) ≡ Some (next_centre line c k)
+
+-- of the first n elements, each whose number shares its remainder with none of them is guessed
+abbrev pub HasGuessesOf : {X : Type 0} → ℕ → (X → ℕ) → List X → List ℕ → Type 0
+HasGuessesOf {X} n key xs guesses =
+    (i : ℕ) (x : X) → i < n → slice_get xs i ≡ Some x → ((j : ℕ) (y : X) → j < n → slice_get xs j ≡ Some y → key y % 1024 ≡ key x % 1024 → j ≡ i)
+    → get_or guesses (key x % 1024) 0 ≡ i
 
 -- all rules of a line, and the tables agree with it
 pub record IsTabled (line : Line) (rows : List SectionRow) (by_group : Numbers) (pairs : List Bool) (followers : List (Option ℕ)) : Type 0 where

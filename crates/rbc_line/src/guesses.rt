@@ -3,11 +3,11 @@ ghost use Rattle.std.specs.Prelude.{◌≡◌, ◌%◌, IfOk, replicate, get_or,
 use std::alloc::{AllocError, Global};
 use std::marker::Model;
 
-/// How many guesses there are: as many numbers that follow each other have each one of their own.
+/// How many guesses there are. So many numbers in a row have one each.
 const ROOM: usize = 1024;
 
-/// For each remainder of a number, the row where a number of that remainder may stand. A guess promises nothing: whoever takes it looks
-/// whether it is the row.
+/// For each remainder of a number, the row where a number of that remainder may stand. It is a guess: whoever takes it looks whether the
+/// number is that of the row.
 #[derive(Drop)]
 pub(crate) struct Guesses {
     rows: Vec<u16>,

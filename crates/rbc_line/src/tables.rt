@@ -3,7 +3,7 @@ ghost use Rattle.std.specs.Prelude.{◌≡◌, ℕ, ◌+◌, ◌*◌, ◌<◌, �
 ghost use Rattle.std.specs.List.{list_any, zip, All};
 ghost use Rattle.std.specs.HashMap.{get};
 ghost use Rattle.rbc_spec.specs.Line.{AreDistinct, is_border, is_registrar, is_linked, next_centre};
-ghost use Rattle.rbc_line.specs.Tables.{HasLinks, HasNextCentres};
+ghost use Rattle.rbc_line.specs.Tables.{HasGuessesOf, HasLinks, HasNextCentres};
 ghost use Rattle.rbc_line.specs.Views.{line_of_rows};
 
 use crate::guesses::Guesses;
@@ -39,9 +39,10 @@ pub(crate) fn groups_of(
     Ok(groups)
 }
 
-/// Where the section of each balise group may stand, by NID_BG.
+/// A guess of the section of each balise group, by NID_BG: it is right where no other group has the same remainder.
 pub(crate) fn group_guesses_of(alloc: Global, sections: &[Section]) -> Result<Guesses, AllocError>
     requires few { length sections.now ≤ 512 }
+    ensures { IfOk result (λ g. HasGuessesOf (length sections.now) (λ p. p.balise) sections.now g) }
 {
     let mut guesses = Guesses::new(alloc)?;
     for (s, section) in sections.iter().enumerate() {
@@ -50,9 +51,10 @@ pub(crate) fn group_guesses_of(alloc: Global, sections: &[Section]) -> Result<Gu
     Ok(guesses)
 }
 
-/// Where each train may stand, by NID_ENGINE.
+/// A guess of the place of each train, by NID_ENGINE: it is right where no other train has the same remainder.
 pub(crate) fn engine_guesses_of(alloc: Global, trains: &[Train]) -> Result<Guesses, AllocError>
     requires few { length trains.now ≤ 64 }
+    ensures { IfOk result (λ g. HasGuessesOf (length trains.now) (λ p. p.nid_engine) trains.now g) }
 {
     let mut guesses = Guesses::new(alloc)?;
     for (i, train) in trains.iter().enumerate() {
