@@ -196,10 +196,10 @@ impl Line {
         ensures value { result ≡ section_of_group self.now nid_lrbg }
         ensures bound { IfSome result (λ s. s < length self.now.sections) }
     {
-        let nid_c = self.rows.nid_c;
+        let rows = &self.rows;
         let guess = self.group_guesses.of(nid_lrbg);
-        match self.rows.sections.get(guess as usize) {
-            Some(section) if nid_lrbg_of(nid_c, section.balise) == nid_lrbg => Some(guess),
+        match rows.sections.get(guess as usize) {
+            Some(section) if nid_lrbg_of(rows.nid_c, section.balise) == nid_lrbg => Some(guess),
             _ => self.mapped_section(nid_lrbg),
         }
     }
