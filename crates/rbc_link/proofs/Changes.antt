@@ -14,7 +14,7 @@ use Rattle.rbc_link.specs.Links.{has_link, taken_from, sent_to, room_to}
 
 -- ## One item of a list is another
 
-get-set_same : {X : Type 0} (xs : List X) (i : ℕ) (x : X) → i < length xs → slice_get (set xs i x) i ≡ Some x
+pub get-set_same : {X : Type 0} (xs : List X) (i : ℕ) (x : X) → i < length xs → slice_get (set xs i x) i ≡ Some x
 get-set_same [] i x h = absurd (let no : ⊥ = omega arith in no)
 get-set_same (y ∷ ys) zero x h = refl
 get-set_same (y ∷ ys) (suc i) x h = get-set_same ys i x (omega arith)

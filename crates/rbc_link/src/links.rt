@@ -1,4 +1,4 @@
-ghost use Rattle.std.specs.Prelude.{◌≡◌, ℕ, ◌+◌, ◌≤◌, ◌<◌, ◌==◌, ◌&&◌, true, if◌then◌else◌, [], ◌∷◌, ◌++◌, length, nat_lt, option_copied, IfOk, OnOk, IsOk};
+ghost use Rattle.std.specs.Prelude.{◌≡◌, ℕ, ◌+◌, ◌≤◌, ◌<◌, ◌==◌, ◌&&◌, true, if◌then◌else◌, [], ◌∷◌, ◌++◌, length, nat_lt, option_copied, IfOk, OnOk, IsOk, IsTrue};
 ghost use Rattle.std.specs.List.{list_any, range_with_len};
 ghost use Rattle.rbc_spec.specs.Frame as spec;
 ghost use Rattle.rbc_spec.specs.Line.{is_linked};
@@ -21,7 +21,7 @@ use std::marker::Model;
 pub struct Links<B> {
     /// Of each centre of the line, itself too.
     links: Vec<Link<B>>,
-    /// It is known that no link is full and that each has room for the frames of a step. Nothing came or went since that was looked at.
+    /// It is known that no link is full and that each has room for the frames of a step.
     is_ready: bool,
 }
 
@@ -119,7 +119,6 @@ impl<B> Links<B> {
         if !self.has(from) {
             return None;
         }
-        self.is_ready = false;
         Some(self.links[from as usize].offer(number))
     }
 
@@ -164,6 +163,7 @@ impl<B> Links<B> {
 
     /// Sends a centre a frame with this body and the stamp of the step: its number is the next of the link. There is room for it, and
     /// a number.
+    #[inline(never)]
     pub fn post(&mut self, to: u8, stamp: u32, body: B) -> u32
         requires linked { has_link self.old to ≡ true }
         requires room { 0 < room_to self.old to }
@@ -177,8 +177,9 @@ impl<B> Links<B> {
             ≡ frames_by meaning (sent_to self.old d) ++ numbered stamp (length (sent_to self.old d)) (if d == to then meaning body ∷ [] else []) }
         ensures room { (d : ℕ) → room_to self.old d ≡ room_to self.new d + (if d == to then 1 else 0) }
     {
-        self.is_ready = false;
-        self.links[to as usize].send(stamp, body)
+        let number = self.links[to as usize].send(stamp, body);
+        self.is_ready = self.is_ready && is_ready(&self.links[to as usize]);
+        number
     }
 }
 
@@ -195,6 +196,14 @@ fn is_some_full<B>(links: &[Link<B>]) -> bool
     links
         .iter()
         .any(|link| link.is_linked && link.outbox.is_full(NUMBERS_LEFT))
+}
+
+// Whether a link has room and numbers for the frames of a step.
+fn is_ready<B>(link: &Link<B>) -> bool
+    ensures room { IsTrue result → 4 ≤ link.now.outbox.room }
+    ensures numbers { IsTrue result → length link.now.outbox.frames ≤ 65532 }
+{
+    link.outbox.has_room(FRAMES_TO_ONE) && !link.outbox.is_full(NUMBERS_LEFT)
 }
 
 // Makes room on each link.

@@ -1,4 +1,4 @@
-ghost use Rattle.std.specs.Prelude.{◌≡◌, ◌+◌, ◌≤◌, ◌<◌, length, nat_lt, option_copied, [], ◌∷◌, ◌++◌, OnOk, IsOk};
+ghost use Rattle.std.specs.Prelude.{◌≡◌, ◌+◌, ◌≤◌, ◌<◌, length, nat_lt, option_copied, [], ◌∷◌, ◌++◌, OnOk, IsOk, IsTrue};
 ghost use Rattle.rbc_spec.specs.Frame as spec;
 ghost use Rattle.rbc_link.specs.Outgoing as outgoing;
 
@@ -63,6 +63,13 @@ impl<B> Outbox<B> {
         ensures { result ≡ nat_lt 65536 (length self.now.frames + count) }
     {
         self.count() + count > MOST_FRAMES as u32
+    }
+
+    // Whether there is room for so many frames more.
+    pub(crate) fn has_room(&self, count: usize) -> bool
+        ensures { IsTrue result → count ≤ self.now.room }
+    {
+        count <= self.frames.capacity() - self.frames.len()
     }
 
     /// Makes room for so many frames more, so that sending them takes no memory. Where that is refused, the room stays as it was.

@@ -5,6 +5,7 @@ use Rattle.rbc_link.specs.declared.link.Link.{Link}
 use Rattle.rbc_link.specs.Inbox.{taken_after}
 use Rattle.rbc_link.specs.Links.{has_link, taken_from}
 use Rattle.rbc_link.proofs.Changes.{linked_within, taken_is, linked_same, taken_put, sent_same, room_same}
+use Rattle.rbc_link.proofs.Ready.{ready_same}
 use Rattle.rbc_link.proofs.links.Links.offer.Goals as goal
 
 pub index_mut-requires : goal.index_mut-requires
@@ -49,3 +50,10 @@ returns-clause-room g c =
     let within : c.args.from < length c.self.inside.links.items = linked_within c.self.inside.links.items c.args.from (rw c.self.view_is (sym c.has.ensures ∙ c.if-not-has.false)) in
     let at : slice_get c.self.inside.links.items c.args.from ≡ Some c.index_mut.result.now = slice_get_read _ _ _ _ refl within c.index_mut.ensures.value in
     rw (← c.self.view_is) (room_same c.self.inside.links.items c.args.from c.index_mut.result.now c.offer.new.self within at (ap (λ (l : Link g.row.B.Denot). l.outbox.room) c.offer.ensures.link))
+
+pub invariant_of-self : goal.invariant_of-self
+invariant_of-self g c is =
+    let within : c.args.from < length c.self.inside.links.items = linked_within c.self.inside.links.items c.args.from (rw c.self.view_is (sym c.has.ensures ∙ c.if-not-has.false)) in
+    let at : slice_get c.self.inside.links.items c.args.from ≡ Some c.index_mut.result.now = slice_get_read _ _ _ _ refl within c.index_mut.ensures.value in
+    ready_same c.self.inside.links.items c.args.from c.index_mut.result.now c.offer.new.self within at
+    (ap (λ (l : Link g.row.B.Denot). l.is_linked) c.offer.ensures.link) (ap (λ (l : Link g.row.B.Denot). l.outbox) c.offer.ensures.link) (c.self.invariant is)
