@@ -45,6 +45,7 @@ pub fn place_on(line: &Line, track: u8, position: &Position) -> Option<Place>
 }
 
 /// Whether a report places its train, where its group is of the line.
+#[inline(always)]
 fn has_place(position: &Position) -> bool
     ensures { result ≡ spec.has_place (position_of position.now) }
 {
@@ -57,6 +58,7 @@ fn has_place(position: &Position) -> bool
         && location.l_doubtunder.value() < UNKNOWN
 }
 
+#[inline(always)]
 fn is_nominal(direction: Direction) -> bool
     ensures { result ≡ message.is_nominal direction }
 {
@@ -64,6 +66,7 @@ fn is_nominal(direction: Direction) -> bool
 }
 
 /// The unit of a report's distances, in decimetres.
+#[inline(always)]
 fn unit(scale: QScale) -> u32
     ensures value { result ≡ decimetres scale }
     ensures bound { result ≤ 100 }
@@ -76,6 +79,7 @@ fn unit(scale: QScale) -> u32
 }
 
 /// The length of a train whose integrity is confirmed, in metres.
+#[inline(always)]
 fn confirmed_metres(length: TrainLength) -> Option<u32>
     ensures value { result ≡ confirmed_length length }
     ensures bound { IfSome result (λ l. l < 32768) }
@@ -89,6 +93,7 @@ fn confirmed_metres(length: TrainLength) -> Option<u32>
 }
 
 /// The place behind a group at the start of a section.
+#[inline(always)]
 fn place_behind(section: Section, position: &Position) -> Place
     requires { section.start + section.metres ≤ 1024000 }
     ensures value { place_of result ≡ place_from section.track section.start (position_of position.now) }
@@ -110,6 +115,7 @@ fn place_behind(section: Section, position: &Position) -> Place
 }
 
 /// The safe rear end of a train with this estimated front end, whose front may be so far behind it.
+#[inline(always)]
 fn rear_end(front: u32, doubt: u32, length: TrainLength) -> Option<i32>
     requires front { front ≤ 20000000 }
     requires doubt { doubt ≤ 4000000 }
