@@ -25,6 +25,7 @@ impl Model for Told {
 
 impl Told {
     /// No section.
+    #[inline(always)]
     #[tactic(auto, unfolding(crate::specs::Marks::marked))]
     pub fn nothing() -> Told
         ensures { result ≡ [] }
@@ -37,6 +38,7 @@ impl Told {
     }
 
     /// The marked ones of so many sections from the first on: the lowest bit is the last section's.
+    #[inline(always)]
     pub fn of(first: u16, count: u16, marks: u64) -> Told
         requires few { count ≤ 64 }
         requires numbers { first + count ≤ 65535 }
@@ -51,6 +53,7 @@ impl Told {
     }
 
     /// A copy.
+    #[inline(always)]
     pub fn copied(&self) -> Told
         ensures { result ≡ self.now }
     {

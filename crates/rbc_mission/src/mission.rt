@@ -132,6 +132,7 @@ impl Supervision {
 
     /// The train is at this place, and so many of its first sections leave. Where no section is left the mission closes, its pool
     /// leaves too, and its handover is cancelled.
+    #[inline(always)]
     pub fn clear_front(&mut self, place: Place, count: u16, book: &mut Book) -> Released
         requires some { count ≤ (hand_of self.old).count }
         requires held { IsHeldBy self.old.engine self.old.hand book.old }

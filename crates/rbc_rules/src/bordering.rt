@@ -44,6 +44,7 @@ pub(crate) struct Bordering {
 impl TrainState {
     /// A handover to the next centre on the track is announced, where the hand has a section of its home and none stands: the train is told
     /// where the border is. Then that centre is asked for the sections behind the hand, where they are due.
+    #[inline(always)]
     pub(crate) fn at_border(
         &mut self,
         line: &Line,
@@ -80,6 +81,7 @@ impl TrainState {
     }
 
     // A handover to this centre is announced, where that is due.
+    #[inline(never)]
     fn announce(
         &mut self,
         line: &Line,
@@ -114,6 +116,7 @@ impl TrainState {
     }
 
     // The next centre is asked for the sections behind the hand, where they are due.
+    #[inline(never)]
     fn ask_route(&mut self, line: &Line, next: u8) -> Option<Letter>
         ensures exact { (k : spec.Centre) → HasSupervision k self.old.supervision
             → rules.ask_route_if_due line.now self.old.supervision.engine next k

@@ -23,6 +23,7 @@ pub struct Heard {
 
 impl Heard {
     /// Nothing is said.
+    #[inline(always)]
     pub fn nothing() -> Heard
         ensures { result ≡ record { saying = None; order = None; mail = mail_of None; told = [] } }
     {
@@ -30,6 +31,7 @@ impl Heard {
     }
 
     /// The train is answered.
+    #[inline(always)]
     pub(crate) fn said(saying: Saying) -> Heard
         ensures { result ≡ record { saying = Some saying; order = None; mail = mail_of None; told = [] } }
     {
@@ -37,6 +39,7 @@ impl Heard {
     }
 
     /// The train is answered and ordered this, and other centres are told this.
+    #[inline(always)]
     pub(crate) fn bordering(
         saying: Saying,
         order: Option<Saying>,
@@ -54,6 +57,7 @@ impl Heard {
     }
 
     /// The train is told this, or nothing.
+    #[inline(always)]
     pub(crate) fn of(saying: Option<Saying>) -> Heard
         ensures { result ≡ record { saying = saying; order = None; mail = mail_of None; told = [] } }
     {
@@ -66,6 +70,7 @@ impl Heard {
     }
 
     /// These sections go home too, behind the others of the track.
+    #[inline(always)]
     pub(crate) fn with_second(self, sections: SectionRun) -> Heard
         ensures { result ≡ record self { mail = record self.mail { second = sections } } }
     {
@@ -89,6 +94,7 @@ impl Heard {
 
     /// Then the mission is yielded: this pool goes home too, behind the others of the track, the letter takes the mission, and the train is
     /// ordered this or nothing.
+    #[inline(always)]
     pub(crate) fn and_yields(&mut self, pool: SectionRun, letter: Letter, order: Option<Saying>)
         ensures { self.new ≡ record self.old {
           order = order;
@@ -103,6 +109,7 @@ impl Heard {
     }
 
     /// Sections of this track go home.
+    #[inline(always)]
     pub(crate) fn returned(track: u8, sections: SectionRun) -> Heard
         ensures { result ≡ record { saying = None; order = None; mail = mail_home track sections Notice.Nothing None; told = [] } }
     {
@@ -113,6 +120,7 @@ impl Heard {
     }
 
     /// Another centre is told.
+    #[inline(always)]
     pub(crate) fn told(letter: Letter) -> Heard
         ensures { result ≡ record { saying = None; order = None; mail = mail_of (Some letter); told = [] } }
     {
@@ -123,6 +131,7 @@ impl Heard {
     }
 
     /// These centres are told that this one is taking over.
+    #[inline(always)]
     pub(crate) fn taking_over(told: Announcers) -> Heard
         ensures { result ≡ record { saying = None; order = None; mail = mail_home 0 no_sections (Notice.TakingOver told) None; told = [] } }
     {

@@ -41,6 +41,7 @@ pub(crate) fn to_registrar(line: &Line, nid_engine: u32, body: Body) -> Option<L
 
 /// The right of a train that its mission or its registrar has handed out goes home, where there is one: to the registrar, if that is this
 /// centre, or by a letter to it.
+#[inline(always)]
 pub(crate) fn go_home(
     line: &Line,
     centre: u8,
@@ -57,6 +58,7 @@ pub(crate) fn go_home(
 }
 
 // A right goes home.
+#[inline(never)]
 fn send_home(
     line: &Line,
     centre: u8,

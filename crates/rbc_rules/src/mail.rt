@@ -24,6 +24,7 @@ pub enum Notice {
 
 impl Notice {
     /// A handover that stood is cancelled, if one did.
+    #[inline(always)]
     pub(crate) fn cancel(name: Option<HandoverName>) -> Notice
         ensures { result ≡ cancel_of name }
     {
@@ -100,6 +101,7 @@ pub struct Mail {
 
 impl Mail {
     /// A letter or none, and no section.
+    #[inline(always)]
     pub fn of(letter: Option<Letter>) -> Mail
         ensures { result ≡ mail_of letter }
     {
@@ -108,6 +110,7 @@ impl Mail {
     }
 
     /// These sections of a track, a notice, and a letter or none.
+    #[inline(always)]
     pub(crate) fn home(
         track: u8,
         sections: SectionRun,
