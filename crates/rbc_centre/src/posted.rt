@@ -2,7 +2,7 @@
 
 ghost use Rattle.std.specs.Prelude.{◌≡◌, ◌⊎◌, ◌+◌, ◌≤◌, ◌<◌, ℕ, IsTrue, [], Option, Some, length};
 ghost use Rattle.std.specs.Vec.{vec_capacity};
-ghost use Rattle.rbc_spec.specs.Line.{is_linked};
+ghost use Rattle.rbc_spec.specs.Line.{Line, is_linked};
 ghost use Rattle.rbc_spec.specs.Step.{numbered};
 ghost use Rattle.rbc_link.specs.Links.{has_link, sent_to};
 ghost use Rattle.rbc_link.specs.Posted.{HasPosted};
@@ -10,7 +10,7 @@ ghost use Rattle.rbc_linkmsg.specs.Bodies.{body_of};
 ghost use Rattle.rbc_handover.specs.Expectations.{expected_from};
 ghost use Rattle.rbc_spec.specs.Centre.{Expectation};
 ghost use Rattle.rbc_linkmsg.specs.declared.body.Body.{Body as BodyCode};
-ghost use Rattle.rbc_rules.specs.Letters.{bodies_in, letters, mail_to};
+ghost use Rattle.rbc_rules.specs.Letters.{bodies_in, letters, notices, mail_to};
 ghost use Rattle.rbc_centre.specs.Posts.{MayPost, HasSent, only};
 ghost use Rattle.rbc_centre.specs.Rooms.{HasFrameRoom};
 ghost use Rattle.rbc_centre.specs.Sent.{frames_to};
@@ -93,7 +93,7 @@ fn post_all(
 {
     let mut list = room.take();
     for to in 0..line.centre_count() {
-        post_to(
+        post_part(
             links,
             &mut list,
             line,
@@ -108,7 +108,44 @@ fn post_all(
     Frames { list: Some(list) }
 }
 
+// Sends one centre its part of the mail, where it has any.
+#[inline(always)]
+fn post_part(
+    links: &mut Links<Body>,
+    list: &mut Vec<SentFrame>,
+    line: &Line,
+    centre: u8,
+    nid_engine: u32,
+    stamp: u32,
+    expectations: &Expectations,
+    mail: &Mail,
+    to: u8,
+)
+    requires stamp { (1 ≤ stamp) × (stamp ≤ 1073741823) }
+    requires may { MayPost links.old to (mail_to line.now centre nid_engine (expected_from expectations.now) mail.now to) }
+    requires room { (mail_to line.now centre nid_engine (expected_from expectations.now) mail.now to ≡ []) ⊎ (length list.old.items + 4 ≤ vec_capacity list.old) }
+    ensures sent { HasSent stamp (only to (mail_to line.now centre nid_engine (expected_from expectations.now) mail.now to)) links.old links.new list.old.items list.new.items }
+    ensures count { length list.new.items ≤ length list.old.items + 4 }
+    ensures capacity { vec_capacity list.new ≡ vec_capacity list.old }
+{
+    if is_nothing_to(mail, to) {
+        return;
+    }
+    post_to(
+        links,
+        list,
+        line,
+        centre,
+        nid_engine,
+        stamp,
+        expectations,
+        mail,
+        to,
+    );
+}
+
 // Sends one centre its part of the mail.
+#[inline(never)]
 fn post_to(
     links: &mut Links<Body>,
     list: &mut Vec<SentFrame>,
@@ -137,6 +174,40 @@ fn post_to(
     post_one(links, list, stamp, to, letter);
 }
 
+// Whether the mail has no sections, and tells this centre nothing.
+#[inline(always)]
+fn is_nothing_to(mail: &Mail, to: u8) -> bool
+    ensures { IsTrue result → (l : Line) → (c t : ℕ) → (e : ℕ → Option Expectation) → mail_to l c t e mail.now to ≡ [] }
+{
+    mail.first.is_empty()
+        && mail.second.is_empty()
+        && is_told_nothing(mail.notice, to)
+        && has_no_letter(mail.letter, to)
+}
+
+// Whether a notice tells this centre nothing.
+#[inline(always)]
+fn is_told_nothing(notice: Notice, to: u8) -> bool
+    ensures { IsTrue result → (t : ℕ) → (e : ℕ → Option Expectation) → notices t e notice to ≡ [] }
+{
+    match notice {
+        Notice::Nothing => true,
+        Notice::Announce { name, .. } | Notice::Cancel(name) => name.to != to,
+        Notice::TakingOver(told) => !told.has(to),
+    }
+}
+
+// Whether there is no letter to this centre.
+#[inline(always)]
+fn has_no_letter(letter: Option<Letter>, to: u8) -> bool
+    ensures { IsTrue result → letters letter to ≡ [] }
+{
+    match letter {
+        Some(letter) => letter.to != to,
+        None => true,
+    }
+}
+
 /// Sends one letter in a step with this stamp.
 pub(crate) fn post_letter(
     links: &mut Links<Body>,
@@ -157,6 +228,7 @@ pub(crate) fn post_letter(
 }
 
 // Sends a centre this body, where there is one, as the next frame of its link.
+#[inline(always)]
 fn post_one(
     links: &mut Links<Body>,
     list: &mut Vec<SentFrame>,

@@ -27,6 +27,7 @@ pub(crate) fn look_at_ranges(message: &TrainMsg)
 }
 
 // A report has its ranges.
+#[inline(always)]
 fn look_at_report(position: &Position)
     ensures { HasPositionRanges (position_of position.now) }
 {

@@ -18,15 +18,15 @@ loop-to-init c = record {
   room = λ has. c.take-list.ensures.room has;
 }
 
-pub post_to-requires-clause-may : goal.post_to-requires-clause-may
-post_to-requires-clause-may c =
+pub post_part-requires-clause-may : goal.post_part-requires-clause-may
+post_part-requires-clause-may c =
     let mail = mail_to c.args.line.now c.args.centre c.args.nid_engine (expected_from c.args.expectations.now) c.args.mail.now in
     let to = c.loop-to.to in
     let none : nat_lt to to ≡ false = grind (arith, nat_tests) in
     may_after c.args.stamp (below mail to) c.args.links.now c.loop-to.links to [] (mail to) c.loop-to.invariant.sent.posted (rw none refl) (c.requires.may to)
 
-pub post_to-requires-clause-room : goal.post_to-requires-clause-room
-post_to-requires-clause-room c =
+pub post_part-requires-clause-room : goal.post_part-requires-clause-room
+post_part-requires-clause-room c =
     ⊎_elim (λ none. inl none)
     (λ has. let most = c.loop-to.invariant.room has in let count = c.loop-to.invariant.count in inr (omega (arith, most, count)))
     (c.requires.room c.loop-to.to)
@@ -36,9 +36,9 @@ loop-to-preserved c =
     let mail = mail_to c.args.line.now c.args.centre c.args.nid_engine (expected_from c.args.expectations.now) c.args.mail.now in
     let to = c.loop-to.to in
     record {
-      sent = one_more c.args.stamp mail to c.args.links.now c.loop-to.links c.post_to.new.links _ _ _ c.loop-to.invariant.sent c.post_to.ensures.sent;
-      count = let was = c.loop-to.invariant.count in omega (arith, was, c.post_to.ensures.count);
-      room = λ has. let was = c.loop-to.invariant.room has in omega (arith, was, c.post_to.ensures.capacity);
+      sent = one_more c.args.stamp mail to c.args.links.now c.loop-to.links c.post_part.new.links _ _ _ c.loop-to.invariant.sent c.post_part.ensures.sent;
+      count = let was = c.loop-to.invariant.count in omega (arith, was, c.post_part.ensures.count);
+      room = λ has. let was = c.loop-to.invariant.room has in omega (arith, was, c.post_part.ensures.capacity);
     }
 
 -- ## All centres
