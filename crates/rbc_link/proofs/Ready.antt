@@ -1,12 +1,12 @@
 -- Links that are ready for a step stay so, where one of them changes.
-use Rattle.std.proofs.Common.{◌≡◌, ℕ, ◌+◌, ◌<◌, ◌≤◌, ◌&&◌, ◌||◌, nat_lt, inl, inr, Bool, true, false, List, [], ◌∷◌, length, set, Some, slice_get, refl, ap, sym, ◌∙◌, arith, le-ltb}
+use Rattle.std.proofs.Common.{◌≡◌, ℕ, ◌<◌, ◌≤◌, ◌&&◌, ◌||◌, nat_lt, inl, inr, Bool, true, false, List, [], ◌∷◌, length, set, Some, slice_get, refl, ap, sym, ◌∙◌, arith, le-ltb}
 use Rattle.std.specs.List.{list_any, range_with_len}
 use Rattle.std.specs.Option.{option_map_or}
 use Rattle.std.proofs.Math.ListN.{length-set}
 use Rattle.std.proofs.lemmas.Bool.{false≢true}
 use Rattle.std.proofs.lemmas.Bool.Decides.{eqb_tells}
 use Rattle.rbc_link.specs.declared.link.Link.{Link}
-use Rattle.rbc_link.specs.Links.{has_link, sent_to, room_to, HasRoom, IsReady, is_some_full}
+use Rattle.rbc_link.specs.Links.{has_link, sent_to, room_to, IsReady, is_some_full}
 use Rattle.rbc_link.proofs.Changes.{get-set_same, linked_same, sent_same, sent_put, room_same, room_put}
 
 or_left : (a b : Bool) → a || b ≡ false → a ≡ false

@@ -1,4 +1,3 @@
-use Rattle.std.proofs.Common.{sym}
 use Rattle.rbc_handover.specs.Expectations.{expected_from}
 use Rattle.rbc_centre.proofs.Posts.{none_sent_to}
 use Rattle.rbc_centre.proofs.posted.post_part.Goals as goal
