@@ -1,15 +1,12 @@
-use crate::bytes::bytes_of;
 use crate::line::{START, two_centres};
 use rbc_centre::{Body, Centre, Event, Frame, LinkAnswer};
+use rbc_codec_tests::bytes::bytes_of;
 use rbc_msgs::decode_train;
 use std::test::*;
 
 #[test]
 fn a_frame_is_kept_where_it_was_sent(rt: HostRuntime) -> Result<(), Fail> {
     let line = two_centres(rt.alloc())?;
-    if line.centre_count() < 2 {
-        return Err("there are two centres".into());
-    }
     let mut a = Centre::new(rt.alloc(), &line, 0)?;
     let mut b = Centre::new(rt.alloc(), &line, 1)?;
     a.step(&Event::Set(1)).ok().ok_or("A takes the set")?;

@@ -1,9 +1,9 @@
 //! What the nodes of two centres took, gathered, and merged into one run.
 
-use crate::bytes::bytes_of;
 use crate::line::{START, two_centres};
 use crate::nodes::{A, B, Held, both};
 use rbc_centre::{Body, Event, Frame};
+use rbc_codec_tests::bytes::bytes_of;
 use rbc_line::Line;
 use rbc_log::{Entry, merge};
 use rbc_msgs::decode_train;

@@ -1,3 +1,5 @@
+ghost use Rattle.std.specs.Prelude.{◌≤◌, length};
+
 use crate::line::two_centres;
 use rbc_centre::Event;
 use rbc_line::Line;
@@ -10,10 +12,9 @@ const A: u8 = 0;
 const B: u8 = 1;
 
 // A log of each centre.
-fn both(alloc: Global, line: &Line) -> Result<(CentreLog, CentreLog), Fail> {
-    if line.centre_count() < 2 {
-        return Err("there are two centres".into());
-    }
+fn both(alloc: Global, line: &Line) -> Result<(CentreLog, CentreLog), Fail>
+    requires { 2 ≤ length line.now.centres }
+{
     let a = CentreLog::new(alloc, line, A)?;
     let b = CentreLog::new(alloc, line, B)?;
     Ok((a, b))

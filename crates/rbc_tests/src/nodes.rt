@@ -1,5 +1,7 @@
 //! The nodes of two centres, and a gate that holds a commit back.
 
+ghost use Rattle.std.specs.Prelude.{◌≤◌, length};
+
 use rbc_line::Line;
 use rbc_node::{Gate, Node};
 use std::alloc::Global;
@@ -12,10 +14,9 @@ pub const A: u8 = 0;
 pub const B: u8 = 1;
 
 /// A node of each centre.
-pub fn both(alloc: Global, line: &Line) -> Result<(Node, Node), Fail> {
-    if line.centre_count() < 2 {
-        return Err("there are two centres".into());
-    }
+pub fn both(alloc: Global, line: &Line) -> Result<(Node, Node), Fail>
+    requires { 2 ≤ length line.now.centres }
+{
     let a = Node::new(alloc, line, A)?;
     let b = Node::new(alloc, line, B)?;
     Ok((a, b))

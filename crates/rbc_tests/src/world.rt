@@ -1,6 +1,6 @@
-use crate::bytes::bytes_of;
 use crate::line::{START, two_centres};
 use rbc_centre::{Body, Frame, LinkAnswer, Outcome, StepFault};
+use rbc_codec_tests::bytes::bytes_of;
 use rbc_world::{Answer, World, WorldEvent};
 use std::alloc::Global;
 use std::test::*;

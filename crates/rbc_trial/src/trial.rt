@@ -1,13 +1,13 @@
 //! A trial of strength: ten trains run over the borders of three centres by chance, the interlocking sets and unsets sections, and each frame
 //! comes late, out of turn and again. Behind each event the view is held against what was answered.
 
-use crate::chance::Chance;
 use crate::choices::{SECTIONS, next_words, some_centre};
 use crate::line::three_centres;
 use crate::promises::{Step, is_kept};
 use crate::tally::Tally;
 use crate::traveller::Traveller;
 use rbc_centre::{LinkAnswer, Outcome};
+use rbc_codec_tests::chance::Chance;
 use rbc_line::Line;
 use rbc_msgs::TrackBody;
 use rbc_world::{Answer, LineView, World, WorldEvent};

@@ -1,8 +1,8 @@
 //! What a train of the trial says next: it begins missions, runs, asks for more, answers, and speaks to the next centre where its front is there.
 
-use crate::chance::Chance;
 use crate::traveller::{Traveller, Words};
 use rbc_centre::Phase;
+use rbc_codec_tests::chance::Chance;
 use rbc_line::Line;
 use rbc_world::{MissionView, TrainView};
 

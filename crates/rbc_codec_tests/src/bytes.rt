@@ -1,0 +1,8 @@
+//! Bytes that are written in hexadecimal.
+
+use std::alloc::Global;
+
+/// The bytes that a text of hexadecimal digits spells.
+pub fn bytes_of(alloc: Global, text: &str) -> Result<Vec<u8>, &'static str> {
+    hex::decode(alloc, text).ok().ok_or("it is hexadecimal")
+}

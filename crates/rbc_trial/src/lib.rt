@@ -1,0 +1,14 @@
+//! A trial of strength: ten trains over the borders of three centres. It is one test, `trial`.
+#![tactic(auto)]
+
+#[cfg(test)]
+mod choices;
+pub mod line;
+#[cfg(test)]
+mod promises;
+#[cfg(test)]
+mod tally;
+#[cfg(test)]
+mod traveller;
+#[cfg(test)]
+mod trial;
