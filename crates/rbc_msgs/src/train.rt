@@ -3,7 +3,7 @@ ghost use Rattle.rbc_spec.specs.Message.{unknown_time};
 ghost use Rattle.rbc_msgs.specs.TrainView.{HasItsPackets};
 
 use crate::train_body::TrainBody;
-use rbc_packets::Opaque;
+use rbc_packets::{Opaque, Packets};
 use std::marker::Model;
 
 /// A message of a train.
@@ -12,7 +12,7 @@ pub struct TrainMsg {
     t_train: u32,
     nid_engine: u32,
     body: TrainBody,
-    further: Vec<Opaque>,
+    further: Packets,
 }
 
 impl Model for TrainMsg {
@@ -29,12 +29,12 @@ impl Model for TrainMsg {
 
 impl TrainMsg {
     /// A message of the train with this NID_ENGINE, as its clock shows T_TRAIN, with further packets behind its body.
-    pub fn new(t_train: u32, nid_engine: u32, body: TrainBody, further: Vec<Opaque>) -> TrainMsg
+    pub fn new(t_train: u32, nid_engine: u32, body: TrainBody, further: Packets) -> TrainMsg
         requires time { t_train < unknown_time }
         requires engine { nid_engine < 2 ^ 24 }
         requires packets { HasItsPackets body }
-        requires further { All (λ p. p.nid_packet ≢ 0) further.items }
-        ensures { result ≡ record { t_train = t_train; nid_engine = nid_engine; body = body; further = further.items } }
+        requires further { All (λ p. p.nid_packet ≢ 0) further }
+        ensures { result ≡ record { t_train = t_train; nid_engine = nid_engine; body = body; further = further } }
     {
         TrainMsg {
             t_train,
@@ -73,6 +73,6 @@ impl TrainMsg {
         ensures value { result.now ≡ self.now.further }
         ensures numbers { All (λ p. p.nid_packet ≢ 0) result.now }
     {
-        &self.further
+        self.further.as_slice()
     }
 }

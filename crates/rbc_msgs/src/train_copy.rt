@@ -4,7 +4,7 @@ ghost use Rattle.std.specs.Prelude.{◌≡◌, IfOk};
 
 use crate::train::TrainMsg;
 use crate::train_body::TrainBody;
-use rbc_packets::Opaque;
+use rbc_packets::{Opaque, Packets};
 use std::alloc::{AllocError, Global};
 
 impl TrainMsg {
@@ -54,14 +54,14 @@ fn copied_body(alloc: Global, body: &TrainBody) -> Result<TrainBody, AllocError>
     }
 }
 
-fn copied_packets(alloc: Global, packets: &[Opaque]) -> Result<Vec<Opaque>, AllocError>
-    ensures { IfOk result (λ copy. copy.items ≡ packets.now) }
+fn copied_packets(alloc: Global, packets: &[Opaque]) -> Result<Packets, AllocError>
+    ensures { IfOk result (λ copy. copy ≡ packets.now) }
 {
     let mut copy = Vec::with_capacity(alloc, packets.len())?;
     for packet in packets {
         copy.push(copied_packet(alloc, packet)?)?;
     }
-    Ok(copy)
+    Packets::of(alloc, copy)
 }
 
 fn copied_packet(alloc: Global, packet: &Opaque) -> Result<Opaque, AllocError>

@@ -16,7 +16,7 @@ use crate::number::TrainNumber;
 use crate::reading::{required, take};
 use crate::train_body::TrainBody;
 use rbc_bits::BitReader;
-use rbc_packets::{Opaque, Position};
+use rbc_packets::{Opaque, Packets, Position};
 use rbc_vars::{QMarqstreason, QStatus, TTrain};
 use std::alloc::Global;
 
@@ -144,26 +144,25 @@ fn data_packet(alloc: Global, reader: &mut BitReader) -> Result<Opaque, MsgFault
 
 /// The further packets, as long as 8 bits or more are left.
 #[inline(always)]
-pub(crate) fn read_further(alloc: Global, reader: &mut BitReader) -> Result<Vec<Opaque>, MsgFault>
-    ensures exact { TakesUnless MsgFault.Memory (λ v. v.items) result reader.new (further_at (length reader.old) reader.old) }
-    ensures taken { IfOk result (λ v. reader.old ≡ flat_map packet_bits v.items ++ reader.new) }
-    ensures fits { IfOk result (λ v. AllByRecursion IsFurther v.items) }
+pub(crate) fn read_further(alloc: Global, reader: &mut BitReader) -> Result<Packets, MsgFault>
+    ensures exact { TakesUnless MsgFault.Memory (λ x. x) result reader.new (further_at (length reader.old) reader.old) }
+    ensures taken { IfOk result (λ ps. reader.old ≡ flat_map packet_bits ps ++ reader.new) }
+    ensures fits { IfOk result (AllByRecursion IsFurther) }
     // Memory is wanted only for a further packet.
     ensures memory { IfErr result (λ e. e ≡ MsgFault.Memory → MayKeep (λ x. x.0) (further_at (length reader.old) reader.old)) }
 {
     if reader.remaining() < 8 {
-        return Ok(Vec::new(alloc));
+        return Ok(Packets::none());
     }
-    let further = read_some(alloc, reader)?;
-    Ok(further)
+    read_some(alloc, reader)
 }
 
 // The same, where there may be some: a call of its own, since few messages have any.
 #[inline(never)]
-fn read_some(alloc: Global, reader: &mut BitReader) -> Result<Vec<Opaque>, MsgFault>
-    ensures exact { TakesUnless MsgFault.Memory (λ v. v.items) result reader.new (further_at (length reader.old) reader.old) }
-    ensures taken { IfOk result (λ v. reader.old ≡ flat_map packet_bits v.items ++ reader.new) }
-    ensures fits { IfOk result (λ v. AllByRecursion IsFurther v.items) }
+fn read_some(alloc: Global, reader: &mut BitReader) -> Result<Packets, MsgFault>
+    ensures exact { TakesUnless MsgFault.Memory (λ x. x) result reader.new (further_at (length reader.old) reader.old) }
+    ensures taken { IfOk result (λ ps. reader.old ≡ flat_map packet_bits ps ++ reader.new) }
+    ensures fits { IfOk result (AllByRecursion IsFurther) }
     // Memory is wanted only for a further packet.
     ensures memory { IfErr result (λ e. e ≡ MsgFault.Memory → MayKeep (λ x. x.0) (further_at (length reader.old) reader.old)) }
 {
@@ -171,7 +170,7 @@ fn read_some(alloc: Global, reader: &mut BitReader) -> Result<Vec<Opaque>, MsgFa
     while reader.remaining() >= 8 {
         further.push(further_packet(alloc, reader)?)?;
     }
-    Ok(further)
+    Ok(Packets::of(alloc, further)?)
 }
 
 #[tactic(auto, unfolding(crate::specs::TrainReading::further_packet_at, rbc_packets::specs::Layout::joined))]

@@ -2,6 +2,7 @@ pub mod Layout
 pub mod Steps
 pub mod Packet
 pub mod OpaqueView
+pub mod PacketsView
 pub mod PositionSpelling
 pub mod TrackSpelling
 pub mod Reading

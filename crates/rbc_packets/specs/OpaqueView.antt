@@ -6,8 +6,9 @@ use Rattle.rbc_packets.specs.declared.opaque.Opaque.TheInside.{Inside}
 
 -- the first bits of its bytes
 abbrev pub packet_of : Inside → Packet
-packet_of p = record { nid_packet = p.nid_packet; bits = take p.count (bits_of p.bytes.items) }
+packet_of p = record { nid_packet = p.kept.value.nid_packet; bits = take p.kept.value.count (bits_of p.kept.value.bytes.items) }
 
 -- as many as there are, and no more than L_PACKET can say
 abbrev pub HasPacketRanges : Inside → Type 0
-HasPacketRanges p = (p.count ≤ 8 * length p.bytes.items) × (p.count < 8171) × (length p.bytes.items ≤ 2 ^ 28)
+HasPacketRanges p =
+    (p.kept.value.count ≤ 8 * length p.kept.value.bytes.items) × (p.kept.value.count < 8171) × (length p.kept.value.bytes.items ≤ 2 ^ 28)

@@ -11,9 +11,15 @@ use rbc_bits::{BitReader, BitWriter};
 use std::alloc::Global;
 use std::marker::Model;
 
-/// A packet of a train that is kept without being read: its NID_PACKET, and the bits behind its header.
+/// A packet of a train that is kept without being read: its NID_PACKET, and the bits behind its header. It stands behind a pointer, since
+/// few messages have one, and each is as large as the largest.
 #[derive(Debug, Drop)]
 pub struct Opaque {
+    kept: Box<Kept>,
+}
+
+#[derive(Debug, Drop)]
+struct Kept {
     nid_packet: u8,
     count: u32,
     bytes: Vec<u8>,
@@ -41,11 +47,15 @@ impl Opaque {
         let count = bits.remaining();
         let mut writer = BitWriter::with_capacity(alloc, ((count + 7) / 8) as usize)?;
         copy(bits, &mut writer)?;
-        Ok(Opaque {
+        let kept = Kept {
             nid_packet,
             count,
             bytes: writer.finish()?,
-        })
+        };
+        match Box::new(alloc, kept) {
+            Ok(kept) => Ok(Opaque { kept }),
+            Err(_) => Err(PacketFault::Memory),
+        }
     }
 
     /// Reads the packet of this NID_PACKET behind it.
@@ -94,7 +104,7 @@ impl Opaque {
         ensures value { result ≡ self.now.nid_packet }
         ensures range { result < 2 ^ 8 }
     {
-        self.nid_packet
+        self.kept.nid_packet
     }
 
     /// The bits behind the header.
@@ -102,8 +112,9 @@ impl Opaque {
         ensures bits { result ≡ self.now.bits }
         ensures few { length result < 8171 }
     {
-        let mut all = BitReader::new(&self.bytes);
-        match all.cut(self.count) {
+        let kept = &*self.kept;
+        let mut all = BitReader::new(&kept.bytes);
+        match all.cut(kept.count) {
             Ok(bits) => bits,
             Err(_) => unreachable!(),
         }

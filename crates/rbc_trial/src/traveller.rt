@@ -7,7 +7,7 @@ use crate::line::group_of;
 use rbc_bits::BitReader;
 use rbc_centre::SectionRun;
 use rbc_msgs::{TrainBody, TrainMsg, encode_train};
-use rbc_packets::{Level, Location, Opaque, Position, TrainLength};
+use rbc_packets::{Level, Location, Opaque, Packets, Position, TrainLength};
 use rbc_vars::{
     DLrbg, Direction, LDoubtover, LDoubtunder, LTrainint, MMode, NidLrbg, QMarqstreason, QScale,
     QStatus, TTrain, VTrain,
@@ -99,7 +99,7 @@ impl Traveller {
         }
         let body = self.body(alloc, words)?;
         let t_train = self.clock.min(1_000_000);
-        let message = TrainMsg::new(t_train, self.nid_engine % 1000, body, Vec::new(alloc));
+        let message = TrainMsg::new(t_train, self.nid_engine % 1000, body, Packets::none());
         Ok(
             encode_train(alloc, &message)
                 .ok()

@@ -10,7 +10,7 @@ pub new-requires-clause-packets : goal.new-requires-clause-packets
 new-requires-clause-packets c = its-packets c.in_ok-body.body c.in_ok-body.ensures.fits
 
 pub new-requires-clause-further : goal.new-requires-clause-further
-new-requires-clause-further c = their-numbers c.in_ok-further.further.items c.in_ok-further.ensures.fits
+new-requires-clause-further c = their-numbers c.in_ok-further.further c.in_ok-further.ensures.fits
 
 pub returns-clause-found : goal.returns-clause-found
 returns-clause-found c =
