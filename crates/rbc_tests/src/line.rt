@@ -36,7 +36,7 @@ pub const START: [&str; 3] = [
 
 /// Sections 0 and 1 of centre A, and then section 2 of centre B.
 pub fn two_centres(alloc: Global) -> Result<Line, &'static str>
-    ensures { IfOk result (λ line. 2 ≤ length line.now.centres) }
+    ensures { IfOk result (λ line. 2 ≤ length line.centres) }
 {
     let line = Line::from_toml(alloc, TWO_CENTRES)
         .ok()
