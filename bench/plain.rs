@@ -12,44 +12,65 @@ struct Reader<'a> {
 }
 
 impl Reader<'_> {
+    /// The next field of n bits, at most 32.
+    #[inline(always)]
     fn take(&mut self, n: usize) -> Option<u64> {
-        if self.end - self.used < n {
-            return None;
+        if self.end - self.used < n || n == 0 {
+            return (n == 0).then_some(0);
         }
-        let first = self.used / 8;
-        let last = (self.used + n + 7) / 8;
-        let number = self.bytes[first..last].iter().fold(0u128, |v, b| v << 8 | u128::from(*b));
-        let after = 8 * last - self.used - n;
+        let word = self.eight(self.used / 8) << (self.used % 8);
         self.used += n;
-        Some((number >> after & ((1u128 << n) - 1)) as u64)
+        Some(word >> (64 - n))
     }
 
+    /// Eight bytes from this one on; zeros stand behind the last byte.
+    #[inline(always)]
+    fn eight(&self, first: usize) -> u64 {
+        let last = self.bytes.len();
+        match (self.bytes.get(first..first + 8), self.bytes.last_chunk::<8>()) {
+            (Some(eight), _) => u64::from_be_bytes(eight.try_into().unwrap()),
+            (None, Some(eight)) => u64::from_be_bytes(*eight) << (8 * (first + 8 - last)),
+            (None, None) => self.bytes[first..].iter().fold(0, |word, byte| word << 8 | u64::from(*byte)) << (8 * (first + 8 - last)),
+        }
+    }
+
+    #[inline(always)]
     fn fixed(&mut self, n: usize, value: u64) -> Option<()> {
         (self.take(n)? == value).then_some(())
     }
 }
 
-#[derive(Default)]
 struct Writer {
     bytes: Vec<u8>,
-    held: u128,
+    held: u64,
     count: usize,
 }
 
 impl Writer {
-    fn put(&mut self, value: u64, n: usize) {
-        self.held = self.held << n | u128::from(value);
-        self.count += n;
-        while self.count >= 8 {
-            self.count -= 8;
-            self.bytes.push((self.held >> self.count) as u8);
-        }
-        self.held &= (1 << self.count) - 1;
+    fn with_capacity(bytes: usize) -> Self {
+        Writer { bytes: Vec::with_capacity(bytes), held: 0, count: 0 }
     }
 
+    /// A field of n bits, at most 32.
+    #[inline(always)]
+    fn put(&mut self, value: u64, n: usize) {
+        let count = self.count + n;
+        if count < 64 {
+            self.held = self.held << n | value;
+            self.count = count;
+        } else {
+            let after = count - 64;
+            self.bytes.extend_from_slice(&((self.held << (n - after)) | value >> after).to_be_bytes());
+            self.held = value & ((1 << after) - 1);
+            self.count = after;
+        }
+    }
+
+    #[inline(always)]
     fn finish(mut self) -> Vec<u8> {
         if self.count > 0 {
-            self.bytes.push((self.held << (8 - self.count)) as u8);
+            let last = (self.held << (64 - self.count)).to_be_bytes();
+            self.bytes.extend_from_slice(&last[..self.count.div_ceil(8)]);
         }
         self.bytes
     }
@@ -155,9 +176,10 @@ fn decode(bytes: &[u8]) -> Option<Message> {
             let p = position(&mut r)?;
             r.fixed(8, 11)?;
             let n = (r.take(13)? as usize).checked_sub(21)?;
-            let mut w = Writer::default();
-            for _ in 0..n {
-                w.put(r.take(1)?, 1);
+            let mut w = Writer::with_capacity(n.div_ceil(8));
+            for first in (0..n).step_by(32) {
+                let k = (n - first).min(32);
+                w.put(r.take(k)?, k);
             }
             Body::Data(p, w.finish(), n)
         }
@@ -181,7 +203,8 @@ fn decode(bytes: &[u8]) -> Option<Message> {
             track_header(&mut r, 129)?;
             r.fixed(2, 1)?;
             let body = Body::Transition(r.take(15)?, r.take(10)?, r.take(14)?);
-            r.fixed(64, u64::MAX)?;
+            r.fixed(32, 0xFFFF_FFFF)?;
+            r.fixed(32, 0xFFFF_FFFF)?;
             r.fixed(1, 0)?;
             body
         }
@@ -197,7 +220,7 @@ fn decode(bytes: &[u8]) -> Option<Message> {
 }
 
 fn encode(m: &Message) -> Vec<u8> {
-    let mut w = Writer::default();
+    let mut w = Writer::with_capacity(32);
     w.put(m.number, 8);
     w.put(0, 10);
     w.put(m.time, 32);
@@ -210,8 +233,9 @@ fn encode(m: &Message) -> Vec<u8> {
             put_position(&mut w, p);
             w.put(11, 8);
             w.put(21 + *n as u64, 13);
-            for i in 0..*n {
-                w.put(u64::from(bytes[i / 8] >> (7 - i % 8) & 1), 1);
+            for (i, byte) in bytes.iter().enumerate() {
+                let k = (n - 8 * i).min(8);
+                w.put(u64::from(byte >> (8 - k)), k);
             }
         }
         Body::Request(reason, p) => {
@@ -232,7 +256,8 @@ fn encode(m: &Message) -> Vec<u8> {
             for (value, n) in [(131, 8), (1, 2), (129, 13), (1, 2), (*border, 15), (*region, 10), (*centre, 14)] {
                 w.put(value, n);
             }
-            w.put(u64::MAX, 64);
+            w.put(0xFFFF_FFFF, 32);
+            w.put(0xFFFF_FFFF, 32);
             w.put(0, 1);
         }
         Body::Accepted => {}

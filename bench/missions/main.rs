@@ -2,7 +2,8 @@
 //
 // `missions write FOLDER TRAINS SECTIONS EVENTS` writes line.toml, script and plain.txt (the answers); `missions storm FOLDER EVENTS
 // SEED` the same of events in any order on a small line; `missions time TRAINS SECTIONS EVENTS TURNS` plays the script so often, and
-// prints how many events a second the fastest turn took and the bytes of its messages to trains.
+// prints how many events a second the fastest turn took and the bytes of its messages to trains. In place of the number of sections
+// stands `alternating` for 512 sections of which each second one that no train runs over is open.
 
 #[path = "../peer/mod.rs"]
 mod peer;
@@ -20,7 +21,7 @@ fn main() {
     let words: Vec<&str> = words.iter().map(String::as_str).collect();
     match words[..] {
         ["write", folder, trains, sections, events] => {
-            let (line, events) = traffic_of(number(trains), number(sections), number(events));
+            let (line, events) = traffic_of(number(trains), sections, number(events));
             check(&line, &events);
             script::write(folder, &line, &only_events(events));
         }
@@ -30,7 +31,7 @@ fn main() {
             script::write(folder, &line, &storm::events(&line, number(events) as usize, &mut draw));
         }
         ["time", trains, sections, events, turns] => {
-            let (line, events) = traffic_of(number(trains), number(sections), number(events));
+            let (line, events) = traffic_of(number(trains), sections, number(events));
             script::time(&line, &only_events(events), number(turns) as usize);
         }
         _ => panic!("write FOLDER TRAINS SECTIONS EVENTS, storm FOLDER EVENTS SEED, time TRAINS SECTIONS EVENTS TURNS"),
@@ -41,11 +42,14 @@ fn number(word: &str) -> u32 {
     word.parse().expect("a number")
 }
 
-fn traffic_of(trains: u32, sections: u32, events: u32) -> (Line, Vec<(Event, Meant)>) {
+fn traffic_of(trains: u32, sections: &str, events: u32) -> (Line, Vec<(Event, Meant)>) {
     let mut draw = Draw::new(1);
+    let is_alternating = sections == "alternating";
+    let sections = if is_alternating { 512 } else { number(sections) };
     let line = traffic::line_of(sections as u16, trains as u8, &mut draw);
-    let events = traffic::missions(&line, events as usize, &mut draw);
-    (line, events)
+    let mut all = if is_alternating { traffic::each_second(&line) } else { Vec::new() };
+    all.extend(traffic::missions(&line, events as usize, &mut draw));
+    (line, all)
 }
 
 fn only_events(events: Vec<(Event, Meant)>) -> Vec<Event> {

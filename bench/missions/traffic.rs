@@ -122,6 +122,13 @@ pub fn missions(line: &Line, count: usize, draw: &mut Draw) -> Vec<(Event, Meant
     events
 }
 
+/// Each second section behind those that trains run over is opened: no other line has so many runs of sections that are used alike.
+pub fn each_second(line: &Line) -> Vec<(Event, Meant)> {
+    let first = SECTIONS_EACH * line.trains.len() as u16 + 1;
+    let sections = (first..line.sections.len() as u16).step_by(2);
+    sections.map(|section| (Event::Set { centre: HOME, section }, Meant::Nothing)).collect()
+}
+
 fn stretches_of(line: &Line, draw: &mut Draw) -> Vec<Stretch> {
     let count = (line.sections.len() / SECTIONS_EACH as usize).min(line.trains.len());
     let mut stretches: Vec<Stretch> = (0..count)

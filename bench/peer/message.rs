@@ -141,7 +141,52 @@ fn further(r: &mut Reader) -> Result<(), Fault> {
 
 fn position(r: &mut Reader) -> Result<Position, Fault> {
     required(r, 0)?;
-    let mut p = packet(r)?;
+    let p = packet(r)?;
+    match p.word() {
+        Some(word) => position_in(word, p.left()),
+        None => position_far(p),
+    }
+}
+
+/// The bits of a packet stand at the front of the word.
+#[inline(always)]
+fn position_in(word: u128, n: usize) -> Result<Position, Fault> {
+    let at = |first: u32, n: u32| (word << first >> (128 - n)) as u32;
+    if n < 2 {
+        return Err(Fault::Packet);
+    }
+    let scale = match at(0, 2) {
+        0 => 1,
+        1 => 10,
+        2 => 100,
+        _ => return Err(Fault::Value),
+    };
+    if n < 93 {
+        return Err(Fault::Packet);
+    }
+    let (length, behind) = match at(75, 2) {
+        1 | 2 => (Some(at(77, 15)), 92),
+        _ => (None, 77),
+    };
+    let level = at(behind + 13, 3);
+    let end = behind + 16 + if level == 1 { 8 } else { 0 };
+    if n != end as usize {
+        return Err(Fault::Packet);
+    }
+    Ok(Position {
+        scale,
+        group: at(2, 24),
+        distance: at(26, 15),
+        is_nominal: at(41, 4) == 5,
+        doubt_over: at(45, 15),
+        doubt_under: at(60, 15),
+        length,
+        is_level_2: level == 3,
+    })
+}
+
+#[inline(never)]
+fn position_far(mut p: Reader) -> Result<Position, Fault> {
     let mut take = |n| p.take(n).ok_or(Fault::Packet);
     let scale = match take(2)? {
         0 => 1,
