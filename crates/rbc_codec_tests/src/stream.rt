@@ -57,18 +57,8 @@ const MESSAGES: [&str; 11] = [
 #[test]
 fn each_call_gives_what_is_whole_then(rt: HostRuntime) -> Result<(), Fail> {
     for (pieces, answers) in &STREAMS {
-        let mut stream = Stream::new(rt.alloc());
-        let mut said = Vec::new(rt.alloc());
-        for piece in pieces.split(',') {
-            let piece = if piece == "-" { "" } else { piece };
-            let bytes = bytes_of(rt.alloc(), piece)?;
-            let answer = answer_to(rt.alloc(), &mut stream, &bytes)?;
-            if !said.is_empty() {
-                said.extend_from_slice(b"; ")?;
-            }
-            said.extend_from_slice(&answer)?;
-        }
-        assert_eq!(rt; said.as_slice(), answers.as_bytes());
+        let said = answers_to(rt.alloc(), pieces)?;
+        assert!(rt; said.as_slice() == answers.as_bytes(), "{pieces}");
     }
     Ok(())
 }
@@ -79,25 +69,44 @@ fn each_message_is_read_copied_and_written(rt: HostRuntime) -> Result<(), Fail> 
     for text in &MESSAGES {
         let bytes = bytes_of(rt.alloc(), text)?;
         let answer = answer_to(rt.alloc(), &mut stream, &bytes)?;
-        assert_eq!(rt; answer.as_slice(), text.as_bytes());
+        assert!(rt; answer.as_slice() == text.as_bytes(), "{text}");
     }
     Ok(())
+}
+
+// What each call gives for a stream in pieces, as text.
+fn answers_to(alloc: Global, pieces: &str) -> Result<Vec<u8>, Fail> {
+    let mut stream = Stream::new(alloc);
+    let mut said = Vec::new(alloc);
+    for piece in pieces.split(',') {
+        let piece = if piece == "-" { "" } else { piece };
+        let bytes = bytes_of(alloc, piece)?;
+        let answer = answer_to(alloc, &mut stream, &bytes)?;
+        add(&mut said, b"; ", &answer)?;
+    }
+    Ok(said)
 }
 
 // What a call gives, as text.
 fn answer_to(alloc: Global, stream: &mut Stream, piece: &[u8]) -> Result<Vec<u8>, Fail> {
     let mut messages = Vec::new(alloc);
     let result = stream.feed(piece, &mut messages);
-    let mut said = Vec::new(alloc);
-    for message in &messages {
-        add(&mut said, written(alloc, message)?.as_bytes())?;
-    }
+    let mut said = all_written(alloc, &messages)?;
     if let Err(fault) = result {
         let fault = format!(in alloc; "fault {}", fault.number())?;
-        add(&mut said, fault.as_bytes())?;
+        add(&mut said, b" + ", fault.as_bytes())?;
     }
     if said.is_empty() {
-        add(&mut said, b"none")?;
+        said.extend_from_slice(b"none")?;
+    }
+    Ok(said)
+}
+
+// The bytes of a copy of each message, in hexadecimal.
+fn all_written(alloc: Global, messages: &[TrainMsg]) -> Result<Vec<u8>, Fail> {
+    let mut said = Vec::new(alloc);
+    for message in messages {
+        add(&mut said, b" + ", written(alloc, message)?.as_bytes())?;
     }
     Ok(said)
 }
@@ -111,9 +120,10 @@ fn written(alloc: Global, message: &TrainMsg) -> Result<String, Fail> {
     Ok(hex::encode_upper(alloc, &bytes)?)
 }
 
-fn add(said: &mut Vec<u8>, text: &[u8]) -> Result<(), Fail> {
+// Adds a text, behind a mark where something was said before.
+fn add(said: &mut Vec<u8>, mark: &[u8], text: &[u8]) -> Result<(), Fail> {
     if !said.is_empty() {
-        said.extend_from_slice(b" + ")?;
+        said.extend_from_slice(mark)?;
     }
     said.extend_from_slice(text)?;
     Ok(())
@@ -122,20 +132,25 @@ fn add(said: &mut Vec<u8>, text: &[u8]) -> Result<(), Fail> {
 #[test]
 fn a_megabyte_comes_in_one_piece(rt: HostRuntime) -> Result<(), Fail> {
     let message = bytes_of(rt.alloc(), MESSAGES[2])?;
-    let mut bytes = Vec::new(rt.alloc());
-    for _ in 0..40_330 {
-        bytes.extend_from_slice(&message)?;
-    }
-    bytes.extend_from_slice(&message[..message.len().min(9)])?;
+    let (begin, rest) = message.split_at(message.len().min(9));
+    let bytes = megabyte(rt.alloc(), &message, begin)?;
     let mut stream = Stream::new(rt.alloc());
     let mut messages = Vec::new(rt.alloc());
     let fed = stream.feed(&bytes, &mut messages);
-    assert!(rt; fed == Ok(()));
-    assert_eq!(rt; messages.len(), 40_330);
-    let fed = stream.feed(&message[message.len().min(9)..], &mut messages);
-    assert!(rt; fed == Ok(()));
-    assert_eq!(rt; messages.len(), 40_331);
+    assert!(rt; (fed, messages.len()) == (Ok(()), 40_330));
+    let fed = stream.feed(rest, &mut messages);
+    assert!(rt; (fed, messages.len()) == (Ok(()), 40_331));
     Ok(())
+}
+
+// So many whole messages, and behind them the begin of one.
+fn megabyte(alloc: Global, message: &[u8], begin: &[u8]) -> Result<Vec<u8>, Fail> {
+    let mut bytes = Vec::new(alloc);
+    for _ in 0..40_330 {
+        bytes.extend_from_slice(message)?;
+    }
+    bytes.extend_from_slice(begin)?;
+    Ok(bytes)
 }
 
 // Message 129 takes memory for its packet 11.
@@ -144,22 +159,30 @@ const TRAIN_DATA: [u8; 28] = [
     0x58, 0x50, 0x01, 0x40, 0x05, 0x10, 0x19, 0x00, 0x10, 0x61, 0x60, 0x15,
 ];
 
+// Feeds the message, and then again in two pieces: whether memory was there, and whether each call told the want of it, the first as such.
+fn fed(alloc: Global, messages: &mut Vec<TrainMsg>) -> (bool, bool) {
+    let mut stream = Stream::new(alloc);
+    let mut memory = true;
+    let mut is_told = true;
+    for piece in [&TRAIN_DATA[..], &TRAIN_DATA[..20], &TRAIN_DATA[20..]] {
+        let fed = stream.feed(piece, messages);
+        if memory {
+            memory = fed == Ok(());
+            is_told &= memory || fed == Err(StreamFault::Message(MsgFault::Memory));
+        } else {
+            is_told &= fed == Err(StreamFault::Failed);
+        }
+    }
+    (memory, is_told)
+}
+
 // Made to be run with each allocation failing in turn (`rt try --test --fail-alloc N`).
 #[test]
 fn want_of_memory_is_a_fault_too(rt: HostRuntime) {
-    let mut stream = Stream::new(rt.alloc());
     let mut messages = Vec::new(rt.alloc());
-    let mut memory = true;
-    for piece in [&TRAIN_DATA[..], &TRAIN_DATA[..20], &TRAIN_DATA[20..]] {
-        let fed = stream.feed(piece, &mut messages);
-        if memory {
-            memory = fed == Ok(());
-            assert!(rt; memory || fed == Err(StreamFault::Message(MsgFault::Memory)));
-        } else {
-            assert!(rt; fed == Err(StreamFault::Failed));
-        }
-    }
-    assert_eq!(rt; messages.len() == 2, memory);
+    let (memory, is_told) = fed(rt.alloc(), &mut messages);
+    assert!(rt; is_told);
+    assert!(rt; (messages.len() == 2) == memory);
     for message in &messages {
         if let Ok(copy) = message.copied(rt.alloc()) {
             assert!(rt; copy.is_same(message));

@@ -1,9 +1,10 @@
 //! The line of the tests.
 
+ghost use Rattle.std.specs.Prelude.{◌≤◌, length, IfOk};
+
 use crate::client::{Done, Missed};
 use rbc_line::Line;
 use std::alloc::Global;
-use std::test::*;
 
 const TWO_CENTRES: &str = "nid_c = 5
 [[centre]]
@@ -32,12 +33,12 @@ pub const A: usize = 0;
 pub const CONTROL: usize = 2;
 
 /// Sections 0 and 1 of centre A, and then section 2 of centre B. Train 1 is registered at A, train 2 at B.
-pub fn two_centres(alloc: Global) -> Result<Line, Fail> {
-    Ok(
-        Line::from_toml(alloc, TWO_CENTRES)
-            .ok()
-            .ok_or("the line file is accepted")?,
-    )
+pub fn two_centres(alloc: Global) -> Result<Line, &'static str>
+    ensures { IfOk result (λ line. 2 ≤ length line.centres) }
+{
+    Line::from_toml(alloc, TWO_CENTRES)
+        .ok()
+        .ok_or("the line file is accepted")
 }
 
 // Train 1 opens its session.

@@ -1,13 +1,13 @@
 //! The pipe of a connection, over bytes in memory.
 
 use crate::line::{ACCEPTED, VERSION, bytes_of};
-use crossbeam_channel::bounded;
+use crossbeam_channel::{Receiver, Sender, bounded};
 use rbc_msgs::decode_track;
 use rbc_replies::{Now, Pipe, Reply, WriteFailed, run_writer};
 use std::alloc::Global;
 use std::io;
 use std::io::{ErrorKind, Write};
-use std::sync::Mutex;
+use std::sync::{Mutex, Wait};
 use std::test::*;
 
 /// Keeps what is written, five bytes a time. Where it is faulty, its second write fails, and no other.
@@ -38,24 +38,56 @@ impl Write for Tape<'_> {
     }
 }
 
+fn pipe_over(kept: &Mutex<Vec<u8>>, is_faulty: bool) -> Pipe<Tape<'_>> {
+    Pipe::new(Tape { kept, is_faulty })
+}
+
 fn reply_of(alloc: Global, digits: &str) -> Result<Reply, Fail> {
-    let bytes = bytes_of(alloc, digits).ok().ok_or("these are digits")?;
+    let bytes = bytes_of(alloc, digits)?;
     let message = decode_track(&bytes).ok().ok_or("it is a message")?;
     Ok(Reply::new(alloc, message).ok().ok_or("there is memory")?)
+}
+
+// The bytes of one message behind another.
+fn row_of(alloc: Global, first: &str, second: &str) -> Result<Vec<u8>, Fail> {
+    let mut row = bytes_of(alloc, first)?;
+    let behind = bytes_of(alloc, second)?;
+    row.extend_from_slice(&behind)?;
+    Ok(row)
+}
+
+// A queue in which the reply stands.
+fn queued<R: Wait>(
+    rt: &R,
+    alloc: Global,
+    reply: Reply,
+) -> Result<(Sender<Reply>, Receiver<Reply>), Fail> {
+    let (sender, replies) = bounded(alloc, 1)?;
+    if sender.try_send(rt, reply).is_err() {
+        return Err("there is room for the reply".into());
+    }
+    Ok((sender, replies))
+}
+
+// The writer writes the reply, and ends with the queue.
+fn written<R: Wait>(
+    rt: &R,
+    alloc: Global,
+    pipe: &Pipe<Tape<'_>>,
+    reply: Reply,
+) -> Result<Result<(), WriteFailed>, Fail> {
+    let (sender, replies) = queued(rt, alloc, reply)?;
+    drop(sender);
+    Ok(run_writer(rt, &replies, &mut pipe.end(rt)))
 }
 
 #[test]
 fn a_reply_is_written_at_once_where_none_waits(rt: HostRuntime) -> Result<(), Fail> {
     let kept = Mutex::new(Vec::new(rt.alloc()));
-    let pipe = Pipe::new(Tape {
-        kept: &kept,
-        is_faulty: false,
-    });
+    let pipe = pipe_over(&kept, false);
     let version = reply_of(rt.alloc(), VERSION)?;
-    assert_eq!(rt; pipe.write_now(&rt, &version), Ok(Now::Written));
-    let wanted = bytes_of(rt.alloc(), VERSION)
-        .ok()
-        .ok_or("these are digits")?;
+    assert!(rt; pipe.write_now(&rt, &version) == Ok(Now::Written));
+    let wanted = bytes_of(rt.alloc(), VERSION)?;
     assert!(rt; kept.lock(&rt).as_slice() == wanted.as_slice());
     Ok(())
 }
@@ -63,48 +95,45 @@ fn a_reply_is_written_at_once_where_none_waits(rt: HostRuntime) -> Result<(), Fa
 #[test]
 fn no_reply_overtakes_one_that_waits(rt: HostRuntime) -> Result<(), Fail> {
     let kept = Mutex::new(Vec::new(rt.alloc()));
-    let pipe = Pipe::new(Tape {
-        kept: &kept,
-        is_faulty: false,
-    });
-    let version = reply_of(rt.alloc(), VERSION)?;
-    let accepted = reply_of(rt.alloc(), ACCEPTED)?;
-    let (sender, replies) = bounded(rt.alloc(), 1)?;
-    pipe.expect(&accepted);
-    assert_eq!(rt; pipe.write_now(&rt, &version), Ok(Now::Later));
-    assert!(rt; kept.lock(&rt).is_empty());
-    assert!(rt; sender.try_send(&rt, accepted).is_ok());
-    drop(sender);
-    assert_eq!(rt; run_writer(&rt, &replies, &mut pipe.end(&rt)), Ok(()));
-    assert_eq!(rt; pipe.write_now(&rt, &version), Ok(Now::Written));
-    let mut wanted = bytes_of(rt.alloc(), ACCEPTED)
-        .ok()
-        .ok_or("these are digits")?;
-    let behind = bytes_of(rt.alloc(), VERSION)
-        .ok()
-        .ok_or("these are digits")?;
-    wanted.extend_from_slice(&behind)?;
+    let pipe = pipe_over(&kept, false);
+    let now = overtaken(&rt, rt.alloc(), &pipe, &kept)?;
+    assert!(rt; now == (Ok(Now::Later), true, Ok(()), Ok(Now::Written)));
+    let wanted = row_of(rt.alloc(), ACCEPTED, VERSION)?;
     assert!(rt; kept.lock(&rt).as_slice() == wanted.as_slice());
     Ok(())
+}
+
+/// What a write is answered.
+type Answer = Result<Now, WriteFailed>;
+
+// A version comes while an acceptance waits, and again behind it: what the first is answered, whether nothing is kept then, what the
+// writer of the acceptance is answered, and what the second version is.
+fn overtaken<R: Wait>(
+    rt: &R,
+    alloc: Global,
+    pipe: &Pipe<Tape<'_>>,
+    kept: &Mutex<Vec<u8>>,
+) -> Result<(Answer, bool, Result<(), WriteFailed>, Answer), Fail> {
+    let version = reply_of(alloc, VERSION)?;
+    let accepted = reply_of(alloc, ACCEPTED)?;
+    pipe.expect(&accepted);
+    let first = pipe.write_now(rt, &version);
+    let is_empty = kept.lock(rt).is_empty();
+    let waiting = written(rt, alloc, pipe, accepted)?;
+    let second = pipe.write_now(rt, &version);
+    Ok((first, is_empty, waiting, second))
 }
 
 #[test]
 fn nothing_is_written_behind_a_failed_write(rt: HostRuntime) -> Result<(), Fail> {
     let kept = Mutex::new(Vec::new(rt.alloc()));
-    let pipe = Pipe::new(Tape {
-        kept: &kept,
-        is_faulty: true,
-    });
+    let pipe = pipe_over(&kept, true);
     let version = reply_of(rt.alloc(), VERSION)?;
-    assert_eq!(rt; pipe.write_now(&rt, &version), Err(WriteFailed));
-    assert_eq!(rt; pipe.write_now(&rt, &version), Err(WriteFailed));
-    let (sender, replies) = bounded(rt.alloc(), 1)?;
+    let now = [pipe.write_now(&rt, &version), pipe.write_now(&rt, &version)];
+    assert!(rt; now == [Err(WriteFailed), Err(WriteFailed)]);
     pipe.expect(&version);
-    assert!(rt; sender.try_send(&rt, version).is_ok());
-    assert_eq!(rt;
-        run_writer(&rt, &replies, &mut pipe.end(&rt)),
-        Err(WriteFailed)
-    );
-    assert_eq!(rt; kept.lock(&rt).len(), 5);
+    let (_sender, replies) = queued(&rt, rt.alloc(), version)?;
+    let waiting = run_writer(&rt, &replies, &mut pipe.end(&rt));
+    assert!(rt; (waiting, kept.lock(&rt).len()) == (Err(WriteFailed), 5));
     Ok(())
 }

@@ -1,34 +1,55 @@
 use crate::line::{START, two_centres};
-use rbc_centre::{Body, Centre, Event, Frame, LinkAnswer};
+use crate::nodes::{A, B};
+use rbc_centre::{Body, Centre, Event, Frame, LinkAnswer, Outcome};
 use rbc_codec_tests::bytes::bytes_of;
 use rbc_msgs::decode_train;
+use std::alloc::Global;
 use std::test::*;
+
+/// Section 1 is set, and a train that centre B registers starts there, at A.
+pub fn start(alloc: Global) -> Result<Vec<Event>, Fail> {
+    let mut events = vec![in alloc; Event::Set(1)]?;
+    for text in &START {
+        let bytes = bytes_of(alloc, text)?;
+        let message = decode_train(alloc, &bytes).ok().ok_or("it is a message")?;
+        events.push(Event::Train(message))?;
+    }
+    Ok(events)
+}
+
+// The centre takes the event.
+fn taken(centre: &mut Centre, event: &Event) -> Result<Outcome, Fail> {
+    Ok(centre.step(event).ok().ok_or("the centre takes the event")?)
+}
+
+// A takes the start: the frames to B under the numbers 0, 1 and 2.
+fn asked(alloc: Global) -> Result<[Option<Frame>; 3], Fail> {
+    let line = two_centres(alloc)?;
+    let mut a = Centre::new(alloc, &line, A)?;
+    for event in &start(alloc)? {
+        taken(&mut a, event)?;
+    }
+    Ok([a.frame(B, 0), a.frame(B, 1), a.frame(B, 2)])
+}
+
+// B takes the frame, if it may: the stamp, what the link answers, and the frame back under number 1.
+fn answered(alloc: Global, frame: Frame) -> Result<(u32, Option<LinkAnswer>, Option<Frame>), Fail> {
+    let line = two_centres(alloc)?;
+    let mut b = Centre::new(alloc, &line, B)?;
+    let event = Event::Deliver { from: A, frame };
+    if b.may_step(&event) != Ok(()) {
+        return Err("B may take the frame".into());
+    }
+    let outcome = taken(&mut b, &event)?;
+    Ok((outcome.stamp, outcome.link, b.frame(A, 1)))
+}
 
 #[test]
 fn a_frame_is_kept_where_it_was_sent(rt: HostRuntime) -> Result<(), Fail> {
-    let line = two_centres(rt.alloc())?;
-    let mut a = Centre::new(rt.alloc(), &line, 0)?;
-    let mut b = Centre::new(rt.alloc(), &line, 1)?;
-    a.step(&Event::Set(1)).ok().ok_or("A takes the set")?;
-    for text in &START {
-        let bytes = bytes_of(rt.alloc(), text)?;
-        let message = decode_train(rt.alloc(), &bytes)
-            .ok()
-            .ok_or("it is a message")?;
-        a.step(&Event::Train(message))
-            .ok()
-            .ok_or("A takes the message")?;
-    }
-    assert!(rt; a.frame(1, 0).is_none());
-    assert!(rt; a.frame(1, 2).is_none());
-    let frame = a.frame(1, 1).ok_or("the frame was sent")?;
-    assert!(rt; frame == Frame::new(1, 4, Body::AskRight { engine: 2 }));
-    let event = Event::Deliver { from: 0, frame };
-    assert!(rt; b.may_step(&event) == Ok(()));
-    let outcome = b.step(&event).ok().ok_or("B takes the frame")?;
-    assert_eq!(rt; outcome.stamp, 5);
-    assert!(rt; outcome.link == Some(LinkAnswer::Next));
-    let given = Frame::new(1, 5, Body::GiveRight { engine: 2 });
-    assert!(rt; b.frame(0, 1) == Some(given));
+    let asks = Frame::new(1, 4, Body::AskRight { engine: 2 });
+    assert!(rt; asked(rt.alloc())? == [None, Some(asks), None]);
+    let gives = Frame::new(1, 5, Body::GiveRight { engine: 2 });
+    let answer = answered(rt.alloc(), asks)?;
+    assert!(rt; answer == (5, Some(LinkAnswer::Next), Some(gives)));
     Ok(())
 }

@@ -1,22 +1,24 @@
-ghost use Rattle.std.specs.Prelude.{◌≤◌, length};
+ghost use Rattle.std.specs.Prelude.{◌<◌};
 
 use crate::line::two_centres;
+use crate::nodes::{A, B};
 use rbc_centre::Event;
-use rbc_line::Line;
-use rbc_log::{CentreLog, merge};
+use rbc_log::{CentreLog, Entry, merge};
 use std::alloc::Global;
 use std::test::*;
 
-const A: u8 = 0;
-
-const B: u8 = 1;
+// A log of a centre.
+fn log_of(alloc: Global, centre: u8) -> Result<CentreLog, Fail>
+    requires { centre < 2 }
+{
+    let line = two_centres(alloc)?;
+    Ok(CentreLog::new(alloc, &line, centre)?)
+}
 
 // A log of each centre.
-fn both(alloc: Global, line: &Line) -> Result<(CentreLog, CentreLog), Fail>
-    requires { 2 ≤ length line.now.centres }
-{
-    let a = CentreLog::new(alloc, line, A)?;
-    let b = CentreLog::new(alloc, line, B)?;
+fn both(alloc: Global) -> Result<(CentreLog, CentreLog), Fail> {
+    let a = log_of(alloc, A)?;
+    let b = log_of(alloc, B)?;
     Ok((a, b))
 }
 
@@ -26,22 +28,32 @@ fn take(log: &mut CentreLog, event: Event) -> Result<(), Fail> {
     Ok(())
 }
 
-#[test]
-fn logs_are_merged_by_their_stamps(rt: HostRuntime) -> Result<(), Fail> {
-    let line = two_centres(rt.alloc())?;
-    let (mut a, mut b) = both(rt.alloc(), &line)?;
+/// The centre and the stamp of each entry.
+pub fn stamps_of(alloc: Global, entries: &[Entry]) -> Result<Vec<(u8, u32)>, Fail> {
+    let mut stamps = Vec::new(alloc);
+    for entry in entries {
+        stamps.push((entry.centre, entry.outcome.stamp))?;
+    }
+    Ok(stamps)
+}
+
+// Merges what A took, twice, and B.
+fn merged(alloc: Global) -> Result<Vec<Entry>, Fail> {
+    let (mut a, mut b) = both(alloc)?;
     take(&mut b, Event::Set(5))?;
     take(&mut a, Event::Set(0))?;
     take(&mut a, Event::Set(1))?;
-    let merged = merge(rt.alloc(), &[&b, &a])
-        .ok()
-        .ok_or("the logs are of two centres of one line")?;
-    assert_eq!(rt; merged.len(), 3);
-    assert_eq!(rt; merged[0].centre, A);
-    assert_eq!(rt; merged[1].centre, B);
-    assert_eq!(rt; merged[2].centre, A);
-    assert_eq!(rt; merged[0].outcome.stamp, 1);
-    assert_eq!(rt; merged[1].outcome.stamp, 1);
-    assert_eq!(rt; merged[2].outcome.stamp, 2);
+    Ok(
+        merge(alloc, &[&b, &a])
+            .ok()
+            .ok_or("the logs are of two centres of one line")?,
+    )
+}
+
+#[test]
+fn logs_are_merged_by_their_stamps(rt: HostRuntime) -> Result<(), Fail> {
+    let entries = merged(rt.alloc())?;
+    let stamps = stamps_of(rt.alloc(), &entries)?;
+    assert!(rt; stamps.as_slice() == [(A, 1), (B, 1), (A, 2)].as_slice());
     Ok(())
 }

@@ -1,90 +1,117 @@
-use crate::line::two_centres;
-use crate::nodes::{Held, both};
-use rbc_centre::{Event, Word};
-use rbc_node::{Open, ShareFault};
+use crate::nodes::{A, Held, both, node_of};
+use rbc_centre::{Event, Outcome, Word};
+use rbc_node::{Node, Open, Share, ShareFault};
+use std::sync::Wait;
 use std::sync::atomic::Ordering;
 use std::test::*;
 use std::thread;
+use std::thread::Threads;
 
 #[test]
 fn a_share_of_another_centre_is_stray(rt: HostRuntime) -> Result<(), Fail> {
-    let line = two_centres(rt.alloc())?;
-    let (a, b) = both(rt.alloc(), &line)?;
+    let (a, b) = both(rt.alloc())?;
     let mut share = a.share();
-    let first = a
-        .commit(&rt, &Open, &mut share, Event::Set(0))
-        .ok()
-        .ok_or("the first is taken")?;
-    let second = a
-        .commit(&rt, &Open, &mut share, Event::Set(0))
-        .ok()
-        .ok_or("the second is taken")?;
-    assert_eq!(rt; first.stamp, 1);
-    assert_eq!(rt; second.stamp, 2);
-    assert_eq!(rt; share.receipts().len(), 2);
-    let last = share.receipts().last().ok_or("there are receipts")?;
-    assert_eq!(rt; last.place, 1);
-    assert_eq!(rt; last.outcome.stamp, 2);
-    let third = a
-        .commit(&rt, &Open, &mut b.share(), Event::Set(0))
-        .err()
-        .ok_or("a share of another centre is refused")?;
-    assert_eq!(rt; third, ShareFault::Stray);
-    assert_eq!(rt; third.number(), 5);
+    let first = stamp_of(&rt, &a, &mut share, 0)?;
+    let second = stamp_of(&rt, &a, &mut share, 0)?;
+    assert!(rt; (first, second) == (1, 2));
+    assert!(rt; last_of(&share)? == (2, 1, 2));
+    let third = refused(&rt, &a, &mut b.share(), 0)?;
+    assert!(rt; (third, third.number()) == (ShareFault::Stray, 5));
     Ok(())
+}
+
+// The node takes the set, with this stamp.
+fn stamp_of<R: Wait>(rt: &R, node: &Node, share: &mut Share, section: u16) -> Result<u32, Fail> {
+    let outcome = node
+        .commit(rt, &Open, share, Event::Set(section))
+        .ok()
+        .ok_or("the set is taken")?;
+    Ok(outcome.stamp)
+}
+
+// The node refuses the set, for this reason.
+fn refused<R: Wait>(
+    rt: &R,
+    node: &Node,
+    share: &mut Share,
+    section: u16,
+) -> Result<ShareFault, Fail> {
+    Ok(
+        node.commit(rt, &Open, share, Event::Set(section))
+            .err()
+            .ok_or("the set is refused")?,
+    )
+}
+
+// How many receipts there are, and the place and the stamp of the last.
+fn last_of(share: &Share) -> Result<(usize, usize, u32), Fail> {
+    let last = share.receipts().last().ok_or("there are receipts")?;
+    Ok((share.receipts().len(), last.place, last.outcome.stamp))
 }
 
 #[test]
 fn a_share_is_stray_where_its_last_receipt_is_not(rt: HostRuntime) -> Result<(), Fail> {
-    let line = two_centres(rt.alloc())?;
-    let (a, _b) = both(rt.alloc(), &line)?;
-    let (begun_again, _b) = both(rt.alloc(), &line)?;
+    let a = node_of(rt.alloc(), A)?;
+    let begun_again = node_of(rt.alloc(), A)?;
     let mut share = a.share();
-    assert!(rt; a.commit(&rt, &Open, &mut share, Event::Set(0)).is_ok());
-    let lacking = begun_again.commit(&rt, &Open, &mut share, Event::Set(0));
-    assert_eq!(rt; lacking.err(), Some(ShareFault::Stray));
-    let mut other = begun_again.share();
-    assert!(rt;
-        begun_again
-            .commit(&rt, &Open, &mut other, Event::Set(1))
-            .is_ok()
-    );
-    let differing = begun_again.commit(&rt, &Open, &mut share, Event::Set(0));
-    assert_eq!(rt; differing.err(), Some(ShareFault::Stray));
-    assert_eq!(rt; share.receipts().len(), 1);
+    stamp_of(&rt, &a, &mut share, 0)?;
+    let lacking = refused(&rt, &begun_again, &mut share, 0)?;
+    stamp_of(&rt, &begun_again, &mut begun_again.share(), 1)?;
+    let differing = refused(&rt, &begun_again, &mut share, 0)?;
+    assert!(rt; (lacking, differing) == (ShareFault::Stray, ShareFault::Stray));
+    assert!(rt; share.receipts().len() == 1);
     Ok(())
+}
+
+/// The stamp of a set that is done, and its section.
+type Done = Option<(u32, u16)>;
+
+// What a set came to, where it is done.
+fn done(answer: Result<Outcome, ShareFault>) -> Done {
+    let outcome = answer.ok()?;
+    match outcome.words().as_slice() {
+        [Word::Done(section)] => Some((outcome.stamp, *section)),
+        _ => None,
+    }
+}
+
+// A takes a set that is held back. Meanwhile B takes one, and then A takes another: what comes of each.
+fn set_side_by_side<R: Threads + Wait + Sync>(
+    rt: &R,
+    gate: &Held,
+    a: (&Node, &mut Share),
+    b: (&Node, &mut Share),
+) -> (Done, (Done, Done)) {
+    let (a, of_a) = a;
+    let (b, of_b) = b;
+    thread::join(
+        rt,
+        || done(a.commit(rt, gate, of_a, Event::Set(0))),
+        || {
+            gate.wait_for(&gate.is_begun);
+            let other = b.commit(rt, gate, of_b, Event::Set(2));
+            gate.is_other_answered.store(true, Ordering::SeqCst);
+            let next = a.commit(rt, &Open, &mut a.share(), Event::Set(1));
+            gate.is_next_answered.store(true, Ordering::SeqCst);
+            (done(other), done(next))
+        },
+    )
 }
 
 #[test]
 fn a_commit_waits_for_the_lock_of_its_centre_alone(rt: HostRuntime) -> Result<(), Fail> {
-    let line = two_centres(rt.alloc())?;
-    let (a, b) = both(rt.alloc(), &line)?;
+    let (a, b) = both(rt.alloc())?;
     let mut of_a = a.share();
     let mut of_b = b.share();
     let gate = Held::new();
-    let (first, second) = thread::join(
-        &rt,
-        || a.commit(&rt, &gate, &mut of_a, Event::Set(0)),
-        || {
-            gate.wait_for(&gate.is_begun);
-            let other = b.commit(&rt, &gate, &mut of_b, Event::Set(2));
-            gate.is_other_answered.store(true, Ordering::SeqCst);
-            let next = a.commit(&rt, &Open, &mut a.share(), Event::Set(1));
-            gate.is_next_answered.store(true, Ordering::SeqCst);
-            (other, next)
-        },
+    let (first, others) = set_side_by_side(&rt, &gate, (&a, &mut of_a), (&b, &mut of_b));
+    assert!(rt;
+        (
+            gate.gave_up.load(Ordering::SeqCst),
+            gate.over.load(Ordering::SeqCst)
+        ) == (false, 2)
     );
-    assert!(rt; !gate.gave_up.load(Ordering::SeqCst));
-    assert_eq!(rt; gate.over.load(Ordering::SeqCst), 2);
-    let first = first.ok().ok_or("A takes its set")?;
-    let other = second.0.ok().ok_or("B takes its set")?;
-    let next = second.1.ok().ok_or("A takes another set")?;
-    assert_eq!(rt; first.stamp, 1);
-    assert_eq!(rt; other.stamp, 1);
-    assert_eq!(rt; next.stamp, 2);
-    assert_eq!(rt; first.words().as_slice(), [Word::Done(0)].as_slice());
-    assert_eq!(rt; other.words().as_slice(), [Word::Done(2)].as_slice());
-    assert_eq!(rt; of_a.receipts().len(), 1);
-    assert_eq!(rt; of_b.receipts().len(), 1);
+    assert!(rt; (first, others) == (Some((1, 0)), (Some((1, 2)), Some((2, 1)))));
+    assert!(rt; (of_a.receipts().len(), of_b.receipts().len()) == (1, 1));
     Ok(())
 }

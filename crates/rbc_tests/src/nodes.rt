@@ -1,8 +1,8 @@
 //! The nodes of two centres, and a gate that holds a commit back.
 
-ghost use Rattle.std.specs.Prelude.{◌≤◌, length};
+ghost use Rattle.std.specs.Prelude.{◌<◌};
 
-use rbc_line::Line;
+use crate::line::two_centres;
 use rbc_node::{Gate, Node};
 use std::alloc::Global;
 use std::sync::atomic::{AtomicBool, AtomicU32, Ordering};
@@ -13,12 +13,18 @@ pub const A: u8 = 0;
 
 pub const B: u8 = 1;
 
-/// A node of each centre.
-pub fn both(alloc: Global, line: &Line) -> Result<(Node, Node), Fail>
-    requires { 2 ≤ length line.now.centres }
+/// A node of one of the two centres.
+pub fn node_of(alloc: Global, centre: u8) -> Result<Node, Fail>
+    requires { centre < 2 }
 {
-    let a = Node::new(alloc, line, A)?;
-    let b = Node::new(alloc, line, B)?;
+    let line = two_centres(alloc)?;
+    Ok(Node::new(alloc, &line, centre)?)
+}
+
+/// A node of each centre.
+pub fn both(alloc: Global) -> Result<(Node, Node), Fail> {
+    let a = node_of(alloc, A)?;
+    let b = node_of(alloc, B)?;
     Ok((a, b))
 }
 

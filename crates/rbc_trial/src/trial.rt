@@ -24,9 +24,11 @@ fn ten_trains_run_over_borders_by_chance(rt: HostRuntime) -> Result<(), Fail> {
     let line = three_centres(alloc)?;
     let mut play = Play::new(alloc, &line)?;
     for turn in 0..TURNS {
-        assert_eq!(rt; play.turn(alloc, &line)?, None, "at turn {turn}");
+        let wrong = play.turn(alloc, &line)?;
+        assert!(rt; wrong == None, "at turn {turn}: {wrong:?}");
     }
-    assert_eq!(rt; play.tally.lacks(), None);
+    let lacking = play.tally.lacks();
+    assert!(rt; lacking == None, "never: {lacking:?}");
     Ok(())
 }
 
