@@ -1,9 +1,11 @@
 //! What `rbcline` prints of events, of what they lead to, and of the line.
 #![tactic(auto)]
 
+mod outcome;
 mod print;
 
+pub use outcome::print_outcome;
 pub use print::{
-    name_of, print_answer, print_counts, print_event, print_line, print_outcome, print_section,
-    print_show, print_train,
+    name_of, print_answer, print_counts, print_event, print_line, print_section, print_show,
+    print_train,
 };

@@ -1,9 +1,9 @@
-use rbc_centre::{Body, Frames, LinkAnswer, Outcome, Saying, StepFault, Word};
+use crate::outcome::print_outcome;
 use rbc_line::Line;
-use rbc_msgs::encode_track;
 use rbc_status::Fault;
 use rbc_world::{Answer, LineView, Mark, SectionView, World, WorldEvent};
 use std::alloc::Global;
+use std::fmt::Display;
 use std::io::Write;
 
 /// Prints how much of each thing the line has.
@@ -29,20 +29,31 @@ pub fn print_event<W: Write>(
     match event {
         WorldEvent::Train { centre, bytes } => {
             let digits = hex::encode_upper(alloc, bytes)?;
-            writeln!(out, "> train {} {digits}", name_of(line, *centre))?;
+            print_row(out, "train", name_of(line, *centre), digits)
         }
         WorldEvent::Set { centre, section } => {
-            writeln!(out, "> set {} {section}", name_of(line, *centre))?;
+            print_row(out, "set", name_of(line, *centre), *section)
         }
         WorldEvent::Unset { centre, section } => {
-            writeln!(out, "> unset {} {section}", name_of(line, *centre))?;
+            print_row(out, "unset", name_of(line, *centre), *section)
         }
         WorldEvent::Deliver { from, to, number } => {
             let from = name_of(line, *from);
             let to = name_of(line, *to);
             writeln!(out, "> deliver {from} {to} {number}")?;
+            Ok(())
         }
     }
+}
+
+// A line of a script: its word, the centre that it names, and what stands behind that.
+fn print_row<W: Write, D: Display + Drop>(
+    out: &mut W,
+    word: &str,
+    centre: &str,
+    rest: D,
+) -> Result<(), Fault<'static>> {
+    writeln!(out, "> {word} {centre} {rest}")?;
     Ok(())
 }
 
@@ -68,97 +79,6 @@ pub fn print_answer<W: Write>(
         // A script names centres of the line alone.
         Answer::NoCentre => {}
     }
-    Ok(())
-}
-
-/// Prints what a step of a centre, by its name, answered.
-pub fn print_outcome<W: Write>(
-    alloc: Global,
-    out: &mut W,
-    line: &Line,
-    centre: &str,
-    outcome: &Outcome,
-) -> Result<(), Fault<'static>> {
-    for saying in outcome.sayings.as_slice() {
-        print_saying(alloc, out, centre, saying)?;
-    }
-    for to in 0..line.centre_count() {
-        print_frames(out, line, centre, to, &outcome.frames)?;
-    }
-    for word in outcome.words().as_slice() {
-        print_word(out, centre, word)?;
-    }
-    match (outcome.silence, outcome.link) {
-        (Some(why), _) => writeln!(out, "{centre} silent {}", why.number())?,
-        (None, Some(LinkAnswer::Old)) => writeln!(out, "{centre} old")?,
-        (None, Some(LinkAnswer::Early)) => writeln!(out, "{centre} early")?,
-        (None, _) if says_nothing(outcome) => writeln!(out, "{centre} ok")?,
-        (None, _) => {}
-    }
-    Ok(())
-}
-
-// Whether a step has nothing to say to a train, to another centre or to the interlocking.
-fn says_nothing(outcome: &Outcome) -> bool {
-    outcome.sayings.is_empty() && outcome.frames.is_empty() && outcome.words().is_empty()
-}
-
-// The frames to one centre.
-fn print_frames<W: Write>(
-    out: &mut W,
-    line: &Line,
-    centre: &str,
-    to: u8,
-    frames: &Frames,
-) -> Result<(), Fault<'static>> {
-    let name = name_of(line, to);
-    for frame in frames.to(to).as_slice() {
-        let number = frame.number();
-        let body = body_name(frame.body());
-        writeln!(out, "{centre} => {name} {number} {body}")?;
-    }
-    Ok(())
-}
-
-// What a frame's body is called.
-fn body_name(body: Body) -> &'static str {
-    match body {
-        Body::AskRight { .. } => "AskRight",
-        Body::GiveRight { .. } => "GiveRight",
-        Body::RefuseRight { .. } => "RefuseRight",
-        Body::ReturnRight { .. } => "ReturnRight",
-        Body::RouteAsk { .. } => "RouteAsk",
-        Body::RouteInfo { .. } => "RouteInfo",
-        Body::RouteWithdraw { .. } => "RouteWithdraw",
-        Body::RouteReturn { .. } => "RouteReturn",
-        Body::Announce { .. } => "Announce",
-        Body::Cancel { .. } => "Cancel",
-        Body::TakingOver { .. } => "TakingOver",
-        Body::Yield { .. } => "Yield",
-    }
-}
-
-fn print_word<W: Write>(out: &mut W, centre: &str, word: &Word) -> Result<(), Fault<'static>> {
-    match word {
-        Word::Done(section) => writeln!(out, "{centre} {section} Done")?,
-        Word::Asked(section) => writeln!(out, "{centre} {section} Asked")?,
-        Word::NotHome(section) => writeln!(out, "{centre} {section} NotHome")?,
-        Word::Told(section) => writeln!(out, "{centre} {section} Told")?,
-    }
-    Ok(())
-}
-
-fn print_saying<W: Write>(
-    alloc: Global,
-    out: &mut W,
-    centre: &str,
-    saying: &Saying,
-) -> Result<(), Fault<'static>> {
-    let Ok(bytes) = encode_track(alloc, &saying.message) else {
-        return Err(Fault::Step(StepFault::Memory));
-    };
-    let digits = hex::encode_upper(alloc, &bytes)?;
-    writeln!(out, "{centre} -> {} {digits}", saying.nid_engine)?;
     Ok(())
 }
 
@@ -197,14 +117,24 @@ pub fn print_section<W: Write>(
     section: &SectionView,
 ) -> Result<(), Fault<'static>> {
     write!(out, "section {number} {} ", home_of(line, number))?;
-    match section.mark {
-        Mark::Shut => write!(out, "shut")?,
-        Mark::Open => write!(out, "open")?,
-        Mark::Kept { nid_engine } => write!(out, "kept {nid_engine}")?,
-        Mark::Given { nid_engine } => write!(out, "given {nid_engine}")?,
-    }
+    print_mark(out, section.mark)?;
     let wish = if section.is_wished { " wished" } else { "" };
     writeln!(out, "{wish}")?;
+    Ok(())
+}
+
+// What a section is used for, with the engine of the train that has it.
+fn print_mark<W: Write>(out: &mut W, mark: Mark) -> Result<(), Fault<'static>> {
+    let (word, train) = match mark {
+        Mark::Shut => ("shut", None),
+        Mark::Open => ("open", None),
+        Mark::Kept { nid_engine } => ("kept", Some(nid_engine)),
+        Mark::Given { nid_engine } => ("given", Some(nid_engine)),
+    };
+    match train {
+        Some(nid_engine) => write!(out, "{word} {nid_engine}")?,
+        None => write!(out, "{word}")?,
+    }
     Ok(())
 }
 

@@ -1,8 +1,8 @@
-use crate::command::Command;
 use crate::hall::Hall;
 use crate::roster::Roster;
 use crate::show::show;
 use rbc_centre::Event;
+use rbc_control::Command;
 use rbc_node::Share;
 use rbc_print::{name_of, print_event, print_outcome};
 use rbc_status::Fault;

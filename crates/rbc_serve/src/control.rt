@@ -1,10 +1,10 @@
 use crate::answer::{SCRIPT_FAULT, answer};
-use crate::command::{Command, CommandFault, command_of};
 use crate::hall::{Hall, Seat};
-use crate::limits::{CONTROL_REST, PATIENCE};
+use crate::limits::{CONTROL_REST, set_waits};
 use crate::notes::Notes;
 use crate::roster::Roster;
 use crate::rows::{Came, RowReader};
+use rbc_control::{Command, CommandFault, command_of};
 use rbc_node::Share;
 use std::io::Write;
 use std::net::TcpStream;
@@ -12,7 +12,7 @@ use std::sync::Wait;
 use std::time::Duration;
 
 /// How a connection of the interlocking went on behind a line, and how it ended.
-#[derive(Clone, Copy, Debug, PartialEq, Eq)]
+#[derive(Clone, Copy, PartialEq, Eq)]
 enum Next {
     /// The next line may come.
     Listen,
@@ -32,9 +32,7 @@ pub(crate) fn serve_control<R: Wait, N: Notes>(
 ) {
     let number = seat.number;
     notes.note(format_args!("control: connection {number} begins"));
-    let _ = stream.set_nodelay(true);
-    let _ = stream.set_read_timeout(Some(Duration::from_millis(CONTROL_REST)));
-    let _ = stream.set_write_timeout(Some(Duration::from_secs(PATIENCE)));
+    set_waits(stream, Duration::from_millis(CONTROL_REST));
     let mut shares = seat.shares.lock(rt);
     if answer_rows(rt, hall, notes, shares.as_mut_slice(), stream) == Next::Stop {
         notes.note(format_args!("control: connection {number} says stop"));

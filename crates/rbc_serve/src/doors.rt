@@ -1,4 +1,4 @@
-use crate::fault::ServeFault;
+use rbc_control::ServeFault;
 use rbc_line::Line;
 use std::alloc::Global;
 use std::net::{IpAddr, Ipv4Addr, Net, SocketAddr, TcpListener, TcpStream};

@@ -1,19 +1,17 @@
-use crate::doors::Listening;
-use crate::limits::{CELLS, CONTROLS, SPARE};
 use rbc_board::CellBoard;
 use rbc_exchange::Exchange;
 use rbc_line::Line;
 use rbc_node::{Node, Open, Share};
 use rbc_print::name_of;
 use rbc_workers::Desk;
-use std::alloc::{AllocError, Global};
+use std::alloc::Global;
 use std::net::{SocketAddr, TcpListener};
 use std::sync::Mutex;
 use std::sync::atomic::{AtomicBool, AtomicU64, Ordering};
 use std::thread::Parker;
 
 /// Who comes through a door.
-#[derive(Clone, Copy, Debug, PartialEq, Eq)]
+#[derive(Clone, Copy)]
 pub(crate) enum Caller {
     /// Trains, to the centre of this number.
     Trains(u8),
@@ -159,114 +157,4 @@ impl Hall<'_> {
         self.state.has_failed.store(true, Ordering::SeqCst);
         self.stop();
     }
-}
-
-/// How many connections a centre of the line serves at once.
-pub(crate) fn most_trains(line: &Line) -> usize {
-    line.train_count() as usize + SPARE
-}
-
-/// A node for each centre of the line.
-pub(crate) fn nodes_of(alloc: Global, line: &Line) -> Result<Vec<Node>, AllocError> {
-    let mut nodes = Vec::new(alloc);
-    for centre in 0..line.centre_count() {
-        nodes.push(Node::new(alloc, line, centre)?)?;
-    }
-    Ok(nodes)
-}
-
-/// The doors of the centres, and behind them the control door, each with its seats.
-pub(crate) fn doors_of(
-    alloc: Global,
-    line: &Line,
-    nodes: &[Node],
-    listening: Vec<Listening>,
-) -> Result<Vec<Door>, AllocError> {
-    let mut doors = Vec::new(alloc);
-    for (number, Listening { listener, address }) in listening.into_iter().enumerate() {
-        let (caller, count, reached) = match nodes.get(number) {
-            Some(node) => (
-                Caller::Trains(node.share().centre()),
-                most_trains(line),
-                &nodes[number..=number],
-            ),
-            None => (Caller::Interlocking, CONTROLS, nodes),
-        };
-        doors.push(Door {
-            listener,
-            address,
-            caller,
-            seats: seats_of(alloc, count, reached)?,
-            bell: Parker::new(),
-        })?;
-    }
-    Ok(doors)
-}
-
-// So many seats, from which these nodes are reached.
-fn seats_of(alloc: Global, count: usize, nodes: &[Node]) -> Result<Vec<Seat>, AllocError> {
-    let mut seats = Vec::with_capacity(alloc, count)?;
-    for number in 0..count {
-        let mut shares = Vec::with_capacity(alloc, nodes.len())?;
-        for node in nodes {
-            shares.push(node.share())?;
-        }
-        seats.push(Seat {
-            number,
-            is_taken: AtomicBool::new(false),
-            shares: Mutex::new(shares),
-        })?;
-    }
-    Ok(seats)
-}
-
-/// The links of the line, each in one direction.
-pub(crate) fn links_of(
-    alloc: Global,
-    line: &Line,
-    nodes: &[Node],
-) -> Result<Vec<DirectedLink>, AllocError> {
-    let mut links = Vec::new(alloc);
-    for from in 0..line.centre_count() {
-        for node in nodes {
-            let share = node.share();
-            let to = share.centre();
-            if line.linked(from, to) {
-                links.push(DirectedLink {
-                    from,
-                    to,
-                    board: CellBoard::new(alloc, CELLS)?,
-                    put: Parker::new(),
-                    share: Mutex::new(share),
-                })?;
-            }
-        }
-    }
-    Ok(links)
-}
-
-/// For each centre the bells of its links, by the numbers of the centres that they lead to.
-pub(crate) fn bells_of(alloc: Global, line: &Line) -> Result<Vec<Vec<Parker>>, AllocError> {
-    let mut bells = Vec::new(alloc);
-    for _ in 0..line.centre_count() {
-        let mut row = Vec::new(alloc);
-        for _ in 0..line.centre_count() {
-            row.push(Parker::new())?;
-        }
-        bells.push(row)?;
-    }
-    Ok(bells)
-}
-
-/// For each centre the connections of its trains.
-pub(crate) fn exchanges_of<'a>(
-    alloc: Global,
-    line: &'a Line,
-    bells: &'a [Vec<Parker>],
-) -> Result<Vec<Exchange<'a>>, AllocError> {
-    let mut exchanges = Vec::new(alloc);
-    for row in bells {
-        exchanges.push(Exchange::new(alloc, line, most_trains(line), row.as_slice())?)?;
-    }
-    Ok(exchanges)
 }

@@ -3,16 +3,14 @@
 #![tactic(auto)]
 
 mod answer;
-mod command;
+mod build;
 mod control;
 mod doors;
-mod fault;
 mod hall;
 mod limits;
 mod links;
 mod noted;
 mod notes;
-mod printing;
 mod roster;
 mod rows;
 mod running;
@@ -20,6 +18,6 @@ mod sessions;
 mod show;
 
 pub use doors::Doors;
-pub use fault::ServeFault;
 pub use notes::{Loud, Notes, Quiet};
+pub use rbc_control::ServeFault;
 pub use running::serve;

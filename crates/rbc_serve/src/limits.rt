@@ -1,5 +1,8 @@
 //! How much of each thing there is at most, and how long each wait takes.
 
+use std::net::TcpStream;
+use std::time::Duration;
+
 /// How many frames a directed link carries.
 pub(crate) const CELLS: u32 = 65_536;
 
@@ -16,7 +19,7 @@ pub(crate) const REPLIES: usize = 256;
 pub(crate) const MOST_ROW: usize = 4_096;
 
 /// How long a write may wait for a client that reads nothing, in seconds. Then its connection is cut.
-pub(crate) const PATIENCE: u64 = 10;
+const PATIENCE: u64 = 10;
 
 /// How long a train may say nothing, in seconds. Then its connection counts as lost.
 pub(crate) const SILENCE: u64 = 600;
@@ -26,3 +29,10 @@ pub(crate) const DOOR_REST: u64 = 20;
 
 /// How long a control connection waits for a line before it looks whether the centres still run, in milliseconds.
 pub(crate) const CONTROL_REST: u64 = 100;
+
+/// Lets a connection send at once. A read waits for the client no longer than this, and a write no longer than `PATIENCE`.
+pub(crate) fn set_waits(stream: &TcpStream, reading: Duration) {
+    let _ = stream.set_nodelay(true);
+    let _ = stream.set_read_timeout(Some(reading));
+    let _ = stream.set_write_timeout(Some(Duration::from_secs(PATIENCE)));
+}

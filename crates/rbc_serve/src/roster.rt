@@ -13,7 +13,7 @@ pub(crate) struct Roster {
 }
 
 /// When a message named a train: the stamp of its step, and the centre.
-#[derive(Clone, Copy, Debug, PartialEq, Eq, PartialOrd, Ord)]
+#[derive(Clone, Copy, PartialEq, Eq, PartialOrd, Ord)]
 struct Mention {
     stamp: u32,
     centre: u8,

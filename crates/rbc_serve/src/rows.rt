@@ -13,7 +13,7 @@ pub(crate) struct RowReader<R: Drop> {
 }
 
 /// What came over a connection.
-#[derive(Debug, Drop)]
+#[derive(Drop)]
 pub(crate) enum Came {
     /// A line, without the line feed that ends it.
     Row(Vec<u8>),

@@ -1,15 +1,12 @@
+use crate::build::{bells_of, doors_of, exchanges_of, links_of, nodes_of};
 use crate::control::serve_control;
 use crate::doors::Doors;
-use crate::fault::ServeFault;
-use crate::hall::{
-    Caller, DirectedLink, Door, Hall, Seat, State, bells_of, doors_of, exchanges_of, links_of,
-    nodes_of,
-};
+use crate::hall::{Caller, DirectedLink, Door, Hall, Seat, State};
 use crate::limits::DOOR_REST;
 use crate::links::{receive, send};
 use crate::notes::Notes;
-use crate::printing::print_family;
 use crate::sessions::serve_train;
+use rbc_control::{ServeFault, print_family};
 use rbc_line::Line;
 use rbc_node::{Node, Share, gather};
 use std::alloc::{AllocError, Global};
@@ -115,13 +112,7 @@ fn run_door<R: Threads + Wait + Sync, N: Notes + Sync>(
             if hall.state.is_stopped() {
                 break;
             }
-            let Ok((stream, _)) = door.listener.accept() else {
-                door.bell.park_timeout(rt, Duration::from_millis(DOOR_REST));
-                continue;
-            };
-            let Some(seat) = door.free_seat() else {
-                let name = hall.name(door.caller);
-                notes.note(format_args!("{name}: a connection is refused, there are too many"));
+            let Some((stream, seat)) = next_caller(rt, hall, notes, door) else {
                 continue;
             };
             let caller = door.caller;
@@ -137,6 +128,25 @@ fn run_door<R: Threads + Wait + Sync, N: Notes + Sync>(
     if let Caller::Trains(_) = door.caller {
         hall.state.close_door();
     }
+}
+
+// Who comes through a door now, with a seat. It rests a while where nobody comes, and refuses who finds no free seat.
+fn next_caller<'a, R: Wait, N: Notes>(
+    rt: &R,
+    hall: &Hall<'_>,
+    notes: &N,
+    door: &'a Door,
+) -> Option<(TcpStream, &'a Seat)> {
+    let Ok((stream, _)) = door.listener.accept() else {
+        door.bell.park_timeout(rt, Duration::from_millis(DOOR_REST));
+        return None;
+    };
+    let Some(seat) = door.free_seat() else {
+        let name = hall.name(door.caller);
+        notes.note(format_args!("{name}: a connection is refused, there are too many"));
+        return None;
+    };
+    Some((stream, seat))
 }
 
 // Serves one connection, and leaves its seat.
@@ -163,13 +173,19 @@ fn shares_of(
 ) -> Result<Vec<Share>, AllocError> {
     let mut all = Vec::new(alloc);
     for door in doors {
-        for seat in door.seats {
-            let mut shares = seat.shares.into_inner();
-            all.append(&mut shares)?;
-        }
+        add_shares(&mut all, door.seats)?;
     }
     for link in links {
         all.push(link.share.into_inner())?;
     }
     Ok(all)
+}
+
+// Adds the receipts of what was committed from these seats.
+fn add_shares(all: &mut Vec<Share>, seats: Vec<Seat>) -> Result<(), AllocError> {
+    for seat in seats {
+        let mut shares = seat.shares.into_inner();
+        all.append(&mut shares)?;
+    }
+    Ok(())
 }

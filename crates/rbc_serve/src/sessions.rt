@@ -1,5 +1,5 @@
 use crate::hall::{Hall, Seat};
-use crate::limits::{PATIENCE, REPLIES, SILENCE};
+use crate::limits::{REPLIES, SILENCE, set_waits};
 use crate::noted::NotedWire;
 use crate::notes::Notes;
 use crossbeam_channel::{Receiver, bounded};
@@ -41,11 +41,7 @@ pub(crate) fn serve_train<R: Threads + Wait + Sync, N: Notes + Sync>(
         notes,
         name,
     };
-    let (end, ()) = thread::join(
-        rt,
-        || read_messages(rt, hall.alloc, node, seat, &ends.stream, &noted),
-        || write_replies(rt, &ends),
-    );
+    let end = read_and_write(rt, hall.alloc, node, seat, &ends, &noted);
     tell_end(notes, name, number, end);
 }
 
@@ -65,22 +61,44 @@ fn entered<R: Wait>(
     number: usize,
     stream: TcpStream,
 ) -> Result<Ends, AllocError> {
-    let _ = stream.set_nodelay(true);
-    let _ = stream.set_read_timeout(Some(Duration::from_secs(SILENCE)));
-    let _ = stream.set_write_timeout(Some(Duration::from_secs(PATIENCE)));
+    set_waits(&stream, Duration::from_secs(SILENCE));
+    let (ends, connection) = ends_of(alloc, stream)?;
+    exchange.enter(rt, number, connection)?;
+    Ok(ends)
+}
+
+// What the threads of a connection have of it, and what the exchange has.
+fn ends_of(alloc: Global, stream: TcpStream) -> Result<(Ends, Connection), AllocError> {
     let stream = Arc::new(alloc, stream)?;
     let pipe = Arc::new(alloc, Pipe::new(Shared(Arc::try_clone(&stream)?)))?;
     let (sender, replies) = bounded(alloc, REPLIES)?;
     let connection = Connection::new(sender, Arc::try_clone(&pipe)?, Arc::try_clone(&stream)?);
-    exchange.enter(rt, number, connection)?;
-    Ok(Ends {
+    let ends = Ends {
         stream,
         pipe,
         replies,
-    })
+    };
+    Ok((ends, connection))
 }
 
-// Commits what the train says, and says how it ended: none where the train was too slow to take its answers.
+// Reads and writes the connection, each in a thread, and says how it ended: none where the train was too slow to take its answers.
+fn read_and_write<R: Threads + Wait + Sync, N: Notes + Sync>(
+    rt: &R,
+    alloc: Global,
+    node: &Node,
+    seat: &Seat,
+    ends: &Ends,
+    noted: &NotedWire<'_, N>,
+) -> Option<SessionEnd> {
+    let (end, ()) = thread::join(
+        rt,
+        || read_messages(rt, alloc, node, seat, &ends.stream, noted),
+        || write_replies(rt, ends),
+    );
+    end
+}
+
+// Commits what the train says, and says how the session ended: none where the train was too slow to take its answers.
 fn read_messages<R: Wait, N: Notes>(
     rt: &R,
     alloc: Global,
@@ -107,25 +125,21 @@ fn write_replies<R: Wait>(rt: &R, ends: &Ends) {
 }
 
 fn tell_end<N: Notes>(notes: &N, name: &str, number: usize, end: Option<SessionEnd>) {
+    match ending(end) {
+        (told, Some(fault)) => {
+            notes.note(format_args!("{name}: train connection {number} {told} {fault}"));
+        }
+        (told, None) => notes.note(format_args!("{name}: train connection {number} {told}")),
+    }
+}
+
+// What is noted of an end, with the number of its fault.
+fn ending(end: Option<SessionEnd>) -> (&'static str, Option<u8>) {
     match end {
-        Some(SessionEnd::EndOfStream) => {
-            notes.note(format_args!("{name}: train connection {number} ends"));
-        }
-        Some(SessionEnd::Fault(fault)) => {
-            let fault = fault.number();
-            notes.note(format_args!(
-                "{name}: train connection {number} is ended, stream fault {fault}"
-            ));
-        }
-        Some(SessionEnd::Device) => {
-            notes.note(format_args!("{name}: train connection {number} is lost"));
-        }
-        Some(SessionEnd::Refused(fault)) => {
-            let fault = fault.number();
-            notes.note(format_args!("{name}: train connection {number} is ended, refused {fault}"));
-        }
-        None => notes.note(format_args!(
-            "{name}: train connection {number} is cut, its train is too slow"
-        )),
+        Some(SessionEnd::EndOfStream) => ("ends", None),
+        Some(SessionEnd::Fault(fault)) => ("is ended, stream fault", Some(fault.number())),
+        Some(SessionEnd::Device) => ("is lost", None),
+        Some(SessionEnd::Refused(fault)) => ("is ended, refused", Some(fault.number())),
+        None => ("is cut, its train is too slow", None),
     }
 }

@@ -53,16 +53,21 @@ impl Sight {
 
     // Adds what a centre shows of its own sections and of the trains that it supervises.
     fn add(&mut self, line: &Line, log: &CentreLog) {
-        let centre = log.core();
         for s in 0..line.section_count() {
-            if line.is_home(centre.number(), s) {
-                if let Some(page) = self.pages.get_mut(s as usize) {
-                    *page = centre.page(s);
-                }
-            }
+            self.add_page(line, log, s);
         }
         for i in 0..line.train_count() {
             self.add_mission(line, log, i);
+        }
+    }
+
+    fn add_page(&mut self, line: &Line, log: &CentreLog, s: u16) {
+        let centre = log.core();
+        if !line.is_home(centre.number(), s) {
+            return;
+        }
+        if let Some(page) = self.pages.get_mut(s as usize) {
+            *page = centre.page(s);
         }
     }
 
@@ -89,15 +94,20 @@ impl Sight {
         roster: &Roster,
         text: &mut Vec<u8>,
     ) -> Result<(), Fault<'static>> {
+        self.print_sections(line, text)?;
+        for i in roster.order(alloc)?.iter() {
+            self.print_mission(line, *i, text)?;
+        }
+        Ok(())
+    }
+
+    fn print_sections(&self, line: &Line, text: &mut Vec<u8>) -> Result<(), Fault<'static>> {
         for (s, page) in self.pages.iter().enumerate() {
             let view = SectionView {
                 mark: self.mark(line, s, page.entry),
                 is_wished: page.is_wished,
             };
             print_section(text, line, s, &view)?;
-        }
-        for i in roster.order(alloc)?.iter() {
-            self.print_mission(line, *i, text)?;
         }
         Ok(())
     }

@@ -22,7 +22,7 @@ pub enum ServeFault {
 
 impl ServeFault {
     ghost use Rattle.std.specs.Prelude.{◌≡◌};
-    ghost use Rattle.rbc_serve.specs.Statuses.{status_of_serve};
+    ghost use Rattle.rbc_control.specs.Statuses.{status_of_serve};
 
     /// The program's exit status.
     pub fn status(&self) -> u8

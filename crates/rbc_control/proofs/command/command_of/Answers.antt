@@ -1,9 +1,9 @@
 use Rattle.std.proofs.Common.{IfOk, IfErr, sym, subst, rules}
 use Rattle.rbc_script.specs.Script.{rows}
 use Rattle.rbc_script.specs.Entries.{AreAsked}
-use Rattle.rbc_serve.specs.Commands.{Bids, IsNoCommand}
-use Rattle.rbc_serve.proofs.Bidden.{bids, bids_nothing}
-use Rattle.rbc_serve.proofs.command.command_of.Goals as goal
+use Rattle.rbc_control.specs.Commands.{Bids, IsNoCommand}
+use Rattle.rbc_control.proofs.Bidden.{bids, bids_nothing}
+use Rattle.rbc_control.proofs.command.command_of.Goals as goal
 
 pub returns-in-Ok-clause-ok : goal.returns-in-Ok-clause-ok
 returns-in-Ok-clause-ok c =

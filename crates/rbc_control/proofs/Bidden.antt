@@ -5,10 +5,10 @@ use Rattle.rbc_script.specs.Script as script
 use Rattle.rbc_script.specs.Script.{Asked, rows}
 use Rattle.rbc_script.specs.Entries.{AreAsked, asked_of}
 use Rattle.rbc_script.specs.declared.script.Entry.{Entry}
-use Rattle.rbc_serve.specs.Commands.{AskFor, bidden, bidden_once, Bids, IsNoCommand}
-use Rattle.rbc_serve.specs.declared.command.Command.{Command}
-use Rattle.rbc_serve.specs.declared.command.Command.TheVariants as command
-use Rattle.rbc_serve.specs.declared.command.CommandFault.TheVariants as fault
+use Rattle.rbc_control.specs.Commands.{AskFor, bidden, bidden_once, Bids, IsNoCommand}
+use Rattle.rbc_control.specs.declared.command.Command.{Command}
+use Rattle.rbc_control.specs.declared.command.Command.TheVariants as command
+use Rattle.rbc_control.specs.declared.command.CommandFault.TheVariants as fault
 
 some_asked : (entries : List Entry) → map Some (map asked_of entries) ≡ map (λ e. Some (asked_of e)) entries
 some_asked [] = refl

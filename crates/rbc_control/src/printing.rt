@@ -16,7 +16,7 @@ use std::alloc::{AllocError, Global};
 use std::io::{BufWriter, Write};
 
 /// Prints the events of all logs by their stamps, each with what it led to as its log has it, and the line at the end.
-pub(crate) fn print_family<O: Write>(
+pub fn print_family<O: Write>(
     alloc: Global,
     line: &Line,
     family: &Family,

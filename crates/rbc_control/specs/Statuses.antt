@@ -1,8 +1,8 @@
 -- The exit statuses of the running centres.
 use Rattle.std.specs.Prelude.{ℕ}
 use Rattle.rbc_status.specs.Statuses.{status_of}
-use Rattle.rbc_serve.specs.declared.fault.ServeFault.{ServeFault}
-use Rattle.rbc_serve.specs.declared.fault.ServeFault.TheVariants.{Socket, Gather, Merge, Run}
+use Rattle.rbc_control.specs.declared.fault.ServeFault.{ServeFault}
+use Rattle.rbc_control.specs.declared.fault.ServeFault.TheVariants.{Socket, Gather, Merge, Run}
 
 abbrev pub status_of_serve : ServeFault → ℕ
 status_of_serve Socket = 6

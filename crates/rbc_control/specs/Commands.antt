@@ -5,10 +5,10 @@ use Rattle.rbc_script.specs.Script as script
 use Rattle.rbc_script.specs.Script.{Asked, row_asks, is_kept, rows}
 use Rattle.rbc_script.specs.Entries.{IsFirstFault}
 use Rattle.rbc_script.specs.declared.script.ScriptFault.TheVariants as refused
-use Rattle.rbc_serve.specs.declared.command.Command.{Command}
-use Rattle.rbc_serve.specs.declared.command.Command.TheVariants as command
-use Rattle.rbc_serve.specs.declared.command.CommandFault.{CommandFault}
-use Rattle.rbc_serve.specs.declared.command.CommandFault.TheVariants as fault
+use Rattle.rbc_control.specs.declared.command.Command.{Command}
+use Rattle.rbc_control.specs.declared.command.Command.TheVariants as command
+use Rattle.rbc_control.specs.declared.command.CommandFault.{CommandFault}
+use Rattle.rbc_control.specs.declared.command.CommandFault.TheVariants as fault
 
 -- what one line of a script asks for, as far as the interlocking may ask for it: nothing of a train or of a link
 abbrev pub bidden_once : Asked → Option Command

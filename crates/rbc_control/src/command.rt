@@ -1,6 +1,6 @@
 ghost use Rattle.std.specs.Prelude.{◌≡◌, map, IfOk, IfErr};
 ghost use Rattle.rbc_script.specs.Entries.{asked_of, event_of};
-ghost use Rattle.rbc_serve.specs.Commands.{bidden, bidden_once, Bids, IsNoCommand};
+ghost use Rattle.rbc_control.specs.Commands.{bidden, bidden_once, Bids, IsNoCommand};
 
 use rbc_line::Line;
 use rbc_script::script::{Entry, ScriptFault, script_of};
@@ -9,7 +9,7 @@ use std::alloc::Global;
 
 /// What a line at the control door asks for.
 #[derive(Clone, Copy, Debug, PartialEq, Eq)]
-pub(crate) enum Command {
+pub enum Command {
     /// The line is skipped.
     Nothing,
     /// The interlocking releases a section.
@@ -24,14 +24,14 @@ pub(crate) enum Command {
 
 /// Why a line at the control door is refused.
 #[derive(Clone, Copy, Debug, PartialEq, Eq)]
-pub(crate) enum CommandFault {
+pub enum CommandFault {
     Memory,
     /// The line has no form that a line at the control door may have.
     Form,
 }
 
 /// What a line asks for. It has the form of a script's line `set`, `unset` or `show`, or is `stop`.
-pub(crate) fn command_of(alloc: Global, line: &Line, row: &str) -> Result<Command, CommandFault>
+pub fn command_of(alloc: Global, line: &Line, row: &str) -> Result<Command, CommandFault>
     ensures ok { IfOk result (Bids line.now row.now) }
     ensures err { IfErr result (IsNoCommand line.now row.now) }
 {
