@@ -9,7 +9,6 @@ mod codec;
 mod merging;
 mod missions;
 mod print;
-mod script;
 
 use crate::codec::measure_codec;
 use crate::merging::measure_merge;

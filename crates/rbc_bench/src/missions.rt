@@ -1,11 +1,11 @@
 //! How many events a second the centres of a line take, from bytes to bytes.
 
 use crate::print::print_answer;
-use crate::script::events_of;
 use anyhow::{Context, bail};
 use rbc_centre::Outcome;
 use rbc_line::Line;
 use rbc_msgs::encode_track;
+use rbc_script::script::{Entry, script_of};
 use rbc_world::{Answer, World, WorldEvent};
 use std::alloc::Global;
 use std::io::{BufWriter, Write};
@@ -16,7 +16,7 @@ use std::{fs, io};
 pub fn print_answers(rt: &HostRuntime, line: &str, script: &str) -> anyhow::Result<()> {
     let alloc = rt.alloc();
     let line = line_in(rt, line)?;
-    let events = events_of(alloc, &line, fs::read_to_string(rt, script)?.as_str())?;
+    let events = events_in(rt, &line, script)?;
     let mut world = World::new(alloc, &line)?;
     let mut out = BufWriter::new(alloc, io::writer(rt))?;
     for event in &events {
@@ -34,7 +34,7 @@ pub fn print_answers(rt: &HostRuntime, line: &str, script: &str) -> anyhow::Resu
 pub fn measure_steps(rt: &HostRuntime, line: &str, script: &str, turns: u32) -> anyhow::Result<()> {
     let alloc = rt.alloc();
     let line = line_in(rt, line)?;
-    let events = events_of(alloc, &line, fs::read_to_string(rt, script)?.as_str())?;
+    let events = events_in(rt, &line, script)?;
     let mut nanos = u128::MAX;
     let mut bytes = 0;
     for _ in 0..turns {
@@ -57,6 +57,22 @@ pub fn line_in(rt: &HostRuntime, file: &str) -> anyhow::Result<Line> {
         Ok(line) => Ok(line),
         Err(fault) => bail!("line fault {}", fault.number()),
     }
+}
+
+// The events of a script, which shows no line.
+fn events_in(rt: &HostRuntime, line: &Line, file: &str) -> anyhow::Result<Vec<WorldEvent>> {
+    let text = fs::read_to_string(rt, file)?;
+    let Ok(entries) = script_of(rt.alloc(), line, text.as_str()) else {
+        bail!("a line of the script has no form")
+    };
+    let mut events = Vec::with_capacity(rt.alloc(), entries.len())?;
+    for entry in entries {
+        match entry {
+            Entry::Event(event) => events.push(event)?,
+            Entry::Show => bail!("a line of the script is no event"),
+        }
+    }
+    Ok(events)
 }
 
 // Takes the events one after another: how many bytes of messages were written to trains. None where a step was refused or memory

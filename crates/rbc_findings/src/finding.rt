@@ -6,7 +6,7 @@ use std::fmt::Formatter;
 
 /// Where something stands in a line file. Numbers count from 0 in the order of the file, those of sections over all
 /// tracks. Names and engines are there to find the place by, where the file has them.
-#[derive(Clone, Copy, PartialEq, Eq, Debug)]
+#[derive(Clone, Copy)]
 pub enum Place<'a> {
     /// No centre, track, section or train: the file as a whole.
     File,
@@ -29,7 +29,7 @@ pub enum Place<'a> {
 }
 
 /// What a line has a limited number of.
-#[derive(Clone, Copy, PartialEq, Eq, Debug)]
+#[derive(Clone, Copy)]
 pub enum Counted {
     Centres,
     Tracks,
@@ -38,7 +38,7 @@ pub enum Counted {
 }
 
 /// What is wrong at a place.
-#[derive(Clone, Copy, PartialEq, Eq, Debug)]
+#[derive(Clone, Copy)]
 pub enum Flaw<'a> {
     /// A key that has to be there is not.
     Missing {
@@ -106,7 +106,7 @@ pub enum Flaw<'a> {
 }
 
 /// One thing that is wrong in a line file.
-#[derive(Clone, Copy, PartialEq, Eq, Debug)]
+#[derive(Clone, Copy)]
 pub struct Finding<'a> {
     pub place: Place<'a>,
     pub flaw: Flaw<'a>,
@@ -171,31 +171,33 @@ impl fmt::Display for Finding<'_> {
 
 impl fmt::Display for Place<'_> {
     fn fmt<W: fmt::Write>(&self, f: &mut Formatter<W>) -> fmt::Result {
+        let (what, number) = match self {
+            Place::File => return f.write_str("file"),
+            Place::Centre { number, .. } => ("centre", number),
+            Place::Track { number, .. } => ("track", number),
+            Place::Section { number, .. } => ("section", number),
+            Place::Train { number, .. } => ("train", number),
+        };
+        write!(f, "{what} {number}")?;
         match self {
-            Place::File => f.write_str("file"),
-            Place::Centre { number, name } => write_named(f, "centre", *number, *name),
-            Place::Track { number, name } => write_named(f, "track", *number, *name),
-            Place::Section { number, track } => match track {
-                Some(track) => write!(f, "section {number} of track {track:?}"),
-                None => write!(f, "section {number}"),
-            },
-            Place::Train { number, engine } => match engine {
-                Some(engine) => write!(f, "train {number} (engine {engine})"),
-                None => write!(f, "train {number}"),
-            },
+            Place::Centre {
+                name: Some(name),
+                ..
+            }
+            | Place::Track {
+                name: Some(name),
+                ..
+            } => { write!(f, " {name:?}") }
+            Place::Section {
+                track: Some(track),
+                ..
+            } => write!(f, " of track {track:?}"),
+            Place::Train {
+                engine: Some(engine),
+                ..
+            } => write!(f, " (engine {engine})"),
+            _ => Ok(()),
         }
-    }
-}
-
-fn write_named<W: fmt::Write>(
-    f: &mut Formatter<W>,
-    what: &str,
-    number: usize,
-    name: Option<&str>,
-) -> fmt::Result {
-    match name {
-        Some(name) => write!(f, "{what} {number} {name:?}"),
-        None => write!(f, "{what} {number}"),
     }
 }
 
@@ -219,27 +221,39 @@ impl fmt::Display for Flaw<'_> {
                 write!(f, "{key} is of type {found}, not {wanted}")
             }
             Flaw::NoTable { found } => write!(f, "is of type {found}, not table"),
-            Flaw::Count { counted, count } => {
-                let (low, high) = counted.limits();
-                write!(f, "has {count} {counted}, not {low} to {high}")
-            }
             Flaw::Empty => f.write_str("has no section"),
-            Flaw::Length { metres } => write!(f, "length {metres} is not 100 to 2000"),
-            Flaw::Number {
-                key,
-                value,
-                highest,
-            } => write!(f, "{key} {value} is not 0 to {highest}"),
-            Flaw::Name { name } => {
-                write!(f, "name {name:?} is not 1 to 16 ASCII letters or digits")
-            }
-            Flaw::NameTwice { name, first } => write!(f, "name {name:?} is that of {first} too"),
-            Flaw::NumberTwice { key, value, first } => {
-                write!(f, "{key} {value} is that of {first} too")
-            }
-            Flaw::Home { key, name } => write!(f, "{key} {name:?} names no centre"),
-            Flaw::Order { home } => { write!(f, "home {home:?} comes again behind another home") }
-            Flaw::Unplaced { .. } => f.write_str("has the fault at a place that was not found"),
+            other => write_value(f, *other),
         }
+    }
+}
+
+/// Values out of their bounds, and the flaws that `write_conflict` tells.
+fn write_value<W: fmt::Write>(f: &mut Formatter<W>, flaw: Flaw<'_>) -> fmt::Result {
+    match flaw {
+        Flaw::Count { counted, count } => {
+            let (low, high) = counted.limits();
+            write!(f, "has {count} {counted}, not {low} to {high}")
+        }
+        Flaw::Length { metres } => write!(f, "length {metres} is not 100 to 2000"),
+        Flaw::Number {
+            key,
+            value,
+            highest,
+        } => write!(f, "{key} {value} is not 0 to {highest}"),
+        Flaw::Name { name } => write!(f, "name {name:?} is not 1 to 16 ASCII letters or digits"),
+        other => write_conflict(f, other),
+    }
+}
+
+/// Values that do not go with the rest of the file, and a flaw that was not found.
+fn write_conflict<W: fmt::Write>(f: &mut Formatter<W>, flaw: Flaw<'_>) -> fmt::Result {
+    match flaw {
+        Flaw::NameTwice { name, first } => write!(f, "name {name:?} is that of {first} too"),
+        Flaw::NumberTwice { key, value, first } => {
+            write!(f, "{key} {value} is that of {first} too")
+        }
+        Flaw::Home { key, name } => write!(f, "{key} {name:?} names no centre"),
+        Flaw::Order { home } => write!(f, "home {home:?} comes again behind another home"),
+        _ => f.write_str("has the fault at a place that was not found"),
     }
 }

@@ -37,19 +37,15 @@ impl<'a> Inspection<'a> {
         let file = Place::File;
         self.keys(file, table, &["nid_c", "centre", "track", "train"])?;
         self.number(file, table, "nid_c", 1023)?;
-        if let Some(centres) = self.array(file, table, "centre")? {
-            self.centres(centres)?;
-        }
-        if let Some(tracks) = self.array(file, table, "track")? {
-            self.tracks(alloc, tracks)?;
-        }
-        if let Some(trains) = self.array(file, table, "train")? {
-            self.trains(trains)?;
-        }
-        Ok(())
+        self.centres(table)?;
+        self.tracks(alloc, table)?;
+        self.trains(table)
     }
 
-    fn centres(&mut self, centres: &'a Array) -> Result<(), AllocError> {
+    fn centres(&mut self, file: &'a Table) -> Result<(), AllocError> {
+        let Some(centres) = self.array(Place::File, file, "centre")? else {
+            return Ok(());
+        };
         self.has_centres = true;
         self.count(Counted::Centres, centres.len())?;
         for (number, centre) in centres.iter().enumerate() {
@@ -69,14 +65,13 @@ impl<'a> Inspection<'a> {
                 self.note(place, Flaw::NameTwice { name, first })?;
             }
         }
-        if let Some(value) = self.number(place, table, "nid_rbc", 16382)? {
-            let first = first_place(&mut self.nid_rbcs, value, place)?;
-            self.note_first(place, "nid_rbc", value, first)?;
-        }
-        Ok(())
+        self.own_number(place, table, "nid_rbc", 16382)
     }
 
-    fn tracks(&mut self, alloc: Global, tracks: &'a Array) -> Result<(), AllocError> {
+    fn tracks(&mut self, alloc: Global, file: &'a Table) -> Result<(), AllocError> {
+        let Some(tracks) = self.array(Place::File, file, "track")? else {
+            return Ok(());
+        };
         self.count(Counted::Tracks, tracks.len())?;
         let mut sections = 0;
         for (number, track) in tracks.iter().enumerate() {
@@ -104,12 +99,7 @@ impl<'a> Inspection<'a> {
         let Some(table) = self.table(place, track, &["name", "section"])? else {
             return Ok(sections);
         };
-        let name = self.name(place, table)?;
-        if let Some(name) = name {
-            if let Some(first) = first_place(&mut self.track_names, name, place)? {
-                self.note(place, Flaw::NameTwice { name, first })?;
-            }
-        }
+        let name = self.track_name(place, table)?;
         let Some(items) = self.array(place, table, "section")? else {
             return Ok(sections);
         };
@@ -117,6 +107,20 @@ impl<'a> Inspection<'a> {
             self.note(place, Flaw::Empty)?;
         }
         self.sections(alloc, name, sections, items)
+    }
+
+    fn track_name(
+        &mut self,
+        place: Place<'a>,
+        table: &'a Table,
+    ) -> Result<Option<&'a str>, AllocError> {
+        let name = self.name(place, table)?;
+        if let Some(name) = name {
+            if let Some(first) = first_place(&mut self.track_names, name, place)? {
+                self.note(place, Flaw::NameTwice { name, first })?;
+            }
+        }
+        Ok(name)
     }
 
     fn sections(
@@ -154,14 +158,14 @@ impl<'a> Inspection<'a> {
         };
         self.length(place, table)?;
         let home = self.centre_name(place, table, "home")?;
-        if let Some(value) = self.number(place, table, "balise", 16382)? {
-            let first = first_place(&mut self.balises, value, place)?;
-            self.note_first(place, "balise", value, first)?;
-        }
+        self.own_number(place, table, "balise", 16382)?;
         Ok(home)
     }
 
-    fn trains(&mut self, trains: &'a Array) -> Result<(), AllocError> {
+    fn trains(&mut self, file: &'a Table) -> Result<(), AllocError> {
+        let Some(trains) = self.array(Place::File, file, "train")? else {
+            return Ok(());
+        };
         self.count(Counted::Trains, trains.len())?;
         for (number, train) in trains.iter().enumerate() {
             self.train(number, train)?;
@@ -175,10 +179,7 @@ impl<'a> Inspection<'a> {
         let Some(table) = self.table(place, train, &["engine", "registrar"])? else {
             return Ok(());
         };
-        if let Some(value) = self.number(place, table, "engine", 16777215)? {
-            let first = first_place(&mut self.engines, value, place)?;
-            self.note_first(place, "engine", value, first)?;
-        }
+        self.own_number(place, table, "engine", 16777215)?;
         self.centre_name(place, table, "registrar")?;
         Ok(())
     }
@@ -197,19 +198,6 @@ impl<'a> Inspection<'a> {
             }
         }
         Ok(text)
-    }
-
-    fn note_first(
-        &mut self,
-        place: Place<'a>,
-        key: &'static str,
-        value: i64,
-        first: Option<Place<'a>>,
-    ) -> Result<(), AllocError> {
-        match first {
-            Some(first) => self.note(place, Flaw::NumberTwice { key, value, first }),
-            None => Ok(()),
-        }
     }
 }
 

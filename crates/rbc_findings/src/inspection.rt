@@ -16,9 +16,8 @@ pub(crate) struct Inspection<'a> {
     pub(crate) has_centres: bool,
     pub(crate) centre_names: HashMap<&'a str, Place<'a>>,
     pub(crate) track_names: HashMap<&'a str, Place<'a>>,
-    pub(crate) nid_rbcs: HashMap<i64, Place<'a>>,
-    pub(crate) balises: HashMap<i64, Place<'a>>,
-    pub(crate) engines: HashMap<i64, Place<'a>>,
+    /// The numbers that may stand once, each with its key.
+    numbers: HashMap<(&'static str, i64), Place<'a>>,
 }
 
 impl<'a> Inspection<'a> {
@@ -28,9 +27,7 @@ impl<'a> Inspection<'a> {
             has_centres: false,
             centre_names: HashMap::new(alloc),
             track_names: HashMap::new(alloc),
-            nid_rbcs: HashMap::new(alloc),
-            balises: HashMap::new(alloc),
-            engines: HashMap::new(alloc),
+            numbers: HashMap::new(alloc),
         }
     }
 
@@ -44,7 +41,7 @@ impl<'a> Inspection<'a> {
         &mut self,
         place: Place<'a>,
         value: &'a Value,
-        keys: &[&str],
+        keys: &[&'a str],
     ) -> Result<Option<&'a Table>, AllocError> {
         let Some(table) = value.as_table() else {
             let found = value.type_str();
@@ -60,29 +57,35 @@ impl<'a> Inspection<'a> {
         &mut self,
         place: Place<'a>,
         table: &'a Table,
-        keys: &[&str],
+        keys: &[&'a str],
     ) -> Result<(), AllocError> {
         for key in table.keys() {
             let key = key.as_str();
-            if !keys.iter().any(|known| *known == key) {
+            if !keys.contains(&key) {
                 self.note(place, Flaw::Unknown { key })?;
             }
         }
         Ok(())
     }
 
-    /// The value of a key that has to be there.
+    /// The value of a key that has to be there, and of this type.
     fn value(
         &mut self,
         place: Place<'a>,
         table: &'a Table,
         key: &'static str,
+        wanted: &'static str,
     ) -> Result<Option<&'a Value>, AllocError> {
-        let value = table.get(key);
-        if value.is_none() {
-            self.note(place, Flaw::Missing { key })?;
-        }
-        Ok(value)
+        let flaw = match table.get(key) {
+            Some(value) if value.type_str() == wanted => return Ok(Some(value)),
+            Some(value) => {
+                let found = value.type_str();
+                Flaw::OtherType { key, wanted, found }
+            }
+            None => Flaw::Missing { key },
+        };
+        self.note(place, flaw)?;
+        Ok(None)
     }
 
     fn integer(
@@ -91,14 +94,10 @@ impl<'a> Inspection<'a> {
         table: &'a Table,
         key: &'static str,
     ) -> Result<Option<i64>, AllocError> {
-        let Some(value) = self.value(place, table, key)? else {
-            return Ok(None);
-        };
-        let integer = value.as_integer();
-        if integer.is_none() {
-            self.note(place, other_type(key, "integer", value))?;
+        match self.value(place, table, key, "integer")? {
+            Some(value) => Ok(value.as_integer()),
+            None => Ok(None),
         }
-        Ok(integer)
     }
 
     pub(crate) fn text(
@@ -107,14 +106,10 @@ impl<'a> Inspection<'a> {
         table: &'a Table,
         key: &'static str,
     ) -> Result<Option<&'a str>, AllocError> {
-        let Some(value) = self.value(place, table, key)? else {
-            return Ok(None);
-        };
-        let text = value.as_str();
-        if text.is_none() {
-            self.note(place, other_type(key, "string", value))?;
+        match self.value(place, table, key, "string")? {
+            Some(value) => Ok(value.as_str()),
+            None => Ok(None),
         }
-        Ok(text)
     }
 
     pub(crate) fn array(
@@ -123,14 +118,10 @@ impl<'a> Inspection<'a> {
         table: &'a Table,
         key: &'static str,
     ) -> Result<Option<&'a Array>, AllocError> {
-        let Some(value) = self.value(place, table, key)? else {
-            return Ok(None);
-        };
-        let array = value.as_array();
-        if array.is_none() {
-            self.note(place, other_type(key, "array", value))?;
+        match self.value(place, table, key, "array")? {
+            Some(value) => Ok(value.as_array()),
+            None => Ok(None),
         }
-        Ok(array)
     }
 
     /// A number from 0 to the highest.
@@ -155,6 +146,22 @@ impl<'a> Inspection<'a> {
             }
         }
         Ok(number)
+    }
+
+    /// A number from 0 to the highest that no other has under this key.
+    pub(crate) fn own_number(
+        &mut self,
+        place: Place<'a>,
+        table: &'a Table,
+        key: &'static str,
+        highest: u32,
+    ) -> Result<(), AllocError> {
+        if let Some(value) = self.number(place, table, key, highest)? {
+            if let Some(first) = first_place(&mut self.numbers, (key, value), place)? {
+                self.note(place, Flaw::NumberTwice { key, value, first })?;
+            }
+        }
+        Ok(())
     }
 
     /// The name of a centre or a track.
@@ -189,11 +196,6 @@ impl<'a> Inspection<'a> {
         }
         Ok(())
     }
-}
-
-fn other_type<'a>(key: &'static str, wanted: &'static str, value: &Value) -> Flaw<'a> {
-    let found = value.type_str();
-    Flaw::OtherType { key, wanted, found }
 }
 
 /// Where the value stands further in front in the file. Where it stands for the first time, the place is kept.

@@ -38,8 +38,7 @@ fn draw_bar(svg: &mut String, scale: &Scale<'_>, bar: &Bar) -> Result<(), AllocE
         "<rect class=\"bar c{colour} d{dashes}\" x=\"{x}\" y=\"{y}\" width=\"{width}\" height=\"{height}\">"
     )?;
     draw_words(svg, scale, bar)?;
-    writeln!(svg, "</rect>")?;
-    Ok(())
+    writeln!(svg, "</rect>")
 }
 
 /// What is shown where a reader points at a bar.
@@ -55,8 +54,7 @@ fn draw_words(svg: &mut String, scale: &Scale<'_>, bar: &Bar) -> Result<(), Allo
         let until = until.saturating_add(1);
         write!(svg, " to {until}")?;
     }
-    write!(svg, "</title>")?;
-    Ok(())
+    write!(svg, "</title>")
 }
 
 /// The train's number where its authority begins.
@@ -71,8 +69,7 @@ fn draw_name(svg: &mut String, scale: &Scale<'_>, bar: &Bar) -> Result<(), Alloc
     writeln!(
         svg,
         "<text class=\"name c{colour}\" x=\"{x}\" y=\"{y}\">{nid_engine}</text>"
-    )?;
-    Ok(())
+    )
 }
 
 /// The fronts of each train as one path, which begins anew at each mission.

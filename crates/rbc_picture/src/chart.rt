@@ -4,7 +4,7 @@
 use std::alloc::Global;
 
 /// What an event is.
-#[derive(Clone, Copy, Debug, PartialEq, Eq)]
+#[derive(Clone, Copy)]
 pub enum Kind {
     Set { section: u16 },
     Unset { section: u16 },
@@ -16,7 +16,7 @@ pub enum Kind {
     Delivery { number: u32 },
 }
 
-#[derive(Clone, Copy, Debug, PartialEq, Eq)]
+#[derive(Clone, Copy)]
 pub struct Event {
     pub kind: Kind,
     /// Whether it was left without an answer.
@@ -24,7 +24,7 @@ pub struct Event {
 }
 
 /// A section in the authority of a train, from one event to another, or to the end of the run.
-#[derive(Clone, Copy, Debug, PartialEq, Eq)]
+#[derive(Clone, Copy)]
 pub struct Bar {
     pub train: u8,
     pub section: u16,
@@ -35,7 +35,7 @@ pub struct Bar {
 }
 
 /// A safe front end that a train reported, in metres from the start of its track.
-#[derive(Clone, Copy, Debug, PartialEq, Eq)]
+#[derive(Clone, Copy)]
 pub struct Front {
     pub train: u8,
     pub track: u8,
@@ -46,7 +46,7 @@ pub struct Front {
 }
 
 /// What is asked of a train, and what it answers.
-#[derive(Clone, Copy, Debug, PartialEq, Eq)]
+#[derive(Clone, Copy)]
 pub enum Sign {
     /// Message 9: it is asked to end its authority earlier.
     Asked,
@@ -61,7 +61,7 @@ pub enum Sign {
 }
 
 /// A sign at a point of a track, in metres from its start.
-#[derive(Clone, Copy, Debug, PartialEq, Eq)]
+#[derive(Clone, Copy)]
 pub struct Mark {
     pub sign: Sign,
     pub train: u8,

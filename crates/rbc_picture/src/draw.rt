@@ -27,36 +27,39 @@ pub fn draw(alloc: Global, line: &Line, chart: &Chart) -> Result<String, AllocEr
         event_count: chart.events.len(),
     };
     let mut svg = String::new(alloc);
-    begin(&mut svg, &scale)?;
-    draw_title(&mut svg, line, chart)?;
-    draw_legend(&mut svg, line, chart, LEGEND, ROW)?;
+    draw_head(&mut svg, &scale, chart)?;
     draw_homes(&mut svg, &scale, axis)?;
     draw_events(&mut svg, &scale, &chart.events)?;
     draw_grid(&mut svg, &scale, axis)?;
-    draw_bars(&mut svg, &scale, chart)?;
-    draw_fronts(&mut svg, &scale, chart)?;
-    draw_marks(&mut svg, &scale, &chart.marks)?;
+    draw_trains(&mut svg, &scale, chart)?;
     svg.push_str("</svg>\n")?;
     Ok(svg)
+}
+
+/// What stands above the line and the events.
+fn draw_head(svg: &mut String, scale: &Scale<'_>, chart: &Chart) -> Result<(), AllocError> {
+    begin(svg, scale)?;
+    draw_title(svg, scale.line, chart)?;
+    draw_legend(svg, scale.line, chart, LEGEND, ROW)
+}
+
+/// What the trains did.
+fn draw_trains(svg: &mut String, scale: &Scale<'_>, chart: &Chart) -> Result<(), AllocError> {
+    draw_bars(svg, scale, chart)?;
+    draw_fronts(svg, scale, chart)?;
+    draw_marks(svg, scale, &chart.marks)
 }
 
 fn begin(svg: &mut String, scale: &Scale<'_>) -> Result<(), AllocError> {
     let height = scale.bottom().saturating_add(24);
     let width = WIDTH;
-    write!(
-        svg,
-        "<svg xmlns=\"http://www.w3.org/2000/svg\" width=\"{width}\" height=\"{height}\""
-    )?;
     writeln!(
         svg,
-        " viewBox=\"0 0 {width} {height}\" font-family=\"sans-serif\" font-size=\"13\">"
-    )?;
-    writeln!(svg, "<style>\n{STYLE}</style>")?;
-    writeln!(
-        svg,
-        "<rect width=\"{width}\" height=\"{height}\" fill=\"#fff\"/>"
-    )?;
-    Ok(())
+        "<svg xmlns=\"http://www.w3.org/2000/svg\" width=\"{width}\" height=\"{height}\" \
+        viewBox=\"0 0 {width} {height}\" font-family=\"sans-serif\" font-size=\"13\">\n\
+        <style>\n{STYLE}</style>\n\
+        <rect width=\"{width}\" height=\"{height}\" fill=\"#fff\"/>"
+    )
 }
 
 fn draw_title(svg: &mut String, line: &Line, chart: &Chart) -> Result<(), AllocError> {
@@ -67,14 +70,12 @@ fn draw_title(svg: &mut String, line: &Line, chart: &Chart) -> Result<(), AllocE
         "<text x=\"20\" y=\"28\" font-size=\"18\" font-weight=\"bold\">Run on the line of NID_C {nid_c}: {events} events</text>"
     )?;
     let skipped = chart.skipped;
-    let left = "Distance to the right, events downward";
-    if skipped == 0 {
-        writeln!(svg, "<text x=\"20\" y=\"48\" class=\"small\">{left}</text>")?;
-    } else {
-        writeln!(
-            svg,
-            "<text x=\"20\" y=\"48\" class=\"small\">{left}; lines left out, which no run prints: {skipped}</text>"
-        )?;
+    write!(
+        svg,
+        "<text x=\"20\" y=\"48\" class=\"small\">Distance to the right, events downward"
+    )?;
+    if skipped != 0 {
+        write!(svg, "; lines left out, which no run prints: {skipped}")?;
     }
-    Ok(())
+    writeln!(svg, "</text>")
 }

@@ -34,8 +34,7 @@ fn draw_number(svg: &mut String, scale: &Scale<'_>, e: usize) -> Result<(), Allo
     writeln!(
         svg,
         "<text x=\"44\" y=\"{y}\" class=\"small\" text-anchor=\"end\">{number}</text>"
-    )?;
-    Ok(())
+    )
 }
 
 /// What an event is, pale where it is left without an answer.
@@ -53,20 +52,19 @@ fn draw_words(
     };
     write!(svg, "<text x=\"52\" y=\"{y}\" class=\"{class}\">")?;
     draw_kind(svg, event.kind)?;
-    writeln!(svg, "</text>")?;
-    Ok(())
+    writeln!(svg, "</text>")
 }
 
 fn draw_kind(svg: &mut String, kind: Kind) -> Result<(), AllocError> {
-    match kind {
-        Kind::Set { section } => write!(svg, "set {section}")?,
-        Kind::Unset { section } => write!(svg, "unset {section}")?,
+    let (what, number) = match kind {
+        Kind::Set { section } => ("set", u32::from(section)),
+        Kind::Unset { section } => ("unset", u32::from(section)),
+        Kind::Delivery { number } => ("frame", number),
+        Kind::NoMessage => return svg.push_str("no message"),
         Kind::Message { number, nid_engine } => {
             let name = name_of_number(number);
-            write!(svg, "{number} of train {nid_engine}<title>{name}</title>")?;
+            return write!(svg, "{number} of train {nid_engine}<title>{name}</title>");
         }
-        Kind::NoMessage => write!(svg, "no message")?,
-        Kind::Delivery { number } => write!(svg, "frame {number}")?,
-    }
-    Ok(())
+    };
+    write!(svg, "{what} {number}")
 }

@@ -30,8 +30,7 @@ fn draw_track(svg: &mut String, scale: &Scale<'_>, track: u8, axis: u64) -> Resu
     writeln!(
         svg,
         "<text x=\"{x}\" y=\"{y}\" font-weight=\"bold\">{name}</text>"
-    )?;
-    Ok(())
+    )
 }
 
 /// The sections of a home on a track are consecutive.
@@ -60,8 +59,7 @@ fn draw_home(
     writeln!(
         svg,
         "<text x=\"{middle}\" y=\"{y}\" text-anchor=\"middle\">centre {name}</text>"
-    )?;
-    Ok(())
+    )
 }
 
 /// Where the sections of a home on a track start and end, in metres.
@@ -105,8 +103,7 @@ fn draw_units(svg: &mut String, axis: u64) -> Result<(), AllocError> {
     writeln!(
         svg,
         "<text x=\"20\" y=\"{y}\" class=\"small\">metres</text>"
-    )?;
-    Ok(())
+    )
 }
 
 fn draw_numbers(
@@ -160,8 +157,7 @@ fn draw_metre(svg: &mut String, x: u64, y: u64, metres: u32) -> Result<(), Alloc
     writeln!(
         svg,
         "<text x=\"{x}\" y=\"{y}\" class=\"small\" text-anchor=\"middle\">{metres}</text>"
-    )?;
-    Ok(())
+    )
 }
 
 /// A line where each section starts that lies far enough from the one before, and one at the track's end.
@@ -179,8 +175,7 @@ fn draw_lines(svg: &mut String, scale: &Scale<'_>, track: u8) -> Result<(), Allo
         }
     }
     let x = scale.x(track, track_end(scale.line, track));
-    writeln!(svg, "<path class=\"section\" d=\"M{x} {top}V{bottom}\"/>")?;
-    Ok(())
+    writeln!(svg, "<path class=\"section\" d=\"M{x} {top}V{bottom}\"/>")
 }
 
 /// A line where the home of a section is another than that of the section before it.

@@ -10,7 +10,7 @@ use rbc_words::number_of_train;
 use std::alloc::{AllocError, Global};
 
 /// What a train's message does to its authority.
-#[derive(Clone, Copy, Debug, PartialEq, Eq)]
+#[derive(Clone, Copy, PartialEq, Eq)]
 pub enum Said {
     /// A mission starts, if it is accepted.
     Start,
@@ -28,7 +28,7 @@ pub enum Said {
 }
 
 /// A message of a train of the line.
-#[derive(Clone, Copy, Debug, PartialEq, Eq)]
+#[derive(Clone, Copy)]
 pub struct Heard {
     pub train: u8,
     pub said: Said,

@@ -5,7 +5,7 @@ use rbc_hand::SectionRun;
 use std::alloc::{AllocError, Global};
 
 /// A section that a train has.
-#[derive(Clone, Copy, Debug, PartialEq, Eq)]
+#[derive(Clone, Copy)]
 struct Hold {
     train: u8,
     since: usize,

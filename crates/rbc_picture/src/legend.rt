@@ -6,6 +6,15 @@ use crate::style::{colour_of, dashes_of};
 use rbc_line::Line;
 use std::alloc::AllocError;
 
+// The signs, each with where it lies and what it means.
+const SIGNS: [(Sign, u64, &str); 5] = [
+    (Sign::Asked, 338, "9: asked to end earlier"),
+    (Sign::Granted, 492, "137: does so"),
+    (Sign::Rejected, 592, "138, or too late: does not"),
+    (Sign::Handover, 762, "24: handover ordered"),
+    (Sign::Ended, 912, "150: mission ends"),
+];
+
 // How far entries lie apart, and how many stand in a row.
 const STEP: u64 = 145;
 
@@ -56,8 +65,7 @@ fn draw_train(svg: &mut String, line: &Line, train: u8, x: u64, y: u64) -> Resul
     writeln!(
         svg,
         "<text x=\"{x}\" y=\"{y}\" class=\"small\">train {nid_engine}</text>"
-    )?;
-    Ok(())
+    )
 }
 
 fn draw_signs(svg: &mut String, y: u64) -> Result<(), AllocError> {
@@ -69,16 +77,13 @@ fn draw_signs(svg: &mut String, y: u64) -> Result<(), AllocError> {
         svg,
         "<path class=\"front\" d=\"M196 {y}m0 -8l22 6\"/><text x=\"224\" y=\"{y}\" class=\"small\">front it reported</text>"
     )?;
-    draw_sign(svg, Sign::Asked, 338, y, "9: asked to end earlier")?;
-    draw_sign(svg, Sign::Granted, 492, y, "137: does so")?;
-    draw_sign(svg, Sign::Rejected, 592, y, "138, or too late: does not")?;
-    draw_sign(svg, Sign::Handover, 762, y, "24: handover ordered")?;
-    draw_sign(svg, Sign::Ended, 912, y, "150: mission ends")?;
+    for (sign, x, words) in &SIGNS {
+        draw_sign(svg, *sign, *x, y, words)?;
+    }
     writeln!(
         svg,
         "<path class=\"border\" d=\"M1036 {y}m0 -4h28\"/><text x=\"1070\" y=\"{y}\" class=\"small\">border of centres</text>"
-    )?;
-    Ok(())
+    )
 }
 
 fn draw_sign(svg: &mut String, sign: Sign, x: u64, y: u64, words: &str) -> Result<(), AllocError> {
@@ -88,8 +93,7 @@ fn draw_sign(svg: &mut String, sign: Sign, x: u64, y: u64, words: &str) -> Resul
     writeln!(
         svg,
         "<text x=\"{x}\" y=\"{y}\" class=\"small\">{words}</text>"
-    )?;
-    Ok(())
+    )
 }
 
 /// The NID_ENGINE of a train by its place in the line file.

@@ -39,6 +39,5 @@ fn draw_mark(svg: &mut String, scale: &Scale<'_>, mark: &Mark) -> Result<(), All
     writeln!(
         svg,
         "<path class=\"{class} c{colour}\" d=\"M{x} {y}{path}\"/>"
-    )?;
-    Ok(())
+    )
 }

@@ -5,6 +5,7 @@ use rbc_findings::Finding;
 use rbc_line::{Line, LineFault};
 use rbc_status::Fault;
 use std::alloc::{AllocError, Global};
+use std::io;
 use std::io::{BufWriter, Write};
 
 /// Reads a line file, and prints a picture of the line; of a file with faults all that is wrong, each case in a line.
@@ -20,15 +21,19 @@ pub fn explain<'a, F: Files, O: Write>(
     let Ok(mut out) = BufWriter::new(alloc, out) else {
         return Err(AllocError.into());
     };
-    let done = match Line::from_toml(alloc, text.as_str()) {
-        Ok(line) => print_picture(&mut out, &line),
-        Err(fault) => match print_findings(alloc, &mut out, text.as_str()) {
-            Ok(()) => Err(Fault::Line(fault)),
-            Err(fault) => Err(fault),
-        },
-    };
+    let done = print_explained(alloc, &mut out, text.as_str());
     out.flush()?;
     done
+}
+
+fn print_explained<W: Write>(alloc: Global, out: &mut W, text: &str) -> Result<(), Fault<'static>> {
+    match Line::from_toml(alloc, text) {
+        Ok(line) => Ok(print_picture(out, &line)?),
+        Err(fault) => {
+            print_findings(alloc, out, text)?;
+            Err(Fault::Line(fault))
+        }
+    }
 }
 
 fn print_findings<W: Write>(alloc: Global, out: &mut W, text: &str) -> Result<(), Fault<'static>> {
@@ -43,10 +48,10 @@ fn print_findings<W: Write>(alloc: Global, out: &mut W, text: &str) -> Result<()
     let Ok(findings) = text.findings(alloc) else {
         return Err(Fault::Line(LineFault::Memory));
     };
-    print_each(out, &findings)
+    Ok(print_each(out, &findings)?)
 }
 
-fn print_each<W: Write>(out: &mut W, findings: &[Finding]) -> Result<(), Fault<'static>> {
+fn print_each<W: Write>(out: &mut W, findings: &[Finding]) -> io::Result<()> {
     for finding in findings {
         writeln!(out, "fault {}: {finding}", finding.fault().number())?;
     }

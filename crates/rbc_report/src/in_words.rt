@@ -7,6 +7,7 @@ use rbc_line::Line;
 use rbc_status::Fault;
 use rbc_words::{Field, fields_of, line_in_words, name_of, words_of_fault};
 use std::alloc::{AllocError, Global};
+use std::io;
 use std::io::{BufWriter, Write};
 
 /// Shows a message field by field, or its first fault.
@@ -21,7 +22,7 @@ pub fn show_message<O: Write>(
         Err(_) => return Err(Fault::Words),
     };
     match fields_of(alloc, &bytes) {
-        Ok(fields) => print_fields(out, &fields),
+        Ok(fields) => Ok(print_fields(out, &fields)?),
         Err(fault) => {
             print_fields(out, name_of(&bytes).as_slice())?;
             let number = fault.number();
@@ -33,12 +34,11 @@ pub fn show_message<O: Write>(
     }
 }
 
-fn print_fields<O: Write>(out: &mut O, fields: &[Field]) -> Result<(), Fault<'static>> {
+fn print_fields<O: Write>(out: &mut O, fields: &[Field]) -> io::Result<()> {
     for field in fields {
         writeln!(out, "{field}")?;
     }
-    out.flush()?;
-    Ok(())
+    out.flush()
 }
 
 /// Says what `run` has printed for a line in words, each line for itself.

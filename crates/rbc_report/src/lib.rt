@@ -8,6 +8,7 @@ mod diagram;
 pub mod disk;
 mod explain;
 pub mod files;
+mod forms;
 mod in_words;
 mod picture;
 pub mod run;

@@ -2,11 +2,11 @@
 
 use rbc_line::{Line, Section};
 use rbc_print::name_of;
-use rbc_status::Fault;
+use std::io;
 use std::io::Write;
 
 /// Prints all that a line file says.
-pub fn print_picture<W: Write>(out: &mut W, line: &Line) -> Result<(), Fault<'static>> {
+pub fn print_picture<W: Write>(out: &mut W, line: &Line) -> io::Result<()> {
     writeln!(out, "NID_C {}", line.nid_c())?;
     for centre in 0..line.centre_count() {
         print_centre(out, line, centre)?;
@@ -20,7 +20,7 @@ pub fn print_picture<W: Write>(out: &mut W, line: &Line) -> Result<(), Fault<'st
     Ok(())
 }
 
-fn print_centre<W: Write>(out: &mut W, line: &Line, centre: u8) -> Result<(), Fault<'static>> {
+fn print_centre<W: Write>(out: &mut W, line: &Line, centre: u8) -> io::Result<()> {
     let name = name_of(line, centre);
     let nid_rbc = line.nid_rbc(centre).unwrap_or(0);
     write!(out, "centre {name}, NID_RBC {nid_rbc}, linked with")?;
@@ -31,11 +31,10 @@ fn print_centre<W: Write>(out: &mut W, line: &Line, centre: u8) -> Result<(), Fa
             is_alone = false;
         }
     }
-    writeln!(out, "{}", if is_alone { " none" } else { "" })?;
-    Ok(())
+    writeln!(out, "{}", if is_alone { " none" } else { "" })
 }
 
-fn print_track<W: Write>(out: &mut W, line: &Line, track: u8) -> Result<(), Fault<'static>> {
+fn print_track<W: Write>(out: &mut W, line: &Line, track: u8) -> io::Result<()> {
     let name = line.track_name(track).unwrap_or("?");
     writeln!(out, "track {name}, {} m", metres_of(line, track))?;
     print_row(out, line, track)?;
@@ -54,7 +53,7 @@ fn metres_of(line: &Line, track: u8) -> u32 {
 }
 
 /// The numbers of a track's sections in a row, behind the name of their home, with a bar at each border.
-fn print_row<W: Write>(out: &mut W, line: &Line, track: u8) -> Result<(), Fault<'static>> {
+fn print_row<W: Write>(out: &mut W, line: &Line, track: u8) -> io::Result<()> {
     let mut home = None;
     for number in 0..line.section_count() {
         if let Some(section) = section_on(line, track, number) {
@@ -66,12 +65,11 @@ fn print_row<W: Write>(out: &mut W, line: &Line, track: u8) -> Result<(), Fault<
             home = Some(section.home);
         }
     }
-    writeln!(out)?;
-    Ok(())
+    writeln!(out)
 }
 
 /// The sections of a track, one a line, and the borders between them.
-fn print_sections<W: Write>(out: &mut W, line: &Line, track: u8) -> Result<(), Fault<'static>> {
+fn print_sections<W: Write>(out: &mut W, line: &Line, track: u8) -> io::Result<()> {
     let mut home = None;
     for number in 0..line.section_count() {
         if let Some(section) = section_on(line, track, number) {
@@ -89,7 +87,7 @@ fn print_border<W: Write>(
     line: &Line,
     before: Option<u8>,
     section: &Section,
-) -> Result<(), Fault<'static>> {
+) -> io::Result<()> {
     let Some(before) = before else {
         return Ok(());
     };
@@ -106,7 +104,7 @@ fn print_section<W: Write>(
     line: &Line,
     number: u16,
     section: &Section,
-) -> Result<(), Fault<'static>> {
+) -> io::Result<()> {
     let home = name_of(line, section.home);
     let start = section.start;
     let end = end_of(section);
@@ -115,11 +113,10 @@ fn print_section<W: Write>(
     writeln!(
         out,
         "  section {number}, home {home}, {start} to {end} m, {metres} m long, balise {balise}"
-    )?;
-    Ok(())
+    )
 }
 
-fn print_train<W: Write>(out: &mut W, line: &Line, number: u8) -> Result<(), Fault<'static>> {
+fn print_train<W: Write>(out: &mut W, line: &Line, number: u8) -> io::Result<()> {
     if let Some(train) = line.train(number) {
         let registrar = name_of(line, train.registrar);
         writeln!(out, "train {}, registrar {registrar}", train.nid_engine)?;

@@ -1,11 +1,12 @@
+use crate::forms::rbcline;
 use clap::error::ErrorKind;
-use clap::{Arg, ArgAction, ArgMatches, Command, Error};
+use clap::{ArgMatches, Error};
 use rbc_status::Fault;
 use std::alloc::{AllocError, Global};
 use std::convert::AsStr;
 
 /// What the words ask for.
-#[derive(Clone, Copy, Debug, PartialEq, Eq)]
+#[derive(Clone, Copy)]
 pub enum Request<'a> {
     /// Read the line, and say how much of each thing it has.
     Check {
@@ -63,36 +64,37 @@ pub fn requested<'a, S: AsStr>(alloc: Global, words: &'a [S]) -> Result<Request<
 }
 
 fn named<'a>(matches: &ArgMatches<'a>) -> Option<Request<'a>> {
-    if let Some(check) = matches.subcommand_matches("check") {
-        let file = check.get_str("FILE")?;
-        return Some(Request::Check { file });
+    let (command, words) = matches.subcommand()?;
+    match command {
+        "words" => named_words(words),
+        "serve" => named_serve(words),
+        "drive" => named_drive(words),
+        _ => named_of_file(command, words),
     }
-    if let Some(explain) = matches.subcommand_matches("explain") {
-        let file = explain.get_str("FILE")?;
-        return Some(Request::Explain { file });
+}
+
+fn named_of_file<'a>(command: &str, words: &ArgMatches<'a>) -> Option<Request<'a>> {
+    let file = words.get_str("FILE")?;
+    match command {
+        "check" => Some(Request::Check { file }),
+        "explain" => Some(Request::Explain { file }),
+        "run" => named_run(file, words),
+        _ => named_of_print(command, file, words),
     }
-    if let Some(words) = matches.subcommand_matches("words") {
-        return named_words(words);
+}
+
+fn named_run<'a>(file: &'a str, words: &ArgMatches<'a>) -> Option<Request<'a>> {
+    let script = words.get_str("SCRIPT")?;
+    Some(Request::Run { file, script })
+}
+
+fn named_of_print<'a>(command: &str, file: &'a str, words: &ArgMatches<'a>) -> Option<Request<'a>> {
+    let printed = words.get_str("PRINTED")?;
+    match command {
+        "audit" => Some(Request::Audit { file, printed }),
+        "picture" => Some(Request::Picture { file, printed }),
+        _ => None,
     }
-    if let Some(serve) = matches.subcommand_matches("serve") {
-        return named_serve(serve);
-    }
-    if let Some(drive) = matches.subcommand_matches("drive") {
-        let port = port_of(drive.get_str("PORT")?)?;
-        let file = drive.get_str("FILE")?;
-        return Some(Request::Drive { port, file });
-    }
-    if let Some(audit) = matches.subcommand_matches("audit") {
-        let file = audit.get_str("FILE")?;
-        let printed = audit.get_str("PRINTED")?;
-        return Some(Request::Audit { file, printed });
-    }
-    if let Some(picture) = matches.subcommand_matches("picture") {
-        let file = picture.get_str("FILE")?;
-        let printed = picture.get_str("PRINTED")?;
-        return Some(Request::Picture { file, printed });
-    }
-    named_run(matches)
 }
 
 fn named_words<'a>(words: &ArgMatches<'a>) -> Option<Request<'a>> {
@@ -112,6 +114,12 @@ fn named_serve<'a>(words: &ArgMatches<'a>) -> Option<Request<'a>> {
     })
 }
 
+fn named_drive<'a>(words: &ArgMatches<'a>) -> Option<Request<'a>> {
+    let port = port_of(words.get_str("PORT")?)?;
+    let file = words.get_str("FILE")?;
+    Some(Request::Drive { port, file })
+}
+
 // A port: a number from 1 to 65 535, without a sign.
 fn port_of(word: &str) -> Option<u16> {
     if word.starts_with('+') {
@@ -124,114 +132,6 @@ fn port_of(word: &str) -> Option<u16> {
     }
 }
 
-fn named_run<'a>(matches: &ArgMatches<'a>) -> Option<Request<'a>> {
-    let run = matches.subcommand_matches("run")?;
-    let file = run.get_str("FILE")?;
-    let script = run.get_str("SCRIPT")?;
-    Some(Request::Run { file, script })
-}
-
 fn matched<'a, S: AsStr>(alloc: Global, words: &'a [S]) -> Result<ArgMatches<'a>, Error> {
     rbcline(alloc)?.try_get_matches_from(words)
-}
-
-fn rbcline<'a>(alloc: Global) -> Result<Command<'a>, AllocError> {
-    let command = Command::new(alloc, "rbcline")
-        .about("Radio block centres that supervise one line")
-        .no_binary_name(true)
-        .subcommand_required(true)
-        .arg_required_else_help(true);
-    let command = command.subcommand(check(alloc)?)?;
-    let command = command.subcommand(explain(alloc)?)?;
-    let command = command.subcommand(run(alloc)?)?;
-    let command = command.subcommand(serve(alloc)?)?;
-    let command = command.subcommand(drive(alloc)?)?;
-    let command = command.subcommand(audit(alloc)?)?;
-    let command = command.subcommand(words(alloc)?)?;
-    command.subcommand(picture(alloc)?)
-}
-
-fn check<'a>(alloc: Global) -> Result<Command<'a>, AllocError> {
-    let command = Command::new(alloc, "check").about(
-        "Reads a line file, and says how many centres, tracks, sections and trains it has",
-    );
-    command.arg(file(alloc, "FILE", "The line file"))
-}
-
-fn explain<'a>(alloc: Global) -> Result<Command<'a>, AllocError> {
-    let command = Command::new(alloc, "explain").about(
-        "Says in plain words all that is wrong in a line file, or shows the line",
-    );
-    command.arg(file(alloc, "FILE", "The line file"))
-}
-
-fn run<'a>(alloc: Global) -> Result<Command<'a>, AllocError> {
-    let command = Command::new(alloc, "run").about(
-        "Runs a script of events, and prints each event, what it leads to, and the line at the end",
-    );
-    let command = command.arg(file(alloc, "FILE", "The line file"))?;
-    command.arg(file(alloc, "SCRIPT", "The script, one event a line"))
-}
-
-fn serve<'a>(alloc: Global) -> Result<Command<'a>, AllocError> {
-    let command = Command::new(alloc, "serve").about(
-        "Lets the centres of a line run on this host: trains and the interlocking connect to them. After `stop` it prints what happened",
-    );
-    let quiet = Arg::new(alloc, "quiet")
-        .long("quiet")
-        .action(ArgAction::SetTrue)
-        .help("Says nothing on standard error while the centres run");
-    let command = command.arg(quiet)?;
-    let command = command.arg(file(alloc, "FILE", "The line file"))?;
-    command.arg(file(
-        alloc,
-        "PORT",
-        "The port of the first centre; the others follow, and behind them the interlocking",
-    ))
-}
-
-fn drive<'a>(alloc: Global) -> Result<Command<'a>, AllocError> {
-    let command = Command::new(alloc, "drive").about(
-        "Sends messages to a centre as a train does, and prints what it answers",
-    );
-    let command = command.arg(file(alloc, "PORT", "The port of the centre"))?;
-    command.arg(file(
-        alloc,
-        "FILE",
-        "Messages in hexadecimal, one a line, or `wait N` to read N answers",
-    ))
-}
-
-fn audit<'a>(alloc: Global) -> Result<Command<'a>, AllocError> {
-    let command = Command::new(alloc, "audit").about(
-        "Runs the events of a print again, and says whether all its lines are equal, or which differs first",
-    );
-    let command = command.arg(file(alloc, "FILE", "The line file"))?;
-    command.arg(file(alloc, "PRINTED", "What `run` or `serve` printed"))
-}
-
-fn words<'a>(alloc: Global) -> Result<Command<'a>, AllocError> {
-    let command = Command::new(alloc, "words").about(
-        "Says in words what a run printed, line by line, or shows one message field by field",
-    );
-    let message = Arg::new(alloc, "message")
-        .long("message")
-        .value_name("HEX")
-        .help("The message in hexadecimal, of a train or of a centre")
-        .exclusive(true);
-    let command = command.arg(message)?;
-    let command = command.arg(file(alloc, "FILE", "The line file"))?;
-    command.arg(file(alloc, "PRINTED", "What `run` printed"))
-}
-
-fn picture<'a>(alloc: Global) -> Result<Command<'a>, AllocError> {
-    let command = Command::new(alloc, "picture").about(
-        "Draws what a run printed as a time-distance diagram, in SVG",
-    );
-    let command = command.arg(file(alloc, "FILE", "The line file"))?;
-    command.arg(file(alloc, "PRINTED", "What `run` printed"))
-}
-
-fn file<'a>(alloc: Global, name: &'a str, help: &'a str) -> Arg<'a> {
-    Arg::new(alloc, name).required(true).help(help)
 }

@@ -23,12 +23,22 @@ pub fn passes<R: rt::Files + AllocGlobal, W: Write>(
     let status = command(alloc, &words, row, &mut page, &mut errors);
     let same_page = is_as_told(alloc, row, ["stdout", "stdout-any"], &page.bytes, out)?;
     let same_errors = is_as_told(alloc, row, ["stderr", "stderr-any"], &errors.bytes, out)?;
-    let told = row.number("status").unwrap_or(0);
-    let same_status = told == u32::from(status);
-    if !same_status {
-        writeln!(out, "{}: status: expected {told}, got {status}", row.name)?;
-    }
+    let same_status = has_status(row, status, out)?;
     Ok(same_page && same_errors && same_status)
+}
+
+/// Whether the exit status is the row's, or 0 where it has none.
+fn has_status<R: rt::Files + AllocGlobal, W: Write>(
+    row: &Folder<'_, R>,
+    got: u8,
+    out: &mut W,
+) -> io::Result<bool> {
+    let told = row.number("status").unwrap_or(0);
+    let is_same = told == u32::from(got);
+    if !is_same {
+        writeln!(out, "{}: status: expected {told}, got {got}", row.name)?;
+    }
+    Ok(is_same)
 }
 
 /// An empty page with room for as many bytes as the row's file says, or for all where there is none.

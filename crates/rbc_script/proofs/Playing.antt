@@ -1,5 +1,5 @@
 -- Entries that are played one after another.
-use Rattle.std.proofs.Common.{◌≡◌, ℕ, ◌+◌, ◌<◌, List, [], ◌∷◌, ◌++◌, length, get_or, drop, Err, refl, sym, ap, ◌∙◌, subst, append_assoc}
+use Rattle.std.proofs.Common.{◌≡◌, ℕ, ◌+◌, ◌<◌, List, [], ◌∷◌, ◌++◌, length, get_or, drop, Err, sym, ap, ◌∙◌, subst, append_assoc}
 use Rattle.std.proofs.lemmas.List.{drop_more}
 use Rattle.rbc_spec.specs.Line.{Line}
 use Rattle.rbc_spec.specs.World.{World}
@@ -16,9 +16,6 @@ pub record Goes {T : Type 0} (tells : T → Telling → T → Type 0) (line : Li
   pub stopped : (fault : StepFault) (v : World) (u : T) → IsStopped tells line x s left fault v u → IsStopped tells line w t entries fault v u
 
 module _ {T : Type 0} (tells : T → Telling → T → Type 0) (line : Line) (w : World) (t : T) (entries : List Entry) where
-  pub starts : Goes tells line w t entries entries w t
-  starts = record { played = λ v u is. is; stopped = λ fault v u is. is }
-
   -- one that is played is followed by what is left
   pub then_played : (e : Entry) (left : List Entry) (x y v : World) (s r u : T) → IsPlayed tells line x s (e ∷ []) y r → IsPlayed tells line y r left v u → IsPlayed tells line x s (e ∷ left) v u
   then_played entry.Show left x y v s r u (q, told, (same, one)) rest = (q, told, subst (λ z. IsPlayed tells line z q left v u) same (subst (λ z. IsPlayed tells line y z left v u) one rest))
@@ -60,6 +57,3 @@ module _ {T : Type 0} (tells : T → Telling → T → Type 0) (line : Line) (w 
     pub halts : {F : Type 0} (v : World) (u : T) (fault : PlayFault F) → Leaves tells l x s (e ∷ []) (Err fault) v u → Leaves tells line w t entries (Err fault) v u
     halts v u (Refused fault) stopped = stops e (drop (n + 1) entries) x v s u fault here (subst (λ k. IsStopped tells k x s (e ∷ []) fault v u) same stopped)
     halts v u (Untold why) stopped = tt
-
-  pub ends : (x : World) (s : T) → Goes tells line w t entries [] x s → IsPlayed tells line w t entries x s
-  ends x s so_far = so_far.played x s (refl, refl)

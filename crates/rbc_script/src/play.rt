@@ -32,7 +32,7 @@ pub trait Teller {
 }
 
 /// Why a script is not played to its end.
-#[derive(Debug, Drop)]
+#[derive(Drop)]
 pub enum PlayFault<F> {
     /// The step of an event is refused.
     Refused(StepFault),

@@ -7,11 +7,12 @@ ghost use Rattle.rbc_script.specs.Entries.{AreAsked, Finds, IsFirstFault, asked_
 
 use hex::FromHexError;
 use rbc_line::Line;
+use rbc_status::Fault;
 use rbc_world::WorldEvent;
 use std::alloc::{AllocError, AllocFailed, Global};
 
 /// What a line of a script asks for.
-#[derive(Debug, Drop)]
+#[derive(Drop)]
 pub enum Entry {
     /// Print the line that the centres supervise.
     Show,
@@ -19,7 +20,7 @@ pub enum Entry {
 }
 
 /// Why a script is refused.
-#[derive(Clone, Copy, Debug, PartialEq, Eq)]
+#[derive(Clone, Copy)]
 pub enum ScriptFault {
     /// Memory ran out.
     Memory,
@@ -28,10 +29,19 @@ pub enum ScriptFault {
 }
 
 /// Why a line of a script is refused.
-#[derive(Clone, Copy, Debug, PartialEq, Eq)]
+#[derive(Clone, Copy)]
 enum EntryFault {
     Memory,
     Form,
+}
+
+impl From<ScriptFault> for Fault<'_> {
+    fn from(fault: ScriptFault) -> Self {
+        match fault {
+            ScriptFault::Memory => AllocError.into(),
+            ScriptFault::Form(line) => Fault::Script(line),
+        }
+    }
 }
 
 impl From<AllocError> for ScriptFault {

@@ -3,7 +3,6 @@ ghost use Rattle.std.specs.Prelude.{◌≡◌};
 use rbc_centre::StepFault;
 use rbc_line::LineFault;
 use rbc_msgs::MsgFault;
-use rbc_script::script::ScriptFault;
 use std::alloc::{AllocError, AllocFailed};
 use std::io;
 use thiserror::Error;
@@ -55,15 +54,6 @@ impl Fault<'_> {
             Fault::Step(_) => 5,
             Fault::Socket | Fault::Write => 6,
             Fault::Message(_) => 7,
-        }
-    }
-}
-
-impl From<ScriptFault> for Fault<'_> {
-    fn from(fault: ScriptFault) -> Self {
-        match fault {
-            ScriptFault::Memory => AllocError.into(),
-            ScriptFault::Form(line) => Fault::Script(line),
         }
     }
 }

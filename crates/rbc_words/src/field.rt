@@ -4,7 +4,7 @@ use std::fmt;
 use std::fmt::Formatter;
 
 /// What a value means.
-#[derive(Clone, Copy, Debug, PartialEq, Eq)]
+#[derive(Clone, Copy)]
 pub enum Meaning {
     /// No more than the number.
     Number,
@@ -31,7 +31,7 @@ pub enum Meaning {
 }
 
 /// A variable of a message by its standard name, with its value and what that means.
-#[derive(Clone, Copy, Debug, PartialEq, Eq)]
+#[derive(Clone, Copy)]
 pub struct Field {
     /// Whether it stands in a packet.
     pub is_in_packet: bool,
@@ -46,15 +46,19 @@ impl fmt::Display for Field {
         let name = self.name;
         let value = self.value;
         write!(f, "{inset}{name:<16}{value:>10}")?;
-        match self.meaning {
-            Meaning::Number => Ok(()),
-            Meaning::Words(words) => write!(f, "  {words}"),
-            Meaning::Message { name, from } => write!(f, "  {name}, from a {from}"),
-            Meaning::Count { count, unit } => write!(f, "  {count} {unit}"),
-            Meaning::Decimetres(count) => write!(f, "  {}.{} m", count / 10, count % 10),
-            Meaning::Group { nid_c, nid_bg } => write!(f, "  group {nid_bg} of NID_C {nid_c}"),
-            Meaning::Bits(count) => write_bits(f, value, count),
-        }
+        write_meaning(f, value, self.meaning)
+    }
+}
+
+fn write_meaning<W: fmt::Write>(f: &mut Formatter<W>, value: u64, meaning: Meaning) -> fmt::Result {
+    match meaning {
+        Meaning::Number => Ok(()),
+        Meaning::Words(words) => write!(f, "  {words}"),
+        Meaning::Message { name, from } => write!(f, "  {name}, from a {from}"),
+        Meaning::Count { count, unit } => write!(f, "  {count} {unit}"),
+        Meaning::Decimetres(count) => write!(f, "  {}.{} m", count / 10, count % 10),
+        Meaning::Group { nid_c, nid_bg } => write!(f, "  group {nid_bg} of NID_C {nid_c}"),
+        Meaning::Bits(count) => write_bits(f, value, count),
     }
 }
 

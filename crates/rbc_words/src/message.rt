@@ -12,17 +12,25 @@ use std::alloc::{AllocError, Global};
 pub fn fields_of(alloc: Global, bytes: &[u8]) -> Result<Vec<Field>, MsgFault> {
     let mut fields = Fields::new(alloc);
     if is_of_train(bytes) {
-        let message = decode_train(alloc, bytes)?;
-        let number = number_of_train(message.body());
-        add_start(&mut fields, number, "train", bytes)?;
-        add_train(&mut fields, &message)?;
+        add_of_train(&mut fields, alloc, bytes)?;
     } else {
-        let message = decode_track(bytes)?;
-        let number = number_of_track(message.body());
-        add_start(&mut fields, number, "centre", bytes)?;
-        add_track(&mut fields, &message)?;
+        add_of_centre(&mut fields, bytes)?;
     }
     Ok(fields.finish())
+}
+
+fn add_of_train(fields: &mut Fields, alloc: Global, bytes: &[u8]) -> Result<(), MsgFault> {
+    let message = decode_train(alloc, bytes)?;
+    add_start(fields, number_of_train(message.body()), "train", bytes)?;
+    add_train(fields, &message)?;
+    Ok(())
+}
+
+fn add_of_centre(fields: &mut Fields, bytes: &[u8]) -> Result<(), MsgFault> {
+    let message = decode_track(bytes)?;
+    add_start(fields, number_of_track(message.body()), "centre", bytes)?;
+    add_track(fields, &message)?;
+    Ok(())
 }
 
 /// NID_MESSAGE of the bytes and its name, where there is a byte.

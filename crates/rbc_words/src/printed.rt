@@ -22,13 +22,23 @@ pub fn line_in_words(alloc: Global, line: &Line, text: &str) -> Result<Option<To
                 digits,
             },
         ) => message_told(alloc, line, centre, nid_engine, digits),
-        Some(row) => Ok(Some(Told {
-            who: who_of(alloc, row)?,
-            what: what_of(alloc, line, row)?,
-            line: String::from_str(alloc, text)?,
-        })),
+        Some(row) => row_told(alloc, line, row, text),
         None => Ok(None),
     }
+}
+
+/// A line without bytes.
+fn row_told(
+    alloc: Global,
+    line: &Line,
+    row: Row<'_>,
+    text: &str,
+) -> Result<Option<Told>, AllocError> {
+    Ok(Some(Told {
+        who: who_of(alloc, row)?,
+        what: what_of(alloc, line, row)?,
+        line: String::from_str(alloc, text)?,
+    }))
 }
 
 /// Bytes that come from a train.
@@ -41,20 +51,30 @@ fn train_told(
     let Some(bytes) = bytes_of(alloc, digits)? else {
         return Ok(None);
     };
+    let (who, what) = train_saying(alloc, line, centre, &bytes)?;
     let first = shortened(alloc, &bytes)?;
-    let (who, what) = match decode_train(alloc, &bytes) {
+    let line = format!(in alloc; "> train {centre} {first}")?;
+    Ok(Some(Told { who, what, line }))
+}
+
+/// Which train speaks to the centre, and what it says.
+fn train_saying(
+    alloc: Global,
+    line: &Line,
+    centre: &str,
+    bytes: &[u8],
+) -> Result<(String, String), AllocError> {
+    match decode_train(alloc, bytes) {
         Ok(message) => {
             let nid_engine = message.nid_engine();
             let who = format!(in alloc; "train {nid_engine} -> {centre}")?;
-            (who, train_in_words(alloc, line, message.body())?)
+            Ok((who, train_in_words(alloc, line, message.body())?))
         }
         Err(fault) => {
-            let who = format!(in alloc; "a train -> {centre}")?;
-            (who, fault_in_words(alloc, fault)?)
+            let who = between(alloc, "a train", "->", centre)?;
+            Ok((who, fault_in_words(alloc, fault)?))
         }
-    };
-    let line = format!(in alloc; "> train {centre} {first}")?;
-    Ok(Some(Told { who, what, line }))
+    }
 }
 
 /// A message to a train.
@@ -68,14 +88,19 @@ fn message_told(
     let Some(bytes) = bytes_of(alloc, digits)? else {
         return Ok(None);
     };
-    let first = shortened(alloc, &bytes)?;
     let who = format!(in alloc; "{centre} -> train {nid_engine}")?;
-    let what = match decode_track(&bytes) {
-        Ok(message) => track_in_words(alloc, line, &message)?,
-        Err(fault) => fault_in_words(alloc, fault)?,
-    };
+    let what = centre_saying(alloc, line, &bytes)?;
+    let first = shortened(alloc, &bytes)?;
     let line = format!(in alloc; "{centre} -> {nid_engine} {first}")?;
     Ok(Some(Told { who, what, line }))
+}
+
+/// What a centre says to a train.
+fn centre_saying(alloc: Global, line: &Line, bytes: &[u8]) -> Result<String, AllocError> {
+    match decode_track(bytes) {
+        Ok(message) => track_in_words(alloc, line, &message),
+        Err(fault) => fault_in_words(alloc, fault),
+    }
 }
 
 fn fault_in_words(alloc: Global, fault: MsgFault) -> Result<String, AllocError> {
@@ -106,11 +131,11 @@ fn shortened(alloc: Global, bytes: &[u8]) -> Result<String, AllocError> {
 fn who_of(alloc: Global, row: Row<'_>) -> Result<String, AllocError> {
     match row {
         Row::Set { centre, .. } | Row::Unset { centre, .. } => {
-            format!(in alloc; "interlocking -> {centre}")
+            between(alloc, "interlocking", "->", centre)
         }
-        Row::Word { centre, .. } => format!(in alloc; "{centre} -> interlocking"),
+        Row::Word { centre, .. } => between(alloc, centre, "->", "interlocking"),
         Row::Deliver { from, to, .. } | Row::Frame { from, to, .. } => {
-            format!(in alloc; "{from} => {to}")
+            between(alloc, from, "=>", to)
         }
         Row::Section { section, .. } => format!(in alloc; "section {section}"),
         Row::Supervisor { nid_engine, .. } => format!(in alloc; "train {nid_engine}"),
@@ -124,16 +149,28 @@ fn who_of(alloc: Global, row: Row<'_>) -> Result<String, AllocError> {
     }
 }
 
+/// Who speaks, to whom.
+fn between(alloc: Global, from: &str, arrow: &str, to: &str) -> Result<String, AllocError> {
+    format!(in alloc; "{from} {arrow} {to}")
+}
+
 /// What is said.
 fn what_of(alloc: Global, line: &Line, row: Row<'_>) -> Result<String, AllocError> {
     match row {
-        Row::Set { section, .. } => format!(in alloc; "section {section} is released"),
-        Row::Unset { section, .. } => format!(in alloc; "section {section} is wanted back"),
-        Row::Deliver { number, .. } => format!(in alloc; "frame {number} is delivered"),
-        Row::Frame { number, words, .. } => format!(in alloc; "frame {number}: {words}"),
-        Row::Word { section, words, .. } => format!(in alloc; "section {section}: {words}"),
-        Row::Silent { number, words, .. } => format!(in alloc; "silent {number}: {words}"),
-        Row::Fault { number, words, .. } => format!(in alloc; "fault {number}: {words}"),
+        Row::Set { section, .. } => event_in_words(alloc, "section", section.into(), "is released"),
+        Row::Unset { section, .. } => {
+            event_in_words(alloc, "section", section.into(), "is wanted back")
+        }
+        Row::Deliver { number, .. } => event_in_words(alloc, "frame", number, "is delivered"),
+        Row::Frame { number, words, .. } => answer_in_words(alloc, "frame", number, words),
+        Row::Word { section, words, .. } => answer_in_words(
+            alloc,
+            "section",
+            section.into(),
+            words,
+        ),
+        Row::Silent { number, words, .. } => answer_in_words(alloc, "silent", number, words),
+        Row::Fault { number, words, .. } => answer_in_words(alloc, "fault", number, words),
         Row::Section {
             section,
             mark,
@@ -146,6 +183,26 @@ fn what_of(alloc: Global, line: &Line, row: Row<'_>) -> Result<String, AllocErro
         } => format!(in alloc; "supervised by {centre}"),
         _ => String::from_str(alloc, plain_words(row)),
     }
+}
+
+/// What happens to a section or a frame.
+fn event_in_words(
+    alloc: Global,
+    what: &str,
+    number: u32,
+    words: &str,
+) -> Result<String, AllocError> {
+    format!(in alloc; "{what} {number} {words}")
+}
+
+/// What a number stands for, and what it means.
+fn answer_in_words(
+    alloc: Global,
+    what: &str,
+    number: u32,
+    words: &str,
+) -> Result<String, AllocError> {
+    format!(in alloc; "{what} {number}: {words}")
 }
 
 fn plain_words(row: Row<'_>) -> &'static str {

@@ -6,7 +6,7 @@ use crate::numbers::{number_of, section_number};
 use rbc_line::Line;
 
 /// A line that `run` prints, by its form. Centres are named as in the line.
-#[derive(Clone, Copy, Debug, PartialEq, Eq)]
+#[derive(Clone, Copy)]
 pub enum Row<'a> {
     /// Bytes come from a train.
     Train {
@@ -114,26 +114,31 @@ fn not_sent_of<'a>(words: &[&'a str]) -> Option<Row<'a>> {
 fn event_of<'a>(line: &Line, words: &[&'a str]) -> Option<Row<'a>> {
     match *words {
         ["show"] => Some(Row::Show),
-        ["train", centre, digits] => {
-            let centre = centre_of(line, centre)?;
-            Some(Row::Train { centre, digits })
-        }
-        ["set", centre, number] => {
-            let centre = centre_of(line, centre)?;
-            let section = section_number(number)?;
-            Some(Row::Set { centre, section })
-        }
-        ["unset", centre, number] => {
-            let centre = centre_of(line, centre)?;
-            let section = section_number(number)?;
-            Some(Row::Unset { centre, section })
-        }
-        ["deliver", from, to, number] => {
-            let from = centre_of(line, from)?;
-            let to = centre_of(line, to)?;
-            let number = number_of(number)?;
-            Some(Row::Deliver { from, to, number })
-        }
+        [verb, centre, word] => event_at(centre_of(line, centre)?, verb, word),
+        ["deliver", from, to, number] => Some(Row::Deliver {
+            from: centre_of(line, from)?,
+            to: centre_of(line, to)?,
+            number: number_of(number)?,
+        }),
+        _ => None,
+    }
+}
+
+/// What comes to a centre from a train or from the interlocking.
+fn event_at<'a>(centre: &'a str, verb: &str, word: &'a str) -> Option<Row<'a>> {
+    match verb {
+        "train" => Some(Row::Train {
+            centre,
+            digits: word,
+        }),
+        "set" => Some(Row::Set {
+            centre,
+            section: section_number(word)?,
+        }),
+        "unset" => Some(Row::Unset {
+            centre,
+            section: section_number(word)?,
+        }),
         _ => None,
     }
 }
@@ -145,12 +150,7 @@ fn answer_of<'a>(line: &Line, centre: &'a str, words: &[&'a str]) -> Option<Row<
             let words = words_of_late(word)?;
             Some(Row::NotNext { centre, words })
         }
-        ["=>", to, number, name] => Some(Row::Frame {
-            from: centre,
-            to: centre_of(line, to)?,
-            number: number_of(number)?,
-            words: words_of_body(name)?,
-        }),
+        ["=>", to, number, name] => frame_of(centre, centre_of(line, to)?, number, name),
         ["->", train, digits] => {
             let nid_engine = number_of(train)?;
             Some(Row::Message {
@@ -159,22 +159,32 @@ fn answer_of<'a>(line: &Line, centre: &'a str, words: &[&'a str]) -> Option<Row<
                 digits,
             })
         }
-        ["silent", number] => silent_of(centre, number_of(number)?),
-        ["fault", number] => fault_of(centre, number_of(number)?),
-        [number, word] => {
-            let section = section_number(number)?;
-            let words = words_of_word(word)?;
-            Some(Row::Word {
-                centre,
-                section,
-                words,
-            })
-        }
+        ["silent", number] => silent_of(centre, number),
+        ["fault", number] => fault_of(centre, number),
+        [number, word] => word_of(centre, number, word),
         _ => None,
     }
 }
 
-fn silent_of(centre: &str, number: u32) -> Option<Row<'_>> {
+fn frame_of<'a>(from: &'a str, to: &'a str, number: &str, name: &str) -> Option<Row<'a>> {
+    Some(Row::Frame {
+        from,
+        to,
+        number: number_of(number)?,
+        words: words_of_body(name)?,
+    })
+}
+
+fn word_of<'a>(centre: &'a str, number: &str, word: &str) -> Option<Row<'a>> {
+    Some(Row::Word {
+        centre,
+        section: section_number(number)?,
+        words: words_of_word(word)?,
+    })
+}
+
+fn silent_of<'a>(centre: &'a str, number: &str) -> Option<Row<'a>> {
+    let number = number_of(number)?;
     let words = words_of_reason(number)?;
     Some(Row::Silent {
         centre,
@@ -183,7 +193,8 @@ fn silent_of(centre: &str, number: u32) -> Option<Row<'_>> {
     })
 }
 
-fn fault_of(centre: &str, number: u32) -> Option<Row<'_>> {
+fn fault_of<'a>(centre: &'a str, number: &str) -> Option<Row<'a>> {
+    let number = number_of(number)?;
     let words = words_of_fault_number(number)?;
     Some(Row::Fault {
         centre,
@@ -193,23 +204,19 @@ fn fault_of(centre: &str, number: u32) -> Option<Row<'_>> {
 }
 
 fn section_of<'a>(line: &Line, words: &[&'a str]) -> Option<Row<'a>> {
-    match *words {
-        [number, home, word] => {
-            let section = section_at(line, number, home)?;
-            free_of(section, word, false)
-        }
-        [number, home, word, "wished"] => {
-            let section = section_at(line, number, home)?;
-            free_of(section, word, true)
-        }
-        [number, home, word, train] => {
-            let section = section_at(line, number, home)?;
-            used_of(section, word, number_of(train)?, false)
-        }
-        [number, home, word, train, "wished"] => {
-            let section = section_at(line, number, home)?;
-            used_of(section, word, number_of(train)?, true)
-        }
+    match words {
+        [number, home, word, rest @ ..] => use_of(section_at(line, number, home)?, word, rest),
+        _ => None,
+    }
+}
+
+/// What a section is used for.
+fn use_of<'a>(section: u16, word: &str, rest: &[&'a str]) -> Option<Row<'a>> {
+    match *rest {
+        [] => free_of(section, word, false),
+        ["wished"] => free_of(section, word, true),
+        [train] => used_of(section, word, number_of(train)?, false),
+        [train, "wished"] => used_of(section, word, number_of(train)?, true),
         _ => None,
     }
 }

@@ -66,10 +66,10 @@ fn add_authority(fields: &mut Fields, authority: Authority) -> Result<(), AllocE
     fields.words("END_TIME", 1023, "no limit")?;
     fields.words("N_ITER", 0, "one section")?;
     fields.metres("L_ENDSECTION", authority.l_endsection.value())?;
-    fields.words("Q_SECTIONTIMER", 0, "none")?;
-    fields.words("Q_ENDTIMER", 0, "none")?;
-    fields.words("Q_DANGERPOINT", 0, "none")?;
-    fields.words("Q_OVERLAP", 0, "none")
+    for name in ["Q_SECTIONTIMER", "Q_ENDTIMER", "Q_DANGERPOINT", "Q_OVERLAP"] {
+        fields.words(name, 0, "none")?;
+    }
+    Ok(())
 }
 
 fn add_transition(fields: &mut Fields, transition: Transition) -> Result<(), AllocError> {
