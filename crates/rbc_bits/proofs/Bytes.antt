@@ -86,12 +86,6 @@ bits_of-bytes_high_first (suc k) n =
     let head : field 8 (byte_at k n) ≡ field 8 (n / 2 ^ (8 * k)) = ap (field 8) (byte_at-is k n) ∙ field-mod 8 (n / 2 ^ (8 * k)) in
     rw (bits_of-cons (byte_at k n) (bytes_high_first k n), head, bits_of-bytes_high_first k n, e) (sym (field-add 8 (8 * k) n))
 
--- behind the highest j of j + k bytes stand the lowest k
-pub drop-bytes_high_first : (j k n : ℕ) → drop j (bytes_high_first (j + k) n) ≡ bytes_high_first k n
-drop-bytes_high_first zero k n = let e : zero + k ≡ k = omega arith in rw e refl
-drop-bytes_high_first (suc j) k n =
-    let e : suc j + k ≡ suc (j + k) = omega arith in rw e (drop-bytes_high_first j k n)
-
 -- ---- bytes of given bits
 
 pub length-bytes_high_first : (k n : ℕ) → length (bytes_high_first k n) ≡ k

@@ -44,9 +44,6 @@ field-mod (suc n) v =
     let tail : field n (v % 2 ^ suc n) ≡ field n v = sym (field-mod n (v % 2 ^ suc n)) ∙ ap (field n) (rw k (mod-pow_less v n)) ∙ field-mod n v in
     ap (λ x. eqb x 1 ∷ field n (v % 2 ^ suc n)) head ∙ ap (λ t. is_odd (v / 2 ^ n) ∷ t) tail
 
-pub field-split : (m n v : ℕ) → field (m + n) v ≡ field m (v / 2 ^ n) ++ field n (v % 2 ^ n)
-field-split m n v = rw (field-mod n v) (field-add m n v)
-
 -- what stands above a field's width does not show
 pub field-low : (n high low : ℕ) → low < 2 ^ n → field n (high * 2 ^ n + low) ≡ field n low
 field-low n high low fits = sym (field-mod n (high * 2 ^ n + low)) ∙ ap (field n) (mod_low high n low fits)

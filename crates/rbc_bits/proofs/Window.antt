@@ -1,6 +1,5 @@
 -- What a reader has: the bits behind those used, as many as are left to it.
 use Rattle.std.proofs.Common.{◌≡◌, ℕ, zero, suc, ◌+◌, ◌-◌, ◌*◌, ◌/◌, ◌^◌, ◌<◌, ◌≤◌, Bool, false, ltb, List, [], ◌∷◌, ◌++◌, length, take, drop, get_or, Ok, Err, refl, sym, ap, ◌∙◌, append_assoc, arith}
-use Rattle.std.proofs.Math.Nat.{pow-le-pow_right}
 use Rattle.std.proofs.lemmas.Bool.{lt-ltb, le-ltb}
 use Rattle.std.proofs.lemmas.List.{take-append-drop, take_at, drop_at, take-take, drop-take, drop-drop, length-take-le, length-drop, take_more}
 use Rattle.std.specs.Int.{w64, from_be_bytes, to_be_bytes}
@@ -76,10 +75,6 @@ pub number-fits : (i number b : ℕ) → b < 256 → number < 2 ^ (8 * i) → nu
 number-fits i number b fits lt =
     let width : 8 * (i + 1) ≡ 8 * i + 8 = omega arith in
     rw (width, pow-add 2 (8 * i) 8) (omega arith)
-
--- below nine bytes there is room for another
-pub number-room : (i number : ℕ) → i < 9 → number < 2 ^ (8 * i) → number < 2 ^ 64
-number-room i number lt fits = omega (arith, pow-le-pow_right {n = 2} (omega arith) {i = 8 * i} {j = 64} (omega arith))
 
 -- ---- eight bytes at once
 

@@ -1,5 +1,5 @@
 -- What notes know, place by place.
-use Rattle.std.proofs.Common.{◌≡◌, ℕ, zero, suc, ◌+◌, ◌-◌, ◌<◌, List, [], ◌∷◌, ◌++◌, Option, Some, None, Bool, if◌then◌else◌, slice_get, length, refl, sym, ap, subst, ◌∙◌, arith, inl, inr, slice_set, IfSome}
+use Rattle.std.proofs.Common.{◌≡◌, ℕ, zero, suc, ◌-◌, ◌<◌, List, [], ◌∷◌, Option, Some, None, Bool, if◌then◌else◌, slice_get, length, refl, sym, ap, subst, ◌∙◌, arith, inl, inr, IfSome}
 use Rattle.std.specs.Option.{option_and_then}
 use Rattle.std.proofs.lemmas.Option.{slice_get_within, slice_get-get_or}
 use Rattle.std.proofs.Math.ListN.{get_or}
@@ -28,11 +28,6 @@ known_note ns number n f known at =
       | inr h ↦ sym (ap (λ b. if b then None else option_and_then (λ (n : Note Frame). n.known) (slice_get ns (number - 1))) h.0 ∙ ap (option_and_then (λ (n : Note Frame). n.known)) at) ∙ known
     ]
 
-pub slice_set-same : {X : Type 0} (xs : List X) (k : ℕ) (x y : X) → slice_get xs k ≡ Some x → y ≡ x → slice_set xs k y ≡ xs
-slice_set-same [] k x y at same = refl
-slice_set-same (z ∷ xs) zero x y at same = let first : z ≡ x = cc in ap (λ w. w ∷ xs) (same ∙ sym first)
-slice_set-same (z ∷ xs) (suc k) x y at same = ap (λ ws. z ∷ ws) (slice_set-same xs k x y at same)
-
 pub slice_get_read : {X : Type 0} (xs : List X) (k : ℕ) (x : X) → k < length xs → x ≡ get_or xs k x → slice_get xs k ≡ Some x
 slice_get_read xs k x within read = slice_get-get_or xs k x within ∙ ap Some (sym read)
 
@@ -48,12 +43,6 @@ rows_agree ns ms number n m at at' agree f g known known' =
 
 abbrev pub KnowNothing : List (Note Frame) → Type 0
 KnowNothing ns = (k : ℕ) → option_and_then (λ (n : Note Frame). n.known) (slice_get ns k) ≡ None
-
-pub one_more_knows_nothing : (ns : List (Note Frame)) (x : Note Frame) → x.known ≡ None → KnowNothing ns → KnowNothing (ns ++ x ∷ [])
-one_more_knows_nothing [] x none nothing zero = none
-one_more_knows_nothing [] x none nothing (suc k) = refl
-one_more_knows_nothing (y ∷ ys) x none nothing zero = nothing zero
-one_more_knows_nothing (y ∷ ys) x none nothing (suc k) = one_more_knows_nothing ys x none (λ i. nothing (suc i)) k
 
 pub nothing_known : (ns : List (Note Frame)) → KnowNothing ns → (number : ℕ) → known_at ns number ≡ None
 nothing_known ns nothing number =

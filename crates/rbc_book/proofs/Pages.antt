@@ -1,5 +1,5 @@
 -- Laws of the pages of a book.
-use Rattle.std.proofs.Common.{◌≡◌, ◌≢◌, ℕ, zero, suc, ◌+◌, ◌<◌, ◌≤◌, ◌==◌, inl, inr, true, false, cond, List, [], ◌∷◌, ◌++◌, length, length-append, set, Option, Some, None, is_some, option_and_then, unwrap_or, slice_get, refl, ap, sym, ◌∙◌, arith}
+use Rattle.std.proofs.Common.{◌≡◌, ◌≢◌, ℕ, zero, suc, ◌<◌, ◌≤◌, ◌==◌, inl, inr, true, false, cond, List, [], ◌∷◌, length, set, Option, Some, None, is_some, option_and_then, unwrap_or, slice_get, refl, ap, sym, ◌∙◌, arith}
 use Rattle.std.specs.Option.{option_map_or}
 use Rattle.std.proofs.lemmas.Bool.{false≢true, cases_lt}
 use Rattle.std.proofs.lemmas.Bool.Decides.{eqb_tells}
@@ -25,15 +25,6 @@ slice_get-set_other (y ∷ ys) zero (suc j) x h = refl
 slice_get-set_other (y ∷ ys) (suc i) zero x h = refl
 slice_get-set_other (y ∷ ys) (suc i) (suc j) x h = slice_get-set_other ys i j x (λ e. h (ap suc e))
 
-slice_get-last : {X : Type 0} (xs : List X) (x : X) → slice_get (xs ++ x ∷ []) (length xs) ≡ Some x
-slice_get-last [] x = refl
-slice_get-last (y ∷ ys) x = slice_get-last ys x
-
-slice_get-before : {X : Type 0} (xs ys : List X) (i : ℕ) → i < length xs → slice_get (xs ++ ys) i ≡ slice_get xs i
-slice_get-before [] ys i within = absurd (let no : ⊥ = omega arith in no)
-slice_get-before (z ∷ zs) ys zero within = refl
-slice_get-before (z ∷ zs) ys (suc i) within = slice_get-before zs ys i (omega arith)
-
 -- ## Sections of another home
 
 -- a section of another home is shut
@@ -42,15 +33,6 @@ unfolding is_own entry_at
 foreign_is_shut pages s = by_page (page_of pages s)
   where
     by_page : (p : Option Page) → is_some p ≡ false → option_map_or (λ (q : Page). entry_of q.entry) p Shut ≡ Shut
-    by_page None h = refl
-    by_page (Some p) h = absurd (false≢true (sym h))
-
--- and not wished back
-pub foreign_is_unwished : (pages : Pages) (s : ℕ) → is_own pages s ≡ false → wish_at pages s ≡ false
-unfolding is_own wish_at
-foreign_is_unwished pages s = by_page (page_of pages s)
-  where
-    by_page : (p : Option Page) → is_some p ≡ false → option_map_or (λ (q : Page). q.is_wished) p false ≡ false
     by_page None h = refl
     by_page (Some p) h = absurd (false≢true (sym h))
 
@@ -117,21 +99,6 @@ is_own-set pages s page own k = written_is_own pages s page own k ∙
 pub record HasShutPages (line : Line) (c n : ℕ) (shut : Page) (pages : Pages) : Type 0 where
   pub count : length pages ≡ n
   pub each : (k : ℕ) → k < n → slice_get pages k ≡ Some (cond (is_home line c k) (Some shut) None)
-
-pub HasShutPages-more : (line : Line) (c n : ℕ) (shut : Page) (pages more : Pages) (page : Option Page) → more ≡ pages ++ page ∷ [] → page ≡ cond (is_home line c n) (Some shut) None
-    → HasShutPages line c n shut pages → HasShutPages line c (n + 1) shut more
-HasShutPages-more line c n shut pages more page pushed home so_far = record {
-  count = rw pushed (simp (length-append) (omega (arith, so_far.count)));
-  each = λ k within.
-      elim (cases_lt k n) [
-        | inl earlier ↦ rw pushed (slice_get-before pages (page ∷ []) k (omega (arith, so_far.count)) ∙ so_far.each k earlier)
-        | inr last ↦
-            let at : k ≡ length pages = omega (arith, so_far.count) in
-            let is_n : k ≡ n = omega arith in
-            ap (λ xs. slice_get xs k) pushed ∙ ap (slice_get (pages ++ page ∷ [])) at ∙ slice_get-last pages page
-            ∙ ap (λ p. Some p) (home ∙ ap (λ j. cond (is_home line c j) (Some shut) None) (sym is_n))
-      ];
-}
 
 -- no number past the last section is of a home
 past_is_foreign : (line : Line) (c k : ℕ) → length line.sections ≤ k → is_home line c k ≡ false

@@ -1,4 +1,4 @@
-ghost use Rattle.std.specs.Prelude.{◌≡◌, ◌+◌, ◌-◌, ◌++◌, ◌<◌, ◌≤◌, ◌&&◌, ◌==◌, ℕ, min, true, false, Some, None, option_map, if◌then◌else◌, replicate, length, IfOk, IfSome};
+ghost use Rattle.std.specs.Prelude.{◌≡◌, ◌+◌, ◌-◌, ◌++◌, ◌<◌, ◌≤◌, ◌&&◌, ◌==◌, ℕ, min, true, false, Some, None, option_map, if◌then◌else◌, replicate, IfOk, IfSome};
 ghost use Rattle.std.specs.Option.{option_map_or};
 ghost use Rattle.rbc_spec.specs.Maps.{has};
 ghost use Rattle.rbc_spec.specs.Line as track;
@@ -73,13 +73,6 @@ impl Border {
         self.nid_engine
     }
 
-    /// The centre that lent the sections of the pool. Of an empty pool, the one that lent last; the first centre, where none has.
-    pub fn lender(&self) -> u8
-        ensures { result ≡ self.now.lender }
-    {
-        self.lender
-    }
-
     /// The pool: lent sections that follow the train's hand. Of an empty pool, the first is where it became empty.
     pub fn pool(&self) -> SectionRun
         ensures value { run_of result ≡ self.now.pool }
@@ -90,13 +83,6 @@ impl Border {
             first: self.first,
             count: self.names.len(),
         }
-    }
-
-    /// The first section that was asked for, of a question without an answer.
-    pub fn asked(&self) -> Option<u16>
-        ensures { result ≡ self.now.asked }
-    {
-        self.asked
     }
 
     /// The sections behind the hand of the train's mission are asked for, where they are due: the first of them is of the next centre's

@@ -1,4 +1,4 @@
-ghost use Rattle.std.specs.Prelude.{◌≡◌, ◌+◌, ◌≤◌, ℕ, None, option_map, IfSome};
+ghost use Rattle.std.specs.Prelude.{◌≡◌, ◌+◌, ◌≤◌, None, option_map, IfSome};
 ghost use Rattle.rbc_spec.specs.SectionRuns.{longest};
 ghost use Rattle.rbc_spec.specs.Centre.{Centre, is_open};
 ghost use Rattle.rbc_spec.specs.Frame.{RouteInfo, HasRunRange};

@@ -1,6 +1,5 @@
 -- What marks say of a run of sections.
 use Rattle.std.proofs.Common.{◌≡◌, ℕ, zero, suc, ◌&&◌, Bool, ◌+◌, ◌-◌, ◌*◌, ◌/◌, ◌%◌, ◌^◌, ◌<◌, true, false, cond, eqb, List, [], ◌∷◌, ◌++◌, refl, sym, ap, ◌∙◌, arith}
-use Rattle.std.proofs.Math.Nat.{div-one}
 use Rattle.std.specs.List.{filter, range_with_len}
 use Rattle.std.proofs.lemmas.List.{append-nil}
 use Rattle.std.proofs.lemmas.List.Elements.{filter-append}
@@ -35,11 +34,6 @@ mark_fits n marks mark lt fits = rw (pow-add 2 n 1) (omega arith)
 
 pub marked-start : (first count marks : ℕ) → [] ≡ marked first 0 (marks / 2 ^ (count - 0))
 marked-start first count marks = sym (marked-none first (marks / 2 ^ (count - 0)))
-
-pub marked-end : (first count marks : ℕ) → marked first count (marks / 2 ^ (count - count)) ≡ marked first count marks
-marked-end first count marks =
-    let e : count - count ≡ 0 = omega arith in
-    ap (λ x. marked first count (marks / 2 ^ x)) e ∙ ap (marked first count) (div-one marks)
 
 next : (first count k marks : ℕ) → k < count → marked first (k + 1) (marks / 2 ^ (count - (k + 1))) ≡ marked first k (marks / 2 ^ (count - k)) ++ cond (eqb (marks / 2 ^ (count - 1 - k) % 2) 1) ((first + k) ∷ []) []
 next first count k marks lt =

@@ -1,6 +1,6 @@
 //! A train's file: what its lines ask for.
 
-ghost use Rattle.std.specs.Prelude.{◌≡◌, ◌<◌, ◌==◌, IfOk, IfErr, map, option_map, length};
+ghost use Rattle.std.specs.Prelude.{◌≡◌, ◌<◌, ◌==◌, IfOk, IfErr, map};
 ghost use Rattle.std.specs.List.{slice_split};
 ghost use Rattle.rbc_drive.specs.Lines.{asked, bytes_of, number_of, row_asks, rows, whole_rows};
 ghost use Rattle.rbc_drive.specs.Steps.{AreAsked, Finds, IsFirstFault, step_asks};

@@ -1,29 +1,25 @@
 -- What comes of an event in Moves is an own step of the one line centre.
-use Rattle.std.proofs.Common.{◌≡◌, inl, inr, ℕ, ◌+◌, ◌-◌, ◌==◌, ◌≤◌, ◌<◌, true, false, ◌&&◌, ◌||◌, not, nat_le, nat_lt, List, Option, Some, None, Ok, Err, refl, sym, ap, ◌∙◌, arith, ⊎_elim}
+use Rattle.std.proofs.Common.{◌≡◌, inl, inr, ℕ, ◌+◌, ◌-◌, ◌==◌, ◌≤◌, ◌<◌, true, false, ◌&&◌, ◌||◌, not, nat_le, nat_lt, Option, Some, None, Ok, Err, refl, sym, ap, ◌∙◌, arith, ⊎_elim}
 use Rattle.std.proofs.lemmas.Bool.{and_parts, leb-true, ltb-true, cases_Bool, cases_lt, eqb-true, or_cases, not-true}
 use Rattle.rbc_spec.specs.SectionRuns.{SectionRun, within, behind, all_of}
 use Rattle.rbc_spec.specs.Line.{Line, is_centre, is_home, end}
 use Rattle.rbc_spec.specs.Sections.{section_count, is_on}
 use Rattle.rbc_spec.specs.Place.{Place, Position, covered, group_start, place_on, fit_place}
-use Rattle.rbc_spec.specs.Message.{TrainMessage, TrainBody, TrainData, Request, Report, ShorteningGranted, ShorteningRejected, EndOfMission, InitiationOfSession, TerminationOfSession, StartOfMission, SessionEstablished, TrackBody}
-use Rattle.rbc_spec.specs.Outcome.{Word, Reason}
+use Rattle.rbc_spec.specs.Message.{TrainMessage, TrainBody, TrainData, Request, Report, ShorteningGranted, ShorteningRejected, EndOfMission, InitiationOfSession, TerminationOfSession, StartOfMission, SessionEstablished}
+use Rattle.rbc_spec.specs.Outcome.{Reason}
 use Rattle.rbc_spec.specs.Centre.{is_registrar_of}
 use Rattle.rbc_spec.specs.LineCentre.{LineState, Open, Shut, is_given_to, is_mark_open, IsHand, supervises, is_waiting_at, hears, Said}
-use Rattle.rbc_spec.specs.OwnSteps.{Says, Own, Starts, StartsHere, StartsNew, Restarts, Extends, Ends, Reports, Ending, Sets, Unsets, may_start, begins, track_of, is_unused_mark, set_mark, wished_back, without_ask, last_kept_of, may_be_given}
+use Rattle.rbc_spec.specs.OwnSteps.{Own, Starts, StartsHere, StartsNew, Restarts, Extends, Ends, Reports, Ending, Sets, Unsets, may_start, begins, track_of, is_unused_mark, set_mark, wished_back, without_ask, last_kept_of, may_be_given}
 use Rattle.rbc_spec.specs.Run.{OwnStep, Steps, silence, may_listen}
 use Rattle.rbc_spec.specs.World.{Event, Bytes, Set, Unset, Delivery}
 use Rattle.rbc_lemmas.proofs.Lists.{none_is, each_of}
-use Rattle.rbc_examples.specs.Turns.{Choice, Rejecting, Listening, Extending, Turn, answering, hand_of, is_hand, is_end, extend, start_here, restart, start_new, start_at, request_at, report_at, end_at, own_turn, set_turn, unset_turn, Step, message_step, own_step}
+use Rattle.rbc_examples.specs.Turns.{Choice, Rejecting, Listening, Extending, Turn, hand_of, is_hand, is_end, extend, start_here, restart, start_new, start_at, request_at, report_at, end_at, own_turn, set_turn, unset_turn, Step, message_step, own_step}
 use Rattle.rbc_examples.proofs.Valid.{Valid, valid_allowed, valid_then, valid_map, valid_when, valid_if, same}
 use Rattle.rbc_examples.proofs.Bounds.{IsWithinLine, on_within, covered_within, within_free, within_kept, within_given, within_put, within_one, within_shortened, within_reported}
 
 -- the relation holds of what a turn says and leaves, where only sections are given
 abbrev pub Does : Line → (Said → LineState → Type 0) → Turn → Type 0
 Does line P turn = P turn.said turn.state × IsWithinLine line turn.state.mark
-
-pub says_so : (t c group : ℕ) (body : TrackBody) (words : List Word) (v changed : LineState)
-    → Says t c group body words v changed (answering t c group body words v changed).said (answering t c group body words v changed).state
-says_so t c group body words v changed = record { said_is = refl; new_is = refl }
 
 -- ## Hands
 

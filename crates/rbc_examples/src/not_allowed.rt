@@ -1,6 +1,6 @@
 //! What the one line centre does not do, and a world that no state of it stands for.
 
-ghost use Rattle.std.specs.Prelude.{◌≡◌, ℕ, List, [], ◌∷◌, Some};
+ghost use Rattle.std.specs.Prelude.{◌≡◌, [], ◌∷◌, Some};
 ghost use Rattle.rbc_spec.specs.LineCentre.{LineState};
 ghost use Rattle.rbc_spec.specs.Outcome.{Outcome, Reason, Told};
 ghost use Rattle.rbc_spec.specs.Quiet.{Keep};

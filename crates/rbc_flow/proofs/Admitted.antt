@@ -75,9 +75,6 @@ module _ (line : Line) (w : Flow) (sound : IsFlowSound line w) (v : LineState) (
 
   -- ## What is in hands
 
-  covers : ℕ → Bool
-  covers s = within (covered line place) s
-
   in_hands : (u s : ℕ) → placed (hands u s) (centre_count line) new + one_if (hand_has (k.mission u) s) ≡ placed (hands u s) (centre_count line) w + one_if (hand_has (y.mission u) s)
   in_hands u s = omega (
     arith,

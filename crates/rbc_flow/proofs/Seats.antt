@@ -61,9 +61,6 @@ pub few_missions : (line : Line) (w : Flow) → IsFlowSound line w → (t : ℕ)
 few_missions line w sound t = omega (arith, missions_rights line w t, (sound.rights t).law, one_registrar line t (centre_count line) w)
 
 module _ (line : Line) (w : World) (sound : IsFlowSound line (flow_of w)) where
-  n : ℕ
-  n = centre_count line
-
   at_centres : (t : ℕ) → length (filter_map (held_at w t) (centres_of line)) ≤ sum_below (centre_count line) (λ c. (missions t).held c (w.at c))
   at_centres t = omega (
     arith,

@@ -1,5 +1,5 @@
 -- A step of a centre, seen in the flow of its world: an act of the centre by itself, or at the head of a link.
-use Rattle.std.proofs.Common.{◌≡◌, ◌≢◌, ℕ, ◌+◌, List, [], ◌∷◌, ◌++◌, length, map, refl, sym, ap, ◌∙◌, subst, ⊎_elim, arith}
+use Rattle.std.proofs.Common.{◌≡◌, ◌≢◌, ℕ, ◌+◌, List, [], ◌∷◌, ◌++◌, length, map, refl, sym, ap, ◌∙◌, subst, ⊎_elim}
 use Rattle.std.proofs.lemmas.Bool.{cases_eq}
 use Rattle.std.proofs.lemmas.List.{map-append}
 use Rattle.rbc_ledger.specs.Sums.{put, put_link}
@@ -18,11 +18,6 @@ body_of f = f.body
 pub numbered_bodies : (stamp n : ℕ) (bodies : List Body) → map body_of (numbered stamp n bodies) ≡ bodies
 numbered_bodies stamp n [] = refl
 numbered_bodies stamp n (b ∷ bs) = ap (λ xs. b ∷ xs) (numbered_bodies stamp (n + 1) bs)
-
--- and have their numbers in order
-pub numbered_in_order : (stamp n : ℕ) (bodies : List Body) → length (numbered stamp n bodies) ≡ length bodies
-numbered_in_order stamp n [] = refl
-numbered_in_order stamp n (b ∷ bs) = omega (arith, numbered_in_order stamp (n + 1) bs)
 
 module _ (w : World) (c stamp : ℕ) (k : Centre) (e : Effect) (trains : List ℕ) (same : (d : ℕ) → k.sent d ≡ (w.at c).sent d) where
   abbrev new : Centre

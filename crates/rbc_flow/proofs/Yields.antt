@@ -18,22 +18,6 @@ use Rattle.rbc_flow.specs.Counts.{lent}
 use Rattle.rbc_flow.proofs.Basics.{itself, one_home}
 use Rattle.rbc_flow.proofs.Homes.{in_both, homes_once}
 
--- on plain tests: a section in the hand or not, of the own home or not, of the accepting centre's or not
-pub yield_law : (hand home to taken out cd td pool : Bool) → (hand ≡ true → home ≡ true → (taken ≡ true) × (to ≡ false) × (out ≡ false)) → (hand ≡ true → home ≡ false → to ≡ true)
-    → (one_if ((cd && not home) && pool) + one_if (hand && (if to then cd else td))) + one_if (home && out)
-    ≤ (one_if ((cd && not home) && hand) + one_if ((cd && not home) && pool)) + one_if (home && (if hand && taken then td else out))
-yield_law true true to taken out cd td pool own lent = let is = own refl refl in rw (is.0, is.1, is.2) (by cd pool td)
-  where
-    by : (a b e : Bool) → (one_if ((a && false) && b) + one_if e) + 0 ≤ (one_if ((a && false) && true) + one_if ((a && false) && b)) + one_if e
-    by true b e = omega arith
-    by false b e = omega arith
-yield_law true false to taken out cd td pool own lent = rw (lent refl refl) (by cd pool)
-  where
-    by : (a b : Bool) → (one_if ((a && true) && b) + one_if a) + 0 ≤ (one_if ((a && true) && true) + one_if ((a && true) && b)) + 0
-    by true b = omega arith
-    by false b = omega arith
-yield_law false home to taken out cd td pool own lent = omega arith
-
 module _ (line : Line) (ordered : IsOrdered line) (c t to track number heard : ℕ) (has_data is_ended : Bool) (place : YieldedPlace) (hand pool : SectionRun) (k j : Centre) (small : to < centre_count line) (u s d : ℕ) where
   -- what goes home, and the Yield
   abbrev frames : ℕ → List Body

@@ -1,5 +1,5 @@
 ghost use Rattle.std.specs.Prelude.{◌≡◌};
-ghost use Rattle.rbc_hand.specs.Tokens.{lent_on, lent_section, lent_train, lent_home};
+ghost use Rattle.rbc_hand.specs.Tokens.{lent_on, lent_section, lent_train};
 
 /// The name of a section of another home, which its centre has lent to a train here. It can't be copied, and not be dropped:
 /// it ends where it is sent home or further on, also where its centre is dropped.
@@ -47,12 +47,5 @@ impl Lent {
         ensures { result ≡ lent_train self.now }
     {
         self.nid_engine
-    }
-
-    /// The section's home centre.
-    pub fn home(&self) -> u8
-        ensures { result ≡ lent_home self.now }
-    {
-        self.home
     }
 }

@@ -6,19 +6,19 @@ use Rattle.std.proofs.lemmas.Bool.{cases_Bool, false≢true}
 use Rattle.rbc_lemmas.proofs.Lists.{each_of}
 use Rattle.std.proofs.lemmas.List.{append-nil}
 use Rattle.rbc_spec.specs.Maps.{has, put}
-use Rattle.rbc_spec.specs.SectionRuns.{SectionRun, is_empty}
+use Rattle.rbc_spec.specs.SectionRuns.{is_empty}
 use Rattle.rbc_spec.specs.Line.{Line}
 use Rattle.rbc_spec.specs.Frame.{Body, Announce, Cancel}
 use Rattle.rbc_spec.specs.Centre.{Centre, Mission, Handing}
-use Rattle.rbc_spec.specs.Acts.{Reply, rest, send, part_at, announce, cancel, change_mission, yield, yield_if_due, ◌>>◌}
+use Rattle.rbc_spec.specs.Acts.{Reply, rest, send, part_at, announce, cancel, change_mission, ◌>>◌}
 use Rattle.rbc_spec.specs.Rules.{announce_if_due}
 use Rattle.rbc_spec.specs.Links.{claimed}
 use Rattle.rbc_lemmas.proofs.Puts.{put_same}
 use Rattle.rbc_handover.specs.declared.handing.HandoverName.{HandoverName}
 use Rattle.rbc_handover.specs.declared.handing.Handing.{Handing as HandingCode}
 use Rattle.rbc_handover.specs.declared.handing.Claimed.{Claimed as ClaimedCode}
-use Rattle.rbc_handover.specs.Handings.{kept_as, handover_name}
-use Rattle.rbc_handover.specs.Giving.{begun, claimed_by, is_due, HasHandover, HasMission, with_handover, with_count, announcing, cancelling}
+use Rattle.rbc_handover.specs.Handings.{handover_name}
+use Rattle.rbc_handover.specs.Giving.{begun, claimed_by, HasHandover, HasMission, with_handover, with_count, announcing, cancelling}
 
 -- a centre that has a handover is the same with it
 pub same_handover : (t : ℕ) (k : Centre) (h : Option Handing) → HasHandover t k h → with_handover t h k ≡ k
@@ -93,26 +93,6 @@ one_fails test first count s low high fails = elim (cases_Bool (list_all test (r
   | inl all ↦ absurd (false≢true (sym fails ∙ each_of test first count all s low high))
   | inr fail ↦ fail
 ]
-
-pub yields : (line : Line) (c t : ℕ) (m : Mission) (k : Centre) (old : Option Handing) (r : SectionRun) (result : Option (HandingCode ClaimedCode))
-    → HasMission t k m old → m.hand ≡ r → option_map (kept_as true) result ≡ (if has (is_due line c r) old then old else None)
-    → yield_if_due line c t k ≡ option_map_or (λ handing. yield line c t m (kept_as true handing) k) result (rest k)
-yields line c t m k old r result is hand due =
-    ap (λ o. option_map_or (λ n. option_map_or (λ h. cond (is_due line c n.hand h) (yield line c t n h k) (rest k)) n.handing (rest k)) o (rest k)) is.mission
-    ∙ (λ i. option_map_or (λ h. cond (is_due line c (hand i) h) (yield line c t m h k) (rest k)) (is.handing i) (rest k))
-    ∙ same old
-    ∙ ap (λ o. option_map_or (λ h. yield line c t m h k) o (rest k)) (sym due)
-    ∙ of_code result
-  where
-    same : (o : Option Handing) → option_map_or (λ h. cond (is_due line c r h) (yield line c t m h k) (rest k)) o (rest k)
-        ≡ option_map_or (λ h. yield line c t m h k) (cond (has (is_due line c r) o) o None) (rest k)
-    same None = refl
-    same (Some h) = elim (is_due line c r h) as (λ b. cond b (yield line c t m h k) (rest k) ≡ option_map_or (λ h. yield line c t m h k) (cond b (Some h) None) (rest k)) [ true ↦ refl | false ↦ refl ]
-
-    of_code : (o : Option (HandingCode ClaimedCode)) → option_map_or (λ h. yield line c t m h k) (option_map (kept_as true) o) (rest k)
-        ≡ option_map_or (λ handing. yield line c t m (kept_as true handing) k) o (rest k)
-    of_code None = refl
-    of_code (Some handing) = refl
 
 -- ## Cancelled
 

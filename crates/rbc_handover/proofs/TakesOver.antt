@@ -27,14 +27,6 @@ pub record HasTold (old new : List (Option Expectation)) (i : ℕ) (are_told : L
   pub below : (d : ℕ) → d < i → expected_from new d ≡ option_map taking (expected_from old d)
   pub above : (d : ℕ) → i ≤ d → expected_from new d ≡ expected_from old d
 
-pub none_told : (e : List (Option Expectation)) (are_told : List Bool) → ((d : ℕ) → get_or are_told d false ≡ false) → HasTold e e 0 are_told
-none_told e are_told none = record {
-  told = λ d low. absurd (let no : ⊥ = omega arith in no);
-  not_told = λ d high. none d;
-  below = λ d low. absurd (let no : ⊥ = omega arith in no);
-  above = λ d high. refl;
-}
-
 module _ (old : List (Option Expectation)) (xs : List AcceptingState) (i : ℕ) (state next : AcceptingState) (within : i < length xs) (at : state ≡ get_or xs i state) where
   pub one_told : (are_told : List Bool) (is : Bool) → i < length are_told → HasTold old (by_states xs) i are_told
       → is ≡ is_to_be_told (expectation_of state) → expectation_of next ≡ option_map taking (expectation_of state)

@@ -1,6 +1,6 @@
 //! Laws of distances in metres: no rule subtracts more than there is.
 
-ghost use Rattle.std.specs.Prelude.{◌≡◌, ℕ, ◌-◌, ◌≤◌, Bool, true, false, Some};
+ghost use Rattle.std.specs.Prelude.{◌≡◌, ℕ, ◌-◌, ◌≤◌, true, false, Some};
 ghost use Rattle.rbc_spec.specs.SectionRuns.{behind, is_empty};
 ghost use Rattle.rbc_spec.specs.Line.{Line, IsLine, start, end};
 ghost use Rattle.rbc_spec.specs.Sections.{is_on};

@@ -1,6 +1,6 @@
 //! Laws of runs of sections: what is in them, what two share, a run that is cut in two, and the longest run under a test.
 
-ghost use Rattle.std.specs.Prelude.{◌≡◌, ℕ, ◌+◌, ◌<◌, ◌≤◌, ◌&&◌, ◌||◌, Bool, true, false, nat_lt, nat_le};
+ghost use Rattle.std.specs.Prelude.{◌≡◌, ℕ, ◌+◌, ◌≤◌, ◌&&◌, ◌||◌, Bool, true, false, nat_lt, nat_le};
 ghost use Rattle.rbc_spec.specs.SectionRuns.{SectionRun, within, behind, is_empty, part_before, part_from, shared, joined, longest, passing};
 ghost use Rattle.rbc_lemmas.specs.Runs.{IsLongest};
 

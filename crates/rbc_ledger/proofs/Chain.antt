@@ -19,10 +19,6 @@ after_append {S = S} step (f ∷ fs) gs s = by_head (after_append step fs gs) (s
     by_head rest None = refl
     by_head rest (Some mid) = rest mid
 
--- two states that are there are one where they are the same answer
-same : {S : Type 0} (x y : S) → Some x ≡ Some y → x ≡ y
-same x y e = cc
-
 -- no frame on the way: the start is the end
 pub chain_none : {F S : Type 0} (step : F → S → Option S) (s : S) → Chain step [] s s
 unfolding after_all
@@ -61,31 +57,6 @@ chain_taken {S = S} step f fs start end chain = by_head (step f start) refl chai
         → (mid : S) × (step f start ≡ Some mid) × Chain step fs mid end
     by_head None is leads = absurd (cc)
     by_head (Some mid) is leads = (mid, is, record { leads = leads })
-
--- a chain of frames and more frames is a chain of the frames and one of the others
-pub chain_split : {F S : Type 0} (step : F → S → Option S) (fs gs : List F) (start end : S)
-    → Chain step (fs ++ gs) start end → (mid : S) × Chain step fs start mid × Chain step gs mid end
-chain_split {S = S} step fs gs start end chain =
-    by_first (after_all step fs start) refl (sym (after_append step fs gs start) ∙ chain.leads)
-  where
-    by_first : (o : Option S) → after_all step fs start ≡ o → option_and_then (after_all step gs) o ≡ Some end
-        → (mid : S) × Chain step fs start mid × Chain step gs mid end
-    by_first None is leads = absurd (cc)
-    by_first (Some mid) is leads = (mid, record { leads = is }, record { leads = leads })
-
--- a frame in its midst may come where the frames before it led
-pub chain_at : {F S : Type 0} (step : F → S → Option S) (fs : List F) (f : F) (gs : List F) (start end : S)
-    → Chain step (fs ++ f ∷ gs) start end
-    → (mid next : S) × Chain step fs start mid × (step f mid ≡ Some next) × Chain step gs next end
-chain_at step fs f gs start end chain =
-    let parts = chain_split step fs (f ∷ gs) start end chain in
-    let head = chain_taken step f gs parts.0 end parts.2 in
-    (parts.0, head.0, parts.1, head.1, head.2)
-
--- the frames and the start determine the end
-pub chain_only : {F S : Type 0} (step : F → S → Option S) (fs : List F) (start end other : S)
-    → Chain step fs start end → Chain step fs start other → end ≡ other
-chain_only step fs start end other one two = same end other (sym one.leads ∙ two.leads)
 
 -- an act of c sends frames that lead on, on each of its links
 pub chain_acted : {X F S : Type 0} (step : F → S → Option S) (w : Net X F) (c : ℕ) (x : X) (frames : ℕ → List F)

@@ -1,10 +1,10 @@
 -- Laws of the queues between centres: a delivery takes the head of a queue or nothing, an act adds at the ends.
-use Rattle.std.proofs.Common.{◌≡◌, ◌≢◌, ◌⊎◌, ℕ, zero, suc, ◌+◌, ◌<◌, ◌≤◌, ◌==◌, List, [], ◌∷◌, ◌++◌, length, take, drop, Some, slice_get, refl, sym, ap, ◌∙◌, subst, arith, eq-eqb, ne_eqb, ⊎_elim, inl, inr, take-append-drop, length-append, append-nil, subst₂, All}
+use Rattle.std.proofs.Common.{◌≡◌, ◌≢◌, ◌⊎◌, ℕ, zero, suc, ◌+◌, ◌<◌, ◌≤◌, ◌==◌, List, [], ◌∷◌, ◌++◌, length, drop, Some, slice_get, refl, sym, ap, ◌∙◌, subst, arith, eq-eqb, ne_eqb, ⊎_elim, inl, inr, length-append, append-nil, subst₂, All}
 use Rattle.std.proofs.lemmas.List.Elements.{All-nil, All-append, All-head, All-tail}
 use Rattle.std.proofs.lemmas.Bool.{cond-true, cond-false, cases_eq}
-use Rattle.std.proofs.lemmas.List.{drop-append-le, take-append-le}
+use Rattle.std.proofs.lemmas.List.{drop-append-le}
 use Rattle.rbc_ledger.specs.Sums.{put}
-use Rattle.rbc_ledger.specs.Network.{Net, way, received, IsCounted, EachOnTheWay, TakesHead, numbered, took, came, acted, to_one}
+use Rattle.rbc_ledger.specs.Network.{Net, way, IsCounted, EachOnTheWay, TakesHead, numbered, took, came, acted, to_one}
 use Rattle.rbc_ledger.proofs.Sums.{cases_link, put_same, put_other, put_keeps, put_link_same, put_link_other}
 
 -- the frame at a place stands before those after it
@@ -19,14 +19,6 @@ left_over [] zero f rest e = absurd (cc)
 left_over [] (suc k) f rest e = absurd (cc)
 left_over (g ∷ fs) zero f rest e = omega arith
 left_over (g ∷ fs) (suc k) f rest e = omega (arith, left_over fs k f rest e)
-
--- one more of a list, where something stands after it
-one_more : {F : Type 0} (fs : List F) (k : ℕ) (f : F) (rest : List F) → drop k fs ≡ f ∷ rest
-    → take (suc k) fs ≡ take k fs ++ f ∷ []
-one_more [] zero f rest e = absurd (cc)
-one_more [] (suc k) f rest e = absurd (cc)
-one_more (g ∷ fs) zero f rest e = ap (λ x. x ∷ []) (let h : g ∷ fs ≡ f ∷ rest = e in cc)
-one_more (g ∷ fs) (suc k) f rest e = ap (λ x. g ∷ x) (one_more fs k f rest e)
 
 -- the count of a link of which one more was taken
 counted_up : {X F : Type 0} (w : Net X F) (a b : ℕ) → (took w a b).taken a b ≡ suc (w.taken a b)
@@ -85,37 +77,6 @@ pub way_acted_none : {X F : Type 0} (w : Net X F) (c : ℕ) (x : X) (a b : ℕ)
 way_acted_none w c x a b =
     ap (drop (w.taken a b)) (put_keeps (λ i row. row b) w.sent c (λ d. w.sent c d ++ []) (append-nil (w.sent c b)) a)
 
--- what an act sends is sent after what was sent before
-pub sent_acted : {X F : Type 0} (w : Net X F) (c : ℕ) (x : X) (frames : ℕ → List F) (d : ℕ)
-    → (acted w c x frames).sent c d ≡ w.sent c d ++ frames d
-sent_acted w c x frames d = ap (λ row. row d) (put_same w.sent c (λ b. w.sent c b ++ frames b))
-
--- and nothing is sent for others
-pub sent_acted_other : {X F : Type 0} (w : Net X F) (c : ℕ) (x : X) (frames : ℕ → List F) (a b : ℕ) → a ≢ c
-    → (acted w c x frames).sent a b ≡ w.sent a b
-sent_acted_other w c x frames a b apart = ap (λ row. row b) (put_other w.sent c (λ d. w.sent c d ++ frames d) a apart)
-
--- a new frame's number is how many were sent before it, and one
-pub numbered_new : {F : Type 0} (fs : List F) (f : F) (gs : List F)
-    → numbered (fs ++ f ∷ gs) (length fs + 1) ≡ Some f
-numbered_new {F = F} fs f gs = let number : length fs + 1 ≡ suc (length fs) =
-    omega arith in ap (numbered (fs ++ f ∷ gs)) number ∙ at_end fs
-  where
-    at_end : (hs : List F) → slice_get (hs ++ f ∷ gs) (length hs) ≡ Some f
-    at_end [] = refl
-    at_end (h ∷ hs) = at_end hs
-
--- a frame keeps its number when more are sent
-pub numbered_kept : {F : Type 0} (fs gs : List F) (number : ℕ) (f : F) → numbered fs number ≡ Some f
-    → numbered (fs ++ gs) number ≡ Some f
-numbered_kept {F = F} fs gs zero f is = absurd (cc)
-numbered_kept {F = F} fs gs (suc k) f is = kept fs k is
-  where
-    kept : (hs : List F) (i : ℕ) → slice_get hs i ≡ Some f → slice_get (hs ++ gs) i ≡ Some f
-    kept [] i e = absurd (cc)
-    kept (h ∷ hs) zero e = e
-    kept (h ∷ hs) (suc i) e = kept hs i e
-
 -- frames to one centre: what it is sent, and what others are
 pub to_one_same : {F : Type 0} (d : ℕ) (frames : List F) → to_one d frames d ≡ frames
 to_one_same d frames = cond-true (d == d) frames [] (eq-eqb d d refl)
@@ -123,27 +84,6 @@ to_one_same d frames = cond-true (d == d) frames [] (eq-eqb d d refl)
 -- no other centre is sent any
 pub to_one_other : {F : Type 0} (d : ℕ) (frames : List F) (b : ℕ) → b ≢ d → to_one d frames b ≡ []
 to_one_other d frames b apart = cond-false (b == d) frames [] (ne_eqb b d apart)
-
--- what was taken is a beginning of what was sent
-pub received_first : {X F : Type 0} (w : Net X F) (a b : ℕ) → received w a b ++ way w a b ≡ w.sent a b
-received_first w a b = take-append-drop (w.taken a b) (w.sent a b)
-
--- the frame that is taken is added to what was taken
-pub received_took : {X F : Type 0} (w : Net X F) (a b : ℕ) (f : F) → TakesHead w a b f
-    → received (took w a b) a b ≡ received w a b ++ f ∷ []
-received_took w a b f takes =
-    ap (λ k. take k (w.sent a b)) (counted_up w a b) ∙ one_more (w.sent a b) (w.taken a b) f (way (took w a b) a b) takes.head
-
--- an act changes nothing of what was taken
-pub received_acted : {X F : Type 0} (w : Net X F) (c : ℕ) (x : X) (frames : ℕ → List F) → IsCounted w → (a b : ℕ)
-    → received (acted w c x frames) a b ≡ received w a b
-received_acted w c x frames counted a b = ⊎_elim
-    (λ (here : a ≡ c). subst (λ k.
-    take (w.taken k b) (put w.sent c (λ d. w.sent c d ++ frames d) k b) ≡ take (w.taken k b) (w.sent k b)) (sym here)
-    (ap (λ row. take (w.taken c b) (row b)) (put_same w.sent c (λ d. w.sent c d ++ frames d))
-    ∙ take-append-le (w.taken c b) (w.sent c b) (frames b) (counted.counts c b)))
-    (λ (apart : a ≢ c). ap (λ row. take (w.taken a b) (row b)) (put_other w.sent c (λ d. w.sent c d ++ frames d) a apart))
-    (cases_eq a c)
 
 -- a net in which nothing was sent
 pub counted_start : {X F : Type 0} (at : ℕ → X)

@@ -17,24 +17,6 @@ inside_le_carried r a b (g ∷ fs) zero f e = omega (arith, carried_more r a b g
     same g f e = cc
 inside_le_carried r a b (g ∷ fs) (suc k) f e = omega (arith, carried_more r a b g fs, inside_le_carried r a b fs k f e)
 
--- two frames on one link are counted together
-pub two_inside_le_carried : {X F : Type 0} (r : Resource X F) (a b : ℕ) (fs : List F) (j k : ℕ) (f g : F) → j < k
-    → slice_get fs j ≡ Some f → slice_get fs k ≡ Some g → r.inside a b f + r.inside a b g ≤ carried r a b fs
-two_inside_le_carried r a b [] j k f g before e h = absurd (cc)
-two_inside_le_carried r a b (x ∷ fs) j zero f g before e h = absurd (omega arith)
-two_inside_le_carried r a b (x ∷ fs) zero (suc k) f g before e h =
-    omega (arith, carried_more r a b x fs, ap (r.inside a b) (same x f e), inside_le_carried r a b fs k g h)
-  where
-    same : {F : Type 0} (g f : F) → Some g ≡ Some f → g ≡ f
-    same g f e = cc
-two_inside_le_carried r a b (x ∷ fs) (suc j) (suc k) f g before e h =
-    omega (arith, carried_more r a b x fs, two_inside_le_carried r a b fs j k f g (omega arith) e h)
-
--- where nothing is carried, no frame has it inside
-pub none_inside : {X F : Type 0} (r : Resource X F) (a b : ℕ) (fs : List F) (k : ℕ) (f : F) → carried r a b fs ≡ 0
-    → slice_get fs k ≡ Some f → r.inside a b f ≡ 0
-none_inside r a b fs k f none there = omega (arith, inside_le_carried r a b fs k f there)
-
 -- where something is carried, some frame has it inside
 pub carried_some : {X F : Type 0} (r : Resource X F) (a b : ℕ) (fs : List F) → 0 < carried r a b fs
     → (k : ℕ) × (f : F) × (slice_get fs k ≡ Some f) × (0 < r.inside a b f)

@@ -81,11 +81,6 @@ pub exact_still : {X F : Type 0} (r : Resource X F) (n c : ℕ) (x y : X) → r.
     → r.cap c y ≡ r.cap c x → IsExact r n c x 0 y (λ d. [])
 exact_still r n c x y holds lets = record { law = omega (arith, sent_none r n c) }
 
--- exact acts one after another are an exact act
-pub exact_seq : {X F : Type 0} (r : Resource X F) (n c : ℕ) (x y z : X) (came : ℕ) (fs gs : ℕ → List F)
-    → IsExact r n c x came y fs → IsExact r n c y 0 z gs → IsExact r n c x came z (λ d. fs d ++ gs d)
-exact_seq r n c x y z came fs gs one two = record { law = omega (arith, one.law, two.law, sent_append r n c fs gs) }
-
 -- an act changes what is placed by what it holds more and what it sends
 pub placed_acted : {X F : Type 0} (r : Resource X F) (n : ℕ) (w : Net X F) (c : ℕ) (x : X) (frames : ℕ → List F)
     → IsCounted w → c < n

@@ -1,5 +1,5 @@
 -- Laws of sums below a bound.
-use Rattle.std.proofs.Common.{◌≡◌, ◌≢◌, ◌⊎◌, ℕ, zero, suc, ◌+◌, ◌<◌, ◌≤◌, ◌==◌, ◌||◌, Bool, true, false, refl, sym, ap, ◌∙◌, arith, eq-eqb, ne_eqb, ⊎_elim, inl, inr}
+use Rattle.std.proofs.Common.{◌≡◌, ◌≢◌, ◌⊎◌, ℕ, zero, suc, ◌+◌, ◌<◌, ◌≤◌, ◌==◌, Bool, true, false, refl, sym, ap, ◌∙◌, arith, eq-eqb, ne_eqb, ⊎_elim, inl, inr}
 use Rattle.std.proofs.lemmas.Bool.{cond-true, cond-false, cases_eq}
 use Rattle.rbc_ledger.specs.Sums.{put, put_link, one_if, sum_below, sum_links}
 
@@ -61,12 +61,6 @@ one_if_le_one false = omega arith
 pub one_if_le : (a b : Bool) → (a ≡ true → b ≡ true) → one_if a ≤ one_if b
 one_if_le true b to = omega (arith, one_if_true b (to refl))
 one_if_le false b to = omega arith
-
--- a test that is one of two, of which never both hold, counts for as much as the two
-pub one_if_parts : (whole a b : Bool) → whole ≡ (a || b) → (a ≡ true → b ≡ false)
-    → one_if whole ≡ one_if a + one_if b
-one_if_parts whole true b is apart = omega (arith, one_if_true whole is, one_if_false b (apart refl))
-one_if_parts whole false b is apart = omega (arith, ap one_if is)
 
 -- no terms
 pub sum_none : (f : ℕ → ℕ) → sum_below 0 f ≡ 0
@@ -153,11 +147,6 @@ sum_only n f k below others =
           ⊎_elim (λ (here : j ≡ k). ap (put f k 0) here ∙ put_same f k 0)
           (λ (apart : j ≢ k). put_other f k 0 j apart ∙ others j small apart) (cases_eq j k)),
     )
-
--- what is counted once: the test holds at one number at most
-pub sum_one_if : (n : ℕ) (test : ℕ → Bool) (k : ℕ) → k < n → ((j : ℕ) → j < n → j ≢ k → test j ≡ false)
-    → sum_below n (λ j. one_if (test j)) ≡ one_if (test k)
-sum_one_if n test k below others = sum_only n (λ j. one_if (test j)) k below (λ j small apart. ap one_if (others j small apart))
 
 -- a sum that is something has a term that is something
 pub sum_some : (n : ℕ) (f : ℕ → ℕ) → 0 < sum_below n f → (k : ℕ) × (k < n) × (0 < f k)

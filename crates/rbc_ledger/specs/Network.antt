@@ -1,6 +1,6 @@
 -- Centres and the links between them. A link keeps every frame that was ever sent over it and counts those that
 -- were taken, so a frame may be delivered again, late or early, and is taken only if it is the next.
-use Rattle.std.specs.Prelude.{◌≡◌, ℕ, zero, suc, ◌+◌, ◌≤◌, ◌==◌, if◌then◌else◌, List, [], ◌∷◌, ◌++◌, length, take, drop, Option, None, slice_get, All}
+use Rattle.std.specs.Prelude.{◌≡◌, ℕ, zero, suc, ◌+◌, ◌≤◌, ◌==◌, if◌then◌else◌, List, [], ◌∷◌, ◌++◌, length, drop, Option, None, slice_get, All}
 use Rattle.rbc_ledger.specs.Sums.{put, put_link}
 
 -- each centre's state, the frames sent from one to another so far, and how many of them were taken
@@ -12,10 +12,6 @@ pub record Net (X F : Type 0) : Type 0 where
 -- the frames on the way from a to b
 abbrev pub way : {X F : Type 0} → Net X F → ℕ → ℕ → List F
 way w a b = drop (w.taken a b) (w.sent a b)
-
--- the frames from a to b that were taken, in order
-abbrev pub received : {X F : Type 0} → Net X F → ℕ → ℕ → List F
-received w a b = take (w.taken a b) (w.sent a b)
 
 -- no link took more than was sent
 pub record IsCounted {X F : Type 0} (w : Net X F) : Type 0 where

@@ -1,5 +1,5 @@
 -- Steps one after another with all that is said; changes of single sections put together to one change of a run.
-use Rattle.std.specs.Prelude.{◌≡◌, ℕ, List, [], ◌∷◌, ◌++◌, flat_map, if◌then◌else◌, ⊤}
+use Rattle.std.specs.Prelude.{ℕ, List, [], ◌∷◌, ◌++◌, flat_map, if◌then◌else◌}
 use Rattle.rbc_ledger.specs.Sums.{put}
 use Rattle.rbc_ledger.specs.Sections.{is_among}
 
@@ -17,11 +17,6 @@ sweep step (q ∷ qs) v =
       words = (step q v).words ++ (sweep step qs (step q v).state).words;
     }
 
--- each of those steps may be made where it is made
-abbrev pub AllMay : {Q V W : Type 0} → (Q → V → Type 0) → (Q → V → Spoken V W) → List Q → V → Type 0
-AllMay may step [] v = ⊤
-AllMay may step (q ∷ qs) v = may q v × AllMay may step qs (step q v).state
-
 -- the step that changes the entry of one section, and says something of the old entry
 abbrev pub at_section : {A W : Type 0} → (ℕ → A → A) → (ℕ → A → List W) → ℕ → (ℕ → A) → Spoken (ℕ → A) W
 at_section change say s f = record { state = put f s (change s (f s)); words = say s (f s) }
@@ -33,18 +28,3 @@ changed ss change f s = if is_among ss s then change s (f s) else f s
 -- what is said of these sections, in order
 abbrev pub said : {A W : Type 0} → List ℕ → (ℕ → A → List W) → (ℕ → A) → List W
 said ss say f = flat_map (λ s. say s (f s)) ss
-
--- a row of entries that is a part of a larger state
-pub record Part (V A : Type 0) : Type 0 where
-  pub row : V → ℕ → A
-  pub with_row : V → (ℕ → A) → V
-
--- what is written there is read there, and nothing else changes
-pub record IsPart {V A : Type 0} (p : Part V A) : Type 0 where
-  pub reads : (v : V) (f : ℕ → A) → p.row (p.with_row v f) ≡ f
-  pub keeps : (v : V) → p.with_row v (p.row v) ≡ v
-  pub over : (v : V) (f g : ℕ → A) → p.with_row (p.with_row v f) g ≡ p.with_row v g
-
--- a step of the row, as a step of the larger state
-abbrev pub in_part : {Q V A W : Type 0} → Part V A → (Q → (ℕ → A) → Spoken (ℕ → A) W) → Q → V → Spoken V W
-in_part p step q v = record { state = p.with_row v (step q (p.row v)).state; words = (step q (p.row v)).words }

@@ -4,11 +4,11 @@
 //! in `proofs/`, for the crates above to cite. The functions here do nothing: each contract is an example of the laws.
 #![tactic(auto)]
 
-ghost use Rattle.std.specs.Prelude.{◌≡◌, ℕ, ◌+◌, ◌<◌, ◌&&◌, ◌||◌, Bool, false, List, [], ◌∷◌, Some, All, if◌then◌else◌, flat_map, filter};
+ghost use Rattle.std.specs.Prelude.{◌≡◌, ℕ, ◌+◌, ◌<◌, ◌&&◌, Bool, false, List, [], ◌∷◌, Some, All, if◌then◌else◌, flat_map, filter};
 ghost use Rattle.rbc_ledger.specs.Network.{numbered};
 ghost use Rattle.rbc_spec.specs.SectionRuns.{SectionRun, within};
 ghost use Rattle.rbc_ledger.specs.Sections.{sections};
-ghost use Rattle.rbc_ledger.specs.Sweep.{Spoken, sweep, at_section};
+ghost use Rattle.rbc_ledger.specs.Sweep.{sweep, at_section};
 ghost use Rattle.rbc_ledger.specs.Coin.{Event, Letter, is_loss, run, start, IsInOnePlace, IsInOnePlaceAtMost, IsInTurn};
 ghost use Rattle.rbc_ledger.specs.Coin.Event.{Writes, Comes};
 

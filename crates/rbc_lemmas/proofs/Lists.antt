@@ -16,11 +16,6 @@ each_at P xs i x all at = subst P (get_or_from_slice_get xs i x x at) (All-get_o
 
 -- ## What is found
 
--- where no item passes none is found
-pub find-none : {X : Type 0} (test : X → Bool) (xs : List X) → ((x : X) → test x ≡ false) → find test xs ≡ None
-find-none test [] none = refl
-find-none test (x ∷ xs) none = rw (none x) (find-none test xs none)
-
 first_fails : {X : Type 0} (b : Bool) (x : X) (o : Option X) → (if b then Some x else o) ≡ None → (b ≡ false) × (o ≡ None)
 first_fails true x o none = cc
 first_fails false x o none = (refl, none)

@@ -53,19 +53,6 @@ put_pair_there f t c x = elim (eqb_tells t t) as (λ _. put_pair f t c x t c ≡
   | inr e ↦ absurd (e.1 refl)
 ]
 
-pub put_pair_same : {X : Type 0} (f : ℕ → ℕ → X) (t c : ℕ) (x : X) → f t c ≡ x → (u d : ℕ) → put_pair f t c x u d ≡ f u d
-put_pair_same {X = X} f t c x there u d = ap (λ (g : ℕ → X). put f t g u d) (λ i d. put_same c x (f t) there d i) ∙ ap (λ (g : ℕ → X). g d) (put_same t (f t) f refl u)
-
--- what is put at a pair over what was put there, where that is what was there before
-pub put_pair_back : {X : Type 0} (f : ℕ → ℕ → X) (t c : ℕ) (x y : X) → f t c ≡ y → (u d : ℕ) → put_pair (put_pair f t c x) t c y u d ≡ f u d
-put_pair_back f t c x y there u d = elim (eqb_tells u t) as (λ _. put_pair (put_pair f t c x) t c y u d ≡ f u d) [
-  | inl e ↦ elim (eqb_tells d c) as (λ _. put_pair (put_pair f t c x) t c y u d ≡ f u d) [
-    | inl g ↦ rw (e.0, g.0) (sym there ∙ ap (λ n. f n c) (sym e.1) ∙ ap (f u) (sym g.1))
-    | inr g ↦ rw (e.0, g.0) (elim (eqb_tells t t) as (λ _. put_pair f t c x t d ≡ f u d) [ inl h ↦ rw (h.0, g.0) (ap (λ n. f n d) (sym e.1)) | inr h ↦ absurd (h.1 refl) ])
-  ]
-  | inr e ↦ rw (e.0) refl
-]
-
 -- a number is itself
 pub itself : (t : ℕ) → (t == t) ≡ true
 itself t = eq-eqb t t refl

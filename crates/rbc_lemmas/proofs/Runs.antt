@@ -31,16 +31,6 @@ pub within_behind : (r : SectionRun) (s : ℕ) → r.first + r.count ≤ s → w
 unfolding within
 within_behind r s high = and_right (nat_le r.first s) (nat_lt s (r.first + r.count)) (le-ltb s (r.first + r.count) high)
 
--- three ways: within a run, before it or after it
-pub stands : (r : SectionRun) (s : ℕ) → ((within r s ≡ true) × (r.first ≤ s) × (s < r.first + r.count)) ⊎ ((within r s ≡ false) × ((s < r.first) ⊎ (r.first + r.count ≤ s)))
-stands r s = ⊎_elim
-    (λ (low : s < r.first). inr (within_before r s low, inl low))
-    (λ (from : r.first ≤ s). ⊎_elim
-    (λ (high : s < r.first + r.count). inl (within_from r s from high, from, high))
-    (λ (after : r.first + r.count ≤ s). inr (within_behind r s after, inr after))
-    (cases_lt s (r.first + r.count)))
-    (cases_lt s r.first)
-
 -- nothing is within an empty run
 pub within_none : (r : SectionRun) (s : ℕ) → r.count ≡ 0 → within r s ≡ false
 within_none r s none = ⊎_elim (λ (low : s < r.first). within_before r s low)
@@ -199,10 +189,3 @@ some_count n some = elim (eqb_tells n 0) [ inl e ↦ absurd (let same = e.1 in l
 
 pub none_within : (s : ℕ) → within no_run s ≡ false
 none_within s = within_behind no_run s (omega arith)
-
--- a hand and no pool
-pub whole_hand : (hand pool : SectionRun) → pool ≡ no_run → (hand.count == 0) ≡ false → joined hand pool ≡ hand
-whole_hand hand pool none some = ap (joined hand) none ∙ rw some (λ i. record { first = hand.first; count = e i })
-  where
-    e : hand.count + 0 ≡ hand.count
-    e = omega arith

@@ -74,9 +74,6 @@ module _ (line : Line) (ordered : IsOrdered line) (c t s d : ℕ) where
   abbrev y : Tally
   y = lent_tally line c t s d
 
-  here : Bool
-  here = (c == d) && not (is_home line c s)
-
   no_wait : (o : Option Place) → wait_of line y o ≡ 0
   no_wait None = refl
   no_wait (Some place) = no_number (within (covered line place) s)

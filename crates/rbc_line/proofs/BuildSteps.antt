@@ -6,7 +6,7 @@ use Rattle.std.proofs.lemmas.Bool.{cases_Bool, false≢true, cases_lt, cases_eq}
 use Rattle.std.proofs.lemmas.Bool.Decides.{nat_tests}
 use Rattle.std.proofs.lemmas.List.{map-append, map_more, take_all, take-append-le, length-map}
 use Rattle.std.proofs.lemmas.List.Sums.{sum_by-cons}
-use Rattle.std.proofs.lemmas.Option.{none-some, same_Some, slice_get-map, slice_get-get_or, slice_get_within}
+use Rattle.std.proofs.lemmas.Option.{none-some, same_Some, slice_get-map, slice_get-get_or}
 use Rattle.rbc_line.specs.declared.parts.Section.{Section}
 use Rattle.rbc_line.specs.declared.draft.DraftSection.{DraftSection}
 use Rattle.rbc_line.specs.DraftViews.{section_view}
@@ -38,12 +38,6 @@ known_has_place centres name known none =
 
 pub centre_number-at : (centres : List FileCentre) (name : List ℕ) (c : ℕ) → Some c ≡ position (λ c. bytes_eq c.name name) centres → c ≡ centre_number centres name
 centre_number-at centres name c found = ap (λ o. unwrap_or o 0) found
-
-pub place_below : {X : Type 0} (p : X → Bool) (xs : List X) (c : ℕ) → list_any p xs ≡ true → Some c ≡ position p xs → c < length xs
-place_below p xs c some at =
-    let found = position_found p xs some in
-    let same : c ≡ found.0 = same_Some c found.0 (at ∙ found.2) in
-    omega (arith, slice_get_within xs found.0 found.1 found.3)
 
 -- ## Rows
 

@@ -57,10 +57,6 @@ position-cons p x xs =
       | inr fails ↦ rw fails (grind (arith, nat_tests))
     ]
 
-option_map-cond : (b : Bool) (x y : Option ℕ) → option_map suc (cond b x y) ≡ cond b (option_map suc x) (option_map suc y)
-option_map-cond true x y = refl
-option_map-cond false x y = refl
-
 later_step : (first here : Bool) (i : ℕ) (before after : Option ℕ)
     → cond here (Some i) before ≡ after
     → (here ≡ true → cond first (Some 0) (option_map suc before) ≡ None)

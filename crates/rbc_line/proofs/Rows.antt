@@ -8,31 +8,10 @@ use Rattle.std.proofs.lemmas.Option.{slice_get-map, slice_get_within, get_or_fro
 use Rattle.rbc_spec.specs.Line.{Line, Section, Train, section, start, next_centre, section_of_group, train_number, registrar, IsLine}
 use Rattle.rbc_line.specs.declared.parts.Section.{Section as SectionRow}
 use Rattle.rbc_line.specs.declared.parts.Train.{Train as TrainRow}
-use Rattle.rbc_line.specs.Views.{section_of, train_of, placed_section, listed_train}
+use Rattle.rbc_line.specs.Views.{section_of, train_of, listed_train}
 use Rattle.rbc_line.specs.Tables.{HasStarts}
 use Rattle.rbc_line.proofs.TableSteps.{key_at}
 use Rattle.rbc_line.proofs.Lists.{find-zip_none, find-position_none, find-position_some, sum_by-filter_le}
-
-with_start : (o : Option SectionRow) (m : ℕ) → ((row : SectionRow) → o ≡ Some row → row.start ≡ m) → o ≡ option_map (λ p. record { track = p.track; start = m; metres = p.metres; home = p.home; balise = p.balise }) (option_map section_of o)
-with_start None m is_start = refl
-with_start (Some row) m is_start =
-    let e = is_start row refl in
-    λ i. Some (record { track = row.track; start = e i; metres = row.metres; home = row.home; balise = row.balise })
-
--- a row is the section of its number, with its start
-pub row-placed : (line : Line) (rows : List SectionRow) (s : ℕ) → line.sections ≡ map section_of rows → HasStarts line rows → slice_get rows s ≡ placed_section line s
-row-placed line rows s same starts =
-    with_start (slice_get rows s) (start line s) (starts s)
-    ∙ ap (option_map (λ p. record { track = p.track; start = start line s; metres = p.metres; home = p.home; balise = p.balise })) (sym (ap (λ xs. slice_get xs s) same ∙ slice_get-map section_of rows s))
-
-with_train : (o : Option TrainRow) → o ≡ option_map (λ p. record { nid_engine = p.nid_engine; registrar = p.registrar }) (option_map train_of o)
-with_train None = refl
-with_train (Some row) = refl
-
-pub row-listed : (line : Line) (rows : List TrainRow) (i : ℕ) → line.trains ≡ map train_of rows → slice_get rows i ≡ listed_train line i
-row-listed line rows i same =
-    with_train (slice_get rows i)
-    ∙ ap (option_map (λ p. record { nid_engine = p.nid_engine; registrar = p.registrar })) (sym (ap (λ xs. slice_get xs i) same ∙ slice_get-map train_of rows i))
 
 at_index : {X : Type 0} (P : X → Type 0) (xs : List X) (i : ℕ) (x : X) → All P xs → slice_get xs i ≡ Some x → P x
 at_index P xs i x holds found =

@@ -1,12 +1,12 @@
 -- The look-up tables, one entry at a time.
-use Rattle.std.proofs.Common.{◌≡◌, ℕ, suc, inl, inr, ◌+◌, ◌%◌, ◌<◌, ◌==◌, ◌≢◌, Bool, true, false, not, cond, ◌&&◌, ◌||◌, ltb, nat_eq, List, length, get_or, set, take, drop, Option, Some, None, option_map, refl, ap, sym, ◌∙◌, arith, length-set, get_or-set_other, get_or-set_same}
+use Rattle.std.proofs.Common.{◌≡◌, ℕ, suc, inl, inr, ◌+◌, ◌%◌, ◌<◌, ◌==◌, ◌≢◌, true, not, cond, ◌&&◌, nat_eq, List, length, get_or, set, take, drop, Option, Some, None, option_map, refl, ap, sym, ◌∙◌, arith, length-set, get_or-set_other, get_or-set_same}
 use Rattle.std.specs.List.{position, find, list_any, slice_get, zip}
 use Rattle.std.specs.HashMap.{get, Updates}
 use Rattle.std.proofs.lemmas.Bool.{cases_Bool}
 use Rattle.std.proofs.lemmas.Bool.Decides.{nat_tests}
 use Rattle.std.proofs.lemmas.List.{drop-map}
 use Rattle.std.proofs.lemmas.Option.{slice_get-get_or, same_Some}
-use Rattle.rbc_spec.specs.Line.{AreDistinct, Line, Section, is_border, is_registrar, is_linked, next_centre}
+use Rattle.rbc_spec.specs.Line.{AreDistinct, Section, is_border, is_registrar, next_centre}
 use Rattle.rbc_line.specs.declared.parts.Rows.{Rows}
 use Rattle.rbc_line.specs.declared.parts.Section.{Section as SectionRow}
 use Rattle.rbc_line.specs.Tables.{Numbers, HasGuessesOf}
@@ -95,13 +95,3 @@ next_centre_of_rows rows c k =
       find-map (λ seam. (((seam.0.track == seam.1.track) && (seam.0.track == k)) && (seam.0.home == c)) && not (seam.1.home == c)) pair_of (zip rows.sections.items (drop 1 rows.sections.items)),
     )
     (home_of_next _))
-
--- two different centres are linked where one of the four tests passes
-pub linked_by : (line : Line) (a b : ℕ) (follows leads first second : Bool) → a < length line.centres → b < length line.centres → a ≢ b
-    → follows ≡ is_border line a b → leads ≡ is_border line b a → first ≡ is_registrar line a → second ≡ is_registrar line b
-    → ((follows || leads) || (first || second)) ≡ is_linked line a b
-linked_by line a b follows leads first second in_a in_b other e f g h =
-    let of_a : ltb a (length line.centres) ≡ true = grind (arith, nat_tests) in
-    let of_b : ltb b (length line.centres) ≡ true = grind (arith, nat_tests) in
-    let apart : (a == b) ≡ false = grind (arith, nat_tests) in
-    rw (e, f, g, h, of_a, of_b, apart)

@@ -1,5 +1,5 @@
 -- Values that stand twice, and names.
-use Rattle.std.proofs.Common.{◌≡◌, ℕ, zero, suc, ◌+◌, ◌<◌, ◌≤◌, Bool, true, false, not, cond, ◌==◌, ◌&&◌, ◌||◌, leb, ltb, IsTrue, Bor, map, ℤ, pos, List, [], ◌∷◌, length, get_or, take, drop, refl, ap, sym, ◌∙◌, inl, inr, arith}
+use Rattle.std.proofs.Common.{◌≡◌, ℕ, zero, suc, ◌+◌, ◌<◌, ◌≤◌, Bool, true, false, not, cond, ◌==◌, ◌||◌, leb, ltb, IsTrue, Bor, map, ℤ, pos, List, [], ◌∷◌, length, get_or, take, drop, refl, ap, sym, ◌∙◌, inl, inr, arith}
 use Rattle.std.specs.Char.{is_ascii_alphanumeric}
 use Rattle.std.specs.List.{list_any, list_all}
 use Rattle.std.proofs.lemmas.Bool.{cases_Bool, false≢true}
@@ -21,18 +21,6 @@ is_name-fits name some few =
     let high : leb (length name) 16 ≡ true = grind (arith, nat_tests) in
     rw (low, high)
 
-pub is_name-short : (name : List ℕ) → length name ≡ 0 → false ≡ is_name name
-is_name-short name none = let low : leb 1 (length name) ≡ false = grind (arith, nat_tests) in rw low
-
-and_second : (a b c : Bool) → b ≡ false → false ≡ ((a && b) && c)
-and_second true b c h = rw h
-and_second false b c h = refl
-
-pub is_name-long : (name : List ℕ) → 16 < length name → false ≡ is_name name
-is_name-long name many =
-    let high : leb (length name) 16 ≡ false = grind (arith, nat_tests) in
-    and_second (leb 1 (length name)) (leb (length name) 16) (list_all is_ascii_alphanumeric name) high
-
 or_true : (a b : Bool) → b ≡ true → (a || b) ≡ true
 or_true true b h = refl
 or_true false b h = h
@@ -42,10 +30,6 @@ or_false true b h = absurd (false≢true (sym h))
 or_false false b h = (refl, h)
 
 module _ {K : Type 0} (same : K → K → Bool) where
-  -- from a place on, the value there is among those behind it, or one behind it is
-  pub has_twice-drop : (xs : List K) (i : ℕ) (d : K) → i < length xs → has_twice same (drop i xs) ≡ (list_any (same (get_or xs i d)) (drop (i + 1) xs) || has_twice same (drop (i + 1) xs))
-  has_twice-drop xs i d within = rw (drop_more xs i d within)
-
   -- a value that stands before this place too
   pub has_twice-seen : (xs : List K) (i : ℕ) (d : K) → i < length xs → list_any (λ y. same y (get_or xs i d)) (take i xs) ≡ true → has_twice same xs ≡ true
   has_twice-seen [] i d within seen = absurd (omega arith)

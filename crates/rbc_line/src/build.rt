@@ -1,7 +1,5 @@
 //! From a tested draft to the rows of a line.
-ghost use Rattle.std.specs.Prelude.{◌≡◌, ℕ, ◌<◌, ◌≤◌, IfOk, Some, false, length, map, not, position, slice_get, string_bytes};
-ghost use Rattle.std.specs.List.{list_any};
-ghost use Rattle.std.specs.Str.{bytes_eq};
+ghost use Rattle.std.specs.Prelude.{◌≡◌, ◌<◌, ◌≤◌, IfOk, Some, false, length, map, position, string_bytes};
 ghost use Rattle.rbc_line.specs.DraftViews.{centre_view, section_view, train_view, file_view};
 ghost use Rattle.rbc_line.specs.Faults.{is_outside};
 ghost use Rattle.rbc_line.specs.Homes.{HasOwnStarts};

@@ -1,4 +1,4 @@
-ghost use Rattle.std.specs.Prelude.{◌≡◌, ◌+◌, ◌<◌, ◌≤◌, ◌==◌, length, option_map, option_copied, slice_get, IfSome, IfOk, position};
+ghost use Rattle.std.specs.Prelude.{◌≡◌, ◌+◌, ◌<◌, ◌≤◌, ◌==◌, length, option_map, slice_get, IfSome, IfOk, position};
 ghost use Rattle.std.specs.Str.{bytes_eq};
 ghost use Rattle.rbc_spec.specs.Line.{IsLine, is_home, section_of_group, train_number, registrar, is_linked, next_centre};
 ghost use Rattle.rbc_line.specs.Views.{placed_section, listed_train};

@@ -1,6 +1,6 @@
 //! The look-up tables of a line, each made once from its rows.
-ghost use Rattle.std.specs.Prelude.{◌≡◌, ℕ, ◌+◌, ◌*◌, ◌<◌, ◌≤◌, ◌==◌, ◌&&◌, not, length, drop, position, find, Some, option_map, IfOk, nat_eq, slice_get};
-ghost use Rattle.std.specs.List.{list_any, zip, All};
+ghost use Rattle.std.specs.Prelude.{◌≡◌, ℕ, ◌+◌, ◌*◌, ◌<◌, ◌≤◌, ◌==◌, ◌&&◌, length, position, find, Some, IfOk, nat_eq};
+ghost use Rattle.std.specs.List.{zip, All};
 ghost use Rattle.std.specs.HashMap.{get};
 ghost use Rattle.rbc_spec.specs.Line.{AreDistinct, is_border, is_registrar, is_linked, next_centre};
 ghost use Rattle.rbc_line.specs.Tables.{HasGuessesOf, HasLinks, HasNextCentres};

@@ -1,12 +1,12 @@
 -- Laws of frames that are posted one after another in one step.
-use Rattle.std.proofs.Common.{◌≡◌, ℕ, suc, ◌+◌, ◌<◌, ◌≤◌, ◌==◌, if◌then◌else◌, inl, inr, true, List, [], ◌∷◌, ◌++◌, length, length-append, refl, ap, sym, ◌∙◌, arith}
+use Rattle.std.proofs.Common.{◌≡◌, ℕ, suc, ◌+◌, ◌==◌, if◌then◌else◌, inl, inr, List, [], ◌∷◌, ◌++◌, length, length-append, refl, ap, sym, ◌∙◌, arith}
 use Rattle.std.proofs.lemmas.Bool.Decides.{eqb_tells}
 use Rattle.std.proofs.lemmas.List.{append-nil, append_assoc, length-map}
 use Rattle.rbc_spec.specs.Frame.{Body}
 use Rattle.rbc_spec.specs.Step.{numbered}
 use Rattle.rbc_link.specs.declared.link.Link.{Link}
 use Rattle.rbc_link.specs.Outgoing.{frame_by, frames_by}
-use Rattle.rbc_link.specs.Links.{has_link, taken_from, sent_to, room_to, HasRoom}
+use Rattle.rbc_link.specs.Links.{has_link, taken_from, sent_to, room_to}
 use Rattle.rbc_link.specs.Posted.{HasPosted}
 
 pub length_numbered : (stamp n : ℕ) (bodies : List Body) → length (numbered stamp n bodies) ≡ length bodies
@@ -60,13 +60,6 @@ module _ {B : Type 0} (meaning : B → Body) (stamp : ℕ) where
       ≡ length (frames_by meaning (sent_to old d)) + length (numbered stamp (length (sent_to old d)) (xs d))
       = ap length (posted.sent d) ∙ length-append (frames_by meaning (sent_to old d)) (numbered stamp (length (sent_to old d)) (xs d)) in
       omega (arith, after, before, more, all)
-
-  -- where there was room for more frames than were posted, there is room for one more
-  pub room_left : (xs : ℕ → List Body) (count : ℕ) (old new : List (Link B)) → HasRoom old count → HasPosted meaning stamp xs old new
-      → (d : ℕ) → has_link new d ≡ true → length (xs d) < count → 0 < room_to new d
-  room_left xs count old new has posted d linked fewer =
-      let first : count ≤ room_to old d = has d (sym (posted.linked d) ∙ linked) in
-      omega (arith, first, posted.room d, fewer)
 
   -- some frames, and then others
   pub posted_join : (xs ys : ℕ → List Body) (old mid new : List (Link B)) → HasPosted meaning stamp xs old mid → HasPosted meaning stamp ys mid new

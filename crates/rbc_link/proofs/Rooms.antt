@@ -7,9 +7,6 @@ use Rattle.rbc_link.specs.declared.link.Link.{Link}
 use Rattle.rbc_link.specs.Links.{has_link, room_to, KeepsLinks, HasRoom}
 use Rattle.rbc_link.proofs.Changes.{linked_within, linked_is, room_is, linked_same, taken_same, sent_same, room_put}
 
-pub keeps_all : {B : Type 0} (links : List (Link B)) → KeepsLinks links links
-keeps_all links = record { count = refl; linked = λ d. refl; taken = λ d. refl; sent = λ d. refl; room = λ d. omega arith }
-
 module _ {B : Type 0} (old now : List (Link B)) (i : ℕ) (before after : Link B) (within : i < length now) (at : slice_get now i ≡ Some before)
     (changed : after ≡ record before { outbox = record before.outbox { room = after.outbox.room } }) (grown : before.outbox.room ≤ after.outbox.room) where
   room_after : (d : ℕ) → room_to now d ≤ room_to (set now i after) d

@@ -1,5 +1,5 @@
 -- How a frame is spelled: its fields in order, each a number of so many bytes, the highest byte first (profile).
-use Rattle.std.specs.Prelude.{◌≡◌, ℕ, ◌+◌, ◌^◌, Bool, List, [], ◌∷◌, ◌++◌, Option, None, Some, ℤ, All, ◌<◌, if◌then◌else◌, is_some}
+use Rattle.std.specs.Prelude.{◌≡◌, ℕ, ◌+◌, ◌^◌, Bool, List, [], ◌∷◌, ◌++◌, Option, None, Some, ℤ, ◌<◌, if◌then◌else◌, is_some}
 use Rattle.std.specs.Int.{w32, cast_unsigned}
 use Rattle.byteorder.specs.Endian.{big_bytes}
 use Rattle.rbc_spec.specs.SectionRuns.{SectionRun}
@@ -82,10 +82,6 @@ frame_fields f = (4, f.number) ∷ (4, f.stamp) ∷ (1, kind_number (kind_of f.b
 pub record Spells (bytes : List ℕ) (f : Frame) : Type 0 where
   pub text : bytes ≡ spelled (frame_fields f)
   pub ranges : HasFrameRanges f
-
--- numbers that are bytes
-abbrev pub IsBytes : List ℕ → Type 0
-IsBytes bytes = All (λ b. b < 256) bytes
 
 -- each field's value has room in its bytes
 abbrev pub AllFit : List Field → Type 0

@@ -1,4 +1,4 @@
-ghost use Rattle.std.specs.Prelude.{◌≡◌, IfOk};
+ghost use Rattle.std.specs.Prelude.{IfOk};
 ghost use Rattle.rbc_linkmsg.specs.Spelling.{Spells};
 
 use crate::body_writing::{kind_of, put_body};

@@ -1,6 +1,6 @@
 //! The kinds of frames, by the byte that names them, and how many bytes a frame of each has (profile).
 
-ghost use Rattle.std.specs.Prelude.{◌≡◌, ◌≤◌, IfOk, IfErr};
+ghost use Rattle.std.specs.Prelude.{◌≡◌, IfOk, IfErr};
 ghost use Rattle.rbc_linkmsg.specs.declared.fault.FrameFault.TheVariants as faults;
 ghost use Rattle.rbc_linkmsg.specs.Kinds.{kind_with, kind_number, kind_length};
 

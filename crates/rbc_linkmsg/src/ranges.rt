@@ -1,7 +1,7 @@
 //! The ranges of the fields of a frame (profile).
 
-ghost use Rattle.std.specs.Prelude.{◌≡◌, ◌≤◌, ◌↔◌, IsTrue};
-ghost use Rattle.rbc_spec.specs.Frame.{HasBodyRange, HasRunRange, HasPlaceRange, IsEngine, IsHandoverNumber};
+ghost use Rattle.std.specs.Prelude.{◌≤◌, ◌↔◌, IsTrue};
+ghost use Rattle.rbc_spec.specs.Frame.{HasBodyRange, HasRunRange, HasPlaceRange, IsEngine};
 ghost use Rattle.rbc_hand.specs.SectionRuns.{run_of};
 ghost use Rattle.rbc_linkmsg.specs.Bodies.{body_of, place_of};
 

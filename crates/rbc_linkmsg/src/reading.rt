@@ -1,7 +1,6 @@
 //! The numbers at the front of bytes, the highest byte first, each with the bytes behind it.
 
-ghost use Rattle.std.specs.Prelude.{◌≡◌, ◌+◌, ◌^◌, ◌<◌, ◌≤◌, ◌++◌, length};
-ghost use Rattle.std.specs.Int.{w32, cast_unsigned};
+ghost use Rattle.std.specs.Prelude.{◌≡◌, ◌+◌, ◌≤◌, ◌++◌, length};
 ghost use Rattle.rbc_hand.specs.SectionRuns.{run_of};
 ghost use Rattle.rbc_linkmsg.specs.Spelling.{spelled, run_fields, AllFit};
 ghost use Rattle.byteorder.specs.Endian.{big_bytes};

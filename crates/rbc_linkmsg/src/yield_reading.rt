@@ -1,8 +1,7 @@
 //! The body of a Yield, read as it stands and then understood.
 
-ghost use Rattle.std.specs.Prelude.{◌≡◌, ◌+◌, ◌++◌, ◌∷◌, [], length, IfSome, Some};
+ghost use Rattle.std.specs.Prelude.{◌≡◌, ◌+◌, ◌++◌, [], length, IfSome, Some};
 ghost use Rattle.rbc_spec.specs.Frame as spec;
-ghost use Rattle.rbc_hand.specs.SectionRuns.{run_of};
 ghost use Rattle.rbc_linkmsg.specs.Bodies.{body_of, body_back};
 ghost use Rattle.rbc_linkmsg.specs.Raw as readings;
 ghost use Rattle.rbc_linkmsg.specs.Spelling as spelling;

@@ -34,7 +34,7 @@ use Rattle.rbc_tokens.proofs.Rights.{rights_tally, rights_counted, rights_ready}
 use Rattle.rbc_tokens.proofs.Tokens.{tokens_tally, tokens_counted, tokens_ready}
 use Rattle.rbc_tokens.proofs.Frames.{fair_received}
 use Rattle.rbc_lent.proofs.Lent.{lent_tally, lent_counted, lent_ready}
-use Rattle.rbc_pairs.specs.Orderly.{IsOrderly, IsTakenWith}
+use Rattle.rbc_pairs.specs.Orderly.{IsTakenWith}
 use Rattle.rbc_pairs.proofs.Orderly.{still}
 use Rattle.rbc_pairs.proofs.Frames.{Fits, passes, goes_received}
 use Rattle.rbc_moves.proofs.Keeps.{head_keeps}
@@ -100,10 +100,6 @@ module _ (line : Line) (ok : IsLine line) (w : Flow) (sound : IsFlowSound line w
   -- such a reply, which leaves what is sound and is orderly, keeps all sound
   pub reply_keeps : (q : Reply) → Sound line c q → MakesNoMore q → IsTakenWith a f (w.at c) q.state q.frames → IsFlowSound line (replied (took w a c) c q)
   reply_keeps q leaves makes taken = head_keeps line ok c w sound to q leaves a f from head (made_fair q makes) taken
-
-  -- an orderly act behind the frame that it has counted
-  pub orderly_again : (y : Centre) (frames : ℕ → List Body) → IsOrderly (took_frame a number (w.at c)) y frames → IsOrderly (w.at c) y frames
-  orderly_again y frames is = record { leads = is.leads; expected = is.expected; announced = is.announced; claimed = is.claimed; anew = is.anew; takes = is.takes }
 
   -- so does what the frame comes to
   pub received_keeps : Fits line c a f (took_frame a number (w.at c)) → Sound line c (received line c a f (took_frame a number (w.at c)))

@@ -6,7 +6,6 @@ ghost use Rattle.rbc_spec.specs.Line.{Line, IsLine, is_centre};
 ghost use Rattle.rbc_spec.specs.Frame.Body.{AskRight, GiveRight, RefuseRight, ReturnRight, RouteAsk, RouteInfo, RouteReturn, RouteWithdraw};
 ghost use Rattle.rbc_spec.specs.Centre.{Centre};
 ghost use Rattle.rbc_spec.specs.Step.{set, unset};
-ghost use Rattle.rbc_spec.specs.Links.{received};
 ghost use Rattle.rbc_spec.specs.LineCentre.{LineState};
 ghost use Rattle.rbc_flow.specs.Flow.{Flow};
 ghost use Rattle.rbc_flow.specs.Sound.{IsFlowSound};

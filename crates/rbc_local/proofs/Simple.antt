@@ -1,9 +1,9 @@
 -- Acts that do nothing where no other centre has a part: each equals the act that rests, or a shorter one.
 use Rattle.std.proofs.Common.{◌≡◌, ℕ, ◌+◌, ◌<◌, ◌≤◌, ◌==◌, ◌&&◌, ◌||◌, not, if◌then◌else◌, Bool, true, false, [], ◌∷◌, Option, Some, None, option_map, refl, sym, ap, ◌∙◌, arith, ⊎_elim, eqb-true, eq-eqb, nat_lt, nat_le}
 use Rattle.std.specs.Option.{option_map_or}
-use Rattle.std.proofs.lemmas.Bool.{cases_Bool, cond-true, cond-false, and_right, and_parts, and_from, or_left, or_right, cases_lt, lt-ltb, le-leb, ne_eqb}
+use Rattle.std.proofs.lemmas.Bool.{cases_Bool, cond-true, cond-false, and_right, and_parts, and_from, or_left, or_right, cases_lt, lt-ltb, le-leb}
 use Rattle.rbc_spec.specs.Maps.{put}
-use Rattle.rbc_spec.specs.SectionRuns.{SectionRun, no_run, within, is_empty, shared, joined}
+use Rattle.rbc_spec.specs.SectionRuns.{SectionRun, no_run, within, is_empty, shared}
 use Rattle.rbc_spec.specs.Line.{Line, Section, is_home, section, is_centre}
 use Rattle.rbc_spec.specs.Sections.{is_on, home_run}
 use Rattle.rbc_spec.specs.Frame.{RouteReturn, Cancel, TakingOver}
@@ -87,12 +87,6 @@ all_home line c track r ordered home d = ⊎_elim
 pub leave_home : (line : Line) (c t track : ℕ) (r : SectionRun) (k : Centre) → IsAllHome line c track r → leave line c t track r k ≡ freed line c (is_taken_for t) r k
 leave_home line c t track r k home =
     then_resting (freed line c (is_taken_for t) r) (returned line c t track r) k (none_returned line c t track r (freed line c (is_taken_for t) r k).state home)
-
--- a run that an empty one follows stays as it is
-pub joined_none : (r : SectionRun) → 1 ≤ r.count → joined r no_run ≡ r
-joined_none r some =
-    cond-false (is_empty r) no_run (record { first = r.first; count = r.count + 0 }) (ne_eqb r.count 0 (λ e. omega arith))
-    ∙ ap (λ n. record { first = r.first; count = n }) (omega arith)
 
 -- ## Missions
 

@@ -1,7 +1,7 @@
 -- What a centre that is local has to owe for a reply: it is still local, and sends no frame.
 use Rattle.std.proofs.Common.{◌≡◌, ℕ, ◌&&◌, if◌then◌else◌, Bool, true, false, [], ◌++◌, Option, Some, None, is_none, refl, sym, ap, ◌∙◌, subst, ⊎_elim}
 use Rattle.std.specs.Option.{option_map_or}
-use Rattle.std.proofs.lemmas.Bool.{cases_Bool, cases_eq}
+use Rattle.std.proofs.lemmas.Bool.{cases_eq}
 use Rattle.rbc_spec.specs.Maps.{put}
 use Rattle.rbc_spec.specs.Line.{Line, is_home}
 use Rattle.rbc_spec.specs.Centre.{Centre, Entry, Shut, Phase, Mission, is_unused, is_taken_for, is_out_for, is_registrar_of}
@@ -15,9 +15,6 @@ pub record Stays (line : Line) (c : ℕ) (r : Reply) : Type 0 where
 
 pub by_same : {P : Type 0} (m n : ℕ) → (m ≡ n → P) → ((m ≡ n → ⊥) → P) → P
 by_same m n f g = ⊎_elim f g (cases_eq m n)
-
-pub by_test : {P : Type 0} (b : Bool) → (b ≡ true → P) → (b ≡ false → P) → P
-by_test b f g = ⊎_elim f g (cases_Bool b)
 
 module _ (line : Line) (c : ℕ) where
   -- ## Acts together

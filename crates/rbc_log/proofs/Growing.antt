@@ -18,11 +18,6 @@ pub grown : (line new_line : Line) (c d : ℕ) (mid last : Centre) (old new : Li
 grown line new_line c d mid last old new event outcome r s grows same_line same_number =
     rw (same_line, same_number, grows) (replays_more line c (beginning line c) mid last old event outcome r s)
 
--- a centre that stands for what it stood for
-pub stayed : (line new_line : Line) (c d : ℕ) (mid last : Centre) (entries : List LogEntry)
-    → Replays line c (beginning line c) entries mid → last ≡ mid → new_line ≡ line → d ≡ c → Replays new_line d (beginning new_line d) entries last
-stayed line new_line c d mid last entries r same same_line same_number = rw (same_line, same_number, same) r
-
 pub map_push : {X Y : Type 0} (f : X → Y) (xs : List X) (x : X) → map f (xs ++ x ∷ []) ≡ map f xs ++ f x ∷ []
 map_push f [] x = refl
 map_push f (y ∷ ys) x = ap (λ zs. f y ∷ zs) (map_push f ys x)

@@ -3,10 +3,10 @@ use Rattle.std.proofs.Common.{◌≡◌, ℕ, suc, ◌+◌, ◌<◌, ◌==◌, L
 use Rattle.std.specs.List.{filter, sum_by}
 use Rattle.std.specs.Option.{option_map_or}
 use Rattle.std.proofs.lemmas.Option.{same_Some}
-use Rattle.rbc_spec.specs.Line.{Line, Centre, Section, Train, section, start}
+use Rattle.rbc_spec.specs.Line.{Line, Section, section, start}
 use Rattle.rbc_line.specs.declared.parts.Section.{Section as SectionRow}
 use Rattle.rbc_line.specs.declared.parts.Train.{Train as TrainRow}
-use Rattle.rbc_line.specs.Views.{section_of, train_of, placed_section, listed_train}
+use Rattle.rbc_line.specs.Views.{section_of, placed_section}
 
 -- ## Lists
 
@@ -25,16 +25,6 @@ pub same_more : {X : Type 0} (xs ys : List X) (n : ℕ) → ((k : ℕ) → k < n
 same_more xs ys n below here = below_more (λ k. slice_get xs k ≡ slice_get ys k) n below here
 
 -- ## Parts
-
-pub same_centre : (p q : Option Centre) → option_map (λ (c : Centre). c.nid_rbc) p ≡ option_map (λ (c : Centre). c.nid_rbc) q
-    → option_map (λ (c : Centre). c.name) p ≡ option_map (λ (c : Centre). c.name) q → p ≡ q
-same_centre None None e f = refl
-same_centre None (Some q) e f = absurd cc
-same_centre (Some p) None e f = absurd cc
-same_centre (Some p) (Some q) e f =
-    let number : p.nid_rbc ≡ q.nid_rbc = same_Some p.nid_rbc q.nid_rbc e in
-    let name : p.name ≡ q.name = same_Some p.name q.name f in
-    λ i. Some (record { name = name i; nid_rbc = number i })
 
 abbrev placed_at : ℕ → Section → SectionRow
 placed_at n p = record { track = p.track; start = n; metres = p.metres; home = p.home; balise = p.balise }
@@ -55,21 +45,4 @@ same_section a b s e = sym (bare (start a s) (section a s)) ∙ ap (option_map s
 pub same_placed : (a b : Line) (s : ℕ) → a.sections ≡ b.sections → placed_section a s ≡ placed_section b s
 same_placed a b s e = λ i. option_map (placed_at (same_start a b s e i)) (slice_get (e i) s)
 
-abbrev listed_at : Train → TrainRow
-listed_at p = record { nid_engine = p.nid_engine; registrar = p.registrar }
-
-bare_train : (o : Option Train) → option_map train_of (option_map listed_at o) ≡ o
-bare_train None = refl
-bare_train (Some p) = refl
-
-pub same_train : (a b : Line) (i : ℕ) → listed_train a i ≡ listed_train b i → slice_get a.trains i ≡ slice_get b.trains i
-same_train a b i e = sym (bare_train (slice_get a.trains i)) ∙ ap (option_map train_of) e ∙ bare_train (slice_get b.trains i)
-
-pub same_listed : (a b : Line) (i : ℕ) → a.trains ≡ b.trains → listed_train a i ≡ listed_train b i
-same_listed a b i e = ap (λ (ps : List Train). option_map listed_at (slice_get ps i)) e
-
 -- ## The whole line
-
-pub same_line : (a b : Line) → a.nid_c ≡ b.nid_c → a.centres ≡ b.centres → a.tracks ≡ b.tracks → a.sections ≡ b.sections → a.trains ≡ b.trains → a ≡ b
-same_line a b nid_c centres tracks sections trains =
-    λ i. record { nid_c = nid_c i; centres = centres i; tracks = tracks i; sections = sections i; trains = trains i }

@@ -77,9 +77,6 @@ no_log c (l ∷ ls) h =
     let parts = or_parts (number_of l.core == c) (has_log c ls) h in
     ap (λ b. if b then Some l else log_of c ls) parts.0 ∙ no_log c ls parts.1
 
-pub distinct_none : AreOfCentres []
-distinct_none i j x y at_i at_j same = absurd cc
-
 pub distinct_cons : (l : LogValue) (ls : List LogValue) → has_log (number_of l.core) ls ≡ false → AreOfCentres ls → AreOfCentres (l ∷ ls)
 distinct_cons l ls none rest zero zero x y at_i at_j same = refl
 distinct_cons l ls none rest zero (suc j) x y at_i at_j same =

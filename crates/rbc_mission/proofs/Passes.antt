@@ -1,5 +1,5 @@
 -- Sections that pass to another centre with a train, and come with one.
-use Rattle.std.proofs.Common.{◌≡◌, ℕ, zero, suc, ◌+◌, ◌<◌, ◌≤◌, ◌==◌, ◌&&◌, ◌||◌, ◌⊎◌, inl, inr, Bool, true, false, cond, not, List, [], ◌∷◌, ◌++◌, length, drop, Option, Some, None, option_map, slice_get, refl, ap, sym, subst, ◌∙◌, arith}
+use Rattle.std.proofs.Common.{◌≡◌, ℕ, zero, suc, ◌+◌, ◌<◌, ◌==◌, ◌&&◌, ◌||◌, ◌⊎◌, inl, inr, Bool, true, false, cond, not, List, [], ◌∷◌, ◌++◌, length, drop, Option, Some, None, option_map, slice_get, refl, ap, sym, subst, ◌∙◌, arith}
 use Rattle.std.proofs.lemmas.Bool.{cases_Bool, false≢true, eqb-true}
 use Rattle.std.proofs.lemmas.Bool.Decides.{eqb_tells, nat_tests}
 use Rattle.std.proofs.lemmas.List.{drop-drop}
@@ -196,30 +196,12 @@ next_is_out t from first k count hand a b lt before out own =
     ap (is_out_for t from) (before.book.entries (first + k) ∙ ap (λ x. cond (x && is_out_for t from (entry_at a (first + k))) (Taken t) (entry_at a (first + k))) (next_without first k))
     ∙ out (first + k) (next_within first k count lt) (sym (before.book.homes (first + k)) ∙ own)
 
--- where all have come
-pub all_come : (t from first k count : ℕ) (hand : Holding) (a b : Pages) → 1 ≤ count → k ≡ count → HasCome t from first k hand a b → run hand ≡ record { first = first; count = count }
-all_come t from first k count hand a b some all has =
-    let begins : hand.first ≡ first = has.begins (omega (arith, some, all)) in
-    let long : length hand.holds ≡ count = has.count ∙ all in
-    λ i. record { first = begins i; count = long i }
-
 pub held_by : (t from : ℕ) (r : SectionRun) (hand : Holding) (a b : Pages) → IsBooked (is_out_for t from) (Taken t) r a b → IsHeldAt t (is_own a) hand → IsHeldBy t hand b
 held_by t from r hand a b booked held i x at = ap (λ own. is_held_as t own x) (booked.homes (hand.first + i)) ∙ held i x at
-
-outside : (first k j : ℕ) → j ≡ first + k → within (record { first = first; count = k }) j ≡ false
-unfolding within
-outside first k j e = grind (arith, nat_tests)
 
 inside : (first k count j : ℕ) → j ≡ first + k → k < count → within (record { first = first; count = count }) j ≡ true
 unfolding within
 inside first k count j e lt = grind (arith, nat_tests)
-
--- the next is out as before
-pub still_out : (t from first k count s : ℕ) (a b : Pages) → s ≡ first + k → k < count → ((j : ℕ) → within (record { first = first; count = count }) j ≡ true → is_own a j ≡ true → is_out_for t from (entry_at a j) ≡ true)
-    → IsBooked (is_out_for t from) (Taken t) (record { first = first; count = k }) a b → is_own b s ≡ true → is_out_for t from (entry_at b s) ≡ true
-still_out t from first k count s a b is lt all so_far own =
-    ap (is_out_for t from) (so_far.entries s) ∙ ap (λ x. is_out_for t from (cond (x && is_out_for t from (entry_at a s)) (Taken t) (entry_at a s))) (outside first k s is)
-    ∙ all s (inside first k count s is lt) (sym (so_far.homes s) ∙ own)
 
 -- ## What is held of a section that comes
 
@@ -227,10 +209,3 @@ pub held_claim : (t from s : ℕ) (b : Bool) (own : Bool) (claim : Claim) (o : O
 held_claim t from s b own claim o is some =
     let on : claim_on s t ≡ claim = (cond_some b (claim_on s t) claim (sym is ∙ some)).1 in
     (ap section_of (sym on), ap (λ (x : Claim). train_of x == t) (sym on) ∙ (elim (eqb_tells t t) as (λ _. (t == t) ≡ true) [ inl e ↦ e.0 | inr e ↦ absurd (e.1 refl) ]))
-
-pub held_name : (t from s : ℕ) (a : Pages) (o : Option Claim) (u home : ℕ) → o ≡ claim_if (is_out_for t from (entry_at a s)) s t → o ≡ None → (is_own a s ≡ true → is_out_for t from (entry_at a s) ≡ true)
-    → is_held_as t (is_own a s) (Name u home) ≡ true
-held_name t from s a o u home is none out = elim (cases_Bool (is_own a s)) as (λ _. not (is_own a s) ≡ true) [
-  | inl own ↦ absurd (none-some (claim_on s t) (sym none ∙ is ∙ ap (λ b. claim_if b s t) (out own)))
-  | inr foreign ↦ ap not foreign
-]

@@ -2,7 +2,6 @@
 
 ghost use Rattle.std.specs.Prelude.{◌≡◌, ◌≤◌, ◌<◌, ◌+◌, ℕ, true, false, length, Some, None, option_map, IfSome};
 ghost use Rattle.std.specs.Option.{option_map_or};
-ghost use Rattle.rbc_spec.specs.Line as track;
 ghost use Rattle.rbc_spec.specs.SectionRuns.{no_run, within};
 ghost use Rattle.rbc_spec.specs.Centre as spec;
 ghost use Rattle.rbc_spec.specs.Centre.{Taken, is_out_for};
@@ -51,7 +50,7 @@ pub struct Yielded {
 }
 
 impl Supervision {
-    ghost use Rattle.rbc_mission.specs.Supervisions.{mission_of, hand_of, with_handing, HasSupervision, with_supervision};
+    ghost use Rattle.rbc_mission.specs.Supervisions.{mission_of, with_handing, HasSupervision, with_supervision};
     ghost use Rattle.rbc_mission.specs.Passing.{IsBooked};
     ghost use Rattle.rbc_mission.specs.Handovers.{sends_off, WasHandedOver};
 

@@ -1,7 +1,6 @@
 //! Sections that pass to another centre with a train, and come with one.
 
-ghost use Rattle.std.specs.Prelude.{◌≡◌, ◌+◌, ◌≤◌, ◌<◌, ◌∷◌, ◌++◌, ℕ, length, true, false, is_some, if◌then◌else◌};
-ghost use Rattle.rbc_spec.specs.Line as track;
+ghost use Rattle.std.specs.Prelude.{◌≡◌, ◌+◌, ◌≤◌, ◌<◌, ℕ, length, true, false, if◌then◌else◌};
 ghost use Rattle.rbc_spec.specs.Centre.{Taken, Out, is_taken_for, is_out_for};
 ghost use Rattle.rbc_spec.specs.SectionRuns.{within, is_empty, joined};
 ghost use Rattle.rbc_book.specs.Book.{is_own, entry_at};

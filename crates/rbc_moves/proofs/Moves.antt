@@ -58,10 +58,6 @@ module _ (line : Line) (w : Flow) (c : ℕ) (v : LineState) where
   moves_or None f q some none = none refl
   moves_or (Some x) f q some none = some x refl
 
-  pub leads_if_act : (b : Bool) (f g : Act) (k : Centre) → (b ≡ true → Leads line w c (f k) v) → (b ≡ false → Leads line w c (g k) v) → Leads line w c ((if b then f else g) k) v
-  leads_if_act true f g k one two = one refl
-  leads_if_act false f g k one two = two refl
-
   pub leads_or_act : {X : Type 0} (o : Option X) (f : X → Act) (g : Act) (k : Centre) → ((x : X) → o ≡ Some x → Leads line w c (f x k) v) → (o ≡ None → Leads line w c (g k) v)
       → Leads line w c (option_map_or f o g k) v
   leads_or_act None f g k some none = none refl

@@ -1,7 +1,7 @@
 -- Two pieces of a stream and both at once.
 use Rattle.std.proofs.Common.{◌≡◌, ◌≢◌, inl, inr, ℕ, List, ◌++◌, Option, Some, None, Result, Ok, Err, refl, sym, ap, ◌∙◌, subst, append_assoc}
 use Rattle.rbc_msgs.specs.TrainText.{TrainText}
-use Rattle.rbc_msgs.specs.Streams.{IsRest, ShowsFault, IsEnd, Adds, Halts, Continues, Fed, HadMemory}
+use Rattle.rbc_msgs.specs.Streams.{IsRest, ShowsFault, Adds, Halts, Continues, Fed, HadMemory}
 use Rattle.rbc_msgs.specs.declared.fault.MsgFault.{MsgFault}
 use Rattle.rbc_msgs.specs.declared.fault.MsgFault.TheVariants as message
 use Rattle.rbc_msgs.specs.declared.fault.StreamFault.{StreamFault}
@@ -63,9 +63,6 @@ fault-then before after a b old new (Message fault) p =
 fault-then before after a b old new Failed p = p
 
 -- ---- what a call gives is one
-
-ends-of : (old new : List TrainText) (bytes : List ℕ) (fault : MsgFault) → (h : Halts old new bytes fault) → fault ≢ message.Memory → IsEnd h.rest
-ends-of old new bytes fault h ne = inr (fault, h.shows ne)
 
 -- two calls from one rest
 same-bytes : (before : Option (List ℕ)) (piece x y : List ℕ) → before ≡ Some x → before ≡ Some y → y ++ piece ≡ x ++ piece

@@ -1,6 +1,6 @@
 -- Two rows of bits compared word by word.
-use Rattle.std.proofs.Common.{◌≡◌, ◌≢◌, ℕ, ◌^◌, ◌<◌, ◌≤◌, Bool, List, ◌++◌, length, take, drop, min, sym, ap, ◌∙◌, length-append, arith}
-use Rattle.std.proofs.lemmas.List.{take_at, drop_at, nil_from_length}
+use Rattle.std.proofs.Common.{◌≡◌, ◌≢◌, ℕ, ◌^◌, ◌<◌, Bool, List, ◌++◌, length, take, drop, min, sym, ap, ◌∙◌, length-append, arith}
+use Rattle.std.proofs.lemmas.List.{take_at, drop_at}
 use Rattle.rbc_bits.specs.Bits.{field}
 use Rattle.rbc_bits.proofs.Fields.{length-field, field-injective}
 
@@ -9,10 +9,6 @@ pub record AreSame (all-a all-b a b : List Bool) : Type 0 where
   pub lengths : length a ≡ length b
   pub onward : all-a ≡ all-b → a ≡ b
   pub back : a ≡ b → all-a ≡ all-b
-
--- before the first word
-pub none-compared : (a b : List Bool) → length a ≡ length b → AreSame a b a b
-none-compared a b e = record { lengths = e; onward = λ h. h; back = λ h. h }
 
 -- rows of one length that begin with a word of n bits
 words-same : (a b a-rest b-rest : List Bool) (n x y : ℕ) → a ≡ field n x ++ a-rest → b ≡ field n y ++ b-rest → x < 2 ^ n → y < 2 ^ n → a ≡ b → (x ≡ y) × (a-rest ≡ b-rest)
@@ -45,12 +41,6 @@ one-differs all-a all-b a b a-rest b-rest m n x y h m-is n-is a-is b-is x-fits y
     let b-at : b ≡ field m y ++ b-rest = b-is ∙ ap (λ k. field k y ++ b-rest) widths in
     let y-here : y < 2 ^ m = rw (← widths) y-fits in
     ne (words-same a b a-rest b-rest m x y a-is b-at x-fits y-here (h.onward same)).0
-
--- nothing is left
-pub all-same : (all-a all-b a b : List Bool) → AreSame all-a all-b a b → length a ≤ 0 → all-a ≡ all-b
-all-same all-a all-b a b h none =
-    let l = h.lengths in
-    h.back (nil_from_length a (omega arith) ∙ sym (nil_from_length b (omega arith)))
 
 -- a word was taken
 pub shorter : (a rest : List Bool) (n x : ℕ) → n ≡ min 64 (length a) → a ≡ field n x ++ rest → 0 < length a → length rest < length a

@@ -128,11 +128,6 @@ rest-on rest piece r1 r2 first second n h e1 e2 within all few at spent no-more 
     let still : length r2 < n = omega arith in
     (record { needed = n; at = needed-more r1 r2 piece first second n e2 all at; fewer = still }, omega (arith, spent still, length-drop first piece))
 
--- the bytes taken, and the bytes behind them
-pub halts-piece : (old new : List TrainText) (rest piece : List ℕ) (used : ℕ) (fault : MsgFault) → Halts old new (rest ++ take used piece) fault → Halts old new (rest ++ piece) fault
-halts-piece old new rest piece used fault h =
-    subst (λ x. Halts old new x fault) (glue rest piece (rest ++ take used piece) used refl) (halts-behind old new (rest ++ take used piece) (drop used piece) fault h)
-
 -- ---- slices
 
 -- what stands behind the first i
@@ -170,11 +165,6 @@ halts-on old mid new rest piece r1 used fault none p h =
 -- memory ran out behind the last message
 pub halts-at-end : (old new : List TrainText) (bytes end : List ℕ) (fault : MsgFault) → Adds old new bytes end → fault ≡ Memory → Halts old new bytes fault
 halts-at-end old new bytes end fault p e = halts-then old new new bytes end fault p (halts-memory new end fault e)
-
--- the piece is spent
-pub adds-spent : (old new : List TrainText) (rest piece r1 : List ℕ) (used : ℕ) → used ≡ length piece → Adds old new (rest ++ take used piece) r1 → Adds old new (rest ++ piece) r1
-adds-spent old new rest piece r1 used all p =
-    subst (λ x. Adds old new (rest ++ x) r1) (take_all used piece (omega arith)) p
 
 -- ---- messages that are whole in the piece
 

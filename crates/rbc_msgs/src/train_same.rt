@@ -1,6 +1,6 @@
 //! Whether two messages of trains are the same. They own the bits of packets, so no `==` is derived.
 
-ghost use Rattle.std.specs.Prelude.{◌≡◌, ◌↔◌, ◌++◌, ◌≤◌, ◌<◌, ◌^◌, IsTrue, length, min};
+ghost use Rattle.std.specs.Prelude.{◌≡◌, ◌↔◌, ◌++◌, ◌<◌, ◌^◌, IsTrue, length, min};
 ghost use Rattle.rbc_bits.specs.Bits.{field};
 
 use crate::train::TrainMsg;

@@ -1,6 +1,6 @@
 //! The parts of a train's message, written one behind the other, and how long they are.
 
-ghost use Rattle.std.specs.Prelude.{◌≡◌, ◌≢◌, ◌+◌, ◌<◌, ◌≤◌, ◌++◌, ◌^◌, length, All, IfOk, IfErr, OnOk, IsOkUnless};
+ghost use Rattle.std.specs.Prelude.{◌≡◌, ◌≢◌, ◌+◌, ◌<◌, ◌++◌, ◌^◌, length, All, IfOk, IfErr, OnOk, IsOkUnless};
 ghost use Rattle.std.specs.List.{flat_map, AllByRecursion};
 ghost use Rattle.rbc_packets.specs.Layout.{joined};
 ghost use Rattle.rbc_spec.specs.Message.{unknown_time};

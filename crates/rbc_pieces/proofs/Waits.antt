@@ -54,10 +54,6 @@ put_at f j k value a b = elim (eqb_tells a j) [
 ]
 
 module _ (line : Line) (v : LineState) (keep : WaitsKeep line v) where
-  -- no section of a start that waits is given
-  pub not_given : (t c s u : ℕ) → IsWaited line v t c s → v.mark s ≡ Given u → ⊥
-  not_given t c s u waited is = let wrong : Kept t ≡ Given u = sym waited.kept ∙ is in cc
-
   -- starts wait on, and their sections stay as they are
   pub wait_on : (new : LineState) → new.wait ≡ v.wait → ((t c s : ℕ) → IsWaited line v t c s → new.mark s ≡ v.mark s) → WaitsKeep line new
   wait_on new same stay = record {

@@ -38,12 +38,6 @@ known_engine line ok t is = engine_below line line.trains t (train_number line t
 
 -- ## Links
 
-swapped : (x y : Bool) → (x || y) ≡ true → (y || x) ≡ true
-swapped true true h = refl
-swapped true false h = refl
-swapped false true h = refl
-swapped false false h = cc
-
 not_same : (a b : ℕ) → not (a == b) ≡ true → not (b == a) ≡ true
 not_same a b is = elim (eqb_tells b a) [ inl e ↦ absurd (let wrong : false ≡ true = sym (ap not (eq-eqb a b (sym e.1))) ∙ is in cc) | inr e ↦ ap not e.0 ]
 

@@ -11,20 +11,12 @@ Appends-trans (Some p) None c xs ys h k = absurd h
 Appends-trans (Some p) (Some q) None xs ys h k = absurd k
 Appends-trans (Some p) (Some q) (Some r) xs ys h k = k ∙ ap (λ zs. zs ++ ys) h ∙ append_assoc p xs ys
 
-pub Appends-nil : (a : Option (List ℕ)) → Appends a a []
-Appends-nil None = tt
-Appends-nil (Some p) = sym (append-nil p)
-
 pub Appends-same : (a b : Option (List ℕ)) (xs ys : List ℕ) → xs ≡ ys → Appends a b xs → Appends a b ys
 Appends-same a b xs ys e h = subst (λ zs. Appends a b zs) e h
 
 pub OnErr-intro : {T E : Type 0} {P : Type 0} (r : Result T E) → P → OnErr r P
 OnErr-intro (Ok x) p = tt
 OnErr-intro (Err e) p = p
-
--- no message
-pub row-none : IsRow []
-row-none = ([], refl)
 
 -- a message behind those of a row
 spell-more : (ms : List TrackMessage) (bytes last : List ℕ) (m : TrackMessage) → SpellRow bytes ms → SpellsTrack last m → SpellRow (bytes ++ last) (ms ++ m ∷ [])

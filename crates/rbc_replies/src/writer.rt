@@ -1,4 +1,4 @@
-ghost use Rattle.std.specs.Prelude.{◌++◌, ℕ, List, take, OnOk, OnErr};
+ghost use Rattle.std.specs.Prelude.{ℕ, List, take, OnOk, OnErr};
 ghost use Rattle.std.specs.Io.KnownBytes.{Appends};
 ghost use Rattle.rbc_replies.specs.Row.{IsRow, IsBegunRow};
 

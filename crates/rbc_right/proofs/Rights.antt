@@ -1,5 +1,5 @@
 -- Laws of the rights at a centre.
-use Rattle.std.proofs.Common.{◌≡◌, ◌≢◌, ℕ, zero, suc, ◌+◌, ◌<◌, ◌≤◌, ◌==◌, inl, inr, Bool, true, false, nat_lt, List, [], ◌∷◌, ◌++◌, length, length-append, set, Option, Some, None, option_map, unwrap_or, slice_get, refl, ap, sym, ◌∙◌, arith}
+use Rattle.std.proofs.Common.{◌≡◌, ◌≢◌, ℕ, zero, suc, ◌<◌, ◌≤◌, ◌==◌, inl, inr, Bool, true, false, nat_lt, List, [], ◌∷◌, length, set, Option, Some, None, option_map, unwrap_or, slice_get, refl, ap, sym, ◌∙◌, arith}
 use Rattle.std.specs.List.{position_or_len, find}
 use Rattle.std.specs.Option.{option_map_or}
 use Rattle.std.proofs.lemmas.Bool.{false≢true, cases_lt}
@@ -24,15 +24,6 @@ slice_get-set_other (y ∷ ys) zero zero x h = absurd (h refl)
 slice_get-set_other (y ∷ ys) zero (suc j) x h = refl
 slice_get-set_other (y ∷ ys) (suc i) zero x h = refl
 slice_get-set_other (y ∷ ys) (suc i) (suc j) x h = slice_get-set_other ys i j x (λ e. h (ap suc e))
-
-slice_get-last : {X : Type 0} (xs : List X) (x : X) → slice_get (xs ++ x ∷ []) (length xs) ≡ Some x
-slice_get-last [] x = refl
-slice_get-last (y ∷ ys) x = slice_get-last ys x
-
-slice_get-before : {X : Type 0} (xs ys : List X) (i : ℕ) → i < length xs → slice_get (xs ++ ys) i ≡ slice_get xs i
-slice_get-before [] ys i within = absurd (let no : ⊥ = omega arith in no)
-slice_get-before (z ∷ zs) ys zero within = refl
-slice_get-before (z ∷ zs) ys (suc i) within = slice_get-before zs ys i (omega arith)
 
 -- ## A right comes or goes
 
@@ -71,20 +62,6 @@ past_is_away rights i past = ap (λ o. unwrap_or o false) (slice_get_past rights
 pub record HasRights (line : Line) (c n : ℕ) (rights : Rights) : Type 0 where
   pub count : length rights ≡ n
   pub each : (k : ℕ) → k < n → slice_get rights k ≡ Some (is_registered_at line c k)
-
-pub HasRights-more : (line : Line) (c n : ℕ) (rights more : Rights) (b : Bool) → more ≡ rights ++ b ∷ [] → b ≡ is_registered_at line c n → HasRights line c n rights → HasRights line c (n + 1) more
-HasRights-more line c n rights more b pushed is so_far = record {
-  count = rw pushed (simp (length-append) (omega (arith, so_far.count)));
-  each = λ k within.
-      elim (cases_lt k n) [
-        | inl earlier ↦ rw pushed (slice_get-before rights (b ∷ []) k (omega (arith, so_far.count)) ∙ so_far.each k earlier)
-        | inr last ↦
-            let at : k ≡ length rights = omega (arith, so_far.count) in
-            let is_n : k ≡ n = omega arith in
-            ap (λ xs. slice_get xs k) pushed ∙ ap (slice_get (rights ++ b ∷ [])) at ∙ slice_get-last rights b
-            ∙ ap (λ p. Some p) (is ∙ ap (is_registered_at line c) (sym is_n))
-      ];
-}
 
 module _ (line : Line) (c n : ℕ) (rights : Rights) (whole : HasRights line c n rights) (all : n ≡ length line.trains) where
   pub new_here : (j : ℕ) → is_here rights j ≡ is_registered_at line c j

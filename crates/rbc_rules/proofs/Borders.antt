@@ -9,10 +9,10 @@ use Rattle.rbc_spec.specs.Place.{Place, group_start}
 use Rattle.rbc_spec.specs.Message.{Transition}
 use Rattle.rbc_spec.specs.Frame.{Announce}
 use Rattle.rbc_spec.specs.Centre.{Centre, Mission, Expectation}
-use Rattle.rbc_spec.specs.Acts.{rest, part_at}
+use Rattle.rbc_spec.specs.Acts.{part_at}
 use Rattle.rbc_spec.specs.Rules.{announce_if_due, ask_route_if_due, at_border}
 use Rattle.rbc_spec.proofs.Places.{section_on, start_is, end_of, ends_rise}
-use Rattle.rbc_lemmas.proofs.Puts.{put_same, put_there, put_over}
+use Rattle.rbc_lemmas.proofs.Puts.{put_there, put_over}
 use Rattle.rbc_lemmas.proofs.Runs.{joined_is, within_true, within_from}
 use Rattle.rbc_handover.specs.Giving.{announcing, with_count}
 use Rattle.rbc_mission.specs.Supervisions.{SupervisionState, HasSupervision, with_supervision, with_next}
@@ -56,16 +56,6 @@ near_enough line m place count metres some on follow is fits s here =
     ]
 
 -- ## What is told
-
--- a centre of which nothing has changed
-module _ (k : Centre) (s : SupervisionState) (said announced : ℕ) (has : HasSupervision k s) (counts : k.said s.engine ≡ said) (count : k.announced ≡ announced) where
-  pub nothing_due : rest k ≡ replied (with_count announced (counted_to s.engine said (with_supervision s k))) [] []
-  nothing_due = λ i. replied (record k {
-    said = λ u. sym (put_same s.engine said k.said counts u) i;
-    mission = λ u. sym (put_same s.engine s.mission k.mission has.has_mission u) i;
-    route_ask = λ u. sym (put_same s.engine s.asked k.route_ask has.has_question u) i;
-    announced = count i;
-  }) [] []
 
 -- a handover is announced, and the train is told where the border is
 module _ (line : Line) (t to : ℕ) (k : Centre) (said number announced : ℕ) (m : Mission) (new : SupervisionState) (order : Saying) (counts : k.said t ≡ said)

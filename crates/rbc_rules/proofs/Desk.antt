@@ -18,7 +18,7 @@ use Rattle.rbc_mission.specs.Supervisions.{SupervisionState, HasSupervision, wit
 use Rattle.rbc_session.specs.SessionStates.{session_phase}
 use Rattle.rbc_session.specs.declared.session.SessionState.{SessionState}
 use Rattle.rbc_handover.specs.Expectations.{expected_from, HasExpectations, with_expectations}
-use Rattle.rbc_rules.specs.Desk.{HasParts, HasTurn, with_parts, replied, posted, reply_left}
+use Rattle.rbc_rules.specs.Desk.{HasParts, with_parts, replied, posted, reply_left}
 use Rattle.rbc_rules.specs.Letters.{mail_of, mail_to}
 use Rattle.rbc_rules.specs.Trains.{HasTrain, asked}
 use Rattle.rbc_rules.specs.Sayings.{sayings_of, told_train}
@@ -75,12 +75,6 @@ module _ (line : Line) (c : ℕ) (k : Centre) (p : TrainState) (book : Pages) (r
 
   pub same_right : (u : ℕ) → k.has_right u ≡ put k.has_right t (is_here rights p.supervision.number) u
   same_right u = sym (put_same t (is_here rights p.supervision.number) k.has_right has.has_right u)
-
-  pub same_wait : (u : ℕ) → k.wait u ≡ put k.wait t p.waiting.wait u
-  same_wait u = sym (put_same t p.waiting.wait k.wait has.has_wait u)
-
-  pub same_ask : (u : ℕ) → k.has_asked u ≡ put k.has_asked t p.waiting.has_asked u
-  same_ask u = sym (put_same t p.waiting.has_asked k.has_asked has.has_ask u)
 
   pub same_expects : (d u : ℕ) → k.expects d u ≡ put (k.expects d) t (expected_from p.expectations d) u
   same_expects d u = sym (put_same t (expected_from p.expectations d) (k.expects d) (has.has_expects d) u)
@@ -208,10 +202,6 @@ module _ (line : Line) (c : ℕ) (k : Centre) (p : TrainState) (book : Pages) (r
   -- of what is expected of the train alone something has changed
   pub expects_left : (e : List (Option Expectation)) → with_expectations t e k ≡ with_parts (record p { expectations = e }) book rights k
   expects_left e = λ i. record (same_state i) { expects = λ d. put (k.expects d) t (expected_from e d) }
-
-  -- what follows in a step goes by its turn
-  pub has_turn : HasTurn k p
-  has_turn = record { supervision = has_supervision; phase = has.has_phase; heard = has.has_heard; said = has.has_said }
 
 -- a train that is asked nothing
 pub asked_nothing : (t : ℕ) (k : Centre) (p : TrainState) → HasTrain k t p → asked t p [] k ≡ rest k

@@ -1,5 +1,5 @@
 -- What goes home: a right, and lent sections.
-use Rattle.std.proofs.Common.{◌≡◌, ℕ, ◌==◌, ◌||◌, [], ◌∷◌, Option, refl, sym, ◌∙◌, subst, arith, inl, inr, eqb-true, eq-eqb}
+use Rattle.std.proofs.Common.{◌≡◌, ℕ, ◌==◌, ◌||◌, [], ◌∷◌, Option, sym, ◌∙◌, subst, arith, inl, inr, eqb-true, eq-eqb}
 use Rattle.std.proofs.lemmas.Bool.{cases_Bool, cond-true, cond-false, or_right}
 use Rattle.rbc_spec.specs.SectionRuns.{SectionRun, is_empty, shared}
 use Rattle.rbc_spec.specs.Line.{Line}
@@ -7,20 +7,14 @@ use Rattle.rbc_spec.specs.Sections.{home_run}
 use Rattle.rbc_spec.specs.Frame.{RouteReturn}
 use Rattle.rbc_spec.specs.Centre.{Centre, beginning}
 use Rattle.rbc_spec.specs.Acts.{returned}
-use Rattle.rbc_lemmas.proofs.Puts.{put_same}
-use Rattle.rbc_right.specs.Rights.{Rights, is_here}
+use Rattle.rbc_right.specs.Rights.{Rights}
 use Rattle.rbc_mission.specs.declared.held.HeldRight.{HeldRight}
-use Rattle.rbc_rules.specs.Desk.{KeepsRights}
 use Rattle.rbc_rules.specs.Homes.{GoesHome}
 use Rattle.rbc_rules.specs.Letters.{going_home, mail_home}
 use Rattle.rbc_hand.specs.declared.section_run.SectionRun.{SectionRun as SectionRunCode}
 use Rattle.rbc_rules.specs.declared.letter.Letter.{Letter}
 use Rattle.rbc_rules.specs.declared.mail.Mail.{Mail}
 use Rattle.rbc_rules.specs.declared.mail.Notice.{Notice}
-
--- no right has come or gone
-pub rights_same : (rights : Rights) (i : ℕ) → KeepsRights i rights rights
-rights_same rights i = record { others = λ j. sym (put_same i (is_here rights i) (is_here rights) refl j); count = refl }
 
 -- one goes home of this train
 pub goes_as : (line : Line) (c t u : ℕ) (right right' : HeldRight) (letter : Option Letter) (rights rights' : Rights) → u ≡ t → right ≡ right' → GoesHome line c u right letter rights rights' → GoesHome line c t right' letter rights rights'

@@ -66,9 +66,6 @@ all_within hand run some low = by_end (nat_le (behind run) (behind hand)) refl
     by_end true e = e ∙ sym (within_all hand run (rw (some, low, e) refl))
     by_end false e = e ∙ sym (within_past hand run some e)
 
-pub all_empty : (hand run : SectionRun) → (run.count == 0) ≡ true → true ≡ all_of (within hand) run
-all_empty hand run none = sym (within_all hand run (rw none refl))
-
 -- of a book of the centre's home, a section is free where it is open
 pub free_open : (line : Line) (c : ℕ) (k : Centre) (book : Pages) (s : ℕ) → ((e : ℕ) → k.book e ≡ entry_at book e) → is_own book s ≡ is_home line c s → is_open (entry_at book s) ≡ is_free line c k s
 free_open line c k book s pages home = by_open (is_open (entry_at book s)) refl

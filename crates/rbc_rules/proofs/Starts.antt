@@ -122,14 +122,6 @@ module _ (line : Line) (c : ℕ) (k : Centre) (old : TrainState) (book : Pages) 
         has_right = put k.has_right t (is_here rights' old.supervision.number);
       }) ∙ mission_left line c k old book rights has (Some (mission_at place run)) hand left book' rights' is))
 
-  -- and it is not
-  pub refuses : (place : Place) (rights' : Rights) → is_here rights old.supervision.number ≡ false → ((j : ℕ) → is_here rights' j ≡ put (is_here rights) old.supervision.number false j)
-      → start_here line t place k ≡ say t unknown_group TrainRejected (with_parts old book rights' k)
-  refuses place rights' right gone =
-      let missing : k.has_right t ≡ false = has.has_right ∙ right in
-      let still : is_here rights old.supervision.number ≡ is_here rights' old.supervision.number = right ∙ sym (gone old.supervision.number ∙ put_there (is_here rights) old.supervision.number false) in
-      rw missing (ap (say t unknown_group TrainRejected) (same_state line c k old book rights has ∙ (λ i. record (with_parts old book rights k) { has_right = put k.has_right t (still i) })))
-
   -- the start waits, and the registrar is asked, unless it is asked already
   pub waits : (place : Place) (w : WaitState) (book' : Pages) (answer : Bool) (letter : Option Letter) → w.engine ≡ old.waiting.engine
       → start_waiting line old.waiting.engine place k ≡ asking line old.waiting.engine answer (with_wait w book' k) → letters letter ≡ asks line t answer

@@ -1,5 +1,5 @@
 -- A message of a train: late or again, of a foreign engine, or one that is taken.
-use Rattle.std.proofs.Common.{◌≡◌, ℕ, true, false, List, [], ◌∷◌, Result, Some, None, is_none, refl, sym, ap, ◌∙◌}
+use Rattle.std.proofs.Common.{◌≡◌, ℕ, true, false, List, [], ◌∷◌, Result, Some, None, is_none, refl, ap, ◌∙◌}
 use Rattle.rbc_spec.specs.Line.{Line, train_number}
 use Rattle.rbc_spec.specs.Message.{TrainMessage, TrainBody, TrainData, Request, Report, ShorteningGranted, ShorteningRejected, EndOfMission, InitiationOfSession, TerminationOfSession, StartOfMission, SessionEstablished, is_stale}
 use Rattle.rbc_spec.specs.Outcome.{Reason, StaleStamp, ForeignEngine, reasons_of}
@@ -7,20 +7,13 @@ use Rattle.rbc_spec.specs.Centre.{Centre}
 use Rattle.rbc_spec.specs.Acts.{Reply}
 use Rattle.rbc_spec.specs.Step.{Effect, Train, effect, silence, holds}
 use Rattle.std.specs.List.{find}
-use Rattle.rbc_book.specs.Book.{Pages, is_own}
-use Rattle.rbc_right.specs.Rights.{Rights, is_here}
-use Rattle.rbc_lemmas.proofs.Puts.{put_same}
+use Rattle.rbc_book.specs.Book.{Pages}
+use Rattle.rbc_right.specs.Rights.{Rights}
 use Rattle.rbc_handover.specs.Giving.{with_count}
-use Rattle.rbc_session.specs.Sessions.{Records}
-use Rattle.rbc_session.specs.SessionStates.{StandsFor, session_phase}
-use Rattle.rbc_session.specs.declared.session.SessionState.{SessionState}
-use Rattle.rbc_session.proofs.SessionStates.{phase_at-session_state}
-use Rattle.rbc_rules.specs.Desk.{HasParts, KeepsDesk, with_parts, replied, effect_left}
+use Rattle.rbc_rules.specs.Desk.{HasParts, with_parts, replied, effect_left}
 use Rattle.rbc_rules.specs.declared.heard.Heard.{Heard}
 use Rattle.rbc_rules.specs.declared.reason.Reason.{Reason as ReasonCode}
-use Rattle.rbc_rules.specs.SessionStates.{Enters}
 use Rattle.rbc_rules.specs.declared.train.TrainState.{TrainState}
-use Rattle.rbc_rules.proofs.SessionStates.{stays}
 use Rattle.rbc_rules.proofs.Desk.{silent_effect, same_parts}
 
 -- what every message is looked at for first
@@ -64,10 +57,3 @@ heard_same line c k m n e is same = ap (λ (x : TrainMessage). effect line c k (
 pub heard_as : (line : Line) (c : ℕ) (k : Centre) (m n : TrainMessage) (t : ℕ) (left : Centre) (r : Result Heard ReasonCode) (count : ℕ)
     → effect line c k (Train n) ≡ effect_left line c t left r → m ≡ n → left.announced ≡ count → effect line c k (Train m) ≡ effect_left line c t (with_count count left) r
 heard_as line c k m n t left r count comes same is = heard_same line c k m n _ comes same ∙ ap (λ (x : Centre). effect_left line c t x r) (announced_same left count is)
-
--- what stays where nothing was changed
-pub same_rights : (i : ℕ) (book book' : Pages) (rights : Rights) → ((s : ℕ) → is_own book' s ≡ is_own book s) → KeepsDesk i book book' rights rights
-same_rights i book book' rights homes = record { homes = homes; rights = record { others = λ j. sym (put_same i (is_here rights i) (is_here rights) refl j); count = refl } }
-
-pub session_stays : (sessions : Records) (old new : SessionState) (t : ℕ) → new ≡ old → StandsFor sessions old t → Enters sessions sessions new t (session_phase new)
-session_stays sessions old new t same stood = rw same (stays sessions old t (session_phase old) stood (phase_at-session_state sessions old t stood))

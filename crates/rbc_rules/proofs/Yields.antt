@@ -222,9 +222,6 @@ module _ (line : Line) (c : ℕ) (k : Centre) (old : TrainState) (book : Pages) 
         second_goes (inl empty) = cond-true (is_empty (run_of h.mail.second)) [] _ empty
         second_goes (inr empty) = absurd (false≢true (sym some ∙ ap is_empty was.pool ∙ empty))
 
-    abbrev Sent : ℕ → List Body → List Body
-    Sent d xs = going h.mail.first d ++ (going second d ++ xs)
-
     frames_are : (d : ℕ) → mail_to line c t (λ d. k.expects d t) h.mail d ++ ((home d ++ off d) ++ []) ≡ mail_to line c t (λ d. k.expects d t) heard.mail d
     frames_are d =
         (λ i. mail_to line c t (λ d. k.expects d t) (record h.mail { track = may.on i; notice = may.notice i; letter = may.letter i }) d ++ append-nil (home d ++ off d) i)

@@ -45,22 +45,6 @@ module _ (old new : Records) (key t : ℕ) (phases : (u : ℕ) → phase_at new 
 
 -- ## A train's session was confirmed
 
-module _ (old new : Records) (key t : ℕ) (stood : IsSessionOf old key Opened t)
-    (phases : (u : ℕ) → phase_at new u ≡ cond (option_map_or (λ v. v == u) (train_at old key) false) Up (phase_at old u))
-    (keys : (k : ℕ) → train_at new k ≡ train_at old k) where
-  pub confirmed_phase : (u : ℕ) → phase_at new u ≡ cond (t == u) Up (phase_at old u)
-  confirmed_phase u = phases u ∙ ap (λ o. cond (option_map_or (λ v. v == u) o false) Up (phase_at old u)) stood.is_with
-
-  pub confirmed_stands : IsSessionOf new key Up t
-  confirmed_stands = record {
-    is_with = keys key ∙ stood.is_with;
-    is_so_far = confirmed_phase t ∙ ap (λ b. cond b Up (phase_at old t)) (same_is_true t);
-  }
-
-  pub stands_beside_confirmed : (s : SessionState) (u : ℕ) → u ≢ t → StandsFor old s u → StandsFor new s u
-  stands_beside_confirmed s u other stands =
-      stands_still old new s u stands (confirmed_phase u ∙ ap (λ b. cond b Up (phase_at old u)) (other_is_false t u (λ e. other (sym e)))) (λ k at. keys k ∙ at)
-
 -- ## What stood for a train was ended
 
 module _ (old new : Records) (ended : SessionState) (t : ℕ) (stood : StandsFor old ended t)

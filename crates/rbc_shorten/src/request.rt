@@ -1,4 +1,4 @@
-ghost use Rattle.std.specs.Prelude.{◌≡◌, ◌==◌, ◌-◌, ◌+◌, ◌*◌, ◌≤◌, ℕ, true, Some, None, if◌then◌else◌};
+ghost use Rattle.std.specs.Prelude.{◌≡◌, ◌-◌, ◌+◌, ◌*◌, ◌≤◌, ℕ, true, Some, None, if◌then◌else◌};
 ghost use Rattle.rbc_spec.specs.Line.{start};
 ghost use Rattle.rbc_spec.specs.Place.{group_start};
 ghost use Rattle.rbc_spec.specs.Centre as spec;

@@ -112,9 +112,6 @@ module _ (line : Line) (w : Flow) (c : ℕ) (came : Resource Centre Body → ℕ
         by_centres false b from to = absurd (nothing_sent w i j (sound.no_sent i j (inl from)) f is)
         by_centres true false from to = absurd (nothing_sent w i j (sound.no_sent i j (inr to)) f is)
 
-    some_of : (o : Option centre.Mission) (m : centre.Mission) → o ≡ Some m → is_some o ≡ true
-    some_of o m is = ap is_some is
-
     -- one mission behind the act for one before
     shown_stays : mission ≡ old → option_map (seen c) (y.mission t) ≡ option_map (seen c) ((w.at c).mission t) → came (missions t) ≡ 0 → SendsNone (missions t) c frames
         → ShowsMission line new t mission

@@ -1,7 +1,7 @@
 -- The numbers that pass a convex test are a run.
 use Rattle.std.proofs.Common.{◌≡◌, ℕ, zero, suc, ◌+◌, ◌<◌, ◌≤◌, ◌&&◌, Bool, true, false, nat_lt, List, [], ◌∷◌, length, filter, refl, sym, ap, ◌∙◌, arith, ⊎_elim}
 use Rattle.std.specs.List.{range_with_len}
-use Rattle.std.proofs.lemmas.Bool.{cond-true, cond-false, cases_Bool, cases_lt, cases_eq, both_ways, false_from_ne_true, and_left, and_right, and_from, le-leb, lt-leb, lt-ltb, le-ltb}
+use Rattle.std.proofs.lemmas.Bool.{cond-true, cond-false, cases_Bool, cases_lt, cases_eq, both_ways, false_from_ne_true, and_left, and_right, le-leb, lt-leb, lt-ltb, le-ltb}
 use Rattle.rbc_spec.specs.SectionRuns.{within, run_of}
 
 -- by what a test says
@@ -31,10 +31,6 @@ few_found test a zero = omega arith
 few_found test a (suc n) = by_test (test a)
     (λ (passes : test a ≡ true). rw (found_kept test a n passes) (omega (arith, few_found test (a + 1) n)))
     (λ (fails : test a ≡ false). rw (found_left test a n fails) (omega (arith, few_found test (a + 1) n)))
-
-within_run : (a count s : ℕ) → a ≤ s → s < a + count → within (record { first = a; count = count }) s ≡ true
-unfolding within
-within_run a count s low high = and_from _ _ (le-leb a s low) (lt-ltb s (a + count) high)
 
 before_run : (a count s : ℕ) → s < a → within (record { first = a; count = count }) s ≡ false
 unfolding within

@@ -37,9 +37,6 @@ module _ (line : Line) (ok : IsLine line) (w : Flow) (v : LineState) (sound : Is
   here : Placed line c t_train t k position
   here = has_place_for line c t_train t k position heard
 
-  abbrev n : Mission
-  n = here.m
-
   abbrev placed : Mission
   placed = record (here.m) { place = here.place }
 

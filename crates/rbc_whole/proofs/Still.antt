@@ -19,7 +19,7 @@ use Rattle.rbc_flow.proofs.Steps.{by_itself}
 use Rattle.rbc_pieces.proofs.InOrder.{none_in_order}
 use Rattle.rbc_whole.specs.Meets.{Meets}
 use Rattle.rbc_whole.proofs.Work.{IsAtWork}
-use Rattle.rbc_whole.proofs.Clocks.{shows_stamped, begun, begun_shown}
+use Rattle.rbc_whole.proofs.Clocks.{shows_stamped, begun_shown}
 use Rattle.rbc_whole.proofs.Silence as silence
 
 module _ (line : Line) (w : World) (v : LineState) (meets : Meets line w v) (c : ℕ) (to : is_centre line c ≡ true) (stamp : ℕ) (trains : List ℕ) where
@@ -28,9 +28,6 @@ module _ (line : Line) (w : World) (v : LineState) (meets : Meets line w v) (c :
 
   abbrev pub k : Centre
   k = step.ticked stamp (w.at c)
-
-  abbrev pub ticking : Flow
-  ticking = begun line (flow_of w) c v stamp at_work
 
   abbrev pub behind : Effect → World
   behind e = in_world w c (state_after stamp (w.at c) e) trains

@@ -1,12 +1,10 @@
 -- Receipts of a train's messages that join a share.
-use Rattle.std.proofs.Common.{◌≡◌, ℕ, List, [], ◌∷◌, ◌++◌, map, length, refl, sym, ap, ◌∙◌, append_assoc, append-nil}
+use Rattle.std.proofs.Common.{◌≡◌, List, [], ◌++◌, map, refl, sym, ap, ◌∙◌, append_assoc, append-nil}
 use Rattle.std.proofs.lemmas.List.{map-append}
-use Rattle.rbc_spec.specs.Outcome.{Outcome}
 use Rattle.rbc_msgs.specs.TrainText.{TrainText}
 use Rattle.rbc_centre.specs.declared.event.Event.{Event}
 use Rattle.rbc_centre.specs.declared.event.Event.TheVariants.{Train}
 use Rattle.rbc_node.specs.Receipts.{ShareValue, Committed, committed_of}
-use Rattle.rbc_node.specs.Node.{CommitsAt}
 use Rattle.rbc_workers.specs.Session.{Joins}
 
 abbrev event_in : Committed → Event
@@ -35,9 +33,3 @@ joins-then r s t ms ns h k =
       receipts = k.receipts ∙ ap (λ xs. xs ++ k.added) h.receipts ∙ append_assoc (map committed_of r.receipts) h.added k.added;
       events = map-append event_in h.added k.added ∙ ap (λ xs. xs ++ map event_in k.added) h.events ∙ ap (λ xs. map said ms ++ xs) k.events ∙ sym (map-append said ms ns);
     }
-
-pub joins-commit : (c : ℕ) (old new : ShareValue) (m : TrainText) (outcome : Outcome) → CommitsAt c old new (Train m) outcome → Joins old new (m ∷ [])
-joins-commit c old new m outcome h =
-    let k = h.3 in
-    let one : Committed = record { event = Train m; outcome = outcome; place = length h.0.entries } in
-    record { centre = k.centre; added = one ∷ []; receipts = k.receipts; events = refl }

@@ -1,5 +1,5 @@
 -- One turn of a session: a piece that came, the messages that are whole with it, and what is left.
-use Rattle.std.proofs.Common.{◌≡◌, ℕ, ◌+◌, List, [], ◌∷◌, ◌++◌, Option, Some, None, Result, Ok, Err, refl, sym, ap, ◌∙◌, subst, append_assoc, append-nil}
+use Rattle.std.proofs.Common.{◌≡◌, ℕ, List, [], ◌∷◌, ◌++◌, Option, Some, None, Result, Ok, Err, refl, sym, ap, ◌∙◌, subst, append_assoc, append-nil}
 use Rattle.std.proofs.lemmas.Option.{none-some, same_Some}
 use Rattle.std.specs.Io.KnownBytes.{Consumes}
 use Rattle.rbc_msgs.specs.TrainText.{TrainText}
@@ -13,7 +13,7 @@ use Rattle.rbc_intake.specs.declared.reading.IntakeEnd.TheVariants as end
 use Rattle.rbc_node.specs.Receipts.{ShareValue}
 use Rattle.rbc_node.specs.declared.fault.ShareFault.{ShareFault}
 use Rattle.rbc_workers.specs.declared.end.SessionEnd.TheVariants.{Refused}
-use Rattle.rbc_workers.specs.Ends.{end_of_intake, EndsSo}
+use Rattle.rbc_workers.specs.Ends.{end_of_intake}
 use Rattle.rbc_workers.specs.Session.{Joins, CommitsAll, Shows, LeavesSo, Serves}
 use Rattle.rbc_workers.proofs.Joins.{joins-then}
 
@@ -103,17 +103,6 @@ serves-refused c old mid new read kept piece done messages after result fault be
       joins = joins-then old mid new done these joins h.4;
       leaves = (refused.0, refused.1, next, refused.2, refused.3, h.5);
     }
-
--- the source and its failed reads
-pub ends-so : (left : Option (List ℕ)) (first old new : ℕ) (e : IntakeEnd) → old ≡ first → intake.EndsSo left old new (Err e) → EndsSo left first new (end_of_intake e)
-ends-so left first old new end.EndOfStream same h = (h.0 ∙ same, h.1)
-ends-so left first old new end.Device same h = h ∙ ap (λ n. n + 1) same
-ends-so left first old new (end.Fault fault) same h = h ∙ same
-
--- no byte was read
-pub consumes-none : (left : Option (List ℕ)) → Consumes left left []
-consumes-none None = tt
-consumes-none (Some xs) = refl
 
 -- bytes that were read one behind another
 pub consumes-then : (a b c : Option (List ℕ)) (xs ys : List ℕ) → Consumes a b xs → Consumes b c ys → Consumes a c (xs ++ ys)

@@ -126,9 +126,6 @@ trains_shown line w missions trains seen = record {
 
 -- ## Rows of what is shown
 
-pub none_yet : {X : Type 0} (P : ℕ → X → Type 0) (xs : List X) → xs ≡ [] → EachOf P 0 xs
-none_yet P xs e = record { count = ap length e; each = λ i x at. let never : None ≡ Some x = sym (ap (λ (ys : List _). slice_get ys i) e) ∙ at in cc }
-
 placed : {X : Type 0} (P : ℕ → X → Type 0) (xs : List X) (x : X) → ((i : ℕ) (y : X) → slice_get xs i ≡ Some y → P i y) → P (length xs) x → (i : ℕ) (y : X) → slice_get (xs ++ x ∷ []) i ≡ Some y → P i y
 placed P [] x each p zero y at = let is : x ≡ y = cc in subst (P 0) is p
 placed P [] x each p (suc i) y at = cc

@@ -96,10 +96,6 @@ told_err line cs trains event c k new at within of_line of_number each fault s =
     rw (told_within line (stands_for line cs trains) cs c event each within)
     (step_err line cs trains event c k new at within of_line of_number (stands_for line cs trains).trains fault s)
 
-pub told_past : (line : Line) (w : World) (cs : List Centre) (c : ℕ) (event : step.Event) → length cs ≡ length line.centres → length cs ≤ c
-    → told_at line w c (takes line w c w.trains event) ≡ Ok (NoCentre, w)
-told_past line w cs c event each past = rw (is_centre_past line cs c each past) refl
-
 pub set_told : (line : Line) (w : World) (c s : ℕ) → world_step line w (Set c s) ≡ told_at line w c (takes line w c w.trains (step.Set s))
 unfolding world_step
 set_told line w c s = refl

@@ -1,6 +1,6 @@
 //! Laws of rules, and of the wrong rules beside them.
 
-ghost use Rattle.std.specs.Prelude.{◌≡◌, ◌≢◌, ◌⊎◌, ℕ, Bool, true, false, Some};
+ghost use Rattle.std.specs.Prelude.{◌≡◌, ◌≢◌, ◌⊎◌, ℕ, true, false, Some};
 ghost use Rattle.rbc_ledger.specs.Network.{took, TakesHead, IsCounted};
 ghost use Rattle.rbc_ledger.specs.Resource.{IsWithinCap};
 ghost use Rattle.rbc_spec.specs.SectionRuns.{SectionRun, all_of};
