@@ -7,7 +7,7 @@ use Rattle.rbc_spec.specs.SectionRuns.{SectionRun, all_of}
 use Rattle.rbc_spec.specs.Line.{Line, Section, section, is_linked, next_centre}
 use Rattle.rbc_spec.specs.Centre.{Centre, is_out_for}
 use Rattle.rbc_spec.specs.Links.{may_arrive}
-use Rattle.rbc_lemmas.proofs.Lists.{each_of}
+use Rattle.law_base.proofs.Lists.{each_of}
 
 -- one section that fails a test is enough
 pub one_fails : (test : ℕ → Bool) (r : SectionRun) (s : ℕ) → r.first ≤ s → s < r.first + r.count → test s ≡ false → all_of test r ≡ false

@@ -11,8 +11,8 @@ use Rattle.rbc_spec.specs.Centre.{Centre, Mission}
 use Rattle.rbc_spec.specs.Acts.{Reply, ◌>>◌, become, rest, send, change_mission, returned, return_pool, ask_route, propose_if_so}
 use Rattle.rbc_spec.specs.Rules.{choose, ask_route_if_due}
 use Rattle.rbc_spec.specs.Links.{is_of_line, is_wanted, route_told, route_withdrawn}
-use Rattle.rbc_lemmas.proofs.Puts.{put_same}
-use Rattle.rbc_lemmas.proofs.Runs.{same_run, within_true}
+use Rattle.law_base.proofs.Puts.{put_same}
+use Rattle.law_base.proofs.Runs.{same_run, within_true}
 use Rattle.rbc_hand.specs.Tokens.{Name}
 use Rattle.rbc_hand.specs.Hands.{Holding}
 use Rattle.rbc_hand.specs.SectionRuns.{run_of}

@@ -16,10 +16,10 @@ use Rattle.rbc_line.specs.Views.{placed_section}
 use Rattle.rbc_line.specs.declared.parts.Section.{Section as SectionRow}
 use Rattle.rbc_hand.specs.SectionRuns.{run_of}
 use Rattle.rbc_hand.specs.declared.section_run.SectionRun.{SectionRun as SectionRunCode}
-use Rattle.rbc_lemmas.proofs.Lists.{each_of}
-use Rattle.rbc_lemmas.proofs.Lines.{on_line}
-use Rattle.rbc_lemmas.proofs.Runs.{within_true, within_from, within_shared, same_tests, run_only, some_count}
-use Rattle.rbc_lemmas.proofs.Longest.{longest_is, longest_few, longest_each}
+use Rattle.law_base.proofs.Lists.{each_of}
+use Rattle.law_base.proofs.Lines.{on_line}
+use Rattle.law_base.proofs.Runs.{within_true, within_from, within_shared, same_tests, run_only, some_count}
+use Rattle.law_base.proofs.Longest.{longest_is, longest_few, longest_each}
 use Rattle.rbc_border.specs.Homes.{is_of}
 use Rattle.rbc_border.proofs.Lists.{both_all}
 use Rattle.rbc_border.proofs.Longest.{full}

@@ -12,13 +12,13 @@ use Rattle.rbc_spec.specs.Maps.{has as has_section}
 use Rattle.rbc_spec.specs.Acts.{◌>>◌, rest, send, booked}
 use Rattle.rbc_spec.specs.Links.{route_asked, lendable}
 use Rattle.rbc_line.specs.declared.parts.Section.{Section as SectionRow}
-use Rattle.rbc_lemmas.proofs.Puts.{itself}
-use Rattle.rbc_lemmas.proofs.Longest.{longest_few}
+use Rattle.law_base.proofs.Puts.{itself}
+use Rattle.law_base.proofs.Longest.{longest_few}
 use Rattle.rbc_book.specs.Book.{Pages, is_own, entry_at, wish_at}
 use Rattle.rbc_book.specs.Claim.{section_of, train_of, claim_on, claim_if, is_taken_by}
 use Rattle.rbc_book.specs.declared.claim.Claim.{Claim}
 use Rattle.rbc_hand.specs.Hands.{one}
-use Rattle.rbc_claims.proofs.Runs.{within_one, within_none, within_more}
+use Rattle.rbc_allocation.proofs.Runs.{within_one, within_none, within_more}
 use Rattle.rbc_border.specs.Homes.{is_of}
 use Rattle.rbc_border.specs.Lending.{LendsRun, HasBook, with_book}
 use Rattle.rbc_border.proofs.Lists.{none_chosen}

@@ -3,8 +3,8 @@ use Rattle.std.proofs.Common.{◌≡◌, ℕ, zero, suc, ◌+◌, ◌<◌, ◌�
 use Rattle.std.specs.List.{list_all, range_with_len}
 use Rattle.std.proofs.lemmas.Bool.{cases_Bool, ne_eqb, eqb-true, eq-eqb}
 use Rattle.rbc_spec.specs.SectionRuns.{longest}
-use Rattle.rbc_lemmas.proofs.Runs.{within_true, same_tests}
-use Rattle.rbc_lemmas.proofs.Longest.{longest_is, longest_only}
+use Rattle.law_base.proofs.Runs.{within_true, same_tests}
+use Rattle.law_base.proofs.Longest.{longest_is, longest_only}
 
 -- so many sections from the first on pass
 pub record HasPassed (test : ℕ → Bool) (from k : ℕ) : Type 0 where

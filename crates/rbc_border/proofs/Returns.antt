@@ -10,17 +10,17 @@ use Rattle.rbc_spec.specs.Line.{Line, is_home}
 use Rattle.rbc_spec.specs.Outcome.{Told}
 use Rattle.rbc_spec.specs.Centre.{Centre, Shut, Open, Taken, is_taken_for, is_out_for}
 use Rattle.rbc_spec.specs.Acts.{freed}
-use Rattle.rbc_lemmas.proofs.Puts.{itself}
-use Rattle.rbc_lemmas.proofs.Runs.{within_from, within_behind}
+use Rattle.law_base.proofs.Puts.{itself}
+use Rattle.law_base.proofs.Runs.{within_from, within_behind}
 use Rattle.rbc_book.specs.Book.{Pages, is_own, entry_at, wish_at}
 use Rattle.rbc_book.specs.Claim.{section_of, claim_on, claim_if, is_taken_by}
 use Rattle.rbc_book.specs.declared.claim.Claim.{Claim}
 use Rattle.rbc_book.proofs.Pages.{foreign_is_shut}
 use Rattle.rbc_hand.specs.Hands.{one}
-use Rattle.rbc_claims.specs.Marks.{marked}
-use Rattle.rbc_claims.proofs.Backs.{back_to, entry_then, wish_then, entry_twice, wish_twice}
-use Rattle.rbc_claims.proofs.Marks.{marked-more, more_in_range}
-use Rattle.rbc_claims.proofs.Runs.{within_one, within_none, within_more}
+use Rattle.rbc_allocation.specs.Marks.{marked}
+use Rattle.rbc_allocation.proofs.Backs.{back_to, entry_then, wish_then, entry_twice, wish_twice}
+use Rattle.rbc_allocation.proofs.Marks.{marked-more, more_in_range}
+use Rattle.rbc_allocation.proofs.Runs.{within_one, within_none, within_more}
 use Rattle.rbc_border.specs.Lending.{BringsBack, is_lent, told_back, telling, HasBook, with_book}
 use Rattle.rbc_border.proofs.Lists.{and_true, and_false, filter_same, none_chosen}
 use Rattle.rbc_border.proofs.Loans.{Writes}

@@ -4,7 +4,7 @@ use Rattle.std.proofs.lemmas.Bool.{cases_Bool}
 use Rattle.rbc_spec.specs.Line.{Line, is_home}
 use Rattle.rbc_spec.specs.Sections.{section_count}
 use Rattle.rbc_spec.specs.Centre.{Centre, is_used_for, uses_some}
-use Rattle.rbc_lemmas.proofs.Lists.{any-range, any-range_none}
+use Rattle.law_base.proofs.Lists.{any-range, any-range_none}
 use Rattle.rbc_book.specs.Book.{Pages, entry_at}
 use Rattle.rbc_book.proofs.Pages.{foreign_is_shut}
 use Rattle.rbc_border.specs.Lending.{HasBook}

@@ -11,7 +11,7 @@ ghost use Rattle.rbc_spec.specs.Links as links;
 ghost use Rattle.rbc_hand.specs.Tokens.{Name};
 ghost use Rattle.rbc_hand.specs.Hands.{run};
 ghost use Rattle.rbc_hand.specs.SectionRuns.{run_of};
-ghost use Rattle.rbc_claims.specs.Sections.{next_of, rest_of};
+ghost use Rattle.rbc_allocation.specs.Sections.{next_of, rest_of};
 ghost use Rattle.rbc_border.specs.Homes.{is_of};
 ghost use Rattle.rbc_border.specs.Lending.{sending};
 

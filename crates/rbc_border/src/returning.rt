@@ -7,8 +7,8 @@ ghost use Rattle.rbc_hand.specs.Hands.{one};
 ghost use Rattle.rbc_hand.specs.SectionRuns.{run_of};
 ghost use Rattle.rbc_border.specs.Lending.{HasBook, with_book, BringsBack, told_back, telling};
 
+use rbc_allocation::Told;
 use rbc_book::{Back, Book};
-use rbc_claims::Told;
 use rbc_hand::SectionRun;
 
 // Brings a section back, where it is out so. Whether the interlocking is to be told.

@@ -3,9 +3,9 @@ use Rattle.std.proofs.Common.{◌≡◌, Bool, List, [], ◌∷◌, map, ap, ref
 use Rattle.std.specs.Bool.{Decides}
 use Rattle.std.specs.Cmp.Lexicographic.{pointwise}
 use Rattle.std.proofs.lemmas.Slice.Eq.{slice_eq-Decides}
-use Rattle.rbc_rules.specs.Sayings.{saying_of}
+use Rattle.rbc_train.specs.Sayings.{saying_of}
 use Rattle.rbc_centre.specs.Views.{word_of}
-use Rattle.rbc_rules.specs.declared.saying.Saying.{Saying}
+use Rattle.rbc_train.specs.declared.saying.Saying.{Saying}
 use Rattle.rbc_centre.specs.declared.outcome.Word.{Word}
 use Rattle.rbc_centre.specs.declared.outcome.Word.TheVariants.{Done, Asked, NotHome, Told}
 

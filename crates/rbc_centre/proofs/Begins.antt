@@ -24,12 +24,12 @@ use Rattle.rbc_right.specs.Rights.{Rights, is_here}
 use Rattle.rbc_session.specs.Sessions.{Records, phase_at}
 use Rattle.rbc_session.specs.SessionStates.{session_phase}
 use Rattle.rbc_hand.specs.Hands.{Holding}
-use Rattle.rbc_claims.specs.Sections.{IsHeldAt}
-use Rattle.rbc_rules.specs.SessionStates.{Stands}
-use Rattle.rbc_rules.specs.Trains.{unknown_state}
+use Rattle.rbc_allocation.specs.Sections.{IsHeldAt}
+use Rattle.rbc_train.specs.SessionStates.{Stands}
+use Rattle.rbc_train.specs.Trains.{unknown_state}
 use Rattle.rbc_centre.specs.State.{stands_for, of_trains, right_at, IsOfTrain, IsUnknown}
 use Rattle.rbc_centre.specs.declared.desk.Desk.{Desk}
-use Rattle.rbc_rules.specs.declared.train.TrainState.{TrainState}
+use Rattle.rbc_train.specs.declared.train.TrainState.{TrainState}
 
 pub slice_get-last : {X : Type 0} (xs : List X) (x : X) → slice_get (xs ++ x ∷ []) (length xs) ≡ Some x
 slice_get-last [] x = refl

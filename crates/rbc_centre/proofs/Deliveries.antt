@@ -9,8 +9,8 @@ use Rattle.rbc_spec.specs.Acts.{Act, Reply, become, rest, ◌>>◌}
 use Rattle.rbc_spec.specs.Step as step
 use Rattle.rbc_spec.specs.Step.{Deliver, offered}
 use Rattle.rbc_spec.specs.Links.{received}
-use Rattle.rbc_lemmas.proofs.Puts.{put_same}
-use Rattle.rbc_sound.proofs.Ranges.{range_hand}
+use Rattle.law_base.proofs.Puts.{put_same}
+use Rattle.law_centre_sound.proofs.Ranges.{range_hand}
 use Rattle.rbc_book.specs.Book.{Pages}
 use Rattle.rbc_link.specs.declared.link.Link.{Link}
 use Rattle.rbc_link.specs.declared.sent.Sent.{Sent}
@@ -22,11 +22,11 @@ use Rattle.rbc_linkmsg.specs.Bodies.{body_of, engine_in}
 use Rattle.rbc_linkmsg.specs.declared.body.Body.{Body as BodyCode}
 use Rattle.rbc_right.specs.Rights.{Rights}
 use Rattle.rbc_handover.specs.Expectations.{expected_from}
-use Rattle.rbc_rules.specs.Desk.{HasParts, KeepsTrain, KeepsDesk, with_parts, reply_left}
-use Rattle.rbc_rules.specs.Letters.{mail_to}
-use Rattle.rbc_rules.specs.Sayings.{told_train}
-use Rattle.rbc_rules.specs.declared.heard.Heard.{Heard}
-use Rattle.rbc_rules.specs.declared.train.TrainState.{TrainState}
+use Rattle.rbc_train.specs.Desk.{HasParts, KeepsTrain, KeepsDesk, with_parts, reply_left}
+use Rattle.rbc_train.specs.Letters.{mail_to}
+use Rattle.rbc_train.specs.Sayings.{told_train}
+use Rattle.rbc_train.specs.declared.heard.Heard.{Heard}
+use Rattle.rbc_train.specs.declared.train.TrainState.{TrainState}
 use Rattle.rbc_centre.specs.Posts.{MayPost}
 use Rattle.rbc_centre.specs.State.{stands_for}
 use Rattle.rbc_centre.specs.States.{state_of}

@@ -4,9 +4,9 @@ use Rattle.rbc_spec.specs.SectionRuns.{SectionRun, within, is_empty}
 use Rattle.rbc_spec.specs.Line.{Line, IsLine, is_home}
 use Rattle.rbc_spec.specs.Centre.{beginning}
 use Rattle.rbc_spec.specs.Acts.{returned}
-use Rattle.rbc_local.proofs.Ordered.{is_ordered}
-use Rattle.rbc_local.proofs.Simple.{all_home, none_returned}
-use Rattle.rbc_rules.specs.Letters.{going_home}
+use Rattle.law_local.proofs.Ordered.{is_ordered}
+use Rattle.law_local.proofs.Simple.{all_home, none_returned}
+use Rattle.rbc_train.specs.Letters.{going_home}
 
 pub none_goes : (line : Line) (c t track : ℕ) (r : SectionRun) (d : ℕ) → IsLine line → ((s : ℕ) → within r s ≡ true → is_home line c s ≡ true) → going_home line c t track r d ≡ []
 none_goes line c t track r d ok home = by (is_empty r)

@@ -9,15 +9,15 @@ use Rattle.rbc_spec.specs.Centre as centre
 use Rattle.rbc_spec.specs.Centre.{Mission}
 use Rattle.rbc_spec.specs.Step as step
 use Rattle.rbc_spec.specs.Step.{Event}
-use Rattle.rbc_lemmas.proofs.Lines.{on_line}
-use Rattle.rbc_lemmas.proofs.Runs.{within_from}
-use Rattle.rbc_local.specs.Local.{IsOrdered}
-use Rattle.rbc_local.proofs.Ordered.{is_ordered}
-use Rattle.rbc_flow.specs.Sound.{IsCentreSound}
-use Rattle.rbc_sound.specs.Stays.{IsInRange}
-use Rattle.rbc_sound.proofs.Events.{stays_sound}
-use Rattle.rbc_ranges.specs.Ranges.{HasEventRanges, HasStateRanges, IsSentInRange}
-use Rattle.rbc_ranges.proofs.Steps.{stays_in_range}
+use Rattle.law_base.proofs.Lines.{on_line}
+use Rattle.law_base.proofs.Runs.{within_from}
+use Rattle.law_local.specs.Local.{IsOrdered}
+use Rattle.law_local.proofs.Ordered.{is_ordered}
+use Rattle.law_network.specs.Sound.{IsCentreSound}
+use Rattle.law_centre_sound.specs.Stays.{IsInRange}
+use Rattle.law_centre_sound.proofs.Events.{stays_sound}
+use Rattle.law_ranges.specs.Ranges.{HasEventRanges, HasStateRanges, IsSentInRange}
+use Rattle.law_ranges.proofs.Steps.{stays_in_range}
 use Rattle.rbc_mission.specs.Supervisions.{HasRouteForm}
 use Rattle.rbc_centre.specs.Ranges.{AreSent-prop}
 

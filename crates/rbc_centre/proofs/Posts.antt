@@ -11,7 +11,7 @@ use Rattle.rbc_spec.specs.Frame as spec
 use Rattle.rbc_spec.specs.Frame.{RouteReturn}
 use Rattle.rbc_spec.specs.Centre as centre
 use Rattle.rbc_spec.specs.Step.{has_full_link, numbered}
-use Rattle.rbc_lemmas.proofs.Lists.{any-range}
+use Rattle.law_base.proofs.Lists.{any-range}
 use Rattle.rbc_book.specs.Book.{Pages}
 use Rattle.rbc_link.specs.declared.link.Link.{Link}
 use Rattle.rbc_link.specs.Links.{has_link, sent_to, room_to}
@@ -20,19 +20,19 @@ use Rattle.rbc_link.specs.Posted.{HasPosted}
 use Rattle.rbc_link.proofs.Posted.{posted_none, posted_count, posted_join, numbered_append}
 use Rattle.rbc_linkmsg.specs.Bodies.{body_of}
 use Rattle.rbc_linkmsg.specs.declared.body.Body.{Body}
-use Rattle.rbc_ranges.specs.Ranges.{IsSentInRange}
+use Rattle.law_ranges.specs.Ranges.{IsSentInRange}
 use Rattle.rbc_centre.specs.declared.desk.Desk.{Desk}
 use Rattle.rbc_hand.specs.SectionRuns.{run_of}
 use Rattle.rbc_hand.specs.declared.section_run.SectionRun.{SectionRun as SectionRunCode}
 use Rattle.rbc_spec.specs.Centre.{Expectation}
 use Rattle.std.specs.Option.{option_map_or}
 use Rattle.rbc_handover.specs.Expectations.{is_told}
-use Rattle.rbc_rules.specs.Letters.{letters, notices, going_home, mail_to}
-use Rattle.rbc_rules.specs.declared.mail.Notice.{Notice}
-use Rattle.rbc_rules.specs.declared.mail.Notice.TheVariants as notice
-use Rattle.rbc_rules.specs.declared.letter.Letter.{Letter}
-use Rattle.rbc_rules.specs.declared.mail.Mail.{Mail}
-use Rattle.rbc_rules.specs.declared.train.TrainState.{TrainState}
+use Rattle.rbc_train.specs.Letters.{letters, notices, going_home, mail_to}
+use Rattle.rbc_train.specs.declared.mail.Notice.{Notice}
+use Rattle.rbc_train.specs.declared.mail.Notice.TheVariants as notice
+use Rattle.rbc_train.specs.declared.letter.Letter.{Letter}
+use Rattle.rbc_train.specs.declared.mail.Mail.{Mail}
+use Rattle.rbc_train.specs.declared.train.TrainState.{TrainState}
 use Rattle.rbc_centre.specs.Posts.{MayPost, IsFit, HasSent, only}
 use Rattle.rbc_centre.specs.Listed.{frames_in}
 use Rattle.rbc_centre.specs.State.{stands_for}

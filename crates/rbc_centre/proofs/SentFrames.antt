@@ -4,7 +4,7 @@ use Rattle.std.proofs.lemmas.List.Elements.{All-nil, All-cons, All-append, All-h
 use Rattle.rbc_spec.specs.Frame as spec
 use Rattle.rbc_spec.specs.Frame.{HasBodyRange, HasFrameRanges}
 use Rattle.rbc_spec.specs.Step.{numbered}
-use Rattle.rbc_lemmas.proofs.Lists.{each_at}
+use Rattle.law_base.proofs.Lists.{each_at}
 use Rattle.rbc_link.specs.declared.link.Link.{Link}
 use Rattle.rbc_link.specs.declared.sent.Sent.{Sent}
 use Rattle.rbc_link.specs.Links.{sent_to}

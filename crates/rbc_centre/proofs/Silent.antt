@@ -9,7 +9,7 @@ use Rattle.rbc_spec.specs.Centre.{Centre, Closed, Opened, is_taken_for}
 use Rattle.rbc_spec.specs.Acts.{Act, Reply, rest, ◌>>◌, become, freed, hear, say, change_mission}
 use Rattle.rbc_spec.specs.Rules.{answered, drop_wait, close_session, set_phase}
 use Rattle.rbc_spec.specs.Step.{Effect, Train, effect, silence, hear_and_answer}
-use Rattle.rbc_rules.specs.Letters.{tells_others}
+use Rattle.rbc_train.specs.Letters.{tells_others}
 
 module _ (d : ℕ) where
   by_reply : {X : Type 0} (o : Option X) (f : X → Reply) (r : Reply) → ((x : X) → (f x).frames d ≡ []) → r.frames d ≡ [] → (option_map_or f o r).frames d ≡ []

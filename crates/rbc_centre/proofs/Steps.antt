@@ -21,7 +21,7 @@ use Rattle.rbc_link.proofs.Posted.{posted_none}
 use Rattle.rbc_linkmsg.specs.Bodies.{body_of}
 use Rattle.rbc_linkmsg.specs.declared.body.Body.{Body}
 use Rattle.rbc_centre.specs.declared.desk.Desk.{Desk}
-use Rattle.rbc_rules.specs.declared.train.TrainState.{TrainState}
+use Rattle.rbc_train.specs.declared.train.TrainState.{TrainState}
 use Rattle.rbc_centre.specs.Answer.{IsRefusal, IsRefusalOf}
 use Rattle.rbc_centre.specs.State.{stands_for}
 use Rattle.rbc_centre.specs.Views.{event_of}

@@ -5,17 +5,17 @@ use Rattle.rbc_spec.specs.Maps.{put}
 use Rattle.rbc_spec.specs.Line.{Line, IsLine, is_home, train_number}
 use Rattle.rbc_spec.specs.Centre as centre
 use Rattle.rbc_book.specs.Book.{Pages, is_own, entry_at, wish_at}
-use Rattle.rbc_flow.specs.Sound.{IsCentreSound}
+use Rattle.law_network.specs.Sound.{IsCentreSound}
 use Rattle.rbc_link.specs.declared.link.Link.{Link}
 use Rattle.rbc_linkmsg.specs.declared.body.Body.{Body}
-use Rattle.rbc_ranges.specs.Ranges.{HasStateRanges}
+use Rattle.law_ranges.specs.Ranges.{HasStateRanges}
 use Rattle.rbc_handover.specs.Expectations.{expected_from}
 use Rattle.rbc_handover.specs.Giving.{with_count}
 use Rattle.rbc_right.specs.Rights.{Rights, is_here}
 use Rattle.rbc_session.specs.Sessions.{Records}
 use Rattle.rbc_session.specs.SessionStates.{session_phase}
-use Rattle.rbc_rules.specs.Desk.{IsKeptAt, HasParts, KeepsTrain, KeepsDesk, with_parts}
-use Rattle.rbc_rules.specs.declared.train.TrainState.{TrainState}
+use Rattle.rbc_train.specs.Desk.{IsKeptAt, HasParts, KeepsTrain, KeepsDesk, with_parts}
+use Rattle.rbc_train.specs.declared.train.TrainState.{TrainState}
 use Rattle.rbc_centre.specs.State.{stands_for, of_trains, IsOfTrain}
 use Rattle.rbc_centre.specs.declared.desk.Desk.{Desk}
 use Rattle.rbc_centre.proofs.Kept.{ordered_line, route_form}

@@ -12,9 +12,9 @@ use Rattle.rbc_spec.specs.Centre.{Expectation}
 use Rattle.rbc_spec.specs.Step as step
 use Rattle.rbc_spec.specs.Step.{Event, Train, Set, Unset, Effect, numbered}
 use Rattle.rbc_spec.specs.Message.{TrainMessage}
-use Rattle.rbc_flow.specs.Sound.{IsCentreSound}
-use Rattle.rbc_sound.specs.Stays.{IsInRange}
-use Rattle.rbc_ranges.specs.Ranges.{HasMessageRanges, HasEventRanges, HasStateRanges, IsSentInRange}
+use Rattle.law_network.specs.Sound.{IsCentreSound}
+use Rattle.law_centre_sound.specs.Stays.{IsInRange}
+use Rattle.law_ranges.specs.Ranges.{HasMessageRanges, HasEventRanges, HasStateRanges, IsSentInRange}
 use Rattle.rbc_book.specs.Book.{Pages, is_own}
 use Rattle.rbc_link.specs.declared.link.Link.{Link}
 use Rattle.rbc_link.specs.declared.sent.Sent.{Sent}
@@ -27,13 +27,13 @@ use Rattle.rbc_right.specs.Rights.{Rights}
 use Rattle.rbc_handover.specs.Expectations.{expected_from}
 use Rattle.rbc_handover.specs.Giving.{with_count}
 use Rattle.rbc_centre.specs.declared.desk.Desk.{Desk}
-use Rattle.rbc_rules.specs.Desk.{IsKeptAt, HasParts, KeepsTrain, KeepsDesk, with_parts, effect_left}
-use Rattle.rbc_rules.specs.Letters.{tells_others, mail_to}
-use Rattle.rbc_rules.specs.Sayings.{told_train}
-use Rattle.rbc_rules.specs.declared.mail.Mail.{Mail}
-use Rattle.rbc_rules.specs.declared.heard.Heard.{Heard}
-use Rattle.rbc_rules.specs.declared.reason.Reason.{Reason as ReasonCode}
-use Rattle.rbc_rules.specs.declared.train.TrainState.{TrainState}
+use Rattle.rbc_train.specs.Desk.{IsKeptAt, HasParts, KeepsTrain, KeepsDesk, with_parts, effect_left}
+use Rattle.rbc_train.specs.Letters.{tells_others, mail_to}
+use Rattle.rbc_train.specs.Sayings.{told_train}
+use Rattle.rbc_train.specs.declared.mail.Mail.{Mail}
+use Rattle.rbc_train.specs.declared.heard.Heard.{Heard}
+use Rattle.rbc_train.specs.declared.reason.Reason.{Reason as ReasonCode}
+use Rattle.rbc_train.specs.declared.train.TrainState.{TrainState}
 use Rattle.rbc_centre.specs.Posts.{MayPost}
 use Rattle.rbc_centre.specs.Rooms.{HasFrameRoom}
 use Rattle.rbc_centre.specs.Ranges.{AreInRange-prop}

@@ -9,9 +9,9 @@ use Rattle.rbc_spec.specs.Centre.{Entry, Shut, Open, Taken, Out, is_unused, is_t
 use Rattle.rbc_spec.specs.Frame.{RouteWithdraw}
 use Rattle.rbc_spec.specs.Acts.{propose_if_so, ◌>>◌}
 use Rattle.rbc_spec.specs.Step as step
-use Rattle.rbc_local.specs.Local.{hand_has}
-use Rattle.rbc_flow.specs.Counts.{wait_has}
-use Rattle.rbc_flow.specs.Sound.{IsCentreSound}
+use Rattle.law_local.specs.Local.{hand_has}
+use Rattle.law_network.specs.Counts.{wait_has}
+use Rattle.law_network.specs.Sound.{IsCentreSound}
 use Rattle.rbc_book.specs.Book.{Pages, is_own, entry_at, wish_at}
 use Rattle.rbc_book.specs.Answers.{unset_answer}
 use Rattle.rbc_book.specs.Entries.{entry_of}
@@ -23,12 +23,12 @@ use Rattle.rbc_link.specs.declared.link.Link.{Link}
 use Rattle.rbc_linkmsg.specs.declared.body.Body.{Body}
 use Rattle.rbc_centre.specs.declared.desk.Desk.{Desk}
 use Rattle.rbc_session.specs.SessionStates.{session_phase}
-use Rattle.rbc_rules.specs.Tellings.{wishing}
-use Rattle.rbc_rules.proofs.Tellings.{shut_at_once, asked_of_taken, left_at_unset, opened_at_once, kept_in_use, left_at_set}
-use Rattle.rbc_rules.specs.Trains.{asked, HasTrain}
+use Rattle.rbc_train.specs.Tellings.{wishing}
+use Rattle.rbc_train.proofs.Tellings.{shut_at_once, asked_of_taken, left_at_unset, opened_at_once, kept_in_use, left_at_set}
+use Rattle.rbc_train.specs.Trains.{asked, HasTrain}
 use Rattle.rbc_centre.specs.State.{stands_for, of_trains}
-use Rattle.rbc_rules.specs.declared.train.TrainState.{TrainState}
-use Rattle.rbc_lemmas.proofs.Puts.{put_same}
+use Rattle.rbc_train.specs.declared.train.TrainState.{TrainState}
+use Rattle.law_base.proofs.Puts.{put_same}
 use Rattle.rbc_handover.specs.Expectations.{expected_from}
 use Rattle.rbc_centre.specs.declared.centre.Centre.{Centre as CentreCode}
 use Rattle.rbc_centre.proofs.States.{of_trains-set, part_of_train, part_of_foreign, number_within}

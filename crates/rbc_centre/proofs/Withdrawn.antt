@@ -9,8 +9,8 @@ use Rattle.rbc_book.specs.Book.{Pages, is_own, entry_at, wish_at}
 use Rattle.rbc_link.specs.Links.{HasRoom}
 use Rattle.rbc_linkmsg.specs.declared.body.Body.TheVariants.{RouteWithdraw}
 use Rattle.rbc_linkmsg.specs.Bodies.{body_of}
-use Rattle.rbc_rules.specs.Letters.{letters}
-use Rattle.rbc_rules.specs.declared.letter.Letter.{Letter}
+use Rattle.rbc_train.specs.Letters.{letters}
+use Rattle.rbc_train.specs.declared.letter.Letter.{Letter}
 use Rattle.std.proofs.lemmas.List.Elements.{All-head}
 use Rattle.rbc_centre.specs.Posts.{MayPost, IsFit}
 use Rattle.rbc_centre.specs.State.{stands_for}

@@ -3,7 +3,7 @@ use Rattle.std.specs.Prelude.{◌≡◌, ◌⊎◌, ℕ, true, Option, Some, Res
 use Rattle.rbc_spec.specs.Message.{InitiationOfSession}
 use Rattle.rbc_spec.specs.Centre.{Centre, Out}
 use Rattle.rbc_spec.specs.Step as step
-use Rattle.rbc_rules.specs.Letters.{tells_others}
+use Rattle.rbc_train.specs.Letters.{tells_others}
 use Rattle.rbc_centre.specs.declared.fault.StepFault.{StepFault}
 use Rattle.rbc_centre.specs.declared.fault.StepFault.TheVariants.{Memory, LinkFull, ClockEnd}
 

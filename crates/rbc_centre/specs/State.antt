@@ -7,17 +7,17 @@ use Rattle.rbc_book.specs.Book.{Pages, entry_at, wish_at}
 use Rattle.rbc_right.specs.Rights.{Rights, is_here}
 use Rattle.rbc_session.specs.Sessions.{Records}
 use Rattle.rbc_session.specs.SessionStates.{session_phase}
-use Rattle.rbc_wait.specs.Waits.{IsCovered}
+use Rattle.rbc_pending_start.specs.Waits.{IsCovered}
 use Rattle.rbc_handover.specs.Expectations.{expected_from}
 use Rattle.rbc_link.specs.declared.link.Link.{Link}
 use Rattle.rbc_link.specs.Links.{sent_to, taken_from}
 use Rattle.rbc_link.specs.Outgoing.{frames_by}
 use Rattle.rbc_linkmsg.specs.Bodies.{body_of}
 use Rattle.rbc_linkmsg.specs.declared.body.Body.{Body}
-use Rattle.rbc_rules.specs.Desk.{IsHeld}
-use Rattle.rbc_rules.specs.SessionStates.{Stands}
-use Rattle.rbc_rules.specs.declared.train.TrainState.{TrainState}
-use Rattle.rbc_rules.specs.Trains.{unknown_state}
+use Rattle.rbc_train.specs.Desk.{IsHeld}
+use Rattle.rbc_train.specs.SessionStates.{Stands}
+use Rattle.rbc_train.specs.declared.train.TrainState.{TrainState}
+use Rattle.rbc_train.specs.Trains.{unknown_state}
 use Rattle.rbc_centre.specs.declared.desk.Desk.{Desk}
 
 -- what is kept of a train of the line

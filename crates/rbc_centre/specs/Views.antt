@@ -6,14 +6,14 @@ use Rattle.rbc_spec.specs.Outcome.{Outcome}
 use Rattle.rbc_spec.specs.Outcome as spec
 use Rattle.rbc_spec.specs.Step as step
 use Rattle.rbc_msgs.specs.StepMessage.{step_message}
-use Rattle.rbc_rules.specs.Reasons.{reason_of}
-use Rattle.rbc_rules.specs.Sayings.{saying_of, told_train}
-use Rattle.rbc_rules.specs.declared.heard.Heard.{Heard}
+use Rattle.rbc_train.specs.Reasons.{reason_of}
+use Rattle.rbc_train.specs.Sayings.{saying_of, told_train}
+use Rattle.rbc_train.specs.declared.heard.Heard.{Heard}
 use Rattle.rbc_centre.specs.declared.event.Event.{Event}
 use Rattle.rbc_centre.specs.declared.event.Event.TheVariants.{Train, Set, Unset, Deliver}
 use Rattle.rbc_centre.specs.declared.fault.StepFault.{StepFault}
 use Rattle.rbc_centre.specs.declared.fault.StepFault.TheVariants as fault
-use Rattle.rbc_rules.specs.declared.reason.Reason.{Reason as ReasonCode}
+use Rattle.rbc_train.specs.declared.reason.Reason.{Reason as ReasonCode}
 use Rattle.rbc_centre.specs.declared.link_answer.LinkAnswer.{LinkAnswer}
 use Rattle.rbc_centre.specs.declared.link_answer.LinkAnswer.TheVariants as link
 use Rattle.rbc_centre.specs.Sent.{frames_to}

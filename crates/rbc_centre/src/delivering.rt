@@ -14,7 +14,7 @@ use crate::link_answer::LinkAnswer;
 use crate::outcome::Outcome;
 use crate::posted::post;
 use rbc_linkmsg::Frame;
-use rbc_rules::Heard;
+use rbc_train::Heard;
 use std::alloc::AllocError;
 use std::cmp::max;
 

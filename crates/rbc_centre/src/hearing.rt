@@ -9,8 +9,8 @@ ghost use Rattle.rbc_msgs.specs.StepMessage.{step_message};
 ghost use Rattle.rbc_msgs.specs.declared.train_body.TrainBody.TheVariants.{InitiationOfSession};
 ghost use Rattle.rbc_session.specs.Sessions as sessions;
 ghost use Rattle.rbc_link.specs.Links as links;
-ghost use Rattle.rbc_ranges.specs.Ranges.{HasMessageRanges};
-ghost use Rattle.rbc_rules.specs.Letters.{tells_others};
+ghost use Rattle.law_ranges.specs.Ranges.{HasMessageRanges};
+ghost use Rattle.rbc_train.specs.Letters.{tells_others};
 ghost use Rattle.rbc_centre.specs.Answer.{Steps, IsWantedBy, TakesMemory};
 ghost use Rattle.rbc_centre.specs.Rooms.{HasFrameRoom};
 ghost use Rattle.rbc_centre.specs.States.{line_of, number_of, state_of, IsSame};
@@ -22,7 +22,7 @@ use crate::outcome::Outcome;
 use crate::posted::post;
 use crate::ranges::look_at_ranges;
 use rbc_msgs::{TrainBody, TrainMsg};
-use rbc_rules::{Reason, tells_others};
+use rbc_train::{Reason, tells_others};
 use std::alloc::AllocError;
 
 impl Centre {

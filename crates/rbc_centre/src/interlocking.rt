@@ -18,7 +18,7 @@ use crate::outcome::{Outcome, Word};
 use crate::posted::post_letter;
 use rbc_book::{Entry, NotHome, Unset};
 use rbc_linkmsg::Body;
-use rbc_rules::Letter;
+use rbc_train::Letter;
 use std::alloc::AllocError;
 
 impl Centre {

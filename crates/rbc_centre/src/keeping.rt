@@ -2,12 +2,12 @@
 
 ghost use Rattle.std.specs.Prelude.{◌≡◌, ◌<◌, ℕ, slice_get, length, IfOk, Some, option_map};
 ghost use Rattle.rbc_centre.specs.State.{IsUnknown};
-ghost use Rattle.rbc_rules.specs.declared.train.TrainState.{TrainState};
+ghost use Rattle.rbc_train.specs.declared.train.TrainState.{TrainState};
 
 use rbc_book::Book;
 use rbc_line::Line;
-use rbc_rules::TrainState;
 use rbc_session::Sessions;
+use rbc_train::TrainState;
 use std::alloc::{AllocError, Global};
 
 /// What is kept of the trains of the line, none of which was ever heard. Where memory runs out, those made end.

@@ -1,5 +1,7 @@
 //! One radio block centre: its state, and the step that takes an event to an answer. The rules are
 //! `rbc_spec.specs.Centre`; the contract of `Centre::step` is one equation with the step defined there.
+//!
+//! Bodies and proofs are free. The clauses of public functions stay, since the crates above stand on them.
 #![tactic(auto)]
 
 mod centre;
@@ -30,6 +32,6 @@ pub use outcome::{Outcome, Word};
 pub use rbc_hand::SectionRun;
 pub use rbc_linkmsg::{Body, Frame};
 pub use rbc_mission::{MissionFacts, Told};
-pub use rbc_rules::{Letter, Mail, Notice, Reason, Saying, TrainPage};
 pub use rbc_session::Phase;
+pub use rbc_train::{Letter, Mail, Notice, Reason, Saying, TrainPage};
 pub use sent_frame::SentFrame;

@@ -1,5 +1,5 @@
 ghost use Rattle.std.specs.Prelude.{◌≡◌, ◌≤◌, [], ◌∷◌, None, map, length};
-ghost use Rattle.rbc_rules.specs.Sayings.{saying_of, sayings_of, told_train};
+ghost use Rattle.rbc_train.specs.Sayings.{saying_of, sayings_of, told_train};
 ghost use Rattle.rbc_centre.specs.Sent.{frames_to};
 ghost use Rattle.rbc_centre.specs.Views.{word_of};
 
@@ -7,7 +7,7 @@ use crate::frames::Frames;
 use crate::link_answer::LinkAnswer;
 use arrayvec::ArrayVec;
 use rbc_mission::Told;
-use rbc_rules::{Heard, Reason, Saying};
+use rbc_train::{Heard, Reason, Saying};
 
 /// A word to the interlocking of a section, by its number over the whole line.
 #[derive(Clone, Copy, Debug, PartialEq, Eq)]

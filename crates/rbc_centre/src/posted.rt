@@ -10,7 +10,7 @@ ghost use Rattle.rbc_linkmsg.specs.Bodies.{body_of};
 ghost use Rattle.rbc_handover.specs.Expectations.{expected_from};
 ghost use Rattle.rbc_spec.specs.Centre.{Expectation};
 ghost use Rattle.rbc_linkmsg.specs.declared.body.Body.{Body as BodyCode};
-ghost use Rattle.rbc_rules.specs.Letters.{bodies_in, letters, notices, mail_to};
+ghost use Rattle.rbc_train.specs.Letters.{bodies_in, letters, notices, mail_to};
 ghost use Rattle.rbc_centre.specs.Posts.{MayPost, HasSent, only};
 ghost use Rattle.rbc_centre.specs.Rooms.{HasFrameRoom};
 ghost use Rattle.rbc_centre.specs.Sent.{frames_to};
@@ -23,7 +23,7 @@ use rbc_handover::Expectations;
 use rbc_line::Line;
 use rbc_link::Links;
 use rbc_linkmsg::{Body, Frame};
-use rbc_rules::{Letter, Mail, Notice};
+use rbc_train::{Letter, Mail, Notice};
 
 /// Sends the mail of a step with this stamp, which is of this train: to each centre first the sections that go to its home, then what it is
 /// told of a handover, and then its letter.

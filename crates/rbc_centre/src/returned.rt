@@ -2,14 +2,14 @@
 
 ghost use Rattle.std.specs.Prelude.{◌≡◌, ℕ, [], IsTrue};
 ghost use Rattle.rbc_hand.specs.SectionRuns.{run_of};
-ghost use Rattle.rbc_rules.specs.Letters.{bodies_in, going_home, letters};
+ghost use Rattle.rbc_train.specs.Letters.{bodies_in, going_home, letters};
 ghost use Rattle.rbc_centre.specs.Posts.{run_home};
 
 use rbc_border::part_of;
 use rbc_hand::SectionRun;
 use rbc_line::Line;
 use rbc_linkmsg::Body;
-use rbc_rules::Letter;
+use rbc_train::Letter;
 
 const NO_SECTION: SectionRun = SectionRun { first: 0, count: 0 };
 

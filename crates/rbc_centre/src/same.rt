@@ -1,6 +1,6 @@
 ghost use Rattle.std.specs.Prelude.{◌≡◌, ◌↔◌, map, option_map, IsTrue, IfOk};
-ghost use Rattle.rbc_rules.specs.Reasons.{reason_of};
-ghost use Rattle.rbc_rules.specs.Sayings.{saying_of};
+ghost use Rattle.rbc_train.specs.Reasons.{reason_of};
+ghost use Rattle.rbc_train.specs.Sayings.{saying_of};
 ghost use Rattle.rbc_centre.specs.Rooms.{HasFrameRoom};
 ghost use Rattle.rbc_centre.specs.Views.{word_of, link_of, outcome_of};
 
@@ -9,7 +9,7 @@ use crate::frame_room::FrameRoom;
 use crate::link_answer::LinkAnswer;
 use crate::outcome::{Outcome, Word};
 use arrayvec::ArrayVec;
-use rbc_rules::{Reason, Saying};
+use rbc_train::{Reason, Saying};
 use std::alloc::{AllocError, Global};
 
 impl Event {

@@ -1,9 +1,9 @@
 //! The centres of a line that run.
 
-use rbc_report::disk::Disk;
-use rbc_report::run::line_in;
-use rbc_serve::{Doors, Loud, Quiet, ServeFault, serve};
-use rbc_status::report;
+use cli_commands::disk::Disk;
+use cli_commands::run::line_in;
+use cli_status::report;
+use serve_line::{Doors, Loud, Quiet, ServeFault, serve};
 use std::io::{Eprint, Write};
 use std::net::{Net, TcpListener, TcpStream};
 use std::rt::Files;

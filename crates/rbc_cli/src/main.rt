@@ -1,5 +1,7 @@
-//! `rbcline`, the program of the radio block centres: it runs a script of events on a line, or lets the centres of the line run for trains
-//! that connect to them, and prints what comes out.
+//! `rbcline`, the program of the radio block centres: it runs a script of events on a line, or lets the centres of the
+//! line run for trains that connect to them, and prints what comes out.
+//!
+//! Bodies are free. What is printed, and each exit status, is fixed by docs/FORMATS.md.
 #![tactic(auto)]
 
 mod centres;
@@ -7,10 +9,10 @@ mod train;
 
 use crate::centres::run_centres;
 use crate::train::run_train;
-use rbc_report::command::command;
-use rbc_report::disk::{Disk, words_of};
-use rbc_report::words::{Request, requested};
-use rbc_status::{ended, report};
+use cli_commands::command::command;
+use cli_commands::disk::{Disk, words_of};
+use cli_commands::words::{Request, requested};
+use cli_status::{ended, report};
 use std::io;
 use std::process::ExitCode;
 

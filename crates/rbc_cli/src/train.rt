@@ -1,9 +1,9 @@
 //! A train by hand.
 
-use rbc_drive::{DriveFault, drive, steps_of};
-use rbc_report::disk::Disk;
-use rbc_report::files::Files as _;
-use rbc_status::Fault;
+use cli_commands::disk::Disk;
+use cli_commands::files::Files as _;
+use cli_drive::{DriveFault, drive, steps_of};
+use cli_status::Fault;
 use std::alloc::AllocError;
 use std::io::Write;
 use std::net::{IpAddr, Ipv4Addr, Net, SocketAddr, TcpStream};

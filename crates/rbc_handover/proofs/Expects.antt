@@ -9,7 +9,7 @@ use Rattle.rbc_spec.specs.Line.{Line}
 use Rattle.rbc_spec.specs.Centre.{Centre, Expectation}
 use Rattle.rbc_spec.specs.Acts.{rest}
 use Rattle.rbc_spec.specs.Links.{expect, announced, cancelled, is_under}
-use Rattle.rbc_lemmas.proofs.Puts.{put_here, put_other, put_same}
+use Rattle.law_base.proofs.Puts.{put_here, put_other, put_same}
 use Rattle.rbc_handover.specs.declared.accepting.AcceptingState.{AcceptingState}
 use Rattle.rbc_handover.specs.declared.accepting.AcceptingState.TheVariants.{Nothing}
 use Rattle.rbc_handover.specs.Acceptings.{expectation_of}

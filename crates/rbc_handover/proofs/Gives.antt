@@ -3,7 +3,7 @@ use Rattle.std.proofs.Common.{◌≡◌, ℕ, ◌+◌, ◌<◌, ◌≤◌, ◌==
 use Rattle.std.specs.Option.{option_map_or, option_and_then}
 use Rattle.std.specs.List.{list_all, range_with_len}
 use Rattle.std.proofs.lemmas.Bool.{cases_Bool, false≢true}
-use Rattle.rbc_lemmas.proofs.Lists.{each_of}
+use Rattle.law_base.proofs.Lists.{each_of}
 use Rattle.std.proofs.lemmas.List.{append-nil}
 use Rattle.rbc_spec.specs.Maps.{has, put}
 use Rattle.rbc_spec.specs.SectionRuns.{is_empty}
@@ -13,7 +13,7 @@ use Rattle.rbc_spec.specs.Centre.{Centre, Mission, Handing}
 use Rattle.rbc_spec.specs.Acts.{Reply, rest, send, part_at, announce, cancel, change_mission, ◌>>◌}
 use Rattle.rbc_spec.specs.Rules.{announce_if_due}
 use Rattle.rbc_spec.specs.Links.{claimed}
-use Rattle.rbc_lemmas.proofs.Puts.{put_same}
+use Rattle.law_base.proofs.Puts.{put_same}
 use Rattle.rbc_handover.specs.declared.handing.HandoverName.{HandoverName}
 use Rattle.rbc_handover.specs.declared.handing.Handing.{Handing as HandingCode}
 use Rattle.rbc_handover.specs.declared.handing.Claimed.{Claimed as ClaimedCode}

@@ -11,7 +11,7 @@ use Rattle.rbc_spec.specs.Line.{Line, is_centre}
 use Rattle.rbc_spec.specs.Frame.{TakingOver}
 use Rattle.rbc_spec.specs.Centre.{Centre, Expectation, is_expected}
 use Rattle.rbc_spec.specs.Rules.{taking, take_over}
-use Rattle.rbc_lemmas.proofs.Puts.{put_same}
+use Rattle.law_base.proofs.Puts.{put_same}
 use Rattle.rbc_handover.specs.declared.accepting.AcceptingState.{AcceptingState}
 use Rattle.rbc_handover.specs.declared.announcers.Announcers.{Announcers}
 use Rattle.rbc_handover.specs.Acceptings.{expectation_of}

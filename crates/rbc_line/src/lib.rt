@@ -1,5 +1,7 @@
-//! The line file: from a text of tables to the line that the centres supervise, and the look-ups on it.
-//! A `Line` keeps every rule of a line, so nothing above tests one again.
+//! The line file: from a text of tables to the line that the centres supervise, and the look-ups on it. A `Line` keeps
+//! every rule of a line, so nothing above tests one again.
+//!
+//! Bodies and proofs are free. The clauses of public functions stay, since the crates above stand on them.
 #![tactic(auto)]
 
 mod build;

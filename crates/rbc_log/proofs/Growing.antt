@@ -4,7 +4,7 @@ use Rattle.rbc_spec.specs.Line.{Line}
 use Rattle.rbc_spec.specs.Outcome.{Outcome}
 use Rattle.rbc_spec.specs.Centre.{Centre, beginning}
 use Rattle.rbc_spec.specs.Step.{Event, step}
-use Rattle.rbc_family.specs.Logs.{LogEntry, Replays}
+use Rattle.law_logs.specs.Logs.{LogEntry, Replays}
 
 replays_more : (line : Line) (c : ℕ) (k mid last : Centre) (entries : List LogEntry) (event : Event) (outcome : Outcome)
     → Replays line c k entries mid → step line c event mid ≡ Ok (outcome, last) → Replays line c k (entries ++ record { centre = c; event = event; outcome = outcome } ∷ []) last

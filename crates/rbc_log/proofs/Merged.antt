@@ -7,11 +7,11 @@ use Rattle.std.proofs.lemmas.Cmp.{then_total, on_total, nat_cmp_total}
 use Rattle.std.proofs.lemmas.List.{get_or-map, length-map}
 use Rattle.std.proofs.lemmas.List.Sorted.{ranks_by, sorted_far}
 use Rattle.std.proofs.lemmas.Bool.Decides.{nat_tests}
-use Rattle.rbc_family.specs.Logs.{LogEntry, IsInOrder, ComesBefore, IsMerge, IsWorldRun, happened, answered}
-use Rattle.rbc_family.proofs.Sorted.{merges}
-use Rattle.rbc_family.proofs.Merged.{family}
-use Rattle.rbc_whole.proofs.Lines.{the_run}
-use Rattle.rbc_whole.proofs.Promises.{run_sound}
+use Rattle.law_logs.specs.Logs.{LogEntry, IsInOrder, ComesBefore, IsMerge, IsWorldRun, happened, answered}
+use Rattle.law_logs.proofs.Sorted.{merges}
+use Rattle.law_logs.proofs.Merged.{family}
+use Rattle.law_refinement.proofs.Lines.{the_run}
+use Rattle.law_refinement.proofs.Promises.{run_sound}
 use Rattle.rbc_log.specs.Entries.{entry_of, written_of}
 use Rattle.rbc_log.specs.Log.{LogValue, IsReplaying}
 use Rattle.rbc_log.specs.Merge.{AreOfCentres, AreOfOneLine, logs_by, ends_by, all_entries, IsMerged, MakesOneRun}

@@ -5,8 +5,8 @@ use Rattle.std.proofs.lemmas.Bool.Decides.{eqb_tells}
 use Rattle.std.proofs.lemmas.Option.{slice_get_within, get_or_from_slice_get}
 use Rattle.rbc_spec.specs.Frame.{Frame}
 use Rattle.rbc_spec.specs.Centre.{beginning}
-use Rattle.rbc_family.specs.Logs.{sent_to}
-use Rattle.rbc_family.proofs.Parts.{sent_replayed, sent_under}
+use Rattle.law_logs.specs.Logs.{sent_to}
+use Rattle.law_logs.proofs.Parts.{sent_replayed, sent_under}
 use Rattle.rbc_centre.specs.States.{line_of, number_of, state_of}
 use Rattle.rbc_centre.specs.Views.{frame_number}
 use Rattle.rbc_log.specs.Entries.{entry_of}

@@ -10,7 +10,7 @@ use Rattle.std.proofs.lemmas.List.Elements.{All-nil, All-cons, All-head, All-tai
 use Rattle.std.proofs.lemmas.List.Sorted.{IsPermutation-map}
 use Rattle.rbc_spec.specs.Line.{Line, is_centre}
 use Rattle.rbc_spec.specs.Centre.{Centre, beginning}
-use Rattle.rbc_family.specs.Logs.{LogEntry, Replays, AreLogs, entries_of}
+use Rattle.law_logs.specs.Logs.{LogEntry, Replays, AreLogs, entries_of}
 use Rattle.rbc_centre.specs.States.{line_of, number_of, state_of}
 use Rattle.rbc_centre.specs.Views.{event_of}
 use Rattle.rbc_log.specs.Entries.{Written, entry_of, written_of}

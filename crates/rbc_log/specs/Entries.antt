@@ -3,7 +3,7 @@ use Rattle.std.specs.Prelude.{ℕ}
 use Rattle.rbc_spec.specs.Outcome.{Outcome}
 use Rattle.rbc_centre.specs.Views.{event_of, outcome_of}
 use Rattle.rbc_centre.specs.declared.event.Event.{Event}
-use Rattle.rbc_family.specs.Logs.{LogEntry}
+use Rattle.law_logs.specs.Logs.{LogEntry}
 use Rattle.rbc_log.specs.declared.entry.Entry.{Entry}
 
 abbrev pub entry_of : Entry → LogEntry

@@ -7,7 +7,7 @@ use Rattle.rbc_centre.specs.States.{line_of, number_of, state_of}
 use Rattle.rbc_centre.specs.Views.{event_of}
 use Rattle.rbc_centre.specs.declared.centre.Centre.{Centre}
 use Rattle.rbc_centre.specs.declared.event.Event.{Event as EventInMemory}
-use Rattle.rbc_family.specs.Logs.{Replays}
+use Rattle.law_logs.specs.Logs.{Replays}
 use Rattle.rbc_log.specs.Entries.{entry_of}
 use Rattle.rbc_log.specs.declared.entry.Entry.{Entry}
 use Rattle.rbc_log.specs.declared.fault.CommitFault.{CommitFault}

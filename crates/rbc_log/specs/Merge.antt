@@ -7,7 +7,7 @@ use Rattle.rbc_spec.specs.Line.{Line, IsLine, AreDistinct}
 use Rattle.rbc_spec.specs.Centre.{Centre, beginning}
 use Rattle.rbc_spec.specs.ReadOff.{IsLineRun}
 use Rattle.rbc_spec.specs.Promises.{IsSound}
-use Rattle.rbc_family.specs.Logs.{LogEntry, IsLegal, IsMerge, IsWorldRun, happened, answered}
+use Rattle.law_logs.specs.Logs.{LogEntry, IsLegal, IsMerge, IsWorldRun, happened, answered}
 use Rattle.rbc_centre.specs.States.{line_of, number_of, state_of}
 use Rattle.rbc_log.specs.Entries.{entry_of, written_of}
 use Rattle.rbc_log.specs.Log.{LogValue}

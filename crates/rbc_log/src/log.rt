@@ -2,7 +2,7 @@ ghost use Rattle.std.specs.Prelude.{◌≡◌, ◌↔◌, true, [], map, IsTrue,
 ghost use Rattle.rbc_spec.specs.Line.{is_centre};
 ghost use Rattle.rbc_centre.specs.States.{line_of, number_of};
 ghost use Rattle.rbc_centre.specs.Views.{event_of, outcome_of, frame_number};
-ghost use Rattle.rbc_family.specs.Logs.{sent_to};
+ghost use Rattle.law_logs.specs.Logs.{sent_to};
 ghost use Rattle.rbc_log.specs.Entries.{entry_of};
 ghost use Rattle.rbc_log.specs.Log.{IsReplaying, Appends, IsUnchanged, IsRefusal};
 

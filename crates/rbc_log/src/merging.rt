@@ -1,7 +1,7 @@
 ghost use Rattle.std.specs.Prelude.{◌≡◌, ◌↔◌, ◌++◌, ◌==◌, All, IsTrue, map, IfOk, IfErr, OnOk};
 ghost use Rattle.std.specs.List.{list_any};
 ghost use Rattle.std.specs.List.Sorted.{IsPermutation};
-ghost use Rattle.rbc_family.specs.Logs.{IsInOrder};
+ghost use Rattle.law_logs.specs.Logs.{IsInOrder};
 ghost use Rattle.rbc_centre.specs.States.{number_of};
 ghost use Rattle.rbc_log.specs.Entries.{entry_of, written_of};
 ghost use Rattle.rbc_log.specs.Log.{IsReplaying};

@@ -6,7 +6,7 @@ use Rattle.rbc_spec.specs.Maps.{put}
 use Rattle.rbc_spec.specs.SectionRuns.{SectionRun, no_run, within, part_before}
 use Rattle.rbc_spec.specs.Line.{Line}
 use Rattle.rbc_spec.specs.Centre.{Centre, Mission, Handing}
-use Rattle.rbc_lemmas.proofs.Runs.{within_none}
+use Rattle.law_base.proofs.Runs.{within_none}
 use Rattle.rbc_hand.specs.Hands.{Holding, run}
 use Rattle.rbc_border.specs.Border.{BorderState, HasBorder, with_border, GoesOn, answers, wants}
 use Rattle.rbc_border.specs.declared.way.Way.{Way}

@@ -4,13 +4,13 @@ use Rattle.std.proofs.lemmas.Bool.{cases_Bool, cases_lt, false≢true}
 use Rattle.std.proofs.lemmas.List.{length-append, length-replicate}
 use Rattle.rbc_spec.specs.SectionRuns.{SectionRun, within, behind}
 use Rattle.rbc_spec.specs.Centre.{Mission, Taken, is_open}
-use Rattle.rbc_lemmas.proofs.Runs.{within_true, within_from, within_behind, within_none}
+use Rattle.law_base.proofs.Runs.{within_true, within_from, within_behind, within_none}
 use Rattle.rbc_book.specs.Book.{Pages, is_own, entry_at}
 use Rattle.rbc_book.proofs.Pages.{foreign_is_shut}
 use Rattle.rbc_hand.specs.Tokens.{Held, Name}
 use Rattle.rbc_hand.specs.Hands.{Holding, run}
-use Rattle.rbc_claims.specs.Sections.{TakesRun, next_of, IsHeldBy}
-use Rattle.rbc_claims.proofs.Held.{held_more}
+use Rattle.rbc_allocation.specs.Sections.{TakesRun, next_of, IsHeldBy}
+use Rattle.rbc_allocation.proofs.Held.{held_more}
 use Rattle.rbc_mission.specs.Supervisions.{MayGrow}
 
 -- what is in use for the train of a part of a run is so of the run, where the other sections are not open

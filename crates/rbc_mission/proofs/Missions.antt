@@ -9,9 +9,9 @@ use Rattle.rbc_spec.specs.Centre.{Mission, Handing}
 use Rattle.rbc_book.specs.Book.{Pages}
 use Rattle.rbc_hand.specs.Tokens.{Held, Own}
 use Rattle.rbc_hand.specs.Hands.{Holding, run, IsAllOwn}
-use Rattle.rbc_claims.specs.Sections.{TakesRun, FreesRun, IsHeldAt}
-use Rattle.rbc_claims.proofs.Runs.{takes_none, frees_none}
-use Rattle.rbc_claims.proofs.Held.{own_held, own_more}
+use Rattle.rbc_allocation.specs.Sections.{TakesRun, FreesRun, IsHeldAt}
+use Rattle.rbc_allocation.proofs.Runs.{takes_none, frees_none}
+use Rattle.rbc_allocation.proofs.Held.{own_held, own_more}
 use Rattle.rbc_border.specs.Border.{BorderState}
 use Rattle.rbc_mission.specs.declared.facts.MissionFacts.{MissionFacts}
 use Rattle.rbc_mission.specs.declared.held.HeldRight.{HeldRight}

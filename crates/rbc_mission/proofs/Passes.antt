@@ -15,8 +15,8 @@ use Rattle.rbc_hand.specs.declared.lent.Lent.{Lent}
 use Rattle.rbc_hand.specs.declared.token.Token.{Token}
 use Rattle.rbc_hand.specs.declared.token.Token.TheVariants as code
 use Rattle.rbc_hand.specs.Hands.{Holding, run, one, token_at, extended}
-use Rattle.rbc_claims.specs.Sections.{hand_rest, is_held_as, IsHeldAt, IsHeldBy}
-use Rattle.rbc_claims.proofs.Runs.{within_one, within_none, within_more}
+use Rattle.rbc_allocation.specs.Sections.{hand_rest, is_held_as, IsHeldAt, IsHeldBy}
+use Rattle.rbc_allocation.proofs.Runs.{within_one, within_none, within_more}
 use Rattle.rbc_mission.specs.Passing.{IsBooked}
 
 -- ## In the book

@@ -11,7 +11,7 @@ use Rattle.rbc_spec.specs.SectionRuns.{SectionRun, within, shared, is_empty}
 use Rattle.rbc_spec.specs.Frame.{Body, Yield, yielded_place}
 use Rattle.rbc_spec.specs.Centre.{Centre, Handing, Out, is_taken_for}
 use Rattle.rbc_spec.specs.Acts.{◌>>◌, rest, returned, end_order, yield, part_at}
-use Rattle.rbc_lemmas.proofs.Puts.{put_same}
+use Rattle.law_base.proofs.Puts.{put_same}
 use Rattle.rbc_book.specs.Book.{Pages}
 use Rattle.rbc_hand.specs.Hands.{Holding}
 use Rattle.rbc_hand.specs.SectionRuns.{run_of}

@@ -15,7 +15,7 @@ use Rattle.rbc_right.specs.Rights.{right_of}
 use Rattle.rbc_place.specs.Places.{place_of}
 use Rattle.rbc_shorten.specs.Facts.{standing_of}
 use Rattle.rbc_book.specs.Book.{Pages, is_own, entry_at}
-use Rattle.rbc_claims.specs.Sections.{front_of, rest_of, next_of}
+use Rattle.rbc_allocation.specs.Sections.{front_of, rest_of, next_of}
 use Rattle.rbc_border.specs.Border.{BorderState}
 use Rattle.rbc_handover.specs.Handings.{handover_name}
 use Rattle.rbc_handover.specs.declared.handing.HandoverName.{HandoverName}

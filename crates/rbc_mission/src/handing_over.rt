@@ -12,7 +12,7 @@ ghost use Rattle.rbc_book.specs.Book.{is_own, entry_at};
 ghost use Rattle.rbc_hand.specs.SectionRuns.{run_of};
 ghost use Rattle.rbc_right.specs.Rights.{right_of};
 ghost use Rattle.rbc_border.specs.Lending.{HasBook, with_book};
-ghost use Rattle.rbc_claims.specs.Sections.{IsHeldBy};
+ghost use Rattle.rbc_allocation.specs.Sections.{IsHeldBy};
 ghost use Rattle.rbc_handover.specs.Giving.{begun, announcing, with_count};
 
 use crate::facts::MissionFacts;

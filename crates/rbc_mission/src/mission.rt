@@ -1,7 +1,7 @@
 ghost use Rattle.std.specs.Prelude.{◌≡◌, ◌≤◌, ◌+◌, ℕ, Bool, Some, None, option_map, option_and_then, is_some, true, false};
 ghost use Rattle.rbc_spec.specs.Centre as spec;
 ghost use Rattle.rbc_right.specs.Rights.{right_of};
-ghost use Rattle.rbc_wait.specs.Waits.{nothing_waits};
+ghost use Rattle.rbc_pending_start.specs.Waits.{nothing_waits};
 ghost use Rattle.rbc_hand.specs.SectionRuns.{run_of};
 ghost use Rattle.rbc_place.specs.Places.{place_of};
 ghost use Rattle.rbc_shorten.specs.Facts.{proposal_of};
@@ -14,14 +14,14 @@ use crate::supervision::Supervision;
 use rbc_book::Book;
 use rbc_hand::SectionRun;
 use rbc_line::Line;
+use rbc_pending_start::WaitingStart;
 use rbc_place::Place;
 use rbc_right::Right;
 use rbc_shorten::Proposal;
-use rbc_wait::WaitingStart;
 
 impl Supervision {
     ghost use Rattle.rbc_mission.specs.Supervisions.{hand_of, mission_at, claims_on, with_next, next_sections, without_front, with_front, cleared_run, cut_run, right_left, handover_left, MayGrow};
-    ghost use Rattle.rbc_claims.specs.Sections.{TakesRun, FreesRun, wished, front_of, rest_of, hand_rest, hand_front, IsAllOpen, IsHeldAt, IsHeldBy};
+    ghost use Rattle.rbc_allocation.specs.Sections.{TakesRun, FreesRun, wished, front_of, rest_of, hand_rest, hand_front, IsAllOpen, IsHeldAt, IsHeldBy};
 
     /// A mission begins at this place, with these sections, which are open, and with the right to supervise the train.
     pub fn begin(&mut self, place: Place, sections: SectionRun, book: &mut Book, right: Right)
@@ -35,7 +35,7 @@ impl Supervision {
         ensures held { (is_home : ℕ → Bool) → IsHeldAt self.old.engine is_home self.new.hand }
         ensures book { TakesRun self.old.engine (run_of sections) book.old book.new }
     {
-        rbc_claims::take_run(&mut self.hand, sections, self.nid_engine, book);
+        rbc_allocation::take_run(&mut self.hand, sections, self.nid_engine, book);
         held::hold(&mut self.right, right);
         self.mission = Some(MissionFacts::at(place));
     }
@@ -124,8 +124,8 @@ impl Supervision {
     {
         if let Some(mission) = self.mission {
             let fed = self.border.feed(count, &mut self.hand);
-            let next = rbc_claims::behind(self.hand.run(), count - fed);
-            rbc_claims::take_run(&mut self.hand, next, self.nid_engine, book);
+            let next = rbc_allocation::behind(self.hand.run(), count - fed);
+            rbc_allocation::take_run(&mut self.hand, next, self.nid_engine, book);
             self.mission = Some(MissionFacts { place, ..mission });
         }
     }
@@ -149,7 +149,7 @@ impl Supervision {
         };
         mission.place = place;
         let first = self.hand.run().first;
-        let told = rbc_claims::clear(&mut self.hand, count, self.nid_engine, book);
+        let told = rbc_allocation::clear(&mut self.hand, count, self.nid_engine, book);
         let is_left = !self.hand.is_empty();
         close_unless(&mut self.mission, is_left);
         let right = held::let_go(&mut self.right, is_left);
@@ -184,7 +184,7 @@ impl Supervision {
             first: run.first + keep,
             count: run.count - keep,
         };
-        let told = rbc_claims::cut(&mut self.hand, keep, self.nid_engine, book);
+        let told = rbc_allocation::cut(&mut self.hand, keep, self.nid_engine, book);
         let facts = MissionFacts {
             proposal: None,
             ..mission

@@ -7,7 +7,7 @@ ghost use Rattle.rbc_book.specs.Book.{is_own, entry_at};
 ghost use Rattle.rbc_hand.specs.Tokens.{Held, section_of, held_of, token_of};
 ghost use Rattle.rbc_hand.specs.Hands.{run, one, takes, extended};
 ghost use Rattle.rbc_hand.specs.SectionRuns.{run_of};
-ghost use Rattle.rbc_claims.specs.Sections.{hand_rest, is_held_as, IsHeldBy};
+ghost use Rattle.rbc_allocation.specs.Sections.{hand_rest, is_held_as, IsHeldBy};
 ghost use Rattle.rbc_mission.specs.Passing.{IsBooked};
 
 use rbc_book::Book;

@@ -3,8 +3,8 @@ ghost use Rattle.rbc_spec.specs.SectionRuns.{no_run, joined};
 ghost use Rattle.rbc_hand.specs.SectionRuns.{run_of};
 
 use crate::held::HeldRight;
+use rbc_allocation::Told;
 use rbc_border::Border;
-use rbc_claims::Told;
 use rbc_hand::SectionRun;
 use rbc_handover::HandoverName;
 

@@ -116,7 +116,7 @@ impl Supervision {
             border,
             handover,
         } = self;
-        rbc_claims::end_hand(hand, book);
+        rbc_allocation::end_hand(hand, book);
         border.end();
         right.end();
         handover.end();

@@ -4,7 +4,7 @@ use Rattle.std.proofs.lemmas.List.{take_all}
 use Rattle.std.proofs.lemmas.List.Elements.{All-more}
 use Rattle.std.proofs.lemmas.Option.{same_Some}
 use Rattle.rbc_spec.specs.Frame.{Frame}
-use Rattle.rbc_family.specs.Logs.{sent_to}
+use Rattle.law_logs.specs.Logs.{sent_to}
 use Rattle.rbc_centre.specs.Views.{frame_number}
 use Rattle.rbc_centre.specs.declared.event.Event.TheVariants.{Deliver}
 use Rattle.rbc_log.specs.Entries.{entry_of}

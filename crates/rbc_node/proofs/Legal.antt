@@ -4,7 +4,7 @@ use Rattle.std.proofs.lemmas.List.{get_or-map, length-map}
 use Rattle.std.proofs.lemmas.List.Elements.{All-nil, All-map, All-weaker}
 use Rattle.std.proofs.lemmas.Option.{slice_get-get_or}
 use Rattle.rbc_spec.specs.Line.{Line}
-use Rattle.rbc_family.specs.Logs.{LogEntry, sent_to, IsFromLog, IsLegal}
+use Rattle.law_logs.specs.Logs.{LogEntry, sent_to, IsFromLog, IsLegal}
 use Rattle.rbc_centre.specs.Views.{event_of}
 use Rattle.rbc_centre.specs.declared.event.Event.{Event}
 use Rattle.rbc_centre.specs.declared.event.Event.TheVariants.{Train, Set, Unset, Deliver}

@@ -3,7 +3,7 @@ use Rattle.std.specs.Prelude.{◌≡◌, ℕ, ◌<◌, ◌==◌, List, [], map, 
 use Rattle.std.specs.List.{flat_map, count_by, AllAdjacentBelow}
 use Rattle.std.specs.List.Sorted.{IsPermutation, IsNonDecreasingBy}
 use Rattle.rbc_spec.specs.Line.{Line, IsLine}
-use Rattle.rbc_family.specs.Logs.{AreLogs, IsLegal}
+use Rattle.law_logs.specs.Logs.{AreLogs, IsLegal}
 use Rattle.rbc_centre.specs.States.{number_of}
 use Rattle.rbc_log.specs.Log.{LogValue, IsReplaying}
 use Rattle.rbc_log.specs.Merge.{AreOfLine, logs_by, ends_by}

@@ -2,7 +2,7 @@
 use Rattle.std.specs.Prelude.{◌≡◌, ℕ, map, Option}
 use Rattle.rbc_spec.specs.Frame.{Frame}
 use Rattle.rbc_spec.specs.Outcome.{Outcome}
-use Rattle.rbc_family.specs.Logs.{sent_to}
+use Rattle.law_logs.specs.Logs.{sent_to}
 use Rattle.rbc_centre.specs.States.{number_of}
 use Rattle.rbc_centre.specs.Views.{frame_number}
 use Rattle.rbc_centre.specs.declared.event.Event.{Event}

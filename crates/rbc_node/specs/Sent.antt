@@ -1,6 +1,6 @@
 -- Where the frames that were delivered were sent, among logs of which each stands at its centre's number.
 use Rattle.std.specs.Prelude.{◌≡◌, ℕ, List, Some, map, slice_get, All}
-use Rattle.rbc_family.specs.Logs.{sent_to}
+use Rattle.law_logs.specs.Logs.{sent_to}
 use Rattle.rbc_centre.specs.States.{number_of}
 use Rattle.rbc_centre.specs.Views.{frame_number}
 use Rattle.rbc_centre.specs.declared.event.Event.{Event}

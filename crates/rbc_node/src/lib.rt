@@ -1,5 +1,7 @@
-//! A centre that several threads commit to: its log under a lock, and what each of them has of what it committed. What the threads have,
-//! held against the logs, makes these a family.
+//! A centre that several threads commit to: its log under a lock, and what each of them has of what it committed. What
+//! the threads have, held against the logs, makes these a family.
+//!
+//! Bodies and proofs are free. The clauses of public functions stay, since the crates above stand on them.
 #![tactic(auto)]
 
 mod counts;

@@ -1,5 +1,7 @@
-//! The packets of radio messages (SUBSET-026 7.4): each a struct of typed fields, read from the bits behind NID_PACKET with
-//! the first fault that is met, and written as its one spelling.
+//! The packets of radio messages (SUBSET-026 7.4): each a struct of typed fields, read from the bits behind NID_PACKET
+//! with the first fault that is met, and written as its one spelling.
+//!
+//! Bodies and proofs are free. The clauses of public functions stay, since the crates above stand on them.
 #![tactic(auto)]
 
 mod authority;

@@ -1,5 +1,7 @@
 //! Where a position report puts its train on the line (SUBSET-026 3.6): the place of its safe front end and, where the
 //! train's integrity is confirmed, of its safe rear end, and what that says of sections. Nothing here takes memory.
+//!
+//! Bodies and proofs are free. The clauses of public functions stay, since the crates above stand on them.
 #![tactic(auto)]
 
 mod ahead;

@@ -1,5 +1,7 @@
-//! Co-operative shortening of MA (SUBSET-026 3.8.6), by agreement with the train: when a request to shorten may be made and
-//! what it asks for, and what an answer to it frees. Nothing is freed but on the answer to the request that stands.
+//! Co-operative shortening of MA (SUBSET-026 3.8.6), by agreement with the train: when a request to shorten may be made
+//! and what it asks for, and what an answer to it frees. Nothing is freed but on the answer to the request that stands.
+//!
+//! Bodies and proofs are free. The clauses of public functions stay, since the crates above stand on them.
 #![tactic(auto)]
 
 mod answer;

@@ -8,13 +8,13 @@ use Rattle.rbc_spec.specs.World.{World, frame_sent}
 use Rattle.rbc_spec.specs.ReadOff.{StandsFor, read_off}
 use Rattle.rbc_spec.specs.Promises.{IsSound}
 use Rattle.rbc_spec.specs.Theorems.{IsOneCentreLine}
-use Rattle.rbc_local.specs.Local.{IsLocal}
-use Rattle.rbc_seen.specs.Seen.{AreMissionsSeen, AreSectionsSeen}
-use Rattle.rbc_seen.specs.Known.{IsKnown}
-use Rattle.rbc_seen.proofs.Known as seen
-use Rattle.rbc_seen.proofs.Missions.{missions_seen}
-use Rattle.rbc_seen.proofs.Marks.{sections_seen}
-use Rattle.rbc_seen.proofs.Forced as forced
+use Rattle.law_local.specs.Local.{IsLocal}
+use Rattle.law_reached.specs.Seen.{AreMissionsSeen, AreSectionsSeen}
+use Rattle.law_reached.specs.Known.{IsKnown}
+use Rattle.law_reached.proofs.Known as seen
+use Rattle.law_reached.proofs.Missions.{missions_seen}
+use Rattle.law_reached.proofs.Marks.{sections_seen}
+use Rattle.law_reached.proofs.Forced as forced
 use Rattle.rbc_centre.specs.Views.{frame_number}
 use Rattle.rbc_world.specs.Reached.{WasReached}
 

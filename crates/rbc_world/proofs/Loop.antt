@@ -9,8 +9,8 @@ use Rattle.rbc_spec.specs.Run.{Run}
 use Rattle.rbc_spec.specs.ReadOff.{IsLineRun, read_off}
 use Rattle.rbc_spec.specs.Promises.{IsSound}
 use Rattle.rbc_spec.specs.Theorems.{IsOneCentreLine, IsOneCentreRun, ForcedRun}
-use Rattle.rbc_seen.proofs.Whole.{Reaches, at_start, stops_at, run_names, run_refused, run_read, the_run, run_sound}
-use Rattle.rbc_seen.proofs.Forced as forced
+use Rattle.law_reached.proofs.Whole.{Reaches, at_start, stops_at, run_names, run_refused, run_read, the_run, run_sound}
+use Rattle.law_reached.proofs.Forced as forced
 use Rattle.rbc_centre.specs.declared.fault.StepFault.{StepFault}
 use Rattle.rbc_centre.specs.declared.fault.StepFault.TheVariants.{Memory, LinkFull, ClockEnd}
 use Rattle.rbc_world.specs.Answers.{Gives, IsRefusal, IsRefusedRun}

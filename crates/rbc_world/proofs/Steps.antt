@@ -13,8 +13,8 @@ use Rattle.rbc_spec.specs.Run.{Goes}
 use Rattle.rbc_spec.specs.ReadOff.{read_off}
 use Rattle.rbc_spec.specs.Promises.{KeepsPromises}
 use Rattle.rbc_spec.specs.Theorems.{IsOneCentreLine, GoesForced}
-use Rattle.rbc_seen.proofs.Known.{goes, promises}
-use Rattle.rbc_seen.proofs.Forced.{forced}
+use Rattle.law_reached.proofs.Known.{goes, promises}
+use Rattle.law_reached.proofs.Forced.{forced}
 use Rattle.rbc_msgs.specs.TrainText.{TrainText}
 use Rattle.rbc_msgs.specs.StepMessage.{step_message}
 use Rattle.rbc_msgs.specs.Faults.{fault_number}

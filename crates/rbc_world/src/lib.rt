@@ -1,5 +1,7 @@
 //! The centres of a line side by side, and the theorem that together they are one line centre: what they answer and
 //! hold, whatever comes, is a run of it (`World::run`, with the definitions of `rbc_spec.specs.Run`).
+//!
+//! Bodies and proofs are free. The clauses of public functions stay, since the crates above stand on them.
 #![tactic(auto)]
 
 mod event;

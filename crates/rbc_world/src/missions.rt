@@ -6,7 +6,7 @@ ghost use Rattle.rbc_spec.specs.Frame.{HasBodyRange};
 ghost use Rattle.rbc_spec.specs.World.{frame_sent};
 ghost use Rattle.rbc_spec.specs.ReadOff as read;
 ghost use Rattle.rbc_spec.specs.ReadOff.{held, held_at};
-ghost use Rattle.rbc_seen.specs.Seen.{yielded_on_way};
+ghost use Rattle.law_reached.specs.Seen.{yielded_on_way};
 ghost use Rattle.rbc_linkmsg.specs.Bodies as bodies;
 ghost use Rattle.rbc_linkmsg.specs.Bodies.{body_of};
 ghost use Rattle.rbc_place.specs.Places.{place_of};

@@ -1,5 +1,5 @@
 use Rattle.std.proofs.Common.{◌+◌, refl, arith}
-use Rattle.rbc_claims.proofs.Runs.{takes_next}
+use Rattle.rbc_allocation.proofs.Runs.{takes_next}
 use Rattle.rbc_border.proofs.NameSteps.{names_count}
 use Rattle.rbc_border.proofs.names.fill.Goals as goal
 

@@ -1,7 +1,7 @@
 use Rattle.std.proofs.Common.{◌+◌, ◌≡◌, true, false, eqb, refl, sym, ap, subst, ◌∙◌, arith}
 use Rattle.rbc_hand.specs.SectionRuns.{run_of}
-use Rattle.rbc_claims.specs.Marks.{marked}
-use Rattle.rbc_claims.proofs.Marks.{marked-none, mark_fits}
+use Rattle.rbc_allocation.specs.Marks.{marked}
+use Rattle.rbc_allocation.proofs.Marks.{marked-none, mark_fits}
 use Rattle.rbc_border.specs.Lending.{BringsBack, told_back}
 use Rattle.rbc_border.proofs.Returns.{brings_none, brings_more, next_as_before, marks_more, freed_is}
 use Rattle.rbc_border.proofs.returning.bring_back.Goals.{then-bring_one, else-bring_one}

@@ -1,5 +1,5 @@
 use Rattle.std.proofs.Common.{◌≡◌, ◌<◌, ◌^◌}
-use Rattle.rbc_claims.specs.Marks.{marked}
+use Rattle.rbc_allocation.specs.Marks.{marked}
 use Rattle.rbc_border.specs.Lending.{BringsBack, told_back}
 use Rattle.rbc_border.proofs.returning.bring_back.Given as goal
 

@@ -1,5 +1,5 @@
 use Rattle.std.proofs.Common.{◌+◌, ◌∙◌, ap, sym, arith, length, length-append, [], ◌∷◌, option_map, slice_get}
-use Rattle.rbc_rules.specs.Trains.{unknown_state}
+use Rattle.rbc_train.specs.Trains.{unknown_state}
 use Rattle.rbc_centre.proofs.Begins.{each_more}
 use Rattle.rbc_centre.proofs.keeping.unknown_trains.Goals as goal
 

@@ -1,7 +1,7 @@
 use Rattle.std.proofs.Common.{◌≡◌, ◌≤◌, ℕ, length, slice_get, Some}
 use Rattle.std.specs.Vec.{vec_len, vec_capacity}
 use Rattle.rbc_centre.specs.State.{IsUnknown}
-use Rattle.rbc_rules.specs.declared.train.TrainState.{TrainState}
+use Rattle.rbc_train.specs.declared.train.TrainState.{TrainState}
 use Rattle.rbc_centre.proofs.keeping.unknown_trains.Given as goal
 
 abbrev pub invariant-loop-i : goal.invariant-loop-i

@@ -2,7 +2,7 @@ use Rattle.std.proofs.Common.{◌∙◌, length, [], sym, ap}
 use Rattle.rbc_spec.specs.Step.{numbered}
 use Rattle.rbc_link.specs.Links.{sent_to}
 use Rattle.rbc_handover.specs.Expectations.{expected_from}
-use Rattle.rbc_rules.specs.Letters.{mail_to}
+use Rattle.rbc_train.specs.Letters.{mail_to}
 use Rattle.rbc_centre.proofs.Posts.{none_sent, sent_as}
 use Rattle.rbc_centre.proofs.posted.post.Goals as goal
 

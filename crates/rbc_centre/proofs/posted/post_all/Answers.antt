@@ -4,7 +4,7 @@ use Rattle.rbc_spec.specs.Step.{numbered}
 use Rattle.rbc_link.specs.Links.{sent_to}
 use Rattle.rbc_link.proofs.Posted.{length_numbered}
 use Rattle.rbc_handover.specs.Expectations.{expected_from}
-use Rattle.rbc_rules.specs.Letters.{mail_to}
+use Rattle.rbc_train.specs.Letters.{mail_to}
 use Rattle.rbc_centre.specs.Sent.{frames_to}
 use Rattle.rbc_centre.proofs.Posts.{below, may_after, one_more, none_below, all_below, mail_few, sent_as}
 use Rattle.rbc_centre.proofs.posted.post_all.Goals as goal

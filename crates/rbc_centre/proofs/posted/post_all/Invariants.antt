@@ -1,6 +1,6 @@
 use Rattle.std.proofs.Common.{◌≤◌, ◌*◌, [], length, vec_capacity}
 use Rattle.rbc_handover.specs.Expectations.{expected_from}
-use Rattle.rbc_rules.specs.Letters.{mail_to}
+use Rattle.rbc_train.specs.Letters.{mail_to}
 use Rattle.rbc_centre.specs.Posts.{HasSent}
 use Rattle.rbc_centre.specs.Rooms.{HasFrameRoom}
 use Rattle.rbc_centre.proofs.Posts.{below}

@@ -2,7 +2,7 @@ use Rattle.std.proofs.Common.{◌∙◌, ◌++◌, [], ◌∷◌, List, length, 
 use Rattle.rbc_spec.specs.Step.{numbered}
 use Rattle.rbc_link.specs.Links.{sent_to}
 use Rattle.rbc_linkmsg.specs.Bodies.{body_of}
-use Rattle.rbc_rules.specs.Letters.{letters}
+use Rattle.rbc_train.specs.Letters.{letters}
 use Rattle.rbc_centre.specs.declared.sent_frame.SentFrame.{SentFrame}
 use Rattle.rbc_centre.specs.Listed.{frames_in}
 use Rattle.rbc_centre.specs.Posts.{MayPost}

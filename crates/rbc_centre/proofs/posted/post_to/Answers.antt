@@ -3,7 +3,7 @@ use Rattle.rbc_spec.specs.Frame.{Body}
 use Rattle.rbc_hand.specs.SectionRuns.{run_of}
 use Rattle.rbc_linkmsg.specs.declared.body.Body.{Body as BodyCode}
 use Rattle.rbc_handover.specs.Expectations.{expected_from}
-use Rattle.rbc_rules.specs.Letters.{bodies_in, mail_to}
+use Rattle.rbc_train.specs.Letters.{bodies_in, mail_to}
 use Rattle.rbc_centre.specs.Posts.{MayPost, HasSent, run_home, only}
 use Rattle.rbc_centre.proofs.Posts.{may_first, may_after, only_here, sent_more, some_of}
 use Rattle.rbc_centre.proofs.posted.post_to.Goals.{After-letter_to-letter}

@@ -2,8 +2,8 @@ use Rattle.std.proofs.Common.{◌≡◌, rules}
 use Rattle.std.specs.Bool.{Decides}
 use Rattle.rbc_spec.specs.Message.{TrackMessage}
 use Rattle.rbc_msgs.specs.contracts.track.TrackMsgPartialEq.TheImpl as messages
-use Rattle.rbc_rules.specs.Sayings.{saying_of}
-use Rattle.rbc_rules.specs.contracts.saying.SayingPartialEq.TheImpl as sayings
+use Rattle.rbc_train.specs.Sayings.{saying_of}
+use Rattle.rbc_train.specs.contracts.saying.SayingPartialEq.TheImpl as sayings
 use Rattle.rbc_centre.proofs.Alike.{alike, sayings_apart}
 use Rattle.rbc_centre.proofs.same.same_sayings.Goals as goal
 

@@ -1,7 +1,7 @@
 use Rattle.std.proofs.Common.{ℕ, ◌+◌, ◌||◌, Bool, sym, ap, ◌∙◌, inl, inr, arith}
 use Rattle.std.proofs.lemmas.Bool.Decides.{eqb_tells}
 use Rattle.rbc_spec.specs.Line.{Line, is_home}
-use Rattle.rbc_lemmas.proofs.Lists.{all_from}
+use Rattle.law_base.proofs.Lists.{all_from}
 use Rattle.rbc_handover.proofs.Gives.{one_fails}
 use Rattle.rbc_handover.proofs.handover.is_of_two.Goals as goal
 

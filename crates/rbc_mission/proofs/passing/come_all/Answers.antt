@@ -2,7 +2,7 @@ use Rattle.std.proofs.Common.{◌+◌, ◌∙◌, refl, ap, sym, subst, arith}
 use Rattle.rbc_spec.specs.Centre.{Taken, is_out_for}
 use Rattle.rbc_hand.specs.Tokens.{held_of}
 use Rattle.rbc_hand.specs.Hands.{run, one, takes, extended}
-use Rattle.rbc_claims.proofs.Runs.{takes_next}
+use Rattle.rbc_allocation.proofs.Runs.{takes_next}
 use Rattle.rbc_mission.specs.Passing.{IsBooked}
 use Rattle.rbc_mission.proofs.Passes.{none_come, next_is_out, more_come, held_by}
 use Rattle.rbc_mission.proofs.passing.come_all.Goals as goal

@@ -1,8 +1,8 @@
 use Rattle.std.proofs.Common.{sym, subst, arith}
 use Rattle.rbc_book.specs.Book.{is_own}
-use Rattle.rbc_claims.specs.Sections.{IsHeldBy}
-use Rattle.rbc_claims.proofs.Runs.{front_left}
-use Rattle.rbc_claims.proofs.Held.{held_rest}
+use Rattle.rbc_allocation.specs.Sections.{IsHeldBy}
+use Rattle.rbc_allocation.proofs.Runs.{front_left}
+use Rattle.rbc_allocation.proofs.Held.{held_rest}
 use Rattle.rbc_mission.proofs.Passes.{none_passed, more_passed}
 use Rattle.rbc_mission.proofs.passing.pass_all.Goals as goal
 

@@ -1,6 +1,6 @@
 use Rattle.std.proofs.Common.{◌∙◌}
 use Rattle.std.proofs.lemmas.Bool.{cond-false}
-use Rattle.rbc_claims.specs.Sections.{hand_rest}
+use Rattle.rbc_allocation.specs.Sections.{hand_rest}
 use Rattle.rbc_mission.proofs.Passes.{passes_front}
 use Rattle.rbc_mission.proofs.passing.pass_first.Goals as goal
 

@@ -1,6 +1,6 @@
 use Rattle.rbc_book.specs.Claim.{claim_on}
-use Rattle.rbc_claims.proofs.Runs.{claim_is}
-use Rattle.rbc_claims.proofs.Held.{claim_held}
+use Rattle.rbc_allocation.proofs.Runs.{claim_is}
+use Rattle.rbc_allocation.proofs.Held.{claim_held}
 use Rattle.rbc_mission.proofs.Passes.{passes_one, passes_name}
 use Rattle.rbc_mission.proofs.passing.pass_token.Goals as goal
 

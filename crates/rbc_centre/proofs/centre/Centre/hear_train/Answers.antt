@@ -8,12 +8,12 @@ use Rattle.rbc_msgs.specs.StepMessage.{step_message}
 use Rattle.rbc_link.proofs.Posted.{posted_none}
 use Rattle.rbc_linkmsg.specs.Bodies.{body_of}
 use Rattle.rbc_session.specs.SessionStates.{StandsFor, session_phase}
-use Rattle.rbc_rules.specs.Letters.{mail_to}
-use Rattle.rbc_rules.specs.Reasons.{reason_of}
+use Rattle.rbc_train.specs.Letters.{mail_to}
+use Rattle.rbc_train.specs.Reasons.{reason_of}
 use Rattle.rbc_handover.specs.Expectations.{expected_from}
-use Rattle.rbc_rules.specs.Sayings.{told_train}
-use Rattle.rbc_rules.specs.SessionStates.{Enters}
-use Rattle.rbc_rules.proofs.SessionStates.{stands_for_train}
+use Rattle.rbc_train.specs.Sayings.{told_train}
+use Rattle.rbc_train.specs.SessionStates.{Enters}
+use Rattle.rbc_train.proofs.SessionStates.{stands_for_train}
 use Rattle.rbc_centre.specs.State.{stands_for}
 use Rattle.rbc_centre.specs.Posts.{MayPost}
 use Rattle.rbc_centre.specs.Rooms.{HasFrameRoom}

@@ -3,7 +3,7 @@ use Rattle.std.proofs.lemmas.Bool.{both_ways}
 use Rattle.std.proofs.lemmas.Option.{slice_get_read}
 use Rattle.rbc_spec.specs.Message.{is_stale}
 use Rattle.rbc_msgs.specs.StepMessage.{step_message, step_body}
-use Rattle.rbc_rules.specs.Letters.{tells_others}
+use Rattle.rbc_train.specs.Letters.{tells_others}
 use Rattle.rbc_centre.proofs.Trains.{heard_of}
 use Rattle.rbc_centre.proofs.States.{number_within}
 use Rattle.rbc_centre.proofs.centre.Centre.make_room.Goals as goal

@@ -4,8 +4,8 @@ use Rattle.rbc_spec.specs.Outcome.{ForeignEngine, Outcome}
 use Rattle.rbc_spec.specs.Centre as centre
 use Rattle.rbc_spec.specs.Step.{Train, effect, taken, ticked}
 use Rattle.rbc_msgs.specs.StepMessage.{step_message}
-use Rattle.rbc_rules.proofs.Desk.{silent_effect}
-use Rattle.rbc_rules.proofs.Takes.{foreign_silence}
+use Rattle.rbc_train.proofs.Desk.{silent_effect}
+use Rattle.rbc_train.proofs.Takes.{foreign_silence}
 use Rattle.rbc_centre.specs.State.{stands_for}
 use Rattle.rbc_centre.specs.States.{state_of}
 use Rattle.rbc_centre.proofs.Kept.{sound_left, ranged_left}

@@ -7,13 +7,13 @@ use Rattle.rbc_spec.specs.Line.{train_number}
 use Rattle.rbc_spec.specs.Outcome.{Outcome, Told}
 use Rattle.rbc_spec.specs.Step.{Deliver}
 use Rattle.rbc_spec.specs.Links.{received}
-use Rattle.rbc_sound.proofs.Ranges.{range_hand}
+use Rattle.law_centre_sound.proofs.Ranges.{range_hand}
 use Rattle.rbc_linkmsg.specs.Bodies.{engine_in}
 use Rattle.rbc_session.specs.declared.session.SessionState.{SessionState}
-use Rattle.rbc_rules.specs.Letters.{mail_to}
-use Rattle.rbc_rules.specs.Sayings.{told_train}
+use Rattle.rbc_train.specs.Letters.{mail_to}
+use Rattle.rbc_train.specs.Sayings.{told_train}
 use Rattle.rbc_handover.specs.Expectations.{expected_from}
-use Rattle.rbc_rules.specs.SessionStates.{Stands}
+use Rattle.rbc_train.specs.SessionStates.{Stands}
 use Rattle.rbc_centre.specs.State.{stands_for}
 use Rattle.rbc_centre.specs.Posts.{MayPost}
 use Rattle.rbc_centre.specs.Sent.{frames_to}

@@ -2,7 +2,7 @@ use Rattle.std.proofs.Common.{◌∙◌, ap, sym, refl, Option, None}
 use Rattle.std.proofs.lemmas.Option.{slice_get_read}
 use Rattle.rbc_spec.specs.Centre.{Mission, Closed}
 use Rattle.rbc_session.specs.SessionStates.{session_phase}
-use Rattle.rbc_rules.specs.Desks.{mission_by}
+use Rattle.rbc_train.specs.Desks.{mission_by}
 use Rattle.rbc_centre.specs.State.{stands_for}
 use Rattle.rbc_centre.specs.Views.{handing_at}
 use Rattle.rbc_centre.proofs.States.{part_of_train, part_of_foreign, number_within}

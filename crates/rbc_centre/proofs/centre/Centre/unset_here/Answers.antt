@@ -6,8 +6,8 @@ use Rattle.rbc_spec.specs.Acts.{propose_if_so}
 use Rattle.rbc_spec.specs.Outcome.{Word, Done, Asked, NotHome}
 use Rattle.rbc_spec.specs.Step.{Unset}
 use Rattle.rbc_book.specs.Book.{entry_at}
-use Rattle.rbc_rules.specs.Trains.{asked, HasTrain}
-use Rattle.rbc_rules.specs.Sayings.{sayings_of}
+use Rattle.rbc_train.specs.Trains.{asked, HasTrain}
+use Rattle.rbc_train.specs.Sayings.{sayings_of}
 use Rattle.rbc_centre.specs.States.{state_of}
 use Rattle.rbc_centre.specs.Views.{outcome_of}
 use Rattle.rbc_centre.proofs.Kept.{sound_left, ranged_left}

@@ -2,8 +2,8 @@ use Rattle.std.proofs.Common.{ℕ, ◌∙◌, ◌+◌, [], ◌∷◌, ap, refl, 
 use Rattle.rbc_spec.specs.Outcome.{Outcome, Asked}
 use Rattle.rbc_spec.specs.Step.{Unset}
 use Rattle.rbc_linkmsg.specs.declared.body.Body.TheVariants.{RouteWithdraw}
-use Rattle.rbc_rules.specs.Letters.{letters}
-use Rattle.rbc_rules.specs.declared.letter.Letter.{Letter}
+use Rattle.rbc_train.specs.Letters.{letters}
+use Rattle.rbc_train.specs.declared.letter.Letter.{Letter}
 use Rattle.rbc_centre.specs.Sent.{frames_to}
 use Rattle.rbc_centre.specs.State.{stands_for}
 use Rattle.rbc_centre.proofs.Kept.{few_centres}

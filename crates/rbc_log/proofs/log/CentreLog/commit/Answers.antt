@@ -4,7 +4,7 @@ use Rattle.rbc_spec.specs.Step.{refusal}
 use Rattle.rbc_centre.specs.Answer.{IsRefusalOf}
 use Rattle.rbc_centre.specs.States.{line_of, number_of, state_of}
 use Rattle.rbc_centre.specs.Views.{event_of, outcome_of}
-use Rattle.rbc_family.specs.Logs.{LogEntry}
+use Rattle.law_logs.specs.Logs.{LogEntry}
 use Rattle.rbc_log.specs.Log.{LogValue}
 use Rattle.rbc_log.specs.Entries.{entry_of}
 use Rattle.rbc_log.proofs.Growing.{grown, map_push}

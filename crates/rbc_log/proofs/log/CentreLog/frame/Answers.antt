@@ -1,6 +1,6 @@
 use Rattle.std.proofs.Common.{◌≡◌, ◌∙◌, List, map, ap, subst}
 use Rattle.rbc_spec.specs.Frame.{Frame}
-use Rattle.rbc_family.specs.Logs.{sent_to}
+use Rattle.law_logs.specs.Logs.{sent_to}
 use Rattle.rbc_centre.specs.Views.{frame_number}
 use Rattle.rbc_log.specs.Entries.{entry_of}
 use Rattle.rbc_log.specs.Log.{LogValue}

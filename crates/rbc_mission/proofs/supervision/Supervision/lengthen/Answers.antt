@@ -4,7 +4,7 @@ use Rattle.rbc_spec.specs.SectionRuns.{within, no_run}
 use Rattle.rbc_spec.specs.Centre.{Mission}
 use Rattle.rbc_hand.specs.Tokens.{Name}
 use Rattle.rbc_hand.specs.Hands.{run}
-use Rattle.rbc_claims.specs.Sections.{next_of, TakesRun, IsHeldBy}
+use Rattle.rbc_allocation.specs.Sections.{next_of, TakesRun, IsHeldBy}
 use Rattle.rbc_handover.specs.Handings.{handing_of}
 use Rattle.rbc_mission.specs.Supervisions.{SupervisionState, mission_of}
 use Rattle.rbc_mission.proofs.Missions.{none_stands, takes_nothing, stands}

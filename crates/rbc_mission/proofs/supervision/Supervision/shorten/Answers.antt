@@ -2,7 +2,7 @@ use Rattle.std.proofs.Common.{◌-◌, ◌∙◌, Option, sym, ap, subst, arith}
 use Rattle.std.specs.Option.{option_map_or}
 use Rattle.rbc_spec.specs.SectionRuns.{no_run}
 use Rattle.rbc_spec.specs.Centre.{Mission}
-use Rattle.rbc_claims.specs.Sections.{IsHeldBy}
+use Rattle.rbc_allocation.specs.Sections.{IsHeldBy}
 use Rattle.rbc_handover.specs.Handings.{handing_of}
 use Rattle.rbc_mission.specs.Supervisions.{SupervisionState}
 use Rattle.rbc_mission.proofs.Missions.{none_stands, frees_nothing}

@@ -4,7 +4,7 @@ use Rattle.rbc_spec.specs.Acts.{yield, yield_if_due}
 use Rattle.rbc_hand.specs.Hands.{run}
 use Rattle.rbc_border.specs.Border.{BorderState}
 use Rattle.rbc_border.specs.Lending.{with_book}
-use Rattle.rbc_claims.specs.Sections.{IsHeldBy}
+use Rattle.rbc_allocation.specs.Sections.{IsHeldBy}
 use Rattle.rbc_handover.specs.Handings.{handing_of, kept_as}
 use Rattle.rbc_handover.specs.declared.handing.HandoverName.{HandoverName}
 use Rattle.rbc_mission.specs.Supervisions.{SupervisionState, mission_of, supervision_state, HasSupervision, with_supervision}

@@ -1,5 +1,5 @@
 use Rattle.std.proofs.Common.{◌≡◌, length}
-use Rattle.rbc_seen.specs.Seen.{yielded_on_way}
+use Rattle.law_reached.specs.Seen.{yielded_on_way}
 use Rattle.rbc_world.specs.World.{line_of, state_of}
 use Rattle.rbc_world.specs.Missions.{carried_from}
 use Rattle.rbc_world.proofs.Firsts.{first_from}

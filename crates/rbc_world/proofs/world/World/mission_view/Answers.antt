@@ -1,7 +1,7 @@
 use Rattle.std.proofs.Common.{◌≡◌, ◌∙◌, ap, sym, Option, Some, None, option_map}
 use Rattle.std.specs.Option.{option_or}
 use Rattle.rbc_spec.specs.ReadOff.{Held}
-use Rattle.rbc_seen.specs.Seen.{yielded_on_way}
+use Rattle.law_reached.specs.Seen.{yielded_on_way}
 use Rattle.rbc_world.specs.World.{line_of, state_of}
 use Rattle.rbc_world.specs.View.{held_shown}
 use Rattle.rbc_world.specs.Missions.{held_by_a_centre}

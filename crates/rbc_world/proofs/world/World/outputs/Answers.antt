@@ -5,7 +5,7 @@ use Rattle.rbc_spec.specs.World.{Event, Answer, world_step}
 use Rattle.rbc_world.specs.World.{state_of}
 use Rattle.rbc_world.specs.Views.{event_of, answer_of}
 use Rattle.rbc_world.specs.Answers.{IsRefusal}
-use Rattle.rbc_seen.proofs.Whole.{Reaches, goes_on, at_end}
+use Rattle.law_reached.proofs.Whole.{Reaches, goes_on, at_end}
 use Rattle.rbc_world.proofs.Loop.{starts, stops, map_drop, map_drop_all, map_push}
 use Rattle.rbc_world.proofs.world.World.outputs.Goals as goal
 

@@ -1,7 +1,7 @@
 use Rattle.std.proofs.Common.{◌≡◌, map, drop}
 use Rattle.rbc_world.specs.World.{line_of, state_of}
 use Rattle.rbc_world.specs.Views.{event_of, answer_of}
-use Rattle.rbc_seen.proofs.Whole.{Reaches}
+use Rattle.law_reached.proofs.Whole.{Reaches}
 use Rattle.rbc_world.proofs.world.World.outputs.Given as goal
 
 abbrev pub invariant-loop-event : goal.invariant-loop-event

@@ -1,7 +1,7 @@
 use Rattle.std.proofs.Common.{◌∙◌, ap}
 use Rattle.rbc_spec.specs.Centre.{Entry}
-use Rattle.rbc_flow.specs.Shows.{shown}
-use Rattle.rbc_seen.specs.Seen.{is_in_its_hand}
+use Rattle.law_network.specs.Shows.{shown}
+use Rattle.law_reached.specs.Seen.{is_in_its_hand}
 use Rattle.rbc_world.specs.World.{line_of, state_of}
 use Rattle.rbc_world.proofs.world.World.seen_at.Goals as goal
 

@@ -1,0 +1,48 @@
+ghost use Rattle.cli_status.specs.Statuses.{IsStatus};
+
+use crate::audit::audit_printed;
+use crate::diagram::draw_printed;
+use crate::explain::explain;
+use crate::files::Files;
+use crate::in_words::{show_message, tell_printed};
+use crate::run::{check, run};
+use crate::words::{Request, requested};
+use cli_status::{Fault, ended};
+use std::alloc::Global;
+use std::convert::AsStr;
+use std::io::Write;
+
+/// Does what the words behind the program's name ask for, and gives the exit status: 0 done, 1 an audit that found a difference, 2 words
+/// refused (help too), 3 a file that can't be read or a script fault, 4 a line fault, 5 a refused step, 6 a refused write, or a command that
+/// wants sockets, 7 a fault of a message.
+pub fn command<S: AsStr, F: Files, O: Write, E: Write>(
+    alloc: Global,
+    words: &[S],
+    files: &F,
+    out: &mut O,
+    err: &mut E,
+) -> u8
+    ensures { IsStatus result }
+{
+    let done = obey(alloc, words, files, out);
+    ended(done, out, err)
+}
+
+fn obey<'a, S: AsStr, F: Files, O: Write>(
+    alloc: Global,
+    words: &'a [S],
+    files: &F,
+    out: &mut O,
+) -> Result<(), Fault<'a>> {
+    match requested(alloc, words)? {
+        Request::Check { file } => check(alloc, file, files, out),
+        Request::Explain { file } => explain(alloc, file, files, out),
+        Request::Run { file, script } => run(alloc, file, script, files, out),
+        // Here are files, and no sockets: the program itself does these two.
+        Request::Serve { .. } | Request::Drive { .. } => Err(Fault::Socket),
+        Request::Audit { file, printed } => audit_printed(alloc, file, printed, files, out),
+        Request::Message { digits } => show_message(alloc, digits, out),
+        Request::Printed { file, printed } => tell_printed(alloc, file, printed, files, out),
+        Request::Picture { file, printed } => draw_printed(alloc, file, printed, files, out),
+    }
+}

@@ -1,0 +1,42 @@
+use crate::files::{Files, Rows};
+use cli_status::Fault;
+use std::alloc::{AllocError, Global};
+use std::fs::File;
+use std::io::{BufRead, BufReader, ErrorKind};
+use std::rt::Env;
+use std::{env, fs, rt};
+
+/// The files that the system has.
+#[derive(Clone, Copy)]
+pub struct Disk<'a, R>(pub &'a R);
+
+impl<R: rt::Files + AllocGlobal> Files for Disk<'_, R> {
+    fn text(&self, name: &str) -> Option<String> {
+        fs::read_to_string(self.0, name).ok()
+    }
+
+    // A file of any length is read line by line.
+    fn each_row<T: Rows>(&self, alloc: Global, name: &str, rows: &mut T) -> Option<()> {
+        let file = File::open(self.0, name).ok()?;
+        let mut reader = BufReader::new(alloc, file).ok()?;
+        let mut row = String::new(alloc);
+        for _ in 0..u64::MAX {
+            row.clear();
+            if reader.read_line(&mut row).ok()? == 0 {
+                break;
+            }
+            let row = row.as_str();
+            rows.row(row.strip_suffix('\n').unwrap_or(row));
+        }
+        Some(())
+    }
+}
+
+/// The words behind the program's name.
+pub fn words_of<R: Env + AllocGlobal>(rt: &R) -> Result<Vec<String>, Fault<'static>> {
+    match env::args(rt) {
+        Ok(words) => Ok(words.skip(1).collect(rt.alloc())?),
+        Err(error) if error.kind() == ErrorKind::OutOfMemory => Err(AllocError.into()),
+        Err(_) => Err(Fault::Words),
+    }
+}

@@ -1,0 +1,77 @@
+//! Messages, and what `run` prints, in words.
+
+use crate::files::Files;
+use crate::run::line_in;
+use cli_status::Fault;
+use cli_words::{Field, fields_of, line_in_words, name_of, words_of_fault};
+use hex::FromHexError;
+use rbc_line::Line;
+use std::alloc::{AllocError, Global};
+use std::io;
+use std::io::{BufWriter, Write};
+
+/// Shows a message field by field, or its first fault.
+pub fn show_message<O: Write>(
+    alloc: Global,
+    digits: &str,
+    out: &mut O,
+) -> Result<(), Fault<'static>> {
+    let bytes = match hex::decode(alloc, digits) {
+        Ok(bytes) => bytes,
+        Err(FromHexError::OutOfMemory) => return Err(AllocError.into()),
+        Err(_) => return Err(Fault::Words),
+    };
+    match fields_of(alloc, &bytes) {
+        Ok(fields) => Ok(print_fields(out, &fields)?),
+        Err(fault) => {
+            print_fields(out, name_of(&bytes).as_slice())?;
+            let number = fault.number();
+            let words = words_of_fault(fault);
+            writeln!(out, "fault {number}: {words}")?;
+            out.flush()?;
+            Err(Fault::Message(fault))
+        }
+    }
+}
+
+fn print_fields<O: Write>(out: &mut O, fields: &[Field]) -> io::Result<()> {
+    for field in fields {
+        writeln!(out, "{field}")?;
+    }
+    out.flush()
+}
+
+/// Says what `run` has printed for a line in words, each line for itself.
+pub fn tell_printed<'a, F: Files, O: Write>(
+    alloc: Global,
+    file: &'a str,
+    printed: &'a str,
+    files: &F,
+    out: &mut O,
+) -> Result<(), Fault<'a>> {
+    let line = line_in(alloc, file, files)?;
+    let Some(text) = files.text(printed) else {
+        return Err(Fault::CannotRead(printed));
+    };
+    let Ok(mut out) = BufWriter::new(alloc, out) else {
+        return Err(AllocError.into());
+    };
+    let done = print_told(alloc, &line, text.as_str(), &mut out);
+    out.flush()?;
+    done
+}
+
+fn print_told<W: Write>(
+    alloc: Global,
+    line: &Line,
+    text: &str,
+    out: &mut W,
+) -> Result<(), Fault<'static>> {
+    for row in text.lines() {
+        match line_in_words(alloc, line, row)? {
+            Some(words) => writeln!(out, "{words}")?,
+            None => writeln!(out, "{row}")?,
+        }
+    }
+    Ok(())
+}

@@ -1,0 +1,18 @@
+//! What `rbcline` does: it reads words, a line file and a script, runs the script on the line, and prints what comes
+//! out; it shows messages, and what a run printed, in words; it draws a run; and it audits what was printed.
+//!
+//! Bodies are free. What is printed, and each exit status, is fixed by docs/FORMATS.md.
+#![tactic(auto)]
+
+mod audit;
+pub mod command;
+mod diagram;
+pub mod disk;
+mod explain;
+pub mod files;
+mod forms;
+mod in_words;
+mod picture;
+pub mod run;
+mod teller;
+pub mod words;

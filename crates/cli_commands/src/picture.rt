@@ -1,0 +1,137 @@
+//! A line as a reader wants to see it: its centres, its tracks with their sections and borders, and its trains.
+
+use cli_print::name_of;
+use rbc_line::{Line, Section};
+use std::io;
+use std::io::Write;
+
+/// Prints all that a line file says.
+pub fn print_picture<W: Write>(out: &mut W, line: &Line) -> io::Result<()> {
+    writeln!(out, "NID_C {}", line.nid_c())?;
+    for centre in 0..line.centre_count() {
+        print_centre(out, line, centre)?;
+    }
+    for track in 0..line.track_count() {
+        print_track(out, line, track)?;
+    }
+    for number in 0..line.train_count() {
+        print_train(out, line, number)?;
+    }
+    Ok(())
+}
+
+fn print_centre<W: Write>(out: &mut W, line: &Line, centre: u8) -> io::Result<()> {
+    let name = name_of(line, centre);
+    let nid_rbc = line.nid_rbc(centre).unwrap_or(0);
+    write!(out, "centre {name}, NID_RBC {nid_rbc}, linked with")?;
+    let mut is_alone = true;
+    for other in 0..line.centre_count() {
+        if line.linked(centre, other) {
+            write!(out, " {}", name_of(line, other))?;
+            is_alone = false;
+        }
+    }
+    writeln!(out, "{}", if is_alone { " none" } else { "" })
+}
+
+fn print_track<W: Write>(out: &mut W, line: &Line, track: u8) -> io::Result<()> {
+    let name = line.track_name(track).unwrap_or("?");
+    writeln!(out, "track {name}, {} m", metres_of(line, track))?;
+    print_row(out, line, track)?;
+    print_sections(out, line, track)
+}
+
+/// How long a track is: where its last section ends.
+fn metres_of(line: &Line, track: u8) -> u32 {
+    let mut metres = 0;
+    for number in 0..line.section_count() {
+        if let Some(section) = section_on(line, track, number) {
+            metres = end_of(&section);
+        }
+    }
+    metres
+}
+
+/// The numbers of a track's sections in a row, behind the name of their home, with a bar at each border.
+fn print_row<W: Write>(out: &mut W, line: &Line, track: u8) -> io::Result<()> {
+    let mut home = None;
+    for number in 0..line.section_count() {
+        if let Some(section) = section_on(line, track, number) {
+            if home != Some(section.home) {
+                let bar = if home.is_some() { " |" } else { " " };
+                write!(out, "{bar} {}:", name_of(line, section.home))?;
+            }
+            write!(out, " {number}")?;
+            home = Some(section.home);
+        }
+    }
+    writeln!(out)
+}
+
+/// The sections of a track, one a line, and the borders between them.
+fn print_sections<W: Write>(out: &mut W, line: &Line, track: u8) -> io::Result<()> {
+    let mut home = None;
+    for number in 0..line.section_count() {
+        if let Some(section) = section_on(line, track, number) {
+            print_border(out, line, home, &section)?;
+            print_section(out, line, number, &section)?;
+            home = Some(section.home);
+        }
+    }
+    Ok(())
+}
+
+/// The border in front of a section, where the home before it is another.
+fn print_border<W: Write>(
+    out: &mut W,
+    line: &Line,
+    before: Option<u8>,
+    section: &Section,
+) -> io::Result<()> {
+    let Some(before) = before else {
+        return Ok(());
+    };
+    if before != section.home {
+        let from = name_of(line, before);
+        let to = name_of(line, section.home);
+        writeln!(out, "  border from {from} to {to} at {} m", section.start)?;
+    }
+    Ok(())
+}
+
+fn print_section<W: Write>(
+    out: &mut W,
+    line: &Line,
+    number: u16,
+    section: &Section,
+) -> io::Result<()> {
+    let home = name_of(line, section.home);
+    let start = section.start;
+    let end = end_of(section);
+    let metres = section.metres;
+    let balise = section.balise;
+    writeln!(
+        out,
+        "  section {number}, home {home}, {start} to {end} m, {metres} m long, balise {balise}"
+    )
+}
+
+fn print_train<W: Write>(out: &mut W, line: &Line, number: u8) -> io::Result<()> {
+    if let Some(train) = line.train(number) {
+        let registrar = name_of(line, train.registrar);
+        writeln!(out, "train {}, registrar {registrar}", train.nid_engine)?;
+    }
+    Ok(())
+}
+
+/// The section of this number, if it is on the track.
+fn section_on(line: &Line, track: u8, number: u16) -> Option<Section> {
+    match line.section(number) {
+        Some(section) if section.track == track => Some(section),
+        _ => None,
+    }
+}
+
+fn end_of(section: &Section) -> u32 {
+    section.start.saturating_add(u32::from(section.metres))
+}

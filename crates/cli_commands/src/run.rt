@@ -1,0 +1,76 @@
+use crate::files::Files;
+use crate::teller::Printer;
+use cli_print::print_counts;
+use cli_script::play::{PlayFault, play};
+use cli_script::script::{Entry, script_of};
+use cli_status::Fault;
+use rbc_line::Line;
+use rbc_world::World;
+use std::alloc::{AllocError, Global};
+use std::io::{BufWriter, Write};
+
+/// Runs a script on a line: prints each event and what it leads to, and at the end the line.
+pub fn run<'a, F: Files, O: Write>(
+    alloc: Global,
+    file: &'a str,
+    script: &'a str,
+    files: &F,
+    out: &mut O,
+) -> Result<(), Fault<'a>> {
+    let line = line_in(alloc, file, files)?;
+    let entries = entries_in(alloc, &line, script, files)?;
+    let Ok(mut out) = BufWriter::new(alloc, out) else {
+        return Err(AllocError.into());
+    };
+    let done = print_played(alloc, &line, &entries, &mut out);
+    out.flush()?;
+    done
+}
+
+/// Reads a line file, and prints how many centres, tracks, sections and trains the line has.
+pub fn check<'a, F: Files, O: Write>(
+    alloc: Global,
+    file: &'a str,
+    files: &F,
+    out: &mut O,
+) -> Result<(), Fault<'a>> {
+    let line = line_in(alloc, file, files)?;
+    print_counts(out, &line)?;
+    out.flush()?;
+    Ok(())
+}
+
+/// The line of a line file.
+pub fn line_in<'a, F: Files>(alloc: Global, file: &'a str, files: &F) -> Result<Line, Fault<'a>> {
+    let Some(text) = files.text(file) else {
+        return Err(Fault::CannotRead(file));
+    };
+    Ok(Line::from_toml(alloc, text.as_str())?)
+}
+
+fn entries_in<'a, F: Files>(
+    alloc: Global,
+    line: &Line,
+    script: &'a str,
+    files: &F,
+) -> Result<Vec<Entry>, Fault<'a>> {
+    let Some(text) = files.text(script) else {
+        return Err(Fault::CannotRead(script));
+    };
+    Ok(script_of(alloc, line, text.as_str())?)
+}
+
+fn print_played<W: Write>(
+    alloc: Global,
+    line: &Line,
+    entries: &[Entry],
+    out: &mut W,
+) -> Result<(), Fault<'static>> {
+    let mut world = World::new(alloc, line)?;
+    let mut printer = Printer { alloc, line, out };
+    match play(&mut world, entries, &mut printer) {
+        Ok(()) => printer.show_line(&world),
+        Err(PlayFault::Refused(fault)) => Err(fault.into()),
+        Err(PlayFault::Untold(fault)) => Err(fault),
+    }
+}

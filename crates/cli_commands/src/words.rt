@@ -1,0 +1,137 @@
+use crate::forms::rbcline;
+use clap::error::ErrorKind;
+use clap::{ArgMatches, Error};
+use cli_status::Fault;
+use std::alloc::{AllocError, Global};
+use std::convert::AsStr;
+
+/// What the words ask for.
+#[derive(Clone, Copy)]
+pub enum Request<'a> {
+    /// Read the line, and say how much of each thing it has.
+    Check {
+        file: &'a str,
+    },
+    /// Say all that is wrong in the line file, or show the line.
+    Explain {
+        file: &'a str,
+    },
+    /// Run the script on the line.
+    Run {
+        file: &'a str,
+        script: &'a str,
+    },
+    /// Run the events of a print again, and hold its lines against it.
+    Audit {
+        file: &'a str,
+        printed: &'a str,
+    },
+    /// Let the centres of the line run: the first listens at this port, the others behind it.
+    Serve {
+        file: &'a str,
+        port: u16,
+        is_quiet: bool,
+    },
+    /// Be a train: send the lines of the file to the centre at this port.
+    Drive {
+        port: u16,
+        file: &'a str,
+    },
+    /// Show the message of these hexadecimal digits field by field.
+    Message {
+        digits: &'a str,
+    },
+    /// Say what `run` printed in words.
+    Printed {
+        file: &'a str,
+        printed: &'a str,
+    },
+    /// Draw what `run` printed.
+    Picture {
+        file: &'a str,
+        printed: &'a str,
+    },
+}
+
+/// Reads the words behind the program's name.
+pub fn requested<'a, S: AsStr>(alloc: Global, words: &'a [S]) -> Result<Request<'a>, Fault<'a>> {
+    let matches = match matched(alloc, words) {
+        Ok(matches) => matches,
+        Err(error) if error.kind() == ErrorKind::OutOfMemory => return Err(AllocError.into()),
+        Err(error) => return Err(Fault::Usage(error)),
+    };
+    named(&matches).ok_or(Fault::Words)
+}
+
+fn named<'a>(matches: &ArgMatches<'a>) -> Option<Request<'a>> {
+    let (command, words) = matches.subcommand()?;
+    match command {
+        "words" => named_words(words),
+        "serve" => named_serve(words),
+        "drive" => named_drive(words),
+        _ => named_of_file(command, words),
+    }
+}
+
+fn named_of_file<'a>(command: &str, words: &ArgMatches<'a>) -> Option<Request<'a>> {
+    let file = words.get_str("FILE")?;
+    match command {
+        "check" => Some(Request::Check { file }),
+        "explain" => Some(Request::Explain { file }),
+        "run" => named_run(file, words),
+        _ => named_of_print(command, file, words),
+    }
+}
+
+fn named_run<'a>(file: &'a str, words: &ArgMatches<'a>) -> Option<Request<'a>> {
+    let script = words.get_str("SCRIPT")?;
+    Some(Request::Run { file, script })
+}
+
+fn named_of_print<'a>(command: &str, file: &'a str, words: &ArgMatches<'a>) -> Option<Request<'a>> {
+    let printed = words.get_str("PRINTED")?;
+    match command {
+        "audit" => Some(Request::Audit { file, printed }),
+        "picture" => Some(Request::Picture { file, printed }),
+        _ => None,
+    }
+}
+
+fn named_words<'a>(words: &ArgMatches<'a>) -> Option<Request<'a>> {
+    if let Some(digits) = words.get_str("message") {
+        return Some(Request::Message { digits });
+    }
+    let file = words.get_str("FILE")?;
+    let printed = words.get_str("PRINTED")?;
+    Some(Request::Printed { file, printed })
+}
+
+fn named_serve<'a>(words: &ArgMatches<'a>) -> Option<Request<'a>> {
+    Some(Request::Serve {
+        file: words.get_str("FILE")?,
+        port: port_of(words.get_str("PORT")?)?,
+        is_quiet: words.get_flag("quiet"),
+    })
+}
+
+fn named_drive<'a>(words: &ArgMatches<'a>) -> Option<Request<'a>> {
+    let port = port_of(words.get_str("PORT")?)?;
+    let file = words.get_str("FILE")?;
+    Some(Request::Drive { port, file })
+}
+
+// A port: a number from 1 to 65 535, without a sign.
+fn port_of(word: &str) -> Option<u16> {
+    if word.starts_with('+') {
+        return None;
+    }
+    match word.parse() {
+        Ok(0) => None,
+        Ok(port) => Some(port),
+        Err(_) => None,
+    }
+}
+
+fn matched<'a, S: AsStr>(alloc: Global, words: &'a [S]) -> Result<ArgMatches<'a>, Error> {
+    rbcline(alloc)?.try_get_matches_from(words)
+}

@@ -1,0 +1,70 @@
+//! The events, with their numbers and, where there is room, what they are.
+
+use crate::chart::{Event, Kind};
+use crate::scale::{RIGHT, Scale};
+use cli_words::name_of_number;
+use std::alloc::AllocError;
+
+pub fn draw_events(
+    svg: &mut String,
+    scale: &Scale<'_>,
+    events: &[Event],
+) -> Result<(), AllocError> {
+    let stride = scale.stride();
+    for (e, event) in events.iter().enumerate() {
+        let number = e.saturating_add(1);
+        if number.checked_rem(stride) == Some(0) {
+            draw_number(svg, scale, e)?;
+        }
+        if scale.has_room() {
+            draw_words(svg, scale, e, event)?;
+        }
+    }
+    Ok(())
+}
+
+/// The number of an event, from 1, and a line through all tracks.
+fn draw_number(svg: &mut String, scale: &Scale<'_>, e: usize) -> Result<(), AllocError> {
+    let number = e.saturating_add(1);
+    let y = scale.y(e);
+    let left = scale.left();
+    let right = RIGHT;
+    writeln!(svg, "<path class=\"event\" d=\"M{left} {y}H{right}\"/>")?;
+    let y = y.saturating_add(4);
+    writeln!(
+        svg,
+        "<text x=\"44\" y=\"{y}\" class=\"small\" text-anchor=\"end\">{number}</text>"
+    )
+}
+
+/// What an event is, pale where it is left without an answer.
+fn draw_words(
+    svg: &mut String,
+    scale: &Scale<'_>,
+    e: usize,
+    event: &Event,
+) -> Result<(), AllocError> {
+    let y = scale.y(e).saturating_add(4);
+    let class = if event.is_silent {
+        "small silent"
+    } else {
+        "small"
+    };
+    write!(svg, "<text x=\"52\" y=\"{y}\" class=\"{class}\">")?;
+    draw_kind(svg, event.kind)?;
+    writeln!(svg, "</text>")
+}
+
+fn draw_kind(svg: &mut String, kind: Kind) -> Result<(), AllocError> {
+    let (what, number) = match kind {
+        Kind::Set { section } => ("set", u32::from(section)),
+        Kind::Unset { section } => ("unset", u32::from(section)),
+        Kind::Delivery { number } => ("frame", number),
+        Kind::NoMessage => return svg.push_str("no message"),
+        Kind::Message { number, nid_engine } => {
+            let name = name_of_number(number);
+            return write!(svg, "{number} of train {nid_engine}<title>{name}</title>");
+        }
+    };
+    write!(svg, "{what} {number}")
+}

@@ -1,0 +1,191 @@
+-- Laws of runs: what is in them, what two share, a run cut in two or joined, and tests of a run's sections.
+use Rattle.std.proofs.Common.{◌≡◌, ◌≢◌, ◌⊎◌, ℕ, zero, suc, ◌+◌, ◌-◌, ◌<◌, ◌≤◌, ◌==◌, Bool, true, false, ◌&&◌, ◌||◌, nat_le, nat_lt, ◌++◌, refl, sym, ap, ◌∙◌, inl, inr, arith, ⊎_elim, leb-true, ltb-true, le-leb, lt-ltb, le-ltb, eq-eqb, eqb-true}
+use Rattle.std.specs.List.{filter, range_with_len}
+use Rattle.std.proofs.lemmas.Bool.{or_left, or_right, or_cases, cases_lt, cases_eq, cond-true, cond-false, and_parts, and_from, and_left, and_right, both_ways, lt-leb, ne_eqb, eqb-false, false_from_ne_true}
+use Rattle.std.proofs.lemmas.Bool.Decides.{eqb_tells}
+use Rattle.std.proofs.lemmas.List.{append-nil}
+use Rattle.std.proofs.lemmas.List.Elements.{filter-append}
+use Rattle.rbc_spec.specs.SectionRuns.{SectionRun, no_run, within, behind, is_empty, part_before, part_from, shared, joined, all_of}
+use Rattle.law_base.proofs.Lists.{range-append, filter-range_none, each_of, all_from}
+
+-- what is within a run stands between its ends
+pub within_true : (r : SectionRun) (s : ℕ) → within r s ≡ true → (r.first ≤ s) × (s < r.first + r.count)
+unfolding within
+within_true r s in_run =
+    let both = and_parts (nat_le r.first s) (nat_lt s (r.first + r.count)) in_run in
+    (leb-true r.first s both.0, ltb-true s (r.first + r.count) both.1)
+
+-- what stands between its ends is within it
+pub within_from : (r : SectionRun) (s : ℕ) → r.first ≤ s → s < r.first + r.count → within r s ≡ true
+unfolding within
+within_from r s low high =
+    and_from (nat_le r.first s) (nat_lt s (r.first + r.count)) (le-leb r.first s low) (lt-ltb s (r.first + r.count) high)
+
+-- what stands before it is not
+pub within_before : (r : SectionRun) (s : ℕ) → s < r.first → within r s ≡ false
+unfolding within
+within_before r s low = and_left (nat_le r.first s) (nat_lt s (r.first + r.count)) (lt-leb r.first s low)
+
+-- nor what stands behind it
+pub within_behind : (r : SectionRun) (s : ℕ) → r.first + r.count ≤ s → within r s ≡ false
+unfolding within
+within_behind r s high = and_right (nat_le r.first s) (nat_lt s (r.first + r.count)) (le-ltb s (r.first + r.count) high)
+
+-- nothing is within an empty run
+pub within_none : (r : SectionRun) (s : ℕ) → r.count ≡ 0 → within r s ≡ false
+within_none r s none = ⊎_elim (λ (low : s < r.first). within_before r s low)
+    (λ (high : r.first ≤ s). within_behind r s (omega arith)) (cases_lt s r.first)
+
+-- two tests agree where each passes what the other does
+pub same_tests : (a b : Bool) → (a ≡ true → b ≡ true) → (b ≡ true → a ≡ true) → a ≡ b
+same_tests true b to from = sym (to refl)
+same_tests false true to from = from refl
+same_tests false false to from = refl
+
+pub within_part_before : (r : SectionRun) (cut s : ℕ) → within (part_before cut r) s ≡ (within r s && nat_lt s cut)
+within_part_before r cut s = same_tests _ _
+    (λ part. let ends = within_true (part_before cut r) s part in
+    and_from (within r s) (nat_lt s cut) (within_from r s (omega arith) (omega arith)) (lt-ltb s cut (omega arith)))
+    (λ both. let parts = and_parts (within r s) (nat_lt s cut) both in
+    let ends = within_true r s parts.0 in
+    let low : s < cut = ltb-true s cut parts.1 in
+    within_from (part_before cut r) s (omega arith) (omega arith))
+
+pub within_part_from : (r : SectionRun) (cut s : ℕ) → within (part_from cut r) s ≡ (within r s && nat_le cut s)
+within_part_from r cut s = same_tests _ _
+    (λ part. let ends = within_true (part_from cut r) s part in
+    and_from (within r s) (nat_le cut s) (within_from r s (omega arith) (omega arith)) (le-leb cut s (omega arith)))
+    (λ both. let parts = and_parts (within r s) (nat_le cut s) both in
+    let ends = within_true r s parts.0 in
+    let high : cut ≤ s = leb-true cut s parts.1 in
+    within_from (part_from cut r) s (omega arith) (omega arith))
+
+pub parts_count : (r : SectionRun) (cut : ℕ) → (part_before cut r).count + (part_from cut r).count ≡ r.count
+parts_count r cut = omega arith
+
+pub within_shared : (a b : SectionRun) (s : ℕ) → within (shared a b) s ≡ (within a s && within b s)
+within_shared a b s = same_tests _ _
+    (λ in_both. let ends = within_true (shared a b) s in_both in
+    and_from (within a s) (within b s) (within_from a s (omega arith) (omega arith)) (within_from b s (omega arith) (omega arith)))
+    (λ both. let parts = and_parts (within a s) (within b s) both in
+    let one = within_true a s parts.0 in
+    let two = within_true b s parts.1 in
+    within_from (shared a b) s (omega arith) (omega arith))
+
+-- ## Joined runs
+
+none_joined : (a b : SectionRun) → a.count ≡ 0 → joined a b ≡ b
+none_joined a b none = cond-true (is_empty a) b (record { first = a.first; count = a.count + b.count }) (eq-eqb a.count 0 none)
+
+some_joined : (a b : SectionRun) → a.count ≢ 0 → joined a b ≡ record { first = a.first; count = a.count + b.count }
+some_joined a b some = cond-false (is_empty a) b (record { first = a.first; count = a.count + b.count }) (ne_eqb a.count 0 some)
+
+-- a hand that is not empty and a run behind it
+pub joined_is : (hand : SectionRun) (n : ℕ) → 1 ≤ hand.count → joined hand (record { first = behind hand; count = n }) ≡ record { first = hand.first; count = hand.count + n }
+joined_is hand n some = cond-false (is_empty hand) _ _ (ne_eqb hand.count 0 (λ e. omega arith))
+
+pub joined_count : (a b : SectionRun) → (joined a b).count ≡ a.count + b.count
+joined_count a b = ⊎_elim
+    (λ (none : a.count ≡ 0). ap (λ (r : SectionRun). r.count) (none_joined a b none) ∙ (omega arith))
+    (λ (some : a.count ≢ 0). ap (λ (r : SectionRun). r.count) (some_joined a b some))
+    (cases_eq a.count 0)
+
+within_both : (a b : SectionRun) (s : ℕ) → b.first ≡ behind a
+    → within (record { first = a.first; count = a.count + b.count }) s ≡ (within a s || within b s)
+within_both a b s follows = same_tests _ _
+    (λ whole. let ends = within_true (record { first = a.first; count = a.count + b.count }) s whole in ⊎_elim
+    (λ (low : s < a.first + a.count). or_left (within a s) (within b s) (within_from a s (omega arith) low))
+    (λ (high : a.first + a.count ≤ s). or_right (within a s) (within b s) (within_from b s (omega arith) (omega arith)))
+    (cases_lt s (a.first + a.count)))
+    (λ part. ⊎_elim
+    (λ (low : within a s ≡ true). let ends = within_true a s low in
+    within_from (record { first = a.first; count = a.count + b.count }) s (omega arith) (omega arith))
+    (λ (high : within b s ≡ true). let ends = within_true b s high in
+    within_from (record { first = a.first; count = a.count + b.count }) s (omega arith) (omega arith))
+    (or_cases (within a s) (within b s) part))
+
+pub within_joined : (a b : SectionRun) (s : ℕ) → b.first ≡ behind a → within (joined a b) s ≡ (within a s || within b s)
+within_joined a b s follows = ⊎_elim
+    (λ (none : a.count ≡ 0). ap (λ r. within r s) (none_joined a b none) ∙ ap (λ x. x || within b s) (sym (within_none a s none)))
+    (λ (some : a.count ≢ 0). ap (λ r. within r s) (some_joined a b some) ∙ within_both a b s follows)
+    (cases_eq a.count 0)
+
+-- two runs with the same ends are one
+pub same_run : (r q : SectionRun) → r.first ≡ q.first → r.count ≡ q.count → r ≡ q
+same_run r q first count = λ i. record { first = first i; count = count i }
+
+pub joined_empty : (a b : SectionRun) (s : ℕ) → is_empty b ≡ true → within (joined a b) s ≡ within a s
+joined_empty a b s empty =
+    let nothing : b.count ≡ 0 = eqb-true b.count 0 empty in ⊎_elim
+    (λ (none : a.count ≡ 0). ap (λ r. within r s) (none_joined a b none) ∙ within_none b s nothing ∙ sym (within_none a s none))
+    (λ (some : a.count ≢ 0). ap (λ r. within r s)
+    (some_joined a b some ∙ same_run (record { first = a.first; count = a.count + b.count }) a refl (omega arith)))
+    (cases_eq a.count 0)
+
+pub joined_again : (r : SectionRun) (cut : ℕ) → r.first ≤ cut → cut ≤ behind r → joined (part_before cut r) (part_from cut r) ≡ r
+joined_again r cut low high = ⊎_elim
+    (λ (none : (part_before cut r).count ≡ 0). none_joined (part_before cut r) (part_from cut r) none
+    ∙ same_run (part_from cut r) r (omega arith) (omega arith))
+    (λ (some : (part_before cut r).count ≢ 0). some_joined (part_before cut r) (part_from cut r) some
+    ∙ same_run (record { first = r.first; count = (part_before cut r).count + (part_from cut r).count }) r refl (parts_count r cut))
+    (cases_eq (part_before cut r).count 0)
+
+-- runs that are not empty and have the same sections are one run
+pub run_only : (r q : SectionRun) → is_empty r ≡ false → ((s : ℕ) → within r s ≡ within q s) → r ≡ q
+run_only r q some same =
+    let more : r.count ≢ 0 = eqb-false r.count 0 some in
+    let low = within_true q r.first (sym (same r.first) ∙ within_from r r.first (omega arith) (omega arith)) in
+    let low' = within_true r q.first (same q.first ∙ within_from q q.first (omega arith) (omega arith)) in
+    let last : ℕ = r.first + r.count - 1 in
+    let last' : ℕ = q.first + q.count - 1 in
+    let high = within_true q last (sym (same last) ∙ within_from r last (omega arith) (omega arith)) in
+    let high' = within_true r last' (same last' ∙ within_from q last' (omega arith) (omega arith)) in
+    same_run r q (omega arith) (omega arith)
+
+-- ## Tests of the sections of a run
+
+-- what all sections of a run pass each passes
+pub each_within : (test : ℕ → Bool) (r : SectionRun) → all_of test r ≡ true → (s : ℕ) → within r s ≡ true → test s ≡ true
+each_within test r all s so = let ends = within_true r s so in each_of test r.first r.count all s ends.0 ends.1
+
+pub all_within : (test : ℕ → Bool) (r : SectionRun) → ((s : ℕ) → within r s ≡ true → test s ≡ true) → all_of test r ≡ true
+all_within test r each = all_from test r.first r.count (λ s low high. each s (within_from r s low high))
+
+-- what passes only within a run is found by going through that run
+pub filter_run : (test : ℕ → Bool) (r : SectionRun) (n : ℕ) → ((s : ℕ) → test s ≡ true → within r s ≡ true) → ((s : ℕ) → within r s ≡ true → s < n)
+    → filter test (range_with_len 0 n) ≡ filter test (range_with_len r.first r.count)
+filter_run test r n only inside = by_count r.count refl
+  where
+    out : (s : ℕ) → within r s ≡ false → test s ≡ false
+    out s away = false_from_ne_true (test s) (λ passes. both_ways (within r s) away (only s passes))
+
+    by_count : (k : ℕ) → r.count ≡ k → filter test (range_with_len 0 n) ≡ filter test (range_with_len r.first r.count)
+    by_count zero is =
+        filter-range_none test 0 n (λ s low high. out s (by_place s (cases_lt s r.first)))
+        ∙ ap (λ k. filter test (range_with_len r.first k)) (sym is)
+      where
+        by_place : (s : ℕ) → (s < r.first) ⊎ (r.first ≤ s) → within r s ≡ false
+        by_place s (inl low) = within_before r s low
+        by_place s (inr high) = within_behind r s (omega (arith, is))
+    by_count (suc k) is =
+        let last : ℕ = r.first + k in
+        let below : last < n = inside last (within_from r last (omega arith) (omega (arith, is))) in
+        let rest : ℕ = n - (r.first + r.count) in
+        let whole : n ≡ r.first + (r.count + rest) = omega (arith, is, below) in
+        ap (λ m. filter test (range_with_len 0 m)) whole
+        ∙ ap (filter test) (range-append 0 r.first (r.count + rest))
+        ∙ filter-append test (range_with_len 0 r.first) (range_with_len (0 + r.first) (r.count + rest))
+        ∙ ap (λ xs. xs ++ filter test (range_with_len (0 + r.first) (r.count + rest))) (filter-range_none test 0 r.first (λ s low high. out s (within_before r s (omega arith))))
+        ∙ ap (λ k. filter test (range_with_len k (r.count + rest))) (let e : 0 + r.first ≡ r.first = omega arith in e)
+        ∙ ap (filter test) (range-append r.first r.count rest)
+        ∙ filter-append test (range_with_len r.first r.count) (range_with_len (r.first + r.count) rest)
+        ∙ ap (λ xs. filter test (range_with_len r.first r.count) ++ xs) (filter-range_none test (r.first + r.count) rest (λ s low high. out s (within_behind r s low)))
+        ∙ append-nil (filter test (range_with_len r.first r.count))
+
+-- ## No run, and a run joined with it
+
+pub some_count : (n : ℕ) → 1 ≤ n → (n == 0) ≡ false
+some_count n some = elim (eqb_tells n 0) [ inl e ↦ absurd (let same = e.1 in let wrong : ⊥ = omega (arith, same) in wrong) | inr e ↦ e.0 ]
+
+pub none_within : (s : ℕ) → within no_run s ≡ false
+none_within s = within_behind no_run s (omega arith)

@@ -1,0 +1,195 @@
+-- What the centre that is handed a train does: it expects the train, takes over, and takes the mission.
+use Rattle.std.proofs.Common.{◌≡◌, ◌≢◌, ℕ, ◌+◌, ◌≤◌, ◌==◌, ◌&&◌, not, Bool, true, false, if◌then◌else◌, List, [], ◌∷◌, Option, Some, None, option_map, refl, sym, ap, ◌∙◌, subst, inl, arith, ⊎_elim, All}
+use Rattle.std.specs.Option.{option_map_or}
+use Rattle.std.proofs.lemmas.Bool.{cases_eq, ne_eqb, and_parts, eqb-true}
+use Rattle.std.proofs.lemmas.List.Elements.{All-nil, All-cons}
+use Rattle.std.proofs.Math.Bool.{and-true}
+use Rattle.law_counting.specs.Sums.{one_if}
+use Rattle.law_counting.proofs.Chain.{chain_still}
+use Rattle.law_counting.proofs.Sums.{put_same, put_other}
+use Rattle.rbc_spec.specs.Maps.{put, put_pair, has}
+use Rattle.rbc_spec.specs.Line.{Line, is_centre}
+use Rattle.rbc_spec.specs.Frame.{Body, TakingOver}
+use Rattle.rbc_spec.specs.Centre.{Centre, Mission, Handing, Expectation}
+use Rattle.rbc_spec.specs.Acts.{change_mission}
+use Rattle.rbc_spec.specs.Rules.{taking, take_over}
+use Rattle.rbc_spec.specs.Links.{claimed}
+use Rattle.law_base.proofs.Puts.{itself, put_pair_there}
+use Rattle.law_network.specs.Pairs.{follows, handing_to, count_if, announces, takes_over, yields}
+use Rattle.law_handover.specs.Orderly.{number_expected, number_announced, waiting, claimed_as, IsTaking}
+use Rattle.law_handover.proofs.Orderly.{Goes}
+
+-- ## It takes over
+
+module _ (line : Line) (t : ℕ) (k : Centre) where
+  abbrev is_new : ℕ → Bool
+  is_new d = is_centre line d && has (λ e. not e.is_taking) (k.expects d t)
+
+  -- what is expected from one centre, and what is sent to it
+  abbrev now : Bool → (ℕ → Option Expectation) → ℕ → Option Expectation
+  now new row = if new then put row t (option_map taking (row t)) else row
+
+  abbrev sent : Bool → Option Expectation → List Body
+  sent new o = option_map_or (λ e. if new then TakingOver e.number t ∷ [] else []) o []
+
+  -- a test of bodies that none of these passes
+  sent_none : (test : Body → Bool) → ((n : ℕ) → test (TakingOver n t) ≡ false) → (new : Bool) (o : Option Expectation) → count_if test (sent new o) ≡ 0
+  sent_none test none new None = refl
+  sent_none test none false (Some e) = refl
+  sent_none test none true (Some e) = omega (arith, ap one_if (none e.number))
+
+  sent_all : (P : Body → Type 0) → ((n : ℕ) → P (TakingOver n t)) → (new : Bool) (o : Option Expectation) → All P (sent new o)
+  sent_all P all new None = All-nil P
+  sent_all P all false (Some e) = All-nil P
+  sent_all P all true (Some e) = All-cons P (TakingOver e.number t) [] (all e.number) (All-nil P)
+
+  number_same : (new : Bool) (row : ℕ → Option Expectation) (u : ℕ) → number_expected (now new row u) ≡ number_expected (row u)
+  number_same false row u = refl
+  number_same true row u = ⊎_elim
+      (λ (here : u ≡ t). subst (λ v. number_expected (put row t (option_map taking (row t)) v) ≡ number_expected (row v)) (sym here)
+      (ap number_expected (put_same row t (option_map taking (row t))) ∙ by_one (row t)))
+      (λ (other : u ≢ t). ap number_expected (put_other row t (option_map taking (row t)) u other))
+      (cases_eq u t)
+    where
+      by_one : (o : Option Expectation) → number_expected (option_map taking o) ≡ number_expected o
+      by_one None = refl
+      by_one (Some e) = refl
+
+  waits_less : (new : Bool) (row : ℕ → Option Expectation) (u h : ℕ) → (new ≡ true → has (λ e. not e.is_taking) (row t) ≡ true)
+      → waiting h (now new row u) + count_if (takes_over u h) (sent new (row t)) ≤ waiting h (row u)
+  waits_less false row u h so = omega (arith, none_sent (row t))
+    where
+      none_sent : (o : Option Expectation) → count_if (takes_over u h) (sent false o) ≡ 0
+      none_sent None = refl
+      none_sent (Some e) = refl
+  waits_less true row u h so = ⊎_elim
+      (λ (here : u ≡ t). subst (λ v. waiting h (put row t (option_map taking (row t)) v) + count_if (takes_over v h) (sent true (row t)) ≤ waiting h (row v)) (sym here)
+      (omega (arith, ap (waiting h) (put_same row t (option_map taking (row t))), by_one (row t) (so refl))))
+      (λ (other : u ≢ t). omega (
+        arith,
+        ap (waiting h) (put_other row t (option_map taking (row t)) u other),
+        sent_none (takes_over u h) (λ n. ap (λ b. b && (n == h)) (ne_eqb t u (λ same. other (sym same)))) true (row t),
+      ))
+      (cases_eq u t)
+    where
+      by_tests : (same taking_so own : Bool) → not taking_so ≡ true → own ≡ true → one_if (same && not true) + one_if (own && same) ≤ one_if (same && not taking_so)
+      by_tests true false true is own = omega arith
+      by_tests false false true is own = omega arith
+      by_tests same true own is here = cc
+      by_tests same taking_so false is own = cc
+
+      by_one : (o : Option Expectation) → has (λ e. not e.is_taking) o ≡ true → waiting h (option_map taking o) + count_if (takes_over t h) (sent true o) ≤ waiting h o
+      by_one None is = omega arith
+      by_one (Some e) is = omega (arith, by_tests (e.number == h) e.is_taking (t == t) is (itself t))
+
+  pub goes_take_over : Goes k (take_over line t k)
+  goes_take_over = record {
+    leads = λ d u. chain_still (follows u) (sent (is_new d) (k.expects d t)) (number_announced (handing_to d (k.mission u)))
+        (sent_all (λ f. follows u f (number_announced (handing_to d (k.mission u))) ≡ Some (number_announced (handing_to d (k.mission u)))) (λ n. refl) (is_new d) (k.expects d t));
+    expected = λ a u. number_same (is_new a) (k.expects a) u;
+    announced = omega arith;
+    claimed = λ d u h. omega (arith, sent_none (yields u h) (λ n. refl) (is_new d) (k.expects d t));
+    anew = λ d u h. inl (sent_none (announces u h) (λ n. refl) (is_new d) (k.expects d t));
+    takes = λ a u h. waits_less (is_new a) (k.expects a) u h (λ new. (and_parts (is_centre line a) (has (λ e. not e.is_taking) (k.expects a t)) new).1);
+  }
+
+-- ## It expects a train from a as frame f says
+
+module _ (a t : ℕ) (f : Body) (e : Option Expectation) (k y : Centre) (expects : y.expects ≡ put_pair k.expects a t e) (announced : y.announced ≡ k.announced)
+    (handing : (b u : ℕ) → handing_to b (y.mission u) ≡ handing_to b (k.mission u)) (other_train : (u : ℕ) (n : Option ℕ) → u ≢ t → follows u f n ≡ Some n)
+    (leads : follows t f (number_expected (k.expects a t)) ≡ Some (number_expected e)) (waits : (h : ℕ) → waiting h e ≤ waiting h (k.expects a t) + one_if (announces t h f)) where
+  there : y.expects a t ≡ e
+  there = ap (λ (g : ℕ → ℕ → Option Expectation). g a t) expects ∙ put_pair_there k.expects a t e
+
+  other : (u : ℕ) → u ≢ t → y.expects a u ≡ k.expects a u
+  other u apart = ap (λ (g : ℕ → ℕ → Option Expectation). g a u) expects ∙ ap (λ (row : ℕ → Option Expectation). row u) (put_same k.expects a (put (k.expects a) t e)) ∙ put_other (k.expects a) t e u apart
+
+  pub expect_taking : IsTaking a f k y
+  expect_taking = record {
+    leads = λ u. ⊎_elim
+        (λ (here : u ≡ t). subst (λ v. follows v f (number_expected (k.expects a v)) ≡ Some (number_expected (y.expects a v))) (sym here) (leads ∙ ap (λ o. Some (number_expected o)) (sym there)))
+        (λ (apart : u ≢ t). other_train u (number_expected (k.expects a u)) apart ∙ ap (λ o. Some (number_expected o)) (sym (other u apart)))
+        (cases_eq u t);
+    expected = λ i u apart. ap (λ (g : ℕ → ℕ → Option Expectation). g i u) expects ∙ ap (λ (row : ℕ → Option Expectation). row u) (put_other k.expects a (put (k.expects a) t e) i apart);
+    waits = λ u h. ⊎_elim
+        (λ (here : u ≡ t). subst (λ v. waiting h (y.expects a v) ≤ waiting h (k.expects a v) + one_if (announces v h f)) (sym here) (omega (arith, ap (waiting h) there, waits h)))
+        (λ (apart : u ≢ t). omega (arith, ap (waiting h) (other u apart)))
+        (cases_eq u t);
+    announced = announced;
+    number = λ u. ap number_announced (handing a u);
+    claimed = λ u h. omega (arith, ap (claimed_as h) (handing a u));
+    handing = λ b u apart. handing b u;
+  }
+
+-- ## A handover is claimed
+
+module _ (a number t : ℕ) (k : Centre) where
+  abbrev claim : Handing → Handing
+  claim h = if (h.number == number) && (h.to == a) then record h { is_claimed = true } else h
+
+  -- the mission of t, with its handover claimed
+  abbrev so : ℕ → Option Mission
+  so = (change_mission t (claimed a number) k).state.mission
+
+  by_train : (P : ℕ → Option Mission → Option Mission → Type 0) (u : ℕ) → P t (option_map (claimed a number) (k.mission t)) (k.mission t) → (u ≢ t → P u (k.mission u) (k.mission u)) → P u (so u) (k.mission u)
+  by_train P u here other = ⊎_elim
+      (λ (same : u ≡ t). subst (λ v. P v (so v) (k.mission v)) (sym same) (subst (λ o. P t o (k.mission t)) (sym (put_same k.mission t (option_map (claimed a number) (k.mission t)))) here))
+      (λ (apart : u ≢ t). subst (λ o. P u o (k.mission u)) (sym (put_other k.mission t (option_map (claimed a number) (k.mission t)) u apart)) (other apart))
+      (cases_eq u t)
+
+  -- what is said of a mission's handover to b, and of the same when it is claimed
+  by_mission : (b : ℕ) (P : Option Handing → Option Handing → Type 0) → P None None
+      → ((h : Handing) → P (if (claim h).to == b then Some (claim h) else None) (if h.to == b then Some h else None))
+      → (o : Option Mission) → P (handing_to b (option_map (claimed a number) o)) (handing_to b o)
+  by_mission b P none some None = none
+  by_mission b P none some (Some m) = by_handing m.handing
+    where
+      by_handing : (o : Option Handing) → P (option_map_or (λ h. if h.to == b then Some h else None) (option_map claim o) None) (option_map_or (λ h. if h.to == b then Some h else None) o None)
+      by_handing None = none
+      by_handing (Some h) = some h
+
+  same_number : (h : Handing) → number_announced (if (claim h).to == a then Some (claim h) else None) ≡ number_announced (if h.to == a then Some h else None)
+  same_number h = by_test ((h.number == number) && (h.to == a))
+    where
+      by_to : (x : Bool) → number_announced (if x then Some (record h { is_claimed = true }) else None) ≡ number_announced (if x then Some h else None)
+      by_to true = refl
+      by_to false = refl
+
+      by_test : (x : Bool) → number_announced (if (if x then record h { is_claimed = true } else h).to == a then Some (if x then record h { is_claimed = true } else h) else None) ≡ number_announced (if h.to == a then Some h else None)
+      by_test true = by_to (h.to == a)
+      by_test false = refl
+
+  one_more : (n : ℕ) (h : Handing) → claimed_as n (if (claim h).to == a then Some (claim h) else None) ≤ claimed_as n (if h.to == a then Some h else None) + one_if ((t == t) && (number == n))
+  one_more n h = by_test ((h.number == number) && (h.to == a)) refl
+    where
+      by_to : (x : Bool) → h.number ≡ number → claimed_as n (if x then Some (record h { is_claimed = true }) else None) ≤ claimed_as n (if x then Some h else None) + one_if ((t == t) && (number == n))
+      by_to true same = omega (arith, ap one_if (and-true (h.number == n)), ap (λ v. one_if (v == n)) same, ap (λ b. one_if (b && (number == n))) (itself t))
+      by_to false same = omega arith
+
+      by_test : (x : Bool) → ((h.number == number) && (h.to == a)) ≡ x → claimed_as n (if (if x then record h { is_claimed = true } else h).to == a then Some (if x then record h { is_claimed = true } else h) else None)
+          ≤ claimed_as n (if h.to == a then Some h else None) + one_if ((t == t) && (number == n))
+      by_test true is = by_to (h.to == a) (eqb-true h.number number (and_parts (h.number == number) (h.to == a) is).0)
+      by_test false is = omega arith
+
+  same_other : (b : ℕ) → b ≢ a → (h : Handing) → ◌≡◌ {A = Option Handing} (if (claim h).to == b then Some (claim h) else None) (if h.to == b then Some h else None)
+  same_other b apart h = by_test ((h.number == number) && (h.to == a)) refl
+    where
+      none : (x z : Option Handing) → h.to ≡ a → (if h.to == b then x else None) ≡ (if h.to == b then z else None)
+      none x z same = ap (λ c. if c then x else None) (ne_eqb h.to b (λ there. apart (sym there ∙ same))) ∙ sym (ap (λ c. if c then z else None) (ne_eqb h.to b (λ there. apart (sym there ∙ same))))
+
+      by_test : (x : Bool) → ((h.number == number) && (h.to == a)) ≡ x
+          → ◌≡◌ {A = Option Handing} (if (if x then record h { is_claimed = true } else h).to == b then Some (if x then record h { is_claimed = true } else h) else None) (if h.to == b then Some h else None)
+      by_test true is = none (Some (record h { is_claimed = true })) (Some h) (eqb-true h.to a (and_parts (h.number == number) (h.to == a) is).1)
+      by_test false is = refl
+
+  pub claim_taking : IsTaking a (TakingOver number t) k (change_mission t (claimed a number) k).state
+  claim_taking = record {
+    leads = λ u. refl;
+    expected = λ i u apart. refl;
+    waits = λ u h. omega arith;
+    announced = refl;
+    number = λ u. by_train (λ v x z. number_announced (handing_to a x) ≡ number_announced (handing_to a z)) u (by_mission a (λ x z. number_announced x ≡ number_announced z) refl same_number (k.mission t)) (λ other. refl);
+    claimed = λ u h. by_train (λ v x z. claimed_as h (handing_to a x) ≤ claimed_as h (handing_to a z) + one_if ((t == v) && (number == h))) u
+        (by_mission a (λ x z. claimed_as h x ≤ claimed_as h z + one_if ((t == t) && (number == h))) (omega arith) (one_more h) (k.mission t)) (λ other. omega arith);
+    handing = λ b u apart. by_train (λ v x z. handing_to b x ≡ handing_to b z) u (by_mission b (λ x z. x ≡ z) refl (same_other b apart) (k.mission t)) (λ other. refl);
+  }

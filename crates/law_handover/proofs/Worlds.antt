@@ -1,0 +1,216 @@
+-- Each step of a world keeps all of it sound.
+use Rattle.std.proofs.Common.{◌≡◌, ◌≢◌, ℕ, ◌+◌, ◌-◌, ◌==◌, Bool, true, false, if◌then◌else◌, List, [], ◌∷◌, map, slice_get, Option, Some, None, Result, Ok, Err, refl, sym, ap, ◌∙◌, subst, inl, inr}
+use Rattle.std.specs.Option.{option_map_or}
+use Rattle.law_counting.specs.Network.{took, acted, TakesHead}
+use Rattle.law_counting.specs.Resource.{Resource, IsFair}
+use Rattle.law_counting.proofs.Network.{each_head}
+use Rattle.rbc_spec.specs.Maps.{put}
+use Rattle.rbc_spec.specs.Line.{Line, IsLine, is_centre, is_linked}
+use Rattle.rbc_spec.specs.Frame.{Frame, Body}
+use Rattle.rbc_spec.specs.Outcome.{Outcome, Next, Old, Early, NoLink}
+use Rattle.rbc_spec.specs.Outcome as outcome
+use Rattle.rbc_spec.specs.Centre.{Centre, beginning}
+use Rattle.rbc_spec.specs.Step as centre
+use Rattle.rbc_spec.specs.Step.{Effect, Refusal, step, refusal, taken, taken_by, offered, link_answer, stamp_of, ticked, state_after}
+use Rattle.rbc_spec.specs.World.{World, Event, Bytes, Set, Unset, Delivery, Answer, NoCentre, NotSent, new_world, frame_sent, mention, stepped, at_centre, takes, world_step, world_run}
+use Rattle.law_local.proofs.Worlds.{world_of, bind_ok}
+use Rattle.law_network.specs.Flow.{Flow, flow_of, in_world, centre_count}
+use Rattle.law_network.specs.Counts.{rights, tokens, lent}
+use Rattle.law_network.specs.Numbers.{taken_after}
+use Rattle.law_network.specs.Keeping.{nothing_came, came_with, IsFairAct}
+use Rattle.law_network.specs.Sound.{IsFlowSound, IsBodySound}
+use Rattle.law_network.proofs.Begins.{line_begins, line_begins_numbered}
+use Rattle.law_network.proofs.Kept.{acted_sound, delivered_sound, aside_sound}
+use Rattle.law_network.proofs.Numbers.{is_next, next_sent, world_step_numbered}
+use Rattle.law_network.proofs.Steps.{by_itself, at_head}
+use Rattle.law_network.proofs.Takes.{train_keeps, set_keeps, unset_keeps, deliver_taken}
+use Rattle.law_centre_sound.specs.Stays.{IsInRange}
+use Rattle.law_centre_sound.proofs.Ranges.{sound_hand}
+use Rattle.law_centre_sound.proofs.Events.{stays_sound}
+use Rattle.law_no_copy.specs.Steps.{came_to, came_by, done}
+use Rattle.law_no_copy_lent.proofs.Fair.{step_is_fair}
+use Rattle.law_handover.specs.Steps.{IsByItself, left_by, sent_by}
+use Rattle.law_handover.specs.Worlds.{IsWorldSound}
+use Rattle.law_handover.proofs.Steps.{paired_by_itself, paired_at_head}
+
+-- ## Frames that were sent
+
+-- only a link says that a frame is the next
+pub linked_next : (b : Bool) (count n : ℕ) → (if b then offered count n else NoLink) ≡ Next → (b ≡ true) × (offered count n ≡ Next)
+linked_next true count n is = (refl, is)
+linked_next false count n is = cc
+
+-- the centres of a frame that was sent are of the line
+pub sent_between : (line : Line) (w : World) → IsFlowSound line (flow_of w) → (a b number : ℕ) (f : Frame) → frame_sent w a b number ≡ Some f → (is_centre line a ≡ true) × (is_centre line b ≡ true)
+sent_between line w sound a b number f is = (by_centre a (is_centre line a) refl (λ no. sound.no_sent a b (inl no)), by_centre b (is_centre line b) refl (λ no. sound.no_sent a b (inr no)))
+  where
+    nothing : (fs : List Frame) → map (λ (g : Frame). g.body) fs ≡ [] → (if number == 0 then None else slice_get fs (number - 1)) ≡ Some f → ⊥
+    nothing [] none at = by_number (number == 0) at
+      where
+        by_number : (z : Bool) → ◌≡◌ {A = Option Frame} (if z then None else None) (Some f) → ⊥
+        by_number true e = cc
+        by_number false e = cc
+    nothing (g ∷ fs) none at = cc
+
+    by_centre : (c : ℕ) (z : Bool) → is_centre line c ≡ z → (is_centre line c ≡ false → (flow_of w).sent a b ≡ []) → is_centre line c ≡ true
+    by_centre c true here none = here
+    by_centre c false away none = absurd (nothing ((w.at a).sent b) (none away) is)
+
+module _ (line : Line) (ok : IsLine line) (w : World) (old : IsWorldSound line w) where
+  -- the flow behind a step is sound
+  abbrev After : ℕ → centre.Event → List ℕ → Type 0
+  After c event trains = IsFlowSound line (flow_of (in_world w c (left_by line c (w.at c) event) trains))
+
+  -- ## A step by itself
+
+  module _ (c : ℕ) (to : is_centre line c ≡ true) (event : centre.Event) (trains : List ℕ) (alone : IsByItself line c (w.at c) event) (range : IsInRange event)
+      (none : (r : Resource Centre Body) → came_to line c (w.at c) event r ≡ 0) (still : (done line c (w.at c) event).reply.state.taken ≡ (w.at c).taken) where
+    fair : IsFairAct line c (w.at c) nothing_came (left_by line c (w.at c) event) (sent_by line c (w.at c) event)
+    fair = let is = step_is_fair line c (w.at c) event ok (old.flow.centres c to) in record {
+      rights = λ t. subst (λ n. IsFair (rights line t) (centre_count line) c (w.at c) n (left_by line c (w.at c) event) (sent_by line c (w.at c) event)) (none (rights line t)) (is.rights t);
+      tokens = λ t s. subst (λ n. IsFair (tokens line t s) (centre_count line) c (w.at c) n (left_by line c (w.at c) event) (sent_by line c (w.at c) event)) (none (tokens line t s)) (is.tokens t s);
+      lent = λ t s d. subst (λ n. IsFair (lent line t s d) (centre_count line) c (w.at c) n (left_by line c (w.at c) event) (sent_by line c (w.at c) event)) (none (lent line t s d)) (is.lent t s d);
+    }
+
+    same : flow_of (in_world w c (left_by line c (w.at c) event) trains) ≡ acted (flow_of w) c (left_by line c (w.at c) event) (sent_by line c (w.at c) event)
+    same = by_itself w c (stamp_of (w.at c) event) (w.at c) (done line c (w.at c) event) trains (λ d. refl) (λ a. ap (λ (f : ℕ → ℕ). f a) still)
+
+    after_itself : After c event trains
+    after_itself = subst (IsFlowSound line) (sym same) (acted_sound line (flow_of w) old.flow c to (left_by line c (w.at c) event) (sent_by line c (w.at c) event)
+        (stays_sound line ok c (w.at c) event range (old.flow.centres c to)) fair (paired_by_itself line (flow_of w) c event old.flow.counted alone old.flow.pairs))
+
+  -- ## A step at the head of a link
+
+  module _ (a c : ℕ) (from : is_centre line a ≡ true) (to : is_centre line c ≡ true) (f : Frame) (head : TakesHead (flow_of w) a c f.body) (next : link_answer line c (w.at c) a f ≡ Next) where
+    abbrev event : centre.Event
+    event = centre.Deliver a f
+
+    fair_head : IsFairAct line c (w.at c) (came_with a c f.body) (left_by line c (w.at c) event) (sent_by line c (w.at c) event)
+    fair_head = let is = step_is_fair line c (w.at c) event ok (old.flow.centres c to) in record {
+      rights = λ t. subst (λ n. IsFair (rights line t) (centre_count line) c (w.at c) n (left_by line c (w.at c) event) (sent_by line c (w.at c) event)) (came (rights line t)) (is.rights t);
+      tokens = λ t s. subst (λ n. IsFair (tokens line t s) (centre_count line) c (w.at c) n (left_by line c (w.at c) event) (sent_by line c (w.at c) event)) (came (tokens line t s)) (is.tokens t s);
+      lent = λ t s d. subst (λ n. IsFair (lent line t s d) (centre_count line) c (w.at c) n (left_by line c (w.at c) event) (sent_by line c (w.at c) event)) (came (lent line t s d)) (is.lent t s d);
+    }
+      where
+        came : (r : Resource Centre Body) → came_to line c (w.at c) event r ≡ r.inside a c f.body
+        came r = ap (λ answer. came_by c a f answer r) next
+
+    number_is : f.number ≡ (w.at c).taken a + 1
+    number_is = is_next ((w.at c).taken a) f.number (linked_next (is_linked line c a) ((w.at c).taken a) f.number next).1
+
+    one_more : (x : ℕ) → (done line c (w.at c) event).reply.state.taken x ≡ put (w.at c).taken a ((w.at c).taken a + 1) x
+    one_more x = ap (λ (g : ℕ → ℕ). g x) (deliver_taken line c a (stamp_of (w.at c) event) f (w.at c)) ∙ ap (λ answer. taken_after a f answer (w.at c) x) next
+        ∙ ap (λ n. put (w.at c).taken a n x) number_is
+
+    after_head : (trains : List ℕ) → After c event trains
+    after_head trains = subst (IsFlowSound line) (sym same_head) (delivered_sound line (flow_of w) old.flow c to (left_by line c (w.at c) event) (sent_by line c (w.at c) event)
+        (stays_sound line ok c (w.at c) event (sound_hand line a c f.body (each_head (IsBodySound line) (flow_of w) a c f.body head old.flow.bodies)) (old.flow.centres c to))
+        a f.body head from fair_head (paired_at_head line ok (flow_of w) old.flow a c from to f head next))
+      where
+        same_head : flow_of (in_world w c (left_by line c (w.at c) event) trains) ≡ acted (took (flow_of w) a c) c (left_by line c (w.at c) event) (sent_by line c (w.at c) event)
+        same_head = at_head w c (stamp_of (w.at c) event) (w.at c) (done line c (w.at c) event) trains (λ d. refl) a one_more
+
+  -- ## A frame that is not the next
+
+  module _ (a c : ℕ) (to : is_centre line c ≡ true) (f : Frame) (answer : outcome.Taken) (other : answer ≢ Next) (is : link_answer line c (w.at c) a f ≡ answer) where
+    not_next : link_answer line c (w.at c) a f ≢ Next
+    not_next next = other (sym is ∙ next)
+
+    no_more : (o : outcome.Taken) → o ≢ Next → taken_after a f o (w.at c) ≡ (w.at c).taken
+    no_more Next apart = absurd (apart refl)
+    no_more Old apart = refl
+    no_more Early apart = refl
+    no_more NoLink apart = refl
+
+    -- the flow behind a frame that is answered so
+    abbrev answered_so : outcome.Taken → Flow
+    answered_so o = let e : Effect = record { reply = taken_by line c a f o (ticked (stamp_of (w.at c) (centre.Deliver a f)) (w.at c)); link = Some o; silence = None } in
+        acted (flow_of w) c (state_after (stamp_of (w.at c) (centre.Deliver a f)) (w.at c) e) e.reply.frames
+
+    so_sound : (o : outcome.Taken) → o ≢ Next → IsFlowSound line (answered_so o)
+    so_sound Next apart = absurd (apart refl)
+    so_sound Old apart = aside_sound line (flow_of w) old.flow c to _ (record { book = refl; wish = refl; mission = refl; wait = refl; has_right = refl; expects = refl; announced = refl; heard = λ t h. h })
+    so_sound Early apart = aside_sound line (flow_of w) old.flow c to _ (record { book = refl; wish = refl; mission = refl; wait = refl; has_right = refl; expects = refl; announced = refl; heard = λ t h. h })
+    so_sound NoLink apart = aside_sound line (flow_of w) old.flow c to _ (record { book = refl; wish = refl; mission = refl; wait = refl; has_right = refl; expects = refl; announced = refl; heard = λ t h. h })
+
+    after_other : (trains : List ℕ) → After c (centre.Deliver a f) trains
+    after_other trains = subst (IsFlowSound line) (sym same_other) (so_sound (link_answer line c (w.at c) a f) not_next)
+      where
+        same_other : flow_of (in_world w c (left_by line c (w.at c) (centre.Deliver a f)) trains) ≡ acted (flow_of w) c (left_by line c (w.at c) (centre.Deliver a f)) (sent_by line c (w.at c) (centre.Deliver a f))
+        same_other = by_itself w c (stamp_of (w.at c) (centre.Deliver a f)) (w.at c) (done line c (w.at c) (centre.Deliver a f)) trains (λ d. refl)
+            (λ x. ap (λ (g : ℕ → ℕ). g x) (deliver_taken line c a (stamp_of (w.at c) (centre.Deliver a f)) f (w.at c) ∙ no_more (link_answer line c (w.at c) a f) not_next))
+
+  -- ## An event
+
+  abbrev Leaves : Result (Answer × World) Refusal → Type 0
+  Leaves r = (answer : Answer) (new : World) → r ≡ Ok (answer, new) → IsFlowSound line (flow_of new)
+
+  abbrev Sound : World → Type 0
+  Sound x = IsFlowSound line (flow_of x)
+
+  stands_still : (answer : Answer) → Leaves (Ok (answer, w))
+  stands_still answer other new is = subst Sound (ap (λ r. world_of w r) is) old.flow
+
+  stepped_sound : (c : ℕ) (trains : List ℕ) (o : Option Refusal) (x : Outcome × Centre) → Sound (in_world w c x.1 trains) → Leaves (stepped w c trains (option_map_or (λ why. Err why) o (Ok x)))
+  stepped_sound c trains (Some why) x sound answer new is = cc
+  stepped_sound c trains None x sound answer new is = subst Sound (ap (λ r. world_of w r) is) sound
+
+  takes_sound : (c : ℕ) (trains : List ℕ) (event : centre.Event) → After c event trains → Leaves (takes line w c trains event)
+  unfolding step
+  takes_sound c trains event after = stepped_sound c trains (refusal line c (w.at c) event) (taken line c event (w.at c)) after
+
+  at_sound : (c : ℕ) (answered : Result (Answer × World) Refusal) → (is_centre line c ≡ true → Leaves answered) → Leaves (at_centre line w c answered)
+  at_sound c answered here = chosen (is_centre line c) here
+    where
+      chosen : (b : Bool) → (b ≡ true → Leaves answered) → Leaves (if b then answered else Ok (NoCentre, w))
+      chosen true h = h refl
+      chosen false h = stands_still NoCentre
+
+  frame_sound : (a b number : ℕ) (f : Frame) → frame_sent w a b number ≡ Some f → (answer : outcome.Taken) → link_answer line b (w.at b) a f ≡ answer → After b (centre.Deliver a f) w.trains
+  frame_sound a b number f sent Next is = let between = sent_between line w old.flow a b number f sent in
+      after_head a b between.0 between.1 f (next_sent w old.numbered a b number f sent (linked_next (is_linked line b a) ((w.at b).taken a) f.number is).1) is w.trains
+  frame_sound a b number f sent Old is = after_other a b (sent_between line w old.flow a b number f sent).1 f Old (λ e. cc) is w.trains
+  frame_sound a b number f sent Early is = after_other a b (sent_between line w old.flow a b number f sent).1 f Early (λ e. cc) is w.trains
+  frame_sound a b number f sent NoLink is = after_other a b (sent_between line w old.flow a b number f sent).1 f NoLink (λ e. cc) is w.trains
+
+  delivery_sound : (a b number : ℕ) (o : Option Frame) → frame_sent w a b number ≡ o → Leaves (option_map_or (λ f. takes line w b w.trains (centre.Deliver a f)) o (Ok (NotSent, w)))
+  delivery_sound a b number None sent = stands_still NotSent
+  delivery_sound a b number (Some f) sent = takes_sound b w.trains (centre.Deliver a f) (frame_sound a b number f sent (link_answer line b (w.at b) a f) refl)
+
+  event_sound : (event : Event) → Leaves (world_step line w event)
+  unfolding world_step
+  event_sound (Bytes c (Ok m)) = at_sound c _ (λ to. takes_sound c (mention line m.nid_engine w.trains) (centre.Train m)
+      (after_itself c to (centre.Train m) (mention line m.nid_engine w.trains) (record {}) (record {}) (λ r. refl) (train_keeps line c m (ticked (stamp_of (w.at c) (centre.Train m)) (w.at c)))))
+  event_sound (Bytes c (Err number)) = at_sound c _ (λ to. stands_still _)
+  event_sound (Set c s) = at_sound c _ (λ to. takes_sound c w.trains (centre.Set s)
+      (after_itself c to (centre.Set s) w.trains (record {}) (record {}) (λ r. refl) ((set_keeps line c s).each (ticked (stamp_of (w.at c) (centre.Set s)) (w.at c)))))
+  event_sound (Unset c s) = at_sound c _ (λ to. takes_sound c w.trains (centre.Unset s)
+      (after_itself c to (centre.Unset s) w.trains (record {}) (record {}) (λ r. refl) ((unset_keeps line c s).each (ticked (stamp_of (w.at c) (centre.Unset s)) (w.at c)))))
+  event_sound (Delivery a b number) = delivery_sound a b number (frame_sent w a b number) refl
+
+  pub world_step_sound : (event : Event) (answer : Answer) (new : World) → world_step line w event ≡ Ok (answer, new) → IsWorldSound line new
+  world_step_sound event answer new is = record { flow = event_sound event answer new is; numbered = world_step_numbered line w old.numbered event answer new is }
+
+-- ## A run
+
+pub world_begins : (line : Line) → IsWorldSound line (new_world line)
+unfolding new_world beginning
+world_begins line = record {
+  flow = line_begins line;
+  numbered = line_begins_numbered line;
+}
+
+-- the world of the answers
+abbrev last_of : World → Result (List Answer × World) Refusal → World
+last_of w (Ok x) = x.1
+last_of w (Err why) = w
+
+pub world_run_sound : (line : Line) → IsLine line → (events : List Event) (w : World) → IsWorldSound line w → (answers : List Answer) (last : World)
+    → world_run line w events ≡ Ok (answers, last) → IsWorldSound line last
+unfolding world_run
+world_run_sound line ok [] w old answers last is = subst (IsWorldSound line) (ap (λ r. last_of w r) is) old
+world_run_sound line ok (event ∷ events) w old answers last is =
+    let first = bind_ok (world_step line w event) _ (answers, last) is in
+    let others = bind_ok (world_run line first.0.1 events) _ (answers, last) first.2 in
+    subst (IsWorldSound line) (ap (λ r. last_of w r) others.2)
+    (world_run_sound line ok events first.0.1 (world_step_sound line ok w old event first.0.0 first.0.1 first.1) others.0.0 others.0.1 others.1)

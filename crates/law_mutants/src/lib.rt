@@ -1,0 +1,15 @@
+//! Wrong rules that tempt, each beside the rule that stands in its place: the rule keeps a law of the whole line in
+//! whatever flow or state, and the wrong one breaks it on a small line. So an edit that puts the wrong rule in the
+//! place of the right one is refused.
+//!
+//! No code: what `laws.rt` states stays, and how it is proved is free.
+#![tactic(auto)]
+
+mod laws;
+
+pub use laws::{
+    no_older_cancel_ends_a_newer_handover, no_older_stamp_is_kept, no_pool_is_returned_and_kept,
+    no_section_is_lent_twice, no_section_opens_before_its_return,
+    no_section_shuts_as_it_is_asked_back, no_start_begins_before_its_right,
+    no_yield_keeps_its_mission,
+};

@@ -1,0 +1,127 @@
+-- A Yield on the way is taken by whom it comes to.
+use Rattle.std.proofs.Common.{◌≡◌, ℕ, ◌+◌, ◌*◌, ◌<◌, ◌≤◌, ◌==◌, ◌&&◌, not, if◌then◌else◌, Bool, true, false, Option, Some, None, refl, sym, ap, ◌∙◌, subst, inl, inr, arith, ⊎_elim, is_some, option_map, nat_le}
+use Rattle.std.specs.Option.{option_map_or}
+use Rattle.std.proofs.lemmas.Bool.{and_from, and_parts, le-leb}
+use Rattle.std.proofs.lemmas.Bool.Decides.{eqb_tells}
+use Rattle.law_counting.specs.Sums.{one_if}
+use Rattle.law_counting.specs.Network.{way, took, TakesHead}
+use Rattle.law_counting.specs.Resource.{Resource, carried, placed, allowed}
+use Rattle.law_counting.proofs.Chain.{chain_took}
+use Rattle.law_counting.proofs.Network.{each_head}
+use Rattle.law_counting.proofs.Resource.{carried_more}
+use Rattle.law_counting.proofs.Places.{head_only, held_carried_le_placed}
+use Rattle.rbc_spec.specs.SectionRuns.{SectionRun, within}
+use Rattle.rbc_spec.specs.Line.{Line, Section, section, is_centre, is_home, is_linked, next_centre}
+use Rattle.rbc_spec.specs.Sections.{is_on}
+use Rattle.rbc_spec.specs.Place.{Place, group_start}
+use Rattle.rbc_spec.specs.Maps.{has}
+use Rattle.rbc_spec.specs.Frame.{Body, YieldedPlace, Yield, carried_place}
+use Rattle.rbc_spec.specs.Centre.{Centre, Expectation, is_out_for}
+use Rattle.rbc_spec.specs.Links.{may_take, may_arrive}
+use Rattle.law_network.specs.Flow.{Flow, centre_count}
+use Rattle.law_network.specs.Counts.{rights, lent}
+use Rattle.law_network.specs.Pairs.{IsPaired, follows, is_number, count_if, yields, before, after}
+use Rattle.law_network.specs.Sound.{IsFlowSound, IsYieldSound, IsBodySound}
+use Rattle.law_network.specs.Neighbours.{AreNeighbours}
+use Rattle.law_network.proofs.Neighbours.{one_registrar}
+use Rattle.law_counting.proofs.Sums.{one_if_some, one_if_true}
+use Rattle.law_network.proofs.Basics.{all_within, one_home, itself, neither, none_is_not_some, some_cap}
+
+le_true : (m n : ℕ) → m ≤ n → nat_le m n ≡ true
+le_true m n le = le-leb m n le
+
+module _ (line : Line) (near : AreNeighbours line) (w : Flow) (sound : IsFlowSound line w) (a c number t heard : ℕ) (has_data is_ended : Bool) (carried_as : YieldedPlace) (hand : SectionRun)
+    (from : is_centre line a ≡ true) (to : is_centre line c ≡ true) (small : a < centre_count line) (below : c < centre_count line)
+    (takes : TakesHead w a c (Yield number t heard has_data is_ended carried_as hand)) where
+  abbrev f : Body
+  f = Yield number t heard has_data is_ended carried_as hand
+
+  abbrev k : Centre
+  k = w.at c
+
+  paired : IsPaired w a c t
+  paired = sound.pairs a c t from to
+
+  -- ## Under its number
+
+  expected_so : (e : Option Expectation) → k.expects a t ≡ e → is_number number (option_map (λ x. x.number) e) ≡ true → (x : Expectation) × (e ≡ Some x) × ((x.number == number) ≡ true)
+  expected_so None is h = cc
+  expected_so (Some x) is h = (x, refl, h)
+
+  is_expected : is_number number (option_map (λ x. x.number) (k.expects a t)) ≡ true
+  is_expected =
+      let led = chain_took (follows t) w a c f _ _ takes paired.chain in
+      by_number (is_number number (option_map (λ x. x.number) (k.expects a t))) led.0 (sym (ap (λ (b : Bool). if b then (if is_number number (option_map (λ x. x.number) (k.expects a t)) then Some None else None) else Some (option_map (λ x. x.number) (k.expects a t))) (itself t)) ∙ led.1)
+    where
+      by_number : (b : Bool) (mid : Option ℕ) → (if b then Some None else None) ≡ Some mid → b ≡ true
+      by_number true mid h = refl
+      by_number false mid h = cc
+
+  yield_counted : 0 < count_if (yields t number) (way w a c)
+  yield_counted = omega (arith, ap (count_if (yields t number)) takes.head, one_if_true ((t == t) && (number == number)) (and_from (t == t) (number == number) (itself t) (itself number)))
+
+  is_taking : (x : Expectation) → k.expects a t ≡ Some x → (x.number == number) ≡ true → x.is_taking ≡ true
+  is_taking x is same = by_taking x.is_taking refl
+    where
+      by_taking : (b : Bool) → x.is_taking ≡ b → x.is_taking ≡ true
+      by_taking true e = e
+      by_taking false e =
+          let waits : one_if (option_map_or (λ y. (y.number == number) && not y.is_taking) (k.expects a t) false) ≡ 1 = rw (is, same, e) refl in
+          absurd (⊎_elim (λ (none : before w a c t number ≡ 0). let no : ⊥ = omega (arith, waits) in no) (λ (none : after w a c t number ≡ 0). let no : ⊥ = omega (arith, yield_counted) in no) (paired.apart number))
+
+  under_number : option_map_or (λ e. (e.number == number) && e.is_taking) (k.expects a t) false ≡ true
+  under_number =
+      let x = expected_so (k.expects a t) refl is_expected in
+      rw (x.1) (and_from (x.0.number == number) x.0.is_taking x.2 (is_taking x.0 x.1 x.2))
+
+  -- ## Neither mission nor right are here
+
+  not_here : one_if (k.has_right t) + one_if (is_some (k.mission t)) ≡ 0
+  not_here =
+      let few : placed (rights line t) (centre_count line) w ≤ 1 = omega (arith, (sound.rights t).law, one_registrar line t (centre_count line) w) in
+      let only = head_only (rights line t) (centre_count line) w a c f few small below takes (omega (arith, one_if_true (t == t) (itself t))) in
+      only.0.centres c below
+
+  -- ## The hand
+
+  pub body_sound : IsYieldSound line a c t carried_as hand
+  body_sound = each_head (IsBodySound line) w a c f takes sound.bodies
+
+  -- the place that it carries
+  abbrev pub place : Place
+  place = body_sound.place
+
+  arrive_at : (o : Option Section) → has (λ p. p.home == a) o ≡ true
+      → option_map_or (λ p. is_linked line c p.home && not (option_map_or (λ n. n == p.home) (next_centre line c place.track) false)) o false ≡ true
+  arrive_at None h = cc
+  arrive_at (Some p) h = elim (eqb_tells p.home a) [
+    | inr e ↦ absurd (let wrong : true ≡ false = sym h ∙ e.0 in cc)
+    | inl e ↦ subst (λ d. (is_linked line c d && not (option_map_or (λ n. n == d) (next_centre line c place.track) false)) ≡ true) (sym e.1)
+        (and_from _ _ (near.linked a c place.track body_sound.to_next) (ap not (near.onward a c place.track body_sound.to_next)))
+  ]
+
+  arrives : (s : ℕ) → within hand s ≡ true → may_arrive line c k a t place.track s ≡ true
+  arrives s in_hand = by_home (is_home line c s) refl
+    where
+      by_home : (b : Bool) → is_home line c s ≡ b → may_arrive line c k a t place.track s ≡ true
+      by_home true home =
+          let r : Resource Centre Body = lent line t s a in
+          let inside : r.inside a c f ≡ 1 = rw home (one_if_true (((t == t) && within hand s) && (a == a)) (and_from _ _ (and_from _ _ (itself t) in_hand) (itself a))) in
+          let link : carried r a c (way w a c) ≡ r.inside a c f + carried r a c (way (took w a c) a c) = ap (carried r a c) takes.head ∙ carried_more r a c f (way (took w a c) a c) in
+          let some : 0 < allowed r (centre_count line) w = omega (arith, inside, link, held_carried_le_placed r (centre_count line) w a a c small small below, (sound.lent t s a).law) in
+          let who = some_cap r (centre_count line) w some in
+          let parts = and_parts (is_home line who.0 s) (is_out_for t a ((w.at who.0).book s)) (one_if_some _ who.2) in
+          rw home (subst (λ h. is_out_for t a ((w.at h).book s) ≡ true) (one_home line who.0 c s parts.0 home) parts.1)
+      by_home false away = ⊎_elim
+          (λ (there : is_home line a s ≡ true). rw away (arrive_at (section line s) there))
+          (λ (here : is_home line c s ≡ true). absurd (let wrong : true ≡ false = sym here ∙ away in cc))
+          (body_sound.of_two s in_hand)
+
+  pub is_carried : carried_place carried_as ≡ Some place
+  is_carried = ap carried_place body_sound.is_carried
+
+  pub is_taken : may_take line c k a number t place hand ≡ true
+  is_taken = and_from _ _
+      (and_from _ _ under_number (ap (λ (b : Bool). b && not (k.has_right t)) (none_is_not_some (k.mission t)) ∙ neither (is_some (k.mission t)) (k.has_right t) not_here))
+      (and_from _ _ (and_from _ _ (all_within (is_on line place.track) hand body_sound.is_hand.on_track) body_sound.is_hand.group)
+      (and_from _ _ (le_true (10 * group_start line place) place.front body_sound.is_hand.front) (all_within (may_arrive line c k a t place.track) hand arrives)))

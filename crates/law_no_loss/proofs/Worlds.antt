@@ -1,0 +1,136 @@
+-- No step of a world loses a right or a token, so none is ever lost.
+use Rattle.std.proofs.Common.{◌≡◌, ◌≢◌, ℕ, true, Some, None, List, [], ◌∷◌, Result, Ok, refl, ap, subst, ltb-true}
+use Rattle.law_counting.specs.Network.{took, acted, TakesHead, IsCounted}
+use Rattle.law_counting.specs.Resource.{Resource, IsExact}
+use Rattle.law_counting.proofs.Network.{each_head}
+use Rattle.law_counting.proofs.Resource.{exact_still, placed_exact, placed_exact_took}
+use Rattle.rbc_spec.specs.Line.{Line, IsLine, is_centre}
+use Rattle.rbc_spec.specs.Frame.{Frame, Body}
+use Rattle.rbc_spec.specs.Outcome.{Next, Old, Early, NoLink}
+use Rattle.rbc_spec.specs.Outcome as outcome
+use Rattle.rbc_spec.specs.Centre.{Centre}
+use Rattle.rbc_spec.specs.Step as centre
+use Rattle.rbc_spec.specs.Step.{Refusal, Effect, taken_by, link_answer, stamp_of, ticked, state_after}
+use Rattle.rbc_spec.specs.World.{World, Event, Answer, new_world, world_step, world_run}
+use Rattle.law_local.proofs.Worlds.{bind_ok}
+use Rattle.law_network.specs.Flow.{Flow, flow_of, centre_count}
+use Rattle.law_network.specs.Counts.{rights, tokens}
+use Rattle.law_network.specs.Keeping.{nothing_came, came_with}
+use Rattle.law_network.specs.Sound.{IsBodySound, LosesNothing}
+use Rattle.law_network.proofs.Begins.{line_begins_whole}
+use Rattle.law_centre_sound.specs.Stays.{IsInRange}
+use Rattle.law_centre_sound.proofs.Ranges.{sound_hand}
+use Rattle.law_no_copy.specs.Steps.{came_by, came_to}
+use Rattle.law_handover.specs.Steps.{IsByItself, left_by, sent_by}
+use Rattle.law_handover.specs.Worlds.{IsWorldSound}
+use Rattle.law_handover.proofs.Worlds.{world_begins, world_step_sound}
+use Rattle.law_no_unasked.specs.Asked.{IsAsked}
+use Rattle.law_no_unasked.proofs.Worlds.{begins_asked, step_keeps_asked}
+use Rattle.law_no_unasked.proofs.Split.{world_step_keeps}
+use Rattle.law_no_loss.specs.Keeps.{HasRightOnce, BringsNoStray, IsExactAct}
+use Rattle.law_no_loss.proofs.Rights.{no_right_lost}
+use Rattle.law_no_loss.proofs.Tokens.{no_token_lost}
+use Rattle.law_no_loss.proofs.Looked.{right_once, looked_for}
+
+-- ## Exact acts
+
+pub exact_alone : (line : Line) (w : Flow) (c : ℕ) (y : Centre) (frames : ℕ → List Body) → IsCounted w → is_centre line c ≡ true → IsExactAct line c (w.at c) nothing_came y frames
+    → LosesNothing line w → LosesNothing line (acted w c y frames)
+exact_alone line w c y frames counted centre exact whole =
+    let small = ltb-true c (centre_count line) centre in record {
+      rights = λ t. placed_exact (rights line t) (centre_count line) w c y frames counted small (exact.rights t) (whole.rights t);
+      tokens = λ t s. placed_exact (tokens line t s) (centre_count line) w c y frames counted small (exact.tokens t s) (whole.tokens t s);
+    }
+
+pub exact_head : (line : Line) (w : Flow) (a c : ℕ) (f : Body) (y : Centre) (frames : ℕ → List Body) → IsCounted w → is_centre line a ≡ true → is_centre line c ≡ true → TakesHead w a c f
+    → IsExactAct line c (w.at c) (came_with a c f) y frames → LosesNothing line w → LosesNothing line (acted (took w a c) c y frames)
+exact_head line w a c f y frames counted from centre takes exact whole =
+    let small = ltb-true a (centre_count line) from in let below = ltb-true c (centre_count line) centre in record {
+      rights = λ t. placed_exact_took (rights line t) (centre_count line) w a c f y frames counted small below takes (exact.rights t) (whole.rights t);
+      tokens = λ t s. placed_exact_took (tokens line t s) (centre_count line) w a c f y frames counted small below takes (exact.tokens t s) (whole.tokens t s);
+    }
+
+-- ## A step of a world
+
+module _ (line : Line) (ok : IsLine line) (w : World) (sound : IsWorldSound line w) (asked : IsAsked line (flow_of w)) where
+  once : (c : ℕ) → is_centre line c ≡ true → HasRightOnce (w.at c)
+  once c to = right_once line (flow_of w) c sound.flow to
+
+  exact_event : (c : ℕ) → is_centre line c ≡ true → (event : centre.Event) → IsInRange event → BringsNoStray line c (w.at c) event
+      → IsExactAct line c (w.at c) (came_to line c (w.at c) event) (left_by line c (w.at c) event) (sent_by line c (w.at c) event)
+  exact_event c to event range due = record {
+    rights = λ t. no_right_lost line ok c t (w.at c) event (sound.flow.centres c to) (once c to) due;
+    tokens = λ t s. no_token_lost line ok c t s (w.at c) event range (sound.flow.centres c to) (once c to) due;
+  }
+
+  -- a frame that is not the next changes nothing that is counted
+  exact_aside : (c d : ℕ) (f : Frame) (answer : outcome.Taken) → answer ≢ Next
+      → let e : Effect = record { reply = taken_by line c d f answer (ticked (stamp_of (w.at c) (centre.Deliver d f)) (w.at c)); link = Some answer; silence = None } in
+      IsExactAct line c (w.at c) nothing_came (state_after (stamp_of (w.at c) (centre.Deliver d f)) (w.at c) e) e.reply.frames
+  exact_aside c d f Next apart = absurd (apart refl)
+  exact_aside c d f Old apart = record {
+    rights = λ t. exact_still (rights line t) (centre_count line) c (w.at c) _ refl refl;
+    tokens = λ t s. exact_still (tokens line t s) (centre_count line) c (w.at c) _ refl refl;
+  }
+  exact_aside c d f Early apart = record {
+    rights = λ t. exact_still (rights line t) (centre_count line) c (w.at c) _ refl refl;
+    tokens = λ t s. exact_still (tokens line t s) (centre_count line) c (w.at c) _ refl refl;
+  }
+  exact_aside c d f NoLink apart = record {
+    rights = λ t. exact_still (rights line t) (centre_count line) c (w.at c) _ refl refl;
+    tokens = λ t s. exact_still (tokens line t s) (centre_count line) c (w.at c) _ refl refl;
+  }
+
+  exact_itself : (c : ℕ) → is_centre line c ≡ true → (event : centre.Event) → IsByItself line c (w.at c) event
+      → IsExactAct line c (w.at c) nothing_came (left_by line c (w.at c) event) (sent_by line c (w.at c) event)
+  exact_itself c to (centre.Train m) alone = let is = exact_event c to (centre.Train m) (record {}) (record {}) in record { rights = is.rights; tokens = is.tokens }
+  exact_itself c to (centre.Set s) alone = let is = exact_event c to (centre.Set s) (record {}) (record {}) in record { rights = is.rights; tokens = is.tokens }
+  exact_itself c to (centre.Unset s) alone = let is = exact_event c to (centre.Unset s) (record {}) (record {}) in record { rights = is.rights; tokens = is.tokens }
+  exact_itself c to (centre.Deliver d f) alone = exact_aside c d f (link_answer line c (w.at c) d f) alone
+
+  exact_next : (a c : ℕ) → is_centre line a ≡ true → is_centre line c ≡ true → (f : Frame) → TakesHead (flow_of w) a c f.body → link_answer line c (w.at c) a f ≡ Next
+      → IsExactAct line c (w.at c) (came_with a c f.body) (left_by line c (w.at c) (centre.Deliver a f)) (sent_by line c (w.at c) (centre.Deliver a f))
+  exact_next a c from to f head next = record {
+    rights = λ t. subst (λ n. IsExact (rights line t) (centre_count line) c (w.at c) n (left_by line c (w.at c) (centre.Deliver a f))
+        (sent_by line c (w.at c) (centre.Deliver a f))) (came (rights line t)) (is.rights t);
+    tokens = λ t s. subst (λ n. IsExact (tokens line t s) (centre_count line) c (w.at c) n (left_by line c (w.at c) (centre.Deliver a f))
+        (sent_by line c (w.at c) (centre.Deliver a f))) (came (tokens line t s)) (is.tokens t s);
+  }
+    where
+      came : (r : Resource Centre Body) → came_to line c (w.at c) (centre.Deliver a f) r ≡ r.inside a c f.body
+      came r = ap (λ answer. came_by c a f answer r) next
+
+      is : IsExactAct line c (w.at c) (came_to line c (w.at c) (centre.Deliver a f)) (left_by line c (w.at c) (centre.Deliver a f)) (sent_by line c (w.at c) (centre.Deliver a f))
+      is = exact_event c to (centre.Deliver a f) (sound_hand line a c f.body (each_head (IsBodySound line) (flow_of w) a c f.body head sound.flow.bodies))
+          (λ due. looked_for line ok (flow_of w) sound.flow asked a c from to f.body head)
+
+  pub step_loses_nothing : LosesNothing line (flow_of w) → (event : Event) (answer : Answer) (new : World) → world_step line w event ≡ Ok (answer, new) → LosesNothing line (flow_of new)
+  step_loses_nothing whole = world_step_keeps line w sound.flow sound.numbered (LosesNothing line) whole
+      (λ c to event alone. exact_alone line (flow_of w) c (left_by line c (w.at c) event) (sent_by line c (w.at c) event) sound.flow.counted to (exact_itself c to event alone) whole)
+      (λ a c from to f head next. exact_head line (flow_of w) a c f.body (left_by line c (w.at c) (centre.Deliver a f))
+      (sent_by line c (w.at c) (centre.Deliver a f)) sound.flow.counted from to head
+      (exact_next a c from to f head next) whole)
+
+-- ## A run
+
+same_ok : (p q : List Answer × World) → ◌≡◌ {A = Result (List Answer × World) Refusal} (Ok p) (Ok q) → p ≡ q
+same_ok p q e = cc
+
+run_loses_nothing : (line : Line) → IsLine line → (events : List Event) (w : World) → IsWorldSound line w → IsAsked line (flow_of w) → LosesNothing line (flow_of w)
+    → (answers : List Answer) (last : World) → world_run line w events ≡ Ok (answers, last) → LosesNothing line (flow_of last)
+unfolding world_run
+run_loses_nothing line ok [] w sound asked whole answers last is =
+    subst (λ (x : World). LosesNothing line (flow_of x)) (ap (λ (q : List Answer × World). q.1) (same_ok ([], w) (answers, last) is)) whole
+run_loses_nothing line ok (event ∷ events) w sound asked whole answers last is =
+    let first = bind_ok (world_step line w event) _ (answers, last) is in
+    let others = bind_ok (world_run line first.0.1 events) _ (answers, last) first.2 in
+    subst (λ (x : World). LosesNothing line (flow_of x)) (ap (λ (q : List Answer × World). q.1) (same_ok (first.0.0 ∷ others.0.0, others.0.1) (answers, last) others.2))
+    (run_loses_nothing line ok events first.0.1 (world_step_sound line ok w sound event first.0.0 first.0.1 first.1)
+    (step_keeps_asked line ok w sound asked event first.0.0 first.0.1 first.1) (step_loses_nothing line ok w sound asked whole event first.0.0 first.0.1 first.1)
+    others.0.0 others.0.1 others.1)
+
+-- whatever happens to a line
+pub never_lost : (line : Line) → IsLine line → (events : List Event) (answers : List Answer) (w : World) → world_run line (new_world line) events ≡ Ok (answers, w)
+    → LosesNothing line (flow_of w)
+never_lost line ok events answers w is =
+    run_loses_nothing line ok events (new_world line) (world_begins line) (begins_asked line) (line_begins_whole line) answers w is

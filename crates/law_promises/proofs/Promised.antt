@@ -1,0 +1,155 @@
+-- What is promised of one event is promised of whole lists of them.
+use Rattle.std.proofs.Common.{◌==◌, ◌≡◌, ℕ, Bool, true, false, List, [], ◌∷◌, ◌++◌, Option, Some, None, Result, Ok, refl, sym, ap, ◌∙◌, subst, eq-eqb, eqb-true}
+use Rattle.std.specs.Prelude.{Contains}
+use Rattle.std.specs.Option.{option_map_or}
+use Rattle.rbc_spec.specs.Maps.{has}
+use Rattle.rbc_spec.specs.Line.{Line, IsLine, Section, section, is_home, is_centre}
+use Rattle.rbc_spec.specs.Step.{Refusal}
+use Rattle.rbc_spec.specs.Outcome.{Outcome, Told, Done}
+use Rattle.rbc_spec.specs.Centre as centre
+use Rattle.rbc_spec.specs.LineCentre.{Mark, Shut, Open, Kept, Given, is_given_to}
+use Rattle.rbc_spec.specs.World.{World, Event, Unset, Answer, Answered, new_world, world_step, world_run}
+use Rattle.rbc_spec.specs.ReadOff.{read_off}
+use Rattle.rbc_spec.specs.Promises.{MayFree, KeepsPromises, IsSound, user}
+use Rattle.law_base.proofs.Puts.{itself}
+use Rattle.law_local.proofs.Worlds.{bind_ok}
+use Rattle.law_network.proofs.Neighbours.{home_below}
+use Rattle.law_handover.proofs.Worlds.{world_begins, world_run_sound, world_step_sound}
+use Rattle.law_runs.proofs.Runs.{run_of_none, whole_run}
+use Rattle.law_refinement.proofs.Promises.{promises, sound_behind, run_sound}
+use Rattle.law_promises.specs.Promised.{IsFreedWithin, IsTakenBack}
+
+-- a section that is given in a state that is read off has a home
+given_home : (line : Line) (w : World) (t s : ℕ) → (read_off line w).mark s ≡ Given t → (c : ℕ) × (is_home line c s ≡ true)
+unfolding read_off
+given_home line w t s = by_section (section line s) _
+  where
+    by_section : (o : Option Section) (mark : Section → Mark) → option_map_or mark o Shut ≡ Given t → (c : ℕ) × (option_map_or (λ p. p.home == c) o false ≡ true)
+    by_section None mark h = cc
+    by_section (Some p) mark h = (p.home, eq-eqb p.home p.home refl)
+
+given_is : (t : ℕ) (m : Mark) → is_given_to t m ≡ true → m ≡ Given t
+given_is t Shut h = cc
+given_is t Open h = cc
+given_is t (Kept u) h = cc
+given_is t (Given u) h = ap (λ (x : ℕ). Given x) (eqb-true u t h)
+
+-- ## One event
+
+module _ (line : Line) (ok : IsLine line) (w new : World) (events : List Event) (answers : List Answer) (event : Event) (answer : Answer)
+    (before : world_run line (new_world line) events ≡ Ok (answers, w)) (is : world_step line w event ≡ Ok (answer, new)) where
+  pub leaves_so : (t s : ℕ) → (read_off line w).mark s ≡ Given t → is_given_to t ((read_off line new).mark s) ≡ false → MayFree line w t s event
+  leaves_so t s given not_given =
+      let home = given_home line w t s given in
+      (promises line ok w new events answers event answer before is).freed t s (((run_sound line ok events answers w before).stands.mark s home.0 home.1).only_given t given)
+      (λ still. let wrong : true ≡ false = sym (ap (is_given_to t) (((sound_behind line ok w new events answers event answer before is).stands.mark s home.0 home.1).given t still).0 ∙ itself t) ∙ not_given in cc)
+
+-- ## Told back
+
+home_is_centre : (line : Line) → IsLine line → (s c : ℕ) → is_home line c s ≡ true → is_centre line c ≡ true
+home_is_centre line ok s c = by_section (section line s) refl
+  where
+    by_section : (o : Option Section) → section line s ≡ o → has (λ p. p.home == c) o ≡ true → is_centre line c ≡ true
+    by_section None at home = cc
+    by_section (Some p) at home = subst (λ d. is_centre line d ≡ true) (eqb-true p.home c home) (home_below line ok s p at)
+
+module _ (line : Line) (ok : IsLine line) (w new : World) (events : List Event) (answers : List Answer) (event : Event) (o : Outcome) (c s : ℕ)
+    (before : world_run line (new_world line) events ≡ Ok (answers, w)) (is : world_step line w event ≡ Ok (Answered o, new)) (home : is_home line c s ≡ true) where
+  sound : IsSound line new
+  sound = sound_behind line ok w new events answers event (Answered o) before is
+
+  kept : KeepsPromises line w event (Answered o) new
+  kept = promises line ok w new events answers event (Answered o) before is
+
+  taken_back : (new.at c).book s ≡ centre.Shut → IsTakenBack line c s new
+  taken_back shut = record {
+    shut = shut;
+    not_wished = ((world_step_sound line ok w (world_run_sound line ok events (new_world line) (world_begins line) answers w before) event (Answered o) new is).flow.centres c
+        (home_is_centre line ok s c home)).unwished s (ap centre.is_unused shut);
+    held_by_none = sound.one_place.sections s c home ∙ ap user shut;
+    marked = (sound.stands.mark s c home).shut shut;
+  }
+
+  pub told_back : Contains o.words (Told s) → IsTakenBack line c s new
+  told_back tells = taken_back (kept.told o s c refl home tells).0
+
+  pub done_back : event ≡ Unset c s → Contains o.words (Done s) → IsTakenBack line c s new
+  done_back unsets tells = taken_back (kept.done o s c refl unsets tells)
+
+-- ## A run
+
+same_ok : (p q : List Answer × World) → ◌≡◌ {A = Result (List Answer × World) Refusal} (Ok p) (Ok q) → p ≡ q
+same_ok p q e = cc
+
+-- one more event behind a run
+run_further : (line : Line) (event : Event) (answer : Answer) (new : World) (events : List Event) (w : World) (answers : List Answer) (last : World)
+    → world_run line w events ≡ Ok (answers, last) → world_step line last event ≡ Ok (answer, new) → world_run line w (events ++ event ∷ []) ≡ Ok (answers ++ answer ∷ [], new)
+unfolding world_run
+run_further line event answer new [] w answers last is further =
+    subst (λ (q : List Answer × World). world_step line q.1 event ≡ Ok (answer, new) → world_run line w (event ∷ []) ≡ Ok (q.0 ++ answer ∷ [], new)) (same_ok ([], w) (answers, last) is)
+    (λ e. whole_run line w event [] (answer, new) (Ok ([], new)) e (run_of_none line new)) further
+run_further line event answer new (e ∷ events) w answers last is further =
+    let first = bind_ok (world_step line w e) _ (answers, last) is in
+    let others = bind_ok (world_run line first.0.1 events) _ (answers, last) first.2 in
+    let same = same_ok (first.0.0 ∷ others.0.0, others.0.1) (answers, last) others.2 in
+    let rest = run_further line event answer new events first.0.1 others.0.0 others.0.1 others.1
+    (subst (λ (u : World). world_step line u event ≡ Ok (answer, new)) (sym (ap (λ (q : List Answer × World). q.1) same)) further) in
+    whole_run line w e (events ++ event ∷ []) first.0 (Ok (others.0.0 ++ answer ∷ [], new)) first.1 rest ∙ ap (λ (q : List Answer × World). Ok (q.0 ++ answer ∷ [], new)) same
+
+module _ (line : Line) (ok : IsLine line) (t s : ℕ) where
+  abbrev pub given_in : World → Bool
+  given_in w = is_given_to t ((read_off line w).mark s)
+
+  -- a later event, told with those before it
+  one_before : (w : World) (event : Event) (answer : Answer) (next : World) (events : List Event) → world_step line w event ≡ Ok (answer, next)
+      → IsFreedWithin line next events t s → IsFreedWithin line w (event ∷ events) t s
+  one_before w event answer next events first it = record {
+    front = event ∷ it.front;
+    event = it.event;
+    rest = it.rest;
+    cut = ap (λ (es : List Event). event ∷ es) it.cut;
+    answers = answer ∷ it.answers;
+    before = it.before;
+    answered = whole_run line w event it.front (answer, next) (Ok (it.answers, it.before)) first it.answered;
+    answer = it.answer;
+    behind = it.behind;
+    done = it.done;
+    given = it.given;
+    not_given = it.not_given;
+    may_free = it.may_free;
+  }
+
+  -- the event frees the section, or a later one does
+  now_or_later : (w : World) (event : Event) (answer : Answer) (next : World) (events past : List Event) (earlier : List Answer) → world_run line (new_world line) past ≡ Ok (earlier, w)
+      → world_step line w event ≡ Ok (answer, next) → given_in w ≡ true → (given_in next ≡ true → IsFreedWithin line next events t s) → (b : Bool) → given_in next ≡ b
+      → IsFreedWithin line w (event ∷ events) t s
+  now_or_later w event answer next events past earlier before first given later true is = one_before w event answer next events first (later is)
+  now_or_later w event answer next events past earlier before first given later false is = record {
+    front = [];
+    event = event;
+    rest = events;
+    cut = refl;
+    answers = [];
+    before = w;
+    answered = run_of_none line w;
+    answer = answer;
+    behind = next;
+    done = first;
+    given = given_is t ((read_off line w).mark s) given;
+    not_given = is;
+    may_free = leaves_so line ok w next past earlier event answer before first t s (given_is t ((read_off line w).mark s) given) is;
+  }
+
+  pub freed_within : (events : List Event) (w : World) (past : List Event) (earlier : List Answer) → world_run line (new_world line) past ≡ Ok (earlier, w)
+      → (answers : List Answer) (last : World) → world_run line w events ≡ Ok (answers, last) → given_in w ≡ true → given_in last ≡ false → IsFreedWithin line w events t s
+  unfolding world_run
+  freed_within [] w past earlier before answers last is given not_given =
+      absurd (let wrong : true ≡ false = sym given ∙ (ap (λ (q : List Answer × World). given_in q.1) (same_ok ([], w) (answers, last) is) ∙ not_given) in cc)
+  freed_within (event ∷ events) w past earlier before answers last is given not_given =
+      let first = bind_ok (world_step line w event) _ (answers, last) is in
+      let others = bind_ok (world_run line first.0.1 events) _ (answers, last) first.2 in
+      let same = same_ok (first.0.0 ∷ others.0.0, others.0.1) (answers, last) others.2 in
+      now_or_later w event first.0.0 first.0.1 events past earlier before first.1 given
+      (λ still. freed_within events first.0.1 (past ++ event ∷ []) (earlier ++ first.0.0 ∷ []) (run_further line event first.0.0 first.0.1 past (new_world line) earlier w before first.1)
+      others.0.0 others.0.1 others.1 still (ap (λ (q : List Answer × World). given_in q.1) same ∙ not_given))
+      (given_in first.0.1) refl

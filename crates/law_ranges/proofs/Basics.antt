@@ -1,0 +1,152 @@
+-- What a line's order and its limits give of the ranges of engines, sections, runs and links.
+use Rattle.std.proofs.Common.{◌≡◌, ◌≢◌, ◌⊎◌, inl, inr, ℕ, ◌+◌, ◌-◌, ◌<◌, ◌≤◌, ◌==◌, ◌&&◌, ◌||◌, not, cond, Bool, true, false, List, [], ◌∷◌, length, get_or, Option, Some, None, option_map, is_some, refl, sym, ap, ◌∙◌, subst, arith, ⊎_elim, All, eqb-true, eq-eqb, lt-ltb}
+use Rattle.std.specs.Option.{option_map_or}
+use Rattle.std.specs.List.{list_any, find, position}
+use Rattle.std.proofs.lemmas.Bool.{and_parts, and_from, eqb-false, or_cases}
+use Rattle.std.proofs.lemmas.Bool.Decides.{eqb_tells}
+use Rattle.std.proofs.lemmas.Option.{same_Some, slice_get_within}
+use Rattle.std.proofs.lemmas.List.Quantifiers.{position-Some}
+use Rattle.std.proofs.lemmas.List.Elements.{All-get_or}
+use Rattle.rbc_spec.specs.SectionRuns.{SectionRun, within, behind, no_run, is_empty, part_before, part_from, joined, shared}
+use Rattle.rbc_spec.specs.Line.{Line, Section, Train, IsLine, section, registrar, train_number, is_centre, is_home, is_border, is_registrar, is_linked, next_centre}
+use Rattle.rbc_spec.specs.Sections.{home_run, is_on}
+use Rattle.rbc_spec.specs.Frame.{IsEngine, HasRunRange}
+use Rattle.rbc_spec.specs.Centre.{is_registrar_of}
+use Rattle.law_local.proofs.Ordered.{is_ordered}
+use Rattle.law_base.proofs.Lines.{on_line, one_home, registrar_below}
+use Rattle.law_base.proofs.Runs.{within_from, within_part_before, within_part_from, within_joined, none_within, joined_empty}
+use Rattle.law_network.proofs.Homes.{in_both}
+use Rattle.law_network.proofs.Neighbours.{neighbours}
+use Rattle.law_ranges.specs.Ranges.{GoesHome}
+
+-- ## Engines
+
+abbrev Registered : Line → Train → Type 0
+Registered line p = (p.nid_engine ≤ 16777215) × (p.registrar < length line.centres)
+
+engine_below : (line : Line) (trains : List Train) (t : ℕ) (o : Option ℕ) → position (λ p. p.nid_engine == t) trains ≡ o → is_some o ≡ true → All (Registered line) trains → IsEngine t
+engine_below line trains t None at is all = cc
+engine_below line trains t (Some i) at is all =
+    let none : Train = record { nid_engine = 0; registrar = 0 } in
+    let found = position-Some (λ p. p.nid_engine == t) trains i none at in
+    let low = (All-get_or (Registered line) trains i none found.0 all).0 in
+    let same = eqb-true (get_or trains i none).nid_engine t found.1 in
+    omega (arith, low, same)
+
+pub known_engine : (line : Line) → IsLine line → (t : ℕ) → is_some (train_number line t) ≡ true → IsEngine t
+known_engine line ok t is = engine_below line line.trains t (train_number line t) refl is ok.ranges.trains
+
+-- ## Links
+
+not_same : (a b : ℕ) → not (a == b) ≡ true → not (b == a) ≡ true
+not_same a b is = elim (eqb_tells b a) [ inl e ↦ absurd (let wrong : false ≡ true = sym (ap not (eq-eqb a b (sym e.1))) ∙ is in cc) | inr e ↦ ap not e.0 ]
+
+-- a link is one of both ends
+pub linked_back : (line : Line) (a b : ℕ) → is_linked line b a ≡ true → is_linked line a b ≡ true
+linked_back line a b is =
+    let parts = and_parts ((is_centre line b && is_centre line a) && not (b == a)) ((is_border line b a || is_border line a b) || (is_registrar line b || is_registrar line a)) is in
+    let ends = and_parts (is_centre line b && is_centre line a) (not (b == a)) parts.0 in
+    let each = and_parts (is_centre line b) (is_centre line a) ends.0 in
+    and_from _ _ (and_from _ _ (and_from _ _ each.1 each.0) (not_same b a ends.1)) (by_why (is_border line b a) (is_border line a b) (is_registrar line b) (is_registrar line a) parts.1)
+  where
+    by_why : (x y z u : Bool) → ((x || y) || (z || u)) ≡ true → ((y || x) || (u || z)) ≡ true
+    by_why true true z u h = refl
+    by_why true false z u h = refl
+    by_why false true z u h = refl
+    by_why false false true true h = refl
+    by_why false false true false h = refl
+    by_why false false false true h = refl
+    by_why false false false false h = cc
+
+pub linked_centre : (line : Line) (c d : ℕ) → is_linked line c d ≡ true → is_centre line c ≡ true
+linked_centre line c d is =
+    let ends = (and_parts (is_centre line c && is_centre line d) (not (c == d)) (and_parts ((is_centre line c && is_centre line d) && not (c == d)) _ is).0).0 in
+    (and_parts (is_centre line c) (is_centre line d) ends).0
+
+any_found : (test other : Train → Bool) (xs : List Train) (x : Train) → find test xs ≡ Some x → other x ≡ true → list_any other xs ≡ true
+any_found test other [] x is so = cc
+any_found test other (y ∷ ys) x is so = by_test (test y) is (λ e. any_found test other ys x e so)
+  where
+    either : (b r : Bool) → r ≡ true → (b || r) ≡ true
+    either true r h = refl
+    either false r h = h
+
+    first : (b r : Bool) → b ≡ true → (b || r) ≡ true
+    first true r h = refl
+    first false r h = cc
+
+    by_test : (b : Bool) → cond b (Some y) (find test ys) ≡ Some x → (find test ys ≡ Some x → list_any other ys ≡ true) → (other y || list_any other ys) ≡ true
+    by_test true e later = first (other y) (list_any other ys) (ap other (same_Some y x e) ∙ so)
+    by_test false e later = either (other y) (list_any other ys) (later e)
+
+-- a run whose sections are of the line
+pub run_range : (least most : ℕ) (r : SectionRun) → least ≤ r.count → r.count ≤ most → 1 ≤ r.count → ((s : ℕ) → within r s ≡ true → s < 512) → HasRunRange least most r
+run_range least most r low high some each =
+    let last : ℕ = r.first + (r.count - 1) in
+    let below : last < 512 = each last (within_from r last (omega arith) (omega (arith, some))) in
+    record { first = omega (arith, below); count = (low, high); last = omega (arith, below, some) }
+
+module _ (line : Line) (ok : IsLine line) where
+  -- a centre has a link with the next of a track
+  pub next_linked : (c track d : ℕ) → next_centre line c track ≡ Some d → is_linked line c d ≡ true
+  next_linked c track d is = linked_back line c d ((neighbours line ok).linked c d track is)
+
+  -- and with each registrar but itself
+  pub registrar_linked : (c t r : ℕ) → is_centre line c ≡ true → is_registrar_of line c t ≡ false → registrar line t ≡ Some r → is_linked line c r ≡ true
+  registrar_linked c t r centre away at =
+      let apart : (r == c) ≡ false = sym (ap (λ (o : Option ℕ). option_map_or (λ x. x == c) o false) at) ∙ away in
+      and_from _ _ (and_from _ _ (and_from _ _ centre (lt-ltb r (length line.centres) (registrar_below line ok t r at))) (not_same r c (ap not apart)))
+      (late (is_border line c r || is_border line r c) (is_registrar line c) (is_registrar line r) (by_train (find (λ p. p.nid_engine == t) line.trains) refl at))
+    where
+      late : (x y z : Bool) → z ≡ true → (x || (y || z)) ≡ true
+      late true y z h = refl
+      late false true z h = refl
+      late false false z h = h
+
+      by_train : (o : Option Train) → find (λ p. p.nid_engine == t) line.trains ≡ o → option_map (λ p. p.registrar) o ≡ Some r → is_registrar line r ≡ true
+      by_train None found h = cc
+      by_train (Some p) found h = any_found (λ q. q.nid_engine == t) (λ q. q.registrar == r) line.trains p found (eq-eqb p.registrar r (same_Some p.registrar r h))
+
+  -- ## Sections and runs
+
+  pub on_below : (track s : ℕ) → is_on line track s ≡ true → s < 512
+  on_below track s on = let le = ok.limits.sections in omega (arith, le, on_line line track s on)
+
+  pub home_below : (d s : ℕ) → is_home line d s ≡ true → s < 512
+  home_below d s is = by_section (section line s) refl is
+    where
+      by_section : (o : Option Section) → section line s ≡ o → option_map_or (λ p. p.home == d) o false ≡ true → s < 512
+      by_section None at h = cc
+      by_section (Some p) at h = let le = ok.limits.sections in let there = slice_get_within line.sections s p at in omega (arith, le, there)
+
+  -- the part of a run that is of one home on a track
+  pub part_range : (most d track : ℕ) (r : SectionRun) → r.count ≤ most → is_empty (shared r (home_run line d track)) ≡ false → HasRunRange 1 most (shared r (home_run line d track))
+  part_range most d track r few some = run_range 1 most (shared r (home_run line d track)) (omega (arith, filled)) (omega (arith, few)) (omega (arith, filled))
+      (λ s is. home_below d s (home_of s is))
+    where
+      filled : (shared r (home_run line d track)).count ≢ 0
+      filled = eqb-false (shared r (home_run line d track)).count 0 some
+
+      home_of : (s : ℕ) → within (shared r (home_run line d track)) s ≡ true → is_home line d s ≡ true
+      home_of s is = (and_parts (is_home line d s) (is_on line track s) (sym ((is_ordered line ok).homes_run d track s) ∙ (in_both r (home_run line d track) s is).1)).0
+
+-- ## Runs that go home
+
+module _ (line : Line) (c : ℕ) where
+  pub none_goes_home : GoesHome line c no_run
+  none_goes_home s d is home = absurd (let wrong : false ≡ true = sym (none_within s) ∙ is in cc)
+
+  pub before_goes_home : (r : SectionRun) (cut : ℕ) → GoesHome line c r → GoesHome line c (part_before cut r)
+  before_goes_home r cut goes s d is home = goes s d (and_parts (within r s) _ (sym (within_part_before r cut s) ∙ is)).0 home
+
+  pub from_goes_home : (r : SectionRun) (cut : ℕ) → GoesHome line c r → GoesHome line c (part_from cut r)
+  from_goes_home r cut goes s d is home = goes s d (and_parts (within r s) _ (sym (within_part_from r cut s) ∙ is)).0 home
+
+  pub joined_goes_home : (a b : SectionRun) → GoesHome line c a → GoesHome line c b → (b.count ≡ 0) ⊎ (b.first ≡ behind a) → GoesHome line c (joined a b)
+  joined_goes_home a b one two (inr follows) s d is home = ⊎_elim (λ (h : within a s ≡ true). one s d h home) (λ (h : within b s ≡ true). two s d h home)
+      (or_cases (within a s) (within b s) (sym (within_joined a b s follows) ∙ is))
+  joined_goes_home a b one two (inl none) s d is home = one s d (sym (joined_empty a b s (eq-eqb b.count 0 none)) ∙ is) home
+
+  -- where each section is of home d, and d is c or linked with it
+  pub own_goes_home : (r : SectionRun) (d : ℕ) → ((s : ℕ) → within r s ≡ true → is_home line d s ≡ true) → ((d == c) || is_linked line c d) ≡ true → GoesHome line c r
+  own_goes_home r d each fine s e is home = subst (λ x. ((x == c) || is_linked line c x) ≡ true) (one_home line d e s (each s is) home) fine

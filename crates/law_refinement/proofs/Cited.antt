@@ -1,0 +1,169 @@
+-- What the laws of each part say, in the form that is wanted of it.
+use Rattle.std.proofs.Common.{◌≡◌, ℕ, Bool, true, None, sym, subst}
+use Rattle.law_counting.specs.Network.{took}
+use Rattle.rbc_spec.specs.Line.{Line, IsLine, is_centre}
+use Rattle.rbc_spec.specs.Place.{Position}
+use Rattle.rbc_spec.specs.Message.{TrainBody, Request, Report, ShorteningGranted, EndOfMission, TrainData, ShorteningRejected, InitiationOfSession, TerminationOfSession, StartOfMission, SessionEstablished}
+use Rattle.rbc_spec.specs.Centre.{Centre}
+use Rattle.rbc_spec.specs.Acts.{Act, Reply, yield_if_due}
+use Rattle.rbc_spec.specs.Links.{received}
+use Rattle.rbc_spec.specs.Step as step
+use Rattle.rbc_spec.specs.LineCentre.{LineState, hears}
+use Rattle.rbc_spec.specs.OwnSteps.{Own, Sets, Unsets}
+use Rattle.law_network.specs.Flow.{Flow, took_frame}
+use Rattle.law_network.specs.Leads.{Leads, LeadsHeard}
+use Rattle.rbc_spec.specs.Frame.{Body, AskRight, GiveRight, RefuseRight, ReturnRight, RouteAsk, RouteInfo, RouteWithdraw, RouteReturn, Announce, Cancel, TakingOver, Yield}
+use Rattle.law_refine_sessions.specs.Heard.{IsHeardAs, LeadsAlone}
+use Rattle.law_refine_sessions.proofs.Data.{established, data_heard, rejected}
+use Rattle.law_refine_sessions.proofs.Ends.{begins, ends}
+use Rattle.law_refine_sessions.proofs.Starts.{starts}
+use Rattle.law_refine_followups.proofs.Laying.{yields_so}
+use Rattle.law_refine_missions.specs.Parts.{IsOwnStep, IsInParts, LeadsOnward, own_report, own_end, own_granted}
+use Rattle.law_refine_missions.proofs.Asked.{report_is_own, report_in_parts, end_is_own, end_in_parts, granted_is_own, granted_in_parts, whole_is_heard}
+use Rattle.law_refine_routes.proofs.Rights.{asked_leads, given_leads, returned_leads}
+use Rattle.law_refine_routes.proofs.Refused.{refused_leads}
+use Rattle.law_refine_handovers.proofs.Announced.{announce_leads, cancel_leads}
+use Rattle.law_refine_handovers.proofs.Claimed.{claim_body_leads}
+use Rattle.law_refine_handovers.proofs.Yielded.{yield_leads}
+use Rattle.law_refine_routes.specs.Interlocking.{LeadsFrom}
+use Rattle.law_refine_routes.proofs.Interlocking.{from_once, set_leads, unset_leads}
+use Rattle.law_refine_routes.proofs.Lending.{lent_leads}
+use Rattle.law_refine_routes.proofs.Told.{told_leads, withdrawn_leads}
+use Rattle.law_refine_routes.proofs.Homes.{home_leads}
+use Rattle.law_refine_routes.proofs.Linked.{ends as ends_of}
+use Rattle.law_refinement.specs.Announced.{HasAnnounced}
+use Rattle.law_refinement.proofs.Work.{IsAtWork, IsBrought, Answers, Brings, message}
+use Rattle.law_refinement.proofs.Requests.{request_heard}
+
+-- what a message that is heard leads to
+pub of_heard : (line : Line) (w : Flow) (c t_train t : ℕ) (body : TrainBody) (r : Reply) (v : LineState) → LeadsHeard line w c (message t_train t body) r v
+    → LeadsFrom line w c (Own line (hears c (message t_train t body) v) c (message t_train t body) body) r
+of_heard line w c t_train t body r v leads = record {
+  said = leads.said;
+  mid = leads.mid;
+  own = leads.own;
+  quiets = leads.quiets;
+  later = leads.later;
+  new = leads.new;
+  takes = leads.takes;
+  own_centre = leads.own_centre;
+  says = leads.says;
+  shows = leads.shows;
+}
+
+-- where it is the own step alone
+of_alone : (line : Line) (w : Flow) (c t_train t : ℕ) (body : TrainBody) (r : Reply) (v : LineState) → LeadsAlone line w c (message t_train t body) r v
+    → LeadsFrom line w c (Own line (hears c (message t_train t body) v) c (message t_train t body) body) r
+of_alone line w c t_train t body r v alone = from_once line w c (Own line (hears c (message t_train t body) v) c (message t_train t body) body) r
+    (record { mid = alone.mid; own = alone.own; shows = alone.shows })
+
+-- whatever the clock of the centre shows
+heard_as : (line : Line) → IsLine line → (body : TrainBody) → IsHeardAs body → Answers line body
+heard_as line ok body is_heard w c k v t_train t at_work heard =
+    subst (λ (j : Centre). LeadsFrom line w c (Own line (hears c (message t_train t body) v) c (message t_train t body) body) (step.hear_and_answer line c (message t_train t body) j)) at_work.state
+    (of_alone line w c t_train t body (step.hear_and_answer line c (message t_train t body) (w.at c)) v
+    (is_heard line w v c t_train t (w.at c).clock ok at_work.sound at_work.shows at_work.to
+    (subst (λ (j : Centre). step.silence line c j (message t_train t body) ≡ None) (sym at_work.state) heard)))
+
+module _ (line : Line) (ok : IsLine line) where
+  pub initiated : Answers line InitiationOfSession
+  initiated = heard_as line ok InitiationOfSession (λ line w v c t_train t stamp ok sound sees at heard. begins line w v sound sees c t at t_train stamp)
+
+  pub terminated : Answers line TerminationOfSession
+  terminated = heard_as line ok TerminationOfSession (λ line w v c t_train t stamp ok sound sees at heard. ends line w v sound sees c t at t_train stamp)
+
+  pub session_established : Answers line SessionEstablished
+  session_established = heard_as line ok SessionEstablished (λ line w v c t_train t stamp ok sound sees at heard. established line w v sound sees c t_train t stamp at)
+
+  pub started : (is_valid : Bool) (position : Position) → Answers line (StartOfMission is_valid position)
+  started is_valid position = heard_as line ok (StartOfMission is_valid position)
+      (λ line w v c t_train t stamp ok sound sees at heard. starts line w v sound sees c t_train t stamp at is_valid position heard)
+
+  pub had_data : (position : Position) → Answers line (TrainData position)
+  had_data position = heard_as line ok (TrainData position) (λ line w v c t_train t stamp ok sound sees at heard. data_heard line w v sound sees c t_train t stamp at position heard)
+
+  pub shortening_rejected : (stamp : ℕ) (position : Position) → Answers line (ShorteningRejected stamp position)
+  shortening_rejected asked position = heard_as line ok (ShorteningRejected asked position)
+      (λ line w v c t_train t stamp ok sound sees at heard. rejected line w v sound sees c t_train t stamp at asked position heard)
+
+  -- ## An own step, and what follows it
+
+  -- whatever leads on behind the own part
+  in_parts : (body : TrainBody) (own later : ℕ → ℕ → ℕ → Act) → ((c t_train t : ℕ) → IsOwnStep line c (message t_train t body) (own c t_train t))
+      → ((c t_train t : ℕ) → IsInParts line c (message t_train t body) (own c t_train t) (later c t_train t))
+      → ((c t_train t : ℕ) → is_centre line c ≡ true → LeadsOnward line c (later c t_train t)) → Answers line body
+  in_parts body own later is_own parts leads w c k v t_train t at_work heard =
+      subst (λ (j : Centre). LeadsFrom line w c (Own line (hears c (message t_train t body) v) c (message t_train t body) body) (step.hear_and_answer line c (message t_train t body) j)) at_work.state
+      (of_heard line w c t_train t body (step.hear_and_answer line c (message t_train t body) (w.at c)) v
+      (whole_is_heard line c (message t_train t body) (own c t_train t) (later c t_train t) (is_own c t_train t) (parts c t_train t) (leads c t_train t at_work.to) w v (w.at c).clock
+      at_work.sound at_work.shows at_work.to (subst (λ (j : Centre). step.silence line c j (message t_train t body) ≡ None) (sym at_work.state) heard)))
+
+  -- a handover that is claimed is yielded behind it, where that is due
+  yields_behind : (c t_train t : ℕ) → is_centre line c ≡ true → LeadsOnward line c (yield_if_due line c t)
+  yields_behind c t_train t to w v k sound sees is = yields_so line w c t k v ok sound sees to is
+
+  pub reported : (position : Position) → Answers line (Report position)
+  reported position = in_parts (Report position) (λ c t_train t. own_report line c t position) (λ c t_train t. yield_if_due line c t)
+      (λ c t_train t. report_is_own line ok c t_train t position) (λ c t_train t. report_in_parts line c t_train t position) yields_behind
+
+  pub ended : (position : Position) → Answers line (EndOfMission position)
+  ended position = in_parts (EndOfMission position) (λ c t_train t. own_end line c t position) (λ c t_train t. yield_if_due line c t)
+      (λ c t_train t. end_is_own line ok c t_train t position) (λ c t_train t. end_in_parts line c t_train t position) yields_behind
+
+  pub shortening_granted : (stamp : ℕ) (position : Position) → Answers line (ShorteningGranted stamp position)
+  shortening_granted stamp position = in_parts (ShorteningGranted stamp position) (λ c t_train t. own_granted line c t position) (λ c t_train t. yield_if_due line c t)
+      (λ c t_train t. granted_is_own line ok c t_train t position stamp) (λ c t_train t. granted_in_parts line c t_train t position stamp) yields_behind
+
+  -- where each handover is announced as soon as the border is in the hand
+  pub requested : (position : Position) (w : Flow) (c : ℕ) (k : Centre) (v : LineState) (t_train t : ℕ) → IsAtWork line w c k v → HasAnnounced line c k
+      → step.silence line c k (message t_train t (Request position)) ≡ None
+      → LeadsFrom line w c (Own line (hears c (message t_train t (Request position)) v) c (message t_train t (Request position)) (Request position))
+      (step.hear_and_answer line c (message t_train t (Request position)) k)
+  requested position w c k v t_train t at_work announced heard =
+      subst (λ (j : Centre). LeadsFrom line w c (Own line (hears c (message t_train t (Request position)) v) c (message t_train t (Request position)) (Request position))
+      (step.hear_and_answer line c (message t_train t (Request position)) j)) at_work.state
+      (of_heard line w c t_train t (Request position) (step.hear_and_answer line c (message t_train t (Request position)) (w.at c)) v
+      (request_heard line ok w v at_work.sound at_work.shows c t_train t at_work.to position (subst (λ (j : Centre). HasAnnounced line c j) (sym at_work.state) announced)
+      (subst (λ (j : Centre). step.silence line c j (message t_train t (Request position)) ≡ None) (sym at_work.state) heard)))
+
+  -- ## The interlocking
+
+  pub set_leads_on : (w : Flow) (c s : ℕ) (k : Centre) (v : LineState) → IsAtWork line w c k v → LeadsFrom line w c (Sets line v c s) (step.set line c s k)
+  set_leads_on w c s k v at_work = subst (λ (j : Centre). LeadsFrom line w c (Sets line v c s) (step.set line c s j)) at_work.state
+      (from_once line w c (Sets line v c s) (step.set line c s (w.at c)) (set_leads line w at_work.sound v at_work.shows c s at_work.to))
+
+  pub unset_leads_on : (w : Flow) (c s : ℕ) (k : Centre) (v : LineState) → IsAtWork line w c k v → LeadsFrom line w c (Unsets line v c s) (step.unset line c s k)
+  unset_leads_on w c s k v at_work = subst (λ (j : Centre). LeadsFrom line w c (Unsets line v c s) (step.unset line c s j)) at_work.state (unset_leads line w at_work.sound v at_work.shows c s at_work.to ok).leads
+
+  -- ## Frames
+
+  -- whatever the state is called
+  brought : (f : Body) (w : Flow) (a c number : ℕ) (k : Centre) (v : LineState) → IsBrought line w a c f k v
+      → Leads line (took w a c) c (received line c a f (took_frame a number (w.at c))) v → Leads line (took w a c) c (received line c a f (took_frame a number k)) v
+  brought f w a c number k v brings leads = subst (λ (j : Centre). Leads line (took w a c) c (received line c a f (took_frame a number j)) v) brings.at_work.state leads
+
+  pub body_leads : (f : Body) → Brings line f
+  body_leads (AskRight t) w a c number k v b = brought (AskRight t) w a c number k v b
+      (asked_leads line ok w b.at_work.sound v b.at_work.shows a c number b.from b.at_work.to t b.head)
+  body_leads (GiveRight t) w a c number k v b = brought (GiveRight t) w a c number k v b
+      (given_leads line ok w b.at_work.sound v b.at_work.shows a c number b.from b.at_work.to t b.head)
+  body_leads (RefuseRight t) w a c number k v b = brought (RefuseRight t) w a c number k v b
+      (refused_leads line ok w b.at_work.sound v b.at_work.shows a c number b.from b.at_work.to t b.head)
+  body_leads (ReturnRight t) w a c number k v b = brought (ReturnRight t) w a c number k v b
+      (returned_leads line ok w b.at_work.sound v b.at_work.shows a c number b.from b.at_work.to t b.head)
+  body_leads (RouteAsk t first most) w a c number k v b = brought (RouteAsk t first most) w a c number k v b
+      (lent_leads line ok w b.at_work.sound v b.at_work.shows a c number b.from b.at_work.to t first most b.head)
+  body_leads (RouteInfo t r) w a c number k v b = brought (RouteInfo t r) w a c number k v b
+      (told_leads line ok w b.at_work.sound v b.at_work.shows a c number b.from b.at_work.to (ends_of line c a b.linked).1 t r b.head)
+  body_leads (RouteWithdraw t s) w a c number k v b = brought (RouteWithdraw t s) w a c number k v b
+      (withdrawn_leads line ok w b.at_work.sound v b.at_work.shows a c number b.from b.at_work.to t s b.head)
+  body_leads (RouteReturn t r) w a c number k v b = brought (RouteReturn t r) w a c number k v b
+      (home_leads line ok w b.at_work.sound v b.at_work.shows a c number b.from b.at_work.to t r b.head)
+  body_leads (Announce h t track) w a c number k v b = brought (Announce h t track) w a c number k v b
+      (announce_leads line w v a c h t number (w.at c).clock ok b.at_work.sound b.at_work.shows b.from b.at_work.to track b.head)
+  body_leads (Cancel h t) w a c number k v b = brought (Cancel h t) w a c number k v b
+      (cancel_leads line w v a c h t number (w.at c).clock ok b.at_work.sound b.at_work.shows b.from b.at_work.to b.head)
+  body_leads (TakingOver h t) w a c number k v b = brought (TakingOver h t) w a c number k v b
+      (claim_body_leads line w v a c h t number (w.at c).clock ok b.at_work.sound b.at_work.shows b.from b.at_work.to b.head)
+  body_leads (Yield h t heard has_data is_ended carried hand) w a c number k v b = brought (Yield h t heard has_data is_ended carried hand) w a c number k v b
+      (yield_leads line w v a c h t heard number (w.at c).clock has_data is_ended carried hand ok b.at_work.sound b.at_work.shows b.from b.at_work.to b.head)

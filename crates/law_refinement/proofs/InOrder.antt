@@ -1,0 +1,175 @@
+-- What a step tells the interlocking it tells by the order of sections.
+use Rattle.std.proofs.Common.{ℕ, ◌+◌, Bool, true, false, not, ◌&&◌, if◌then◌else◌, Option, Some, None, is_none, is_some, nat_lt, nat_le, length, ◌*◌, refl, sym, ap, subst, ◌∙◌, List, ◌++◌, append-nil}
+use Rattle.std.specs.Option.{option_map_or}
+use Rattle.rbc_spec.specs.Maps.{put}
+use Rattle.rbc_spec.specs.SectionRuns.{SectionRun, all_of, within, no_run, is_empty, part_before}
+use Rattle.rbc_spec.specs.Line.{Line, section, end, is_home}
+use Rattle.rbc_spec.specs.Place.{Position, covered, place_on}
+use Rattle.rbc_spec.specs.Message.{TrainMessage, TrainBody, TrainData, Request, Report, ShorteningGranted, ShorteningRejected, EndOfMission, InitiationOfSession, TerminationOfSession, StartOfMission, SessionEstablished}
+use Rattle.rbc_spec.specs.Frame.{Frame, Body, AskRight, GiveRight, RefuseRight, ReturnRight, RouteAsk, RouteInfo, RouteWithdraw, RouteReturn, Announce, Cancel, TakingOver, Yield, carried_place}
+use Rattle.rbc_spec.specs.Outcome.{Word, Reason, Done, Asked, NotHome, Next, Old, Early, NoLink}
+use Rattle.rbc_spec.specs.Outcome as outcome
+use Rattle.rbc_spec.specs.Centre.{is_taken_for, is_out_for, Centre, Entry, Shut, Open, Mission, Handing, Proposal, is_unused, uses_some, is_expected}
+use Rattle.rbc_spec.specs.Acts.{Act, become, freed, part_at, rest, ◌>>◌, leave, cancel, end_order, yield_if_due}
+use Rattle.rbc_spec.specs.Rules.{tell, drop_wait, close_session, report_here, take_over, report, end_mission, cut, granted, answered, reject}
+use Rattle.rbc_spec.specs.Links.{received, of_train, is_train, expect, is_under, may_take, right_asked, right_given, right_refused, right_returned, route_asked, route_told, route_withdrawn, route_returned, announced, cancelled, taking_over, yielded}
+use Rattle.rbc_spec.specs.Step as step
+use Rattle.rbc_spec.specs.Step.{Train, taken, link_answer, taken_by, effect, set, unset, wished, make, hear_and_answer}
+use Rattle.rbc_spec.specs.Run.{TellsInOrder}
+use Rattle.law_runs.proofs.InOrder.{none_in_order, one_in_order, range_in_order}
+use Rattle.law_refinement.proofs.Words.{Tells, IsNone, IsSilent, both, branch, when, of_some, of_option, cancel_silent, close_silent, end_silent, yield_if_silent, start_silent, request_silent, given_silent, told_silent, take_silent, asked_silent, returned_silent, lent_silent, withdrawn_silent, wished_silent}
+
+abbrev pub IsOrdered : Act → Type 0
+IsOrdered act = Tells TellsInOrder act
+
+quiet : (a : Act) → IsSilent a → IsOrdered a
+quiet a silent = record { each = λ k. subst TellsInOrder (sym (silent.each k)) none_in_order }
+
+then_none : (a b : Act) → IsOrdered a → IsSilent b → IsOrdered (a >> b)
+unfolding ◌>>◌
+then_none a b first second = record { each = λ k. subst TellsInOrder (sym (ap (λ (ws : List Word). (a k).words ++ ws) (second.each (a k).state) ∙ append-nil (a k).words)) (first.each k) }
+
+none_then : (a b : Act) → IsSilent a → IsOrdered b → IsOrdered (a >> b)
+unfolding ◌>>◌
+none_then a b first second = record { each = λ k. subst TellsInOrder (sym (ap (λ (ws : List Word). ws ++ (b (a k).state).words) (first.each k))) (second.each (a k).state) }
+
+module _ (line : Line) (c t : ℕ) where
+  freed_in_order : (is_meant : Entry → Bool) (r : SectionRun) → IsOrdered (freed line c is_meant r)
+  freed_in_order is_meant r = record { each = λ k. range_in_order (λ s. ((within r s && is_home line c s) && is_meant (k.book s)) && k.wish s) r.first r.count }
+
+  leave_in_order : (track : ℕ) (r : SectionRun) → IsOrdered (leave line c t track r)
+  leave_in_order track r = then_none _ _ (freed_in_order (is_taken_for t) r) (record { each = λ k. refl })
+
+  drop_in_order : IsOrdered (drop_wait line c t)
+  drop_in_order = of_some TellsInOrder none_in_order _ _ (λ place. then_none _ _ (freed_in_order (is_taken_for t) (covered line place)) (record { each = λ k. refl }))
+
+  close_session_in_order : IsOrdered (close_session line c t)
+  close_session_in_order = none_then _ _ (both _ _ (record { each = λ k. refl }) (record { each = λ k. refl })) drop_in_order
+
+  here_in_order : (position : Position) (m : Mission) → IsOrdered (report_here line c t position m)
+  here_in_order position m = of_option TellsInOrder none_in_order (place_on line m.place.track position) _ _
+      (λ place. branch TellsInOrder none_in_order _ _ _ (then_none _ _ (leave_in_order _ _) (close_silent line c t m)) (then_none _ _ (leave_in_order _ _) (record { each = λ k. refl })))
+      (quiet rest (record { each = λ k. refl }))
+
+  report_in_order : (position : Position) → IsOrdered (report line c t position)
+  report_in_order position = record { each = λ k. by_mission k (k.mission t) }
+    where
+      by_mission : (k : Centre) (o : Option Mission) → TellsInOrder (option_map_or (λ m. (report_here line c t position m >> yield_if_due line c t) k) o (take_over line t k)).words
+      by_mission k None = none_in_order
+      by_mission k (Some m) = (then_none _ _ (here_in_order position m) (yield_if_silent line c t)).each k
+
+  end_in_order : (position : Position) → IsOrdered (end_mission line c t position)
+  end_in_order position = then_none _ _ (then_none _ _ (of_some TellsInOrder none_in_order _ _ (here_in_order position))
+      (of_some IsNone refl _ _ (λ m. both _ _ (both _ _ (record { each = λ k. refl }) (record { each = λ k. refl })) (record { each = λ k. refl })))) (yield_if_silent line c t)
+
+  abbrev kept_by : ℕ → Mission → Mission
+  kept_by last_kept m = record m { hand = part_before (last_kept + 1) m.hand; pool = no_run; proposal = None }
+
+  abbrev cancels : Mission → Handing → Act
+  cancels n h = if is_empty (part_at line h.to n.place.track n.hand) then cancel t n else rest
+
+  cut_in_order : (last_kept : ℕ) (m : Mission) → IsOrdered (cut line c t last_kept m)
+  cut_in_order last_kept m = then_none _ _ (leave_in_order _ _) (branch IsNone refl _ _ _ (close_silent line c t m) (both _ _ (record { each = λ k. refl })
+      (of_option IsNone refl m.handing (cancels (kept_by last_kept m)) rest
+      (λ h. branch IsNone refl (is_empty (part_at line h.to m.place.track (kept_by last_kept m).hand)) (cancel t (kept_by last_kept m)) rest (cancel_silent line c t (kept_by last_kept m)) (record { each = λ k. refl })) (record { each = λ k. refl }))))
+
+  granted_in_order : (position : Position) (m : Mission) (p : Proposal) → IsOrdered (granted line c t position m p)
+  granted_in_order position m p = then_none _ _ (none_then _ _ (record { each = λ k. refl })
+      (of_option TellsInOrder none_in_order (place_on line m.place.track position) (λ place. if nat_le place.front (10 * end line p.last_kept) then cut line c t p.last_kept m else rest) rest
+      (λ place. branch TellsInOrder none_in_order (nat_le place.front (10 * end line p.last_kept)) (cut line c t p.last_kept m) rest (cut_in_order p.last_kept m) (quiet rest (record { each = λ k. refl })))
+      (quiet rest (record { each = λ k. refl })))) (yield_if_silent line c t)
+
+module _ (line : Line) (c : ℕ) where
+  answered_in_order : (m : TrainMessage) (body : TrainBody) → IsOrdered (answered line c m body)
+  answered_in_order m (TrainData position) = quiet _ (both _ _ (record { each = λ k. refl }) (record { each = λ k. refl }))
+  answered_in_order m (Request position) = quiet _ (request_silent line c m.nid_engine position)
+  answered_in_order m (Report position) = report_in_order line c m.nid_engine position
+  answered_in_order m (ShorteningGranted stamp position) = of_some TellsInOrder none_in_order _ _
+      (λ n. of_some TellsInOrder none_in_order (λ k. n.proposal) _ (λ p. granted_in_order line c m.nid_engine position n p))
+  answered_in_order m (ShorteningRejected stamp position) = quiet _ (record { each = λ k. refl })
+  answered_in_order m (EndOfMission position) = end_in_order line c m.nid_engine position
+  answered_in_order m InitiationOfSession = then_none _ _ (then_none _ _ (close_session_in_order line c m.nid_engine) (record { each = λ k. refl })) (record { each = λ k. refl })
+  answered_in_order m TerminationOfSession = then_none _ _ (close_session_in_order line c m.nid_engine) (record { each = λ k. refl })
+  answered_in_order m (StartOfMission is_valid position) = quiet _ (start_silent line c m.nid_engine is_valid position)
+  answered_in_order m SessionEstablished = quiet _ (record { each = λ k. refl })
+
+  trains : (t : ℕ) (act : Act) → IsOrdered act → IsOrdered (of_train line t act)
+  trains t act tells = branch TellsInOrder none_in_order (is_train line t) act rest tells (quiet rest (record { each = λ k. refl }))
+
+  wordless : (t : ℕ) (act : Act) → IsSilent act → IsOrdered (of_train line t act)
+  wordless t act silent = trains t act (quiet act silent)
+
+  refused_in_order : (t : ℕ) → IsOrdered (right_refused line c t)
+  refused_in_order t = when TellsInOrder none_in_order (λ k. k.has_asked t) _ (none_then _ _ (record { each = λ k. refl })
+      (when TellsInOrder none_in_order (λ k. is_some (k.wait t)) (drop_wait line c t >> reject t) (then_none _ _ (drop_in_order line c t) (record { each = λ k. refl }))))
+
+  home_in_order : (d t : ℕ) (r : SectionRun) → IsOrdered (route_returned line c d t r)
+  home_in_order d t r = then_none _ _ (freed_in_order line c t (is_out_for t d) r)
+      (when IsNone refl (λ k. not (uses_some line c k t) && ((is_none (k.mission t) && is_none (k.wait t)) && not (is_expected line k t))) (end_order line c t) (end_silent line c t))
+
+  received_in_order : (d : ℕ) (body : Body) → IsOrdered (received line c d body)
+  received_in_order d (AskRight t) = wordless t (right_asked line c d t) (asked_silent line c d t)
+  received_in_order d (GiveRight t) = wordless t (right_given line c t) (given_silent line c t)
+  received_in_order d (RefuseRight t) = trains t (right_refused line c t) (refused_in_order t)
+  received_in_order d (ReturnRight t) = wordless t (right_returned line c t) (returned_silent line c t)
+  received_in_order d (RouteAsk t first most) = wordless t (route_asked line c d t first most) (lent_silent line c d t first most)
+  received_in_order d (RouteInfo t r) = wordless t (route_told line c d t r) (told_silent line c t d r)
+  received_in_order d (RouteWithdraw t s) = wordless t (if is_some (section line s) then route_withdrawn line c t s else rest)
+      (branch IsNone refl (is_some (section line s)) (route_withdrawn line c t s) rest (withdrawn_silent line c t s) (record { each = λ k. refl }))
+  received_in_order d (RouteReturn t r) = trains t (if all_of (λ s. is_some (section line s)) r then route_returned line c d t r else rest)
+      (branch TellsInOrder none_in_order (all_of (λ s. is_some (section line s)) r) (route_returned line c d t r) rest (home_in_order d t r) (quiet rest (record { each = λ k. refl })))
+  received_in_order d (Announce number t track) = wordless t (if nat_lt track (length line.tracks) then announced d number t else rest)
+      (branch IsNone refl (nat_lt track (length line.tracks)) (announced d number t) rest
+      (when IsNone refl (λ k. is_none (k.expects d t)) (expect d t (Some (record { number = number; is_taking = false }))) (record { each = λ k. refl })) (record { each = λ k. refl }))
+  received_in_order d (Cancel number t) = wordless t (cancelled d number t) (when IsNone refl (λ k. is_under number (k.expects d t)) (expect d t None) (record { each = λ k. refl }))
+  received_in_order d (TakingOver number t) = wordless t (taking_over line c d number t) (both _ _ (record { each = λ k. refl }) (yield_if_silent line c t))
+  received_in_order d (Yield number t heard has_data is_ended place hand) = wordless t (option_map_or (yielded line c d number t hand heard has_data is_ended) (carried_place place) rest)
+      (of_option IsNone refl (carried_place place) (yielded line c d number t hand heard has_data is_ended) rest
+      (λ at. when IsNone refl (λ k. may_take line c k d number t at hand) _ (take_silent line c t d heard _)) (record { each = λ k. refl }))
+
+  set_in_order : (s : ℕ) → IsOrdered (set line c s)
+  set_in_order s = record { each = λ k. by_home k (not (is_home line c s)) }
+    where
+      done : (k : Centre) (z : Bool) → IsOrdered (become (λ j. record j { wish = put j.wish s false }) >> ((if z then make s Open false else rest) >> tell (Done s)))
+      done k true = none_then _ _ (record { each = λ j. refl }) (none_then _ _ (record { each = λ j. refl }) (record { each = λ j. one_in_order (Done s) }))
+      done k false = none_then _ _ (record { each = λ j. refl }) (none_then _ _ (record { each = λ j. refl }) (record { each = λ j. one_in_order (Done s) }))
+
+      by_home : (k : Centre) (z : Bool) → TellsInOrder (if z then tell (NotHome s) k
+          else (become (λ j. record j { wish = put j.wish s false }) >> ((if is_unused (k.book s) then make s Open false else rest) >> tell (Done s))) k).words
+      by_home k true = one_in_order (NotHome s)
+      by_home k false = (done k (is_unused (k.book s))).each k
+
+  unset_in_order : (s : ℕ) → IsOrdered (unset line c s)
+  unset_in_order s = record { each = λ k. by_home k (not (is_home line c s)) }
+    where
+      by_use : (k : Centre) (z : Bool) → TellsInOrder ((if z then (make s Shut false >> tell (Done s)) else ((become (λ j. record j { wish = put j.wish s true }) >> tell (Asked s)) >> wished line s (k.book s))) k).words
+      by_use k true = (none_then _ _ (record { each = λ j. refl }) (record { each = λ j. one_in_order (Done s) })).each k
+      by_use k false = (then_none _ _ (none_then _ _ (record { each = λ j. refl }) (record { each = λ j. one_in_order (Asked s) })) (wished_silent line c s (k.book s))).each k
+
+      by_home : (k : Centre) (z : Bool) → TellsInOrder (if z then tell (NotHome s) k
+          else (if is_unused (k.book s) then (make s Shut false >> tell (Done s)) else ((become (λ j. record j { wish = put j.wish s true }) >> tell (Asked s)) >> wished line s (k.book s))) k).words
+      by_home k true = one_in_order (NotHome s)
+      by_home k false = by_use k (is_unused (k.book s))
+
+  -- ## A step
+
+  message_in_order : (m : TrainMessage) (k : Centre) (o : Option Reason) → TellsInOrder (option_map_or {U = step.Effect} (λ why. record { reply = rest k; link = None; silence = Some why }) o
+      (record { reply = hear_and_answer line c m k; link = None; silence = None })).reply.words
+  message_in_order m k (Some why) = none_in_order
+  message_in_order m k None = (none_then _ _ (record { each = λ j. refl }) (answered_in_order m m.body)).each k
+
+  frame_in_order : (d : ℕ) (f : Frame) (answer : outcome.Taken) (k : Centre) → TellsInOrder (taken_by line c d f answer k).words
+  unfolding ◌>>◌
+  frame_in_order d f Next k = (received_in_order d f.body).each (record k { taken = put k.taken d f.number })
+  frame_in_order d f Old k = none_in_order
+  frame_in_order d f Early k = none_in_order
+  frame_in_order d f NoLink k = none_in_order
+
+  pub effect_in_order : (k : Centre) (event : step.Event) → TellsInOrder (effect line c k event).reply.words
+  effect_in_order k (Train m) = message_in_order m k (step.silence line c k m)
+  effect_in_order k (step.Set s) = (set_in_order s).each k
+  effect_in_order k (step.Unset s) = (unset_in_order s).each k
+  effect_in_order k (step.Deliver d f) = frame_in_order d f (link_answer line c k d f) k
+
+  pub step_in_order : (event : step.Event) (k : Centre) → TellsInOrder (taken line c event k).0.words
+  step_in_order event k = effect_in_order (step.ticked (step.stamp_of k event) k) event

@@ -1,0 +1,191 @@
+ghost use Rattle.std.specs.Prelude.{◌≡◌, ◌+◌, ◌-◌, ◌++◌, ◌≤◌, ◌<◌, ◌&&◌, ℕ, length, replicate, true, false, if◌then◌else◌};
+ghost use Rattle.rbc_spec.specs.SectionRuns.{within, behind, is_empty, joined};
+ghost use Rattle.rbc_spec.specs.Centre.{is_open, is_taken_for};
+ghost use Rattle.rbc_book.specs.Book.{is_own, entry_at, wish_at};
+ghost use Rattle.rbc_hand.specs.SectionRuns.{run_of};
+ghost use Rattle.rbc_hand.specs.Tokens.{Held, Own, token_of};
+ghost use Rattle.rbc_hand.specs.Hands.{run, one, takes, extended};
+ghost use Rattle.rbc_allocation.specs.Sections.{TakesRun, FreesRun, wished, hand_rest, hand_front, is_held_as, IsHeldBy};
+
+use crate::told::Told;
+use rbc_book::Book;
+use rbc_hand::{Hand, SectionRun, Token};
+
+// Ends a token: a claim goes back to the book.
+fn end_token(token: Token, book: &mut Book)
+    ensures { (s t : ℕ) (held : Held) → token ≡ token_of s held → is_held_as t (is_own book.old s) held ≡ true → FreesRun t (one s) book.old book.new }
+{
+    match token {
+        Token::Own(claim) => {
+            book.give_back(claim);
+        }
+        Token::Name(lent) => {
+            lent.send();
+        }
+    }
+}
+
+// Takes a section into the hand.
+fn take(hand: &mut Hand, s: u16, nid_engine: u32, book: &mut Book)
+    requires room { takes (run hand.old) s ≡ true }
+    requires open { is_open (entry_at book.old s) ≡ true }
+    ensures hand { hand.new ≡ extended hand.old s (Own nid_engine) }
+    ensures run { run hand.new ≡ joined (run hand.old) (one s) }
+    ensures book { TakesRun nid_engine (one s) book.old book.new }
+{
+    if let Some(claim) = book.take(s, nid_engine) {
+        if let Err(token) = hand.extend(Token::Own(claim)) {
+            end_token(token, book);
+        }
+    }
+}
+
+/// Takes sections into the hand, behind its last.
+pub fn take_run(hand: &mut Hand, sections: SectionRun, nid_engine: u32, book: &mut Book)
+    requires room { length hand.old.holds + sections.count ≤ 32 }
+    requires numbers { sections.first + sections.count ≤ 65535 }
+    requires next { 0 < length hand.old.holds → hand.old.first + length hand.old.holds ≡ sections.first }
+    requires open { (s : ℕ) → within (run_of sections) s ≡ true → is_open (entry_at book.old s) ≡ true }
+    ensures count { length hand.new.holds ≡ length hand.old.holds + sections.count }
+    ensures first { 0 < length hand.new.holds → hand.new.first + length hand.old.holds ≡ sections.first }
+    ensures holds { hand.new.holds ≡ hand.old.holds ++ replicate sections.count (Own nid_engine) }
+    ensures held { IsHeldBy nid_engine hand.old book.old → IsHeldBy nid_engine hand.new book.new }
+    ensures book { TakesRun nid_engine (run_of sections) book.old book.new }
+{
+    for k in 0..sections.count {
+        take(hand, sections.first + k, nid_engine, book);
+    }
+}
+
+// The first section leaves the hand.
+fn free_first(hand: &mut Hand, nid_engine: u32, book: &mut Book)
+    requires held { IsHeldBy nid_engine hand.old book.old }
+    requires some { is_empty (run hand.old) ≡ false }
+    ensures hand { hand.new ≡ hand_rest 1 hand.old }
+    ensures book { FreesRun nid_engine (one hand.old.first) book.old book.new }
+{
+    if let Some(token) = hand.cut_front() {
+        end_token(token, book);
+    }
+}
+
+// The last section leaves the hand.
+fn free_last(hand: &mut Hand, nid_engine: u32, book: &mut Book)
+    requires held { IsHeldBy nid_engine hand.old book.old }
+    requires some { is_empty (run hand.old) ≡ false }
+    ensures hand { hand.new ≡ hand_front (length hand.old.holds - 1) hand.old }
+    ensures book { FreesRun nid_engine (one (hand.old.first + (length hand.old.holds - 1))) book.old book.new }
+{
+    if let Some(token) = hand.cut_back() {
+        end_token(token, book);
+    }
+}
+
+// So many of the first sections leave the hand.
+fn free_front(hand: &mut Hand, count: u16, nid_engine: u32, book: &mut Book)
+    requires held { IsHeldBy nid_engine hand.old book.old }
+    requires some { count ≤ length hand.old.holds }
+    ensures hand { hand.new ≡ hand_rest count hand.old }
+    ensures book { FreesRun nid_engine (record { first = hand.old.first; count = count }) book.old book.new }
+{
+    for _ in 0..count {
+        free_first(hand, nid_engine, book);
+    }
+}
+
+// So many of the last sections leave the hand.
+fn free_back(hand: &mut Hand, count: u16, nid_engine: u32, book: &mut Book)
+    requires held { IsHeldBy nid_engine hand.old book.old }
+    requires some { count ≤ length hand.old.holds }
+    ensures hand { hand.new ≡ hand_front (length hand.old.holds - count) hand.old }
+    ensures book { FreesRun nid_engine (record { first = hand.old.first + (length hand.old.holds - count); count = count }) book.old book.new }
+{
+    for _ in 0..count {
+        free_last(hand, nid_engine, book);
+    }
+}
+
+// Whether the section is in use for the train and wished back.
+fn is_wished(s: u16, nid_engine: u32, book: &Book) -> bool
+    ensures { result ≡ (is_taken_for nid_engine (entry_at book.now s) && wish_at book.now s) }
+{
+    let page = book.page(s);
+    page.entry.is_taken_for(nid_engine) && page.is_wished
+}
+
+// Those of these sections that are in use for the train and wished back, in rising order.
+fn wished(sections: SectionRun, nid_engine: u32, book: &Book) -> Told
+    requires room { sections.count ≤ 32 }
+    requires numbers { sections.first + sections.count ≤ 65535 }
+    ensures { result ≡ wished nid_engine (run_of sections) book.now }
+{
+    let mut marks = 0;
+    for k in 0..sections.count {
+        let mark = if is_wished(sections.first + k, nid_engine, book) {
+            1
+        } else {
+            0
+        };
+        marks = marks * 2 + mark;
+    }
+    Told::of(sections.first, sections.count, marks)
+}
+
+/// So many of the first sections leave the hand: those of the book's home are given back, and the names of the others end. Those that were
+/// wished back, in rising order.
+pub fn clear(hand: &mut Hand, count: u16, nid_engine: u32, book: &mut Book) -> Told
+    requires held { IsHeldBy nid_engine hand.old book.old }
+    requires some { count ≤ length hand.old.holds }
+    requires most { length hand.old.holds ≤ 32 }
+    requires numbers { hand.old.first + length hand.old.holds ≤ 65535 }
+    ensures told { result ≡ wished nid_engine (record { first = hand.old.first; count = count }) book.old }
+    ensures hand { hand.new ≡ hand_rest count hand.old }
+    ensures run { run hand.new ≡ record { first = hand.old.first + count; count = length hand.old.holds - count } }
+    ensures held { IsHeldBy nid_engine hand.new book.new }
+    ensures book { FreesRun nid_engine (record { first = hand.old.first; count = count }) book.old book.new }
+{
+    let first = hand.run().first;
+    let told = wished(SectionRun { first, count }, nid_engine, book);
+    free_front(hand, count, nid_engine, book);
+    told
+}
+
+/// All but so many of the first sections leave the hand: those of the book's home are given back, and the names of the others end. Those
+/// that were wished back, in rising order.
+pub fn cut(hand: &mut Hand, keep: u16, nid_engine: u32, book: &mut Book) -> Told
+    requires held { IsHeldBy nid_engine hand.old book.old }
+    requires some { keep ≤ length hand.old.holds }
+    requires most { length hand.old.holds ≤ 32 }
+    requires numbers { hand.old.first + length hand.old.holds ≤ 65535 }
+    ensures told { result ≡ wished nid_engine (record { first = hand.old.first + keep; count = length hand.old.holds - keep }) book.old }
+    ensures hand { hand.new ≡ hand_front keep hand.old }
+    ensures run { run hand.new ≡ record { first = hand.old.first; count = keep } }
+    ensures held { IsHeldBy nid_engine hand.new book.new }
+    ensures book { FreesRun nid_engine (record { first = hand.old.first + keep; count = length hand.old.holds - keep }) book.old book.new }
+{
+    let run = hand.run();
+    let first = run.first + keep;
+    let count = run.count - keep;
+    let told = wished(SectionRun { first, count }, nid_engine, book);
+    free_back(hand, count, nid_engine, book);
+    told
+}
+
+/// Gives all sections of the hand back, and ends it.
+pub fn end_hand(mut hand: Hand, book: &mut Book) {
+    while let Some(token) = hand.cut_front() {
+        end_token(token, book);
+    }
+    hand.end();
+}
+
+/// So many sections behind these.
+pub fn behind(sections: SectionRun, count: u16) -> SectionRun
+    requires { sections.first + sections.count ≤ 65535 }
+    ensures { run_of result ≡ record { first = behind (run_of sections); count = count } }
+{
+    SectionRun {
+        first: sections.first + sections.count,
+        count,
+    }
+}

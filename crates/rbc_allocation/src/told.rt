@@ -1,0 +1,80 @@
+ghost use Rattle.std.specs.Prelude.{◌≡◌, ◌+◌, ◌^◌, ◌<◌, ◌≤◌, []};
+ghost use Rattle.rbc_allocation.specs.Marks.{marked};
+
+use arrayvec::ArrayVec;
+use std::marker::Model;
+
+/// Sections that the interlocking is to be told of, in rising order: some of at most 64 that follow one another, each by one bit.
+#[derive(Debug, Drop)]
+pub struct Told {
+    first: u16,
+    count: u16,
+    marks: u64,
+}
+
+impl Model for Told {
+    ghost use Rattle.std.specs.Prelude.{ℕ, ◌+◌, ◌^◌, ◌<◌, ◌≤◌, List};
+    ghost use Rattle.rbc_allocation.specs.Marks.{marked};
+
+    ghost Value = { List ℕ };
+
+    ghost view = { λ t. marked t.first t.count t.marks };
+
+    ghost invariant = { λ t. (t.count ≤ 64) × (t.first + t.count ≤ 65535) × (t.marks < 2 ^ t.count) };
+}
+
+impl Told {
+    /// No section.
+    #[inline(always)]
+    #[tactic(auto, unfolding(crate::specs::Marks::marked))]
+    pub fn nothing() -> Told
+        ensures { result ≡ [] }
+    {
+        Told {
+            first: 0,
+            count: 0,
+            marks: 0,
+        }
+    }
+
+    /// The marked ones of so many sections from the first on: the lowest bit is the last section's.
+    #[inline(always)]
+    pub fn of(first: u16, count: u16, marks: u64) -> Told
+        requires few { count ≤ 64 }
+        requires numbers { first + count ≤ 65535 }
+        requires fits { marks < 2 ^ count }
+        ensures { result ≡ marked first count marks }
+    {
+        Told {
+            first,
+            count,
+            marks,
+        }
+    }
+
+    /// A copy.
+    #[inline(always)]
+    pub fn copied(&self) -> Told
+        ensures { result ≡ self.now }
+    {
+        Told {
+            first: self.first,
+            count: self.count,
+            marks: self.marks,
+        }
+    }
+
+    /// The sections.
+    pub fn sections(&self) -> ArrayVec<u16, 64>
+        ensures { result.items ≡ self.now }
+    {
+        let (first, count, marks) = (self.first, self.count, self.marks);
+        let mut sections = ArrayVec::new();
+        for k in 0..count {
+            if (marks >> (count - 1 - k)) % 2 == 1 {
+                sections.push(first + k);
+            }
+        }
+        sections
+    }
+}

@@ -1,5 +1,0 @@
-use Rattle.rbc_claims.proofs.Runs.{HasFreedFront}
-use Rattle.rbc_claims.proofs.sections.free_front.Given as goal
-
-abbrev pub invariant-loop : goal.invariant-loop
-invariant-loop l = HasFreedFront l.nid_engine l.counter l.fn.hand l.hand l.fn.book l.book

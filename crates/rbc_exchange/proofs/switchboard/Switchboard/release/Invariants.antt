@@ -1,6 +1,0 @@
-use Rattle.std.proofs.Common.{◌≡◌, ◌++◌, map, take, drop}
-use Rattle.rbc_exchange.specs.Serving.{freed}
-use Rattle.rbc_exchange.proofs.switchboard.Switchboard.release.Given as goal
-
-abbrev pub invariant-loop-place : goal.invariant-loop-place
-invariant-loop-place g l = l.place-items ≡ map (freed l.number) (take l.place-index l.fn.self.serving.items) ++ drop l.place-index l.fn.self.serving.items

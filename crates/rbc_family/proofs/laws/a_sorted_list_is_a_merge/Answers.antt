@@ -1,5 +1,0 @@
-use Rattle.rbc_family.proofs.Sorted.{merges}
-use Rattle.rbc_family.proofs.laws.a_sorted_list_is_a_merge.Goals as goal
-
-pub returns : goal.returns
-returns ctx line logs ends together sorted are given moved up = merges line logs ends are together sorted given moved up

@@ -1,5 +1,0 @@
-use Rattle.rbc_family.proofs.Stamps.{stamped}
-use Rattle.rbc_family.proofs.laws.each_step_is_stamped.Goals as goal
-
-pub returns : goal.returns
-returns ctx line c event k new outcome is = stamped line c event k new outcome is

@@ -1,7 +1,0 @@
-//! Laws of logs: what the centres of a line did side by side, each in its own order, is one run of the world, however the logs are merged by
-//! their stamps. The functions do nothing: each contract is a law of the definitions.
-#![tactic(auto)]
-
-mod laws;
-
-pub use laws::{a_sorted_list_is_a_merge, each_step_is_stamped, the_family_theorem};

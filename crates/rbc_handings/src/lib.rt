@@ -1,9 +1,0 @@
-//! Laws of what the frames of a handover lead to at the whole line, each as the next frame of its link: quiet steps of the one line
-//! centre, or none. The functions do nothing: each contract is a law of the definitions.
-#![tactic(auto)]
-
-mod laws;
-
-pub use laws::{
-    a_cancellation_leads_on, a_taking_over_leads_on, a_yield_leads_on, an_announcement_leads_on,
-};

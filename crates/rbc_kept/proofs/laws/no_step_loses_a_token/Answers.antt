@@ -1,5 +1,0 @@
-use Rattle.rbc_kept.proofs.Tokens.{no_token_lost}
-use Rattle.rbc_kept.proofs.laws.no_step_loses_a_token.Goals as goal
-
-pub returns : goal.returns
-returns ctx line c t s k event ok range sound order due = no_token_lost line ok c t s k event range sound order due

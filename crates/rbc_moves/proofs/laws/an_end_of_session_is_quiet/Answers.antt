@@ -1,5 +1,0 @@
-use Rattle.rbc_moves.proofs.EndOrders.{end_leads}
-use Rattle.rbc_moves.proofs.laws.an_end_of_session_is_quiet.Goals as goal
-
-pub returns : goal.returns
-returns o line w c t k v = end_leads line w c t k v

@@ -1,5 +1,0 @@
-use Rattle.rbc_moves.proofs.Ended.{ended_so}
-use Rattle.rbc_moves.proofs.laws.an_ended_mission_is_shown.Goals as goal
-
-pub returns : goal.returns
-returns o line w c t m k v = ended_so line w c t m k v

@@ -1,8 +1,0 @@
-use Rattle.rbc_pairs.proofs.Kept.{orderly_pairs, taking_pairs}
-use Rattle.rbc_pairs.proofs.laws.an_orderly_act_keeps_all_paired.Goals as goal
-
-pub returns-clause-acts : goal.returns-clause-acts
-returns-clause-acts o w c i j t y frames counted is = orderly_pairs w counted c y frames is i j t
-
-pub returns-clause-takes : goal.returns-clause-takes
-returns-clause-takes o w a c i j t f y head is = taking_pairs w a c f head y is i j t

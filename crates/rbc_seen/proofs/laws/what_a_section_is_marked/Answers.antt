@@ -1,6 +1,0 @@
-use Rattle.rbc_seen.proofs.Known.{flow}
-use Rattle.rbc_seen.proofs.Marks.{sections_seen}
-use Rattle.rbc_seen.proofs.laws.what_a_section_is_marked.Goals as goal
-
-pub returns : goal.returns
-returns o line w known = sections_seen line w (flow line w known) known.shows

@@ -1,6 +1,0 @@
-use Rattle.rbc_seen.proofs.Known.{flow}
-use Rattle.rbc_seen.proofs.Missions.{missions_seen}
-use Rattle.rbc_seen.proofs.laws.who_has_a_mission.Goals as goal
-
-pub returns : goal.returns
-returns o line w known = missions_seen line w (flow line w known) known.shows

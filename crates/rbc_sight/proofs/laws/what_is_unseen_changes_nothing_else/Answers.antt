@@ -1,5 +1,0 @@
-use Rattle.rbc_sight.proofs.Shows.{unseen_shown}
-use Rattle.rbc_sight.proofs.laws.what_is_unseen_changes_nothing_else.Goals as goal
-
-pub returns : goal.returns
-returns ctx = unseen_shown

@@ -1,9 +1,0 @@
-//! A one-centre line, whose one centre is the home of all sections and every train's registrar: the one line centre meets
-//! its events without free choice. It answers wherever it may, leaves a message without an answer exactly for its reason,
-//! and takes no quiet step but a request to shorten behind an unset that asks for it. The functions here do nothing: each
-//! contract is a law of the definitions, for the crates above to cite from `proofs/`.
-#![tactic(auto)]
-
-mod laws;
-
-pub use laws::{each_event_leaves_no_choice, each_run_leaves_no_choice, the_one_centre_theorem};

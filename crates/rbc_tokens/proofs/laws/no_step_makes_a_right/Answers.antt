@@ -1,7 +1,0 @@
-use Rattle.std.proofs.Common.{refl}
-use Rattle.rbc_tokens.proofs.Rights.{rights_tally, rights_counted, rights_ready}
-use Rattle.rbc_tokens.proofs.Steps.{step_fair}
-use Rattle.rbc_tokens.proofs.laws.no_step_makes_a_right.Goals as goal
-
-pub returns : goal.returns
-returns ctx line c t k event sound = step_fair line c (rights_tally line c t) (rights_counted line c t) k event sound (rights_ready line c t k) refl

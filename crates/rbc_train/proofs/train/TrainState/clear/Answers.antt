@@ -1,0 +1,74 @@
+use Rattle.std.proofs.Common.{◌≤◌, ◌∙◌, is_some, option_and_then, ap, sym, refl, subst}
+use Rattle.rbc_spec.specs.SectionRuns.{SectionRun, passing}
+use Rattle.rbc_spec.specs.Line.{is_home}
+use Rattle.rbc_spec.specs.Place.{is_cleared}
+use Rattle.rbc_spec.specs.Centre.{Mission}
+use Rattle.rbc_book.specs.Book.{is_own}
+use Rattle.rbc_place.specs.Places.{place_of}
+use Rattle.rbc_allocation.specs.Sections.{hand_rest}
+use Rattle.rbc_mission.specs.Supervisions.{SupervisionState, hand_of, right_left}
+use Rattle.rbc_train.specs.Desk.{with_parts}
+use Rattle.rbc_train.specs.Letters.{cancel_of, mail_home}
+use Rattle.rbc_train.specs.declared.mail.Mail.{Mail}
+use Rattle.rbc_train.proofs.Clears.{clears}
+use Rattle.rbc_train.proofs.Kept.{kept_cleared, cleared_place, cleared_handing, none_left, not_left, held_as}
+use Rattle.rbc_train.proofs.Letters.{goes_as, sent_home}
+use Rattle.rbc_train.proofs.RightFrames.{released_as}
+use Rattle.rbc_train.proofs.train.TrainState.clear.Goals as goal
+
+pub clear_front-released-requires-clause-some : goal.clear_front-released-requires-clause-some
+clear_front-released-requires-clause-some c = subst (λ (r : SectionRun). c.cleared-count.result ≤ r.count) c.hand.ensures c.cleared-count.ensures.bound
+
+pub clear_front-released-requires-clause-held : goal.clear_front-released-requires-clause-held
+clear_front-released-requires-clause-held c =
+    let old = c.args.self.now in
+    held_as old.supervision.engine old.supervision.engine (is_home c.args.line.now c.args.centre) (is_own c.args.book.now) old.supervision.hand refl c.requires.book c.requires.held
+
+pub returns-clause-exact : goal.returns-clause-exact
+returns-clause-exact c = λ m there on k has.
+    let line = c.args.line.now in
+    let old = c.args.self.now in
+    let place = place_of c.args.place in
+    let left = c.clear_front-released.new.self in
+    let sections = c.clear_front-released.result.returned in
+    let letter = c.released.result.mail.letter in
+    let notice = cancel_of c.clear_front-released.result.cancelled in
+    clears line c.args.centre k old c.args.book.now c.args.registrar.now has m there place c.requires.number (λ d. (with_parts (record old { supervision = left }) c.clear_front-released.new.book c.released.new.registrar k).expects d old.supervision.engine) left (hand_rest c.cleared-count.result old.supervision.hand) c.clear_front-released.new.book c.released.new.registrar c.clear_front-released.result.told c.clear_front-released.result.cancelled letter
+    c.cleared-count.result
+    (c.cleared-count.ensures.value ∙ ap (passing (is_cleared line place)) c.hand.ensures ∙ ap (λ (x : SupervisionState). passing (is_cleared line place) (hand_of x)) (λ i. record old.supervision { mission = there i }))
+    c.clear_front-released.ensures.supervision c.clear_front-released.ensures.book c.clear_front-released.ensures.told sections c.clear_front-released.ensures.returned c.clear_front-released.ensures.cancelled
+    (goes_as line c.args.centre old.supervision.engine left.engine c.clear_front-released.result.right (right_left old.supervision left) letter c.args.registrar.now c.released.new.registrar
+    (ap (λ (x : SupervisionState). x.engine) c.clear_front-released.ensures.supervision) c.clear_front-released.ensures.right c.released.ensures.right)
+    ∙ sym (released_as line c.args.centre old.supervision.engine (with_parts (record old { supervision = left }) c.clear_front-released.new.book c.released.new.registrar k) c.released.result c.clear_front-released.result.told
+    (mail_home m.place.track sections notice letter) c.released.ensures.saying c.released.ensures.order (c.released.ensures.mail ∙ ap (λ track. mail_home track sections notice letter) (sym on)) c.released.ensures.told)
+
+pub returns-clause-stays : goal.returns-clause-stays
+returns-clause-stays c = λ kept.
+    kept_cleared c.args.line.now c.args.centre c.args.self.now c.clear_front-released.new.self (hand_rest c.cleared-count.result c.args.self.now.supervision.hand) (place_of c.args.place) c.cleared-count.result
+    (subst (λ (r : SectionRun). c.cleared-count.result ≤ r.count) c.hand.ensures c.cleared-count.ensures.bound) c.clear_front-released.ensures.supervision kept
+
+pub returns-clause-track : goal.returns-clause-track
+returns-clause-track c = λ m there.
+    cleared_place (place_of c.args.place) c.cleared-count.result c.args.self.now.supervision.mission m (ap (λ (x : SupervisionState). x.mission) (sym c.clear_front-released.ensures.supervision) ∙ there)
+
+pub returns-clause-mail : goal.returns-clause-mail
+returns-clause-mail c = sent_home c.args.place.track c.clear_front-released.result.returned (cancel_of c.clear_front-released.result.cancelled) c.released.result.mail c.released.ensures.mail
+
+pub returns-clause-letter : goal.returns-clause-letter
+returns-clause-letter c = λ stands.
+    let old = c.args.self.now.supervision in
+    let left = c.clear_front-released.new.self in
+    let place = place_of c.args.place in
+    let is = ap (λ (x : SupervisionState). x.mission) c.clear_front-released.ensures.supervision in (
+      (c.released.ensures.right.nothing (c.clear_front-released.ensures.right ∙ none_left old left stands)).0,
+      ap (λ (x : Mail). x.notice) c.released.ensures.mail
+          ∙ ap cancel_of (c.clear_front-released.ensures.cancelled ∙ not_left old left
+          (ap (option_and_then (λ (m : Mission). m.handing)) is ∙ cleared_handing place c.cleared-count.result old.mission (ap is_some (sym is) ∙ stands))),
+    )
+
+pub returns-clause-held : goal.returns-clause-held
+returns-clause-held c =
+    let old = c.args.self.now in
+    let left = c.clear_front-released.new.self in
+    held_as old.supervision.engine left.engine (is_own c.clear_front-released.new.book) (is_home c.args.line.now c.args.centre) left.hand (sym (ap (λ (x : SupervisionState). x.engine) c.clear_front-released.ensures.supervision))
+    (λ s. sym (c.clear_front-released.ensures.book.homes s ∙ c.requires.book s)) c.clear_front-released.ensures.held

@@ -1,0 +1,39 @@
+use Rattle.std.proofs.Common.{◌∙◌, if◌then◌else◌, ap, sym, arith}
+use Rattle.std.proofs.lemmas.Bool.Decides.{nat_tests}
+use Rattle.rbc_spec.specs.Acts.{rest}
+use Rattle.rbc_spec.specs.Links.{route_returned}
+use Rattle.rbc_hand.specs.SectionRuns.{run_of}
+use Rattle.rbc_train.specs.Sayings.{sayings_of}
+use Rattle.rbc_train.specs.Desk.{with_parts, reply_left}
+use Rattle.rbc_train.specs.declared.heard.Heard.{Heard}
+use Rattle.rbc_train.specs.declared.train.TrainState.{TrainState}
+use Rattle.rbc_train.proofs.Desk.{same_parts}
+use Rattle.rbc_train.proofs.RouteFrames.{has_pages, all_sections, not_all_sections, comes_home}
+use Rattle.rbc_train.proofs.train.TrainState.route_returned.Goals as goal
+
+pub returns-then-behind-from-clause-exact : goal.returns-then-behind-from-clause-exact
+returns-then-behind-from-clause-exact c = λ rights k has.
+    let line = c.args.line.now in
+    let p = c.args.self.now in
+    let past = c.if-behind-from.true in
+    let last = c.behind.ensures in
+    let count = c.from.ensures ∙ c.section_count.ensures.value in
+    ap (λ b. (if b then route_returned line c.args.centre c.args.from p.supervision.engine (run_of c.args.sections) else rest) k) (not_all_sections line (run_of c.args.sections) c.requires.some (grind (arith, nat_tests)))
+    ∙ same_parts line c.args.centre k p c.args.book.now rights has ∙ ap (reply_left line c.args.centre p.supervision.engine (with_parts p c.args.book.now rights k)) (sym c.nothing.ensures)
+
+pub returns-clause-exact : goal.returns-clause-exact
+returns-clause-exact c = λ rights k has.
+    let line = c.args.line.now in
+    let p = c.args.self.now in
+    let t = p.supervision.engine in
+    let told = c.bring_back-told.result in
+    let book = c.bring_back-told.new.book in
+    let q = c.end_order-saying.new.self in
+    let past = c.if-behind-from.false in
+    let last = c.behind.ensures in
+    let count = c.from.ensures ∙ c.section_count.ensures.value in
+    ap (λ b. (if b then route_returned line c.args.centre c.args.from t (run_of c.args.sections) else rest) k) (all_sections line (run_of c.args.sections) (grind (arith, nat_tests)))
+    ∙ comes_home line c.args.centre k p c.args.book.now rights has c.args.from c.nid_engine.result (run_of c.args.sections) book told _ q (sayings_of c.end_order-saying.result) c.nid_engine.ensures
+    (c.bring_back-told.ensures.exact line c.args.centre k (has_pages line c.args.centre k p c.args.book.now rights has)) c.bring_back-told.ensures.book.homes (ap (λ (x : TrainState). x.supervision.engine) c.end_order-saying.ensures.said)
+    (λ j there. c.end_order-saying.ensures.exact rights j there)
+    ∙ ap (λ (x : Heard). reply_left line c.args.centre t (with_parts q book rights k) (record x { told = told })) (sym c.of.ensures)

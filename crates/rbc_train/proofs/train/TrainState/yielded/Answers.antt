@@ -1,0 +1,99 @@
+use Rattle.std.proofs.Common.{◌∙◌, option_map, ap, sym, arith}
+use Rattle.std.specs.Option.{option_map_or}
+use Rattle.rbc_spec.specs.Acts.{rest}
+use Rattle.rbc_spec.specs.Links.{yielded}
+use Rattle.rbc_hand.specs.SectionRuns.{run_of}
+use Rattle.rbc_place.specs.Places.{place_of}
+use Rattle.rbc_train.specs.Arriving.{taken_up}
+use Rattle.rbc_train.specs.Desk.{with_parts, reply_left}
+use Rattle.rbc_train.specs.Sayings.{sayings_of}
+use Rattle.rbc_train.specs.declared.train.TrainState.{TrainState}
+use Rattle.rbc_train.proofs.Desk.{same_parts}
+use Rattle.rbc_train.proofs.Kept.{held_again, still_held}
+use Rattle.rbc_train.proofs.Arrivals.{unwished, wished_first, asked_so}
+use Rattle.rbc_train.proofs.train.TrainState.yielded.Goals as goal
+
+pub returns-in_default-clause-exact : goal.returns-in_default-clause-exact
+returns-in_default-clause-exact c = λ k has.
+    let line = c.args.line.now in
+    let n = c.args.centre in
+    let p = c.args.self.now in
+    let y = c.args.coming in
+    ap (λ o. option_map_or (yielded line n y.from y.number p.supervision.engine (run_of y.hand) y.heard y.has_data y.is_ended) o rest k) (sym c.arriving_place.ensures ∙ ap (option_map place_of) c.in_default.is)
+    ∙ same_parts line n k p c.args.book.now c.args.registrar.now has ∙ ap (reply_left line n p.supervision.engine (with_parts p c.args.book.now c.args.registrar.now k)) (sym c.nothing.ensures)
+
+pub returns-then-not-may_take-clause-exact : goal.returns-then-not-may_take-clause-exact
+returns-then-not-may_take-clause-exact c = λ k has.
+    let line = c.args.line.now in
+    let n = c.args.centre in
+    let p = c.args.self.now in
+    let y = c.args.coming in
+    ap (λ o. option_map_or (yielded line n y.from y.number p.supervision.engine (run_of y.hand) y.heard y.has_data y.is_ended) o rest k) (sym c.arriving_place.ensures ∙ ap (option_map place_of) c.in-Some.is)
+    ∙ rw (sym (c.may_take.ensures.exact k has) ∙ c.if-not-may_take.true) (same_parts line n k p c.args.book.now c.args.registrar.now has)
+    ∙ ap (reply_left line n p.supervision.engine (with_parts p c.args.book.now c.args.registrar.now k)) (sym c.nothing-then-not-may_take.ensures)
+
+pub may_take-requires-clause-some : goal.may_take-requires-clause-some
+may_take-requires-clause-some c = c.requires.hand.count.0
+
+pub take_mission-requires-clause-none : goal.take_mission-requires-clause-none
+take_mission-requires-clause-none c = c.may_take.ensures.none c.if-not-may_take.false
+
+pub take_mission-requires-clause-line : goal.take_mission-requires-clause-line
+take_mission-requires-clause-line c = c.may_take.ensures.line c.if-not-may_take.false
+
+pub take_mission-requires-clause-own : goal.take_mission-requires-clause-own
+take_mission-requires-clause-own c = c.may_take.ensures.own c.if-not-may_take.false
+
+pub first_wished-requires : goal.first_wished-requires
+first_wished-requires c = let last = c.requires.hand.last in omega (arith, last)
+
+pub returns-in-Some-first_wished-clause-exact : goal.returns-in-Some-first_wished-clause-exact
+returns-in-Some-first_wished-clause-exact c = λ k has.
+    let line = c.args.line.now in
+    let n = c.args.centre in
+    let p = c.args.self.now in
+    let t = p.supervision.engine in
+    let y = c.args.coming in
+    let place = place_of c.in-Some.place in
+    let taken = c.take_mission.ensures in
+    let x = c.take_mission.new.self in
+    let asked = c.ask_back.ensures in
+    ap (λ o. option_map_or (yielded line n y.from y.number t (run_of y.hand) y.heard y.has_data y.is_ended) o rest k) (sym c.arriving_place.ensures ∙ ap (option_map place_of) c.in-Some.is)
+    ∙ rw (sym (c.may_take.ensures.exact k has) ∙ c.if-not-may_take.false)
+    (wished_first line n k p c.args.book.now c.args.registrar.now has y place x.supervision.hand x.expectations c.take_mission.new.book taken.book taken.expected c.requires.hand taken.count
+    c.in-Some-first_wished.s c.ask_back.new.self (sayings_of c.ask_back.result) (sym c.first_wished.ensures ∙ c.in-Some-first_wished.is)
+    (asked_so line c.in-Some-first_wished.s x (taken_up y place x.supervision.hand x.expectations p) c.ask_back.new.self (sayings_of c.ask_back.result) taken.left asked.exact)
+    (asked.engine ∙ ap (λ (q : TrainState). q.supervision.engine) taken.left) (asked.number ∙ ap (λ (q : TrainState). q.supervision.number) taken.left)
+    (asked.question ∙ ap (λ (q : TrainState). q.supervision.asked) taken.left) (asked.session_state ∙ ap (λ (q : TrainState). q.session_state) taken.left)
+    (asked.heard ∙ ap (λ (q : TrainState). q.heard) taken.left) (asked.waiting ∙ ap (λ (q : TrainState). q.waiting) taken.left) asked.expectations)
+    ∙ ap (reply_left line n t (with_parts c.ask_back.new.self c.take_mission.new.book c.args.registrar.now k)) (sym c.of.ensures)
+
+pub returns-in-None-clause-exact : goal.returns-in-None-clause-exact
+returns-in-None-clause-exact c = λ k has.
+    let line = c.args.line.now in
+    let n = c.args.centre in
+    let p = c.args.self.now in
+    let t = p.supervision.engine in
+    let y = c.args.coming in
+    let place = place_of c.in-Some.place in
+    let taken = c.take_mission.ensures in
+    let x = c.take_mission.new.self in
+    let book' = c.take_mission.new.book in
+    ap (λ o. option_map_or (yielded line n y.from y.number t (run_of y.hand) y.heard y.has_data y.is_ended) o rest k) (sym c.arriving_place.ensures ∙ ap (option_map place_of) c.in-Some.is)
+    ∙ rw (sym (c.may_take.ensures.exact k has) ∙ c.if-not-may_take.false)
+    (unwished line n k p c.args.book.now c.args.registrar.now has y place x.supervision.hand x.expectations book' taken.book taken.expected c.requires.hand taken.count
+    (sym c.first_wished.ensures ∙ c.in-None.is))
+    ∙ (λ i. reply_left line n t (with_parts (sym taken.left i) book' c.args.registrar.now k) (sym c.nothing-in-None.ensures i))
+
+pub returns-in-Some-first_wished-clause-held : goal.returns-in-Some-first_wished-clause-held
+returns-in-Some-first_wished-clause-held c =
+    let taken = c.take_mission.ensures in
+    let q = c.ask_back.new.self in
+    let line = c.args.line.now in
+    still_held line c.args.centre c.take_mission.new.self q c.ask_back.ensures.engine c.ask_back.ensures.hand
+    (held_again line c.args.centre c.args.self.now.supervision.engine c.take_mission.new.self c.take_mission.new.book (sym (ap (λ (p : TrainState). p.supervision.engine) taken.left)) (λ s. taken.book.homes s ∙ c.requires.book s) taken.held)
+
+pub returns-in-None-clause-held : goal.returns-in-None-clause-held
+returns-in-None-clause-held c =
+    let taken = c.take_mission.ensures in
+    held_again c.args.line.now c.args.centre c.args.self.now.supervision.engine c.take_mission.new.self c.take_mission.new.book (sym (ap (λ (p : TrainState). p.supervision.engine) taken.left)) (λ s. taken.book.homes s ∙ c.requires.book s) taken.held

@@ -1,0 +1,178 @@
+-- A centre seen from one of its trains: the parts of its state that a message of the train finds, and those that it leaves.
+use Rattle.std.specs.Prelude.{◌≡◌, ◌⊎◌, ◌+◌, ◌++◌, ◌≤◌, ℕ, Bool, List, [], Some, None, Option, Result, Ok, Err, map, is_none, is_some, true, false, length}
+use Rattle.rbc_spec.specs.Maps.{put}
+use Rattle.rbc_spec.specs.SectionRuns.{within, behind, is_empty}
+use Rattle.rbc_spec.specs.Line.{Line, is_home, train_number}
+use Rattle.rbc_spec.specs.Sections.{is_on}
+use Rattle.rbc_spec.specs.Message.{is_stale}
+use Rattle.rbc_spec.specs.Frame.{Body}
+use Rattle.rbc_spec.specs.Outcome.{Saying, Told}
+use Rattle.rbc_spec.specs.Centre.{Centre, Mission}
+use Rattle.rbc_spec.specs.Acts.{Act, Reply}
+use Rattle.rbc_spec.specs.Step.{Effect}
+use Rattle.law_local.specs.Local.{IsOrdered}
+use Rattle.rbc_book.specs.Book.{Pages, is_own, entry_at, wish_at}
+use Rattle.rbc_right.specs.Rights.{Rights, is_here}
+use Rattle.rbc_pending_start.specs.Waits.{IsCovered}
+use Rattle.rbc_allocation.specs.Sections.{IsHeldAt}
+use Rattle.rbc_hand.specs.SectionRuns.{run_of}
+use Rattle.rbc_mission.specs.Supervisions.{SupervisionState, HasRouteForm, HasSupervision}
+use Rattle.rbc_handover.specs.Expectations.{expected_from}
+use Rattle.rbc_session.specs.SessionStates.{session_phase}
+use Rattle.rbc_train.specs.Desks.{IsBookOf, HasBook}
+use Rattle.rbc_train.specs.Reasons.{reason_of}
+use Rattle.rbc_train.specs.Letters.{mail_to}
+use Rattle.rbc_train.specs.Sayings.{told_train}
+use Rattle.rbc_train.specs.declared.heard.Heard.{Heard}
+use Rattle.rbc_train.specs.declared.mail.Notice.TheVariants as notice
+use Rattle.rbc_train.specs.declared.reason.Reason.{Reason}
+use Rattle.rbc_train.specs.declared.train.TrainState.{TrainState}
+
+-- the pool of the mission, if one stands, follows its hand, and no section of it is of home c
+pub record HasPoolAt (line : Line) (c : ℕ) (mission : Option Mission) : Type 0 where
+  pub follows : (m : Mission) → mission ≡ Some m → is_empty m.pool ≡ false → m.pool.first ≡ behind m.hand
+  pub away : (m : Mission) → mission ≡ Some m → (s : ℕ) → within m.pool s ≡ true → is_home line c s ≡ false
+
+-- The pool of the train's mission follows its hand and is of other homes, what is claimed for a start that waits is what its place covers,
+-- and of each centre of the line it is known whether the train is expected from there
+pub record IsKeptAt (line : Line) (c : ℕ) (p : TrainState) : Type 0 where
+  pub one_train : p.waiting.engine ≡ p.supervision.engine
+  pub form : (m : Mission) → p.supervision.mission ≡ Some m → HasRouteForm m
+  pub pool : HasPoolAt line c p.supervision.mission
+  pub covers : IsCovered line p.waiting
+  pub expected : length p.expectations ≡ length line.centres
+
+-- each section of the hand of the train's mission is on its track
+abbrev pub IsOnTrack : Line → TrainState → Type 0
+IsOnTrack line p = (m : Mission) → p.supervision.mission ≡ Some m → (s : ℕ) → within m.hand s ≡ true → is_on line m.place.track s ≡ true
+
+-- each section of the train's hand is held as it has to be at centre c: one of its home by a claim, and another by its name
+abbrev pub IsHeld : Line → ℕ → TrainState → Type 0
+IsHeld line c p = IsHeldAt p.supervision.engine (is_home line c) p.supervision.hand
+
+-- centre c has this of the train, this book and these rights
+pub record HasParts (line : Line) (c : ℕ) (k : Centre) (p : TrainState) (book : Pages) (rights : Rights) : Type 0 where
+  pub ordered : IsOrdered line
+  pub kept : IsKeptAt line c p
+  pub homes : IsBookOf line c book
+  pub has_book : HasBook k book
+  pub has_wish : (s : ℕ) → k.wish s ≡ wish_at book s
+  pub has_phase : k.phase p.supervision.engine ≡ session_phase p.session_state
+  pub has_heard : k.heard p.supervision.engine ≡ p.heard
+  pub has_said : k.said p.supervision.engine ≡ p.said
+  pub has_mission : k.mission p.supervision.engine ≡ p.supervision.mission
+  pub has_route_ask : k.route_ask p.supervision.engine ≡ p.supervision.asked
+  pub has_wait : k.wait p.supervision.engine ≡ p.waiting.wait
+  pub has_ask : k.has_asked p.supervision.engine ≡ p.waiting.has_asked
+  pub has_right : k.has_right p.supervision.engine ≡ is_here rights p.supervision.number
+  pub has_expects : (d : ℕ) → k.expects d p.supervision.engine ≡ expected_from p.expectations d
+
+-- and it hears the train, of the line, with a T_TRAIN above the last
+pub record HearsTrain (line : Line) (c : ℕ) (k : Centre) (stamp : ℕ) (p : TrainState) (book : Pages) (rights : Rights) : Type 0 where
+  pub parts : HasParts line c k p book rights
+  pub known : is_none (train_number line p.supervision.engine) ≡ false
+  pub timely : is_stale stamp p.heard ≡ false
+
+-- the centre with this of the train, this book and these rights
+abbrev pub with_parts : TrainState → Pages → Rights → Centre → Centre
+with_parts p book rights k = record k {
+  book = entry_at book;
+  wish = wish_at book;
+  phase = put k.phase p.supervision.engine (session_phase p.session_state);
+  heard = put k.heard p.supervision.engine p.heard;
+  said = put k.said p.supervision.engine p.said;
+  mission = put k.mission p.supervision.engine p.supervision.mission;
+  route_ask = put k.route_ask p.supervision.engine p.supervision.asked;
+  wait = put k.wait p.supervision.engine p.waiting.wait;
+  has_asked = put k.has_asked p.supervision.engine p.waiting.has_asked;
+  has_right = put k.has_right p.supervision.engine (is_here rights p.supervision.number);
+  expects = λ d. put (k.expects d) p.supervision.engine (expected_from p.expectations d);
+}
+
+-- ## What an act goes by that follows in a step
+
+-- centre k has this of the train: its mission, its session, the last T_TRAIN heard, and how many messages were said to it
+pub record HasTurn (k : Centre) (p : TrainState) : Type 0 where
+  pub supervision : HasSupervision k p.supervision
+  pub phase : k.phase p.supervision.engine ≡ session_phase p.session_state
+  pub heard : k.heard p.supervision.engine ≡ p.heard
+  pub said : k.said p.supervision.engine ≡ p.said
+
+-- the centre with this mission of the train, so many messages said to it, and this book
+abbrev pub with_turn : TrainState → Pages → Centre → Centre
+with_turn p book k = record k {
+  book = entry_at book;
+  wish = wish_at book;
+  said = put k.said p.supervision.engine p.said;
+  mission = put k.mission p.supervision.engine p.supervision.mission;
+  route_ask = put k.route_ask p.supervision.engine p.supervision.asked;
+}
+
+-- the centre that has said so many messages to the train
+abbrev pub counted_to : ℕ → ℕ → Centre → Centre
+counted_to t said k = record k { said = put k.said t said }
+
+-- the centre with this right of the train, or without it
+abbrev pub with_right : ℕ → Bool → Centre → Centre
+with_right t is_here k = record k { has_right = put k.has_right t is_here }
+
+-- ## What an act and a message come to
+
+-- a reply that leaves this, says and tells this, and sends no frame
+abbrev pub replied : Centre → List Saying → List ℕ → Reply
+replied k sayings told = record { state = k; frames = λ d. []; sayings = sayings; words = map (λ s. Told s) told }
+
+-- a reply that sends this to each centre
+abbrev pub posted : (ℕ → List Body) → Reply → Reply
+posted frames reply = record reply { frames = frames }
+
+-- what a frame of train t came to at centre c, or a message that was answered, where it is left as k
+abbrev pub reply_left : Line → ℕ → ℕ → Centre → Heard → Reply
+reply_left line c t k h = posted (mail_to line c t (λ d. k.expects d t) h.mail) (replied k (told_train h.saying h.order) h.told)
+
+-- wherever centre c has the old parts, the act leaves the new ones, and comes to this
+abbrev pub Does : Line → ℕ → Act → TrainState → Pages → Rights → TrainState → Pages → Rights → Heard → Type 0
+Does line c act old book rights new book' rights' h =
+    (k : Centre) → HasParts line c k old book rights → act k ≡ reply_left line c old.supervision.engine (with_parts new book' rights' k) h
+
+-- what a message of train t came to at centre c, where it is left as k
+abbrev pub effect_left : Line → ℕ → ℕ → Centre → Result Heard Reason → Effect
+effect_left line c t k (Ok h) = record { reply = reply_left line c t k h; link = None; silence = None }
+effect_left line c t k (Err why) = record { reply = replied k [] []; link = None; silence = Some (reason_of why) }
+
+-- an act behind a reply
+abbrev pub followed : Reply → Act → Reply
+followed r act =
+    let b = act r.state in
+    record { state = b.state; frames = λ d. r.frames d ++ b.frames d; sayings = r.sayings ++ b.sayings; words = r.words ++ b.words }
+
+-- what was left may be followed by a yield, if a handover of the mission stands: the train got no order, and no centre a notice or a letter; and
+-- sections that go home are of the mission's track, with those of its pool at most once
+pub record MayFollow (m : Mission) (h : Heard) : Type 0 where
+  pub order : h.order ≡ None
+  pub notice : h.mail.notice ≡ notice.Nothing
+  pub letter : h.mail.letter ≡ None
+  pub on : h.mail.track ≡ m.place.track
+  pub once : (is_empty (run_of h.mail.second) ≡ true) ⊎ (is_empty m.pool ≡ true)
+
+abbrev pub MayYield : SupervisionState → Heard → Type 0
+MayYield c h = (m : Mission) → c.mission ≡ Some m → is_some m.handing ≡ true → MayFollow m h
+
+-- ## What stays
+
+-- it is the same train, and at most two messages more were said to it
+pub record KeepsTrain (old new : TrainState) : Type 0 where
+  pub number : new.supervision.number ≡ old.supervision.number
+  pub engine : new.supervision.engine ≡ old.supervision.engine
+  pub waiting : new.waiting.engine ≡ old.waiting.engine
+  pub said : new.said ≤ old.said + 2
+
+-- of the rights none but that of this train has changed
+pub record KeepsRights (i : ℕ) (rights rights' : Rights) : Type 0 where
+  pub others : (j : ℕ) → is_here rights' j ≡ put (is_here rights) i (is_here rights' i) j
+  pub count : length rights' ≡ length rights
+
+-- the book has the same homes, and of the rights none but that of this train has changed
+pub record KeepsDesk (i : ℕ) (book book' : Pages) (from to : Rights) : Type 0 where
+  pub homes : (s : ℕ) → is_own book' s ≡ is_own book s
+  pub rights : KeepsRights i from to

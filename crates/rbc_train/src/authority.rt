@@ -1,0 +1,131 @@
+//! Validated train data (3.18), and a request for a movement authority (3.8).
+
+ghost use Rattle.std.specs.Prelude.{◌≡◌, ◌+◌, ◌<◌, ◌≤◌, ℕ};
+ghost use Rattle.rbc_spec.specs.Centre as spec;
+ghost use Rattle.rbc_spec.specs.Line as track;
+ghost use Rattle.rbc_spec.specs.Place as place;
+ghost use Rattle.rbc_spec.specs.Message.{TrainData, Request};
+ghost use Rattle.rbc_spec.specs.Step as step;
+ghost use Rattle.rbc_book.specs.Book.{Pages, is_own};
+ghost use Rattle.rbc_right.specs.Rights.{Rights};
+ghost use Rattle.rbc_train.specs.Desk.{HearsTrain, IsKeptAt, IsOnTrack, IsHeld, KeepsTrain, with_parts, effect_left};
+ghost use Rattle.rbc_msgs.specs.StepMessage.{position_of};
+ghost use Rattle.rbc_handover.specs.Giving.{with_count};
+ghost use Rattle.rbc_train.specs.Desks.{IsBookOf};
+
+use crate::bordering::Bordering;
+use crate::heard::Heard;
+use crate::reason::Reason;
+use crate::train::TrainState;
+use rbc_book::Book;
+use rbc_grant::{answer_request, may_request};
+use rbc_handover::HandoverCount;
+use rbc_line::Line;
+use rbc_msgs::{NID_LRBG_UNKNOWN, TrackBody};
+use rbc_packets::{Authority, Position};
+use rbc_place::place_on;
+use rbc_session::Phase;
+use rbc_vars::{LEndsection, TTrain};
+
+impl TrainState {
+    /// Message 129: the train data of a mission that goes on are known, and acknowledged.
+    #[inline(never)]
+    pub(crate) fn train_data(&mut self, t_train: u32) -> Result<Heard, Reason>
+        requires count { self.old.said < 4294967294 }
+        ensures exact { (line : track.Line) (c : ℕ) (book : Pages) (rights : Rights) (k : spec.Centre) (position : place.Position)
+            → HearsTrain line c k t_train self.old book rights
+            → step.effect line c k (step.Train (record { t_train = t_train; nid_engine = self.old.supervision.engine; body = TrainData position }))
+            ≡ effect_left line c self.old.supervision.engine (with_parts self.new book rights k) result }
+        ensures kept { KeepsTrain self.old self.new }
+        ensures expectations { self.new.expectations ≡ self.old.expectations }
+        ensures hand { self.new.supervision.hand ≡ self.old.supervision.hand }
+        ensures waiting { self.new.waiting ≡ self.old.waiting }
+        ensures session { self.new.session_state ≡ self.old.session_state }
+    {
+        let known = self.known();
+        match known.phase {
+            Phase::Closed => return Err(Reason::NoSession),
+            Phase::Opened => return Err(Reason::WrongPhase),
+            Phase::Up => {}
+        }
+        let Some(mission) = known.mission else {
+            return Err(Reason::NotSupervised);
+        };
+        if mission.is_ended {
+            return Err(Reason::MissionEnded);
+        }
+        self.heard = Some(t_train);
+        self.supervision.note_data();
+        let acknowledgement = TrackBody::DataAcknowledged(TTrain::new(u64::from(t_train)));
+        let saying = self.answer(NID_LRBG_UNKNOWN, acknowledgement);
+        Ok(Heard::said(saying))
+    }
+
+    /// Message 132: the hand is extended by the sections that may follow it, first those of the pool, and the authority is given up to
+    /// its end. At a border a handover is announced, and the next centre is asked for the sections behind it, where they are due.
+    #[inline(never)]
+    pub(crate) fn request(
+        &mut self,
+        line: &Line,
+        centre: u8,
+        book: &mut Book,
+        count: &mut HandoverCount,
+        t_train: u32,
+        position: &Position,
+    ) -> Result<Heard, Reason>
+        requires count { self.old.said < 4294967293 }
+        requires announced { count.old < 1073741823 }
+        requires book { IsBookOf line.now centre book.old }
+        requires kept { IsKeptAt line.now centre self.old }
+        requires on { IsOnTrack line.now self.old }
+        requires held { IsHeld line.now centre self.old }
+        ensures exact { (rights : Rights) (k : spec.Centre) → HearsTrain line.now centre k t_train self.old book.old rights → k.announced ≡ count.old
+            → step.effect line.now centre k (step.Train (record { t_train = t_train; nid_engine = self.old.supervision.engine; body = Request (position_of position.now) }))
+            ≡ effect_left line.now centre self.old.supervision.engine (with_count count.new (with_parts self.new book.new rights k)) result }
+        ensures kept { KeepsTrain self.old self.new }
+        ensures announced { (count.old ≤ count.new) × (count.new ≤ count.old + 1) }
+        ensures expectations { self.new.expectations ≡ self.old.expectations }
+        ensures held { IsHeld line.now centre self.new }
+        ensures waiting { self.new.waiting ≡ self.old.waiting }
+        ensures session { self.new.session_state ≡ self.old.session_state }
+        ensures homes { (s : ℕ) → is_own book.new s ≡ is_own book.old s }
+    {
+        let known = self.known();
+        match known.phase {
+            Phase::Closed => return Err(Reason::NoSession),
+            Phase::Opened => return Err(Reason::WrongPhase),
+            Phase::Up => {}
+        }
+        let Some(mission) = known.mission else {
+            return Err(Reason::NotSupervised);
+        };
+        if mission.is_ended {
+            return Err(Reason::MissionEnded);
+        }
+        if !mission.has_data {
+            return Err(Reason::NoTrainData);
+        }
+        if mission.proposal.is_some() {
+            return Err(Reason::ProposalPending);
+        }
+        let Some(place) = place_on(line, mission.place.track, position) else {
+            return Err(Reason::NoPlace);
+        };
+        if !may_request(line, known.hand, &place) {
+            return Err(Reason::NoPlace);
+        }
+        let grant = answer_request(line, book, known.pool, known.hand, &place);
+        self.heard = Some(t_train);
+        self.supervision.lengthen(place, grant.sections, book);
+        let authority = TrackBody::Authority(Authority {
+            l_endsection: LEndsection::new(u64::from(grant.end)),
+        });
+        let saying = self.answer(place.group, authority);
+        let Bordering {
+            order,
+            notice,
+            letter,
+        } = self.at_border(line, centre, count, place.track);
+        Ok(Heard::bordering(saying, order, notice, letter))
+    }
+}

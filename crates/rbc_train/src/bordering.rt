@@ -1,0 +1,154 @@
+//! What follows the answer to a request at the border to the next centre (3.15.1, profile).
+
+ghost use Rattle.std.specs.Prelude.{◌≡◌, ◌-◌, ◌+◌, ◌<◌, ◌≤◌, ◌++◌, ℕ, Option, []};
+ghost use Rattle.std.specs.Option.{option_map_or};
+ghost use Rattle.rbc_spec.specs.Centre as spec;
+ghost use Rattle.rbc_spec.specs.Message as order;
+ghost use Rattle.rbc_spec.specs.Sections.{nid_rbc};
+ghost use Rattle.rbc_spec.specs.Line.{next_centre, start};
+ghost use Rattle.rbc_spec.specs.Place.{group_start as start_of_group};
+ghost use Rattle.rbc_spec.specs.Acts.{rest};
+ghost use Rattle.rbc_spec.specs.Rules as rules;
+ghost use Rattle.rbc_msgs.specs.Bodies.{track_body};
+ghost use Rattle.rbc_msgs.specs.declared.track.TrackBody.TheVariants as message;
+ghost use Rattle.rbc_place.specs.Places.{place_of};
+ghost use Rattle.rbc_handover.specs.Giving.{with_count};
+ghost use Rattle.rbc_mission.specs.Supervisions.{HasSupervision, with_supervision};
+ghost use Rattle.rbc_train.specs.Bordering.{IsNear, KeepsHand};
+ghost use Rattle.rbc_train.specs.Desk.{counted_to, posted, replied};
+ghost use Rattle.rbc_train.specs.Letters.{letters, notices};
+ghost use Rattle.rbc_train.specs.Sayings.{sayings_of};
+
+use crate::letter::Letter;
+use crate::mail::Notice;
+use crate::saying::Saying;
+use crate::train::TrainState;
+use rbc_handover::HandoverCount;
+use rbc_line::Line;
+use rbc_linkmsg::Body;
+use rbc_mission::{Announcement, HandoverName};
+use rbc_msgs::TrackBody;
+use rbc_packets::Transition;
+use rbc_place::{Place, group_start, section_start};
+use rbc_vars::{DRbctr, NidC, NidRbc};
+
+/// What the train and the next centre are told at a border.
+#[derive(Clone, Copy, Debug, PartialEq, Eq)]
+pub(crate) struct Bordering {
+    /// Where the next centre takes over (packet 131).
+    pub(crate) order: Option<Saying>,
+    pub(crate) notice: Notice,
+    pub(crate) letter: Option<Letter>,
+}
+
+impl TrainState {
+    /// A handover to the next centre on the track is announced, where the hand has a section of its home and none stands: the train is told
+    /// where the border is. Then that centre is asked for the sections behind the hand, where they are due.
+    #[inline(always)]
+    pub(crate) fn at_border(
+        &mut self,
+        line: &Line,
+        centre: u8,
+        count: &mut HandoverCount,
+        track: u8,
+    ) -> Bordering
+        requires said { self.old.said < 4294967294 }
+        requires announced { count.old < 1073741823 }
+        requires near { IsNear line.now self.old.supervision }
+        ensures exact { (e : ℕ → Option spec.Expectation) (k : spec.Centre) → HasSupervision k self.old.supervision → k.said self.old.supervision.engine ≡ self.old.said → k.announced ≡ count.old
+            → option_map_or (rules.at_border line.now centre self.old.supervision.engine) (next_centre line.now centre track) rest k
+            ≡ posted (λ d. notices self.old.supervision.engine e result.notice d ++ letters result.letter d)
+            (replied (with_count count.new (counted_to self.old.supervision.engine self.new.said (with_supervision self.new.supervision k))) (sayings_of result.order) []) }
+        ensures left { self.new ≡ record self.old { said = self.new.said; supervision = self.new.supervision } }
+        ensures supervision { KeepsHand self.old.supervision self.new.supervision }
+        ensures counted { (self.old.said ≤ self.new.said) × (self.new.said ≤ self.old.said + 1) }
+        ensures announced { (count.old ≤ count.new) × (count.new ≤ count.old + 1) }
+    {
+        let Some(next) = line.next_centre(centre, track) else {
+            return Bordering {
+                order: None,
+                notice: Notice::Nothing,
+                letter: None,
+            };
+        };
+        let (order, notice) = self.announce(line, count, next);
+        let letter = self.ask_route(line, next);
+        Bordering {
+            order,
+            notice,
+            letter,
+        }
+    }
+
+    // A handover to this centre is announced, where that is due.
+    #[inline(never)]
+    fn announce(
+        &mut self,
+        line: &Line,
+        count: &mut HandoverCount,
+        to: u8,
+    ) -> (Option<Saying>, Notice)
+        requires said { self.old.said < 4294967294 }
+        requires announced { count.old < 1073741823 }
+        requires near { IsNear line.now self.old.supervision }
+        ensures exact { (e : ℕ → Option spec.Expectation) (k : spec.Centre) → HasSupervision k self.old.supervision → k.said self.old.supervision.engine ≡ self.old.said → k.announced ≡ count.old
+            → rules.announce_if_due line.now self.old.supervision.engine to k
+            ≡ posted (notices self.old.supervision.engine e result.1)
+            (replied (with_count count.new (counted_to self.old.supervision.engine self.new.said (with_supervision self.new.supervision k))) (sayings_of result.0) []) }
+        ensures left { self.new ≡ record self.old { said = self.new.said; supervision = self.new.supervision } }
+        ensures supervision { KeepsHand self.old.supervision self.new.supervision }
+        ensures counted { (self.old.said ≤ self.new.said) × (self.new.said ≤ self.old.said + 1) }
+        ensures announced { (count.old ≤ count.new) × (count.new ≤ count.old + 1) }
+    {
+        let Some(mission) = self.supervision.mission() else {
+            return (None, Notice::Nothing);
+        };
+        let Some(announcement) = self.supervision.announce(line, count, to) else {
+            return (None, Notice::Nothing);
+        };
+        let Announcement { number, border } = announcement;
+        let order = TrackBody::Transition(transition(line, to, border, &mission.place));
+        let notice = Notice::Announce {
+            name: HandoverName { number, to },
+            track: mission.place.track,
+        };
+        (Some(self.answer(mission.place.group, order)), notice)
+    }
+
+    // The next centre is asked for the sections behind the hand, where they are due.
+    #[inline(never)]
+    fn ask_route(&mut self, line: &Line, next: u8) -> Option<Letter>
+        ensures exact { (k : spec.Centre) → HasSupervision k self.old.supervision
+            → rules.ask_route_if_due line.now self.old.supervision.engine next k
+            ≡ posted (letters result) (replied (with_supervision self.new.supervision k) [] []) }
+        ensures left { self.new ≡ record self.old { supervision = record self.old.supervision { asked = self.new.supervision.asked } } }
+    {
+        let engine = self.nid_engine();
+        let question = self.supervision.ask(line, next)?;
+        Some(Letter {
+            to: next,
+            body: Body::RouteAsk {
+                engine,
+                first: question.first,
+                most: question.most,
+            },
+        })
+    }
+}
+
+// The order that this centre takes over from this section on, as far from the group of the place as that begins.
+fn transition(line: &Line, to: u8, border: u16, place: &Place) -> Transition
+    requires near { start line.now border - start_of_group line.now (place_of place.now) ≤ 32767 }
+    ensures { track_body (message.Transition result) ≡ order.Transition (start line.now border - start_of_group line.now (place_of place.now)) line.now.nid_c (nid_rbc line.now to) }
+{
+    let metres = section_start(line, border).saturating_sub(group_start(line, place));
+    let nid_rbc = match line.nid_rbc(to) {
+        Some(nid_rbc) => nid_rbc,
+        None => 0,
+    };
+    Transition {
+        d_rbctr: DRbctr::new(u64::from(metres)),
+        nid_c: NidC::new(u64::from(line.nid_c())),
+        nid_rbc: NidRbc::new(u64::from(nid_rbc)),
+    }
+}

@@ -1,0 +1,77 @@
+//! Handovers that other centres announce to this one (3.15.1).
+
+ghost use Rattle.std.specs.Prelude.{◌≡◌, ◌<◌, ℕ, None, length, nat_lt, if◌then◌else◌};
+ghost use Rattle.rbc_spec.specs.Centre as spec;
+ghost use Rattle.rbc_spec.specs.Line as track;
+ghost use Rattle.rbc_spec.specs.Message.{Report};
+ghost use Rattle.rbc_spec.specs.Acts.{rest};
+ghost use Rattle.rbc_spec.specs.Links as links;
+ghost use Rattle.rbc_spec.specs.Step as step;
+ghost use Rattle.rbc_msgs.specs.StepMessage.{position_of};
+ghost use Rattle.rbc_book.specs.Book.{Pages};
+ghost use Rattle.rbc_right.specs.Rights.{Rights};
+ghost use Rattle.rbc_session.specs.SessionStates.{session_phase};
+ghost use Rattle.rbc_train.specs.Desk.{HasParts, HearsTrain, with_parts, reply_left, effect_left};
+
+use crate::front::is_in_area;
+use crate::heard::Heard;
+use crate::reason::Reason;
+use crate::train::TrainState;
+use rbc_line::Line;
+use rbc_packets::Position;
+
+impl TrainState {
+    /// Announce of a centre: the train is expected from there under this number, where it is not expected from there already.
+    pub(crate) fn announced(&mut self, line: &Line, from: u8, number: u32, track: u8) -> Heard
+        requires { from < length self.old.expectations }
+        ensures exact { (c : ℕ) (book : Pages) (rights : Rights) (k : spec.Centre) → HasParts line.now c k self.old book rights
+            → (if nat_lt track (length line.now.tracks) then links.announced from number self.old.supervision.engine else rest) k
+            ≡ reply_left line.now c self.old.supervision.engine (with_parts self.new book rights k) result }
+        ensures same { self.new ≡ record self.old { expectations = self.new.expectations } }
+        ensures count { length self.new.expectations ≡ length self.old.expectations }
+    {
+        if track >= line.track_count() {
+            return Heard::nothing();
+        }
+        self.expectations.announced(from, number);
+        Heard::nothing()
+    }
+
+    /// Cancel of a centre: the train is not expected from there any more, where it was under this number.
+    pub(crate) fn cancelled(&mut self, from: u8, number: u32) -> Heard
+        ensures exact { (line : track.Line) (c : ℕ) (book : Pages) (rights : Rights) (k : spec.Centre) → HasParts line c k self.old book rights
+            → links.cancelled from number self.old.supervision.engine k ≡ reply_left line c self.old.supervision.engine (with_parts self.new book rights k) result }
+        ensures same { self.new ≡ record self.old { expectations = self.new.expectations } }
+        ensures count { length self.new.expectations ≡ length self.old.expectations }
+    {
+        self.expectations.cancelled(from, number);
+        Heard::nothing()
+    }
+
+    /// Message 136 of a train that is supervised elsewhere, with its session up: where the train is expected here and its safe front end is
+    /// in a section of this home, each centre that announced it is told once that this one is taking over.
+    pub(crate) fn report_elsewhere(
+        &mut self,
+        line: &Line,
+        centre: u8,
+        t_train: u32,
+        position: &Position,
+    ) -> Result<Heard, Reason>
+        requires up { session_phase self.old.session_state ≡ spec.Up }
+        requires none { self.old.supervision.mission ≡ None }
+        ensures exact { (book : Pages) (rights : Rights) (k : spec.Centre) → HearsTrain line.now centre k t_train self.old book rights
+            → step.effect line.now centre k (step.Train (record { t_train = t_train; nid_engine = self.old.supervision.engine; body = Report (position_of position.now) }))
+            ≡ effect_left line.now centre self.old.supervision.engine (with_parts self.new book rights k) result }
+        ensures same { self.new ≡ record self.old { heard = self.new.heard; expectations = self.new.expectations } }
+        ensures count { length self.new.expectations ≡ length self.old.expectations }
+    {
+        if !self.expectations.is_expected() {
+            return Err(Reason::NotSupervised);
+        }
+        if !is_in_area(line, centre, position) {
+            return Err(Reason::NotSupervised);
+        }
+        self.heard = Some(t_train);
+        Ok(Heard::taking_over(self.expectations.take_over()))
+    }
+}

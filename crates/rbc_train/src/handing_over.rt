@@ -1,0 +1,165 @@
+//! A mission goes on at the next centre (3.15.1).
+
+ghost use Rattle.std.specs.Prelude.{◌≡◌, ◌<◌, ◌≤◌, ◌+◌, ℕ, [], Some, if◌then◌else◌};
+ghost use Rattle.std.specs.Option.{option_map_or};
+ghost use Rattle.rbc_spec.specs.Centre as spec;
+ghost use Rattle.rbc_spec.specs.Frame.{Yield, yielded_place};
+ghost use Rattle.rbc_spec.specs.Acts as acts;
+ghost use Rattle.rbc_spec.specs.Links as links;
+ghost use Rattle.rbc_book.specs.Book.{is_own};
+ghost use Rattle.rbc_right.specs.Rights.{Rights};
+ghost use Rattle.rbc_border.specs.Lending as lending;
+ghost use Rattle.rbc_allocation.specs.Sections.{IsHeldBy};
+ghost use Rattle.rbc_hand.specs.SectionRuns.{run_of};
+ghost use Rattle.rbc_linkmsg.specs.Bodies.{body_of};
+ghost use Rattle.rbc_linkmsg.specs.Bodies as bodies;
+ghost use Rattle.rbc_place.specs.Places.{place_of};
+ghost use Rattle.rbc_session.specs.SessionStates.{session_phase};
+ghost use Rattle.rbc_train.specs.Desk.{HasParts, HasTurn, IsHeld, KeepsTrain, MayYield, with_parts, with_turn, counted_to, followed, replied, reply_left};
+ghost use Rattle.rbc_train.specs.Desks.{IsBookOf};
+ghost use Rattle.rbc_train.specs.Sayings.{sayings_of};
+
+use crate::asking::is_up;
+use crate::heard::Heard;
+use crate::letter::Letter;
+use crate::routes::session_order;
+use crate::saying::Saying;
+use crate::train::TrainState;
+use rbc_book::Book;
+use rbc_hand::SectionRun;
+use rbc_line::Line;
+use rbc_linkmsg::{Body, YieldedPlace};
+use rbc_mission::Yielded;
+use rbc_msgs::{NID_LRBG_UNKNOWN, TrackBody};
+use rbc_place::Place;
+
+impl TrainState {
+    /// TakingOver of a centre: the handover is claimed, if it stands under this number to that centre. Then it is yielded, where that is due.
+    pub(crate) fn taking_over(
+        &mut self,
+        line: &Line,
+        centre: u8,
+        book: &mut Book,
+        from: u8,
+        number: u32,
+    ) -> Heard
+        requires count { self.old.said < 4294967294 }
+        requires book { IsBookOf line.now centre book.old }
+        requires held { IsHeld line.now centre self.old }
+        ensures exact { (rights : Rights) (k : spec.Centre) → HasParts line.now centre k self.old book.old rights
+            → links.taking_over line.now centre from number self.old.supervision.engine k ≡ reply_left line.now centre self.old.supervision.engine (with_parts self.new book.new rights k) result }
+        ensures kept { KeepsTrain self.old self.new }
+        ensures held { IsHeld line.now centre self.new }
+        ensures session { self.new.session_state ≡ self.old.session_state }
+        ensures waiting { self.new.waiting ≡ self.old.waiting }
+        ensures expectations { self.new.expectations ≡ self.old.expectations }
+        ensures homes { (s : ℕ) → is_own book.new s ≡ is_own book.old s }
+    {
+        self.supervision.claim(from, number);
+        let none = SectionRun { first: 0, count: 0 };
+        let mut claimed = Heard::returned(self.track(), none);
+        self.yield_if_due(line, centre, book, &mut claimed);
+        claimed
+    }
+
+    // The track of its mission; the first, where none stands.
+    fn track(&self) -> u8
+        ensures { (m : spec.Mission) → self.now.supervision.mission ≡ Some m → result ≡ m.place.track }
+    {
+        match self.supervision.mission() {
+            Some(mission) => mission.place.track,
+            None => 0,
+        }
+    }
+
+    /// Behind what a step has come to so far, the mission is yielded where that is due: its pool goes home, the mission goes in one frame, and
+    /// a train that is no more to come here is ordered to end its session.
+    #[inline(always)]
+    pub(crate) fn yield_if_due(
+        &mut self,
+        line: &Line,
+        centre: u8,
+        book: &mut Book,
+        heard: &mut Heard,
+    )
+        requires count { self.old.said < 4294967294 }
+        requires held { IsHeldBy self.old.supervision.engine self.old.supervision.hand book.old }
+        requires may { MayYield self.old.supervision heard.old }
+        ensures exact { (k : spec.Centre) → HasTurn k self.old → lending.HasBook line.now centre k book.old
+            → followed (reply_left line.now centre self.old.supervision.engine k heard.old) (acts.yield_if_due line.now centre self.old.supervision.engine)
+            ≡ reply_left line.now centre self.old.supervision.engine (with_turn self.new book.new k) heard.new }
+        ensures left { self.new ≡ record self.old { said = self.new.said; supervision = record self.old.supervision { mission = self.new.supervision.mission; hand = self.new.supervision.hand } } }
+        ensures counted { (self.old.said ≤ self.new.said) × (self.new.said ≤ self.old.said + 1) }
+        ensures held { IsHeldBy self.old.supervision.engine self.new.supervision.hand book.new }
+        ensures homes { (s : ℕ) → is_own book.new s ≡ is_own book.old s }
+    {
+        let nid_engine = self.nid_engine();
+        let Some(yielded) = self.supervision.yield_if_due(line, centre, book) else {
+            return;
+        };
+        let letter = yield_letter(nid_engine, self.heard, yielded);
+        let order = self.order_if_gone(line, centre, yielded.is_gone);
+        heard.and_yields(yielded.pool, letter, order);
+    }
+
+    // The order to end its session, for a train that is no more to come here.
+    fn order_if_gone(&mut self, line: &Line, centre: u8, is_gone: bool) -> Option<Saying>
+        requires count { self.old.said < 4294967294 }
+        ensures exact { (k : spec.Centre) → k.phase self.old.supervision.engine ≡ session_phase self.old.session_state → k.said self.old.supervision.engine ≡ self.old.said
+            → (if is_gone then acts.end_order line.now centre self.old.supervision.engine else acts.rest) k ≡ replied (counted_to self.old.supervision.engine self.new.said k) (sayings_of result) [] }
+        ensures said { self.new ≡ record self.old { said = self.new.said } }
+        ensures counted { (self.old.said ≤ self.new.said) × (self.new.said ≤ self.old.said + 1) }
+    {
+        if !is_gone {
+            return None;
+        }
+        self.order_end(line, centre)
+    }
+
+    /// The order to end its session, where that is up (3.5.5).
+    pub(crate) fn order_end(&mut self, line: &Line, centre: u8) -> Option<Saying>
+        requires count { self.old.said < 4294967294 }
+        ensures exact { (k : spec.Centre) → k.phase self.old.supervision.engine ≡ session_phase self.old.session_state → k.said self.old.supervision.engine ≡ self.old.said
+            → acts.end_order line.now centre self.old.supervision.engine k ≡ replied (counted_to self.old.supervision.engine self.new.said k) (sayings_of result) [] }
+        ensures said { self.new ≡ record self.old { said = self.new.said } }
+        ensures counted { (self.old.said ≤ self.new.said) × (self.new.said ≤ self.old.said + 1) }
+    {
+        if !is_up(self.session_state.phase()) {
+            return None;
+        }
+        let order = TrackBody::EndSession(session_order(line, centre));
+        Some(self.answer(NID_LRBG_UNKNOWN, order))
+    }
+}
+
+// The frame in which a mission goes to the accepting centre, with the last T_TRAIN heard.
+fn yield_letter(nid_engine: u32, heard: Option<u32>, yielded: Yielded) -> Letter
+    ensures to { result.to ≡ yielded.handover.to }
+    ensures body { body_of result.body ≡ Yield yielded.handover.number nid_engine (option_map_or (λ n. n) heard 0) yielded.mission.has_data yielded.mission.is_ended (yielded_place (place_of yielded.mission.place)) (run_of yielded.hand) }
+{
+    let mission = yielded.mission;
+    Letter {
+        to: yielded.handover.to,
+        body: Body::Yield {
+            handover: yielded.handover.number,
+            engine: nid_engine,
+            heard: heard.unwrap_or(0),
+            has_data: mission.has_data,
+            is_ended: mission.is_ended,
+            place: place_to_yield(mission.place),
+            hand: yielded.hand,
+        },
+    }
+}
+
+// The place, as a Yield carries it.
+fn place_to_yield(place: Place) -> YieldedPlace
+    ensures { bodies.place_of result ≡ yielded_place (place_of place) }
+{
+    YieldedPlace {
+        track: place.track,
+        group: place.group,
+        front: place.front as i32,
+        rear: place.rear,
+    }
+}

@@ -1,0 +1,77 @@
+//! What one other centre is told.
+
+ghost use Rattle.std.specs.Prelude.{◌≡◌, Some, option_map};
+ghost use Rattle.rbc_spec.specs.Line.{registrar};
+ghost use Rattle.rbc_train.specs.Homes.{GoesHome};
+ghost use Rattle.rbc_train.specs.Letters.{bodies_in, letters};
+
+use rbc_line::Line;
+use rbc_linkmsg::Body;
+use rbc_mission::HeldRight;
+use rbc_right::{Registrar, Right};
+
+/// What another centre is to be told: a frame before it has its number.
+#[derive(Clone, Copy, Debug, PartialEq, Eq)]
+pub struct Letter {
+    /// The number of the centre that it goes to.
+    pub to: u8,
+    pub body: Body,
+}
+
+impl Letter {
+    /// What it tells this centre.
+    pub fn to_centre(self, centre: u8) -> Option<Body>
+        ensures { bodies_in result ≡ letters (Some self) centre }
+    {
+        if self.to == centre {
+            Some(self.body)
+        } else {
+            None
+        }
+    }
+}
+
+/// A letter to the registrar of a train. None where the train is not of the line.
+pub(crate) fn to_registrar(line: &Line, nid_engine: u32, body: Body) -> Option<Letter>
+    ensures { result ≡ option_map (λ r. record { to = r; body = body }) (registrar line.now nid_engine) }
+{
+    let to = line.registrar(nid_engine)?;
+    Some(Letter { to, body })
+}
+
+/// The right of a train that its mission or its registrar has handed out goes home, where there is one: to the registrar, if that is this
+/// centre, or by a letter to it.
+#[inline(always)]
+pub(crate) fn go_home(
+    line: &Line,
+    centre: u8,
+    nid_engine: u32,
+    right: HeldRight,
+    registrar: &mut Registrar,
+) -> Option<Letter>
+    ensures { GoesHome line.now centre nid_engine right result registrar.old registrar.new }
+{
+    match right {
+        HeldRight::Nothing => None,
+        HeldRight::Held(right) => send_home(line, centre, nid_engine, right, registrar),
+    }
+}
+
+// A right goes home.
+#[inline(never)]
+fn send_home(
+    line: &Line,
+    centre: u8,
+    nid_engine: u32,
+    right: Right,
+    registrar: &mut Registrar,
+) -> Option<Letter>
+    ensures { GoesHome line.now centre nid_engine (HeldRight.Held right) result registrar.old registrar.new }
+{
+    if line.registrar(nid_engine) == Some(centre) {
+        registrar.back(right);
+        return None;
+    }
+    right.send();
+    to_registrar(line, nid_engine, Body::ReturnRight { engine: nid_engine })
+}

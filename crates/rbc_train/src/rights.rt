@@ -1,0 +1,160 @@
+//! The right to supervise a train goes between its registrar and the centres where it starts (profile).
+
+ghost use Rattle.std.specs.Prelude.{◌≡◌, ◌<◌, ℕ, None, length};
+ghost use Rattle.rbc_spec.specs.Centre as spec;
+ghost use Rattle.rbc_spec.specs.Line as track;
+ghost use Rattle.rbc_spec.specs.Links as links;
+ghost use Rattle.rbc_book.specs.Book.{Pages, is_own};
+ghost use Rattle.rbc_right.specs.Rights.{Rights};
+ghost use Rattle.rbc_pending_start.specs.Waits.{IsCovered};
+ghost use Rattle.rbc_train.specs.Desk.{HasParts, IsHeld, KeepsTrain, KeepsRights, with_parts, reply_left};
+ghost use Rattle.rbc_train.specs.Homes.{GoesHome};
+ghost use Rattle.rbc_train.specs.Letters.{cancel_of, mail_home};
+
+use crate::heard::Heard;
+use crate::letter::{Letter, go_home};
+use crate::mail::{Mail, Notice};
+use crate::train::TrainState;
+use rbc_book::Book;
+use rbc_hand::SectionRun;
+use rbc_line::Line;
+use rbc_linkmsg::Body;
+use rbc_mission::{HeldRight, Released, Told};
+use rbc_msgs::TrackBody;
+use rbc_right::{Asked, Registrar, Right};
+
+impl TrainState {
+    /// AskRight of a centre: the registrar gives the right, where it is there, and else refuses it.
+    pub(crate) fn right_asked(
+        &mut self,
+        line: &Line,
+        centre: u8,
+        registrar: &mut Registrar,
+        from: u8,
+    ) -> Heard
+        ensures exact { (book : Pages) (k : spec.Centre) → HasParts line.now centre k self.old book registrar.old
+            → links.right_asked line.now centre from self.old.supervision.engine k ≡ reply_left line.now centre self.old.supervision.engine (with_parts self.new book registrar.new k) result }
+        ensures same { self.new ≡ self.old }
+        ensures rights { KeepsRights self.old.supervision.number registrar.old registrar.new }
+    {
+        let engine = self.nid_engine();
+        if line.registrar(engine) != Some(centre) {
+            return Heard::nothing();
+        }
+        let body = match registrar.ask(self.supervision.number()) {
+            Asked::Given(right) => {
+                right.send();
+                Body::GiveRight { engine }
+            }
+            Asked::NotHere => Body::RefuseRight { engine },
+        };
+        Heard::told(Letter { to: from, body })
+    }
+
+    /// GiveRight: a start that waits becomes a mission, and the train is accepted. A right that nothing waits for goes back.
+    pub(crate) fn right_given(
+        &mut self,
+        line: &Line,
+        centre: u8,
+        registrar: &mut Registrar,
+    ) -> Heard
+        requires count { self.old.said < 4294967294 }
+        requires train { self.old.waiting.engine ≡ self.old.supervision.engine }
+        requires number { self.old.supervision.number < length registrar.old }
+        ensures exact { (book : Pages) (k : spec.Centre) → HasParts line.now centre k self.old book registrar.old
+            → links.right_given line.now centre self.old.supervision.engine k ≡ reply_left line.now centre self.old.supervision.engine (with_parts self.new book registrar.new k) result }
+        ensures kept { KeepsTrain self.old self.new }
+        ensures expectations { self.new.expectations ≡ self.old.expectations }
+        ensures held { (line : track.Line) (c : ℕ) → IsHeld line c self.old → IsHeld line c self.new }
+        ensures session { self.new.session_state ≡ self.old.session_state }
+        ensures covers { (line : track.Line) → IsCovered line self.old.waiting → IsCovered line self.new.waiting }
+        ensures rights { KeepsRights self.old.supervision.number registrar.old registrar.new }
+    {
+        if !self.waiting.has_asked() {
+            return Heard::nothing();
+        }
+        let right = Right::arrive(self.supervision.number());
+        if self.waiting.place().is_some() && self.supervision.mission().is_none() {
+            self.supervision.admit(&mut self.waiting, right);
+            return self.answered(TrackBody::TrainAccepted);
+        }
+        self.waiting.note_answer();
+        let released = Released {
+            told: Told::nothing(),
+            right: HeldRight::Held(right),
+            returned: SectionRun { first: 0, count: 0 },
+            cancelled: None,
+        };
+        self.released(line, centre, registrar, 0, released)
+    }
+
+    /// RefuseRight: a start that waits is dropped, and the train is rejected.
+    pub(crate) fn right_refused(&mut self, book: &mut Book) -> Heard
+        requires count { self.old.said < 4294967294 }
+        ensures exact { (line : track.Line) (c : ℕ) (rights : Rights) (k : spec.Centre) → HasParts line c k self.old book.old rights
+            → links.right_refused line c self.old.supervision.engine k ≡ reply_left line c self.old.supervision.engine (with_parts self.new book.new rights k) result }
+        ensures kept { KeepsTrain self.old self.new }
+        ensures expectations { self.new.expectations ≡ self.old.expectations }
+        ensures supervision { self.new.supervision ≡ self.old.supervision }
+        ensures session { self.new.session_state ≡ self.old.session_state }
+        ensures covers { (line : track.Line) → IsCovered line self.old.waiting → IsCovered line self.new.waiting }
+        ensures homes { (s : ℕ) → is_own book.new s ≡ is_own book.old s }
+    {
+        let Some(told) = self.waiting.give_up(book) else {
+            return Heard::nothing();
+        };
+        let heard = self.answered(TrackBody::TrainRejected);
+        Heard { told, ..heard }
+    }
+
+    /// ReturnRight: the right is at its registrar again, where it is not in a mission of the registrar's own.
+    pub(crate) fn right_returned(
+        &mut self,
+        line: &Line,
+        centre: u8,
+        registrar: &mut Registrar,
+    ) -> Heard
+        requires number { self.old.supervision.number < length registrar.old }
+        ensures exact { (book : Pages) (k : spec.Centre) → HasParts line.now centre k self.old book registrar.old
+            → links.right_returned line.now centre self.old.supervision.engine k ≡ reply_left line.now centre self.old.supervision.engine (with_parts self.new book registrar.new k) result }
+        ensures same { self.new ≡ self.old }
+        ensures rights { KeepsRights self.old.supervision.number registrar.old registrar.new }
+    {
+        let is_registrar = line.registrar(self.nid_engine()) == Some(centre);
+        if is_registrar && self.supervision.mission().is_none() {
+            registrar.back(Right::arrive(self.supervision.number()));
+        }
+        Heard::nothing()
+    }
+
+    // What leaves a mission on this track: what it gives back is told, lent sections and its right go home, and its handover is cancelled.
+    #[inline(always)]
+    pub(crate) fn released(
+        &self,
+        line: &Line,
+        centre: u8,
+        registrar: &mut Registrar,
+        track: u8,
+        released: Released,
+    ) -> Heard
+        ensures saying { result.saying ≡ None }
+        ensures order { result.order ≡ None }
+        ensures told { result.told ≡ released.told }
+        ensures mail { result.mail ≡ mail_home track released.returned (cancel_of released.cancelled) result.mail.letter }
+        ensures right { GoesHome line.now centre self.now.supervision.engine released.right result.mail.letter registrar.old registrar.new }
+    {
+        let Released {
+            told,
+            right,
+            returned,
+            cancelled,
+        } = released;
+        let letter = go_home(line, centre, self.nid_engine(), right, registrar);
+        Heard {
+            saying: None,
+            order: None,
+            mail: Mail::home(track, returned, Notice::cancel(cancelled), letter),
+            told,
+        }
+    }
+}

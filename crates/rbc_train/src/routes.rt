@@ -1,0 +1,183 @@
+//! Sections that go over a border: a home lends them to a train at another centre, and takes them back (profile, in words of
+//! SUBSET-039: Route Related Information).
+
+ghost use Rattle.std.specs.Prelude.{◌≡◌, ◌+◌, ◌<◌, ◌≤◌, ◌&&◌, ℕ, not, if◌then◌else◌, is_some, is_none, []};
+ghost use Rattle.std.specs.List.{list_any};
+ghost use Rattle.rbc_spec.specs.Acts.{rest, where_so, end_order};
+ghost use Rattle.rbc_spec.specs.Centre as spec;
+ghost use Rattle.rbc_spec.specs.Line.{section};
+ghost use Rattle.rbc_spec.specs.Links as links;
+ghost use Rattle.rbc_spec.specs.Message as message;
+ghost use Rattle.rbc_spec.specs.SectionRuns.{all_of};
+ghost use Rattle.rbc_spec.specs.Sections.{nid_rbc};
+ghost use Rattle.rbc_book.specs.Book.{Pages, is_own};
+ghost use Rattle.rbc_hand.specs.SectionRuns.{run_of};
+ghost use Rattle.rbc_msgs.specs.Bodies.{track_body};
+ghost use Rattle.rbc_msgs.specs.declared.track.TrackBody.TheVariants as code;
+ghost use Rattle.rbc_right.specs.Rights.{Rights};
+ghost use Rattle.rbc_train.specs.Desk.{HasParts, KeepsTrain, with_parts, replied, reply_left};
+ghost use Rattle.rbc_train.specs.Sayings.{sayings_of};
+
+use crate::heard::Heard;
+use crate::letter::Letter;
+use crate::saying::Saying;
+use crate::train::TrainState;
+use rbc_book::Book;
+use rbc_border::{bring_back, lend, uses_some};
+use rbc_hand::SectionRun;
+use rbc_line::Line;
+use rbc_linkmsg::Body;
+use rbc_packets::SessionOrder;
+use rbc_vars::{NidC, NidRbc};
+
+impl TrainState {
+    /// RouteAsk of a centre: the longest run of released home sections from the first on, at most so many, is lent to the train there,
+    /// and that is told.
+    pub(crate) fn route_asked(
+        &self,
+        line: &Line,
+        centre: u8,
+        book: &mut Book,
+        from: u8,
+        first: u16,
+        most: u16,
+    ) -> Heard
+        ensures exact { (rights : Rights) (k : spec.Centre) → HasParts line.now centre k self.now book.old rights
+            → links.route_asked line.now centre from self.now.supervision.engine first most k ≡ reply_left line.now centre self.now.supervision.engine (with_parts self.now book.new rights k) result }
+        ensures homes { (s : ℕ) → is_own book.new s ≡ is_own book.old s }
+    {
+        let engine = self.nid_engine();
+        match lend(line, centre, book, engine, first, most, from) {
+            Some(run) => Heard::told(Letter {
+                to: from,
+                body: Body::RouteInfo { engine, run },
+            }),
+            None => Heard::nothing(),
+        }
+    }
+
+    /// RouteInfo of a centre: the sections that were asked for are the pool of the train's mission, or go home again.
+    pub(crate) fn route_told(&mut self, line: &Line, from: u8, sections: SectionRun) -> Heard
+        requires few { sections.count ≤ 31 }
+        ensures exact { (c : ℕ) (book : Pages) (rights : Rights) (k : spec.Centre) → HasParts line.now c k self.old book rights
+            → links.route_told line.now c from self.old.supervision.engine (run_of sections) k ≡ reply_left line.now c self.old.supervision.engine (with_parts self.new book rights k) result }
+        ensures kept { KeepsTrain self.old self.new }
+        ensures expectations { self.new.expectations ≡ self.old.expectations }
+        ensures hand { self.new.supervision.hand ≡ self.old.supervision.hand }
+        ensures session { self.new.session_state ≡ self.old.session_state }
+        ensures waiting { self.new.waiting ≡ self.old.waiting }
+    {
+        let engine = self.nid_engine();
+        match self.supervision.info(line, from, sections) {
+            Some(run) => Heard::told(Letter {
+                to: from,
+                body: Body::RouteReturn { engine, run },
+            }),
+            None => Heard::nothing(),
+        }
+    }
+
+    /// RouteWithdraw: a section of the pool goes home with all behind it. The train is asked to end its authority before one of its hand
+    /// (3.8.6), where that may be asked.
+    pub(crate) fn route_withdrawn(&mut self, line: &Line, s: u16) -> Heard
+        requires count { self.old.said < 4294967294 }
+        ensures exact { (c : ℕ) (book : Pages) (rights : Rights) (k : spec.Centre) → HasParts line.now c k self.old book rights
+            → (if is_some (section line.now s) then links.route_withdrawn line.now c self.old.supervision.engine s else rest) k
+            ≡ reply_left line.now c self.old.supervision.engine (with_parts self.new book rights k) result }
+        ensures kept { KeepsTrain self.old self.new }
+        ensures expectations { self.new.expectations ≡ self.old.expectations }
+        ensures hand { self.new.supervision.hand ≡ self.old.supervision.hand }
+        ensures session { self.new.session_state ≡ self.old.session_state }
+        ensures waiting { self.new.waiting ≡ self.old.waiting }
+    {
+        if s >= line.section_count() {
+            return Heard::nothing();
+        }
+        let Some(mission) = self.supervision.mission() else {
+            return Heard::nothing();
+        };
+        match self.supervision.withdraw(s) {
+            Some(sections) => Heard::returned(mission.place.track, sections),
+            None => Heard::of(self.ask_back(line, s)),
+        }
+    }
+
+    /// RouteReturn of a centre: the sections that are out for the train there are given back. A train that is no more to come here is told to
+    /// end its session (3.5.5).
+    pub(crate) fn route_returned(
+        &mut self,
+        line: &Line,
+        centre: u8,
+        book: &mut Book,
+        from: u8,
+        sections: SectionRun,
+    ) -> Heard
+        requires count { self.old.said < 4294967294 }
+        requires some { 1 ≤ sections.count }
+        requires most { sections.count ≤ 63 }
+        requires last { sections.first + sections.count ≤ 512 }
+        ensures exact { (rights : Rights) (k : spec.Centre) → HasParts line.now centre k self.old book.old rights
+            → (if all_of (λ s. is_some (section line.now s)) (run_of sections) then links.route_returned line.now centre from self.old.supervision.engine (run_of sections) else rest) k
+            ≡ reply_left line.now centre self.old.supervision.engine (with_parts self.new book.new rights k) result }
+        ensures kept { KeepsTrain self.old self.new }
+        ensures expectations { self.new.expectations ≡ self.old.expectations }
+        ensures supervision { self.new.supervision ≡ self.old.supervision }
+        ensures session { self.new.session_state ≡ self.old.session_state }
+        ensures waiting { self.new.waiting ≡ self.old.waiting }
+        ensures homes { (s : ℕ) → is_own book.new s ≡ is_own book.old s }
+    {
+        if sections.behind() > u32::from(line.section_count()) {
+            return Heard::nothing();
+        }
+        let told = bring_back(book, self.nid_engine(), from, sections);
+        let saying = self.end_order(line, centre, book);
+        Heard {
+            told,
+            ..Heard::of(saying)
+        }
+    }
+
+    // The order to end its session, for a train that is no more to come here.
+    fn end_order(&mut self, line: &Line, centre: u8, book: &Book) -> Option<Saying>
+        requires count { self.old.said < 4294967294 }
+        ensures exact { (rights : Rights) (k : spec.Centre) → HasParts line.now centre k self.old book.now rights
+            → where_so (λ j. not (spec.uses_some line.now centre j self.old.supervision.engine)
+            && ((is_none (j.mission self.old.supervision.engine) && is_none (j.wait self.old.supervision.engine)) && not (spec.is_expected line.now j self.old.supervision.engine)))
+            (end_order line.now centre self.old.supervision.engine) k
+            ≡ replied (with_parts self.new book.now rights k) (sayings_of result) [] }
+        ensures said { self.new ≡ record self.old { said = self.new.said } }
+        ensures counted { self.new.said ≤ self.old.said + 1 }
+    {
+        if !self.is_gone() {
+            return None;
+        }
+        if uses_some(line, book, self.nid_engine()) {
+            return None;
+        }
+        self.order_end(line, centre)
+    }
+
+    // Whether neither a mission of the train nor a start that waits is here, and it is not expected.
+    fn is_gone(&self) -> bool
+        ensures { result ≡ ((is_none self.now.supervision.mission && is_none self.now.waiting.wait) && not (list_any is_some self.now.expectations)) }
+    {
+        self.supervision.mission().is_none()
+            && self.waiting.place().is_none()
+            && !self.expectations.is_expected()
+    }
+}
+
+/// The order to end the session with this centre (3.5.5).
+pub(crate) fn session_order(line: &Line, centre: u8) -> SessionOrder
+    ensures { track_body (code.EndSession result) ≡ message.EndSession line.now.nid_c (nid_rbc line.now centre) }
+{
+    let nid_c = line.nid_c();
+    let nid_rbc = match line.nid_rbc(centre) {
+        Some(nid_rbc) => nid_rbc,
+        None => 0,
+    };
+    SessionOrder {
+        nid_c: NidC::new(u64::from(nid_c)),
+        nid_rbc: NidRbc::new(u64::from(nid_rbc)),
+    }
+}

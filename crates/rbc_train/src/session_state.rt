@@ -1,0 +1,89 @@
+//! What becomes of the session that stands with a train.
+
+ghost use Rattle.std.specs.Prelude.{◌≡◌};
+ghost use Rattle.rbc_spec.specs.Centre as spec;
+ghost use Rattle.rbc_session.specs.Sessions.{phase_at, HasRoom};
+ghost use Rattle.rbc_session.specs.SessionStates.{StandsFor};
+ghost use Rattle.rbc_train.specs.SessionStates.{Enters};
+
+use rbc_session::{SessionState, Sessions};
+use std::mem;
+
+/// It is closed, and another is opened.
+pub(crate) fn opened(
+    sessions: &mut Sessions,
+    session_state: SessionState,
+    nid_engine: u32,
+) -> SessionState
+    requires stands { StandsFor sessions.old session_state nid_engine }
+    requires room { HasRoom sessions.old }
+    ensures { Enters sessions.old sessions.new result nid_engine spec.Opened }
+{
+    sessions.end(session_state);
+    SessionState::Opened(sessions.open_reserved(nid_engine))
+}
+
+/// It is up, if it was opened.
+pub(crate) fn established(
+    sessions: &mut Sessions,
+    session_state: SessionState,
+    nid_engine: u32,
+) -> SessionState
+    requires stands { StandsFor sessions.old session_state nid_engine }
+    requires opened { phase_at sessions.old nid_engine ≡ spec.Opened }
+    ensures { Enters sessions.old sessions.new result nid_engine spec.Up }
+{
+    match session_state {
+        SessionState::Opened(session) => SessionState::Up(sessions.establish(session)),
+        SessionState::Closed => SessionState::Closed,
+        SessionState::Up(session) => SessionState::Up(session),
+    }
+}
+
+/// It is closed.
+pub(crate) fn closed(
+    sessions: &mut Sessions,
+    session_state: SessionState,
+    nid_engine: u32,
+) -> SessionState
+    requires stands { StandsFor sessions.old session_state nid_engine }
+    ensures { Enters sessions.old sessions.new result nid_engine spec.Closed }
+{
+    sessions.end(session_state);
+    SessionState::Closed
+}
+
+/// The session that stands with the train is closed, and another is opened.
+pub(crate) fn open(session_state: &mut SessionState, sessions: &mut Sessions, nid_engine: u32)
+    requires stands { StandsFor sessions.old session_state.old nid_engine }
+    requires room { HasRoom sessions.old }
+    ensures { Enters sessions.old sessions.new session_state.new nid_engine spec.Opened }
+{
+    let stood = mem::replace(session_state, SessionState::Closed);
+    let stands = opened(sessions, stood, nid_engine);
+    let left = mem::replace(session_state, stands);
+    sessions.end(left);
+}
+
+/// The session that was opened with the train is up.
+pub(crate) fn establish(session_state: &mut SessionState, sessions: &mut Sessions, nid_engine: u32)
+    requires stands { StandsFor sessions.old session_state.old nid_engine }
+    requires opened { phase_at sessions.old nid_engine ≡ spec.Opened }
+    ensures { Enters sessions.old sessions.new session_state.new nid_engine spec.Up }
+{
+    let stood = mem::replace(session_state, SessionState::Closed);
+    let stands = established(sessions, stood, nid_engine);
+    let left = mem::replace(session_state, stands);
+    sessions.end(left);
+}
+
+/// The session that stands with the train is closed.
+pub(crate) fn close(session_state: &mut SessionState, sessions: &mut Sessions, nid_engine: u32)
+    requires stands { StandsFor sessions.old session_state.old nid_engine }
+    ensures { Enters sessions.old sessions.new session_state.new nid_engine spec.Closed }
+{
+    let stood = mem::replace(session_state, SessionState::Closed);
+    let stands = closed(sessions, stood, nid_engine);
+    let left = mem::replace(session_state, stands);
+    sessions.end(left);
+}

@@ -1,0 +1,127 @@
+//! The train opens, confirms and closes its communication session (3.5.3, 3.5.5).
+
+ghost use Rattle.std.specs.Prelude.{◌≡◌, ◌<◌, ℕ};
+ghost use Rattle.rbc_spec.specs.Centre as spec;
+ghost use Rattle.rbc_spec.specs.Line as track;
+ghost use Rattle.rbc_spec.specs.Message.{InitiationOfSession, SessionEstablished, TerminationOfSession};
+ghost use Rattle.rbc_spec.specs.Step as step;
+ghost use Rattle.rbc_book.specs.Book.{Pages, is_own};
+ghost use Rattle.rbc_right.specs.Rights.{Rights};
+ghost use Rattle.rbc_pending_start.specs.Waits.{IsCovered};
+ghost use Rattle.rbc_session.specs.Sessions.{HasRoom};
+ghost use Rattle.rbc_session.specs.SessionStates.{session_phase, StandsFor};
+ghost use Rattle.rbc_train.specs.Desk.{HearsTrain, KeepsTrain, with_parts, effect_left};
+ghost use Rattle.rbc_train.specs.SessionStates.{Enters};
+
+use crate::heard::Heard;
+use crate::mail::Mail;
+use crate::reason::Reason;
+use crate::session_state::{close, establish, open};
+use crate::train::TrainState;
+use rbc_book::Book;
+use rbc_msgs::{NID_LRBG_UNKNOWN, TrackBody};
+use rbc_session::{Phase, Sessions};
+
+impl TrainState {
+    /// Message 155: a session that stands is closed, with a request to shorten that stands and a start of mission that waits, and
+    /// another is opened.
+    #[inline(never)]
+    pub(crate) fn initiation_of_session(
+        &mut self,
+        book: &mut Book,
+        sessions: &mut Sessions,
+        t_train: u32,
+    ) -> Result<Heard, Reason>
+        requires stands { StandsFor sessions.old self.old.session_state self.old.supervision.engine }
+        requires room { HasRoom sessions.old }
+        requires count { self.old.said < 4294967294 }
+        ensures exact { (line : track.Line) (c : ℕ) (rights : Rights) (k : spec.Centre) → HearsTrain line c k t_train self.old book.old rights
+            → step.effect line c k (step.Train (record { t_train = t_train; nid_engine = self.old.supervision.engine; body = InitiationOfSession }))
+            ≡ effect_left line c self.old.supervision.engine (with_parts self.new book.new rights k) result }
+        ensures kept { KeepsTrain self.old self.new }
+        ensures expectations { self.new.expectations ≡ self.old.expectations }
+        ensures hand { self.new.supervision.hand ≡ self.old.supervision.hand }
+        ensures covers { (line : track.Line) → IsCovered line self.old.waiting → IsCovered line self.new.waiting }
+        ensures homes { (s : ℕ) → is_own book.new s ≡ is_own book.old s }
+        ensures stands { Enters sessions.old sessions.new self.new.session_state self.old.supervision.engine (session_phase self.new.session_state) }
+    {
+        let nid_engine = self.nid_engine();
+        self.heard = Some(t_train);
+        open(&mut self.session_state, sessions, nid_engine);
+        self.supervision.forget_proposal();
+        let told = self.waiting.drop_start(book);
+        let saying = self.answer(NID_LRBG_UNKNOWN, TrackBody::SystemVersion);
+        Ok(Heard {
+            saying: Some(saying),
+            order: None,
+            mail: Mail::of(None),
+            told,
+        })
+    }
+
+    /// Message 159: the session, if it was opened, is up.
+    #[inline(never)]
+    pub(crate) fn session_established(
+        &mut self,
+        sessions: &mut Sessions,
+        t_train: u32,
+    ) -> Result<Heard, Reason>
+        requires stands { StandsFor sessions.old self.old.session_state self.old.supervision.engine }
+        ensures exact { (line : track.Line) (c : ℕ) (book : Pages) (rights : Rights) (k : spec.Centre) → HearsTrain line c k t_train self.old book rights
+            → step.effect line c k (step.Train (record { t_train = t_train; nid_engine = self.old.supervision.engine; body = SessionEstablished }))
+            ≡ effect_left line c self.old.supervision.engine (with_parts self.new book rights k) result }
+        ensures kept { KeepsTrain self.old self.new }
+        ensures expectations { self.new.expectations ≡ self.old.expectations }
+        ensures hand { self.new.supervision.hand ≡ self.old.supervision.hand }
+        ensures waiting { self.new.waiting ≡ self.old.waiting }
+        ensures stands { Enters sessions.old sessions.new self.new.session_state self.old.supervision.engine (session_phase self.new.session_state) }
+    {
+        let known = self.known();
+        match known.phase {
+            Phase::Closed => return Err(Reason::NoSession),
+            Phase::Opened => {}
+            Phase::Up => return Err(Reason::WrongPhase),
+        }
+        self.heard = Some(t_train);
+        establish(&mut self.session_state, sessions, known.nid_engine);
+        Ok(Heard::nothing())
+    }
+
+    /// Message 156: the session that stands is closed, with a request to shorten that stands and a start of mission that waits.
+    #[inline(never)]
+    pub(crate) fn termination_of_session(
+        &mut self,
+        book: &mut Book,
+        sessions: &mut Sessions,
+        t_train: u32,
+    ) -> Result<Heard, Reason>
+        requires stands { StandsFor sessions.old self.old.session_state self.old.supervision.engine }
+        requires count { self.old.said < 4294967294 }
+        ensures exact { (line : track.Line) (c : ℕ) (rights : Rights) (k : spec.Centre) → HearsTrain line c k t_train self.old book.old rights
+            → step.effect line c k (step.Train (record { t_train = t_train; nid_engine = self.old.supervision.engine; body = TerminationOfSession }))
+            ≡ effect_left line c self.old.supervision.engine (with_parts self.new book.new rights k) result }
+        ensures kept { KeepsTrain self.old self.new }
+        ensures expectations { self.new.expectations ≡ self.old.expectations }
+        ensures hand { self.new.supervision.hand ≡ self.old.supervision.hand }
+        ensures covers { (line : track.Line) → IsCovered line self.old.waiting → IsCovered line self.new.waiting }
+        ensures homes { (s : ℕ) → is_own book.new s ≡ is_own book.old s }
+        ensures stands { Enters sessions.old sessions.new self.new.session_state self.old.supervision.engine (session_phase self.new.session_state) }
+    {
+        let known = self.known();
+        match known.phase {
+            Phase::Closed => return Err(Reason::NoSession),
+            Phase::Opened | Phase::Up => {}
+        }
+        self.heard = Some(t_train);
+        close(&mut self.session_state, sessions, known.nid_engine);
+        self.supervision.forget_proposal();
+        let told = self.waiting.drop_start(book);
+        let saying = self.answer(NID_LRBG_UNKNOWN, TrackBody::TerminationAcknowledged);
+        Ok(Heard {
+            saying: Some(saying),
+            order: None,
+            mail: Mail::of(None),
+            told,
+        })
+    }
+}

@@ -1,0 +1,136 @@
+//! The train answers the request to shorten its movement authority (3.8.6).
+
+ghost use Rattle.std.specs.Prelude.{◌≡◌, ◌<◌, ℕ, option_map, length};
+ghost use Rattle.rbc_spec.specs.Centre as spec;
+ghost use Rattle.rbc_spec.specs.Message.{ShorteningGranted, ShorteningRejected};
+ghost use Rattle.rbc_spec.specs.Place as place;
+ghost use Rattle.rbc_spec.specs.Step as step;
+ghost use Rattle.rbc_msgs.specs.StepMessage.{position_of};
+ghost use Rattle.rbc_train.specs.Desk.{HearsTrain, IsHeld, KeepsTrain, KeepsDesk, with_parts, effect_left};
+ghost use Rattle.rbc_spec.specs.Line as track;
+ghost use Rattle.rbc_train.specs.Desks.{IsBookOf};
+ghost use Rattle.rbc_book.specs.Book.{Pages};
+ghost use Rattle.rbc_right.specs.Rights.{Rights};
+
+use crate::heard::Heard;
+use crate::reason::Reason;
+use crate::train::TrainState;
+use rbc_book::Book;
+use rbc_hand::SectionRun;
+use rbc_line::Line;
+use rbc_packets::Position;
+use rbc_place::place_on;
+use rbc_right::Registrar;
+use rbc_session::Phase;
+use rbc_shorten::{Cut, granted, rejected};
+use rbc_vars::TTrain;
+
+impl TrainState {
+    /// Message 137: the request that is answered stands no more. A train that has not run past the proposed end gives back what
+    /// is behind it, and a mission without a section closes; then it is yielded, where that is due.
+    #[inline(never)]
+    pub(crate) fn shortening_granted(
+        &mut self,
+        line: &Line,
+        centre: u8,
+        book: &mut Book,
+        registrar: &mut Registrar,
+        t_train: u32,
+        request: TTrain,
+        position: &Position,
+    ) -> Result<Heard, Reason>
+        requires count { self.old.said < 4294967294 }
+        requires number { self.old.supervision.number < length registrar.old }
+        requires book { IsBookOf line.now centre book.old }
+        requires held { IsHeld line.now centre self.old }
+        ensures exact { (k : spec.Centre) → HearsTrain line.now centre k t_train self.old book.old registrar.old
+            → step.effect line.now centre k (step.Train (record { t_train = t_train; nid_engine = self.old.supervision.engine; body = ShorteningGranted request (position_of position.now) }))
+            ≡ effect_left line.now centre self.old.supervision.engine (with_parts self.new book.new registrar.new k) result }
+        ensures kept { KeepsTrain self.old self.new }
+        ensures held { IsHeld line.now centre self.new }
+        ensures session { self.new.session_state ≡ self.old.session_state }
+        ensures waiting { self.new.waiting ≡ self.old.waiting }
+        ensures expectations { self.new.expectations ≡ self.old.expectations }
+        ensures desk { KeepsDesk self.old.supervision.number book.old book.new registrar.old registrar.new }
+    {
+        let known = self.known();
+        match known.phase {
+            Phase::Closed => return Err(Reason::NoSession),
+            Phase::Opened => return Err(Reason::WrongPhase),
+            Phase::Up => {}
+        }
+        let Some(mission) = known.mission else {
+            return Err(Reason::NotSupervised);
+        };
+        let front = front_on(line, mission.place.track, position);
+        match granted(
+            line,
+            mission.proposal,
+            request.value() as u32,
+            known.hand,
+            front,
+        ) {
+            Ok(Cut::Keep(keep)) => {
+                self.heard = Some(t_train);
+                let released = self.supervision.shorten(line, keep, book);
+                let track = mission.place.track;
+                let mut heard = self.released(line, centre, registrar, track, released);
+                self.yield_if_due(line, centre, book, &mut heard);
+                Ok(heard)
+            }
+            Ok(Cut::Nothing) => {
+                self.heard = Some(t_train);
+                self.supervision.forget_proposal();
+                let none = SectionRun { first: 0, count: 0 };
+                let mut heard = Heard::returned(mission.place.track, none);
+                self.yield_if_due(line, centre, book, &mut heard);
+                Ok(heard)
+            }
+            Err(_) => Err(Reason::Unasked),
+        }
+    }
+
+    /// Message 138: the request that is answered, if it stands, stands no more.
+    #[inline(never)]
+    pub(crate) fn shortening_rejected(
+        &mut self,
+        t_train: u32,
+        request: TTrain,
+    ) -> Result<Heard, Reason>
+        ensures exact { (line : track.Line) (c : ℕ) (book : Pages) (rights : Rights) (k : spec.Centre) (position : place.Position)
+            → HearsTrain line c k t_train self.old book rights
+            → step.effect line c k (step.Train (record { t_train = t_train; nid_engine = self.old.supervision.engine; body = ShorteningRejected request position }))
+            ≡ effect_left line c self.old.supervision.engine (with_parts self.new book rights k) result }
+        ensures kept { KeepsTrain self.old self.new }
+        ensures expectations { self.new.expectations ≡ self.old.expectations }
+        ensures hand { self.new.supervision.hand ≡ self.old.supervision.hand }
+        ensures session { self.new.session_state ≡ self.old.session_state }
+        ensures waiting { self.new.waiting ≡ self.old.waiting }
+    {
+        let known = self.known();
+        match known.phase {
+            Phase::Closed => return Err(Reason::NoSession),
+            Phase::Opened => return Err(Reason::WrongPhase),
+            Phase::Up => {}
+        }
+        let Some(mission) = known.mission else {
+            return Err(Reason::NotSupervised);
+        };
+        if rejected(mission.proposal, request.value() as u32).is_err() {
+            return Err(Reason::Unasked);
+        }
+        self.heard = Some(t_train);
+        self.supervision.forget_proposal();
+        Ok(Heard::nothing())
+    }
+}
+
+// The safe front end in decimetres, where the report has a place on this track.
+fn front_on(line: &Line, track: u8, position: &Position) -> Option<u32>
+    ensures { result ≡ option_map (λ p. p.front) (place.place_on line.now track (position_of position.now)) }
+{
+    match place_on(line, track, position) {
+        Some(place) => Some(place.front),
+        None => None,
+    }
+}

@@ -1,0 +1,188 @@
+//! Start of mission (5.4).
+
+ghost use Rattle.std.specs.Prelude.{◌≡◌, ◌<◌, ◌≤◌, ◌+◌, ℕ, true, None};
+ghost use Rattle.rbc_spec.specs.Centre as spec;
+ghost use Rattle.rbc_spec.specs.Line as track;
+ghost use Rattle.rbc_spec.specs.Message.{StartOfMission};
+ghost use Rattle.rbc_spec.specs.Place.{covered, is_fit};
+ghost use Rattle.rbc_spec.specs.Rules as rules;
+ghost use Rattle.rbc_spec.specs.Step as step;
+ghost use Rattle.rbc_msgs.specs.StepMessage.{position_of, is_valid};
+ghost use Rattle.rbc_book.specs.Book.{is_own};
+ghost use Rattle.rbc_hand.specs.SectionRuns.{run_of};
+ghost use Rattle.rbc_right.specs.Rights.{Rights};
+ghost use Rattle.rbc_place.specs.Places.{place_of};
+ghost use Rattle.rbc_pending_start.specs.Waits.{IsCovered};
+ghost use Rattle.rbc_allocation.specs.Sections.{IsAllOpen};
+ghost use Rattle.rbc_train.specs.Desk.{HasParts, HearsTrain, IsHeld, KeepsTrain, KeepsDesk, with_parts, effect_left};
+ghost use Rattle.rbc_train.specs.Desks.{IsBookOf};
+ghost use Rattle.rbc_train.specs.Starts.{started};
+
+use crate::heard::Heard;
+use crate::letter::{Letter, to_registrar};
+use crate::mail::Mail;
+use crate::reason::Reason;
+use crate::starting::{are_free, has_all, place_of_start};
+use crate::train::TrainState;
+use rbc_book::Book;
+use rbc_hand::SectionRun;
+use rbc_line::Line;
+use rbc_linkmsg::Body;
+use rbc_mission::Told;
+use rbc_msgs::TrackBody;
+use rbc_packets::Position;
+use rbc_place::{Place, covered};
+use rbc_right::{Asked, Registrar};
+use rbc_session::Phase;
+use rbc_vars::QStatus;
+
+impl TrainState {
+    /// Message 157, at this centre: the train is accepted or rejected, or its start waits for the right.
+    #[inline(never)]
+    pub(crate) fn start_of_mission(
+        &mut self,
+        line: &Line,
+        centre: u8,
+        book: &mut Book,
+        registrar: &mut Registrar,
+        t_train: u32,
+        q_status: QStatus,
+        position: &Position,
+    ) -> Result<Heard, Reason>
+        requires count { self.old.said < 4294967294 }
+        requires book { IsBookOf line.now centre book.old }
+        ensures exact { (k : spec.Centre) → HearsTrain line.now centre k t_train self.old book.old registrar.old
+            → step.effect line.now centre k (step.Train (record { t_train = t_train; nid_engine = self.old.supervision.engine; body = StartOfMission (is_valid q_status) (position_of position.now) }))
+            ≡ effect_left line.now centre self.old.supervision.engine (with_parts self.new book.new registrar.new k) result }
+        ensures kept { KeepsTrain self.old self.new }
+        ensures expectations { self.new.expectations ≡ self.old.expectations }
+        ensures held { IsHeld line.now centre self.old → IsHeld line.now centre self.new }
+        ensures covers { IsCovered line.now self.old.waiting → IsCovered line.now self.new.waiting }
+        ensures session { self.new.session_state ≡ self.old.session_state }
+        ensures desk { KeepsDesk self.old.supervision.number book.old book.new registrar.old registrar.new }
+    {
+        let known = self.known();
+        match known.phase {
+            Phase::Closed => return Err(Reason::NoSession),
+            Phase::Opened => return Err(Reason::WrongPhase),
+            Phase::Up => {}
+        }
+        if self.waiting.place().is_some() {
+            return Err(Reason::WrongPhase);
+        }
+        self.heard = Some(t_train);
+        match self.start(line, centre, book, registrar, q_status, position) {
+            Start::Accepted => Ok(self.answered(TrackBody::TrainAccepted)),
+            Start::Rejected => Ok(self.answered(TrackBody::TrainRejected)),
+            Start::Waiting(letter) => Ok(Heard {
+                saying: None,
+                order: None,
+                mail: Mail::of(letter),
+                told: Told::nothing(),
+            }),
+        }
+    }
+
+    // Within the hand of a train that is supervised here its mission goes on; another begins where its sections are released and
+    // the train's right is here, or waits for the right where that is registered elsewhere.
+    fn start(
+        &mut self,
+        line: &Line,
+        centre: u8,
+        book: &mut Book,
+        registrar: &mut Registrar,
+        q_status: QStatus,
+        position: &Position,
+    ) -> Start
+        requires book { IsBookOf line.now centre book.old }
+        requires none { self.old.waiting.wait ≡ None }
+        ensures exact { (k : spec.Centre) → HasParts line.now centre k self.old book.old registrar.old
+            → rules.start_mission line.now centre self.old.supervision.engine (is_valid q_status) (position_of position.now) k
+            ≡ started self.old.supervision.engine result (with_parts self.new book.new registrar.new k) }
+        ensures same { self.new ≡ record self.old { supervision = self.new.supervision; waiting = self.new.waiting } }
+        ensures kept { KeepsTrain self.old self.new }
+        ensures held { IsHeld line.now centre self.old → IsHeld line.now centre self.new }
+        ensures covers { IsCovered line.now self.old.waiting → IsCovered line.now self.new.waiting }
+        ensures desk { KeepsDesk self.old.supervision.number book.old book.new registrar.old registrar.new }
+    {
+        let Some(place) = place_of_start(line, q_status, position) else {
+            return Start::Rejected;
+        };
+        let run = covered(line, &place);
+        if self.supervision.mission().is_some() {
+            if !has_all(self.hand(), run) {
+                return Start::Rejected;
+            }
+            self.supervision.begin_again(place);
+            return Start::Accepted;
+        }
+        if !are_free(line, centre, book, run) {
+            return Start::Rejected;
+        }
+        if line.registrar(self.nid_engine()) == Some(centre) {
+            self.start_here(place, run, book, registrar)
+        } else {
+            self.start_waiting(line, place, book)
+        }
+    }
+
+    // A start at the registrar: the right is taken into the mission, where it is there.
+    fn start_here(
+        &mut self,
+        place: Place,
+        run: SectionRun,
+        book: &mut Book,
+        registrar: &mut Registrar,
+    ) -> Start
+        requires none { self.old.supervision.mission ≡ None }
+        requires some { 1 ≤ run.count }
+        requires most { run.count ≤ 32 }
+        requires numbers { run.first + run.count ≤ 65535 }
+        requires open { IsAllOpen (run_of run) book.old }
+        ensures exact { (line : track.Line) (c : ℕ) (k : spec.Centre) → HasParts line c k self.old book.old registrar.old → run_of run ≡ covered line (place_of place)
+            → rules.start_here line self.old.supervision.engine (place_of place) k
+            ≡ started self.old.supervision.engine result (with_parts self.new book.new registrar.new k) }
+        ensures same { self.new ≡ record self.old { supervision = self.new.supervision } }
+        ensures kept { KeepsTrain self.old self.new }
+        ensures held { (line : track.Line) (c : ℕ) → IsHeld line c self.old → IsHeld line c self.new }
+        ensures desk { KeepsDesk self.old.supervision.number book.old book.new registrar.old registrar.new }
+    {
+        match registrar.ask(self.supervision.number()) {
+            Asked::Given(right) => {
+                self.supervision.begin(place, run, book, right);
+                Start::Accepted
+            }
+            Asked::NotHere => Start::Rejected,
+        }
+    }
+
+    // A start elsewhere: it waits, and the registrar is asked for the right, unless it is asked already.
+    fn start_waiting(&mut self, line: &Line, place: Place, book: &mut Book) -> Start
+        requires none { self.old.waiting.wait ≡ None }
+        requires fit { is_fit line.now (place_of place) ≡ true }
+        requires some { 1 ≤ (covered line.now (place_of place)).count }
+        requires open { IsAllOpen (covered line.now (place_of place)) book.old }
+        ensures exact { (c : ℕ) (rights : Rights) (k : spec.Centre) → HasParts line.now c k self.old book.old rights
+            → rules.start_waiting line.now self.old.supervision.engine (place_of place) k
+            ≡ started self.old.supervision.engine result (with_parts self.new book.new rights k) }
+        ensures same { self.new ≡ record self.old { waiting = self.new.waiting } }
+        ensures kept { KeepsTrain self.old self.new }
+        ensures covers { IsCovered line.now self.old.waiting → IsCovered line.now self.new.waiting }
+        ensures homes { (s : ℕ) → is_own book.new s ≡ is_own book.old s }
+    {
+        if !self.waiting.start(line, place, book) {
+            return Start::Waiting(None);
+        }
+        let engine = self.nid_engine();
+        Start::Waiting(to_registrar(line, engine, Body::AskRight { engine }))
+    }
+}
+
+/// What a start of mission comes to.
+#[derive(Clone, Copy, Debug)]
+pub(crate) enum Start {
+    Accepted,
+    Rejected,
+    /// It waits for the right, for which this letter asks, if any does.
+    Waiting(Option<Letter>),
+}

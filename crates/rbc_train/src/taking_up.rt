@@ -1,0 +1,219 @@
+//! A mission comes from the centre that hands it over (3.15.1).
+
+ghost use Rattle.std.specs.Prelude.{◌≡◌, ◌+◌, ◌<◌, ◌≤◌, ◌&&◌, ◌*◌, ℕ, true, None, is_none, nat_le, not, length, max, option_map};
+ghost use Rattle.std.specs.Option.{option_map_or};
+ghost use Rattle.std.specs.List.{find, range_with_len};
+ghost use Rattle.rbc_spec.specs.Centre as spec;
+ghost use Rattle.rbc_spec.specs.Frame.{HasPlaceRange, HasRunRange, carried_place};
+ghost use Rattle.rbc_spec.specs.Acts.{rest};
+ghost use Rattle.rbc_spec.specs.Line.{is_home, section_of_group};
+ghost use Rattle.rbc_spec.specs.Sections as sections;
+ghost use Rattle.rbc_spec.specs.Place.{group_start as start_of_group};
+ghost use Rattle.rbc_spec.specs.Links as links;
+ghost use Rattle.rbc_spec.specs.Maps.{has, put};
+ghost use Rattle.rbc_spec.specs.SectionRuns.{within};
+ghost use Rattle.rbc_book.specs.Book.{is_own, entry_at, wish_at};
+ghost use Rattle.rbc_allocation.specs.Sections.{IsHeldBy};
+ghost use Rattle.rbc_handover.specs.Expectations.{expected_from, is_taking_under};
+ghost use Rattle.rbc_mission.specs.Passing.{IsBooked};
+ghost use Rattle.rbc_right.specs.Rights.{is_here};
+ghost use Rattle.rbc_hand.specs.SectionRuns.{run_of};
+ghost use Rattle.rbc_linkmsg.specs.Bodies as bodies;
+ghost use Rattle.rbc_place.specs.Places.{place_of};
+ghost use Rattle.rbc_train.specs.Arriving.{taken_up};
+ghost use Rattle.rbc_train.specs.Desk.{HasParts, IsHeld, KeepsTrain, with_parts, reply_left};
+ghost use Rattle.rbc_train.specs.Desks.{IsBookOf};
+
+use crate::front::{has_group_on_track, is_on_track};
+use crate::heard::Heard;
+use crate::train::TrainState;
+use rbc_book::Book;
+use rbc_border::{Arrival, may_arrive};
+use rbc_hand::SectionRun;
+use rbc_line::Line;
+use rbc_linkmsg::YieldedPlace;
+use rbc_mission::MissionFacts;
+use rbc_place::{Place, group_start};
+use rbc_right::{Registrar, Right};
+use std::cmp::max;
+
+/// A mission that another centre yields.
+#[derive(Clone, Copy, Debug, PartialEq, Eq)]
+pub(crate) struct Coming {
+    /// The centre that yields it.
+    pub(crate) from: u8,
+    /// The handover's number there.
+    pub(crate) number: u32,
+    /// The last T_TRAIN that was heard there.
+    pub(crate) heard: u32,
+    pub(crate) has_data: bool,
+    pub(crate) is_ended: bool,
+    pub(crate) place: YieldedPlace,
+    /// The sections of its movement authority.
+    pub(crate) hand: SectionRun,
+}
+
+impl TrainState {
+    /// Yield of a centre: where it is expected, and this centre has said that it takes over, the mission goes on here, with its sections and
+    /// with the right. The later of both stamps is kept, and the train is asked to end its authority before the first section of this home that
+    /// is wished back (3.8.6), where that may be asked.
+    pub(crate) fn yielded(
+        &mut self,
+        line: &Line,
+        centre: u8,
+        book: &mut Book,
+        registrar: &Registrar,
+        coming: Coming,
+    ) -> Heard
+        requires count { self.old.said < 4294967294 }
+        requires book { IsBookOf line.now centre book.old }
+        requires held { IsHeld line.now centre self.old }
+        requires place { HasPlaceRange (bodies.place_of coming.place) }
+        requires hand { HasRunRange 1 32 (run_of coming.hand) }
+        ensures exact { (k : spec.Centre) → HasParts line.now centre k self.old book.old registrar.now
+            → option_map_or (links.yielded line.now centre coming.from coming.number self.old.supervision.engine (run_of coming.hand) coming.heard coming.has_data coming.is_ended) (carried_place (bodies.place_of coming.place)) rest k
+            ≡ reply_left line.now centre self.old.supervision.engine (with_parts self.new book.new registrar.now k) result }
+        ensures kept { KeepsTrain self.old self.new }
+        ensures count { length self.new.expectations ≡ length self.old.expectations }
+        ensures held { IsHeld line.now centre self.new }
+        ensures session { self.new.session_state ≡ self.old.session_state }
+        ensures waiting { self.new.waiting ≡ self.old.waiting }
+        ensures homes { (s : ℕ) → is_own book.new s ≡ is_own book.old s }
+    {
+        let Some(place) = arriving_place(coming.place) else {
+            return Heard::nothing();
+        };
+        if !self.may_take(line, centre, book, registrar, &coming, &place) {
+            return Heard::nothing();
+        }
+        self.take_mission(line, book, coming, place);
+        match first_wished(line, centre, book, coming.hand) {
+            Some(s) => Heard::of(self.ask_back(line, s)),
+            None => Heard::nothing(),
+        }
+    }
+
+    // Whether the mission may go on here: the train is expected from that centre under this number, and it was told that this one is taking
+    // over; neither a mission nor the right is here; and each section may arrive, on the track of the place, whose group is on it and not
+    // behind its front.
+    fn may_take(
+        &self,
+        line: &Line,
+        centre: u8,
+        book: &Book,
+        registrar: &Registrar,
+        coming: &Coming,
+        place: &Place,
+    ) -> bool
+        requires book { IsBookOf line.now centre book.now }
+        requires some { 1 ≤ coming.now.hand.count }
+        ensures exact { (k : spec.Centre) → HasParts line.now centre k self.now book.now registrar.now
+            → result ≡ links.may_take line.now centre k coming.now.from coming.now.number self.now.supervision.engine (place_of place.now) (run_of coming.now.hand) }
+        ensures none { result ≡ true → self.now.supervision.mission ≡ None }
+        ensures line { result ≡ true → coming.now.hand.first + coming.now.hand.count ≤ length line.now.sections }
+        ensures own { result ≡ true → (s : ℕ) → within (run_of coming.now.hand) s ≡ true → is_own book.now s ≡ true
+            → spec.is_out_for self.now.supervision.engine coming.now.from (entry_at book.now s) ≡ true }
+    {
+        if !self.awaits(registrar, coming.from, coming.number) {
+            return false;
+        }
+        if !is_placed(line, place, coming.hand) {
+            return false;
+        }
+        let train = Arrival {
+            nid_engine: self.nid_engine(),
+            from: coming.from,
+            track: place.track,
+        };
+        may_arrive(line, centre, book, train, coming.hand)
+    }
+
+    // Whether the train is expected from that centre under this number, and it was told that this one is taking over; and neither a mission
+    // nor the right is here.
+    fn awaits(&self, registrar: &Registrar, from: u8, number: u32) -> bool
+        ensures { result ≡ (is_taking_under number (expected_from self.now.expectations from) && (is_none self.now.supervision.mission && not (is_here registrar.now self.now.supervision.number))) }
+    {
+        self.expectations.may_take(from, number)
+            && (self.supervision.mission().is_none() && !registrar.has(self.supervision.number()))
+    }
+
+    // The mission goes on here.
+    fn take_mission(&mut self, line: &Line, book: &mut Book, coming: Coming, place: Place)
+        requires none { self.old.supervision.mission ≡ None }
+        requires hand { HasRunRange 1 32 (run_of coming.hand) }
+        requires line { coming.hand.first + coming.hand.count ≤ length line.now.sections }
+        requires own { (s : ℕ) → within (run_of coming.hand) s ≡ true → is_own book.old s ≡ true → spec.is_out_for self.old.supervision.engine coming.from (entry_at book.old s) ≡ true }
+        ensures left { self.new ≡ taken_up coming (place_of place) self.new.supervision.hand self.new.expectations self.old }
+        ensures expected { (d : ℕ) → expected_from self.new.expectations d ≡ put (expected_from self.old.expectations) coming.from None d }
+        ensures count { length self.new.expectations ≡ length self.old.expectations }
+        ensures held { IsHeldBy self.old.supervision.engine self.new.supervision.hand book.new }
+        ensures book { IsBooked (spec.is_out_for self.old.supervision.engine coming.from) (spec.Taken self.old.supervision.engine) (run_of coming.hand) book.old book.new }
+    {
+        let mission = MissionFacts {
+            has_data: coming.has_data,
+            is_ended: coming.is_ended,
+            ..MissionFacts::at(place)
+        };
+        let right = Right::arrive(self.supervision.number());
+        self.supervision
+            .take_up(line, coming.from, mission, coming.hand, book, right);
+        self.heard = Some(later(self.heard, coming.heard));
+        self.expectations.taken(coming.from);
+    }
+}
+
+// The later of two T_TRAIN, of which one may be none.
+fn later(heard: Option<u32>, other: u32) -> u32
+    ensures { result ≡ option_map_or (max other) heard other }
+{
+    match heard {
+        Some(t_train) => max(other, t_train),
+        None => other,
+    }
+}
+
+// The place that a Yield carries. None where its front lies before the start of the track.
+fn arriving_place(place: YieldedPlace) -> Option<Place>
+    requires { HasPlaceRange (bodies.place_of place) }
+    ensures { option_map place_of result ≡ carried_place (bodies.place_of place) }
+{
+    if place.front < 0 {
+        return None;
+    }
+    Some(Place {
+        track: place.track,
+        group: place.group,
+        front: place.front as u32,
+        rear: place.rear,
+    })
+}
+
+// Whether the sections are on the track of the place, and its group is on it too, and not behind its front.
+fn is_placed(line: &Line, place: &Place, hand: SectionRun) -> bool
+    ensures { result ≡ ((sections.is_on_track line.now place.now.track (run_of hand) && has (sections.is_on line.now place.now.track) (section_of_group line.now place.now.group))
+        && nat_le (10 * start_of_group line.now (place_of place.now)) place.now.front) }
+{
+    (is_on_track(line, place.track, hand) && has_group_on_track(line, place))
+        && 10 * group_start(line, place) <= place.front
+}
+
+// The first section of the run that is of this centre's home and wished back.
+fn first_wished(line: &Line, centre: u8, book: &Book, run: SectionRun) -> Option<u16>
+    requires { run.first + run.count ≤ 65535 }
+    ensures { result ≡ find (λ s. is_home line.now centre s && wish_at book.now s) (range_with_len run.first run.count) }
+{
+    for k in 0..run.count {
+        let s = run.first + k;
+        if is_wished(line, centre, book, s) {
+            return Some(s);
+        }
+    }
+    None
+}
+
+// Whether the section is of this centre's home and wished back.
+fn is_wished(line: &Line, centre: u8, book: &Book, s: u16) -> bool
+    ensures { result ≡ (is_home line.now centre s && wish_at book.now s) }
+{
+    line.is_home(centre, s) && book.page(s).is_wished
+}

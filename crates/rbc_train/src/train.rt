@@ -1,0 +1,222 @@
+ghost use Rattle.std.specs.Prelude.{◌≡◌, ◌+◌, ◌<◌, ◌≤◌, ℕ, length, IfOk, None, Some, false, option_map};
+ghost use Rattle.rbc_spec.specs.Message.{is_stale};
+ghost use Rattle.rbc_spec.specs.Centre as spec;
+ghost use Rattle.rbc_spec.specs.Acts.{propose_if_so};
+ghost use Rattle.rbc_hand.specs.SectionRuns.{run_of};
+ghost use Rattle.rbc_place.specs.Places.{place_of};
+ghost use Rattle.rbc_session.specs.SessionStates.{phase_of, session_phase};
+ghost use Rattle.rbc_mission.specs.Supervisions.{HasRouteForm, hand_of, handing_in};
+ghost use Rattle.rbc_handover.specs.Expectations.{expected_from};
+ghost use Rattle.rbc_pending_start.specs.Waits.{nothing_waits};
+ghost use Rattle.rbc_train.specs.Desks.{mission_by};
+ghost use Rattle.rbc_train.specs.Trains.{asked, unknown_state, HasTrain};
+ghost use Rattle.rbc_train.specs.Sayings.{sayings_of};
+
+use crate::asking::ask_back;
+use crate::known::Train;
+use crate::saying::Saying;
+use rbc_book::Book;
+use rbc_hand::SectionRun;
+use rbc_handover::Expectations;
+use rbc_line::Line;
+use rbc_mission::{MissionFacts, Supervision};
+use rbc_msgs::TrackBody;
+use rbc_packets::Authority;
+use rbc_pending_start::WaitingStart;
+use rbc_place::Place;
+use rbc_session::{Phase, SessionState, Sessions};
+use rbc_vars::LEndsection;
+use std::alloc::{AllocError, Global};
+
+/// What is known of a train at a centre.
+#[derive(Clone, Copy, Debug, PartialEq, Eq)]
+pub struct TrainPage {
+    /// How far the communication session with it has come (3.5.3).
+    pub phase: Phase,
+    /// The last T_TRAIN heard.
+    pub heard: Option<u32>,
+    /// How many messages were said to the train.
+    pub said: u32,
+    /// The mission that the centre supervises.
+    pub mission: Option<MissionFacts>,
+    /// The sections of its movement authority, none where there is no mission.
+    pub hand: SectionRun,
+    /// The lent sections that follow them, none where there is no mission.
+    pub pool: SectionRun,
+    /// The place of a start of mission that waits for the right to supervise the train.
+    pub waiting: Option<Place>,
+}
+
+/// What a centre keeps of a train of the line.
+#[derive(Debug)]
+pub struct TrainState {
+    /// The session that stands with it.
+    pub session_state: SessionState,
+    /// The last T_TRAIN heard.
+    pub heard: Option<u32>,
+    /// How many messages were said to it.
+    pub said: u32,
+    /// Its mission, where one stands at this centre.
+    pub supervision: Supervision,
+    /// Its start of mission that waits, and whether its right is asked for.
+    pub waiting: WaitingStart,
+    /// The handovers of it that other centres have announced.
+    pub expectations: Expectations,
+}
+
+impl TrainState {
+    /// What is kept of a train of this line that was never heard, with this place in the line file.
+    /// For want of memory the book ends what was made.
+    pub fn unknown(
+        alloc: Global,
+        line: &Line,
+        number: u8,
+        nid_engine: u32,
+        book: &mut Book,
+    ) -> Result<TrainState, AllocError>
+        ensures state { IfOk result (λ p. p ≡ unknown_state number nid_engine p.expectations) }
+        ensures count { IfOk result (λ p. length p.expectations ≡ length line.now.centres) }
+        ensures none { IfOk result (λ p. (d : ℕ) → expected_from p.expectations d ≡ None) }
+        ensures book { IfOk result (λ p. book.new ≡ book.old) }
+    {
+        let supervision = Supervision::new(alloc, number, nid_engine)?;
+        match starts_and_handovers(alloc, line, nid_engine, book) {
+            Ok((waiting, expectations)) => Ok(TrainState {
+                session_state: SessionState::Closed,
+                heard: None,
+                said: 0,
+                supervision,
+                waiting,
+                expectations,
+            }),
+            Err(error) => {
+                supervision.end(book);
+                Err(error)
+            }
+        }
+    }
+
+    /// The train's NID_ENGINE.
+    pub(crate) fn nid_engine(&self) -> u32
+        ensures { result ≡ self.now.supervision.engine }
+    {
+        self.supervision.nid_engine()
+    }
+
+    /// The sections of its movement authority; none where no mission stands.
+    pub(crate) fn hand(&self) -> SectionRun
+        ensures { run_of result ≡ hand_of self.now.supervision }
+    {
+        self.supervision.hand()
+    }
+
+    /// What is known of it.
+    pub fn page(&self) -> TrainPage
+        ensures phase { phase_of result.phase ≡ session_phase self.now.session_state }
+        ensures heard { result.heard ≡ self.now.heard }
+        ensures said { result.said ≡ self.now.said }
+        ensures mission { mission_by result.mission result.hand result.pool (handing_in self.now.supervision) ≡ self.now.supervision.mission }
+        ensures waiting { option_map place_of result.waiting ≡ self.now.waiting.wait }
+    {
+        TrainPage {
+            phase: self.session_state.phase(),
+            heard: self.heard,
+            said: self.said,
+            mission: self.supervision.mission(),
+            hand: self.supervision.hand(),
+            pool: self.supervision.pool(),
+            waiting: self.waiting.place(),
+        }
+    }
+
+    /// What a message of it is decided by.
+    pub fn known(&self) -> Train
+        ensures number { result.number ≡ self.now.supervision.number }
+        ensures engine { result.nid_engine ≡ self.now.supervision.engine }
+        ensures phase { phase_of result.phase ≡ session_phase self.now.session_state }
+        ensures mission { mission_by result.mission result.hand result.pool (handing_in self.now.supervision) ≡ self.now.supervision.mission }
+        ensures route { (m : spec.Mission) → mission_by result.mission result.hand result.pool (handing_in self.now.supervision) ≡ Some m → HasRouteForm m }
+    {
+        Train {
+            number: self.supervision.number(),
+            nid_engine: self.supervision.nid_engine(),
+            phase: self.session_state.phase(),
+            mission: self.supervision.mission(),
+            hand: self.supervision.hand(),
+            pool: self.supervision.pool(),
+        }
+    }
+
+    /// Ends it with its centre: its session ends, and its sections go back.
+    pub fn end(self, sessions: &mut Sessions, book: &mut Book) {
+        let TrainState {
+            session_state,
+            heard: _,
+            said: _,
+            supervision,
+            waiting,
+            expectations,
+        } = self;
+        sessions.end(session_state);
+        supervision.end(book);
+        waiting.end(book);
+        expectations.end();
+    }
+
+    /// Whether a message came late or again (3.16.3).
+    pub fn is_stale(&self, t_train: u32) -> bool
+        ensures { result ≡ is_stale t_train self.now.heard }
+    {
+        match self.heard {
+            Some(last) => t_train <= last,
+            None => false,
+        }
+    }
+
+    /// Asks the train to end its movement authority before a section (3.8.6), where that may be asked.
+    #[inline(never)]
+    pub fn ask_back(&mut self, line: &Line, s: u16) -> Option<Saying>
+        requires count { self.old.said < 4294967294 }
+        ensures exact { (k : spec.Centre) → HasTrain k self.old.supervision.engine self.old
+            → propose_if_so line.now self.old.supervision.engine s k ≡ asked self.old.supervision.engine self.new (sayings_of result) k }
+        ensures session_state { self.new.session_state ≡ self.old.session_state }
+        ensures heard { self.new.heard ≡ self.old.heard }
+        ensures question { self.new.supervision.asked ≡ self.old.supervision.asked }
+        ensures hand { self.new.supervision.hand ≡ self.old.supervision.hand }
+        ensures number { self.new.supervision.number ≡ self.old.supervision.number }
+        ensures engine { self.new.supervision.engine ≡ self.old.supervision.engine }
+        ensures waiting { self.new.waiting ≡ self.old.waiting }
+        ensures expectations { self.new.expectations ≡ self.old.expectations }
+        ensures said { self.new.said ≤ self.old.said + 1 }
+    {
+        let known = self.known();
+        let asking = ask_back(line, &known, s, self.said + 1)?;
+        self.supervision.propose(asking.proposal);
+        let request = TrackBody::ShorteningRequest(Authority {
+            l_endsection: LEndsection::new(u64::from(asking.l_endsection)),
+        });
+        Some(self.answer(asking.nid_lrbg, request))
+    }
+}
+
+// Room for a start of mission that waits, and for the handovers that other centres announce.
+fn starts_and_handovers(
+    alloc: Global,
+    line: &Line,
+    nid_engine: u32,
+    book: &mut Book,
+) -> Result<(WaitingStart, Expectations), AllocError>
+    ensures waiting { IfOk result (λ made. made.0 ≡ nothing_waits nid_engine false) }
+    ensures count { IfOk result (λ made. length made.1 ≡ length line.now.centres) }
+    ensures none { IfOk result (λ made. (d : ℕ) → expected_from made.1 d ≡ None) }
+    ensures book { IfOk result (λ made. book.new ≡ book.old) }
+{
+    let waiting = WaitingStart::new(alloc, nid_engine)?;
+    match Expectations::new(alloc, line) {
+        Ok(expectations) => Ok((waiting, expectations)),
+        Err(error) => {
+            waiting.end(book);
+            Err(error)
+        }
+    }
+}

@@ -1,5 +1,0 @@
-use Rattle.rbc_whole.proofs.InOrder.{step_in_order}
-use Rattle.rbc_whole.proofs.laws.each_step_tells_in_order.Goals as goal
-
-pub returns : goal.returns
-returns ctx line c k event = step_in_order line c event k

@@ -1,0 +1,12 @@
+//! The connections of trains at a centre: each serves the engine that last opened a session over it, and what the
+//! centre says to an engine goes to the connection that serves it.
+//!
+//! Bodies are free. What goes over a connection is fixed by docs/FORMATS.md.
+#![tactic(auto)]
+
+mod connection;
+mod exchange;
+mod switchboard;
+
+pub use connection::{Connection, Shared};
+pub use exchange::{Exchange, Wire};

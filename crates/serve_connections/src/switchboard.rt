@@ -1,0 +1,104 @@
+ghost use Rattle.std.specs.Prelude.{◌≡◌, IfOk, Some, None, replicate, slice_get, slice_set, option_and_then};
+ghost use Rattle.serve_connections.specs.Serving.{freed, released};
+
+use std::alloc::{AllocError, Global};
+
+/// Which connections there are at a centre, and which of them serves which train. A connection serves one train at most, and a train is
+/// served over one connection at most.
+#[derive(Drop)]
+pub(crate) struct Switchboard<C: Drop> {
+    // By the connections' numbers.
+    connections: Vec<Option<C>>,
+    // By the trains' places in the line file: the number of the connection.
+    serving: Vec<Option<usize>>,
+}
+
+impl<C: Drop> Switchboard<C> {
+    /// Places for so many connections and so many trains.
+    pub fn new(alloc: Global, connections: usize, trains: usize) -> Result<Self, AllocError>
+        ensures connections { IfOk result (λ b. b.connections.items ≡ replicate connections None) }
+        ensures serving { IfOk result (λ b. b.serving.items ≡ replicate trains None) }
+    {
+        let connections = no_places(alloc, connections)?;
+        let serving = vec![in alloc; None; trains]?;
+        Ok(Switchboard {
+            connections,
+            serving,
+        })
+    }
+
+    /// Takes a connection in under its number. It serves no train yet. It is handed back where there is no place of that number.
+    pub fn enter(&mut self, number: usize, connection: C)
+        ensures connections { self.new.connections.items ≡ slice_set self.old.connections.items number (Some connection) }
+        ensures serving { self.new.serving.items ≡ released number self.old.serving.items }
+    {
+        self.release(number);
+        if let Some(place) = self.connections.get_mut(number) {
+            *place = Some(connection);
+        }
+    }
+
+    /// Lets a connection go, which serves no train any more, and gives it if it was there.
+    pub fn leave(&mut self, number: usize) -> Option<C>
+        ensures given { result ≡ option_and_then (λ c. c) (slice_get self.old.connections.items number) }
+        ensures connections { self.new.connections.items ≡ slice_set self.old.connections.items number None }
+        ensures serving { self.new.serving.items ≡ released number self.old.serving.items }
+    {
+        self.release(number);
+        self.connections.get_mut(number)?.take()
+    }
+
+    /// From now on the connection serves this train and no other, and no other connection serves it.
+    pub fn serve(&mut self, number: usize, train: usize)
+        ensures connections { self.new.connections.items ≡ self.old.connections.items }
+        ensures serving { self.new.serving.items ≡ slice_set (released number self.old.serving.items) train (Some number) }
+    {
+        self.release(number);
+        if let Some(place) = self.serving.get_mut(train) {
+            *place = Some(number);
+        }
+    }
+
+    /// The number of the connection that serves a train.
+    pub fn number_for(&self, train: usize) -> Option<usize>
+        ensures { result ≡ option_and_then (λ n. n) (slice_get self.now.serving.items train) }
+    {
+        *self.serving.get(train)?
+    }
+
+    /// The connection of this number, if it is there.
+    pub fn connection(&self, number: usize) -> Option<&C> {
+        self.connections.get(number)?.as_ref()
+    }
+
+    // The connection serves no train.
+    fn release(&mut self, number: usize)
+        ensures connections { self.new.connections.items ≡ self.old.connections.items }
+        ensures serving { self.new.serving.items ≡ released number self.old.serving.items }
+    {
+        for place in self.serving.iter_mut() {
+            *place = freed(number, *place);
+        }
+    }
+}
+
+// Places for so many, with nothing in them.
+fn no_places<C: Drop>(alloc: Global, count: usize) -> Result<Vec<Option<C>>, AllocError>
+    ensures { IfOk result (λ places. places.items ≡ replicate count None) }
+{
+    let mut places = Vec::with_capacity(alloc, count)?;
+    for _ in 0..count {
+        places.push(None)?;
+    }
+    Ok(places)
+}
+
+// What a train is served by, where the connection of this number serves it no more.
+fn freed(number: usize, place: Option<usize>) -> Option<usize>
+    ensures { result ≡ freed number place }
+{
+    match place {
+        Some(serving) if serving == number => None,
+        other => other,
+    }
+}

@@ -1,0 +1,19 @@
+-- The event that is printed of a train's message is the one that happened.
+use Rattle.std.proofs.Common.{◌≡◌, ℕ, Vec, Global, ap, sym, ◌∙◌}
+use Rattle.rbc_spec.specs.World.{Bytes}
+use Rattle.rbc_msgs.specs.TrainText.{TrainText}
+use Rattle.rbc_msgs.specs.TrainSpelling.{SpellsTrain}
+use Rattle.rbc_msgs.proofs.TrainLaws.{read_train-again}
+use Rattle.rbc_centre.specs.Views as centre
+use Rattle.rbc_centre.specs.declared.event.Event.TheVariants.{Train}
+use Rattle.law_logs.specs.Logs.{happened, happening}
+use Rattle.rbc_log.specs.Entries.{entry_of}
+use Rattle.rbc_log.specs.declared.entry.Entry.{Entry}
+use Rattle.rbc_world.specs.Views.{event_of, numbered}
+use Rattle.rbc_world.specs.declared.event.WorldEvent.TheVariants as world
+
+pub message_happened : (e : Entry) (m : TrainText) (bytes : Vec ℕ Global) → e.event ≡ Train m → SpellsTrain bytes.items m →
+    event_of (world.Train e.centre bytes) ≡ happened (entry_of e)
+message_happened e m bytes is spelled =
+    ap (λ read. Bytes e.centre (numbered read)) (read_train-again bytes.items m spelled)
+    ∙ sym (ap (λ event. happening e.centre (centre.event_of event)) is)

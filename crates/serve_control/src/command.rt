@@ -1,0 +1,75 @@
+ghost use Rattle.std.specs.Prelude.{◌≡◌, map, IfOk, IfErr};
+ghost use Rattle.cli_script.specs.Entries.{asked_of, event_of};
+ghost use Rattle.serve_control.specs.Commands.{bidden, bidden_once, Bids, IsNoCommand};
+
+use cli_script::script::{Entry, ScriptFault, script_of};
+use rbc_line::Line;
+use rbc_world::WorldEvent;
+use std::alloc::Global;
+
+/// What a line at the control door asks for.
+#[derive(Clone, Copy, Debug, PartialEq, Eq)]
+pub enum Command {
+    /// The line is skipped.
+    Nothing,
+    /// The interlocking releases a section.
+    Set { centre: u8, section: u16 },
+    /// It takes a section back.
+    Unset { centre: u8, section: u16 },
+    /// Show the line that the centres supervise.
+    Show,
+    /// No connection is taken any more, and the centres end with the last session.
+    Stop,
+}
+
+/// Why a line at the control door is refused.
+#[derive(Clone, Copy, Debug, PartialEq, Eq)]
+pub enum CommandFault {
+    Memory,
+    /// The line has no form that a line at the control door may have.
+    Form,
+}
+
+/// What a line asks for. It has the form of a script's line `set`, `unset` or `show`, or is `stop`.
+pub fn command_of(alloc: Global, line: &Line, row: &str) -> Result<Command, CommandFault>
+    ensures ok { IfOk result (Bids line.now row.now) }
+    ensures err { IfErr result (IsNoCommand line.now row.now) }
+{
+    if row == "stop" {
+        return Ok(Command::Stop);
+    }
+    match script_of(alloc, line, row) {
+        Ok(entries) => command_in(&entries).ok_or(CommandFault::Form),
+        Err(ScriptFault::Memory) => Err(CommandFault::Memory),
+        Err(ScriptFault::Form(_)) => Err(CommandFault::Form),
+    }
+}
+
+// What one entry asks for, or none.
+fn command_in(entries: &[Entry]) -> Option<Command>
+    ensures { result ≡ bidden (map asked_of entries.now) }
+{
+    match entries {
+        [] => Some(Command::Nothing),
+        [Entry::Show] => Some(Command::Show),
+        [Entry::Event(event)] => command_by(event),
+        _ => None,
+    }
+}
+
+// What comes from a train or over a link does not come through the control door.
+fn command_by(event: &WorldEvent) -> Option<Command>
+    ensures { result ≡ bidden_once (event_of event.now) }
+{
+    match event {
+        WorldEvent::Set { centre, section } => Some(Command::Set {
+            centre: *centre,
+            section: *section,
+        }),
+        WorldEvent::Unset { centre, section } => Some(Command::Unset {
+            centre: *centre,
+            section: *section,
+        }),
+        WorldEvent::Train { .. } | WorldEvent::Deliver { .. } => None,
+    }
+}

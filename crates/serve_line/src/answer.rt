@@ -1,0 +1,71 @@
+use crate::hall::Hall;
+use crate::roster::Roster;
+use crate::show::show;
+use cli_print::{name_of, print_event, print_outcome};
+use cli_status::Fault;
+use rbc_centre::Event;
+use rbc_node::Share;
+use rbc_world::WorldEvent;
+use serve_control::Command;
+use std::io::Write;
+use std::sync::Wait;
+
+/// What a line of another form is answered.
+pub(crate) const SCRIPT_FAULT: &str = "script fault\n";
+
+/// Does what a line at the control door asks for, and writes what a run prints of it. A commit that is refused is told with its number.
+pub(crate) fn answer<R: Wait>(
+    rt: &R,
+    hall: &Hall<'_>,
+    shares: &mut [Share],
+    roster: &mut Roster,
+    command: Command,
+    text: &mut Vec<u8>,
+) -> Result<(), Fault<'static>> {
+    match command {
+        Command::Nothing | Command::Stop => Ok(()),
+        Command::Show => show(rt, hall, roster, text),
+        Command::Set { centre, section } => {
+            let event = WorldEvent::Set { centre, section };
+            commit(rt, hall, shares, centre, Event::Set(section), &event, text)
+        }
+        Command::Unset { centre, section } => {
+            let event = WorldEvent::Unset { centre, section };
+            commit(
+                rt,
+                hall,
+                shares,
+                centre,
+                Event::Unset(section),
+                &event,
+                text,
+            )
+        }
+    }
+}
+
+// Commits an event of the interlocking at a centre.
+fn commit<R: Wait>(
+    rt: &R,
+    hall: &Hall<'_>,
+    shares: &mut [Share],
+    centre: u8,
+    event: Event,
+    printed: &WorldEvent,
+    text: &mut Vec<u8>,
+) -> Result<(), Fault<'static>> {
+    let (Some(desk), Some(share)) = (hall.desk(centre), shares.get_mut(centre as usize)) else {
+        return Ok(());
+    };
+    match desk.commit(rt, share, event) {
+        Ok(outcome) => {
+            print_event(hall.alloc, text, hall.line, printed)?;
+            let name = name_of(hall.line, centre);
+            print_outcome(hall.alloc, text, hall.line, name, &outcome)
+        }
+        Err(fault) => {
+            writeln!(text, "refused {}", fault.number())?;
+            Ok(())
+        }
+    }
+}

@@ -1,0 +1,148 @@
+use crate::doors::Listening;
+use crate::hall::{Caller, DirectedLink, Door, Seat};
+use crate::limits::{CELLS, CONTROLS, SPARE};
+use rbc_board::CellBoard;
+use rbc_line::Line;
+use rbc_node::{Node, Share};
+use serve_connections::Exchange;
+use std::alloc::{AllocError, Global};
+use std::sync::Mutex;
+use std::sync::atomic::AtomicBool;
+use std::thread::Parker;
+
+// How many connections a centre of the line serves at once.
+fn most_trains(line: &Line) -> usize {
+    line.train_count() as usize + SPARE
+}
+
+/// A node for each centre of the line.
+pub(crate) fn nodes_of(alloc: Global, line: &Line) -> Result<Vec<Node>, AllocError> {
+    let mut nodes = Vec::new(alloc);
+    for centre in 0..line.centre_count() {
+        nodes.push(Node::new(alloc, line, centre)?)?;
+    }
+    Ok(nodes)
+}
+
+/// The doors of the centres, and behind them the control door, each with its seats.
+pub(crate) fn doors_of(
+    alloc: Global,
+    line: &Line,
+    nodes: &[Node],
+    listening: Vec<Listening>,
+) -> Result<Vec<Door>, AllocError> {
+    let mut doors = Vec::new(alloc);
+    for (number, listening) in listening.into_iter().enumerate() {
+        doors.push(door_of(alloc, line, nodes, number, listening)?)?;
+    }
+    Ok(doors)
+}
+
+// The door of this number: that of a centre, or behind those the control door.
+fn door_of(
+    alloc: Global,
+    line: &Line,
+    nodes: &[Node],
+    number: usize,
+    listening: Listening,
+) -> Result<Door, AllocError> {
+    let (caller, count, reached) = match nodes.get(number) {
+        Some(node) => (
+            Caller::Trains(node.share().centre()),
+            most_trains(line),
+            &nodes[number..=number],
+        ),
+        None => (Caller::Interlocking, CONTROLS, nodes),
+    };
+    let seats = seats_of(alloc, count, reached)?;
+    Ok(Door {
+        listener: listening.listener,
+        address: listening.address,
+        caller,
+        seats,
+        bell: Parker::new(),
+    })
+}
+
+// So many seats, from which these nodes are reached.
+fn seats_of(alloc: Global, count: usize, nodes: &[Node]) -> Result<Vec<Seat>, AllocError> {
+    let mut seats = Vec::with_capacity(alloc, count)?;
+    for number in 0..count {
+        seats.push(seat_of(alloc, number, nodes)?)?;
+    }
+    Ok(seats)
+}
+
+// The seat of this number, which is free.
+fn seat_of(alloc: Global, number: usize, nodes: &[Node]) -> Result<Seat, AllocError> {
+    let mut shares = Vec::with_capacity(alloc, nodes.len())?;
+    for node in nodes {
+        shares.push(node.share())?;
+    }
+    Ok(Seat {
+        number,
+        is_taken: AtomicBool::new(false),
+        shares: Mutex::new(shares),
+    })
+}
+
+/// The links of the line, each in one direction.
+pub(crate) fn links_of(
+    alloc: Global,
+    line: &Line,
+    nodes: &[Node],
+) -> Result<Vec<DirectedLink>, AllocError> {
+    let mut links = Vec::new(alloc);
+    for from in 0..line.centre_count() {
+        for node in nodes {
+            let share = node.share();
+            if line.linked(from, share.centre()) {
+                links.push(link_of(alloc, from, share)?)?;
+            }
+        }
+    }
+    Ok(links)
+}
+
+// The link from a centre to that of the share.
+fn link_of(alloc: Global, from: u8, share: Share) -> Result<DirectedLink, AllocError> {
+    let board = CellBoard::new(alloc, CELLS)?;
+    Ok(DirectedLink {
+        from,
+        to: share.centre(),
+        board,
+        put: Parker::new(),
+        share: Mutex::new(share),
+    })
+}
+
+/// For each centre the bells of its links, by the numbers of the centres that they lead to.
+pub(crate) fn bells_of(alloc: Global, line: &Line) -> Result<Vec<Vec<Parker>>, AllocError> {
+    let mut bells = Vec::new(alloc);
+    for _ in 0..line.centre_count() {
+        bells.push(bells_from(alloc, line)?)?;
+    }
+    Ok(bells)
+}
+
+// The bells of the links from one centre.
+fn bells_from(alloc: Global, line: &Line) -> Result<Vec<Parker>, AllocError> {
+    let mut bells = Vec::new(alloc);
+    for _ in 0..line.centre_count() {
+        bells.push(Parker::new())?;
+    }
+    Ok(bells)
+}
+
+/// For each centre the connections of its trains.
+pub(crate) fn exchanges_of<'a>(
+    alloc: Global,
+    line: &'a Line,
+    bells: &'a [Vec<Parker>],
+) -> Result<Vec<Exchange<'a>>, AllocError> {
+    let mut exchanges = Vec::new(alloc);
+    for row in bells {
+        exchanges.push(Exchange::new(alloc, line, most_trains(line), row.as_slice())?)?;
+    }
+    Ok(exchanges)
+}

@@ -1,0 +1,106 @@
+use crate::answer::{SCRIPT_FAULT, answer};
+use crate::hall::{Hall, Seat};
+use crate::limits::{CONTROL_REST, set_waits};
+use crate::notes::Notes;
+use crate::roster::Roster;
+use crate::rows::{Came, RowReader};
+use rbc_node::Share;
+use serve_control::{Command, CommandFault, command_of};
+use std::io::Write;
+use std::net::TcpStream;
+use std::sync::Wait;
+use std::time::Duration;
+
+/// How a connection of the interlocking went on behind a line, and how it ended.
+#[derive(Clone, Copy, PartialEq, Eq)]
+enum Next {
+    /// The next line may come.
+    Listen,
+    /// No further line is taken.
+    End,
+    /// The centres are to end.
+    Stop,
+}
+
+/// Serves a connection of the interlocking to its end.
+pub(crate) fn serve_control<R: Wait, N: Notes>(
+    rt: &R,
+    hall: &Hall<'_>,
+    notes: &N,
+    seat: &Seat,
+    stream: &TcpStream,
+) {
+    let number = seat.number;
+    notes.note(format_args!("control: connection {number} begins"));
+    set_waits(stream, Duration::from_millis(CONTROL_REST));
+    let mut shares = seat.shares.lock(rt);
+    if answer_rows(rt, hall, notes, shares.as_mut_slice(), stream) == Next::Stop {
+        notes.note(format_args!("control: connection {number} says stop"));
+        hall.stop();
+    }
+    notes.note(format_args!("control: connection {number} ends"));
+}
+
+// Answers the lines of a connection, until none comes any more, or all sessions have ended.
+fn answer_rows<R: Wait, N: Notes>(
+    rt: &R,
+    hall: &Hall<'_>,
+    notes: &N,
+    shares: &mut [Share],
+    stream: &TcpStream,
+) -> Next {
+    let Ok(mut roster) = Roster::new(hall.alloc, hall.line) else {
+        return Next::End;
+    };
+    let mut rows = RowReader::new(hall.alloc, stream);
+    for _ in rt.forever() {
+        let next = match rows.next() {
+            Came::Row(row) => answer_row(rt, hall, notes, shares, &mut roster, &row, stream),
+            Came::Nothing if hall.state.is_empty() => Next::End,
+            Came::Nothing => Next::Listen,
+            Came::End => Next::End,
+        };
+        if next != Next::Listen {
+            return next;
+        }
+    }
+    unreachable!()
+}
+
+// Answers one line.
+fn answer_row<R: Wait, N: Notes>(
+    rt: &R,
+    hall: &Hall<'_>,
+    notes: &N,
+    shares: &mut [Share],
+    roster: &mut Roster,
+    row: &[u8],
+    stream: &TcpStream,
+) -> Next {
+    let Ok(row) = std::str::from_utf8(row) else {
+        return send(stream, SCRIPT_FAULT.as_bytes());
+    };
+    let command = match command_of(hall.alloc, hall.line, row) {
+        Ok(Command::Stop) => return Next::Stop,
+        Ok(command) => command,
+        Err(CommandFault::Form) => {
+            notes.note("control: a line is refused, script fault");
+            return send(stream, SCRIPT_FAULT.as_bytes());
+        }
+        Err(CommandFault::Memory) => return Next::End,
+    };
+    let mut text = Vec::new(hall.alloc);
+    match answer(rt, hall, shares, roster, command, &mut text) {
+        Ok(()) => send(stream, text.as_slice()),
+        Err(_) => Next::End,
+    }
+}
+
+// Writes an answer. A connection that does not take it ends.
+fn send(stream: &TcpStream, text: &[u8]) -> Next {
+    let mut out = stream;
+    match out.write_all(text) {
+        Ok(()) => Next::Listen,
+        Err(_) => Next::End,
+    }
+}

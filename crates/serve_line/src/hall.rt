@@ -1,0 +1,160 @@
+use cli_print::name_of;
+use rbc_board::CellBoard;
+use rbc_line::Line;
+use rbc_node::{Node, Open, Share};
+use serve_connections::Exchange;
+use serve_workers::Desk;
+use std::alloc::Global;
+use std::net::{SocketAddr, TcpListener};
+use std::sync::Mutex;
+use std::sync::atomic::{AtomicBool, AtomicU64, Ordering};
+use std::thread::Parker;
+
+/// Who comes through a door.
+#[derive(Clone, Copy)]
+pub(crate) enum Caller {
+    /// Trains, to the centre of this number.
+    Trains(u8),
+    Interlocking,
+}
+
+/// A place for one connection at a time, and the receipts of what is committed over it: a share for each centre that it reaches.
+#[derive(Drop)]
+pub(crate) struct Seat {
+    pub number: usize,
+    pub is_taken: AtomicBool,
+    pub shares: Mutex<Vec<Share>>,
+}
+
+/// A port that connections come to.
+#[derive(Drop)]
+pub(crate) struct Door {
+    pub listener: TcpListener,
+    pub address: SocketAddr,
+    pub caller: Caller,
+    pub seats: Vec<Seat>,
+    /// Rung where the door is to close.
+    pub bell: Parker,
+}
+
+impl Door {
+    /// A seat that is free, which is taken now. Only the thread at the door calls it.
+    pub fn free_seat(&self) -> Option<&Seat> {
+        for seat in &self.seats {
+            if !seat.is_taken.load(Ordering::SeqCst) {
+                seat.is_taken.store(true, Ordering::SeqCst);
+                return Some(seat);
+            }
+        }
+        None
+    }
+}
+
+/// The link from one centre to another.
+#[derive(Drop)]
+pub(crate) struct DirectedLink {
+    pub from: u8,
+    pub to: u8,
+    pub board: CellBoard,
+    /// Rung where a frame was put on the link.
+    pub put: Parker,
+    /// The receipts of the frames that came over it.
+    pub share: Mutex<Share>,
+}
+
+/// Whether the centres still run.
+#[derive(Drop)]
+pub(crate) struct State {
+    /// No connection is taken any more.
+    is_stopped: AtomicBool,
+    /// How many doors of centres are open or have connections still.
+    doors: AtomicU64,
+    /// No connection is left: nothing new comes to the links.
+    pub is_over: AtomicBool,
+    /// Memory ran out, or a thread could not be made.
+    has_failed: AtomicBool,
+}
+
+impl State {
+    pub fn new(centres: u8) -> State {
+        State {
+            is_stopped: AtomicBool::new(false),
+            doors: AtomicU64::new(u64::from(centres)),
+            is_over: AtomicBool::new(false),
+            has_failed: AtomicBool::new(false),
+        }
+    }
+
+    /// Whether no connection is taken any more.
+    pub fn is_stopped(&self) -> bool {
+        self.is_stopped.load(Ordering::SeqCst)
+    }
+
+    /// A centre's door has closed, and its last session has ended.
+    pub fn close_door(&self) {
+        self.doors.fetch_sub(1, Ordering::SeqCst);
+    }
+
+    /// Whether all sessions have ended.
+    pub fn is_empty(&self) -> bool {
+        self.doors.load(Ordering::SeqCst) == 0
+    }
+
+    /// Nothing new comes from here on.
+    pub fn end(&self) {
+        self.is_over.store(true, Ordering::SeqCst);
+    }
+
+    pub fn has_failed(&self) -> bool {
+        self.has_failed.load(Ordering::SeqCst)
+    }
+}
+
+/// All that the workers share.
+#[derive(Drop)]
+pub(crate) struct Hall<'a> {
+    pub alloc: Global,
+    pub line: &'a Line,
+    pub nodes: &'a [Node],
+    pub exchanges: &'a [Exchange<'a>],
+    pub doors: &'a [Door],
+    pub links: &'a [DirectedLink],
+    /// The bells of the links from each centre: all of a centre are rung together.
+    pub bells: &'a [Vec<Parker>],
+    pub state: &'a State,
+}
+
+impl Hall<'_> {
+    /// A centre as its workers see it.
+    pub fn desk(&self, centre: u8) -> Option<Desk<'_, Open, Exchange<'_>>> {
+        let node = self.nodes.get(centre as usize)?;
+        let outlet = self.exchanges.get(centre as usize)?;
+        Some(Desk {
+            node,
+            gate: &Open,
+            outlet,
+        })
+    }
+
+    /// What a caller's notes begin with.
+    pub fn name(&self, caller: Caller) -> &str {
+        match caller {
+            Caller::Trains(centre) => name_of(self.line, centre),
+            Caller::Interlocking => "control",
+        }
+    }
+
+    /// No connection is taken from now on.
+    pub fn stop(&self) {
+        self.state.is_stopped.store(true, Ordering::SeqCst);
+        for door in self.doors {
+            door.bell.unpark();
+        }
+    }
+
+    /// The centres can't go on: they stop, and print nothing.
+    pub fn fail(&self) {
+        self.state.has_failed.store(true, Ordering::SeqCst);
+        self.stop();
+    }
+}

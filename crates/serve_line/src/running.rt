@@ -1,0 +1,191 @@
+use crate::build::{bells_of, doors_of, exchanges_of, links_of, nodes_of};
+use crate::control::serve_control;
+use crate::doors::Doors;
+use crate::hall::{Caller, DirectedLink, Door, Hall, Seat, State};
+use crate::limits::DOOR_REST;
+use crate::links::{receive, send};
+use crate::notes::Notes;
+use crate::sessions::serve_train;
+use rbc_line::Line;
+use rbc_node::{Node, Share, gather};
+use serve_control::{ServeFault, print_family};
+use std::alloc::{AllocError, Global};
+use std::io::Write;
+use std::net::TcpStream;
+use std::sync::Wait;
+use std::sync::atomic::Ordering;
+use std::thread;
+use std::thread::Threads;
+use std::time::Duration;
+
+/// Runs the centres of the line until the interlocking says `stop` and all sessions have ended. Then it gathers their logs, merges them, and
+/// prints all events with what they led to, and the line, as a run does.
+pub fn serve<R: Threads + Wait + Sync, N: Notes + Sync, O: Write>(
+    rt: &R,
+    alloc: Global,
+    line: &Line,
+    doors: Doors,
+    notes: &N,
+    out: &mut O,
+) -> Result<(), ServeFault> {
+    let nodes = nodes_of(alloc, line)?;
+    let doors = doors_of(alloc, line, &nodes, doors.all())?;
+    let links = links_of(alloc, line, &nodes)?;
+    run_centres(rt, alloc, line, &nodes, &doors, &links, notes)?;
+    let shares = shares_of(alloc, doors, links)?;
+    notes.note("all sessions have ended");
+    let family = gather(alloc, nodes, shares)?;
+    print_family(alloc, line, &family, out)
+}
+
+// Runs all workers to their ends.
+fn run_centres<R: Threads + Wait + Sync, N: Notes + Sync>(
+    rt: &R,
+    alloc: Global,
+    line: &Line,
+    nodes: &[Node],
+    doors: &[Door],
+    links: &[DirectedLink],
+    notes: &N,
+) -> Result<(), AllocError> {
+    let bells = bells_of(alloc, line)?;
+    let exchanges = exchanges_of(alloc, line, &bells)?;
+    let state = State::new(line.centre_count());
+    let hall = Hall {
+        alloc,
+        line,
+        nodes,
+        exchanges: &exchanges,
+        doors,
+        links,
+        bells: &bells,
+        state: &state,
+    };
+    run_links(rt, &hall, notes);
+    if state.has_failed() {
+        return Err(AllocError);
+    }
+    Ok(())
+}
+
+// Carries frames for as long as the doors are open: two workers a link.
+fn run_links<R: Threads + Wait + Sync, N: Notes + Sync>(rt: &R, hall: &Hall<'_>, notes: &N) {
+    thread::scope(thread::scope_env(), rt, |scope| {
+        for link in hall.links {
+            if scope.spawn(move || send(rt, hall, link)).is_err()
+                || scope.spawn(move || receive(rt, hall, link)).is_err()
+            {
+                hall.fail();
+            }
+        }
+        run_doors(rt, hall, notes);
+        hall.state.end();
+    });
+}
+
+// Lets callers in at each door, until the interlocking says `stop` and the last of them is gone.
+fn run_doors<R: Threads + Wait + Sync, N: Notes + Sync>(rt: &R, hall: &Hall<'_>, notes: &N) {
+    thread::scope(thread::scope_env(), rt, |scope| {
+        for door in hall.doors {
+            let name = hall.name(door.caller);
+            notes.note(format_args!("{name}: listens on {}", door.address));
+            if scope
+                .spawn(move || run_door(rt, hall, notes, door))
+                .is_err()
+            {
+                hall.state.close_door();
+                hall.fail();
+            }
+        }
+    });
+}
+
+// Lets callers in at one door. It returns with the last of them.
+fn run_door<R: Threads + Wait + Sync, N: Notes + Sync>(
+    rt: &R,
+    hall: &Hall<'_>,
+    notes: &N,
+    door: &Door,
+) {
+    thread::scope(thread::scope_env(), rt, |scope| {
+        for _ in rt.forever() {
+            if hall.state.is_stopped() {
+                break;
+            }
+            let Some((stream, seat)) = next_caller(rt, hall, notes, door) else {
+                continue;
+            };
+            let caller = door.caller;
+            if scope
+                .spawn(move || attend(rt, hall, notes, caller, seat, stream))
+                .is_err()
+            {
+                seat.is_taken.store(false, Ordering::SeqCst);
+                notes.note("a connection is refused, no thread could be made");
+            }
+        }
+    });
+    if let Caller::Trains(_) = door.caller {
+        hall.state.close_door();
+    }
+}
+
+// Who comes through a door now, with a seat. It rests a while where nobody comes, and refuses who finds no free seat.
+fn next_caller<'a, R: Wait, N: Notes>(
+    rt: &R,
+    hall: &Hall<'_>,
+    notes: &N,
+    door: &'a Door,
+) -> Option<(TcpStream, &'a Seat)> {
+    let Ok((stream, _)) = door.listener.accept() else {
+        door.bell.park_timeout(rt, Duration::from_millis(DOOR_REST));
+        return None;
+    };
+    let Some(seat) = door.free_seat() else {
+        let name = hall.name(door.caller);
+        notes.note(format_args!("{name}: a connection is refused, there are too many"));
+        return None;
+    };
+    Some((stream, seat))
+}
+
+// Serves one connection, and leaves its seat.
+fn attend<R: Threads + Wait + Sync, N: Notes + Sync>(
+    rt: &R,
+    hall: &Hall<'_>,
+    notes: &N,
+    caller: Caller,
+    seat: &Seat,
+    stream: TcpStream,
+) {
+    match caller {
+        Caller::Trains(centre) => serve_train(rt, hall, notes, centre, seat, stream),
+        Caller::Interlocking => serve_control(rt, hall, notes, seat, &stream),
+    }
+    seat.is_taken.store(false, Ordering::SeqCst);
+}
+
+// The receipts of all that was committed.
+fn shares_of(
+    alloc: Global,
+    doors: Vec<Door>,
+    links: Vec<DirectedLink>,
+) -> Result<Vec<Share>, AllocError> {
+    let mut all = Vec::new(alloc);
+    for door in doors {
+        add_shares(&mut all, door.seats)?;
+    }
+    for link in links {
+        all.push(link.share.into_inner())?;
+    }
+    Ok(all)
+}
+
+// Adds the receipts of what was committed from these seats.
+fn add_shares(all: &mut Vec<Share>, seats: Vec<Seat>) -> Result<(), AllocError> {
+    for seat in seats {
+        let mut shares = seat.shares.into_inner();
+        all.append(&mut shares)?;
+    }
+    Ok(())
+}

@@ -1,0 +1,145 @@
+use crate::hall::{Hall, Seat};
+use crate::limits::{REPLIES, SILENCE, set_waits};
+use crate::noted::NotedWire;
+use crate::notes::Notes;
+use cli_print::name_of;
+use crossbeam_channel::{Receiver, bounded};
+use rbc_node::{Node, Open};
+use serve_connections::{Connection, Exchange, Shared, Wire};
+use serve_reading::Reads;
+use serve_workers::{SessionEnd, run_session};
+use serve_writing::{Pipe, Reply, run_writer};
+use std::alloc::{AllocError, Global};
+use std::net::{Shutdown, TcpStream};
+use std::sync::{Arc, Wait};
+use std::thread;
+use std::thread::Threads;
+use std::time::Duration;
+
+/// Serves a train's connection at a centre to its end.
+pub(crate) fn serve_train<R: Threads + Wait + Sync, N: Notes + Sync>(
+    rt: &R,
+    hall: &Hall<'_>,
+    notes: &N,
+    centre: u8,
+    seat: &Seat,
+    stream: TcpStream,
+) {
+    let name = name_of(hall.line, centre);
+    let number = seat.number;
+    let at = centre as usize;
+    let (Some(node), Some(exchange)) = (hall.nodes.get(at), hall.exchanges.get(at)) else {
+        return;
+    };
+    let Ok(ends) = entered(rt, hall.alloc, exchange, number, stream) else {
+        notes.note(format_args!("{name}: a train is refused, memory ran out"));
+        return;
+    };
+    notes.note(format_args!("{name}: train connection {number} begins"));
+    let noted = NotedWire {
+        wire: Wire { exchange, number },
+        notes,
+        name,
+    };
+    let end = read_and_write(rt, hall.alloc, node, seat, &ends, &noted);
+    tell_end(notes, name, number, end);
+}
+
+// What the two threads of a connection have of it.
+#[derive(Drop)]
+struct Ends {
+    stream: Arc<TcpStream, Global>,
+    pipe: Arc<Pipe<Shared>, Global>,
+    replies: Receiver<Reply>,
+}
+
+// Takes the connection into the exchange.
+fn entered<R: Wait>(
+    rt: &R,
+    alloc: Global,
+    exchange: &Exchange<'_>,
+    number: usize,
+    stream: TcpStream,
+) -> Result<Ends, AllocError> {
+    set_waits(&stream, Duration::from_secs(SILENCE));
+    let (ends, connection) = ends_of(alloc, stream)?;
+    exchange.enter(rt, number, connection)?;
+    Ok(ends)
+}
+
+// What the threads of a connection have of it, and what the exchange has.
+fn ends_of(alloc: Global, stream: TcpStream) -> Result<(Ends, Connection), AllocError> {
+    let stream = Arc::new(alloc, stream)?;
+    let pipe = Arc::new(alloc, Pipe::new(Shared(Arc::try_clone(&stream)?)))?;
+    let (sender, replies) = bounded(alloc, REPLIES)?;
+    let connection = Connection::new(sender, Arc::try_clone(&pipe)?, Arc::try_clone(&stream)?);
+    let ends = Ends {
+        stream,
+        pipe,
+        replies,
+    };
+    Ok((ends, connection))
+}
+
+// Reads and writes the connection, each in a thread, and says how it ended: none where the train was too slow to take its answers.
+fn read_and_write<R: Threads + Wait + Sync, N: Notes + Sync>(
+    rt: &R,
+    alloc: Global,
+    node: &Node,
+    seat: &Seat,
+    ends: &Ends,
+    noted: &NotedWire<'_, N>,
+) -> Option<SessionEnd> {
+    let (end, ()) = thread::join(
+        rt,
+        || read_messages(rt, alloc, node, seat, &ends.stream, noted),
+        || write_replies(rt, ends),
+    );
+    end
+}
+
+// Commits what the train says, and says how the session ended: none where the train was too slow to take its answers.
+fn read_messages<R: Wait, N: Notes>(
+    rt: &R,
+    alloc: Global,
+    node: &Node,
+    seat: &Seat,
+    stream: &TcpStream,
+    noted: &NotedWire<'_, N>,
+) -> Option<SessionEnd> {
+    let mut shares = seat.shares.lock(rt);
+    let share = shares.first_mut()?;
+    let mut source = Reads::new(stream);
+    let end = run_session(rt, alloc, node, &Open, share, &mut source, noted);
+    if noted.wire.exchange.leave(rt, seat.number) {
+        Some(end)
+    } else {
+        None
+    }
+}
+
+// Writes the replies of a connection that wait. Behind the last one the connection is ended for the reader too.
+fn write_replies<R: Wait>(rt: &R, ends: &Ends) {
+    let _ = run_writer(rt, &ends.replies, &mut ends.pipe.end(rt));
+    let _ = ends.stream.shutdown(Shutdown::Both);
+}
+
+fn tell_end<N: Notes>(notes: &N, name: &str, number: usize, end: Option<SessionEnd>) {
+    match ending(end) {
+        (told, Some(fault)) => {
+            notes.note(format_args!("{name}: train connection {number} {told} {fault}"));
+        }
+        (told, None) => notes.note(format_args!("{name}: train connection {number} {told}")),
+    }
+}
+
+// What is noted of an end, with the number of its fault.
+fn ending(end: Option<SessionEnd>) -> (&'static str, Option<u8>) {
+    match end {
+        Some(SessionEnd::EndOfStream) => ("ends", None),
+        Some(SessionEnd::Fault(fault)) => ("is ended, stream fault", Some(fault.number())),
+        Some(SessionEnd::Device) => ("is lost", None),
+        Some(SessionEnd::Refused(fault)) => ("is ended, refused", Some(fault.number())),
+        None => ("is cut, its train is too slow", None),
+    }
+}

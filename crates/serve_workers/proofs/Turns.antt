@@ -1,0 +1,112 @@
+-- One turn of a session: a piece that came, the messages that are whole with it, and what is left.
+use Rattle.std.proofs.Common.{◌≡◌, ℕ, List, [], ◌∷◌, ◌++◌, Option, Some, None, Result, Ok, Err, refl, sym, ap, ◌∙◌, subst, append_assoc, append-nil}
+use Rattle.std.proofs.lemmas.Option.{none-some, same_Some}
+use Rattle.std.specs.Io.KnownBytes.{Consumes}
+use Rattle.rbc_msgs.specs.TrainText.{TrainText}
+use Rattle.rbc_msgs.specs.Streams.{IsRest, Spell, Adds}
+use Rattle.rbc_msgs.specs.declared.fault.StreamFault.TheVariants.{Message, Failed}
+use Rattle.rbc_msgs.proofs.Streams.{adds-none, adds-then, adds-behind}
+use Rattle.serve_reading.specs.Intake.{Brings}
+use Rattle.serve_reading.specs.Intake as intake
+use Rattle.serve_reading.specs.declared.reading.IntakeEnd.{IntakeEnd}
+use Rattle.serve_reading.specs.declared.reading.IntakeEnd.TheVariants as end
+use Rattle.rbc_node.specs.Receipts.{ShareValue}
+use Rattle.rbc_node.specs.declared.fault.ShareFault.{ShareFault}
+use Rattle.serve_workers.specs.declared.end.SessionEnd.TheVariants.{Refused}
+use Rattle.serve_workers.specs.Ends.{end_of_intake}
+use Rattle.serve_workers.specs.Session.{Joins, CommitsAll, Shows, LeavesSo, Serves}
+use Rattle.serve_workers.proofs.Joins.{joins-then}
+
+-- the messages that were added to none
+of_adds : (ms : List TrainText) (bytes rest : List ℕ) → Adds [] ms bytes rest → Spell bytes ms rest
+of_adds ms bytes rest h = subst (λ xs. Spell bytes xs rest) (sym h.behind) h.spelled
+
+-- where a row of messages is cut
+pub spell-split : (ms ns : List TrainText) (a s : List ℕ) → Spell a (ms ++ ns) s → (r : List ℕ) × Spell a ms r × Spell r ns s
+spell-split [] ns a s h = (a, refl, h)
+spell-split (m ∷ ms) ns a s h = let rest = spell-split ms ns h.1 s h.4 in (rest.0, (h.0, h.1, h.2, h.3, rest.1), rest.2)
+
+-- what is left behind the messages of one read
+abbrev pub Leaves : List ℕ → Option (List ℕ) → Result (Unit {0}) IntakeEnd → Type 0
+Leaves rest after (Ok _) = (after ≡ Some rest) × IsRest rest
+Leaves rest after (Err end.EndOfStream) = IsRest rest
+Leaves rest after (Err end.Device) = IsRest rest
+Leaves rest after (Err (end.Fault fault)) = Shows rest fault
+
+-- one read: the messages, and what they leave of the bytes that were kept and the piece
+pub record IsTurn (kept piece : List ℕ) (messages : List TrainText) (after : Option (List ℕ)) (result : Result (Unit {0}) IntakeEnd) : Type 0 where
+  pub rest : List ℕ
+  pub adds : Adds [] messages (kept ++ piece) rest
+  pub leaves : Leaves rest after result
+
+quiet : (kept piece : List ℕ) (messages : List TrainText) (after : Option (List ℕ)) → intake.IsQuiet (Some kept) piece [] messages after → Adds [] messages (kept ++ piece) kept
+quiet kept piece messages after h =
+    subst (λ ms. Adds [] ms (kept ++ piece) kept) (sym h.messages)
+    (subst (λ bytes. Adds [] [] bytes kept) (sym (ap (λ xs. kept ++ xs) h.nothing ∙ append-nil kept)) (adds-none [] kept))
+
+pub turn : (kept piece : List ℕ) (old messages : List TrainText) (before after : Option (List ℕ)) (result : Result (Unit {0}) IntakeEnd)
+    → IsRest kept → before ≡ Some kept → old ≡ [] → Brings before piece old messages result after → IsTurn kept piece messages after result
+turn kept piece old messages before after (Ok x) is_rest was none h =
+    let same : h.kept ≡ kept = same_Some h.kept kept (sym h.was ∙ was) in
+    let adds : Adds [] messages (kept ++ piece) h.rest = subst (λ ms. Adds ms messages (kept ++ piece) h.rest) none (subst (λ k. Adds old messages (k ++ piece) h.rest) same h.adds) in
+    record { rest = h.rest; adds = adds; leaves = (h.now, h.ends) }
+turn kept piece old messages before after (Err end.EndOfStream) is_rest was none h =
+    record { rest = kept; adds = quiet kept piece messages after (record { nothing = h.nothing; messages = h.messages ∙ none; stream = h.stream ∙ was }); leaves = is_rest }
+turn kept piece old messages before after (Err end.Device) is_rest was none h =
+    record { rest = kept; adds = quiet kept piece messages after (record { nothing = h.nothing; messages = h.messages ∙ none; stream = h.stream ∙ was }); leaves = is_rest }
+turn kept piece old messages before after (Err (end.Fault (Message fault))) is_rest was none h =
+    let same : h.kept ≡ kept = same_Some h.kept kept (sym h.was ∙ was) in
+    let halts = h.halts in
+    let adds : Adds [] messages (kept ++ piece) halts.rest = subst (λ ms. Adds ms messages (kept ++ piece) halts.rest) none (subst (λ k. Adds old messages (k ++ piece) halts.rest) same halts.adds) in
+    record { rest = halts.rest; adds = adds; leaves = halts.shows }
+turn kept piece old messages before after (Err (end.Fault Failed)) is_rest was none h =
+    absurd (none-some kept (sym h.was ∙ was))
+
+-- all turns so far, and one more
+pub adds-turn : (read kept piece rest : List ℕ) (done messages : List TrainText) → Adds [] done read kept → Adds [] messages (kept ++ piece) rest → Adds [] (done ++ messages) (read ++ piece) rest
+adds-turn read kept piece rest done messages before now =
+    let behind : Adds done (done ++ messages) (kept ++ piece) rest = record { messages = messages; behind = refl; spelled = of_adds messages (kept ++ piece) rest now } in
+    adds-then [] done (done ++ messages) (read ++ piece) (kept ++ piece) rest (adds-behind [] done read kept piece before) behind
+
+-- the session ends as the reading did
+leaves-end : (c : ℕ) (share : ShareValue) (rest : List ℕ) (after : Option (List ℕ)) (e : IntakeEnd) → Leaves rest after (Err e) → LeavesSo c share rest (end_of_intake e)
+leaves-end c share rest after end.EndOfStream h = h
+leaves-end c share rest after end.Device h = h
+leaves-end c share rest after (end.Fault fault) h = h
+
+pub serves-end : (c : ℕ) (old mid new : ShareValue) (read kept piece : List ℕ) (done messages : List TrainText) (after : Option (List ℕ)) (e : IntakeEnd)
+    → Adds [] done read kept → Joins old mid done → IsTurn kept piece messages after (Err e) → Joins mid new messages → Serves c old new (read ++ piece) (end_of_intake e)
+serves-end c old mid new read kept piece done messages after e before joins t joined =
+    record {
+      messages = done ++ messages;
+      rest = t.rest;
+      spelled = of_adds (done ++ messages) (read ++ piece) t.rest (adds-turn read kept piece t.rest done messages before t.adds);
+      joins = joins-then old mid new done messages joins joined;
+      leaves = leaves-end c new t.rest after e t.leaves;
+    }
+
+-- a message of the turn was refused
+pub serves-refused : (c : ℕ) (old mid new : ShareValue) (read kept piece : List ℕ) (done messages : List TrainText) (after : Option (List ℕ)) (result : Result (Unit {0}) IntakeEnd) (fault : ShareFault)
+    → Adds [] done read kept → Joins old mid done → IsTurn kept piece messages after result → CommitsAll c mid new messages (Err fault) → Serves c old new (read ++ piece) (Refused fault)
+serves-refused c old mid new read kept piece done messages after result fault before joins t h =
+    let these = h.0 in
+    let next = h.1 in
+    let later = h.2 in
+    let all : Spell (read ++ piece) (done ++ messages) t.rest = of_adds (done ++ messages) (read ++ piece) t.rest (adds-turn read kept piece t.rest done messages before t.adds) in
+    let parts : done ++ messages ≡ (done ++ these) ++ next ∷ later = ap (λ xs. done ++ xs) h.3 ∙ sym (append_assoc done these (next ∷ later)) in
+    let cut = spell-split (done ++ these) (next ∷ later) (read ++ piece) t.rest (subst (λ xs. Spell (read ++ piece) xs t.rest) parts all) in
+    let refused = cut.2 in
+    record {
+      messages = done ++ these;
+      rest = cut.0;
+      spelled = cut.1;
+      joins = joins-then old mid new done these joins h.4;
+      leaves = (refused.0, refused.1, next, refused.2, refused.3, h.5);
+    }
+
+-- bytes that were read one behind another
+pub consumes-then : (a b c : Option (List ℕ)) (xs ys : List ℕ) → Consumes a b xs → Consumes b c ys → Consumes a c (xs ++ ys)
+consumes-then None b c xs ys h k = tt
+consumes-then (Some p) None c xs ys h k = absurd h
+consumes-then (Some p) (Some q) None xs ys h k = absurd k
+consumes-then (Some p) (Some q) (Some r) xs ys h k = h ∙ ap (λ zs. xs ++ zs) k ∙ sym (append_assoc xs ys r)

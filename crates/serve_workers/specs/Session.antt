@@ -1,0 +1,53 @@
+-- What a session does with the bytes that it reads.
+use Rattle.std.specs.Prelude.{◌≡◌, ◌≢◌, ℕ, List, ◌∷◌, ◌++◌, map, Result, Ok, Err}
+use Rattle.rbc_msgs.specs.TrainText.{TrainText}
+use Rattle.rbc_msgs.specs.TrainSpelling.{SpellsTrain}
+use Rattle.rbc_msgs.specs.Streams.{IsRest, ShowsFault, Spell}
+use Rattle.rbc_msgs.specs.declared.fault.MsgFault.TheVariants.{Memory}
+use Rattle.rbc_msgs.specs.declared.fault.StreamFault.{StreamFault}
+use Rattle.rbc_msgs.specs.declared.fault.StreamFault.TheVariants.{Message, Failed}
+use Rattle.rbc_centre.specs.declared.event.Event.TheVariants.{Train}
+use Rattle.rbc_node.specs.Receipts.{ShareValue, Committed, committed_of}
+use Rattle.rbc_node.specs.Node.{RefusesAt}
+use Rattle.rbc_node.specs.declared.fault.ShareFault.{ShareFault}
+use Rattle.serve_workers.specs.declared.end.SessionEnd.{SessionEnd}
+use Rattle.serve_workers.specs.declared.end.SessionEnd.TheVariants.{EndOfStream, Fault, Device, Refused}
+
+-- behind what it had, the share has the receipts of these messages, in their order, and no others
+pub record Joins (old new : ShareValue) (messages : List TrainText) : Type 0 where
+  pub centre : new.centre ≡ old.centre
+  pub added : List Committed
+  pub receipts : map committed_of new.receipts ≡ map committed_of old.receipts ++ added
+  pub events : map (λ c. c.event) added ≡ map (λ m. Train m) messages
+
+-- all messages were committed at centre c, or those in front of one that was refused
+abbrev pub CommitsAll : ℕ → ShareValue → ShareValue → List TrainText → Result (Unit {0}) ShareFault → Type 0
+CommitsAll c old new messages (Ok _) = Joins old new messages
+CommitsAll c old new messages (Err fault) =
+    (done : List TrainText) × (next : TrainText) × (later : List TrainText) × (messages ≡ done ++ next ∷ later) × Joins old new done × RefusesAt c new (Train next) fault
+
+-- the bytes show this fault, or memory ran out there
+abbrev pub Shows : List ℕ → StreamFault → Type 0
+Shows bytes (Message fault) = fault ≢ Memory → ShowsFault bytes fault
+Shows bytes Failed = ⊥
+
+-- the bytes begin with a message that centre c refused
+abbrev pub BeginsRefused : ℕ → ShareValue → List ℕ → ShareFault → Type 0
+BeginsRefused c share bytes fault =
+    (first : List ℕ) × (later : List ℕ) × (next : TrainText) × (bytes ≡ first ++ later) × SpellsTrain first next × RefusesAt c share (Train next) fault
+
+-- What stands behind the last message that was committed: no whole message, and nothing wrong so far, where the source or the device ended;
+-- what shows the fault; the message that was refused
+abbrev pub LeavesSo : ℕ → ShareValue → List ℕ → SessionEnd → Type 0
+LeavesSo c share rest EndOfStream = IsRest rest
+LeavesSo c share rest Device = IsRest rest
+LeavesSo c share rest (Fault fault) = Shows rest fault
+LeavesSo c share rest (Refused fault) = BeginsRefused c share rest fault
+
+-- the bytes that were read are the spellings of the messages whose receipts the share has now, one behind another, and then the rest
+pub record Serves (c : ℕ) (old new : ShareValue) (read : List ℕ) (end : SessionEnd) : Type 0 where
+  pub messages : List TrainText
+  pub rest : List ℕ
+  pub spelled : Spell read messages rest
+  pub joins : Joins old new messages
+  pub leaves : LeavesSo c new rest end

@@ -1,0 +1,19 @@
+//! The workers of a running centre, each of which runs in a thread of its own: one reads a train's connection and
+//! commits its messages, and two carry the frames of a link between two centres.
+//!
+//! Bodies are free. What goes over a connection is fixed by docs/FORMATS.md.
+#![tactic(auto)]
+
+mod desk;
+mod end;
+mod links;
+mod outlet;
+mod session;
+mod signals;
+
+pub use desk::Desk;
+pub use end::SessionEnd;
+pub use links::{receive_frames, send_frames};
+pub use outlet::{Closed, Outlet};
+pub use session::run_session;
+pub use signals::Signals;

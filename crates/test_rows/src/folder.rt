@@ -1,0 +1,33 @@
+use cli_commands::files::Files;
+use std::{fs, rt};
+
+/// The files of a row: its own, and behind them those of the folder `lines`, which all rows share.
+#[derive(Clone, Copy)]
+pub struct Folder<'a, R> {
+    pub rt: &'a R,
+    pub name: &'a str,
+}
+
+impl<R: rt::Files + AllocGlobal> Folder<'_, R> {
+    /// The bytes of a file of its own.
+    pub fn bytes(&self, file: &str) -> Option<Vec<u8>> {
+        let path = format!(in self.rt.alloc(); "rows/{}/{file}", self.name).ok()?;
+        fs::read(self.rt, path.as_str()).ok()
+    }
+
+    /// The number in a file of its own.
+    pub fn number(&self, file: &str) -> Option<u32> {
+        let text = String::from_utf8(self.bytes(file)?).ok()?;
+        text.trim().parse().ok()
+    }
+}
+
+impl<R: rt::Files + AllocGlobal> Files for Folder<'_, R> {
+    fn text(&self, name: &str) -> Option<String> {
+        if let Some(bytes) = self.bytes(name) {
+            return String::from_utf8(bytes).ok();
+        }
+        let path = format!(in self.rt.alloc(); "lines/{name}").ok()?;
+        fs::read_to_string(self.rt, path.as_str()).ok()
+    }
+}

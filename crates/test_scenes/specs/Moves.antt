@@ -1,0 +1,71 @@
+-- A move of the one line centre: an event, how the line centre takes it where the rules leave that open, and the quiet steps that it takes
+-- then. What comes of it is computed; that it is a piece of the line centre is proved once.
+use Rattle.std.specs.Prelude.{ℕ, nat_lt, Bool, true, false, ◌&&◌, ◌||◌, not, if◌then◌else◌, List, [], ◌∷◌, Option, Some, None, is_none, Ok, Err}
+use Rattle.std.specs.List.{list_all}
+use Rattle.std.specs.Option.{option_map_or}
+use Rattle.rbc_spec.specs.Line.{Line, is_centre}
+use Rattle.rbc_spec.specs.Outcome.{Word, Told}
+use Rattle.rbc_spec.specs.LineCentre.{LineState}
+use Rattle.rbc_spec.specs.Quiet.{Quiet, is_of_centre, both}
+use Rattle.rbc_spec.specs.Run.{Spoken}
+use Rattle.rbc_spec.specs.World.{Event, Bytes, Set, Unset, Delivery, centre_of}
+use Rattle.test_scenes.specs.Turns.{Choice, Unanswered, Turn, allowed, Step, own_step, quiet_turns}
+
+-- an event, how it is taken, and the quiet steps behind it
+pub record Move : Type 0 where
+  pub event : Event
+  pub choice : Choice
+  pub quiets : List Quiet
+
+-- what an answer shows of a piece, but for its stamp and frames; or that there is none
+pub data Shown : Type 0 where
+  Speaks : (spoken : Spoken) → Shown
+  Nowhere : Shown
+  NeverSent : Shown
+  BadBytes : (number : ℕ) → Shown
+
+-- what comes of a move
+pub record Played : Type 0 where
+  pub shown : Shown
+  pub state : LineState
+
+abbrev pub played : Step → Turn → Played
+played own later = record { shown = Speaks (record { said = both own.turn.said later.said; silence = own.why }); state = later.state }
+
+-- the section is below one that is told
+abbrev pub is_below : ℕ → Word → Bool
+is_below s (Told e) = nat_lt s e
+is_below s word = true
+
+-- each section that is told is below those that are told behind it
+abbrev pub tells_in_order : List Word → Bool
+tells_in_order [] = true
+tells_in_order (Told s ∷ words) = list_all (is_below s) words && tells_in_order words
+tells_in_order (word ∷ words) = tells_in_order words
+
+abbrev pub are_none : List Quiet → Bool
+are_none [] = true
+are_none (q ∷ qs) = false
+
+-- the quiet steps are of the event's centre, none follows a silent message, and what is told comes by section
+abbrev pub is_piece : Line → Event → Step → List Quiet → Turn → Bool
+is_piece line event own quiets later =
+    list_all (is_of_centre line (centre_of event)) quiets
+    && ((is_none own.why || are_none quiets) && tells_in_order (both own.turn.said later.said).words)
+
+-- an event without a piece
+abbrev pub without_piece : Line → Event → Option Shown
+without_piece line (Bytes c (Ok m)) = allowed (not (is_centre line c)) Nowhere
+without_piece line (Bytes c (Err number)) = if is_centre line c then Some (BadBytes number) else Some Nowhere
+without_piece line (Set c s) = allowed (not (is_centre line c)) Nowhere
+without_piece line (Unset c s) = allowed (not (is_centre line c)) Nowhere
+without_piece line (Delivery from to number) = Some NeverSent
+
+abbrev pub play_by : Line → LineState → Event → Choice → List Quiet → Option Played
+play_by line v event Unanswered quiets = option_map_or (λ shown. Some (record { shown = shown; state = v })) (without_piece line event) None
+play_by line v event choice quiets = option_map_or
+    (λ own. option_map_or (λ later. allowed (is_piece line event own quiets later) (played own later)) (quiet_turns line own.turn.state quiets) None)
+    (own_step line v event choice) None
+
+unfoldable pub play : Line → LineState → Move → Option Played
+play line v move = play_by line v move.event move.choice move.quiets

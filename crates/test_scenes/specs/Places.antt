@@ -1,0 +1,105 @@
+-- Where a position packet places a train, and what has no place.
+use Rattle.std.specs.Prelude.{ℕ, true, false, List, [], ◌∷◌, ◌++◌, map, Some, None}
+use Rattle.rbc_spec.specs.Message.{StartOfMission, TrainData, Request, Report, TrainAccepted, TrainRejected, DataAcknowledged, Authority, unknown_group}
+use Rattle.rbc_spec.specs.Outcome.{NoPlace, StaleStamp}
+use Rattle.rbc_spec.specs.Place.{Position}
+use Rattle.test_scenes.specs.Scene.{Scene, Look, Item, Says, IsShut, IsOpen, Given, train, session, sets, at, in_section_1, group_1, nothing, all_done, times, shows}
+use Rattle.test_scenes.specs.Starts.{start, start_shows, opened, silent}
+use Rattle.test_scenes.specs.Requests.{start_and_request, start_and_request_shows, request_to_the_border, request_to_the_border_shows}
+use Rattle.test_scenes.specs.Handover.{handed_over, handed_over_shows}
+
+-- ## No place
+
+-- not nominal, not in level 2, a distance or a doubt that is not known, and a group that the line has not
+abbrev pub without_place : List Position
+without_place =
+    record in_section_1 { is_nominal = false } ∷ record in_section_1 { is_level_2 = false } ∷ record in_section_1 { d_lrbg = 32767 }
+    ∷ record in_section_1 { l_doubtover = 32767 } ∷ record in_section_1 { l_doubtunder = 32767 } ∷ at 108 600 (Some 200) ∷ []
+
+-- a report of each, which is not heard, and one of a distance that is known
+abbrev pub reports_without_place : List Scene
+reports_without_place =
+    start
+    ++ map (λ position. train 1 0 4 (Report position)) without_place
+    ++ train 1 0 4 (Report (at 101 32766 (Some 200))) ∷ train 1 0 4 (Report in_section_1) ∷ []
+
+abbrev pub reports_without_place_shows : List (List Item)
+reports_without_place_shows = start_shows ++ times 6 (silent NoPlace) ++ nothing ∷ silent StaleStamp ∷ []
+
+-- a request has to have a place, with the front not past the hand
+abbrev pub requests_without_place : List Scene
+requests_without_place =
+    start
+    ++ train 1 0 4 (TrainData in_section_1) ∷ train 1 0 5 (Request (record in_section_1 { is_level_2 = false }))
+    ∷ train 1 0 5 (Request (at 101 981 (Some 200))) ∷ train 1 0 5 (Request (at 101 980 (Some 200))) ∷ []
+
+abbrev pub requests_without_place_show : List (List Item)
+requests_without_place_show =
+    start_shows
+    ++ (Says 1 3 unknown_group (DataAcknowledged 4) ∷ []) ∷ silent NoPlace ∷ silent NoPlace ∷ (Says 1 4 group_1 (Authority 1000) ∷ []) ∷ []
+
+-- nor may the hand end too far behind its group for message 3 to say
+abbrev pub hand_out_of_reach : List Scene
+hand_out_of_reach = sets 0 0 20 ++ start_and_request (at 102 600 (Some 200)) ++ train 1 0 6 (Request (at 100 4600 (Some 200))) ∷ []
+
+abbrev pub hand_out_of_reach_shows : List (List Item)
+hand_out_of_reach_shows = all_done 0 20 ++ start_and_request_shows 82022 32000 [] ++ silent NoPlace ∷ []
+
+-- ## Starts that are not fit
+
+-- not valid, without a rear, with the rear before the track, and with the front behind it
+abbrev pub starts_that_are_not_fit : List Scene
+starts_that_are_not_fit =
+    sets 0 0 8
+    ++ session 1 0 1
+    ++ train 1 0 3 (StartOfMission false in_section_1) ∷ train 1 0 4 (StartOfMission true (at 101 600 None))
+    ∷ train 1 0 5 (StartOfMission true (at 100 209 (Some 200))) ∷ train 1 0 6 (StartOfMission true (at 107 981 (Some 200)))
+    ∷ train 1 0 7 (StartOfMission true (at 107 980 (Some 200))) ∷ Look ∷ []
+
+-- one with the front at the track's end is
+abbrev pub starts_that_are_not_fit_show : List (List Item)
+starts_that_are_not_fit_show =
+    all_done 0 8
+    ++ opened 1
+    ++ (Says 1 2 unknown_group TrainRejected ∷ []) ∷ (Says 1 3 unknown_group TrainRejected ∷ []) ∷ (Says 1 4 unknown_group TrainRejected ∷ [])
+    ∷ (Says 1 5 unknown_group TrainRejected ∷ []) ∷ (Says 1 6 unknown_group TrainAccepted ∷ [])
+    ∷ shows (times 7 IsOpen ++ Given 1 ∷ []) [] ((0 ∷ []) ∷ [] ∷ []) ∷ []
+
+-- a train over 33 sections, and one over 32
+abbrev pub longest_train : List Scene
+longest_train =
+    sets 0 0 40
+    ++ session 1 0 1
+    ++ train 1 0 3 (StartOfMission true (at 132 50 (Some 3200))) ∷ train 1 0 4 (StartOfMission true (at 131 50 (Some 3100))) ∷ Look ∷ []
+
+abbrev pub longest_train_shows : List (List Item)
+longest_train_shows =
+    all_done 0 40
+    ++ opened 1
+    ++ (Says 1 2 unknown_group TrainRejected ∷ []) ∷ (Says 1 3 unknown_group TrainAccepted ∷ [])
+    ∷ shows (times 32 (Given 1) ++ times 8 IsOpen) [] ((0 ∷ []) ∷ [] ∷ []) ∷ []
+
+-- ## Scales
+
+-- in decimetres; the train's length is in metres all the same
+abbrev pub in_decimetres : ℕ → Position
+in_decimetres d_lrbg = record (at 102 d_lrbg (Some 200)) { scale = 1; l_doubtover = 100; l_doubtunder = 200 }
+
+-- the rear is 10 cm before the end of section 1, and then at it
+abbrev pub other_scale : List Scene
+other_scale = request_to_the_border ++ train 1 0 6 (Report (in_decimetres 2099)) ∷ Look ∷ train 1 0 7 (Report (in_decimetres 2100)) ∷ Look ∷ []
+
+abbrev pub other_scale_shows : List (List Item)
+other_scale_shows =
+    request_to_the_border_shows
+    ++ nothing ∷ shows (IsShut ∷ times 3 (Given 1) ++ times 4 IsShut) [] ((0 ∷ []) ∷ [] ∷ [])
+    ∷ nothing ∷ shows (IsShut ∷ IsOpen ∷ times 2 (Given 1) ++ times 4 IsShut) [] ((0 ∷ []) ∷ [] ∷ []) ∷ []
+
+-- ## Stamps
+
+-- a centre that takes a train over with an older stamp keeps its own
+abbrev pub own_stamp_after_a_yield : List Scene
+own_stamp_after_a_yield = handed_over 7 ++ train 1 1 9 (Report (at 104 300 (Some 200))) ∷ []
+
+abbrev pub own_stamp_after_a_yield_shows : List (List Item)
+own_stamp_after_a_yield_shows = handed_over_shows ++ silent StaleStamp ∷ []

@@ -1,0 +1,169 @@
+-- A train goes over three centres, the second of which has one short section.
+use Rattle.std.specs.Prelude.{ℕ, true, false, List, [], ◌∷◌, ◌++◌, Some, pos}
+use Rattle.rbc_spec.specs.Message.{StartOfMission, TrainData, Request, Report, EndOfMission, TrainAccepted, DataAcknowledged, Authority, Transition, EndSession, unknown_group}
+use Rattle.rbc_spec.specs.Frame.{AskRight, GiveRight, RouteAsk, RouteInfo, RouteReturn, RouteWithdraw, Announce, TakingOver, Yield, YieldedPlace}
+use Rattle.rbc_spec.specs.Outcome.{Asked, StaleStamp, MissionEnded, Next}
+use Rattle.rbc_spec.specs.Place.{Position}
+use Rattle.rbc_spec.specs.World.{Set, Unset, Delivery}
+use Rattle.test_scenes.specs.Scene.{Scene, Happens, Look, Item, Says, Sends, Tells, Silence, Link, NeverSent, IsShut, IsOpen, Given, Kept, train, session, at, in_section_1, group_1, done, times, shows}
+use Rattle.test_scenes.specs.Starts.{opened}
+use Rattle.test_scenes.specs.Requests.{start_and_request, start_and_request_shows}
+
+-- ## From A to B
+
+-- the route over B's section comes, and is given to the train
+abbrev pub from_the_first : List Scene
+from_the_first =
+    Happens (Set 0 1) ∷ Happens (Set 1 2) ∷ Happens (Set 2 3)
+    ∷ (start_and_request in_section_1
+    ++ Happens (Delivery 0 1 1) ∷ Look ∷ Happens (Delivery 1 0 1) ∷ train 1 0 6 (Request in_section_1) ∷ [])
+
+abbrev pub from_the_first_shows : List (List Item)
+from_the_first_shows =
+    done 1 ∷ done 2 ∷ done 3
+    ∷ (start_and_request_shows group_1 1000 (Sends 1 1 (RouteAsk 1 2 31) ∷ [])
+    ++ (Link Next ∷ Sends 0 1 (RouteInfo 1 (record { first = 2; count = 1 })) ∷ [])
+    ∷ shows (IsShut ∷ Given 1 ∷ Kept 1 ∷ IsOpen ∷ IsShut ∷ []) [] ((0 ∷ []) ∷ [] ∷ [])
+    ∷ (Link Next ∷ [])
+    ∷ (Says 1 5 group_1 (Authority 1200) ∷ Says 1 6 group_1 (Transition 1000 5 2) ∷ Sends 1 2 (Announce 1 1 0) ∷ []) ∷ [])
+
+abbrev pub border_of_the_first : List Scene
+border_of_the_first = from_the_first ++ Look ∷ []
+
+abbrev pub border_of_the_first_shows : List (List Item)
+border_of_the_first_shows = from_the_first_shows ++ shows (IsShut ∷ Given 1 ∷ Given 1 ∷ IsOpen ∷ IsShut ∷ []) [] ((0 ∷ []) ∷ [] ∷ []) ∷ []
+
+-- in section 2, with the rear still in section 1
+abbrev pub in_section_2 : Position
+in_section_2 = at 102 100 (Some 250)
+
+-- the last place that A heard of
+abbrev pub last_at_a : YieldedPlace
+last_at_a = record { track = 0; group = group_1; front = pos 16200; rear = Some (pos 13900) }
+
+-- B takes over, and the route over C's first section comes, and is given to the train
+abbrev pub from_the_second : List Scene
+from_the_second =
+    from_the_first
+    ++ Happens (Delivery 0 1 2)
+    ∷ (session 1 1 7
+    ++ train 1 1 9 (Report in_section_2) ∷ Happens (Delivery 1 0 2) ∷ Look ∷ Happens (Delivery 0 1 3) ∷ Look
+    ∷ train 1 1 10 (Request in_section_2) ∷ Happens (Delivery 1 2 1) ∷ Happens (Delivery 2 1 1) ∷ train 1 1 11 (Request in_section_2) ∷ [])
+
+abbrev pub from_the_second_shows : List (List Item)
+from_the_second_shows =
+    from_the_first_shows
+    ++ (Link Next ∷ [])
+    ∷ (opened 1
+    ++ (Sends 0 2 (TakingOver 1 1) ∷ [])
+    ∷ (Link Next ∷ Sends 1 3 (Yield 1 1 6 true false last_at_a (record { first = 1; count = 2 })) ∷ [])
+    ∷ shows (IsShut ∷ Given 1 ∷ Given 1 ∷ IsOpen ∷ IsShut ∷ []) [] ([] ∷ [] ∷ [])
+    ∷ (Link Next ∷ []) ∷ shows (IsShut ∷ Given 1 ∷ Given 1 ∷ IsOpen ∷ IsShut ∷ []) [] ((1 ∷ []) ∷ [] ∷ [])
+    ∷ (Says 1 2 82022 (Authority 200) ∷ Sends 2 1 (RouteAsk 1 3 30) ∷ [])
+    ∷ (Link Next ∷ Sends 1 1 (RouteInfo 1 (record { first = 3; count = 1 })) ∷ []) ∷ (Link Next ∷ [])
+    ∷ (Says 1 3 82022 (Authority 1200) ∷ Says 1 4 82022 (Transition 200 5 3)
+    ∷ Sends 2 2 (Announce 1 1 0) ∷ Sends 2 3 (RouteAsk 1 4 29) ∷ []) ∷ [])
+
+-- sections 1 to 3 are given to train 1, which B supervises
+abbrev pub shows_three_given : List ℕ → List Item
+shows_three_given wished = shows (IsShut ∷ times 3 (Given 1) ++ IsShut ∷ []) wished ((1 ∷ []) ∷ [] ∷ [])
+
+abbrev pub second_takes_over : List Scene
+second_takes_over = from_the_second ++ Look ∷ []
+
+abbrev pub second_takes_over_shows : List (List Item)
+second_takes_over_shows = from_the_second_shows ++ shows_three_given [] ∷ []
+
+-- ## From B to C
+
+-- C takes over while a section of A is in the hand, so B does not yield yet
+abbrev pub held_back : List Scene
+held_back =
+    from_the_second
+    ++ Happens (Delivery 1 2 2) ∷ Happens (Delivery 1 2 3)
+    ∷ (session 1 2 12
+    ++ train 1 2 14 (Report (at 103 50 (Some 200))) ∷ Happens (Delivery 2 1 2) ∷ Happens (Delivery 2 1 3) ∷ [])
+
+abbrev pub held_back_shows : List (List Item)
+held_back_shows =
+    from_the_second_shows
+    ++ (Link Next ∷ []) ∷ (Link Next ∷ Sends 1 2 (RouteInfo 1 (record { first = 4; count = 0 })) ∷ [])
+    ∷ (opened 1 ++ (Sends 1 3 (TakingOver 1 1) ∷ []) ∷ (Link Next ∷ []) ∷ (Link Next ∷ []) ∷ [])
+
+abbrev pub third_home_holds_the_yield_back : List Scene
+third_home_holds_the_yield_back = held_back ++ Happens (Delivery 1 2 4) ∷ Look ∷ []
+
+abbrev pub third_home_holds_the_yield_back_shows : List (List Item)
+third_home_holds_the_yield_back_shows = held_back_shows ++ (NeverSent ∷ []) ∷ shows_three_given [] ∷ []
+
+-- a wish of A goes to B alone, which can't have the first section of the hand back
+abbrev pub withdraw_goes_to_one_centre : List Scene
+withdraw_goes_to_one_centre = held_back ++ Happens (Unset 0 1) ∷ Happens (Delivery 0 1 4) ∷ Happens (Delivery 0 2 1) ∷ Look ∷ []
+
+abbrev pub withdraw_goes_to_one_centre_shows : List (List Item)
+withdraw_goes_to_one_centre_shows =
+    held_back_shows ++ (Sends 1 4 (RouteWithdraw 1 1) ∷ Tells (Asked 1) ∷ []) ∷ (Link Next ∷ []) ∷ (NeverSent ∷ []) ∷ shows_three_given (1 ∷ []) ∷ []
+
+-- ## With the registrar at B
+
+-- A and C are not linked then: the wish for a section that was yielded goes to B alone
+abbrev pub first_and_third_not_linked : List Scene
+first_and_third_not_linked =
+    Happens (Set 0 1) ∷ Happens (Set 1 2)
+    ∷ (session 1 0 1
+    ++ train 1 0 3 (StartOfMission true in_section_1) ∷ Happens (Delivery 0 1 1) ∷ Happens (Delivery 1 0 1)
+    ∷ train 1 0 4 (TrainData in_section_1) ∷ train 1 0 5 (Request in_section_1) ∷ Happens (Delivery 0 1 2) ∷ Happens (Delivery 1 0 2)
+    ∷ train 1 0 6 (Request in_section_1) ∷ Happens (Delivery 0 1 3)
+    ∷ (session 1 1 7
+    ++ train 1 1 9 (Report in_section_2) ∷ Happens (Delivery 1 0 3) ∷ Happens (Unset 0 1) ∷ Happens (Delivery 0 2 1) ∷ Look ∷ []))
+
+abbrev pub first_and_third_not_linked_shows : List (List Item)
+first_and_third_not_linked_shows =
+    done 1 ∷ done 2
+    ∷ (opened 1
+    ++ (Sends 1 1 (AskRight 1) ∷ []) ∷ (Link Next ∷ Sends 0 1 (GiveRight 1) ∷ []) ∷ (Link Next ∷ Says 1 2 unknown_group TrainAccepted ∷ [])
+    ∷ (Says 1 3 unknown_group (DataAcknowledged 4) ∷ []) ∷ (Says 1 4 group_1 (Authority 1000) ∷ Sends 1 2 (RouteAsk 1 2 31) ∷ [])
+    ∷ (Link Next ∷ Sends 0 2 (RouteInfo 1 (record { first = 2; count = 1 })) ∷ []) ∷ (Link Next ∷ [])
+    ∷ (Says 1 5 group_1 (Authority 1200) ∷ Says 1 6 group_1 (Transition 1000 5 2) ∷ Sends 1 3 (Announce 1 1 0) ∷ []) ∷ (Link Next ∷ [])
+    ∷ (opened 1
+    ++ (Sends 0 3 (TakingOver 1 1) ∷ [])
+    ∷ (Link Next ∷ Sends 1 4 (Yield 1 1 6 true false last_at_a (record { first = 1; count = 2 })) ∷ [])
+    ∷ (Sends 1 5 (RouteWithdraw 1 1) ∷ Tells (Asked 1) ∷ []) ∷ (NeverSent ∷ [])
+    ∷ shows (IsShut ∷ Given 1 ∷ Given 1 ∷ IsShut ∷ IsShut ∷ []) (1 ∷ []) ([] ∷ [] ∷ []) ∷ []))
+
+-- ## The yield that was held back
+
+-- section 1 is cleared, and so the supervision is yielded in that step; A's section goes home
+abbrev pub yields_once_cleared : List Scene
+yields_once_cleared =
+    held_back
+    ++ train 1 1 15 (Report (at 103 50 (Some 200))) ∷ Look ∷ Happens (Delivery 1 2 4) ∷ Look ∷ Happens (Delivery 1 0 3) ∷ Look ∷ []
+
+-- the last place that B heard of
+abbrev pub last_at_b : YieldedPlace
+last_at_b = record { track = 0; group = 82023; front = pos 22700; rear = Some (pos 20400) }
+
+abbrev pub yields_once_cleared_shows : List (List Item)
+yields_once_cleared_shows =
+    held_back_shows
+    ++ (Sends 0 3 (RouteReturn 1 (record { first = 1; count = 1 }))
+    ∷ Sends 2 4 (Yield 1 1 15 true false last_at_b (record { first = 2; count = 2 })) ∷ [])
+    ∷ shows (IsShut ∷ Kept 1 ∷ Given 1 ∷ Given 1 ∷ IsShut ∷ []) [] ([] ∷ [] ∷ [])
+    ∷ (Link Next ∷ []) ∷ shows (IsShut ∷ Kept 1 ∷ Given 1 ∷ Given 1 ∷ IsShut ∷ []) [] ((2 ∷ []) ∷ [] ∷ [])
+    ∷ (Link Next ∷ Says 1 7 unknown_group (EndSession 5 1) ∷ [])
+    ∷ shows (IsShut ∷ IsOpen ∷ Given 1 ∷ Given 1 ∷ IsShut ∷ []) [] ((2 ∷ []) ∷ [] ∷ []) ∷ []
+
+-- the same with the end of the mission, which goes with the yield; both other sections are cleared, so B ends its session
+abbrev pub end_of_mission_yields : List Scene
+end_of_mission_yields =
+    held_back ++ train 1 1 15 (EndOfMission (at 103 210 (Some 200))) ∷ Look ∷ Happens (Delivery 1 2 4) ∷ train 1 2 15 (Request (at 103 210 (Some 200))) ∷ train 1 2 16 (Request (at 103 210 (Some 200))) ∷ Look ∷ []
+
+abbrev pub end_of_mission_yields_shows : List (List Item)
+end_of_mission_yields_shows =
+    held_back_shows
+    ++ (Says 1 5 unknown_group (EndSession 5 2)
+    ∷ Sends 0 3 (RouteReturn 1 (record { first = 1; count = 1 }))
+    ∷ Sends 2 4 (Yield 1 1 15 true true (record { track = 0; group = 82023; front = pos 24300; rear = Some (pos 22000) }) (record { first = 3; count = 1 })) ∷ [])
+    ∷ shows (IsShut ∷ Kept 1 ∷ IsOpen ∷ Given 1 ∷ IsShut ∷ []) [] ([] ∷ [] ∷ [])
+    ∷ (Link Next ∷ []) ∷ (Silence StaleStamp ∷ []) ∷ (Silence MissionEnded ∷ [])
+    ∷ shows (IsShut ∷ Kept 1 ∷ IsOpen ∷ Given 1 ∷ IsShut ∷ []) [] ((2 ∷ []) ∷ [] ∷ []) ∷ []

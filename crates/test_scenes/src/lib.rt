@@ -1,0 +1,280 @@
+//! The definitions of the line and its centres, tried: scenes on small lines, and what is seen of each, as the rules
+//! say in words. That the definitions give just this is computed by the check. A scene is a list of events, with looks
+//! at the line between them; the scenes are in `specs/`. Of each scene it is also shown that a run of the one line
+//! centre meets it (`IsMetByRun`): the line centre has a piece for each event, and its state then is the one that is
+//! read off the centres. The functions here do nothing.
+//!
+//! What is expected comes from the standard or from the rules in words, never from the program's own output.
+#![tactic(auto)]
+
+mod late;
+mod not_allowed;
+mod one_places;
+
+ghost use Rattle.std.specs.Prelude.{◌≡◌, [], ◌∷◌, None, Some, Ok, Err};
+ghost use Rattle.rbc_spec.specs.Centre.{beginning};
+ghost use Rattle.rbc_spec.specs.Frame.{RouteAsk, TakingOver};
+ghost use Rattle.rbc_spec.specs.Step.{LinkFull};
+ghost use Rattle.rbc_spec.specs.Step.Event.{Set};
+ghost use Rattle.test_scenes.specs.Scene.{line, times, line_of_a_and_b, line_of_32_km, line_of_one, line_of_three, line_of_two_tracks, seen};
+ghost use Rattle.test_scenes.specs.Starts.{nothing_happens, nothing_happens_shows, set_and_unset, set_and_unset_shows, session_opens, session_opens_shows, session_opens_again, session_opens_again_shows, trains_are_named, trains_are_named_show, session_opens_over_a_session, session_opens_over_a_session_shows, session_ends, session_ends_shows, messages_without_a_session, messages_without_a_session_show, messages_before_the_session_is_up, messages_before_the_session_is_up_show, messages_without_a_mission, messages_without_a_mission_show, first_reason, first_reason_shows, start_at_the_registrar, start_at_the_registrar_shows, start_at_a_shut_section, start_at_a_shut_section_shows, request_without_train_data, request_without_train_data_shows, hand_outlives_the_session, hand_outlives_the_session_shows, start_after_the_end_of_mission, start_after_the_end_of_mission_shows, unset_of_the_first_section, unset_of_the_first_section_shows, right_comes, right_comes_shows, right_goes_back, right_goes_back_shows, right_serves_a_later_start, right_serves_a_later_start_shows, ask_delivered_twice, ask_delivered_twice_shows, right_is_refused, right_is_refused_shows};
+ghost use Rattle.test_scenes.specs.Requests.{request_asks_over_the_border, request_asks_over_the_border_shows, asks_again_each_round, asks_again_each_round_shows, end_of_the_track, end_of_the_track_shows, report_clears, report_clears_shows, no_integrity_frees_nothing, no_integrity_frees_nothing_shows, request_extends_over_the_border, request_extends_over_the_border_shows, early_frame, early_frame_shows, hand_of_32_sections, hand_of_32_sections_shows, end_within_reach_of_the_message, end_within_reach_of_the_message_shows, longest_authority, longest_authority_shows, one_metre_too_far, one_metre_too_far_shows, end_of_mission, end_of_mission_shows};
+ghost use Rattle.test_scenes.specs.Shortening.{unset_in_a_hand, unset_in_a_hand_shows, start_drops_the_proposal, start_drops_the_proposal_shows, shortening_in_one_centre, shortening_in_one_centre_shows, shortening_and_a_late_route, shortening_and_a_late_route_shows, answer_to_another_proposal, answer_to_another_proposal_shows, granted_past_the_proposed_end, granted_past_the_proposed_end_shows, another_answer_at_the_border, another_answer_at_the_border_shows, asking_again_tries_again, asking_again_tries_again_shows};
+ghost use Rattle.test_scenes.specs.Handover.{handover, handover_shows, return_after_handover, return_after_handover_shows, yield_carries_the_last_stamp_heard, yield_carries_the_last_stamp_heard_shows, cancelled_before_taking_over, cancelled_before_taking_over_shows};
+ghost use Rattle.test_scenes.specs.ThreeCentres.{border_of_the_first, border_of_the_first_shows, second_takes_over, second_takes_over_shows, third_home_holds_the_yield_back, third_home_holds_the_yield_back_shows, withdraw_goes_to_one_centre, withdraw_goes_to_one_centre_shows, first_and_third_not_linked, first_and_third_not_linked_shows, yields_once_cleared, yields_once_cleared_shows, end_of_mission_yields, end_of_mission_yields_shows};
+ghost use Rattle.test_scenes.specs.Pieces.{IsMetByRun, IsMetByForcedRun, IsLineRunOf};
+ghost use Rattle.test_scenes.specs.SceneMoves.{another_answer_at_the_border_moves, answer_to_another_proposal_moves, ask_delivered_twice_moves, asking_again_tries_again_moves, asks_again_each_round_moves, cancelled_moves, early_frame_moves, end_of_mission_moves, end_of_the_track_moves, end_within_reach_of_the_message_moves, granted_past_the_proposed_end_moves, hand_of_32_sections_moves, handed_over_moves, last_stamp_heard_moves, late_route_moves, longest_authority_moves, no_integrity_moves, one_metre_too_far_moves, over_the_border_moves, plain, report_clears_moves, return_moves, right_comes_moves, right_is_refused_moves, right_serves_a_later_start_moves, shortening_in_one_centre_moves, start_drops_the_proposal_moves, start_moves, to_the_border_moves, trains_are_named_moves, unset_in_a_hand_moves};
+ghost use Rattle.test_scenes.specs.LateMoves.{end_of_mission_yields_moves, first_and_third_not_linked_moves, from_the_first_moves, from_the_second_moves, third_home_holds_the_yield_back_moves, withdraw_goes_to_one_centre_moves, yields_once_cleared_moves};
+ghost use Rattle.test_scenes.specs.Conditions.{unset_without_a_session, unset_without_a_session_shows, unset_after_the_end, unset_after_the_end_shows, unset_again, unset_again_shows, front_before_the_hand, front_before_the_hand_shows, front_in_the_section, front_in_the_section_shows, section_out_of_reach, section_out_of_reach_shows, yield_with_a_pool, yield_with_a_pool_shows, cut_with_a_pool, cut_with_a_pool_shows, cut_behind_the_border, cut_behind_the_border_shows, proposal_ends_with_the_session, proposal_ends_with_the_session_shows, start_outside_the_hand, start_outside_the_hand_shows, request_again_over_the_border, request_again_over_the_border_shows, request_while_asked, request_while_asked_shows, full_hand_at_the_border, full_hand_at_the_border_shows, pool_out_of_reach, pool_out_of_reach_shows, proposal_ends_with_the_mission, proposal_ends_with_the_mission_shows};
+ghost use Rattle.test_scenes.specs.ConditionMoves.{unset_without_a_session_moves, unset_again_moves, front_before_the_hand_moves, front_in_the_section_moves, section_out_of_reach_moves, yield_with_a_pool_moves, cut_with_a_pool_moves, cut_behind_the_border_moves, proposal_ends_with_the_session_moves, request_again_over_the_border_moves, request_while_asked_moves, full_hand_at_the_border_moves, pool_out_of_reach_moves, proposal_ends_with_the_mission_moves};
+ghost use Rattle.test_scenes.specs.StrayFrames.{asking, announcing, expecting, taking_over, effects, deliveries, strays_to_a, strays_from_c, strays_to_the_announcing, strays_to_the_expecting, strays_to_the_taking, fronts_before_the_track, taken_without_effect, calm_asking, calm_announcing, calm_expecting, calm_taking, missions_taken, mission_at};
+ghost use Rattle.test_scenes.specs.Places.{reports_without_place, reports_without_place_shows, requests_without_place, requests_without_place_show, hand_out_of_reach, hand_out_of_reach_shows, starts_that_are_not_fit, starts_that_are_not_fit_show, longest_train, longest_train_shows, other_scale, other_scale_shows, own_stamp_after_a_yield, own_stamp_after_a_yield_shows};
+ghost use Rattle.test_scenes.specs.PlaceMoves.{requests_without_place_moves, hand_out_of_reach_moves, other_scale_moves, own_stamp_after_a_yield_moves};
+ghost use Rattle.rbc_spec.specs.World.{new_world, world_run};
+ghost use Rattle.test_scenes.specs.Limits.{asks_behind, run_items, set_and_session, set_and_session_shows, stamps, having_sent, last_stamp_is_taken, last_stamp_is_taken_shows, stamp_past_the_last, stamp_past_the_last_shows, frame_without_a_link, frame_without_a_link_shows};
+
+pub use late::{late_frames, races_met};
+pub use not_allowed::{moves_not_allowed, two_yields_on_the_way};
+pub use one_places::each_thing_stays_in_one_place;
+
+/// What the interlocking is told, how sessions are opened and ended, and how missions start at the registrar and elsewhere.
+pub fn sessions_and_starts()
+    ensures nothing_happens { seen line nothing_happens ≡ nothing_happens_shows }
+    ensures set_and_unset { seen line set_and_unset ≡ set_and_unset_shows }
+    ensures session_opens { seen line session_opens ≡ session_opens_shows }
+    ensures session_opens_again { seen line session_opens_again ≡ session_opens_again_shows }
+    ensures trains_are_named { seen line trains_are_named ≡ trains_are_named_show }
+    ensures session_opens_over_a_session { seen line session_opens_over_a_session ≡ session_opens_over_a_session_shows }
+    ensures session_ends { seen line session_ends ≡ session_ends_shows }
+    ensures messages_without_a_session { seen line messages_without_a_session ≡ messages_without_a_session_show }
+    ensures messages_before_the_session_is_up { seen line messages_before_the_session_is_up ≡ messages_before_the_session_is_up_show }
+    ensures messages_without_a_mission { seen line messages_without_a_mission ≡ messages_without_a_mission_show }
+    ensures first_reason { seen line first_reason ≡ first_reason_shows }
+    ensures start_at_the_registrar { seen line start_at_the_registrar ≡ start_at_the_registrar_shows }
+    ensures start_at_a_shut_section { seen line start_at_a_shut_section ≡ start_at_a_shut_section_shows }
+    ensures request_without_train_data { seen line request_without_train_data ≡ request_without_train_data_shows }
+    ensures hand_outlives_the_session { seen line hand_outlives_the_session ≡ hand_outlives_the_session_shows }
+    ensures start_after_the_end_of_mission { seen line start_after_the_end_of_mission ≡ start_after_the_end_of_mission_shows }
+    ensures unset_of_the_first_section { seen line unset_of_the_first_section ≡ unset_of_the_first_section_shows }
+    ensures right_comes { seen line right_comes ≡ right_comes_shows }
+    ensures right_goes_back { seen line right_goes_back ≡ right_goes_back_shows }
+    ensures right_serves_a_later_start { seen line right_serves_a_later_start ≡ right_serves_a_later_start_shows }
+    ensures ask_delivered_twice { seen line ask_delivered_twice ≡ ask_delivered_twice_shows }
+    ensures right_is_refused { seen line right_is_refused ≡ right_is_refused_shows }
+{}
+
+/// How a hand is extended up to a border and over it, and cleared behind the train.
+pub fn requests_and_reports()
+    ensures request_asks_over_the_border { seen line request_asks_over_the_border ≡ request_asks_over_the_border_shows }
+    ensures asks_again_each_round { seen line asks_again_each_round ≡ asks_again_each_round_shows }
+    ensures end_of_the_track { seen line_of_two_tracks end_of_the_track ≡ end_of_the_track_shows }
+    ensures report_clears { seen line report_clears ≡ report_clears_shows }
+    ensures no_integrity_frees_nothing { seen line no_integrity_frees_nothing ≡ no_integrity_frees_nothing_shows }
+    ensures request_extends_over_the_border { seen line request_extends_over_the_border ≡ request_extends_over_the_border_shows }
+    ensures early_frame { seen line early_frame ≡ early_frame_shows }
+    ensures hand_of_32_sections { seen (line_of_one 40 100) hand_of_32_sections ≡ hand_of_32_sections_shows }
+    ensures end_within_reach_of_the_message { seen (line_of_one 20 2000) end_within_reach_of_the_message ≡ end_within_reach_of_the_message_shows }
+    ensures longest_authority { seen (line_of_32_km 767) longest_authority ≡ longest_authority_shows }
+    ensures one_metre_too_far { seen (line_of_32_km 768) one_metre_too_far ≡ one_metre_too_far_shows }
+    ensures end_of_mission { seen line end_of_mission ≡ end_of_mission_shows }
+{}
+
+/// How a section of a hand is wished back, and what the train answers.
+pub fn authorities_shortened()
+    ensures unset_in_a_hand { seen line unset_in_a_hand ≡ unset_in_a_hand_shows }
+    ensures start_drops_the_proposal { seen (line_of_one 8 1000) start_drops_the_proposal ≡ start_drops_the_proposal_shows }
+    ensures shortening_in_one_centre { seen (line_of_one 8 1000) shortening_in_one_centre ≡ shortening_in_one_centre_shows }
+    ensures shortening_and_a_late_route { seen line shortening_and_a_late_route ≡ shortening_and_a_late_route_shows }
+    ensures answer_to_another_proposal { seen line answer_to_another_proposal ≡ answer_to_another_proposal_shows }
+    ensures granted_past_the_proposed_end { seen line granted_past_the_proposed_end ≡ granted_past_the_proposed_end_shows }
+    ensures another_answer_at_the_border { seen line another_answer_at_the_border ≡ another_answer_at_the_border_shows }
+    ensures asking_again_tries_again { seen line asking_again_tries_again ≡ asking_again_tries_again_shows }
+{}
+
+/// How a train is handed over, and how its handover is cancelled.
+pub fn trains_handed_over()
+    ensures handover { seen line handover ≡ handover_shows }
+    ensures return_after_handover { seen line return_after_handover ≡ return_after_handover_shows }
+    ensures yield_carries_the_last_stamp_heard { seen line yield_carries_the_last_stamp_heard ≡ yield_carries_the_last_stamp_heard_shows }
+    ensures cancelled_before_taking_over { seen line cancelled_before_taking_over ≡ cancelled_before_taking_over_shows }
+{}
+
+/// How a train goes over three centres.
+pub fn over_three_centres()
+    ensures border_of_the_first { seen (line_of_three 0) border_of_the_first ≡ border_of_the_first_shows }
+    ensures second_takes_over { seen (line_of_three 0) second_takes_over ≡ second_takes_over_shows }
+    ensures third_home_holds_the_yield_back { seen (line_of_three 0) third_home_holds_the_yield_back ≡ third_home_holds_the_yield_back_shows }
+    ensures withdraw_goes_to_one_centre { seen (line_of_three 0) withdraw_goes_to_one_centre ≡ withdraw_goes_to_one_centre_shows }
+    ensures first_and_third_not_linked { seen (line_of_three 1) first_and_third_not_linked ≡ first_and_third_not_linked_shows }
+    ensures yields_once_cleared { seen (line_of_three 0) yields_once_cleared ≡ yields_once_cleared_shows }
+    ensures end_of_mission_yields { seen (line_of_three 0) end_of_mission_yields ≡ end_of_mission_yields_shows }
+{}
+
+/// When a step is refused, what is answered to a frame of a centre without a link, that no section past the 512th is asked for, and
+/// that a run gives the answers of its steps.
+pub fn refused_steps()
+    ensures last_stamp { stamps line last_stamp_is_taken (beginning line 0) ≡ last_stamp_is_taken_shows }
+    ensures past_the_last { stamps line stamp_past_the_last (beginning line 0) ≡ stamp_past_the_last_shows }
+    ensures no_link { stamps (line_of_three 1) frame_without_a_link (beginning (line_of_three 1) 0) ≡ frame_without_a_link_shows }
+    ensures three_numbers_left { stamps line (Set 0 ∷ []) (having_sent 65533) ≡ Err LinkFull ∷ [] }
+    ensures whole_run { run_items (world_run line (new_world line) set_and_session) ≡ set_and_session_shows }
+    ensures full_hand { asks_behind (record { first = 470; count = 5 }) ≡ RouteAsk 1 475 27 ∷ [] }
+    ensures last_section { asks_behind (record { first = 490; count = 5 }) ≡ RouteAsk 1 495 17 ∷ [] }
+    ensures four_numbers_left { stamps line (Set 0 ∷ []) (having_sent 65532) ≡ Ok (1, None) ∷ [] }
+{}
+
+/// The scenes of sessions and starts, met. Of a start it is shown whole that the state of the line centre stands for the centres.
+pub fn starts_met()
+    ensures nothing_happens { IsMetByRun line nothing_happens (plain nothing_happens) }
+    ensures set_and_unset { IsMetByRun line set_and_unset (plain set_and_unset) }
+    ensures session_opens { IsMetByRun line session_opens (plain session_opens) }
+    ensures session_opens_again { IsMetByRun line session_opens_again (plain session_opens_again) }
+    ensures trains_are_named { IsMetByRun line trains_are_named trains_are_named_moves }
+    ensures session_opens_over_a_session { IsMetByRun line session_opens_over_a_session (plain session_opens_over_a_session) }
+    ensures session_ends { IsMetByRun line session_ends (plain session_ends) }
+    ensures messages_without_a_session { IsMetByRun line messages_without_a_session (plain messages_without_a_session) }
+    ensures messages_before_the_session_is_up { IsMetByRun line messages_before_the_session_is_up (plain messages_before_the_session_is_up) }
+    ensures messages_without_a_mission { IsMetByRun line messages_without_a_mission (plain messages_without_a_mission) }
+    ensures first_reason { IsMetByRun line first_reason (plain first_reason) }
+    ensures start_at_the_registrar { IsMetByRun line start_at_the_registrar start_moves }
+    ensures start_at_a_shut_section { IsMetByRun line start_at_a_shut_section (plain start_at_a_shut_section) }
+    ensures request_without_train_data { IsMetByRun line request_without_train_data (plain request_without_train_data) }
+    ensures hand_outlives_the_session { IsMetByRun line hand_outlives_the_session (plain hand_outlives_the_session) }
+    ensures start_after_the_end_of_mission { IsMetByRun line start_after_the_end_of_mission (plain start_after_the_end_of_mission) }
+    ensures unset_of_the_first_section { IsMetByRun line unset_of_the_first_section (plain unset_of_the_first_section) }
+    ensures right_comes { IsMetByRun line right_comes right_comes_moves }
+    ensures right_goes_back { IsMetByRun line right_goes_back (plain right_goes_back) }
+    ensures right_serves_a_later_start { IsMetByRun line right_serves_a_later_start right_serves_a_later_start_moves }
+    ensures ask_delivered_twice { IsMetByRun line ask_delivered_twice ask_delivered_twice_moves }
+    ensures right_is_refused { IsMetByRun line right_is_refused right_is_refused_moves }
+    ensures whole { IsLineRunOf line start_at_the_registrar }
+{}
+
+/// The scenes of requests and reports, met.
+pub fn requests_met()
+    ensures request_asks_over_the_border { IsMetByRun line request_asks_over_the_border to_the_border_moves }
+    ensures asks_again_each_round { IsMetByRun line asks_again_each_round asks_again_each_round_moves }
+    ensures end_of_the_track { IsMetByRun line_of_two_tracks end_of_the_track end_of_the_track_moves }
+    ensures report_clears { IsMetByRun line report_clears report_clears_moves }
+    ensures no_integrity_frees_nothing { IsMetByRun line no_integrity_frees_nothing no_integrity_moves }
+    ensures request_extends_over_the_border { IsMetByRun line request_extends_over_the_border over_the_border_moves }
+    ensures early_frame { IsMetByRun line early_frame early_frame_moves }
+    ensures hand_of_32_sections { IsMetByRun (line_of_one 40 100) hand_of_32_sections hand_of_32_sections_moves }
+    ensures end_within_reach_of_the_message { IsMetByRun (line_of_one 20 2000) end_within_reach_of_the_message end_within_reach_of_the_message_moves }
+    ensures longest_authority { IsMetByRun (line_of_32_km 767) longest_authority longest_authority_moves }
+    ensures one_metre_too_far { IsMetByRun (line_of_32_km 768) one_metre_too_far one_metre_too_far_moves }
+    ensures end_of_mission { IsMetByRun line end_of_mission end_of_mission_moves }
+{}
+
+/// The scenes of requests to shorten, met.
+pub fn shortenings_met()
+    ensures unset_in_a_hand { IsMetByRun line unset_in_a_hand unset_in_a_hand_moves }
+    ensures start_drops_the_proposal { IsMetByRun (line_of_one 8 1000) start_drops_the_proposal start_drops_the_proposal_moves }
+    ensures shortening_in_one_centre { IsMetByRun (line_of_one 8 1000) shortening_in_one_centre shortening_in_one_centre_moves }
+    ensures shortening_and_a_late_route { IsMetByRun line shortening_and_a_late_route late_route_moves }
+    ensures answer_to_another_proposal { IsMetByRun line answer_to_another_proposal answer_to_another_proposal_moves }
+    ensures granted_past_the_proposed_end { IsMetByRun line granted_past_the_proposed_end granted_past_the_proposed_end_moves }
+    ensures another_answer_at_the_border { IsMetByRun line another_answer_at_the_border another_answer_at_the_border_moves }
+    ensures asking_again_tries_again { IsMetByRun line asking_again_tries_again asking_again_tries_again_moves }
+{}
+
+/// The scenes of handovers, met.
+pub fn handovers_met()
+    ensures handover { IsMetByRun line handover (handed_over_moves 7) }
+    ensures return_after_handover { IsMetByRun line return_after_handover return_moves }
+    ensures yield_carries_the_last_stamp_heard { IsMetByRun line yield_carries_the_last_stamp_heard last_stamp_heard_moves }
+    ensures cancelled_before_taking_over { IsMetByRun line cancelled_before_taking_over cancelled_moves }
+{}
+
+/// The scenes of three centres, met.
+pub fn three_centres_met()
+    ensures border_of_the_first { IsMetByRun (line_of_three 0) border_of_the_first from_the_first_moves }
+    ensures second_takes_over { IsMetByRun (line_of_three 0) second_takes_over from_the_second_moves }
+    ensures third_home_holds_the_yield_back { IsMetByRun (line_of_three 0) third_home_holds_the_yield_back third_home_holds_the_yield_back_moves }
+    ensures withdraw_goes_to_one_centre { IsMetByRun (line_of_three 0) withdraw_goes_to_one_centre withdraw_goes_to_one_centre_moves }
+    ensures first_and_third_not_linked { IsMetByRun (line_of_three 1) first_and_third_not_linked first_and_third_not_linked_moves }
+    ensures yields_once_cleared { IsMetByRun (line_of_three 0) yields_once_cleared yields_once_cleared_moves }
+    ensures end_of_mission_yields { IsMetByRun (line_of_three 0) end_of_mission_yields end_of_mission_yields_moves }
+{}
+
+/// What a single condition decides.
+pub fn single_conditions()
+    ensures unset_without_a_session { seen line unset_without_a_session ≡ unset_without_a_session_shows }
+    ensures unset_after_the_end { seen line unset_after_the_end ≡ unset_after_the_end_shows }
+    ensures unset_again { seen line unset_again ≡ unset_again_shows }
+    ensures front_before_the_hand { seen line front_before_the_hand ≡ front_before_the_hand_shows }
+    ensures front_in_the_section { seen line front_in_the_section ≡ front_in_the_section_shows }
+    ensures section_out_of_reach { seen (line_of_one 20 2000) section_out_of_reach ≡ section_out_of_reach_shows }
+    ensures yield_with_a_pool { seen line yield_with_a_pool ≡ yield_with_a_pool_shows }
+    ensures cut_with_a_pool { seen line cut_with_a_pool ≡ cut_with_a_pool_shows }
+    ensures cut_behind_the_border { seen line cut_behind_the_border ≡ cut_behind_the_border_shows }
+    ensures proposal_ends_with_the_session { seen line proposal_ends_with_the_session ≡ proposal_ends_with_the_session_shows }
+    ensures start_outside_the_hand { seen line start_outside_the_hand ≡ start_outside_the_hand_shows }
+    ensures request_again_over_the_border { seen line request_again_over_the_border ≡ request_again_over_the_border_shows }
+    ensures request_while_asked { seen line request_while_asked ≡ request_while_asked_shows }
+    ensures full_hand_at_the_border { seen (line_of_a_and_b 32 4 100) full_hand_at_the_border ≡ full_hand_at_the_border_shows }
+    ensures pool_out_of_reach { seen (line_of_a_and_b 10 10 2000) pool_out_of_reach ≡ pool_out_of_reach_shows }
+    ensures proposal_ends_with_the_mission { seen line proposal_ends_with_the_mission ≡ proposal_ends_with_the_mission_shows }
+{}
+
+/// The scenes of single conditions, met.
+pub fn conditions_met()
+    ensures unset_without_a_session { IsMetByRun line unset_without_a_session unset_without_a_session_moves }
+    ensures unset_after_the_end { IsMetByRun line unset_after_the_end (plain unset_after_the_end) }
+    ensures unset_again { IsMetByRun line unset_again unset_again_moves }
+    ensures front_before_the_hand { IsMetByRun line front_before_the_hand front_before_the_hand_moves }
+    ensures front_in_the_section { IsMetByRun line front_in_the_section front_in_the_section_moves }
+    ensures section_out_of_reach { IsMetByRun (line_of_one 20 2000) section_out_of_reach section_out_of_reach_moves }
+    ensures yield_with_a_pool { IsMetByRun line yield_with_a_pool yield_with_a_pool_moves }
+    ensures cut_with_a_pool { IsMetByRun line cut_with_a_pool cut_with_a_pool_moves }
+    ensures cut_behind_the_border { IsMetByRun line cut_behind_the_border cut_behind_the_border_moves }
+    ensures proposal_ends_with_the_session { IsMetByRun line proposal_ends_with_the_session proposal_ends_with_the_session_moves }
+    ensures start_outside_the_hand { IsMetByRun line start_outside_the_hand (plain start_outside_the_hand) }
+    ensures request_again_over_the_border { IsMetByRun line request_again_over_the_border request_again_over_the_border_moves }
+    ensures request_while_asked { IsMetByRun line request_while_asked request_while_asked_moves }
+    ensures full_hand_at_the_border { IsMetByRun (line_of_a_and_b 32 4 100) full_hand_at_the_border full_hand_at_the_border_moves }
+    ensures pool_out_of_reach { IsMetByRun (line_of_a_and_b 10 10 2000) pool_out_of_reach pool_out_of_reach_moves }
+    ensures proposal_ends_with_the_mission { IsMetByRun line proposal_ends_with_the_mission proposal_ends_with_the_mission_moves }
+{}
+
+/// Where one centre has the whole line the run leaves the line centre no choice.
+pub fn one_centre_met()
+    ensures start_drops_the_proposal { IsMetByForcedRun (line_of_one 8 1000) 0 start_drops_the_proposal }
+    ensures shortening_in_one_centre { IsMetByForcedRun (line_of_one 8 1000) 0 shortening_in_one_centre }
+    ensures hand_of_32_sections { IsMetByForcedRun (line_of_one 40 100) 0 hand_of_32_sections }
+    ensures section_out_of_reach { IsMetByForcedRun (line_of_one 20 2000) 0 section_out_of_reach }
+{}
+
+/// Frames that no world sends come to nothing, but for the clock and the count of frames taken.
+pub fn stray_frames()
+    ensures to_a { effects line 0 1 asking strays_to_a ≡ times 24 calm_asking }
+    ensures from_c { effects line 0 2 asking strays_from_c ≡ times 1 calm_asking }
+    ensures to_the_announcing { effects line 0 1 announcing strays_to_the_announcing ≡ times 3 calm_announcing }
+    ensures of_another_centre { effects line 0 2 announcing (TakingOver 1 1 ∷ []) ≡ times 1 calm_announcing }
+    ensures to_the_expecting { effects line 1 0 expecting strays_to_the_expecting ≡ times 4 calm_expecting }
+    ensures to_the_taking { effects line 1 0 taking_over strays_to_the_taking ≡ times 8 calm_taking }
+    ensures before_the_track { deliveries line 1 0 4 taking_over fronts_before_the_track ≡ times 2 (taken_without_effect 4 calm_taking) }
+    ensures yields_taken { missions_taken ≡ Some (mission_at 16200) ∷ Some (mission_at 10000) ∷ [] }
+{}
+
+/// Where a position packet places a train, and what comes of one that has no place or is not fit for a start.
+pub fn placed()
+    ensures reports_without_place { seen line reports_without_place ≡ reports_without_place_shows }
+    ensures requests_without_place { seen line requests_without_place ≡ requests_without_place_show }
+    ensures hand_out_of_reach { seen (line_of_one 20 2000) hand_out_of_reach ≡ hand_out_of_reach_shows }
+    ensures starts_that_are_not_fit { seen (line_of_one 8 1000) starts_that_are_not_fit ≡ starts_that_are_not_fit_show }
+    ensures longest_train { seen (line_of_one 40 100) longest_train ≡ longest_train_shows }
+    ensures other_scale { seen line other_scale ≡ other_scale_shows }
+    ensures own_stamp_after_a_yield { seen line own_stamp_after_a_yield ≡ own_stamp_after_a_yield_shows }
+{}
+
+/// The scenes of places, met.
+pub fn places_met()
+    ensures reports_without_place { IsMetByRun line reports_without_place (plain reports_without_place) }
+    ensures requests_without_place { IsMetByRun line requests_without_place requests_without_place_moves }
+    ensures hand_out_of_reach { IsMetByRun (line_of_one 20 2000) hand_out_of_reach hand_out_of_reach_moves }
+    ensures starts_that_are_not_fit { IsMetByRun (line_of_one 8 1000) starts_that_are_not_fit (plain starts_that_are_not_fit) }
+    ensures longest_train { IsMetByRun (line_of_one 40 100) longest_train (plain longest_train) }
+    ensures other_scale { IsMetByRun line other_scale other_scale_moves }
+    ensures own_stamp_after_a_yield { IsMetByRun line own_stamp_after_a_yield own_stamp_after_a_yield_moves }
+{}

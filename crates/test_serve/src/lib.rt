@@ -1,0 +1,18 @@
+//! Tests of the running centres: trains and the interlocking as threads of one process, over loopback.
+//!
+//! What is expected comes from the standard or from the rules in words, never from the program's own output.
+#![tactic(auto)]
+
+pub mod client;
+#[cfg(test)]
+mod interlocking;
+#[cfg(test)]
+mod line;
+#[cfg(test)]
+mod railway;
+#[cfg(test)]
+mod replies;
+#[cfg(test)]
+mod sessions;
+#[cfg(test)]
+mod trains;

@@ -1,0 +1,71 @@
+//! The centres of a line, served while a play goes on.
+
+use crate::client::{Done, Missed, connect, say};
+use crate::line::CONTROL;
+use cli_audit::{Audit, Verdict};
+use rbc_line::Line;
+use serve_line::{Doors, Quiet, serve};
+use std::alloc::Global;
+use std::net::{Net, SocketAddr, TcpListener, TcpStream};
+use std::sync::Wait;
+use std::thread;
+use std::thread::Threads;
+
+/// The addresses of centre A and of the control door.
+#[derive(Clone, Copy)]
+pub struct Addresses {
+    pub centre: SocketAddr,
+    pub control: SocketAddr,
+}
+
+/// Serves the line while the play goes on, then says `stop`, and gives what was printed.
+pub fn printed_with<
+    R: Threads + Wait + Sync + Net<Stream = TcpStream, Listener = TcpListener>,
+    P: FnOnce(Addresses) -> Done<()>,
+>(rt: &R, alloc: Global, line: &Line, play: P) -> Done<Vec<u8>>
+    requires { P.IsAlwaysCallable play }
+{
+    let doors = Doors::open(rt, alloc, line, 0).ok().ok_or(Missed::Door)?;
+    let addresses = Addresses {
+        centre: doors.address(0).ok_or(Missed::Door)?,
+        control: doors.address(CONTROL).ok_or(Missed::Door)?,
+    };
+    let (served, played) = thread::join(
+        rt,
+        || served(rt, alloc, line, doors),
+        || {
+            let played = play(addresses);
+            stop(rt, addresses)?;
+            played
+        },
+    );
+    played?;
+    served
+}
+
+fn served<R: Threads + Wait + Sync>(
+    rt: &R,
+    alloc: Global,
+    line: &Line,
+    doors: Doors,
+) -> Done<Vec<u8>> {
+    let mut out = Vec::new(alloc);
+    serve(rt, alloc, line, doors, &Quiet, &mut out)
+        .ok()
+        .ok_or(Missed::Print)?;
+    Ok(out)
+}
+
+fn stop<R: Net<Stream = TcpStream>>(rt: &R, addresses: Addresses) -> Done<()> {
+    let control = connect(rt, addresses.control)?;
+    say(&control, b"stop\n")
+}
+
+/// What an audit of the print finds.
+pub fn audited(alloc: Global, line: &Line, printed: &str) -> Done<Verdict> {
+    let mut audit = Audit::new(alloc, line).ok().ok_or(Missed::Memory)?;
+    for row in printed.lines() {
+        audit.row(row);
+    }
+    Ok(audit.end().ok().ok_or(Missed::Audit)?)
+}
