@@ -7,6 +7,7 @@ ghost use Rattle.rbc_spec.specs.LineCentre.{Given, is_given_to};
 ghost use Rattle.rbc_spec.specs.World.{World, Event, Unset, Answer, Answered, new_world, world_step, world_run};
 ghost use Rattle.rbc_spec.specs.ReadOff.{read_off};
 ghost use Rattle.rbc_spec.specs.Promises.{MayFree};
+ghost use Rattle.law_outside.specs.Outside.{OutsideTheorem};
 ghost use Rattle.law_promises.specs.Promised.{IsFreedWithin, IsTakenBack};
 
 /// Behind any list of events, a section that the line shows as given to a train is so behind the next event too, but where the train clears
@@ -33,4 +34,10 @@ pub fn a_section_told_back_is_nobodys()
     ensures done { (line : Line) (events : List Event) (answers : List Answer) (w new : World) (o : Outcome) (c s : ℕ) → IsLine line
         → world_run line (new_world line) events ≡ Ok (answers, w) → world_step line w (Unset c s) ≡ Ok (Answered o, new)
         → is_home line c s ≡ true → Contains o.words (Done s) → IsTakenBack line c s new }
+{}
+
+/// What the world outside sees is safe: whatever comes to the centres of a line, in any order, late, twice or never, no two trains may run over one
+/// section by what they were told, and none over a section that the interlocking has not released, or has had back.
+pub fn what_the_world_sees_is_safe()
+    ensures { OutsideTheorem }
 {}

@@ -8,5 +8,5 @@ mod laws;
 
 pub use laws::{
     a_section_leaves_a_hand_only_by_its_train, a_section_that_left_was_freed,
-    a_section_told_back_is_nobodys,
+    a_section_told_back_is_nobodys, what_the_world_sees_is_safe,
 };

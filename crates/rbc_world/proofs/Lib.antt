@@ -7,3 +7,4 @@ pub mod Loop
 pub mod Reached
 pub mod Mentions
 pub mod Wanted
+pub mod Outside

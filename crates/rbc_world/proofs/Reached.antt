@@ -27,7 +27,7 @@ of_ok : {X : Type 0} (p q : X) → ◌≡◌ {A = Result X Refusal} (Ok p) (Ok q
 of_ok p q e = cc
 
 -- one event behind those of a run
-run_on : (line : Line) (events : List Event) (w mid new : World) (answers : List Answer) (event : Event) (answer : Answer)
+pub run_on : (line : Line) (events : List Event) (w mid new : World) (answers : List Answer) (event : Event) (answer : Answer)
     → world_run line w events ≡ Ok (answers, mid) → world_step line mid event ≡ Ok (answer, new) → world_run line w (events ++ event ∷ []) ≡ Ok (answers ++ answer ∷ [], new)
 run_on line [] w mid new answers event answer is s =
     let same : ([], w) ≡ (answers, mid) = of_ok ([], w) (answers, mid) (sym (run_of_none line w) ∙ is) in

@@ -12,6 +12,7 @@ ghost use Rattle.rbc_spec.specs.Run.{Goes};
 ghost use Rattle.rbc_spec.specs.ReadOff.{StandsFor, read_off};
 ghost use Rattle.rbc_spec.specs.Promises.{IsSound, KeepsPromises};
 ghost use Rattle.rbc_spec.specs.Theorems.{IsOneCentreLine, GoesForced};
+ghost use Rattle.law_outside.specs.Outside.{StaysSafeOutside};
 ghost use Rattle.rbc_centre.specs.declared.centre.Centre.{Centre};
 ghost use Rattle.rbc_centre.specs.States as one;
 ghost use Rattle.rbc_centre.specs.Answer as one_step;
@@ -87,6 +88,8 @@ impl World {
         ensures sound { IsSound (line_of self.new) (state_of self.new) }
         // A section leaves an authority only by what its train said, and the interlocking is told what is so.
         ensures promises { IfOk result (λ a. KeepsPromises (line_of self.old) (state_of self.old) (event_of event.now) (answer_of a) (state_of self.new)) }
+        // By what they were told, behind whatever led here, no two trains may run over one section, and none over one that is not released.
+        ensures outside { IfOk result (λ a. StaysSafeOutside (line_of self.old) (state_of self.old) (event_of event.now) (answer_of a)) }
         // On a one-centre line the piece leaves no choice.
         ensures one_centre { (c : ℕ) → IsOneCentreLine (line_of self.old) c
             → IfOk result (λ a. GoesForced (line_of self.old) (read_off (line_of self.old) (state_of self.old))

@@ -10,6 +10,7 @@
 mod late;
 mod not_allowed;
 mod one_places;
+mod outside;
 
 ghost use Rattle.std.specs.Prelude.{◌≡◌, [], ◌∷◌, None, Some, Ok, Err};
 ghost use Rattle.rbc_spec.specs.Centre.{beginning};
@@ -36,6 +37,7 @@ ghost use Rattle.test_scenes.specs.Limits.{asks_behind, run_items, set_and_sessi
 pub use late::{late_frames, races_met};
 pub use not_allowed::{moves_not_allowed, two_yields_on_the_way};
 pub use one_places::each_thing_stays_in_one_place;
+pub use outside::{trains_side_by_side_are_seen, wrong_answers_are_seen};
 
 /// What the interlocking is told, how sessions are opened and ended, and how missions start at the registrar and elsewhere.
 pub fn sessions_and_starts()
