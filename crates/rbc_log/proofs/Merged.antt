@@ -10,6 +10,8 @@ use Rattle.std.proofs.lemmas.Bool.Decides.{nat_tests}
 use Rattle.law_logs.specs.Logs.{LogEntry, IsInOrder, ComesBefore, IsMerge, IsWorldRun, happened, answered}
 use Rattle.law_logs.proofs.Sorted.{merges}
 use Rattle.law_logs.proofs.Merged.{family}
+use Rattle.rbc_spec.specs.ReadOff.{IsLineRun}
+use Rattle.law_outside.proofs.Pieces.{run_safe}
 use Rattle.law_refinement.proofs.Lines.{the_run}
 use Rattle.law_refinement.proofs.Promises.{run_sound}
 use Rattle.rbc_log.specs.Entries.{entry_of, written_of}
@@ -56,8 +58,11 @@ pub one_run : (logs : List LogValue) (es : List Entry) → All IsReplaying logs 
 one_run logs es r is line ok same legal =
     let world : IsWorldRun line (map entry_of es) (ends_by line logs) =
     family line (logs_by logs) (ends_by line logs) (are_logs line logs same r) legal (map entry_of es) is.merge in
+    let run : IsLineRun line (map happened (map entry_of es)) (map answered (map entry_of es)) world.last =
+    the_run line ok (map happened (map entry_of es)) (map answered (map entry_of es)) world.last world.runs in
     record {
       world = world;
-      line_centre = the_run line ok (map happened (map entry_of es)) (map answered (map entry_of es)) world.last world.runs;
+      line_centre = run;
+      outside = run_safe line ok (map happened (map entry_of es)) (map answered (map entry_of es)) run.last run.is_run;
       sound = run_sound line ok (map happened (map entry_of es)) (map answered (map entry_of es)) world.last world.runs;
     }

@@ -7,6 +7,7 @@ use Rattle.rbc_spec.specs.Line.{Line, IsLine, AreDistinct}
 use Rattle.rbc_spec.specs.Centre.{Centre, beginning}
 use Rattle.rbc_spec.specs.ReadOff.{IsLineRun}
 use Rattle.rbc_spec.specs.Promises.{IsSound}
+use Rattle.law_outside.specs.Outside.{IsSafeOutside, sees_all, nothing_seen}
 use Rattle.law_logs.specs.Logs.{LogEntry, IsLegal, IsMerge, IsWorldRun, happened, answered}
 use Rattle.rbc_centre.specs.States.{line_of, number_of, state_of}
 use Rattle.rbc_log.specs.Entries.{entry_of, written_of}
@@ -56,10 +57,12 @@ pub record IsMerged (logs : List LogValue) (es : List Entry) : Type 0 where
   pub merge : IsMerge (logs_by logs) (map entry_of es)
 
 -- The entries are one run. The world answers their events as they have it, from its beginning, and each centre ends where its log does. That
--- is a run of the one line centre, and the world is sound: no section and no right is lost or in two places
+-- is a run of the one line centre, what the world outside sees of it is safe, and the world is sound: no section and no right is lost or in two
+-- places
 pub record IsOneRun (line : Line) (es : List LogEntry) (ends : ℕ → Centre) : Type 0 where
   pub world : IsWorldRun line es ends
   pub line_centre : IsLineRun line (map happened es) (map answered es) world.last
+  pub outside : IsSafeOutside line (sees_all line (map happened es) (map answered es) nothing_seen)
   pub sound : IsSound line world.last
 
 -- so it is where each frame that was delivered stands in its sender's log
