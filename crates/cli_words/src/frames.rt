@@ -7,7 +7,7 @@ pub(crate) fn words_of_body(name: &str) -> Option<&'static str> {
         "GiveRight" => "the train's right is given",
         "RefuseRight" => "the train's right is refused",
         "ReturnRight" => "the train's right goes back",
-        "RouteAsk" => "sections behind the train's authority are asked for",
+        "RouteAsk" => "sections beyond the train's authority are asked for",
         "RouteInfo" => "sections are lent, or none",
         "RouteWithdraw" => "a lent section is wanted back",
         "RouteReturn" => "lent sections come back",

@@ -247,7 +247,7 @@ fn free_of<'a>(section: u16, word: &str, is_wished: bool) -> Option<Row<'a>> {
 /// A section that a train uses.
 fn used_of<'a>(section: u16, word: &str, nid_engine: u32, is_wished: bool) -> Option<Row<'a>> {
     let mark = match word {
-        "kept" => "kept behind",
+        "kept" => "kept for",
         "given" => "in the authority of",
         _ => return None,
     };
