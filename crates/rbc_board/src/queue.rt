@@ -11,7 +11,7 @@ use rbc_linkmsg::Frame;
 use std::alloc::{AllocError, Global};
 use std::sync::Wait;
 
-/// How many frames stand in a link's queue at most, and how many are taken out of it by one call.
+/// How many frames stand in a link's queue at most, and how many are taken out of it by one call at most. No clause says the second.
 const ROOM: usize = 64;
 
 /// A bounded queue of frames for one directed link, in the order of their numbers.
