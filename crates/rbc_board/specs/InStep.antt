@@ -1,5 +1,5 @@
 -- The rule of the queue of a link: its frames, and what its passes stand for.
-use Rattle.std.specs.Prelude.{◌≡◌, ℕ, ◌≤◌, ◌==◌, List, [], ◌∷◌, ◌++◌, Bool, true, Option, Some, None, if◌then◌else◌}
+use Rattle.std.specs.Prelude.{◌≡◌, ℕ, ◌≤◌, ◌==◌, List, [], ◌∷◌, Bool, true, Option}
 use Rattle.std.specs.List.{find}
 use mathlib.Core.Logic.{◌⊎◌}
 use mathlib.Core.Option.{some}

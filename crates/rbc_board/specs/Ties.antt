@@ -1,5 +1,5 @@
 -- What ties the notes of a caller to the queue of its link.
-use Rattle.std.specs.Prelude.{◌≡◌, ℕ, ◌≤◌, true, Option}
+use Rattle.std.specs.Prelude.{◌≡◌, ◌≤◌, true, Option}
 use Rattle.crossbeam_queue.specs.Passes.{view, IsPassOf}
 use Rattle.crossbeam_queue.specs.declared.array_queue.Doing.{Doing}
 use Rattle.crossbeam_queue.specs.declared.array_queue.Slotted.{Slotted}

@@ -1,4 +1,4 @@
-use Rattle.std.proofs.Common.{rules, ◌≡◌, true, false, true≢false, [], ◌∷◌, ◌++◌, sym, ap, subst, ◌∙◌, arith, ⊎_elim, inl, inr}
+use Rattle.std.proofs.Common.{◌≡◌, true≢false, [], ◌∷◌, ◌++◌, sym, ap, subst, ◌∙◌, arith, ⊎_elim, inl, inr}
 use Rattle.crossbeam_queue.specs.Passes.{view, IsPassOf}
 use Rattle.rbc_board.specs.InStep.{Mem}
 use Rattle.rbc_board.proofs.Steps.{takes, mem-push}

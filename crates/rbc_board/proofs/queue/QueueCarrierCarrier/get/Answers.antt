@@ -1,4 +1,4 @@
-use Rattle.std.proofs.Common.{rules, ◌≡◌, [], ◌∷◌, ◌++◌, sym, ap, subst, ◌∙◌, arith}
+use Rattle.std.proofs.Common.{sym, ap, ◌∙◌}
 use Rattle.rbc_board.specs.InStep.{found}
 use Rattle.rbc_board.proofs.Steps.{found-keeps, found-none, found-other}
 use Rattle.rbc_board.proofs.queue.QueueCarrierCarrier.get.Goals as goal

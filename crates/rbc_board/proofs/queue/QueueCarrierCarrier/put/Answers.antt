@@ -1,4 +1,4 @@
-use Rattle.std.proofs.Common.{rules, ◌≡◌, ◌<◌, ◌+◌, true, Some, [], ◌∷◌, ◌++◌, refl, sym, ap, subst, ◌∙◌, arith, ⊎_elim, inl, inr}
+use Rattle.std.proofs.Common.{rules, ◌≡◌, ◌<◌, true, [], ◌∷◌, ◌++◌, sym, ap, subst, ◌∙◌, arith, ⊎_elim, inl, inr}
 use Rattle.crossbeam_queue.specs.Passes.{view, IsPassOf}
 use Rattle.rbc_board.specs.InStep.{Mem, found}
 use Rattle.rbc_board.proofs.Steps.{puts, found-keeps, found-none, found-above, mem-push}
