@@ -6,6 +6,12 @@
 
 mod carrier;
 mod cells;
+mod queue;
+mod rule;
+mod view;
 
 pub use carrier::Carrier;
 pub use cells::{CellBoard, CellSeen};
+pub use queue::{QueueCarrier, QueueSeen};
+pub use rule::InStep;
+pub use view::View;

@@ -7,6 +7,7 @@
 mod desk;
 mod end;
 mod links;
+mod order;
 mod outlet;
 mod session;
 mod signals;
@@ -14,6 +15,7 @@ mod signals;
 pub use desk::Desk;
 pub use end::SessionEnd;
 pub use links::{receive_frames, send_frames};
+pub use order::{InOrder, Order};
 pub use outlet::{Closed, Outlet};
 pub use session::run_session;
-pub use signals::Signals;
+pub use signals::{LinkEnds, Signals};

@@ -1,6 +1,7 @@
-//! A board carries a frame from one caller to another, and takes one under each number.
+//! A board carries a frame from one caller to another, and takes one under each number; so does a queue, which has room for 64.
+ghost use Rattle.std.specs.Prelude.{◌≤◌};
 
-use rbc_board::{Carrier, CellBoard};
+use rbc_board::{Carrier, CellBoard, QueueCarrier};
 use rbc_linkmsg::{Body, Frame};
 use std::test::*;
 
@@ -41,5 +42,54 @@ fn a_board_takes_no_frame_under_another_number_or_past_its_cells(
     let past_the_cells = board.put(&mut seen, 2, second);
     assert!(rt; [under_one, past_the_cells] == [Err(second), Err(second)]);
     assert!(rt; board.get(&mut seen, 0) == None);
+    Ok(())
+}
+
+// A frame of this number.
+fn numbered(number: u32) -> Frame
+    requires { (1 ≤ number) × (number ≤ 65536) }
+{
+    Frame::new(number, number, Body::AskRight { engine: 2 })
+}
+
+// Puts so many frames from the first on. Whether all are taken.
+fn puts_all<C: Carrier>(carrier: &C, seen: &mut C::Seen, count: u32) -> bool
+    requires link { C.is_of carrier.now seen.old }
+    requires count { count ≤ 65536 }
+    ensures { C.is_of carrier.now seen.new }
+{
+    for k in 0..count {
+        if carrier.put(seen, k + 1, numbered(k + 1)).is_err() {
+            return false;
+        }
+    }
+    true
+}
+
+#[test]
+fn a_queue_hands_back_what_it_has_no_room_for_and_gives_what_is_known_again(
+    rt: HostRuntime,
+) -> Result<(), Fail> {
+    let (queue, mut sender, mut receiver) = QueueCarrier::new(&rt, rt.alloc())?;
+    assert!(rt; puts_all(&queue, &mut sender, 64));
+    assert!(rt; queue.put(&mut sender, 65, numbered(65)) == Err(numbered(65)));
+    assert!(rt; queue.get(&mut receiver, 1) == Some(numbered(1)));
+    assert!(rt; queue.put(&mut sender, 65, numbered(65)) == Ok(()));
+    assert!(rt; queue.get(&mut receiver, 1) == Some(numbered(1)));
+    Ok(())
+}
+
+#[test]
+fn only_one_caller_of_a_queue_puts_and_only_the_other_takes(rt: HostRuntime) -> Result<(), Fail> {
+    let (queue, mut sender, mut receiver) = QueueCarrier::new(&rt, rt.alloc())?;
+    assert!(rt; queue.put(&mut receiver, 1, numbered(1)) == Err(numbered(1)));
+    assert!(rt; queue.put(&mut sender, 2, numbered(2)) == Err(numbered(2)));
+    assert!(rt; queue.put(&mut sender, 1, numbered(1)) == Ok(()));
+    assert!(rt; queue.put(&mut sender, 1, numbered(1)) == Err(numbered(1)));
+    assert!(rt; queue.get(&mut sender, 2) == None);
+    assert!(rt; queue.get(&mut sender, 1) == Some(numbered(1)));
+    assert!(rt; queue.get(&mut receiver, 2) == None);
+    assert!(rt; queue.get(&mut receiver, 1) == Some(numbered(1)));
+    queue.compare(&mut sender, receiver, 1);
     Ok(())
 }

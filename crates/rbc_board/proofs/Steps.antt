@@ -1,0 +1,158 @@
+-- Each step keeps the rule of the queue, and what is found among frames that are known.
+use Rattle.std.proofs.Common.{◌≡◌, ◌≢◌, ℕ, zero, suc, ◌<◌, ◌≤◌, ◌==◌, true, false, true≢false, List, [], ◌∷◌, ◌++◌, set, sym, refl, ap, ◌∙◌, subst, ⊎_elim, ◌⊎◌, inl, inr, Some, None, if◌then◌else◌, arith}
+use mathlib.Core.Option.{some, some-ne-none}
+use lib.ListN.{get_elem?}
+use Rattle.std.proofs.lemmas.Bool.Decides.{eqb_tells}
+use Rattle.crossbeam_queue.specs.Fifo.{Pushes, Pops, Forks, Merges, Learns}
+use Rattle.crossbeam_queue.proofs.Lists.{at_set, at_snoc}
+use Rattle.rbc_linkmsg.specs.declared.frame.Frame.{Frame}
+use Rattle.rbc_board.specs.declared.view.View.{View}
+use Rattle.rbc_board.specs.InStep.{Mem, Fits, IsUnique, InStep, viewed, found}
+
+mem-append : (f : Frame) (xs ys : List Frame) → Mem f (xs ++ ys) → Mem f xs ⊎ Mem f ys
+mem-append f [] ys m = inr m
+mem-append f (x ∷ xs) ys (inl e) = inl (inl e)
+mem-append f (x ∷ xs) ys (inr m) = ⊎_elim (λ a. inl (inr a)) (λ b. inr b) (mem-append f xs ys m)
+
+pub mem-left : (f : Frame) (xs ys : List Frame) → Mem f xs → Mem f (xs ++ ys)
+mem-left f [] ys m = absurd m
+mem-left f (x ∷ xs) ys (inl e) = inl e
+mem-left f (x ∷ xs) ys (inr m) = inr (mem-left f xs ys m)
+
+pub mem-right : (f : Frame) (xs ys : List Frame) → Mem f ys → Mem f (xs ++ ys)
+mem-right f [] ys m = m
+mem-right f (x ∷ xs) ys m = inr (mem-right f xs ys m)
+
+abbrev All : (ℕ → View → Type 0) → List View → Type 0
+All F views = (port : ℕ) (v : View) → get_elem? views port ≡ some v → F port v
+
+all_set : (F : ℕ → View → Type 0) (views : List View) (port : ℕ) (w : View) → F port w → ((j : ℕ) (u : View) → j ≢ port → get_elem? views j ≡ some u → F j u) → All F (set views port w)
+all_set F views port w mine others j u e = ⊎_elim (λ (x : (j ≡ port) × (w ≡ u)). subst (λ (y : ℕ × View). F y.0 y.1) (λ i. (sym x.0 i, x.1 i)) mine)
+    (λ (x : (j ≢ port) × (get_elem? views j ≡ some u)). others j u x.0 x.1) (at_set views port j w u e)
+
+alone : (j : ℕ) (u : View) → j ≢ 0 → ¬ (get_elem? (viewed true 0 [] ∷ []) j ≡ some u)
+alone zero u other e = other refl
+alone (suc j) u other e = some-ne-none u (sym e)
+
+pub begins : InStep [] (viewed true 0 [] ∷ [])
+begins = (
+  0,
+  [],
+  λ f g m. absurd m,
+  λ f m. m,
+  all_set (Fits 0 []) (viewed true 0 [] ∷ []) 0 (viewed true 0 []) ((λ f m. m), λ _. (refl, λ f m. absurd m)) (λ j u other e. absurd (alone j u other e)),
+)
+
+pub puts : (n port : ℕ) (v : View) (x : Frame) → v.puts ≡ true → v.last < x.number → Pushes InStep n port v x (λ w. w ≡ viewed v.puts x.number (x ∷ v.known))
+puts n port v x may above items views room h at =
+    let seat = h.0 in
+    let put = h.1 in
+    let unique = h.2 in
+    let queued = h.3 in
+    let fits = h.4 in
+    let w : View = viewed v.puts x.number (x ∷ v.known) in
+    let mine = fits port v at in
+    let here = mine.1 may in
+    let unlike : (f : Frame) → Mem f put → ¬ (f.number ≡ x.number) = λ f m e. let low = (here.1 f m).1 in absurd (omega arith) in (
+      w,
+      (
+        seat,
+        x ∷ put,
+        (λ f g m k e. ⊎_elim
+            (λ (a : f ≡ x). ⊎_elim (λ (b : g ≡ x). a ∙ sym b) (λ (b : Mem g put). absurd (unlike g b (sym e ∙ ap (λ (y : Frame). y.number) a))) k)
+            (λ (a : Mem f put). ⊎_elim (λ (b : g ≡ x). absurd (unlike f a (e ∙ ap (λ (y : Frame). y.number) b))) (λ (b : Mem g put). unique f g a b e) k) m),
+        (λ f m. ⊎_elim (λ (a : Mem f items). inr (queued f a)) (λ (b : Mem f (x ∷ [])). ⊎_elim (λ (e : f ≡ x). inl e) (λ (c : ⊥). absurd c) b) (mem-append f items (x ∷ []) m)),
+        all_set (Fits seat (x ∷ put)) views port w (
+          (λ f m. ⊎_elim (λ (a : f ≡ x). inl a) (λ (b : Mem f v.known). inr (mine.0 f b)) m),
+          λ _. (
+            here.0,
+            λ f m. ⊎_elim
+                (λ (a : f ≡ x). (inl a, let e = ap (λ (y : Frame). y.number) a in omega arith))
+                (λ (b : Mem f put). (inr (here.1 f b).0, let low = (here.1 f b).1 in omega arith)) m,
+          ),
+        )
+            (λ j u other e. ((λ f m. inr ((fits j u e).0 f m)), λ p. absurd (other (((fits j u e).1 p).0 ∙ sym here.0)))),
+      ),
+      refl,
+    )
+
+pub takes : (port : ℕ) (v : View) → Pops InStep port v (λ x w. w ≡ viewed v.puts v.last (x ∷ v.known))
+takes port v x items views h at =
+    let w : View = viewed v.puts v.last (x ∷ v.known) in
+    let mine = h.4 port v at in (
+      w,
+      (
+        h.0,
+        h.1,
+        h.2,
+        (λ f m. h.3 f (inr m)),
+        all_set (Fits h.0 h.1) views port w
+            ((λ f m. ⊎_elim (λ (a : f ≡ x). subst (λ y. Mem y h.1) (sym a) (h.3 x (inl refl))) (λ (b : Mem f v.known). mine.0 f b) m), λ p. ((mine.1 p).0, λ f m. (inr ((mine.1 p).1 f m).0, ((mine.1 p).1 f m).1)))
+            (λ j u other e. h.4 j u e),
+      ),
+      refl,
+    )
+
+pub forks : (port : ℕ) (v : View) → Forks InStep port v v (viewed false 0 [])
+forks port v items views h at =
+    let r : View = viewed false 0 [] in
+    let vs : List View = set views port v in
+    let old : All (Fits h.0 h.1) vs = all_set (Fits h.0 h.1) views port v (h.4 port v at) (λ j u other e. h.4 j u e) in (
+      h.0,
+      h.1,
+      h.2,
+      h.3,
+      λ j u e. ⊎_elim (λ x. old j u x) (λ (is : r ≡ u). ((λ f m. absurd (subst (λ (y : View). Mem f y.known) (sym is) m)), λ p. absurd (true≢false (sym (ap (λ (y : View). y.puts) is ∙ p))))) (at_snoc vs r u j e),
+    )
+
+pub learns : (port : ℕ) (v : View) → Learns InStep port v (λ items. IsUnique v.known)
+learns port v items views h at f g m k e = h.2 f g ((h.4 port v at).0 f m) ((h.4 port v at).0 g k) e
+
+pub merges : (port : ℕ) (v : View) (other : ℕ) (u : View) → Merges InStep port v other u (viewed v.puts v.last (v.known ++ u.known)) (viewed false 0 [])
+merges port v other u items views h at two at' =
+    let both : View = viewed v.puts v.last (v.known ++ u.known) in
+    let mine = h.4 port v at in
+    let vs : List View = set views port both in
+    let was : get_elem? views other ≡ some u = ⊎_elim (λ x. absurd (two x.0)) (λ x. x.1) (at_set views port other both u at') in
+    let theirs = h.4 other u was in
+    let now : All (Fits h.0 h.1) vs = all_set (Fits h.0 h.1) views port both
+    ((λ f m. ⊎_elim (λ a. mine.0 f a) (λ b. theirs.0 f b) (mem-append f v.known u.known m)), λ p. ((mine.1 p).0, λ f m. (mem-left f v.known u.known ((mine.1 p).1 f m).0, ((mine.1 p).1 f m).1)))
+    (λ j y _ e. h.4 j y e) in
+    (h.0, h.1, h.2, h.3, all_set (Fits h.0 h.1) vs other (viewed false 0 []) ((λ f m. absurd m), λ p. absurd (true≢false (sym p))) (λ j y apart e. now j y e))
+
+pub found-keeps : (n : ℕ) (f y : Frame) (xs : List Frame) → found n xs ≡ Some f → found n (xs ++ y ∷ []) ≡ Some f
+found-keeps n f y [] e = absurd cc
+found-keeps n f y (x ∷ xs) e = elim (x.number == n) as (λ b. (if b then Some x else found n xs) ≡ Some f → (if b then Some x else found n (xs ++ y ∷ [])) ≡ Some f) [ true ↦ λ h. h | false ↦ λ h. found-keeps n f y xs h ] e
+
+pub found-none : (n : ℕ) (y : Frame) (xs : List Frame) → found n xs ≡ None → y.number ≡ n → found n (xs ++ y ∷ []) ≡ Some y
+found-none n y [] e is = elim (eqb_tells y.number n) [ inl h ↦ ap (λ b. if b then Some y else None) h.0 | inr h ↦ absurd (h.1 is) ]
+found-none n y (x ∷ xs) e is = elim (x.number == n) as (λ b. (if b then Some x else found n xs) ≡ None → (if b then Some x else found n (xs ++ y ∷ [])) ≡ Some y) [ true ↦ λ h. absurd cc | false ↦ λ h. found-none n y xs h is ] e
+
+pub found-other : (n : ℕ) (y : Frame) (xs : List Frame) → found n xs ≡ None → ¬ (y.number ≡ n) → found n (xs ++ y ∷ []) ≡ None
+found-other n y [] e unlike = elim (eqb_tells y.number n) [ inl h ↦ absurd (unlike h.1) | inr h ↦ ap (λ b. if b then Some y else None) h.0 ]
+found-other n y (x ∷ xs) e unlike = elim (x.number == n) as (λ b. (if b then Some x else found n xs) ≡ None → (if b then Some x else found n (xs ++ y ∷ [])) ≡ None) [ true ↦ λ h. h | false ↦ λ h. found-other n y xs h unlike ] e
+
+-- no frame is known above all that are known
+pub found-above : (n last : ℕ) (xs : List Frame) → ((f : Frame) → Mem f xs → f.number ≤ last) → last < n → found n xs ≡ None
+found-above n last [] low h = refl
+found-above n last (x ∷ xs) low h = elim (eqb_tells x.number n) [
+  | inl k ↦ let a = low x (inl refl) in let b = k.1 in absurd (omega arith)
+  | inr k ↦ ap (λ b. if b then Some x else found n xs) k.0 ∙ found-above n last xs (λ f m. low f (inr m)) h
+]
+
+pub found-mem : (n : ℕ) (f : Frame) (xs : List Frame) → found n xs ≡ Some f → Mem f xs × (f.number ≡ n)
+found-mem n f [] e = absurd cc
+found-mem n f (x ∷ xs) e = elim (eqb_tells x.number n) [
+  | inl k ↦ let same : Some x ≡ Some f = sym (ap (λ b. if b then Some x else found n xs) k.0) ∙ e in let is : x ≡ f = cc in (inl (sym is), sym (ap (λ (y : Frame). y.number) is) ∙ k.1)
+  | inr k ↦ let rest = found-mem n f xs (sym (ap (λ b. if b then Some x else found n xs) k.0) ∙ e) in (inr rest.0, rest.1)
+]
+
+-- what is known of both is one frame
+pub found-same : (n : ℕ) (f g : Frame) (xs ys ks ls : List Frame) → IsUnique (ks ++ ls) → ((h : Frame) → Mem h xs → Mem h ks) → ((h : Frame) → Mem h ys → Mem h ls) → found n xs ≡ Some f → found n ys ≡ Some g → f ≡ g
+found-same n f g xs ys ks ls unique a b e e' =
+    let one = found-mem n f xs e in
+    let two = found-mem n g ys e' in
+    unique f g (mem-left f ks ls (a f one.0)) (mem-right g ks ls (b g two.0)) (one.1 ∙ sym two.1)
+
+pub mem-push : (f y : Frame) (xs : List Frame) → Mem f (xs ++ y ∷ []) → Mem f xs ⊎ (f ≡ y)
+mem-push f y xs m = ⊎_elim (λ a. inl a) (λ b. ⊎_elim (λ (e : f ≡ y). inr e) (λ (c : ⊥). absurd c) b) (mem-append f xs (y ∷ []) m)

@@ -1,0 +1,51 @@
+ghost use Rattle.std.specs.Prelude.{◌≡◌, ℕ, Bool};
+
+/// The numbers under which the receiving worker of a link asks for frames.
+pub trait Order {
+    /// The number that is asked for now.
+    ghost asks: { Self → ℕ };
+
+    /// The number that may be asked for next, where a frame came and was committed, and where it was not so.
+    ghost follows: { Self → Bool → ℕ → Type 0 };
+
+    /// The number that is asked for now.
+    fn number(&self) -> u32
+        ensures { result ≡ asks self.now };
+
+    /// Goes on to the next number, behind a turn in which a frame came and was committed, or in which it was not so.
+    fn go_on(&mut self, is_committed: bool)
+        ensures { follows self.old is_committed (asks self.new) };
+}
+
+/// The order of the numbers: 1, 2, 3 and so on, each again until its frame came and was committed.
+#[derive(Debug, Drop)]
+pub struct InOrder {
+    number: u32,
+}
+
+impl InOrder {
+    /// Asks for frame 1 first.
+    pub fn new() -> InOrder
+        ensures { result.number ≡ 1 }
+    {
+        InOrder { number: 1 }
+    }
+}
+
+impl Order for InOrder {
+    ghost use Rattle.std.specs.Prelude.{◌≡◌, ◌+◌, ◌-◌, ◌^◌, min, MatchBool};
+
+    ghost asks = { λ o. o.number };
+
+    ghost follows = { λ o is_committed n. MatchBool is_committed (n ≡ min (o.number + 1) (2 ^ 32 - 1)) (n ≡ o.number) };
+
+    fn number(&self) -> u32 {
+        self.number
+    }
+
+    fn go_on(&mut self, is_committed: bool) {
+        if is_committed {
+            self.number = self.number.saturating_add(1);
+        }
+    }
+}
