@@ -9,6 +9,8 @@ mod interlocking;
 #[cfg(test)]
 mod line;
 #[cfg(test)]
+mod order;
+#[cfg(test)]
 mod railway;
 #[cfg(test)]
 mod replies;
