@@ -34,8 +34,6 @@ pub struct Connection {
     stream: Arc<TcpStream, Global>,
     /// Whether its train was too slow.
     is_cut: AtomicBool,
-    /// How many connections came before it.
-    others: u64,
 }
 
 impl Connection {
@@ -50,19 +48,7 @@ impl Connection {
             pipe,
             stream,
             is_cut: AtomicBool::new(false),
-            others: 0,
         }
-    }
-
-    /// The same connection, which came behind so many others.
-    pub(crate) fn entered_behind(mut self, others: u64) -> Connection {
-        self.others = others;
-        self
-    }
-
-    /// How many connections came before it.
-    pub(crate) fn others(&self) -> u64 {
-        self.others
     }
 
     /// The right to write to the train in the calling thread, if no reply waits.

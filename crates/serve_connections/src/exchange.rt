@@ -6,7 +6,6 @@ use rbc_msgs::TrackBody;
 use serve_workers::Outlet;
 use serve_writing::{Order, Reply};
 use std::alloc::{AllocError, Global};
-use std::sync::atomic::{AtomicU64, Ordering};
 use std::sync::{Arc, Mutex, MutexGuard, Wait};
 use std::thread;
 use std::thread::Parker;
@@ -26,8 +25,6 @@ pub struct Exchange<'a> {
     // By the trains' places in the line file: the order of what the centre says to each.
     orders: Vec<Mutex<Order>>,
     links: &'a [Parker],
-    // How many connections have come.
-    entered: AtomicU64,
 }
 
 impl<'a> Exchange<'a> {
@@ -46,7 +43,6 @@ impl<'a> Exchange<'a> {
             board: Mutex::new(board),
             orders: orders_of(alloc, trains)?,
             links,
-            entered: AtomicU64::new(0),
         })
     }
 
@@ -57,8 +53,7 @@ impl<'a> Exchange<'a> {
         number: usize,
         connection: Connection,
     ) -> Result<(), AllocError> {
-        let others = self.entered.fetch_add(1, Ordering::SeqCst);
-        let connection = Arc::new(self.alloc, connection.entered_behind(others))?;
+        let connection = Arc::new(self.alloc, connection)?;
         self.board.lock(rt).enter(number, connection);
         Ok(())
     }
@@ -71,30 +66,9 @@ impl<'a> Exchange<'a> {
         }
     }
 
-    /// Ends the connection that came first of those that serve no train, and says whether there is one.
-    pub fn make_room<R: Wait>(&self, rt: &R) -> bool {
-        let board = self.board.lock(rt);
-        let mut oldest: Option<&Connection> = None;
-        for (number, connection) in board.connections().iter().enumerate() {
-            if let Some(connection) = connection {
-                if !board.is_serving(number) {
-                    oldest = Some(older(oldest, connection));
-                }
-            }
-        }
-        let Some(oldest) = oldest else {
-            return false;
-        };
-        oldest.shut();
-        true
-    }
-
-    /// Ends all connections.
-    pub fn shut_all<R: Wait>(&self, rt: &R) {
-        let board = self.board.lock(rt);
-        for connection in board.connections().iter().flatten() {
-            connection.shut();
-        }
+    /// Whether the connection of this number serves a train.
+    pub fn is_serving<R: Wait>(&self, rt: &R, number: usize) -> bool {
+        self.board.lock(rt).is_serving(number)
     }
 
     // The connection serves this train from now on, and no other, and the order of what is said to it begins anew. The connection that served
@@ -200,14 +174,6 @@ fn orders_of(alloc: Global, trains: u8) -> Result<Vec<Mutex<Order>>, AllocError>
         orders.push(Mutex::new(Order::new(alloc)))?;
     }
     Ok(orders)
-}
-
-// The one of both that came first.
-fn older<'c>(one: Option<&'c Connection>, other: &'c Connection) -> &'c Connection {
-    match one {
-        Some(one) if one.others() < other.others() => one,
-        _ => other,
-    }
 }
 
 // Hands what has its turn to the writer of the connection. Where there is none, it is let go.

@@ -78,13 +78,6 @@ impl<C: Drop> Switchboard<C> {
         self.serving.contains(&Some(number))
     }
 
-    /// All connections, by their numbers.
-    pub fn connections(&self) -> &[Option<C>]
-        ensures { result.now ≡ self.now.connections.items }
-    {
-        self.connections.as_slice()
-    }
-
     // The connection serves no train.
     fn release(&mut self, number: usize)
         ensures connections { self.new.connections.items ≡ self.old.connections.items }

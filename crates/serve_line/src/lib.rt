@@ -7,6 +7,7 @@
 mod answer;
 mod build;
 mod control;
+mod doorway;
 mod doors;
 mod hall;
 mod limits;
@@ -16,6 +17,7 @@ mod notes;
 mod roster;
 mod rows;
 mod running;
+mod seats;
 mod sessions;
 mod show;
 

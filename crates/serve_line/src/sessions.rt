@@ -1,7 +1,8 @@
-use crate::hall::{Hall, Seat};
+use crate::hall::Hall;
 use crate::limits::{REPLIES, SILENCE, set_waits};
 use crate::noted::NotedWire;
 use crate::notes::Notes;
+use crate::seats::Seat;
 use cli_print::name_of;
 use crossbeam_channel::{Receiver, bounded};
 use rbc_node::{Node, Open};
@@ -23,7 +24,7 @@ pub(crate) fn serve_train<R: Threads + Wait + Sync, N: Notes + Sync>(
     notes: &N,
     centre: u8,
     seat: &Seat,
-    stream: TcpStream,
+    stream: Arc<TcpStream, Global>,
 ) {
     let name = name_of(hall.line, centre);
     let number = seat.number;
@@ -71,7 +72,7 @@ fn entered<R: Wait>(
     alloc: Global,
     exchange: &Exchange<'_>,
     number: usize,
-    stream: TcpStream,
+    stream: Arc<TcpStream, Global>,
 ) -> Result<Ends, AllocError> {
     set_waits(&stream, Duration::from_secs(SILENCE));
     let (ends, connection) = ends_of(alloc, stream)?;
@@ -80,8 +81,10 @@ fn entered<R: Wait>(
 }
 
 // What the threads of a connection have of it, and what the exchange has.
-fn ends_of(alloc: Global, stream: TcpStream) -> Result<(Ends, Connection), AllocError> {
-    let stream = Arc::new(alloc, stream)?;
+fn ends_of(
+    alloc: Global,
+    stream: Arc<TcpStream, Global>,
+) -> Result<(Ends, Connection), AllocError> {
     let pipe = Arc::new(alloc, Pipe::new(Shared(Arc::try_clone(&stream)?)))?;
     let (sender, replies) = bounded(alloc, REPLIES)?;
     let connection = Connection::new(sender, Arc::try_clone(&pipe)?, Arc::try_clone(&stream)?);

@@ -15,6 +15,8 @@ mod railway;
 #[cfg(test)]
 mod replies;
 #[cfg(test)]
+mod seats;
+#[cfg(test)]
 mod sessions;
 #[cfg(test)]
 mod trains;
