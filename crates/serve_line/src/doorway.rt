@@ -1,9 +1,11 @@
 use crate::control::serve_control;
 use crate::hall::{Caller, Hall};
+use crate::life::Life;
 use crate::limits::{DOOR_REST, GRACE_RESTS, LEAVING_RESTS};
 use crate::notes::Notes;
 use crate::seats::{Door, Seat};
 use crate::sessions::serve_train;
+use std::alloc::Global;
 use std::net::{TcpListener, TcpStream};
 use std::sync::atomic::Ordering;
 use std::sync::{Arc, Wait};
@@ -20,11 +22,13 @@ pub(crate) fn run_door<R: Threads + Wait + Sync, N: Notes + Sync>(
 ) {
     thread::scope(thread::scope_env(), rt, |scope| {
         let listener = door.listener.lock(rt).take();
+        let mut life = Life::new();
         for _ in rt.forever() {
             if hall.state.is_stopped() {
                 break;
             }
             let Some((stream, seat)) = next_caller(rt, hall, notes, door, &listener) else {
+                life.look(rt, hall, notes, door.caller);
                 continue;
             };
             let caller = door.caller;
@@ -32,7 +36,7 @@ pub(crate) fn run_door<R: Threads + Wait + Sync, N: Notes + Sync>(
                 .spawn(move || attend(rt, hall, notes, caller, seat, stream))
                 .is_err()
             {
-                seat.is_taken.store(false, Ordering::SeqCst);
+                seat.leave(rt);
                 notes.note("a connection is refused, no thread could be made");
             }
         }
@@ -53,17 +57,20 @@ fn next_caller<'a, R: Wait, N: Notes>(
     notes: &N,
     door: &'a Door,
     listener: &Option<TcpListener>,
-) -> Option<(TcpStream, &'a Seat)> {
+) -> Option<(Arc<TcpStream, Global>, &'a Seat)> {
     let Ok((stream, _)) = listener.as_ref()?.accept() else {
         rest(rt, door);
         return None;
     };
+    let stream = Arc::new(hall.alloc, stream).ok()?;
+    let shared = Arc::try_clone(&stream).ok()?;
     let Some(seat) = seat_for(rt, hall, door) else {
         let name = hall.name(door.caller);
         notes.note(format_args!("{name}: a connection is refused, there are too many"));
         return None;
     };
     seat.heard.store(hall.state.hear(), Ordering::SeqCst);
+    *seat.stream.lock(rt) = Some(shared);
     Some((stream, seat))
 }
 
@@ -121,17 +128,11 @@ fn attend<R: Threads + Wait + Sync, N: Notes + Sync>(
     notes: &N,
     caller: Caller,
     seat: &Seat,
-    stream: TcpStream,
+    stream: Arc<TcpStream, Global>,
 ) {
-    if let Ok(stream) = Arc::new(hall.alloc, stream) {
-        if let Ok(shared) = Arc::try_clone(&stream) {
-            *seat.stream.lock(rt) = Some(shared);
-        }
-        match caller {
-            Caller::Trains(centre) => serve_train(rt, hall, notes, centre, seat, stream),
-            Caller::Interlocking => serve_control(rt, hall, notes, seat, &stream),
-        }
-        *seat.stream.lock(rt) = None;
+    match caller {
+        Caller::Trains(centre) => serve_train(rt, hall, notes, centre, seat, stream),
+        Caller::Interlocking => serve_control(rt, hall, notes, seat, &stream),
     }
-    seat.is_taken.store(false, Ordering::SeqCst);
+    seat.leave(rt);
 }

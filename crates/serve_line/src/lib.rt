@@ -10,6 +10,7 @@ mod control;
 mod doorway;
 mod doors;
 mod hall;
+mod life;
 mod limits;
 mod links;
 mod noted;
@@ -20,6 +21,7 @@ mod running;
 mod seats;
 mod sessions;
 mod show;
+mod tally;
 
 pub use doors::Doors;
 pub use notes::{Loud, Notes, Quiet};

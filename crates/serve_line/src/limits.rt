@@ -31,7 +31,7 @@ pub(crate) const DOOR_REST: u64 = 20;
 pub(crate) const CONTROL_REST: u64 = 100;
 
 /// How long a connection has to leave its seat for another, in rests of a door.
-pub(crate) const LEAVING_RESTS: u32 = 25;
+pub(crate) const LEAVING_RESTS: u32 = 50;
 
 /// How long trains have behind `stop` until their connections are ended, in rests of a door: some 30 seconds.
 pub(crate) const GRACE_RESTS: u32 = 1_500;

@@ -6,9 +6,10 @@ use crate::limits::NOTES;
 use crate::links::{receive, send};
 use crate::notes::{Notes, Queued, write_notes};
 use crate::seats::{Door, Seat};
+use crate::tally::Tally;
 use crossbeam_channel::bounded;
 use rbc_line::Line;
-use rbc_node::{Node, Share, gather};
+use rbc_node::{Family, Node, Share, gather};
 use serve_control::{ServeFault, print_family};
 use std::alloc::{AllocError, Global};
 use std::io::Write;
@@ -63,7 +64,30 @@ fn serve_noted<R: Threads + Wait + Sync, N: Notes + Sync, O: Write>(
     let shares = shares_of(alloc, doors, links)?;
     notes.note("all sessions have ended");
     let family = gather(alloc, nodes, shares)?;
-    print_family(alloc, line, &family, out)
+    print_noted(alloc, line, &family, notes, out)
+}
+
+// Prints all events, and notes how many are missing where a write fails.
+fn print_noted<N: Notes, O: Write>(
+    alloc: Global,
+    line: &Line,
+    family: &Family,
+    notes: &N,
+    out: &mut O,
+) -> Result<(), ServeFault> {
+    let mut tally = Tally::new(out);
+    let done = print_family(alloc, line, family, &mut tally);
+    if done.is_err() {
+        let mut all = 0u64;
+        for log in family.logs() {
+            all = all.saturating_add(log.entries().len() as u64);
+        }
+        let printed = tally.events();
+        notes.note(format_args!(
+            "the print ends early: {printed} of {all} events are in it, the last perhaps in part"
+        ));
+    }
+    done
 }
 
 // Runs all workers to their ends.

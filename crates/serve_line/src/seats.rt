@@ -26,6 +26,12 @@ impl Seat {
         }
     }
 
+    /// Its connection is gone: the seat is free.
+    pub fn leave<R: Wait>(&self, rt: &R) {
+        *self.stream.lock(rt) = None;
+        self.is_taken.store(false, Ordering::SeqCst);
+    }
+
     /// Whether its connection was heard longer ago than that of the other seat.
     fn is_behind(&self, other: &Seat) -> bool {
         self.heard.load(Ordering::SeqCst) < other.heard.load(Ordering::SeqCst)
