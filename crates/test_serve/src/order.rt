@@ -14,7 +14,7 @@ use std::thread;
 use std::thread::Threads;
 
 // How many starts of mission each connection sends.
-const STARTS: u16 = 200;
+const STARTS: u16 = 2_000;
 
 // How many bytes message 40 has.
 const REJECTED: usize = 10;
