@@ -142,7 +142,11 @@ impl<'a> Exchange<'a> {
         let Some(first) = order.let_out() else {
             return;
         };
-        let turn = if own == Some(number) { connection.turn() } else { None };
+        let turn = if own == Some(number) {
+            connection.turn()
+        } else {
+            None
+        };
         let Some(turn) = turn else {
             connection.say(rt, first);
             say_due(rt, Some(&connection), &mut order);

@@ -140,8 +140,9 @@ fn start<R: Net<Stream = TcpStream>>(
 // Says a start of mission again and again, with T_TRAIN 4, 8, 12 and so on, and for the low bits 80 with 2 more.
 fn say_starts(alloc: Global, stream: &TcpStream, low_bits: &str) -> Done<()> {
     for fourth in 1..=STARTS {
-        let digits = format!(in alloc; "9D068000{fourth:04X}{low_bits}0000500040A0280CA096140050014406400418")
-            .ok()
+        let digits = format!(in alloc;
+            "9D068000{fourth:04X}{low_bits}0000500040A0280CA096140050014406400418"
+        ).ok()
             .ok_or(Missed::Memory)?;
         say(stream, &bytes_of(alloc, &digits)?)?;
     }
