@@ -1,5 +1,5 @@
 use crossbeam_channel::{Sender, TrySendError};
-use serve_writing::{Now, Pipe, Reply};
+use serve_writing::{Pipe, Reply, Turn};
 use std::alloc::Global;
 use std::io::Write;
 use std::net::{Shutdown, TcpStream};
@@ -51,12 +51,15 @@ impl Connection {
         }
     }
 
-    /// Says a reply in the thread that reads the connection: it is written here if no other waits. A write that fails ends the connection.
-    pub(crate) fn answer<R: Wait>(&self, rt: &R, reply: Reply) {
-        match self.pipe.write_now(rt, &reply) {
-            Ok(Now::Written) => {}
-            Ok(Now::Later) => self.say(rt, reply),
-            Err(_) => self.shut(),
+    /// The right to write to the train in the calling thread, if no reply waits.
+    pub(crate) fn turn(&self) -> Option<Turn<'_, Shared>> {
+        self.pipe.turn()
+    }
+
+    /// Writes a reply in the calling thread. A write that fails ends the connection.
+    pub(crate) fn write(&self, turn: Turn<'_, Shared>, reply: &Reply) {
+        if turn.write(reply).is_err() {
+            self.shut();
         }
     }
 
@@ -93,8 +96,8 @@ impl Connection {
         self.is_cut.load(Ordering::SeqCst)
     }
 
-    // Ends the connection for both sides.
-    fn shut(&self) {
+    /// Ends the connection for both sides.
+    pub(crate) fn shut(&self) {
         let _ = self.stream.shutdown(Shutdown::Both);
     }
 }

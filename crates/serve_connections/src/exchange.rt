@@ -2,11 +2,19 @@ use crate::connection::Connection;
 use crate::switchboard::Switchboard;
 use rbc_centre::{Outcome, Saying};
 use rbc_line::Line;
+use rbc_msgs::TrackBody;
 use serve_workers::Outlet;
-use serve_writing::Reply;
+use serve_writing::{Order, Reply};
 use std::alloc::{AllocError, Global};
-use std::sync::{Arc, Mutex, Wait};
+use std::sync::{Arc, Mutex, MutexGuard, Wait};
+use std::thread;
 use std::thread::Parker;
+
+/// How many replies to a train may wait for their turn before the thread that reads its connection rests.
+const FEW: usize = 64;
+
+/// How often that thread rests at most.
+const RESTS: u32 = 10_000;
 
 /// The connections of trains at a centre, and the bells of the links that its frames go to.
 #[derive(Drop)]
@@ -14,6 +22,8 @@ pub struct Exchange<'a> {
     alloc: Global,
     line: &'a Line,
     board: Mutex<Switchboard<Arc<Connection, Global>>>,
+    // By the trains' places in the line file: the order of what the centre says to each.
+    orders: Vec<Mutex<Order>>,
     links: &'a [Parker],
 }
 
@@ -25,11 +35,13 @@ impl<'a> Exchange<'a> {
         connections: usize,
         links: &'a [Parker],
     ) -> Result<Exchange<'a>, AllocError> {
-        let board = Switchboard::new(alloc, connections, line.train_count() as usize)?;
+        let trains = line.train_count();
+        let board = Switchboard::new(alloc, connections, trains as usize)?;
         Ok(Exchange {
             alloc,
             line,
             board: Mutex::new(board),
+            orders: orders_of(alloc, trains)?,
             links,
         })
     }
@@ -54,36 +66,95 @@ impl<'a> Exchange<'a> {
         }
     }
 
-    // From now on the connection serves the train of this engine, and no other.
-    fn serve<R: Wait>(&self, rt: &R, number: usize, nid_engine: u32) {
-        if let Some(train) = self.line.train_number(nid_engine) {
-            self.board.lock(rt).serve(number, train as usize);
-        }
+    /// Whether the connection of this number serves a train.
+    pub fn is_serving<R: Wait>(&self, rt: &R, number: usize) -> bool {
+        self.board.lock(rt).is_serving(number)
     }
 
-    // The connection that serves this engine, with its number, if one does. The board is free again behind it.
-    fn serving<R: Wait>(
-        &self,
-        rt: &R,
-        nid_engine: u32,
-    ) -> Option<(usize, Arc<Connection, Global>)> {
-        let train = self.line.train_number(nid_engine)?;
+    // The connection serves this train from now on, and no other, and the order of what is said to it begins anew. The connection that served
+    // the train before ends.
+    fn begin<R: Wait>(&self, rt: &R, number: usize, train: usize, order: &mut Order, t_train: u32) {
+        order.begin(t_train);
+        let mut board = self.board.lock(rt);
+        if let Some(before) = board.number_for(train) {
+            if before != number {
+                if let Some(connection) = board.connection(before) {
+                    connection.shut();
+                }
+            }
+        }
+        board.serve(number, train);
+    }
+
+    // The connection that serves a train, with its number, if one does. The board is free again behind it.
+    fn serving<R: Wait>(&self, rt: &R, train: usize) -> Option<(usize, Arc<Connection, Global>)> {
         let board = self.board.lock(rt);
-        let number = board.number_for(train as usize)?;
+        let number = board.number_for(train)?;
         let connection = board.connection(number)?;
         Some((number, Arc::try_clone(connection).ok()?))
     }
 
-    // Says a message over the connection that serves its engine, if one does. A connection that the calling thread reads is told by its number.
+    // Hands a message to a train in to its order, and lets out what has its turn now. The thread that reads a connection is told by its number.
     fn say<R: Wait>(&self, rt: &R, own: Option<usize>, saying: &Saying) {
-        let Some((number, connection)) = self.serving(rt, saying.nid_engine) else {
+        let Some(train) = self.line.train_number(saying.nid_engine) else {
             return;
         };
-        match Reply::new(self.alloc, saying.message) {
-            Ok(reply) if own == Some(number) => connection.answer(rt, reply),
-            Ok(reply) => connection.say(rt, reply),
-            Err(_) => connection.cut(),
+        let train = train as usize;
+        let Some(place) = self.orders.get(train) else {
+            return;
+        };
+        let mut order = place.lock(rt);
+        if let (Some(number), TrackBody::SystemVersion) = (own, saying.message.body()) {
+            self.begin(rt, number, train, &mut order, saying.message.t_train());
         }
+        let is_taken = self.hand_in(&mut order, saying);
+        self.let_out(rt, own, train, order, is_taken);
+        if own.is_some() {
+            rest(rt, place);
+        }
+    }
+
+    // Hands a message in, and says whether there was room for it.
+    fn hand_in(&self, order: &mut Order, saying: &Saying) -> bool {
+        match Reply::new(self.alloc, saying.message) {
+            Ok(reply) => order.hand_in(reply).is_ok(),
+            Err(_) => false,
+        }
+    }
+
+    // Says what has its turn, over the connection that serves the train. Where a reply was not taken, none of them comes any more: the connection is
+    // cut. The first reply is written here if the calling thread reads the connection, and no other waits.
+    fn let_out<R: Wait>(
+        &self,
+        rt: &R,
+        own: Option<usize>,
+        train: usize,
+        mut order: MutexGuard<'_, Order>,
+        is_taken: bool,
+    ) {
+        let Some((number, connection)) = self.serving(rt, train) else {
+            say_due(rt, None, &mut order);
+            return;
+        };
+        if !is_taken {
+            connection.cut();
+        }
+        let Some(first) = order.let_out() else {
+            return;
+        };
+        let turn = if own == Some(number) {
+            connection.turn()
+        } else {
+            None
+        };
+        let Some(turn) = turn else {
+            connection.say(rt, first);
+            say_due(rt, Some(&connection), &mut order);
+            return;
+        };
+        say_due(rt, Some(&connection), &mut order);
+        drop(order);
+        connection.write(turn, &first);
     }
 
     // Says all messages of an outcome, and rings the bells where it has frames.
@@ -97,6 +168,37 @@ impl<'a> Exchange<'a> {
         for bell in self.links {
             bell.unpark();
         }
+    }
+}
+
+// The order of what is said to each train, before anything is said.
+fn orders_of(alloc: Global, trains: u8) -> Result<Vec<Mutex<Order>>, AllocError> {
+    let mut orders = Vec::new(alloc);
+    for _ in 0..trains {
+        orders.push(Mutex::new(Order::new(alloc)))?;
+    }
+    Ok(orders)
+}
+
+// Hands what has its turn to the writer of the connection. Where there is none, it is let go.
+fn say_due<R: Wait>(rt: &R, connection: Option<&Connection>, order: &mut Order) {
+    for _ in 0..order.waiting() {
+        let Some(reply) = order.let_out() else {
+            break;
+        };
+        if let Some(connection) = connection {
+            connection.say(rt, reply);
+        }
+    }
+}
+
+// Rests a while where many replies wait for one that another thread is about to hand in.
+fn rest<R: Wait>(rt: &R, order: &Mutex<Order>) {
+    for _ in 0..RESTS {
+        if order.lock(rt).waiting() <= FEW {
+            break;
+        }
+        thread::yield_now();
     }
 }
 
@@ -117,9 +219,8 @@ pub struct Wire<'a> {
 }
 
 impl Outlet for Wire<'_> {
-    fn opened<R: Wait>(&self, rt: &R, nid_engine: u32) {
-        self.exchange.serve(rt, self.number, nid_engine);
-    }
+    // The connection serves the train from the answer on, message 32.
+    fn opened<R: Wait>(&self, _rt: &R, _nid_engine: u32) {}
 
     fn answered<R: Wait>(&self, rt: &R, outcome: &Outcome) {
         self.exchange.tell(rt, Some(self.number), outcome);

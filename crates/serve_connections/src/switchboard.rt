@@ -1,4 +1,4 @@
-ghost use Rattle.std.specs.Prelude.{◌≡◌, IfOk, Some, None, replicate, slice_get, slice_set, option_and_then};
+ghost use Rattle.std.specs.Prelude.{◌≡◌, ◌↔◌, IsTrue, Contains, IfOk, Some, None, replicate, slice_get, slice_set, option_and_then};
 ghost use Rattle.serve_connections.specs.Serving.{freed, released};
 
 use std::alloc::{AllocError, Global};
@@ -69,6 +69,13 @@ impl<C: Drop> Switchboard<C> {
     /// The connection of this number, if it is there.
     pub fn connection(&self, number: usize) -> Option<&C> {
         self.connections.get(number)?.as_ref()
+    }
+
+    /// Whether a connection serves a train.
+    pub fn is_serving(&self, number: usize) -> bool
+        ensures { IsTrue result ↔ Contains self.now.serving.items (Some number) }
+    {
+        self.serving.contains(&Some(number))
     }
 
     // The connection serves no train.

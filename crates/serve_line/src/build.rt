@@ -1,5 +1,6 @@
 use crate::doors::Listening;
-use crate::hall::{Caller, DirectedLink, Door, Seat};
+use crate::hall::{Caller, DirectedLink};
+use crate::seats::{Door, Seat};
 use crate::limits::{CELLS, CONTROLS, SPARE};
 use rbc_board::CellBoard;
 use rbc_line::Line;
@@ -7,7 +8,7 @@ use rbc_node::{Node, Share};
 use serve_connections::Exchange;
 use std::alloc::{AllocError, Global};
 use std::sync::Mutex;
-use std::sync::atomic::AtomicBool;
+use std::sync::atomic::{AtomicBool, AtomicU64};
 use std::thread::Parker;
 
 // How many connections a centre of the line serves at once.
@@ -56,7 +57,7 @@ fn door_of(
     };
     let seats = seats_of(alloc, count, reached)?;
     Ok(Door {
-        listener: listening.listener,
+        listener: Mutex::new(Some(listening.listener)),
         address: listening.address,
         caller,
         seats,
@@ -82,6 +83,8 @@ fn seat_of(alloc: Global, number: usize, nodes: &[Node]) -> Result<Seat, AllocEr
     Ok(Seat {
         number,
         is_taken: AtomicBool::new(false),
+        heard: AtomicU64::new(0),
+        stream: Mutex::new(None),
         shares: Mutex::new(shares),
     })
 }

@@ -1,14 +1,16 @@
 use crate::answer::{SCRIPT_FAULT, answer};
-use crate::hall::{Hall, Seat};
+use crate::hall::Hall;
 use crate::limits::{CONTROL_REST, set_waits};
 use crate::notes::Notes;
 use crate::roster::Roster;
 use crate::rows::{Came, RowReader};
+use crate::seats::Seat;
 use rbc_node::Share;
 use serve_control::{Command, CommandFault, command_of};
 use std::io::Write;
 use std::net::TcpStream;
 use std::sync::Wait;
+use std::sync::atomic::Ordering;
 use std::time::Duration;
 
 /// How a connection of the interlocking went on behind a line, and how it ended.
@@ -34,7 +36,7 @@ pub(crate) fn serve_control<R: Wait, N: Notes>(
     notes.note(format_args!("control: connection {number} begins"));
     set_waits(stream, Duration::from_millis(CONTROL_REST));
     let mut shares = seat.shares.lock(rt);
-    if answer_rows(rt, hall, notes, shares.as_mut_slice(), stream) == Next::Stop {
+    if answer_rows(rt, hall, notes, seat, shares.as_mut_slice(), stream) == Next::Stop {
         notes.note(format_args!("control: connection {number} says stop"));
         hall.stop();
     }
@@ -46,6 +48,7 @@ fn answer_rows<R: Wait, N: Notes>(
     rt: &R,
     hall: &Hall<'_>,
     notes: &N,
+    seat: &Seat,
     shares: &mut [Share],
     stream: &TcpStream,
 ) -> Next {
@@ -55,7 +58,10 @@ fn answer_rows<R: Wait, N: Notes>(
     let mut rows = RowReader::new(hall.alloc, stream);
     for _ in rt.forever() {
         let next = match rows.next() {
-            Came::Row(row) => answer_row(rt, hall, notes, shares, &mut roster, &row, stream),
+            Came::Row(row) => {
+                seat.heard.store(hall.state.hear(), Ordering::SeqCst);
+                answer_row(rt, hall, notes, shares, &mut roster, &row, stream)
+            }
             Came::Nothing if hall.state.is_empty() => Next::End,
             Came::Nothing => Next::Listen,
             Came::End => Next::End,

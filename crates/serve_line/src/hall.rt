@@ -1,3 +1,4 @@
+use crate::seats::Door;
 use cli_print::name_of;
 use rbc_board::CellBoard;
 use rbc_line::Line;
@@ -5,8 +6,7 @@ use rbc_node::{Node, Open, Share};
 use serve_connections::Exchange;
 use serve_workers::Desk;
 use std::alloc::Global;
-use std::net::{SocketAddr, TcpListener};
-use std::sync::Mutex;
+use std::sync::{Mutex, Wait};
 use std::sync::atomic::{AtomicBool, AtomicU64, Ordering};
 use std::thread::Parker;
 
@@ -16,38 +16,6 @@ pub(crate) enum Caller {
     /// Trains, to the centre of this number.
     Trains(u8),
     Interlocking,
-}
-
-/// A place for one connection at a time, and the receipts of what is committed over it: a share for each centre that it reaches.
-#[derive(Drop)]
-pub(crate) struct Seat {
-    pub number: usize,
-    pub is_taken: AtomicBool,
-    pub shares: Mutex<Vec<Share>>,
-}
-
-/// A port that connections come to.
-#[derive(Drop)]
-pub(crate) struct Door {
-    pub listener: TcpListener,
-    pub address: SocketAddr,
-    pub caller: Caller,
-    pub seats: Vec<Seat>,
-    /// Rung where the door is to close.
-    pub bell: Parker,
-}
-
-impl Door {
-    /// A seat that is free, which is taken now. Only the thread at the door calls it.
-    pub fn free_seat(&self) -> Option<&Seat> {
-        for seat in &self.seats {
-            if !seat.is_taken.load(Ordering::SeqCst) {
-                seat.is_taken.store(true, Ordering::SeqCst);
-                return Some(seat);
-            }
-        }
-        None
-    }
 }
 
 /// The link from one centre to another.
@@ -69,6 +37,8 @@ pub(crate) struct State {
     is_stopped: AtomicBool,
     /// How many doors of centres are open or have connections still.
     doors: AtomicU64,
+    /// How often a caller came or was heard.
+    heard: AtomicU64,
     /// No connection is left: nothing new comes to the links.
     pub is_over: AtomicBool,
     /// Memory ran out, or a thread could not be made.
@@ -80,6 +50,7 @@ impl State {
         State {
             is_stopped: AtomicBool::new(false),
             doors: AtomicU64::new(u64::from(centres)),
+            heard: AtomicU64::new(0),
             is_over: AtomicBool::new(false),
             has_failed: AtomicBool::new(false),
         }
@@ -88,6 +59,11 @@ impl State {
     /// Whether no connection is taken any more.
     pub fn is_stopped(&self) -> bool {
         self.is_stopped.load(Ordering::SeqCst)
+    }
+
+    /// A caller came or was heard: which of all such times this is.
+    pub fn hear(&self) -> u64 {
+        self.heard.fetch_add(1, Ordering::SeqCst)
     }
 
     /// A centre's door has closed, and its last session has ended.
@@ -134,6 +110,17 @@ impl Hall<'_> {
             gate: &Open,
             outlet,
         })
+    }
+
+    /// Whether the connection with this number serves a train.
+    pub fn is_serving<R: Wait>(&self, rt: &R, caller: Caller, number: usize) -> bool {
+        let Caller::Trains(centre) = caller else {
+            return false;
+        };
+        match self.exchanges.get(centre as usize) {
+            Some(exchange) => exchange.is_serving(rt, number),
+            None => false,
+        }
     }
 
     /// What a caller's notes begin with.

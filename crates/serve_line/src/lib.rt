@@ -7,8 +7,10 @@
 mod answer;
 mod build;
 mod control;
+mod doorway;
 mod doors;
 mod hall;
+mod life;
 mod limits;
 mod links;
 mod noted;
@@ -16,8 +18,10 @@ mod notes;
 mod roster;
 mod rows;
 mod running;
+mod seats;
 mod sessions;
 mod show;
+mod tally;
 
 pub use doors::Doors;
 pub use notes::{Loud, Notes, Quiet};

@@ -30,6 +30,15 @@ pub(crate) const DOOR_REST: u64 = 20;
 /// How long a control connection waits for a line before it looks whether the centres still run, in milliseconds.
 pub(crate) const CONTROL_REST: u64 = 100;
 
+/// How long a connection has to leave its seat for another, in rests of a door.
+pub(crate) const LEAVING_RESTS: u32 = 50;
+
+/// How long trains have behind `stop` until their connections are ended, in rests of a door: some 30 seconds.
+pub(crate) const GRACE_RESTS: u32 = 1_500;
+
+/// How many notes wait for standard error at most.
+pub(crate) const NOTES: usize = 1_024;
+
 /// Lets a connection send at once. A read waits for the client no longer than this, and a write no longer than `PATIENCE`.
 pub(crate) fn set_waits(stream: &TcpStream, reading: Duration) {
     let _ = stream.set_nodelay(true);

@@ -1,26 +1,55 @@
 use crate::build::{bells_of, doors_of, exchanges_of, links_of, nodes_of};
-use crate::control::serve_control;
 use crate::doors::Doors;
-use crate::hall::{Caller, DirectedLink, Door, Hall, Seat, State};
-use crate::limits::DOOR_REST;
+use crate::doorway::run_door;
+use crate::hall::{DirectedLink, Hall, State};
+use crate::limits::NOTES;
 use crate::links::{receive, send};
-use crate::notes::Notes;
-use crate::sessions::serve_train;
+use crate::notes::{Notes, Queued, write_notes};
+use crate::seats::{Door, Seat};
+use crate::tally::Tally;
+use crossbeam_channel::bounded;
 use rbc_line::Line;
-use rbc_node::{Node, Share, gather};
+use rbc_node::{Family, Node, Share, gather};
 use serve_control::{ServeFault, print_family};
 use std::alloc::{AllocError, Global};
 use std::io::Write;
-use std::net::TcpStream;
 use std::sync::Wait;
-use std::sync::atomic::Ordering;
+use std::sync::atomic::AtomicU64;
 use std::thread;
 use std::thread::Threads;
-use std::time::Duration;
 
 /// Runs the centres of the line until the interlocking says `stop` and all sessions have ended. Then it gathers their logs, merges them, and
-/// prints all events with what they led to, and the line, as a run does.
+/// prints all events with what they led to, and the line, as a run does. A thread of its own writes the notes.
 pub fn serve<R: Threads + Wait + Sync, N: Notes + Sync, O: Write>(
+    rt: &R,
+    alloc: Global,
+    line: &Line,
+    doors: Doors,
+    notes: &N,
+    out: &mut O,
+) -> Result<(), ServeFault> {
+    let (queue, waiting) = bounded(alloc, NOTES)?;
+    let lost = AtomicU64::new(0);
+    thread::scope(thread::scope_env(), rt, |scope| {
+        let lost = &lost;
+        if scope
+            .spawn(move || write_notes(rt, notes, &waiting, lost))
+            .is_err()
+        {
+            return Err(ServeFault::from(AllocError));
+        }
+        let queued = Queued {
+            rt,
+            alloc,
+            queue,
+            lost,
+        };
+        serve_noted(rt, alloc, line, doors, &queued, out)
+    })
+}
+
+// The same, where no note has to wait to be written.
+fn serve_noted<R: Threads + Wait + Sync, N: Notes + Sync, O: Write>(
     rt: &R,
     alloc: Global,
     line: &Line,
@@ -35,7 +64,30 @@ pub fn serve<R: Threads + Wait + Sync, N: Notes + Sync, O: Write>(
     let shares = shares_of(alloc, doors, links)?;
     notes.note("all sessions have ended");
     let family = gather(alloc, nodes, shares)?;
-    print_family(alloc, line, &family, out)
+    print_noted(alloc, line, &family, notes, out)
+}
+
+// Prints all events, and notes how many are missing where a write fails.
+fn print_noted<N: Notes, O: Write>(
+    alloc: Global,
+    line: &Line,
+    family: &Family,
+    notes: &N,
+    out: &mut O,
+) -> Result<(), ServeFault> {
+    let mut tally = Tally::new(out);
+    let done = print_family(alloc, line, family, &mut tally);
+    if done.is_err() {
+        let mut all = 0u64;
+        for log in family.logs() {
+            all = all.saturating_add(log.entries().len() as u64);
+        }
+        let printed = tally.events();
+        notes.note(format_args!(
+            "the print ends early: {printed} of {all} events are in it, the last perhaps in part"
+        ));
+    }
+    done
 }
 
 // Runs all workers to their ends.
@@ -98,71 +150,6 @@ fn run_doors<R: Threads + Wait + Sync, N: Notes + Sync>(rt: &R, hall: &Hall<'_>,
             }
         }
     });
-}
-
-// Lets callers in at one door. It returns with the last of them.
-fn run_door<R: Threads + Wait + Sync, N: Notes + Sync>(
-    rt: &R,
-    hall: &Hall<'_>,
-    notes: &N,
-    door: &Door,
-) {
-    thread::scope(thread::scope_env(), rt, |scope| {
-        for _ in rt.forever() {
-            if hall.state.is_stopped() {
-                break;
-            }
-            let Some((stream, seat)) = next_caller(rt, hall, notes, door) else {
-                continue;
-            };
-            let caller = door.caller;
-            if scope
-                .spawn(move || attend(rt, hall, notes, caller, seat, stream))
-                .is_err()
-            {
-                seat.is_taken.store(false, Ordering::SeqCst);
-                notes.note("a connection is refused, no thread could be made");
-            }
-        }
-    });
-    if let Caller::Trains(_) = door.caller {
-        hall.state.close_door();
-    }
-}
-
-// Who comes through a door now, with a seat. It rests a while where nobody comes, and refuses who finds no free seat.
-fn next_caller<'a, R: Wait, N: Notes>(
-    rt: &R,
-    hall: &Hall<'_>,
-    notes: &N,
-    door: &'a Door,
-) -> Option<(TcpStream, &'a Seat)> {
-    let Ok((stream, _)) = door.listener.accept() else {
-        door.bell.park_timeout(rt, Duration::from_millis(DOOR_REST));
-        return None;
-    };
-    let Some(seat) = door.free_seat() else {
-        let name = hall.name(door.caller);
-        notes.note(format_args!("{name}: a connection is refused, there are too many"));
-        return None;
-    };
-    Some((stream, seat))
-}
-
-// Serves one connection, and leaves its seat.
-fn attend<R: Threads + Wait + Sync, N: Notes + Sync>(
-    rt: &R,
-    hall: &Hall<'_>,
-    notes: &N,
-    caller: Caller,
-    seat: &Seat,
-    stream: TcpStream,
-) {
-    match caller {
-        Caller::Trains(centre) => serve_train(rt, hall, notes, centre, seat, stream),
-        Caller::Interlocking => serve_control(rt, hall, notes, seat, &stream),
-    }
-    seat.is_taken.store(false, Ordering::SeqCst);
 }
 
 // The receipts of all that was committed.

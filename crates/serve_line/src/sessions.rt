@@ -1,7 +1,8 @@
-use crate::hall::{Hall, Seat};
+use crate::hall::Hall;
 use crate::limits::{REPLIES, SILENCE, set_waits};
 use crate::noted::NotedWire;
 use crate::notes::Notes;
+use crate::seats::Seat;
 use cli_print::name_of;
 use crossbeam_channel::{Receiver, bounded};
 use rbc_node::{Node, Open};
@@ -23,7 +24,7 @@ pub(crate) fn serve_train<R: Threads + Wait + Sync, N: Notes + Sync>(
     notes: &N,
     centre: u8,
     seat: &Seat,
-    stream: TcpStream,
+    stream: Arc<TcpStream, Global>,
 ) {
     let name = name_of(hall.line, centre);
     let number = seat.number;
@@ -41,8 +42,20 @@ pub(crate) fn serve_train<R: Threads + Wait + Sync, N: Notes + Sync>(
         notes,
         name,
     };
-    let end = read_and_write(rt, hall.alloc, node, seat, &ends, &noted);
-    tell_end(notes, name, number, end);
+    match read_and_write(rt, hall.alloc, node, seat, &ends, &noted) {
+        Some(end) => tell_end(notes, name, number, end),
+        None => notes.note(format_args!(
+            "{name}: train connection {number} is ended, no thread could be made"
+        )),
+    }
+}
+
+/// How a connection ended.
+#[derive(Clone, Copy)]
+enum End {
+    Session(SessionEnd),
+    /// Its train was too slow to take its answers.
+    Cut,
 }
 
 // What the two threads of a connection have of it.
@@ -59,7 +72,7 @@ fn entered<R: Wait>(
     alloc: Global,
     exchange: &Exchange<'_>,
     number: usize,
-    stream: TcpStream,
+    stream: Arc<TcpStream, Global>,
 ) -> Result<Ends, AllocError> {
     set_waits(&stream, Duration::from_secs(SILENCE));
     let (ends, connection) = ends_of(alloc, stream)?;
@@ -68,8 +81,10 @@ fn entered<R: Wait>(
 }
 
 // What the threads of a connection have of it, and what the exchange has.
-fn ends_of(alloc: Global, stream: TcpStream) -> Result<(Ends, Connection), AllocError> {
-    let stream = Arc::new(alloc, stream)?;
+fn ends_of(
+    alloc: Global,
+    stream: Arc<TcpStream, Global>,
+) -> Result<(Ends, Connection), AllocError> {
     let pipe = Arc::new(alloc, Pipe::new(Shared(Arc::try_clone(&stream)?)))?;
     let (sender, replies) = bounded(alloc, REPLIES)?;
     let connection = Connection::new(sender, Arc::try_clone(&pipe)?, Arc::try_clone(&stream)?);
@@ -81,7 +96,7 @@ fn ends_of(alloc: Global, stream: TcpStream) -> Result<(Ends, Connection), Alloc
     Ok((ends, connection))
 }
 
-// Reads and writes the connection, each in a thread, and says how it ended: none where the train was too slow to take its answers.
+// Reads and writes the connection, each in a thread, and says how it ended. Without a thread that writes it is not read, and there is no end to tell.
 fn read_and_write<R: Threads + Wait + Sync, N: Notes + Sync>(
     rt: &R,
     alloc: Global,
@@ -89,16 +104,17 @@ fn read_and_write<R: Threads + Wait + Sync, N: Notes + Sync>(
     seat: &Seat,
     ends: &Ends,
     noted: &NotedWire<'_, N>,
-) -> Option<SessionEnd> {
-    let (end, ()) = thread::join(
-        rt,
-        || read_messages(rt, alloc, node, seat, &ends.stream, noted),
-        || write_replies(rt, ends),
-    );
-    end
+) -> Option<End> {
+    thread::scope(thread::scope_env(), rt, |scope| {
+        if scope.spawn(move || write_replies(rt, ends)).is_err() {
+            noted.wire.exchange.leave(rt, seat.number);
+            return None;
+        }
+        Some(read_messages(rt, alloc, node, seat, &ends.stream, noted))
+    })
 }
 
-// Commits what the train says, and says how the session ended: none where the train was too slow to take its answers.
+// Commits what the train says, and says how the session ended.
 fn read_messages<R: Wait, N: Notes>(
     rt: &R,
     alloc: Global,
@@ -106,15 +122,17 @@ fn read_messages<R: Wait, N: Notes>(
     seat: &Seat,
     stream: &TcpStream,
     noted: &NotedWire<'_, N>,
-) -> Option<SessionEnd> {
+) -> End {
     let mut shares = seat.shares.lock(rt);
-    let share = shares.first_mut()?;
+    let Some(share) = shares.first_mut() else {
+        return End::Cut;
+    };
     let mut source = Reads::new(stream);
     let end = run_session(rt, alloc, node, &Open, share, &mut source, noted);
     if noted.wire.exchange.leave(rt, seat.number) {
-        Some(end)
+        End::Session(end)
     } else {
-        None
+        End::Cut
     }
 }
 
@@ -124,7 +142,7 @@ fn write_replies<R: Wait>(rt: &R, ends: &Ends) {
     let _ = ends.stream.shutdown(Shutdown::Both);
 }
 
-fn tell_end<N: Notes>(notes: &N, name: &str, number: usize, end: Option<SessionEnd>) {
+fn tell_end<N: Notes>(notes: &N, name: &str, number: usize, end: End) {
     match ending(end) {
         (told, Some(fault)) => {
             notes.note(format_args!("{name}: train connection {number} {told} {fault}"));
@@ -134,12 +152,12 @@ fn tell_end<N: Notes>(notes: &N, name: &str, number: usize, end: Option<SessionE
 }
 
 // What is noted of an end, with the number of its fault.
-fn ending(end: Option<SessionEnd>) -> (&'static str, Option<u8>) {
+fn ending(end: End) -> (&'static str, Option<u8>) {
     match end {
-        Some(SessionEnd::EndOfStream) => ("ends", None),
-        Some(SessionEnd::Fault(fault)) => ("is ended, stream fault", Some(fault.number())),
-        Some(SessionEnd::Device) => ("is lost", None),
-        Some(SessionEnd::Refused(fault)) => ("is ended, refused", Some(fault.number())),
-        None => ("is cut, its train is too slow", None),
+        End::Session(SessionEnd::EndOfStream) => ("ends", None),
+        End::Session(SessionEnd::Fault(fault)) => ("is ended, stream fault", Some(fault.number())),
+        End::Session(SessionEnd::Device) => ("is lost", None),
+        End::Session(SessionEnd::Refused(fault)) => ("is ended, refused", Some(fault.number())),
+        End::Cut => ("is cut, its train is too slow", None),
     }
 }

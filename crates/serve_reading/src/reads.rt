@@ -1,7 +1,7 @@
 ghost use Rattle.std.specs.Prelude.{◌≡◌};
 
 use crate::source::{ReadFailed, Source};
-use std::io::Read;
+use std::io::{ErrorKind, Read};
 
 /// A reader as a source: a socket, a file, or bytes in memory.
 #[derive(Drop)]
@@ -26,12 +26,15 @@ impl<R: Read + Drop> Source for Reads<R> {
     ghost failures = { λ s. s.failed };
 
     fn read(&mut self, buffer: &mut [u8]) -> Result<usize, ReadFailed> {
-        match self.reader.read(buffer) {
-            Ok(count) => Ok(count),
-            Err(_) => {
-                self.failed += 1;
-                Err(ReadFailed)
+        // A read that the system interrupts, as where the process is stopped and goes on, has not failed: it is tried again.
+        for _ in 0..u64::MAX {
+            match self.reader.read(buffer) {
+                Ok(count) => return Ok(count),
+                Err(error) if error.kind() == ErrorKind::Interrupted => {}
+                Err(_) => break,
             }
         }
+        self.failed += 1;
+        Err(ReadFailed)
     }
 }

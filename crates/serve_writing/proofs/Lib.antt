@@ -1,2 +1,4 @@
+mod Beginning
+mod LetOut
 mod Spelled
 mod Written

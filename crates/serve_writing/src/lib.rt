@@ -1,13 +1,17 @@
 //! What goes to a train over one connection: replies that come over a channel, and the writer that writes them one
-//! behind another.
+//! behind another; and the order in which a centre's replies to a train go out.
 //!
 //! Bodies are free. What goes over a connection is fixed by docs/FORMATS.md.
 #![tactic(auto)]
 
+mod laws;
+mod order;
 mod pipe;
 mod reply;
 mod writer;
 
-pub use pipe::{Now, Pipe, PipeEnd};
+pub use laws::an_order_lets_out_a_beginning;
+pub use order::{NoRoom, Order};
+pub use pipe::{Pipe, PipeEnd, Turn};
 pub use reply::Reply;
 pub use writer::{WriteFailed, run_writer};

@@ -3,7 +3,7 @@ use crate::writer::{WriteFailed, write_whole};
 use std::io;
 use std::io::{ErrorKind, Write};
 use std::sync::atomic::{AtomicU64, Ordering};
-use std::sync::{Mutex, Wait};
+use std::sync::{Mutex, MutexGuard, Wait};
 
 /// Where the replies of one connection are written. Its writer writes those that wait; where none waits, the thread that reads the connection
 /// writes its own. So a reply is never written among the bytes of another, and never in front of one that waits.
@@ -15,13 +15,24 @@ pub struct Pipe<W: Drop> {
     out: Mutex<Option<W>>,
 }
 
-/// What became of a reply that was to be written at once.
-#[derive(Clone, Copy, Debug, PartialEq, Eq)]
-pub enum Now {
-    /// It was written whole.
-    Written,
-    /// Nothing was written of it, since others wait.
-    Later,
+/// The right to write one reply at once: none waits, and none is written meanwhile.
+#[derive(Drop)]
+pub struct Turn<'a, W: Drop> {
+    out: MutexGuard<'a, Option<W>>,
+}
+
+impl<W: Write + Drop> Turn<'_, W> {
+    /// Writes the reply. Behind a write that fails nothing more is written.
+    pub fn write(mut self, reply: &Reply) -> Result<(), WriteFailed> {
+        let Some(out) = &mut *self.out else {
+            return Err(WriteFailed);
+        };
+        if write_whole(out, reply.bytes()).is_err() {
+            *self.out = None;
+            return Err(WriteFailed);
+        }
+        Ok(())
+    }
 }
 
 impl<W: Write + Drop> Pipe<W> {
@@ -39,20 +50,13 @@ impl<W: Write + Drop> Pipe<W> {
             .fetch_add(reply.bytes().len() as u64, Ordering::SeqCst);
     }
 
-    /// Writes a reply, if no other waits. Behind a write that fails nothing more is written.
-    pub fn write_now<R: Wait>(&self, rt: &R, reply: &Reply) -> Result<Now, WriteFailed> {
-        let mut place = self.out.lock(rt);
+    /// The right to write a reply at once, if no other waits and none is being written. It waits for nobody.
+    pub fn turn(&self) -> Option<Turn<'_, W>> {
+        let out = self.out.try_lock()?;
         if self.waiting.load(Ordering::SeqCst) != 0 {
-            return Ok(Now::Later);
+            return None;
         }
-        let Some(out) = &mut *place else {
-            return Err(WriteFailed);
-        };
-        if write_whole(out, reply.bytes()).is_err() {
-            *place = None;
-            return Err(WriteFailed);
-        }
-        Ok(Now::Written)
+        Some(Turn { out })
     }
 
     /// The pipe's end at which its writer writes the replies that wait.

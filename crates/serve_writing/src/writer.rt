@@ -1,10 +1,10 @@
-ghost use Rattle.std.specs.Prelude.{ℕ, List, take, OnOk, OnErr};
-ghost use Rattle.std.specs.Io.KnownBytes.{Appends};
+ghost use Rattle.std.specs.Prelude.{◌≤◌, ℕ, List, take, length, IfOk, OnOk, OnErr};
+ghost use Rattle.std.specs.Io.KnownBytes.{Appends, Keeps};
 ghost use Rattle.serve_writing.specs.Row.{IsRow, IsBegunRow};
 
 use crate::reply::Reply;
 use crossbeam_channel::Receiver;
-use std::io::Write;
+use std::io::{ErrorKind, Write};
 use std::sync::Wait;
 
 /// A write did not succeed.
@@ -37,10 +37,26 @@ pub(crate) fn write_whole<W: Write>(out: &mut W, bytes: &[u8]) -> Result<(), Wri
 {
     let mut sent = 0;
     while sent < bytes.len() {
-        match out.write(&bytes[sent..]) {
-            Ok(0) | Err(_) => return Err(WriteFailed),
-            Ok(count) => sent += count,
+        match write_some(out, &bytes[sent..])? {
+            0 => return Err(WriteFailed),
+            count => sent += count,
         }
     }
     Ok(())
+}
+
+// Writes some bytes, and gives their number. A write that the system interrupts has not failed: it is tried again.
+fn write_some<W: Write>(out: &mut W, bytes: &[u8]) -> Result<usize, WriteFailed>
+    ensures bound { IfOk result (λ count. count ≤ length bytes.now) }
+    ensures ok { IfOk result (λ count. Appends (W.contents out.old) (W.contents out.new) (take count bytes.now)) }
+    ensures err { OnErr result (Keeps (W.contents out.old) (W.contents out.new)) }
+{
+    for _ in 0..u64::MAX {
+        match out.write(bytes) {
+            Ok(count) => return Ok(count),
+            Err(error) if error.kind() == ErrorKind::Interrupted => {}
+            Err(_) => break,
+        }
+    }
+    Err(WriteFailed)
 }

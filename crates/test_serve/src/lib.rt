@@ -9,9 +9,13 @@ mod interlocking;
 #[cfg(test)]
 mod line;
 #[cfg(test)]
+mod order;
+#[cfg(test)]
 mod railway;
 #[cfg(test)]
 mod replies;
+#[cfg(test)]
+mod seats;
 #[cfg(test)]
 mod sessions;
 #[cfg(test)]

@@ -56,9 +56,12 @@ fn served<R: Threads + Wait + Sync>(
     Ok(out)
 }
 
+// Says `stop`, unless it was said already: then the door is closed.
 fn stop<R: Net<Stream = TcpStream>>(rt: &R, addresses: Addresses) -> Done<()> {
-    let control = connect(rt, addresses.control)?;
-    say(&control, b"stop\n")
+    match connect(rt, addresses.control) {
+        Ok(control) => say(&control, b"stop\n"),
+        Err(_) => Ok(()),
+    }
 }
 
 /// What an audit of the print finds.

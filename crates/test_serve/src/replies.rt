@@ -3,7 +3,7 @@
 use crate::line::{ACCEPTED, VERSION, bytes_of};
 use crossbeam_channel::{Receiver, Sender, bounded};
 use rbc_msgs::decode_track;
-use serve_writing::{Now, Pipe, Reply, WriteFailed, run_writer};
+use serve_writing::{Pipe, Reply, WriteFailed, run_writer};
 use std::alloc::Global;
 use std::io;
 use std::io::{ErrorKind, Write};
@@ -81,12 +81,20 @@ fn written<R: Wait>(
     Ok(run_writer(rt, &replies, &mut pipe.end(rt)))
 }
 
+/// What a write is answered: none where it was not this reply's turn.
+type Answer = Option<Result<(), WriteFailed>>;
+
+// A reply is written at once, if none waits.
+fn written_now(pipe: &Pipe<Tape<'_>>, reply: &Reply) -> Answer {
+    Some(pipe.turn()?.write(reply))
+}
+
 #[test]
 fn a_reply_is_written_at_once_where_none_waits(rt: HostRuntime) -> Result<(), Fail> {
     let kept = Mutex::new(Vec::new(rt.alloc()));
     let pipe = pipe_over(&kept, false);
     let version = reply_of(rt.alloc(), VERSION)?;
-    assert!(rt; pipe.write_now(&rt, &version) == Ok(Now::Written));
+    assert!(rt; written_now(&pipe, &version) == Some(Ok(())));
     let wanted = bytes_of(rt.alloc(), VERSION)?;
     assert!(rt; kept.lock(&rt).as_slice() == wanted.as_slice());
     Ok(())
@@ -97,14 +105,11 @@ fn no_reply_overtakes_one_that_waits(rt: HostRuntime) -> Result<(), Fail> {
     let kept = Mutex::new(Vec::new(rt.alloc()));
     let pipe = pipe_over(&kept, false);
     let now = overtaken(&rt, rt.alloc(), &pipe, &kept)?;
-    assert!(rt; now == (Ok(Now::Later), true, Ok(()), Ok(Now::Written)));
+    assert!(rt; now == (None, true, Ok(()), Some(Ok(()))));
     let wanted = row_of(rt.alloc(), ACCEPTED, VERSION)?;
     assert!(rt; kept.lock(&rt).as_slice() == wanted.as_slice());
     Ok(())
 }
-
-/// What a write is answered.
-type Answer = Result<Now, WriteFailed>;
 
 // A version comes while an acceptance waits, and again behind it: what the first is answered, whether nothing is kept then, what the
 // writer of the acceptance is answered, and what the second version is.
@@ -117,10 +122,10 @@ fn overtaken<R: Wait>(
     let version = reply_of(alloc, VERSION)?;
     let accepted = reply_of(alloc, ACCEPTED)?;
     pipe.expect(&accepted);
-    let first = pipe.write_now(rt, &version);
+    let first = written_now(pipe, &version);
     let is_empty = kept.lock(rt).is_empty();
     let waiting = written(rt, alloc, pipe, accepted)?;
-    let second = pipe.write_now(rt, &version);
+    let second = written_now(pipe, &version);
     Ok((first, is_empty, waiting, second))
 }
 
@@ -129,8 +134,8 @@ fn nothing_is_written_behind_a_failed_write(rt: HostRuntime) -> Result<(), Fail>
     let kept = Mutex::new(Vec::new(rt.alloc()));
     let pipe = pipe_over(&kept, true);
     let version = reply_of(rt.alloc(), VERSION)?;
-    let now = [pipe.write_now(&rt, &version), pipe.write_now(&rt, &version)];
-    assert!(rt; now == [Err(WriteFailed), Err(WriteFailed)]);
+    let now = [written_now(&pipe, &version), written_now(&pipe, &version)];
+    assert!(rt; now == [Some(Err(WriteFailed)), Some(Err(WriteFailed))]);
     pipe.expect(&version);
     let (_sender, replies) = queued(&rt, rt.alloc(), version)?;
     let waiting = run_writer(&rt, &replies, &mut pipe.end(&rt));

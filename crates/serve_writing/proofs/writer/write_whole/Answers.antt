@@ -7,6 +7,6 @@ use Rattle.serve_writing.proofs.writer.write_whole.Goals as goal
 pub loop-sent-preserved : goal.loop-sent-preserved
 loop-sent-preserved g c =
     let before = c.loop-sent.invariant in
-    let bound = c.in-Ok.ensures.bound in
-    let wrote = c.in-Ok.ensures.bytes in
-    (let e = length-take (length c.args.bytes.now - c.loop-sent.sent) (drop c.loop-sent.sent c.args.bytes.now) in let d = length-drop c.loop-sent.sent c.args.bytes.now in omega arith, Appends-same _ _ _ _ (sym (take-add c.loop-sent.sent c.in-Ok.count c.args.bytes.now)) (Appends-trans _ _ _ _ _ before.1 (Appends-same _ _ _ _ (ap (take c.in-Ok.count) (take_rest c.args.bytes.now c.loop-sent.sent)) wrote)))
+    let bound = c.in_ok-count.ensures.bound in
+    let wrote = c.in_ok-count.ensures.ok in
+    (let e = length-take (length c.args.bytes.now - c.loop-sent.sent) (drop c.loop-sent.sent c.args.bytes.now) in let d = length-drop c.loop-sent.sent c.args.bytes.now in omega arith, Appends-same _ _ _ _ (sym (take-add c.loop-sent.sent c.in_ok-count.count c.args.bytes.now)) (Appends-trans _ _ _ _ _ before.1 (Appends-same _ _ _ _ (ap (take c.in_ok-count.count) (take_rest c.args.bytes.now c.loop-sent.sent)) wrote)))

@@ -1,0 +1,84 @@
+use crate::hall::{Caller, Hall};
+use crate::limits::CELLS;
+use crate::notes::Notes;
+use rbc_centre::LAST_STAMP;
+use rbc_log::{CentreLog, MOST_ENTRIES};
+use std::sync::Wait;
+
+/// How much of a centre's log, of its clock and of its fullest link is used up, as far as it was noted.
+#[derive(Clone, Copy)]
+pub(crate) struct Life {
+    log: Gauge,
+    clock: Gauge,
+    link: Gauge,
+}
+
+impl Life {
+    pub fn new() -> Life {
+        let gauge = Gauge { noted: 0 };
+        Life {
+            log: gauge,
+            clock: gauge,
+            link: gauge,
+        }
+    }
+
+    /// Looks at a centre, and notes what is half used up, or almost.
+    pub fn look<R: Wait, N: Notes>(&mut self, rt: &R, hall: &Hall<'_>, notes: &N, caller: Caller) {
+        let Caller::Trains(centre) = caller else {
+            return;
+        };
+        let Some(node) = hall.nodes.get(centre as usize) else {
+            return;
+        };
+        let (entries, stamp, frames) = used_of(node.look(rt).log(), hall.line.centre_count());
+        let name = hall.name(caller);
+        self.log.tell(notes, name, "log", entries, MOST_ENTRIES as u64);
+        self.clock.tell(notes, name, "clock", stamp, u64::from(LAST_STAMP));
+        self.link.tell(notes, name, "fullest link", frames, u64::from(CELLS));
+    }
+}
+
+// The entries of a log, the stamp of the last, and the frames on the link that has most.
+fn used_of(log: &CentreLog, centres: u8) -> (u64, u64, u64) {
+    let stamp = match log.entries().last() {
+        Some(entry) => u64::from(entry.outcome.stamp),
+        None => 0,
+    };
+    let mut frames = 0;
+    for to in 0..centres {
+        frames = log.core().sent(to).max(frames);
+    }
+    (log.entries().len() as u64, stamp, u64::from(frames))
+}
+
+/// How much of a thing was noted last, in percent.
+#[derive(Clone, Copy)]
+struct Gauge {
+    noted: u64,
+}
+
+impl Gauge {
+    // Notes how much is used, once at 50, at 90 and at 99 percent.
+    fn tell<N: Notes>(&mut self, notes: &N, name: &str, thing: &str, used: u64, most: u64) {
+        let mark = mark_behind(used, most);
+        if mark > self.noted {
+            self.noted = mark;
+            notes.note(format_args!("{name}: {used} of {most} of its {thing} are used"));
+        }
+    }
+}
+
+// How much is used up, in percent, where that is noted.
+fn mark_behind(used: u64, most: u64) -> u64 {
+    let used = used.saturating_mul(100);
+    if used >= most.saturating_mul(99) {
+        99
+    } else if used >= most.saturating_mul(90) {
+        90
+    } else if used >= most.saturating_mul(50) {
+        50
+    } else {
+        0
+    }
+}

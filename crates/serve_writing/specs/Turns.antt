@@ -1,0 +1,55 @@
+-- The order in which a centre's replies to one train go out: by T_TRAIN, which counts what the centre says to the train.
+use Rattle.std.specs.Prelude.{◌≡◌, ◌⊎◌, ℕ, ◌+◌, ◌<◌, Bool, List, [], ◌∷◌, ◌++◌, Contains, if◌then◌else◌, nat_lt, nat_le}
+use Rattle.rbc_spec.specs.Message.{TrackMessage}
+use Rattle.serve_writing.specs.declared.reply.Reply.{Reply}
+
+abbrev pub message_of : Reply → TrackMessage
+message_of reply = reply.message
+
+-- its turn is this one or comes behind it
+abbrev pub is_due : ℕ → Reply → Bool
+is_due next reply = nat_le next reply.message.t_train
+
+-- what waits, where the turn is this one, once a message has come: one whose turn is over does not wait
+abbrev pub kept : ℕ → TrackMessage → List TrackMessage → List TrackMessage
+kept next m early = if nat_lt m.t_train next then early else early ++ m ∷ []
+
+-- the message whose turn it is is one that waited, and the others wait still
+pub record IsTurn (next : ℕ) (m : TrackMessage) (early left : List TrackMessage) : Type 0 where
+  pub number : m.t_train ≡ next
+  pub before : List TrackMessage
+  pub behind : List TrackMessage
+  pub waited : early ≡ before ++ m ∷ behind
+  pub others : left ≡ before ++ behind
+
+-- what is done with an order: a message is handed in, or let out
+pub data Act : Type 0 where
+  HandedIn : (m : TrackMessage) → Act
+  LetOut : (m : TrackMessage) → Act
+
+-- the messages that were handed in
+abbrev pub handed_in : List Act → List TrackMessage
+handed_in [] = []
+handed_in (HandedIn m ∷ acts) = m ∷ handed_in acts
+handed_in (LetOut m ∷ acts) = handed_in acts
+
+-- the messages that were let out
+abbrev pub let_out : List Act → List TrackMessage
+let_out [] = []
+let_out (HandedIn m ∷ acts) = let_out acts
+let_out (LetOut m ∷ acts) = m ∷ let_out acts
+
+-- an order whose turn is this one, and at which these wait, can go on so
+abbrev pub Goes : List Act → ℕ → List TrackMessage → Type 0
+Goes [] next early = Unit {0}
+Goes (HandedIn m ∷ acts) next early = Goes acts next (kept next m early)
+Goes (LetOut m ∷ acts) next early = (left : List TrackMessage) × IsTurn next m early left × Goes acts (next + 1) left
+
+-- the messages are counted on from this number, as a centre counts what it says to a train
+abbrev pub IsCounted : ℕ → List TrackMessage → Type 0
+IsCounted first [] = Unit {0}
+IsCounted first (m ∷ others) = (m.t_train ≡ first) × IsCounted (first + 1) others
+
+-- the centre said it: before this number, or among these messages
+abbrev pub IsSaidBy : ℕ → List TrackMessage → TrackMessage → Type 0
+IsSaidBy first said m = (m.t_train < first) ⊎ Contains said m

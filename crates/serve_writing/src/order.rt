@@ -1,0 +1,93 @@
+ghost use Rattle.std.specs.Prelude.{◌≡◌, ◌≢◌, ◌+◌, ◌<◌, [], map, length, All, HoldsAt, filter, is_some, if◌then◌else◌, OnOk, OnErr, IfSome, IfNone};
+ghost use Rattle.serve_writing.specs.Turns.{is_due, kept, message_of, IsTurn};
+
+use crate::reply::Reply;
+use std::alloc::Global;
+
+/// How many replies wait for their turn at most.
+const MOST_EARLY: usize = 1_024;
+
+/// The order in which a centre's replies to one train go out. The threads that committed them hand them in as they come; a centre counts what
+/// it says to a train (T_TRAIN), so each reply has its turn, and waits for it.
+#[derive(Drop)]
+pub struct Order {
+    // T_TRAIN of the reply whose turn it is.
+    next: u32,
+    // What came before its turn.
+    early: Vec<Reply>,
+}
+
+/// A reply can't wait for its turn: too many wait, or memory ran out.
+#[derive(Clone, Copy, Debug, PartialEq, Eq)]
+pub struct NoRoom;
+
+impl Order {
+    /// The order of all that a centre says to a train. Nothing waits.
+    pub fn new(alloc: Global) -> Order
+        ensures next { result.next ≡ 1 }
+        ensures early { result.early.items ≡ [] }
+    {
+        Order {
+            next: 1,
+            early: Vec::new(alloc),
+        }
+    }
+
+    /// The order goes on with this T_TRAIN. What was said before it is let go.
+    pub fn begin(&mut self, t_train: u32)
+        ensures next { self.new.next ≡ t_train }
+        ensures early { self.new.early.items ≡ filter (is_due t_train) self.old.early.items }
+    {
+        self.next = t_train;
+        self.early
+            .retain(|reply| reply.message().t_train() >= t_train);
+    }
+
+    /// A reply is handed in, and waits for its turn. One whose turn is over is let go.
+    pub fn hand_in(&mut self, reply: Reply) -> Result<(), NoRoom>
+        ensures next { self.new.next ≡ self.old.next }
+        ensures ok { OnOk result (map message_of self.new.early.items ≡ kept self.old.next reply.message (map message_of self.old.early.items)) }
+        ensures err { OnErr result (self.new.early.items ≡ self.old.early.items) }
+    {
+        if reply.message().t_train() < self.next {
+            return Ok(());
+        }
+        if self.early.len() >= MOST_EARLY {
+            return Err(NoRoom);
+        }
+        self.early.push(reply).ok().ok_or(NoRoom)
+    }
+
+    /// How many replies wait for their turn.
+    pub fn waiting(&self) -> usize
+        ensures { result ≡ length self.now.early.items }
+    {
+        self.early.len()
+    }
+
+    /// The reply whose turn it is, if it was handed in. The turn goes on to the next.
+    pub fn let_out(&mut self) -> Option<Reply>
+        ensures next { self.new.next ≡ (if is_some result then self.old.next + 1 else self.old.next) }
+        ensures some { IfSome result (λ reply. IsTurn self.old.next reply.message (map message_of self.old.early.items) (map message_of self.new.early.items)) }
+        ensures none { IfNone result (All (λ reply. reply.message.t_train ≢ self.old.next) self.old.early.items) }
+        ensures left { IfNone result (self.new.early.items ≡ self.old.early.items) }
+    {
+        let place = place_of(self.early.as_slice(), self.next)?;
+        let reply = self.early.remove(place);
+        self.next += 1;
+        Some(reply)
+    }
+}
+
+// Where the reply with this T_TRAIN stands.
+fn place_of(replies: &[Reply], t_train: u32) -> Option<usize>
+    ensures some { IfSome result (λ i. (i < length replies.now) × HoldsAt (λ reply. reply.message.t_train ≡ t_train) replies.now i) }
+    ensures none { IfNone result (All (λ reply. reply.message.t_train ≢ t_train) replies.now) }
+{
+    for (place, reply) in replies.iter().enumerate() {
+        if reply.message().t_train() == t_train {
+            return Some(place);
+        }
+    }
+    None
+}

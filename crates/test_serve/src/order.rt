@@ -1,0 +1,192 @@
+//! The order in which a train hears what its centre says: over bytes in memory, and where two threads commit for one train.
+
+use crate::client::{Done, Missed, TURNS, connect, heard, say};
+use crate::line::{INITIATION_OF_ONE, VERSION, bytes_of, two_centres};
+use crate::railway::{Addresses, printed_with};
+use rbc_msgs::{NID_LRBG_UNKNOWN, TrackBody, TrackMsg, decode_track};
+use serve_writing::{Order, Reply};
+use std::alloc::Global;
+use std::io::{ErrorKind, Read};
+use std::net::{Net, Shutdown, TcpStream};
+use std::sync::atomic::{AtomicBool, Ordering};
+use std::test::*;
+use std::thread;
+use std::thread::Threads;
+
+// How many starts of mission each connection sends.
+const STARTS: u16 = 2_000;
+
+// How many bytes message 40 has.
+const REJECTED: usize = 10;
+
+// Message 40 with this T_TRAIN.
+fn rejection(alloc: Global, t_train: u16) -> Result<Reply, Fail> {
+    let message = TrackMsg::new(
+        u32::from(t_train),
+        NID_LRBG_UNKNOWN,
+        TrackBody::TrainRejected,
+    );
+    Ok(Reply::new(alloc, message).ok().ok_or("there is memory")?)
+}
+
+// The T_TRAINs of what the order lets out now.
+fn let_out(alloc: Global, order: &mut Order) -> Result<Vec<u32>, Fail> {
+    let mut numbers = Vec::new(alloc);
+    for _ in 0..order.waiting() {
+        match order.let_out() {
+            Some(reply) => numbers.push(reply.message().t_train())?,
+            None => break,
+        }
+    }
+    Ok(numbers)
+}
+
+// The same, once these were handed in.
+fn handed_in(alloc: Global, order: &mut Order, numbers: &[u16]) -> Result<Vec<u32>, Fail> {
+    for number in numbers {
+        if order.hand_in(rejection(alloc, *number)?).is_err() {
+            return Err("there is room for the reply".into());
+        }
+    }
+    let_out(alloc, order)
+}
+
+#[test]
+fn a_reply_waits_for_those_before_it(rt: HostRuntime) -> Result<(), Fail> {
+    let mut order = Order::new(rt.alloc());
+    let early = handed_in(rt.alloc(), &mut order, &[3, 2])?;
+    let all = handed_in(rt.alloc(), &mut order, &[1])?;
+    assert!(rt; (early.as_slice(), all.as_slice()) == (&[], &[1, 2, 3]));
+    Ok(())
+}
+
+#[test]
+fn what_was_said_before_a_session_is_let_go(rt: HostRuntime) -> Result<(), Fail> {
+    let mut order = Order::new(rt.alloc());
+    let early = handed_in(rt.alloc(), &mut order, &[4, 7])?;
+    order.begin(6);
+    let session = handed_in(rt.alloc(), &mut order, &[5, 6])?;
+    assert!(rt; (early.as_slice(), session.as_slice()) == (&[], &[6, 7]));
+    assert!(rt; order.waiting() == 0);
+    Ok(())
+}
+
+/// What the two connections tell each other.
+#[derive(Drop)]
+struct Told {
+    is_open: AtomicBool,
+    is_said: AtomicBool,
+}
+
+#[test]
+fn a_train_hears_all_in_order_though_two_threads_commit(rt: HostRuntime) -> Result<(), Fail> {
+    let line = two_centres(rt.alloc())?;
+    let told = Told {
+        is_open: AtomicBool::new(false),
+        is_said: AtomicBool::new(false),
+    };
+    let numbers = AtomicBool::new(false);
+    let printed = printed_with(&rt, rt.alloc(), &line, |addresses| {
+        let (opened, other) = thread::join(
+            &rt,
+            || open_and_start(&rt, rt.alloc(), addresses, &told),
+            || start(&rt, rt.alloc(), addresses, &told),
+        );
+        other?;
+        let is_in_order = is_counted_from_two(opened?.as_slice())?;
+        numbers.store(is_in_order, Ordering::SeqCst);
+        Ok(())
+    })?;
+    assert!(rt; numbers.load(Ordering::SeqCst));
+    assert!(rt; printed.starts_with(b"> train A 9B028000000040000040\n"));
+    Ok(())
+}
+
+// Opens the train's session, and starts missions that are rejected, while another connection does. It gives what came behind the version.
+fn open_and_start<R: Net<Stream = TcpStream>>(
+    rt: &R,
+    alloc: Global,
+    addresses: Addresses,
+    told: &Told,
+) -> Done<Vec<u8>> {
+    let stream = connect(rt, addresses.centre)?;
+    say(&stream, &bytes_of(alloc, INITIATION_OF_ONE)?)?;
+    let version = bytes_of(alloc, VERSION)?;
+    if heard(alloc, &stream, version.len())?.as_slice() != version.as_slice() {
+        return Err(Missed::OtherAnswer);
+    }
+    say(&stream, &bytes_of(alloc, "9F028000000080000040")?)?;
+    told.is_open.store(true, Ordering::SeqCst);
+    say_starts(alloc, &stream, "00")?;
+    wait_for(&told.is_said)?;
+    stream.shutdown(Shutdown::Write).ok().ok_or(Missed::Taking)?;
+    heard_to_the_end(alloc, &stream)
+}
+
+// Starts missions of the train over a connection that does not serve it.
+fn start<R: Net<Stream = TcpStream>>(
+    rt: &R,
+    alloc: Global,
+    addresses: Addresses,
+    told: &Told,
+) -> Done<()> {
+    let stream = connect(rt, addresses.centre)?;
+    wait_for(&told.is_open)?;
+    say_starts(alloc, &stream, "80")?;
+    told.is_said.store(true, Ordering::SeqCst);
+    Ok(())
+}
+
+// Says a start of mission again and again, with T_TRAIN 4, 8, 12 and so on, and for the low bits 80 with 2 more.
+fn say_starts(alloc: Global, stream: &TcpStream, low_bits: &str) -> Done<()> {
+    for fourth in 1..=STARTS {
+        let digits = format!(in alloc;
+            "9D068000{fourth:04X}{low_bits}0000500040A0280CA096140050014406400418"
+        ).ok()
+            .ok_or(Missed::Memory)?;
+        say(stream, &bytes_of(alloc, &digits)?)?;
+    }
+    Ok(())
+}
+
+fn wait_for(flag: &AtomicBool) -> Done<()> {
+    for _ in 0..TURNS {
+        if flag.load(Ordering::SeqCst) {
+            return Ok(());
+        }
+        thread::yield_now();
+    }
+    Err(Missed::NoAnswer)
+}
+
+// All that comes until the other side ends the connection.
+fn heard_to_the_end(alloc: Global, stream: &TcpStream) -> Done<Vec<u8>> {
+    let mut heard = Vec::new(alloc);
+    let mut piece = [0u8; 256];
+    let mut input = stream;
+    for _ in 0..TURNS {
+        match input.read(&mut piece) {
+            Ok(0) => return Ok(heard),
+            Ok(count) => heard
+                .extend_from_slice(&piece[..count])
+                .ok()
+                .ok_or(Missed::Memory)?,
+            Err(error) if error.kind() == ErrorKind::WouldBlock => thread::yield_now(),
+            Err(_) => return Err(Missed::Read),
+        }
+    }
+    Err(Missed::StillOpen)
+}
+
+// Whether these are messages with T_TRAIN 2, 3, 4 and so on, some at least.
+fn is_counted_from_two(bytes: &[u8]) -> Done<bool> {
+    let mut next = 2;
+    for message in bytes.chunks(REJECTED) {
+        let message = decode_track(message).ok().ok_or(Missed::Digits)?;
+        if message.t_train() != next {
+            return Ok(false);
+        }
+        next = next.saturating_add(1);
+    }
+    Ok(next > 50)
+}
