@@ -1,11 +1,11 @@
 use crate::doors::Listening;
 use crate::hall::{Caller, DirectedLink};
+use crate::limits::{CONTROLS, SPARE};
 use crate::seats::{Door, Seat};
-use crate::limits::{CELLS, CONTROLS, SPARE};
-use rbc_board::CellBoard;
 use rbc_line::Line;
 use rbc_node::{Node, Share};
 use serve_connections::Exchange;
+use serve_workers::LinkEnds;
 use std::alloc::{AllocError, Global};
 use std::sync::Mutex;
 use std::sync::atomic::{AtomicBool, AtomicU64};
@@ -100,7 +100,7 @@ pub(crate) fn links_of(
         for node in nodes {
             let share = node.share();
             if line.linked(from, share.centre()) {
-                links.push(link_of(alloc, from, share)?)?;
+                links.push(link_of(from, share))?;
             }
         }
     }
@@ -108,15 +108,13 @@ pub(crate) fn links_of(
 }
 
 // The link from a centre to that of the share.
-fn link_of(alloc: Global, from: u8, share: Share) -> Result<DirectedLink, AllocError> {
-    let board = CellBoard::new(alloc, CELLS)?;
-    Ok(DirectedLink {
+fn link_of(from: u8, share: Share) -> DirectedLink {
+    DirectedLink {
         from,
         to: share.centre(),
-        board,
-        put: Parker::new(),
+        ends: LinkEnds::new(),
         share: Mutex::new(share),
-    })
+    }
 }
 
 /// For each centre the bells of its links, by the numbers of the centres that they lead to.

@@ -1,13 +1,12 @@
 use crate::seats::Door;
 use cli_print::name_of;
-use rbc_board::CellBoard;
 use rbc_line::Line;
 use rbc_node::{Node, Open, Share};
 use serve_connections::Exchange;
-use serve_workers::Desk;
+use serve_workers::{Desk, LinkEnds};
 use std::alloc::Global;
-use std::sync::{Mutex, Wait};
 use std::sync::atomic::{AtomicBool, AtomicU64, Ordering};
+use std::sync::{Mutex, Wait};
 use std::thread::Parker;
 
 /// Who comes through a door.
@@ -23,9 +22,8 @@ pub(crate) enum Caller {
 pub(crate) struct DirectedLink {
     pub from: u8,
     pub to: u8,
-    pub board: CellBoard,
-    /// Rung where a frame was put on the link.
-    pub put: Parker,
+    /// What its two workers tell each other.
+    pub ends: LinkEnds,
     /// The receipts of the frames that came over it.
     pub share: Mutex<Share>,
 }

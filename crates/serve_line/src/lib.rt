@@ -7,8 +7,8 @@
 mod answer;
 mod build;
 mod control;
-mod doorway;
 mod doors;
+mod doorway;
 mod hall;
 mod life;
 mod limits;

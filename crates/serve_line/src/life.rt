@@ -1,5 +1,5 @@
 use crate::hall::{Caller, Hall};
-use crate::limits::CELLS;
+use crate::limits::MOST_FRAMES;
 use crate::notes::Notes;
 use rbc_centre::LAST_STAMP;
 use rbc_log::{CentreLog, MOST_ENTRIES};
@@ -33,9 +33,11 @@ impl Life {
         };
         let (entries, stamp, frames) = used_of(node.look(rt).log(), hall.line.centre_count());
         let name = hall.name(caller);
-        self.log.tell(notes, name, "log", entries, MOST_ENTRIES as u64);
-        self.clock.tell(notes, name, "clock", stamp, u64::from(LAST_STAMP));
-        self.link.tell(notes, name, "fullest link", frames, u64::from(CELLS));
+        self.log
+            .tell(notes, name, "log", entries, MOST_ENTRIES as u64);
+        self.clock
+            .tell(notes, name, "clock", stamp, u64::from(LAST_STAMP));
+        self.link.tell(notes, name, "fullest link", frames, u64::from(MOST_FRAMES));
     }
 }
 

@@ -3,8 +3,8 @@
 use std::net::TcpStream;
 use std::time::Duration;
 
-/// How many frames a directed link carries.
-pub(crate) const CELLS: u32 = 65_536;
+/// How many frames a directed link carries in all.
+pub(crate) const MOST_FRAMES: u32 = 65_536;
 
 /// How many connections a centre serves at once, beside one for each train of the line.
 pub(crate) const SPARE: usize = 8;

@@ -3,7 +3,7 @@ use crate::doors::Doors;
 use crate::doorway::run_door;
 use crate::hall::{DirectedLink, Hall, State};
 use crate::limits::NOTES;
-use crate::links::{receive, send};
+use crate::links::carry;
 use crate::notes::{Notes, Queued, write_notes};
 use crate::seats::{Door, Seat};
 use crate::tally::Tally;
@@ -120,13 +120,11 @@ fn run_centres<R: Threads + Wait + Sync, N: Notes + Sync>(
     Ok(())
 }
 
-// Carries frames for as long as the doors are open: two workers a link.
+// Carries frames for as long as the doors are open: a thread a link, and in it two workers.
 fn run_links<R: Threads + Wait + Sync, N: Notes + Sync>(rt: &R, hall: &Hall<'_>, notes: &N) {
     thread::scope(thread::scope_env(), rt, |scope| {
         for link in hall.links {
-            if scope.spawn(move || send(rt, hall, link)).is_err()
-                || scope.spawn(move || receive(rt, hall, link)).is_err()
-            {
+            if scope.spawn(move || carry(rt, hall, link)).is_err() {
                 hall.fail();
             }
         }
