@@ -7,7 +7,7 @@ use std::alloc::Global;
 use std::test::*;
 
 // How many are read of each kind.
-const TRIES: u32 = 10_000;
+const TRIES: u32 = 100_000;
 
 const SEED: u32 = 20_261_126;
 
