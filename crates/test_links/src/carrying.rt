@@ -1,0 +1,132 @@
+ghost use Rattle.std.specs.Prelude.{◌≡◌};
+
+use crate::asking::{A, B, asking, node_of};
+use crate::narrow::Narrow;
+use crate::unruly::Unruly;
+use rbc_board::{Carrier, QueueCarrier};
+use rbc_centre::{Event, LinkAnswer};
+use rbc_log::merge;
+use rbc_node::{Node, Open, Share, gather};
+use serve_workers::{Closed, Desk, InOrder, LinkEnds, receive_frames, send_frames};
+use std::alloc::Global;
+use std::sync::Wait;
+use std::sync::atomic::AtomicBool;
+use std::test::*;
+use std::thread;
+use std::thread::{Parker, Threads};
+
+// What the links answered to the frames that were committed.
+fn answers_of(alloc: Global, share: &Share) -> Result<Vec<Option<LinkAnswer>>, Fail> {
+    let mut answers = Vec::new(alloc);
+    for receipt in share.receipts() {
+        if let Event::Deliver { .. } = receipt.event {
+            answers.push(receipt.outcome.link)?;
+        }
+    }
+    Ok(answers)
+}
+
+// How many entries there are in the two logs, gathered and merged.
+fn merged(alloc: Global, nodes: [Node; 2], shares: [Share; 2]) -> Result<usize, Fail> {
+    let [a, b] = nodes;
+    let [of_a, of_b] = shares;
+    let family = gather(alloc, vec![in alloc; a, b]?, vec![in alloc; of_a, of_b]?)
+        .ok()
+        .ok_or("the logs are a family")?;
+    let (Some(first), Some(second)) = (family.logs().first(), family.logs().get(1)) else {
+        return Err("there is a log of each centre".into());
+    };
+    let entries = merge(alloc, &[first, second])
+        .ok()
+        .ok_or("the logs are merged")?;
+    Ok(entries.len())
+}
+
+// B gets the three frames of A under these numbers, once A has put them all: what its link answered, and how many entries there are.
+fn got_under<R: Wait>(
+    rt: &R,
+    alloc: Global,
+    numbers: [u32; 8],
+) -> Result<(Vec<Option<LinkAnswer>>, usize), Fail> {
+    let (a, of_a) = asking(rt, alloc)?;
+    let b = node_of(alloc, B)?;
+    let mut of_b = b.share();
+    let (queue, writer, reader) = QueueCarrier::new(rt, alloc)?;
+    let (ends, bell) = (LinkEnds::new(), Parker::new());
+    let is_said = AtomicBool::new(true);
+    send_frames(rt, &a, B, &queue, writer, ends.of_sender(&bell, &is_said));
+    let is_over = AtomicBool::new(false);
+    let mut order = Unruly::new(numbers, &is_over);
+    let desk = Desk {
+        node: &b,
+        gate: &Open,
+        outlet: &Closed,
+    };
+    let signals = ends.of_receiver(&bell, &is_over);
+    receive_frames(rt, &desk, &mut of_b, A, &queue, reader, &mut order, signals);
+    let answers = answers_of(alloc, &of_b)?;
+    Ok((answers, merged(alloc, [a, b], [of_a, of_b])?))
+}
+
+#[test]
+fn each_frame_that_comes_is_committed_whatever_number_was_asked_for(
+    rt: HostRuntime,
+) -> Result<(), Fail> {
+    let (answers, entries) = got_under(&rt, rt.alloc(), [2, 1, 1, 3, 9, 2, 3, 1])?;
+    let (early, next, old) = (
+        Some(LinkAnswer::Early),
+        Some(LinkAnswer::Next),
+        Some(LinkAnswer::Old),
+    );
+    assert!(rt; answers.as_slice() == [early, next, old, early, next, next, old].as_slice());
+    assert!(rt; entries == 12 + 7);
+    Ok(())
+}
+
+// B gets the frames of A over a carrier while A puts them, though no session is left from the first: what its link answered.
+fn carried_at_the_end<R: Threads + Wait + Sync, C: Carrier + Sync>(
+    rt: &R,
+    alloc: Global,
+    carrier: &C,
+    writer: C::Seen,
+    reader: C::Seen,
+) -> Result<Vec<Option<LinkAnswer>>, Fail>
+    requires { C.is_of carrier.now writer × C.is_of carrier.now reader }
+{
+    let (a, _) = asking(rt, alloc)?;
+    let b = node_of(alloc, B)?;
+    let mut of_b = b.share();
+    let (ends, bell, is_over) = (LinkEnds::new(), Parker::new(), AtomicBool::new(true));
+    thread::join(
+        rt,
+        || -> C::Seen
+            requires { C.is_of carrier.now writer }
+        { send_frames(rt, &a, B, carrier, writer, ends.of_sender(&bell, &is_over)) },
+        || -> C::Seen
+            requires { C.is_of carrier.now reader }
+        {
+            let desk = Desk {
+                node: &b,
+                gate: &Open,
+                outlet: &Closed,
+            };
+            let mut order = InOrder::new();
+            let signals = ends.of_receiver(&bell, &is_over);
+            receive_frames(
+                rt, &desk, &mut of_b, A, carrier, reader, &mut order, signals,
+            )
+        },
+    );
+    answers_of(alloc, &of_b)
+}
+
+#[test]
+fn all_frames_are_delivered_at_the_end_though_the_link_is_full(
+    rt: HostRuntime,
+) -> Result<(), Fail> {
+    let (queue, writer, reader) = QueueCarrier::new(&rt, rt.alloc())?;
+    let narrow = Narrow::new(queue);
+    let answers = carried_at_the_end(&rt, rt.alloc(), &narrow, writer, reader)?;
+    assert!(rt; answers.as_slice() == [Some(LinkAnswer::Next); 3].as_slice());
+    Ok(())
+}

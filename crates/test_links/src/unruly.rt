@@ -1,0 +1,48 @@
+//! An order that keeps to none.
+
+use serve_workers::Order;
+use std::sync::atomic::{AtomicBool, Ordering};
+
+/// How many numbers it asks for.
+pub const ASKED: usize = 8;
+
+/// Asks for the numbers of its list, whatever comes of them, and says behind the last that nothing new comes.
+#[derive(Debug, Drop)]
+pub struct Unruly<'a> {
+    numbers: [u32; ASKED],
+    next: usize,
+    is_over: &'a AtomicBool,
+}
+
+impl<'a> Unruly<'a> {
+    pub fn new(numbers: [u32; ASKED], is_over: &'a AtomicBool) -> Unruly<'a> {
+        Unruly {
+            numbers,
+            next: 0,
+            is_over,
+        }
+    }
+}
+
+impl Order for Unruly<'_> {
+    ghost use Rattle.std.specs.Prelude.{◌≡◌, zero, MatchOption};
+    ghost use Rattle.std.specs.List.{slice_get};
+
+    ghost asks = { λ o. MatchOption (slice_get o.numbers o.next) zero (λ n. n) };
+
+    ghost follows = { λ o is_committed n. Unit {0} };
+
+    fn number(&self) -> u32 {
+        match self.numbers.get(self.next) {
+            Some(number) => *number,
+            None => 0,
+        }
+    }
+
+    fn go_on(&mut self, _is_committed: bool) {
+        self.next = self.next.saturating_add(1);
+        if self.next >= ASKED {
+            self.is_over.store(true, Ordering::SeqCst);
+        }
+    }
+}
