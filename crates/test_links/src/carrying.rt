@@ -27,10 +27,8 @@ fn answers_of(alloc: Global, share: &Share) -> Result<Vec<Option<LinkAnswer>>, F
 }
 
 // How many entries there are in the two logs, gathered and merged.
-fn merged(alloc: Global, nodes: [Node; 2], shares: [Share; 2]) -> Result<usize, Fail> {
-    let [a, b] = nodes;
-    let [of_a, of_b] = shares;
-    let family = gather(alloc, vec![in alloc; a, b]?, vec![in alloc; of_a, of_b]?)
+fn merged(alloc: Global, nodes: Vec<Node>, shares: Vec<Share>) -> Result<usize, Fail> {
+    let family = gather(alloc, nodes, shares)
         .ok()
         .ok_or("the logs are a family")?;
     let (Some(first), Some(second)) = (family.logs().first(), family.logs().get(1)) else {
@@ -65,7 +63,8 @@ fn got_under<R: Wait>(
     let signals = ends.of_receiver(&bell, &is_over);
     receive_frames(rt, &desk, &mut of_b, A, &queue, reader, &mut order, signals);
     let answers = answers_of(alloc, &of_b)?;
-    Ok((answers, merged(alloc, [a, b], [of_a, of_b])?))
+    let entries = merged(alloc, vec![in alloc; a, b]?, vec![in alloc; of_a, of_b]?)?;
+    Ok((answers, entries))
 }
 
 #[test]

@@ -25,10 +25,10 @@ impl<'a> Unruly<'a> {
 }
 
 impl Order for Unruly<'_> {
-    ghost use Rattle.std.specs.Prelude.{◌≡◌, zero, MatchOption};
-    ghost use Rattle.std.specs.List.{slice_get};
+    ghost use Rattle.std.specs.Prelude.{slice_get};
+    ghost use Rattle.std.specs.Option.{option_map_or};
 
-    ghost asks = { λ o. MatchOption (slice_get o.numbers o.next) zero (λ n. n) };
+    ghost asks = { λ o. option_map_or (λ n. n) (slice_get o.numbers o.next) 0 };
 
     ghost follows = { λ o is_committed n. Unit {0} };
 
