@@ -8,6 +8,8 @@
 #[cfg(test)]
 mod centre;
 #[cfg(test)]
+mod full;
+#[cfg(test)]
 mod gather;
 pub mod line;
 #[cfg(test)]
