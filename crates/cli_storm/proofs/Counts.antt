@@ -1,5 +1,5 @@
 -- What a step of the world adds to what its links have sent.
-use Rattle.std.proofs.Common.{◌≡◌, ℕ, zero, suc, ◌+◌, ◌*◌, ◌/◌, ◌%◌, ◌==◌, Bool, true, false, List, [], ◌∷◌, ◌++◌, length, map, Option, Some, None, Result, Ok, Err, if◌then◌else◌, slice_get, refl, sym, ap, subst, ◌∙◌, arith, inl, inr, length-append}
+use Rattle.std.proofs.Common.{◌≡◌, ℕ, suc, ◌+◌, ◌*◌, ◌/◌, ◌%◌, Bool, true, false, List, [], ◌∷◌, length, map, Option, Some, None, Result, Ok, Err, if◌then◌else◌, slice_get, refl, sym, ap, subst, ◌∙◌, arith, inl, inr, length-append}
 use Rattle.std.specs.Option.{option_map_or}
 use Rattle.std.specs.List.{range_with_len}
 use Rattle.std.proofs.lemmas.Bool.Decides.{eqb_tells}
@@ -10,8 +10,7 @@ use Rattle.rbc_spec.specs.Outcome.{Outcome}
 use Rattle.rbc_spec.specs.Centre.{Centre, beginning}
 use Rattle.rbc_spec.specs.Step as centre
 use Rattle.rbc_spec.specs.Step.{Refusal, step}
-use Rattle.rbc_spec.specs.World.{World, Event, Bytes, Set, Unset, Delivery, centre_of, Answer, Answered, NoCentre, NotSent, Fault, new_world, frame_sent, mention, stepped, at_centre, takes, world_step}
-use Rattle.law_logs.specs.Logs.{IsStamped}
+use Rattle.rbc_spec.specs.World.{World, Event, Bytes, Set, Unset, Delivery, centre_of, Answer, NoCentre, NotSent, Fault, new_world, frame_sent, mention, stepped, at_centre, takes, world_step}
 use Rattle.law_logs.proofs.Stamps.{stamped}
 use Rattle.cli_storm.specs.declared.links.Link.{Link}
 use Rattle.cli_storm.specs.Links.{all_links, counted, counted_by, last_number, link_at}

@@ -7,7 +7,14 @@ use Rattle.cli_storm.proofs.Counts.{adds}
 use Rattle.cli_storm.proofs.storm.Storm.step.Goals as goal
 
 pub invariant_of-self : goal.invariant_of-self
-invariant_of-self c =
+invariant_of-self c = record {
+  counted =
+      c.args.self.now.counted ∙ ap (λ w. all_links (line_of c.args.self.now.world) w) (sym c.in_err-answer.ensures.err)
+      ∙ sym (ap (λ l. all_links l (state_of c.step.new.self)) c.step.ensures.line);
+}
+
+pub invariant_of-self-2 : goal.invariant_of-self-2
+invariant_of-self-2 c =
     let grown = adds (line_of c.args.self.now.world) (state_of c.args.self.now.world) (event_of c.args.event.now) (answer_of c.in_ok-answer.answer) (state_of c.step.new.self) c.in_ok-answer.ensures.exact in
     record {
       counted =
