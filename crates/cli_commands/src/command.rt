@@ -6,6 +6,7 @@ use crate::explain::explain;
 use crate::files::Files;
 use crate::in_words::{show_message, tell_printed};
 use crate::run::{check, run};
+use crate::storm::run_storm;
 use crate::words::{Request, requested};
 use cli_status::{Fault, ended};
 use std::alloc::Global;
@@ -38,6 +39,9 @@ fn obey<'a, S: AsStr, F: Files, O: Write>(
         Request::Check { file } => check(alloc, file, files, out),
         Request::Explain { file } => explain(alloc, file, files, out),
         Request::Run { file, script } => run(alloc, file, script, files, out),
+        Request::Storm { file, script, seed } => {
+            run_storm(alloc, file, script, seed, files, out)
+        }
         // Here are files, and no sockets: the program itself does these two.
         Request::Serve { .. } | Request::Drive { .. } => Err(Fault::Socket),
         Request::Audit { file, printed } => audit_printed(alloc, file, printed, files, out),

@@ -14,7 +14,9 @@ const FILE: (&str, &str) = ("FILE", "The line file");
 
 const PRINTED: (&str, &str) = ("PRINTED", "What `run` printed");
 
-const FORMS: [Form; 8] = [
+const SCRIPT: (&str, &str) = ("SCRIPT", "The script, one event a line");
+
+const FORMS: [Form; 9] = [
     Form {
         name: "check",
         about: "Reads a line file, and says how many centres, tracks, sections and trains it has",
@@ -28,7 +30,19 @@ const FORMS: [Form; 8] = [
     Form {
         name: "run",
         about: "Runs a script of events, and prints each event, what it leads to, and the line at the end",
-        words: &[FILE, ("SCRIPT", "The script, one event a line")],
+        words: &[FILE, SCRIPT],
+    },
+    Form {
+        name: "storm",
+        about: "Runs a script with four deliveries drawn by lot behind each event, and prints as `run` does",
+        words: &[
+            FILE,
+            SCRIPT,
+            (
+                "SEED",
+                "A number below 2^64; the same draws the same deliveries",
+            ),
+        ],
     },
     Form {
         name: "serve",

@@ -1,5 +1,6 @@
-//! What `rbcline` does: it reads words, a line file and a script, runs the script on the line, and prints what comes
-//! out; it shows messages, and what a run printed, in words; it draws a run; and it audits what was printed.
+//! What `rbcline` does: it reads words, a line file and a script, runs the script on the line, also in a storm of drawn
+//! deliveries, and prints what comes out; it shows messages, and what a run printed, in words; it draws a run; and it
+//! audits what was printed.
 //!
 //! Bodies are free. What is printed, and each exit status, is fixed by docs/FORMATS.md.
 #![tactic(auto)]
@@ -14,5 +15,6 @@ mod forms;
 mod in_words;
 mod picture;
 pub mod run;
+mod storm;
 mod teller;
 pub mod words;

@@ -48,7 +48,8 @@ pub fn line_in<'a, F: Files>(alloc: Global, file: &'a str, files: &F) -> Result<
     Ok(Line::from_toml(alloc, text.as_str())?)
 }
 
-fn entries_in<'a, F: Files>(
+/// What the script of this name asks for.
+pub(crate) fn entries_in<'a, F: Files>(
     alloc: Global,
     line: &Line,
     script: &'a str,

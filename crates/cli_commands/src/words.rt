@@ -21,6 +21,12 @@ pub enum Request<'a> {
         file: &'a str,
         script: &'a str,
     },
+    /// Run the script on the line, with drawn deliveries behind each event.
+    Storm {
+        file: &'a str,
+        script: &'a str,
+        seed: u64,
+    },
     /// Run the events of a print again, and hold its lines against it.
     Audit {
         file: &'a str,
@@ -79,6 +85,7 @@ fn named_of_file<'a>(command: &str, words: &ArgMatches<'a>) -> Option<Request<'a
         "check" => Some(Request::Check { file }),
         "explain" => Some(Request::Explain { file }),
         "run" => named_run(file, words),
+        "storm" => named_storm(file, words),
         _ => named_of_print(command, file, words),
     }
 }
@@ -86,6 +93,12 @@ fn named_of_file<'a>(command: &str, words: &ArgMatches<'a>) -> Option<Request<'a
 fn named_run<'a>(file: &'a str, words: &ArgMatches<'a>) -> Option<Request<'a>> {
     let script = words.get_str("SCRIPT")?;
     Some(Request::Run { file, script })
+}
+
+fn named_storm<'a>(file: &'a str, words: &ArgMatches<'a>) -> Option<Request<'a>> {
+    let script = words.get_str("SCRIPT")?;
+    let seed = seed_of(words.get_str("SEED")?)?;
+    Some(Request::Storm { file, script, seed })
 }
 
 fn named_of_print<'a>(command: &str, file: &'a str, words: &ArgMatches<'a>) -> Option<Request<'a>> {
@@ -130,6 +143,14 @@ fn port_of(word: &str) -> Option<u16> {
         Ok(port) => Some(port),
         Err(_) => None,
     }
+}
+
+// A seed: a number that 64 bits hold, without a sign.
+fn seed_of(word: &str) -> Option<u64> {
+    if word.starts_with('+') {
+        return None;
+    }
+    word.parse().ok()
 }
 
 fn matched<'a, S: AsStr>(alloc: Global, words: &'a [S]) -> Result<ArgMatches<'a>, Error> {

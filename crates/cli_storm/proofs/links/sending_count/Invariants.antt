@@ -1,0 +1,10 @@
+use Rattle.std.proofs.Common.{◌≡◌, ◌+◌, ◌≤◌, length, drop}
+use Rattle.std.specs.List.{filter}
+use Rattle.cli_storm.specs.Links.{has_sent}
+use Rattle.cli_storm.proofs.links.sending_count.Given as goal
+
+abbrev pub invariant-loop-link : goal.invariant-loop-link
+invariant-loop-link l = record {
+  counted : l.count + length (filter has_sent (drop l.link-index l.links)) ≡ length (filter has_sent l.links);
+  few : l.count ≤ l.link-index;
+}

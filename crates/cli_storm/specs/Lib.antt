@@ -1,0 +1,3 @@
+pub mod Draws
+pub mod Links
+pub mod Storm

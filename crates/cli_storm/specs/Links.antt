@@ -1,0 +1,48 @@
+-- What the links of a line have sent, and the delivery that is drawn by that.
+use Rattle.std.specs.Prelude.{ℕ, ◌+◌, ◌*◌, ◌/◌, ◌%◌, ◌==◌, Bool, List, [], ◌∷◌, length, map, if◌then◌else◌, nat_lt, slice_get, Option, None, option_map}
+use Rattle.std.specs.List.{filter, range_with_len}
+use Rattle.rbc_spec.specs.Line.{Line}
+use Rattle.rbc_spec.specs.Frame.{Frame}
+use Rattle.rbc_spec.specs.World.{World, Answer, Answered, NoCentre, NotSent, Fault}
+use Rattle.rbc_world.specs.declared.event.WorldEvent.{WorldEvent}
+use Rattle.rbc_world.specs.declared.event.WorldEvent.TheVariants.{Deliver}
+use Rattle.cli_storm.specs.declared.links.Link.{Link}
+use Rattle.cli_storm.specs.Draws.{next, drawn}
+
+-- the link at a place, of so many centres
+abbrev pub link_at : ℕ → World → ℕ → Link
+link_at centres w k = record { from = k / centres; to = k % centres; sent = length ((w.at (k / centres)).sent (k % centres)) }
+
+-- from each centre of the line to each, by sender and then by receiver, with how many frames were sent
+abbrev pub all_links : Line → World → List Link
+all_links line w = map (link_at (length line.centres) w) (range_with_len 0 (length line.centres * length line.centres))
+
+abbrev pub has_sent : Link → Bool
+has_sent l = nat_lt 0 l.sent
+
+-- those that have sent a frame
+abbrev pub sending : Line → World → List Link
+sending line w = filter has_sent (all_links line w)
+
+-- the delivery that is drawn of links that have sent a frame, and what the draws leave: nothing is drawn where there is no such link, else
+-- one of them, and the number of one of its frames or one more
+abbrev pub delivery : List Link → ℕ → Option WorldEvent × ℕ
+delivery from x =
+    if length from == 0 then (None, x)
+    else (option_map (λ l. Deliver l.from l.to (drawn (next (next x)) % (l.sent + 1) + 1)) (slice_get from (drawn (next x) % length from)), next (next x))
+
+-- the number of the last frame, or the number before where there is none
+abbrev pub last_number : ℕ → List Frame → ℕ
+last_number n [] = n
+last_number n (f ∷ frames) = last_number f.number frames
+
+-- a link behind a step of this centre that sent these frames
+abbrev pub counted : ℕ → (ℕ → List Frame) → Link → Link
+counted c frames l = if l.from == c then record { from = l.from; to = l.to; sent = last_number l.sent (frames l.to) } else l
+
+-- the links behind an answer at this centre
+abbrev pub counted_by : ℕ → Answer → List Link → List Link
+counted_by c (Answered o) ls = map (counted c o.frames) ls
+counted_by c NoCentre ls = ls
+counted_by c NotSent ls = ls
+counted_by c (Fault number) ls = ls

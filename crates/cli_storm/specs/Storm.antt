@@ -1,0 +1,59 @@
+-- What is played in a storm.
+use Rattle.std.specs.Prelude.{ℕ, zero, suc, List, [], ◌∷◌, Option, Some, None, Result, Ok, Err}
+use Rattle.rbc_spec.specs.Line.{Line}
+use Rattle.rbc_spec.specs.World.{World, Answer, world_step}
+use Rattle.rbc_spec.specs.Step.{Refusal}
+use Rattle.rbc_centre.specs.declared.fault.StepFault.{StepFault}
+use Rattle.rbc_world.specs.Views.{event_of}
+use Rattle.rbc_world.specs.declared.event.WorldEvent.{WorldEvent}
+use Rattle.cli_script.specs.declared.script.Entry.{Entry}
+use Rattle.cli_script.specs.declared.script.Entry.TheVariants as entry
+use Rattle.cli_script.specs.declared.play.PlayFault.{PlayFault}
+use Rattle.cli_script.specs.Played.{Telling, IsPlayed, IsStopped, Leaves}
+use Rattle.cli_storm.specs.Links.{delivery, sending}
+
+abbrev pub world_of : World → Result (Answer × World) Refusal → World
+world_of w (Ok x) = x.1
+world_of w (Err why) = w
+
+-- the world behind an event; where its step is refused nothing is played behind it
+abbrev pub behind : Line → World → WorldEvent → World
+behind line w event = world_of w (world_step line w (event_of event))
+
+-- What follows an entry is a function of the world and of what the draws have left by then.
+abbrev pub Rest : Type 0
+Rest = World → ℕ → List Entry
+
+abbrev pub with_drawn : Line → World → Option WorldEvent × ℕ → Rest → List Entry
+with_drawn line w (None, x) rest = rest w x
+with_drawn line w (Some event, x) rest = entry.Event event ∷ rest (behind line w event) x
+
+-- a delivery, if one is drawn, and the rest
+abbrev pub with_delivery : Line → World → ℕ → Rest → List Entry
+with_delivery line w x rest = with_drawn line w (delivery (sending line w) x) rest
+
+-- so many of them
+abbrev pub deliveries : ℕ → Line → World → ℕ → Rest → List Entry
+deliveries zero line w x rest = rest w x
+deliveries (suc n) line w x rest = with_delivery line w x (λ v y. deliveries n line v y rest)
+
+-- an entry of the script with what is drawn behind it, and the rest: four deliveries behind an event, none behind `show`
+abbrev pub played_by : Line → World → ℕ → Entry → Rest → List Entry
+played_by line w x entry.Show rest = entry.Show ∷ rest w x
+played_by line w x (entry.Event event) rest = entry.Event event ∷ deliveries 4 line (behind line w event) x rest
+
+-- all entries of the script
+abbrev pub storm : Line → World → ℕ → List Entry → List Entry
+storm line w x [] = []
+storm line w x (e ∷ entries) = played_by line w x e (λ v y. storm line v y entries)
+
+-- What is left, played from here or stopped in, is all entries played from the beginning, or stopped in.
+abbrev pub Passes : {T : Type 0} → (T → Telling → T → Type 0) → Line → World → T → List Entry → World → T → List Entry → Type 0
+Passes {T} tells line w t all v u left =
+    ((z : World) (r : T) → IsPlayed tells line v u left z r → IsPlayed tells line w t all z r)
+    × ((fault : StepFault) (z : World) (r : T) → IsStopped tells line v u left fault z r → IsStopped tells line w t all fault z r)
+
+-- The call plays a part: it is done, with the rest left, or it leaves what part and rest leave, whatever the rest.
+abbrev pub Continues : {T F : Type 0} → (T → Telling → T → Type 0) → Line → World → T → (Rest → List Entry) → Result (Unit {0}) (PlayFault F) → World → T → ℕ → Type 0
+Continues tells line w t part (Ok done) v u x = (rest : Rest) → Passes tells line w t (part rest) v u (rest v x)
+Continues {F = F} tells line w t part (Err fault) v u x = (rest : Rest) → Leaves {F = F} tells line w t (part rest) (Err fault) v u

@@ -1,0 +1,170 @@
+ghost use Rattle.std.specs.Prelude.{◌≡◌, ◌∷◌, [], IfOk, OnErr, OnOk};
+ghost use Rattle.rbc_spec.specs.World.{centre_of, new_world, world_step};
+ghost use Rattle.rbc_world.specs.World.{line_of, state_of};
+ghost use Rattle.rbc_world.specs.Views.{answer_of, event_of};
+ghost use Rattle.rbc_world.specs.Answers.{Gives};
+ghost use Rattle.cli_script.specs.declared.script.Entry.TheVariants as entry;
+ghost use Rattle.cli_script.specs.Played.{Leaves};
+ghost use Rattle.cli_storm.specs.Links.{all_links};
+ghost use Rattle.cli_storm.specs.Storm.{Continues, behind, deliveries, played_by, storm, with_delivery};
+
+use crate::draws::Draws;
+use crate::links::{Link, count_answer, draw_delivery, links_of};
+use cli_script::play::{PlayFault, Teller};
+use cli_script::script::Entry;
+use rbc_centre::StepFault;
+use rbc_line::Line;
+use rbc_world::{Answer, World, WorldEvent};
+use std::alloc::{AllocError, Global};
+
+/// How many deliveries are drawn behind an event of the script.
+const DELIVERIES: u8 = 4;
+
+/// The centres of a line in a storm.
+#[derive(Drop)]
+pub struct Storm {
+    world: World,
+    links: Vec<Link>,
+    draws: Draws,
+    ghost counted: { links.items ≡ all_links (line_of world) (state_of world) },
+}
+
+impl Storm {
+    /// The centres at their beginning, and the draws at this seed.
+    pub fn new(alloc: Global, line: &Line, seed: u64) -> Result<Storm, AllocError>
+        ensures line { IfOk result (λ s. line_of s.world ≡ line.now) }
+        ensures beginning { IfOk result (λ s. state_of s.world ≡ new_world line.now) }
+        ensures seed { IfOk result (λ s. s.draws.x ≡ seed) }
+    {
+        Ok(Storm {
+            world: World::new(alloc, line)?,
+            links: links_of(alloc, line)?,
+            draws: Draws { x: seed },
+        })
+    }
+
+    /// The centres.
+    pub fn world(&self) -> &World
+        ensures { result.now ≡ self.now.world }
+    {
+        &self.world
+    }
+
+    /// Plays a script's entries, one after another, and four drawn deliveries behind each event. Each is told as it comes, as `play` does
+    /// it, and it stops at the first event that is refused.
+    pub fn play<T: Teller>(
+        &mut self,
+        entries: &[Entry],
+        teller: &mut T,
+    ) -> Result<(), PlayFault<T::Fault>>
+        ensures line { line_of self.new.world ≡ line_of self.old.world }
+        ensures told { Leaves T.tells (line_of self.old.world) (state_of self.old.world) teller.old
+            (storm (line_of self.old.world) (state_of self.old.world) self.old.draws.x entries.now) result (state_of self.new.world) teller.new }
+    {
+        for entry in entries {
+            self.play_one(entry, teller)?;
+        }
+        Ok(())
+    }
+
+    fn play_one<T: Teller>(
+        &mut self,
+        entry: &Entry,
+        teller: &mut T,
+    ) -> Result<(), PlayFault<T::Fault>>
+        ensures line { line_of self.new.world ≡ line_of self.old.world }
+        ensures told { Continues T.tells (line_of self.old.world) (state_of self.old.world) teller.old
+            (played_by (line_of self.old.world) (state_of self.old.world) self.old.draws.x entry.now) result (state_of self.new.world) teller.new self.new.draws.x }
+    {
+        match entry {
+            Entry::Show => self.show(teller),
+            Entry::Event(event) => {
+                self.take(event, teller)?;
+                self.deliver(teller)
+            }
+        }
+    }
+
+    fn show<T: Teller>(&mut self, teller: &mut T) -> Result<(), PlayFault<T::Fault>>
+        ensures same { self.new ≡ self.old }
+        ensures told { Leaves T.tells (line_of self.old.world) (state_of self.old.world) teller.old (entry.Show ∷ []) result (state_of self.new.world) teller.new }
+    {
+        match teller.show(&self.world) {
+            Ok(()) => Ok(()),
+            Err(fault) => Err(PlayFault::Untold(fault)),
+        }
+    }
+
+    // The deliveries that are drawn behind an event of the script.
+    fn deliver<T: Teller>(&mut self, teller: &mut T) -> Result<(), PlayFault<T::Fault>>
+        ensures line { line_of self.new.world ≡ line_of self.old.world }
+        ensures told { Continues T.tells (line_of self.old.world) (state_of self.old.world) teller.old
+            (deliveries 4 (line_of self.old.world) (state_of self.old.world) self.old.draws.x) result (state_of self.new.world) teller.new self.new.draws.x }
+    {
+        for _ in 0..DELIVERIES {
+            self.deliver_one(teller)?;
+        }
+        Ok(())
+    }
+
+    // A delivery, if one is drawn.
+    fn deliver_one<T: Teller>(&mut self, teller: &mut T) -> Result<(), PlayFault<T::Fault>>
+        ensures line { line_of self.new.world ≡ line_of self.old.world }
+        ensures told { Continues T.tells (line_of self.old.world) (state_of self.old.world) teller.old
+            (with_delivery (line_of self.old.world) (state_of self.old.world) self.old.draws.x) result (state_of self.new.world) teller.new self.new.draws.x }
+    {
+        match draw_delivery(&mut self.draws, &self.links) {
+            Some(event) => self.take(&event, teller),
+            None => Ok(()),
+        }
+    }
+
+    // An event comes, is taken, and its answer is told.
+    fn take<T: Teller>(
+        &mut self,
+        event: &WorldEvent,
+        teller: &mut T,
+    ) -> Result<(), PlayFault<T::Fault>>
+        ensures line { line_of self.new.world ≡ line_of self.old.world }
+        ensures draws { self.new.draws ≡ self.old.draws }
+        ensures left { OnOk result (state_of self.new.world ≡ behind (line_of self.old.world) (state_of self.old.world) event.now) }
+        ensures told { Leaves T.tells (line_of self.old.world) (state_of self.old.world) teller.old (entry.Event event.now ∷ []) result (state_of self.new.world) teller.new }
+    {
+        if let Err(fault) = teller.comes(event) {
+            return Err(PlayFault::Untold(fault));
+        }
+        let answer = match self.step(event) {
+            Ok(answer) => answer,
+            Err(fault) => return Err(PlayFault::Refused(fault)),
+        };
+        match teller.answered(event, &answer) {
+            Ok(()) => Ok(()),
+            Err(fault) => Err(PlayFault::Untold(fault)),
+        }
+    }
+
+    // The centres take an event, and the frames that they send are counted.
+    fn step(&mut self, event: &WorldEvent) -> Result<Answer, StepFault>
+        ensures line { line_of self.new.world ≡ line_of self.old.world }
+        ensures draws { self.new.draws ≡ self.old.draws }
+        ensures exact { Gives (λ a. (answer_of a, state_of self.new.world)) result
+            (world_step (line_of self.old.world) (state_of self.old.world) (event_of event.now)) }
+        ensures err { OnErr result (state_of self.new.world ≡ state_of self.old.world) }
+    {
+        let answer = self.world.step(event)?;
+        count_answer(&mut self.links, centre_of(event), &answer);
+        Ok(answer)
+    }
+}
+
+// The centre that takes the step of an event.
+fn centre_of(event: &WorldEvent) -> u8
+    ensures { result ≡ centre_of (event_of event.now) }
+{
+    match event {
+        WorldEvent::Train { centre, .. } => *centre,
+        WorldEvent::Set { centre, .. } => *centre,
+        WorldEvent::Unset { centre, .. } => *centre,
+        WorldEvent::Deliver { to, .. } => *to,
+    }
+}
