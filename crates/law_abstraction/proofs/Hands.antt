@@ -86,14 +86,14 @@ shown_as : (e : Entry) (g h : ℕ → Bool) → ((t : ℕ) → is_used_for t e �
 shown_as centre.Shut g h same = refl
 shown_as centre.Open g h same = refl
 shown_as (centre.Taken t) g h same = ap (λ b. if b then line_centre.Given t else line_centre.Kept t) (sym (same t (itself t)))
-shown_as (centre.Out t d) g h same = ap (λ b. if b then line_centre.Given t else line_centre.Kept t) (sym (same t (itself t)))
+shown_as (centre.Out t) g h same = ap (λ b. if b then line_centre.Given t else line_centre.Kept t) (sym (same t (itself t)))
 
 pub kept_shown : (e : Entry) (g : ℕ → Bool) (t : ℕ) → is_used_for t e ≡ true → g t ≡ false → shown e g ≡ line_centre.Kept t
 kept_shown centre.Shut g t used is = cc
 kept_shown centre.Open g t used is = cc
 kept_shown (centre.Taken u) g t used is =
     let same = eqb-true u t used in cond-false (g u) (line_centre.Given u) (line_centre.Kept u) (ap g same ∙ is) ∙ ap (λ x. line_centre.Kept x) same
-kept_shown (centre.Out u d) g t used is =
+kept_shown (centre.Out u) g t used is =
     let same = eqb-true u t used in cond-false (g u) (line_centre.Given u) (line_centre.Kept u) (ap g same ∙ is) ∙ ap (λ x. line_centre.Kept x) same
 
 pub mark_shown : (line : Line) (w new : Flow) (s d : ℕ) (old mark : Mark) → MarkAfter line w new s d old mark

@@ -137,7 +137,7 @@ module _ (line : Line) (w : World) (sound : IsFlowSound line (flow_of w)) (v : L
   unheld centre.Shut g none = refl
   unheld centre.Open g none = refl
   unheld (centre.Taken t) g none = cond-false (g t) (line_centre.Given t) (line_centre.Kept t) (none t)
-  unheld (centre.Out t d) g none = cond-false (g t) (line_centre.Given t) (line_centre.Kept t) (none t)
+  unheld (centre.Out t) g none = cond-false (g t) (line_centre.Given t) (line_centre.Kept t) (none t)
 
   mark_read : (s d : ℕ) → is_home line d s ≡ true → v.mark s ≡ mark_of (holder line w s) ((w.at d).book s)
   mark_read s d home = sees.mark s d home ∙ by_holder (holder line w s) refl

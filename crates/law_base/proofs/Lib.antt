@@ -4,3 +4,4 @@ pub mod Longest
 pub mod Puts
 pub mod Lines
 pub mod Acts
+pub mod Standstill

@@ -44,4 +44,4 @@ pub taken_is : (t : ℕ) (e : Entry) → is_taken_for t e ≡ true → e ≡ Tak
 taken_is t Shut h = cc
 taken_is t Open h = cc
 taken_is t (Taken u) h = ap (λ (x : ℕ). Taken x) (eqb-true u t h)
-taken_is t (Out u d) h = cc
+taken_is t (Out u) h = cc

@@ -1,5 +1,5 @@
 -- Laws of lists, and of ranges of numbers under a test.
-use Rattle.std.proofs.Common.{◌≡◌, ℕ, zero, suc, ◌+◌, ◌<◌, ◌≤◌, Bool, true, false, if◌then◌else◌, List, [], ◌∷◌, ◌++◌, slice_get, Option, Some, None, is_none, refl, sym, ap, ◌∙◌, inl, inr, subst, arith}
+use Rattle.std.proofs.Common.{◌≡◌, ℕ, zero, suc, ◌+◌, ◌<◌, ◌≤◌, Bool, true, false, ◌||◌, if◌then◌else◌, List, [], ◌∷◌, ◌++◌, slice_get, Option, Some, None, is_none, refl, sym, ap, ◌∙◌, inl, inr, subst, arith}
 use Rattle.std.specs.List.{filter, find, list_any, list_all, range_with_len, All}
 use Rattle.std.proofs.lemmas.Bool.{and_parts, and_from, or_left, or_right}
 use Rattle.std.proofs.lemmas.Bool.Decides.{eqb_tells}
@@ -73,6 +73,16 @@ any-range test a (suc n) s low high passes = elim (eqb_tells s a) [
   | inl e ↦ or_left (test a) (list_any test (range_with_len (a + 1) n)) (ap test (sym (e.1)) ∙ passes)
   | inr e ↦ let apart = e.1 in or_right (test a) (list_any test (range_with_len (a + 1) n)) (any-range test (a + 1) n s (omega (arith, apart)) (omega arith) passes)
 ]
+
+-- where a test is passed along a range, a number of it passes
+pub any-range_some : (test : ℕ → Bool) (a n : ℕ) → list_any test (range_with_len a n) ≡ true → (s : ℕ) × (a ≤ s) × (s < a + n) × (test s ≡ true)
+any-range_some test a zero is = cc
+any-range_some test a (suc n) is = by_test (test a) refl is (any-range_some test (a + 1) n)
+  where
+    by_test : (b : Bool) → test a ≡ b → (b || list_any test (range_with_len (a + 1) n)) ≡ true
+        → (list_any test (range_with_len (a + 1) n) ≡ true → (s : ℕ) × (a + 1 ≤ s) × (s < a + 1 + n) × (test s ≡ true)) → (s : ℕ) × (a ≤ s) × (s < a + suc n) × (test s ≡ true)
+    by_test true passes is later = (a, omega arith, omega arith, passes)
+    by_test false fails is later = let it = later is in let low = it.1 in let high = it.2 in (it.0, omega (arith, low), omega (arith, high), it.3)
 
 -- the only number of a range that passes is found
 pub find-range : (test : ℕ → Bool) (a n s : ℕ) → a ≤ s → s < a + n → test s ≡ true → ((e : ℕ) → a ≤ e → e < s → test e ≡ false) → find test (range_with_len a n) ≡ Some s

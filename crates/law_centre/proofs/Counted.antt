@@ -30,8 +30,7 @@ not_refused false false h = (refl, refl)
 -- a link is to a centre of the line
 linked_below : (line : Line) (c d : ℕ) → is_linked line c d ≡ true → d < length line.centres
 linked_below line c d linked =
-    let apart = (and_parts ((is_centre line c && is_centre line d) && not (c == d)) _ linked).0 in
-    let both = (and_parts (is_centre line c && is_centre line d) (not (c == d)) apart).0 in
+    let both = (and_parts (is_centre line c && is_centre line d) (not (c == d)) linked).0 in
     ltb-true d (length line.centres) (and_parts (is_centre line c) (is_centre line d) both).1
 
 -- where no link is full there is room on each

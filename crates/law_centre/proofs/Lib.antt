@@ -7,6 +7,8 @@ pub mod Sends
 pub mod SentActs
 pub mod SentAnswers
 pub mod SentSteps
+pub mod Reported
+pub mod SentStandstill
 pub mod SentFrames
 pub mod SentEvents
 pub mod SentTaken

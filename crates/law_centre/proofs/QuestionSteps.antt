@@ -13,11 +13,11 @@ use Rattle.rbc_spec.specs.Outcome as outcome
 use Rattle.rbc_spec.specs.Centre.{Centre, Entry, Shut, Open, Taken, Out, Mission, is_registrar_of, is_unused, is_open, uses_some, is_expected, beginning}
 use Rattle.rbc_spec.specs.Acts.{Act, become, booked, returned, send, change_mission, rest, ◌>>◌, return_right, propose_if_so, end_order}
 use Rattle.rbc_spec.specs.Rules.{tell, choose, drop_wait, answered, reject}
-use Rattle.rbc_spec.specs.Links.{is_of_line, received, of_train, is_train, lendable, expect, is_under, may_take, is_wanted, right_asked, right_given, right_refused, right_returned, route_asked, route_told, route_withdrawn, route_returned, announced, cancelled, taking_over, take_mission, yielded, claimed}
+use Rattle.rbc_spec.specs.Links.{is_of_line, received, of_train, is_train, lendable, expect, is_under, may_take, is_wanted, right_asked, right_given, right_refused, right_returned, route_asked, route_told, route_withdrawn, route_returned, announced, cancelled, taking_over, take_mission, yielded}
 use Rattle.rbc_spec.specs.Step as step
 use Rattle.rbc_spec.specs.Step.{Train, taken, link_answer, taken_by, effect, set, unset, wished, make, hear_and_answer, Event, Set, Unset, Deliver, stamp_of}
 use Rattle.law_centre.specs.Asks.{AsksForEmptyPools, follows_hand}
-use Rattle.law_centre.proofs.Questions.{Keeps, both, branch, where_keeps, chosen, of_some, of_option, set_empty, changes, none_before, unproposed, return_keeps, propose_if_keeps, end_keeps, yield_if_keeps, drop_keeps, close_session_keeps, start_keeps, request_keeps, report_keeps, end_mission_keeps, shortened_keeps, given_keeps, told_at}
+use Rattle.law_centre.proofs.Questions.{Keeps, both, branch, where_keeps, chosen, of_some, of_option, set_empty, changes, none_before, unproposed, return_keeps, propose_if_keeps, end_keeps, over_keeps, drop_keeps, close_session_keeps, start_keeps, request_keeps, report_keeps, end_mission_keeps, shortened_keeps, given_keeps, told_at}
 
 module _ (line : Line) (c : ℕ) where
   trains : (t : ℕ) (act : Act) → Keeps act → Keeps (of_train line t act)
@@ -35,7 +35,7 @@ module _ (line : Line) (c : ℕ) where
   lent_keeps : (d t first most : ℕ) → Keeps (route_asked line c d t first most)
   lent_keeps d t first most = record {
     each = λ k h. (where_keeps (λ j. is_some (section line first))
-        (booked is_open (Out t d) (lendable line c k first most) >> send d (RouteInfo t (lendable line c k first most))) (both _ _ (record { each = λ k h. h }) (record { each = λ k h. h }))).each k h;
+        (booked is_open (Out t) (lendable line c k first most) >> send d (RouteInfo t (lendable line c k first most))) (both _ _ (record { each = λ k h. h }) (record { each = λ k h. h }))).each k h;
   }
 
   told_keeps : (d t : ℕ) (r : SectionRun) → Keeps (route_told line c d t r)
@@ -49,7 +49,7 @@ module _ (line : Line) (c : ℕ) where
       (λ m. branch (within m.pool s) (returned line c t m.place.track (part_from s m.pool) >> change_mission t (λ n. record n { pool = part_before s n.pool })) (propose_if_so line t s)
       (both _ _ (record { each = λ k h. h }) (changes t (λ n. record n { pool = part_before s n.pool }) (λ n e. none_before s n.pool e))) (propose_if_keeps line c t s))
 
-  home_keeps : (d t : ℕ) (r : SectionRun) → Keeps (route_returned line c d t r)
+  home_keeps : (d t : ℕ) (r : SectionRun) → Keeps (route_returned line c t r)
   home_keeps d t r = both _ _ (record { each = λ k h. h }) (where_keeps (λ k. not (uses_some line c k t) && ((is_none (k.mission t) && is_none (k.wait t)) && not (is_expected line k t))) (end_order line c t) (end_keeps line c t))
 
   take_keeps : (d t heard : ℕ) (m : Mission) → is_empty m.pool ≡ true → Keeps (take_mission line c d t heard m)
@@ -63,12 +63,12 @@ module _ (line : Line) (c : ℕ) where
   received_keeps d (RouteAsk t first most) = trains t (route_asked line c d t first most) (lent_keeps d t first most)
   received_keeps d (RouteInfo t r) = trains t (route_told line c d t r) (told_keeps d t r)
   received_keeps d (RouteWithdraw t s) = trains t (if is_some (section line s) then route_withdrawn line c t s else rest) (branch (is_some (section line s)) (route_withdrawn line c t s) rest (withdrawn_keeps t s) (record { each = λ k h. h }))
-  received_keeps d (RouteReturn t r) = trains t (if all_of (λ s. is_some (section line s)) r then route_returned line c d t r else rest)
-      (branch (all_of (λ s. is_some (section line s)) r) (route_returned line c d t r) rest (home_keeps d t r) (record { each = λ k h. h }))
+  received_keeps d (RouteReturn t r) = trains t (if all_of (λ s. is_some (section line s)) r then route_returned line c t r else rest)
+      (branch (all_of (λ s. is_some (section line s)) r) (route_returned line c t r) rest (home_keeps d t r) (record { each = λ k h. h }))
   received_keeps d (Announce number t track) = trains t (if nat_lt track (length line.tracks) then announced d number t else rest)
       (branch (nat_lt track (length line.tracks)) (announced d number t) rest (where_keeps (λ k. is_none (k.expects d t)) (expect d t (Some (record { number = number; is_taking = false }))) (record { each = λ k h. h })) (record { each = λ k h. h }))
   received_keeps d (Cancel number t) = trains t (cancelled d number t) (where_keeps (λ k. is_under number (k.expects d t)) (expect d t None) (record { each = λ k h. h }))
-  received_keeps d (TakingOver number t) = trains t (taking_over line c d number t) (both _ _ (changes t (claimed d number) (λ m e. e)) (yield_if_keeps line c t))
+  received_keeps d (TakingOver number t) = trains t (taking_over line c d number t) (over_keeps line c t d number)
   received_keeps d (Yield number t heard has_data is_ended place hand) = trains t (option_map_or (yielded line c d number t hand heard has_data is_ended) (carried_place place) rest)
       (of_option (carried_place place) (yielded line c d number t hand heard has_data is_ended) rest (λ at. where_keeps (λ k. may_take line c k d number t at hand) _ (take_keeps d t heard _ refl)) (record { each = λ k h. h }))
 
@@ -84,11 +84,11 @@ module _ (line : Line) (c : ℕ) where
   answered_keeps m (StartOfMission is_valid position) = start_keeps line c m.nid_engine is_valid position
   answered_keeps m SessionEstablished = record { each = λ k h. h }
 
-  wished_keeps : (s : ℕ) (e : Entry) → Keeps (wished line s e)
+  wished_keeps : (s : ℕ) (e : Entry) → Keeps (wished line c s e)
   wished_keeps s Shut = record { each = λ k h. h }
   wished_keeps s Open = record { each = λ k h. h }
   wished_keeps s (Taken t) = propose_if_keeps line c t s
-  wished_keeps s (Out t d) = record { each = λ k h. h }
+  wished_keeps s (Out t) = record { each = λ k h. h }
 
   set_keeps : (s : ℕ) → Keeps (set line c s)
   set_keeps s = record { each = λ k h. by_home k h (not (is_home line c s)) }
@@ -102,7 +102,7 @@ module _ (line : Line) (c : ℕ) where
   unset_keeps s = record { each = λ k h. by_home k h (not (is_home line c s)) }
     where
       by_home : (k : Centre) → AsksForEmptyPools k → (z : Bool) → AsksForEmptyPools (if z then tell (NotHome s) k
-          else (if is_unused (k.book s) then (make s Shut false >> tell (Done s)) else ((become (λ j. record j { wish = put j.wish s true }) >> tell (Asked s)) >> wished line s (k.book s))) k).state
+          else (if is_unused (k.book s) then (make s Shut false >> tell (Done s)) else ((become (λ j. record j { wish = put j.wish s true }) >> tell (Asked s)) >> wished line c s (k.book s))) k).state
       by_home k h true = h
       by_home k h false = (branch _ _ _ (both _ _ (record { each = λ k h. h }) (record { each = λ k h. h })) (both _ _ (both _ _ (record { each = λ k h. h }) (record { each = λ k h. h })) (wished_keeps s (k.book s)))).each k h
 

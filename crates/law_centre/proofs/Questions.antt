@@ -11,9 +11,10 @@ use Rattle.rbc_spec.specs.Place.{Place, Position, covered, fit_place, place_on, 
 use Rattle.rbc_spec.specs.Message.{unknown_group, EndSession, Authority, ShorteningRequest}
 use Rattle.rbc_spec.specs.Frame.{RouteReturn}
 use Rattle.rbc_spec.specs.Centre.{Centre, Taken, Mission, Handing, Proposal, is_registrar_of, is_free, is_open, is_up}
-use Rattle.rbc_spec.specs.Acts.{Act, become, booked, is_of_two, say, send, change_mission, part_at, may_propose, rest, ◌>>◌, where_so, with_some, leave, cancel, return_right, close, propose, propose_if_so, announce, ask_route, end_order, yield, yield_if_due, set_mission, begun}
+use Rattle.rbc_spec.specs.Acts.{Act, become, booked, say, send, change_mission, part_at, may_propose, rest, ◌>>◌, where_so, with_some, leave, cancel, return_right, close, propose, propose_if_so, announce, ask_route, end_order, yield, set_mission, begun}
+use Rattle.law_base.proofs.Standstill.{rests_or_cuts}
 use Rattle.rbc_spec.specs.Rules.{accept, choose, drop_wait, close_session, restart, begin, start_here, start_waiting, start_new, start_mission, announce_if_due, ask_route_if_due, at_border, grant, request, report_here, take_over, report, end_mission, cut, granted, reject, cleared, clear, extension, extended_by, authority}
-use Rattle.rbc_spec.specs.Links.{right_given}
+use Rattle.rbc_spec.specs.Links.{right_given, taking_over}
 use Rattle.law_base.proofs.Puts.{put_here, put_other, put_there}
 use Rattle.law_centre.specs.Asks.{AsksForEmptyPools}
 
@@ -119,7 +120,7 @@ module _ (line : Line) (c t : ℕ) where
   propose_if_keeps s = of_some (λ k. k.mission t) (λ m. where_so (may_propose line t s m) (propose line t s m)) (λ m. where_keeps (may_propose line t s m) (propose line t s m) (propose_keeps s m))
 
   abbrev announced_as : ℕ → ℕ → Mission → Mission
-  announced_as number d n = record n { handing = Some (record { number = number; to = d; is_claimed = false }) }
+  announced_as number d n = record n { handing = Some (record { number = number; to = d }) }
 
   announce_keeps : (group d : ℕ) (m : Mission) → Keeps (announce line t group d m)
   announce_keeps group d m = record { each = λ k h. (both _ _ (both _ (change_mission t (announced_as (k.announced + 1) d)) (both _ _ (record { each = λ k h. h }) (record { each = λ k h. h })) (changes t (announced_as (k.announced + 1) d) (λ m e. e))) (record { each = λ k h. h })).each k h }
@@ -130,8 +131,8 @@ module _ (line : Line) (c t : ℕ) where
   yield_keeps : (m : Mission) (h : Handing) → Keeps (yield line c t m h)
   yield_keeps m h = record { each = λ k asks. (both _ _ (both _ _ (both _ _ (record { each = λ k h. h }) (record { each = λ k h. h })) (both _ _ (set_none t) (record { each = λ k h. h }))) (branch (is_empty (part_at line c m.place.track m.hand)) (end_order line c t) rest end_keeps (record { each = λ k h. h }))).each k asks }
 
-  pub yield_if_keeps : Keeps (yield_if_due line c t)
-  yield_if_keeps = of_some (λ k. k.mission t) _ (λ m. of_some (λ k. m.handing) _ (λ h. where_keeps (λ k. h.is_claimed && is_of_two line c h.to m.hand) _ (yield_keeps m h)))
+  pub over_keeps : (d number : ℕ) → Keeps (taking_over line c d number t)
+  over_keeps d number = of_some (λ k. k.mission t) _ (λ m. of_some (λ k. m.handing) _ (λ h. where_keeps (λ k. (h.number == number) && (h.to == d)) _ (yield_keeps m h)))
 
   pub drop_keeps : Keeps (drop_wait line c t)
   drop_keeps = of_some _ _ (λ place. both _ _ (record { each = λ k h. h }) (record { each = λ k h. h }))
@@ -236,13 +237,9 @@ module _ (line : Line) (c t : ℕ) where
   report_keeps position = record { each = λ k h. by_mission k h (k.mission t) refl }
     where
       by_mission : (k : Centre) → AsksForEmptyPools k → (o : Option Mission) → k.mission t ≡ o
-          → AsksForEmptyPools (option_map_or (λ m. (report_here line c t position m >> yield_if_due line c t) k) o (take_over line t k)).state
+          → AsksForEmptyPools (option_map_or (λ m. report_here line c t position m k) o (take_over line t k)).state
       by_mission k h None is = h
-      by_mission k h (Some m) is = yield_if_keeps.each (report_here line c t position m k).state (here_at position m k is h)
-
-  pub end_mission_keeps : (position : Position) → Keeps (end_mission line c t position)
-  end_mission_keeps position = both _ _ (both _ _ (of_value (λ k. k.mission t) (report_here line c t position) (λ k m has h. here_at position m k has h))
-      (of_some _ _ (λ m. both _ _ (both _ _ (record { each = λ k h. h }) (changes t (λ n. record n { pool = no_run }) (λ m e. refl))) (changes t (λ n. record n { is_ended = true; proposal = None }) (λ m e. e))))) yield_if_keeps
+      by_mission k h (Some m) is = here_at position m k is h
 
   abbrev kept_by : ℕ → Mission → Mission
   kept_by last_kept m = record m { hand = part_before (last_kept + 1) m.hand; pool = no_run; proposal = None }
@@ -256,9 +253,14 @@ module _ (line : Line) (c t : ℕ) where
       (λ h. branch (is_empty (part_at line h.to m.place.track (kept_by last_kept m).hand)) (cancel t (kept_by last_kept m)) rest (cancel_keeps (kept_by last_kept m)) (record { each = λ k h. h })) (record { each = λ k h. h }))))
 
   pub shortened_keeps : (position : Position) (m : Mission) (p : Proposal) → Keeps (granted line c t position m p)
-  shortened_keeps position m p = both _ _ (both _ _ unproposed
+  shortened_keeps position m p = both _ _ unproposed
       (of_option (place_on line m.place.track position) (λ place. if nat_le place.front (10 * end line p.last_kept) then cut line c t p.last_kept m else rest) rest
-      (λ place. branch (nat_le place.front (10 * end line p.last_kept)) (cut line c t p.last_kept m) rest (cut_keeps p.last_kept m) (record { each = λ k h. h })) (record { each = λ k h. h }))) yield_if_keeps
+      (λ place. branch (nat_le place.front (10 * end line p.last_kept)) (cut line c t p.last_kept m) rest (cut_keeps p.last_kept m) (record { each = λ k h. h })) (record { each = λ k h. h }))
+
+  pub end_mission_keeps : (position : Position) → Keeps (end_mission line c t position)
+  end_mission_keeps position = both _ _ (both _ _ (of_value (λ k. k.mission t) (report_here line c t position) (λ k m has h. here_at position m k has h))
+      (of_some _ _ (λ m. rests_or_cuts Keeps line c t position m (record { each = λ k h. h }) (λ n some fits. cut_keeps (m.hand.first + n - 1) m))))
+      (of_some _ _ (λ m. both _ _ (both _ _ (record { each = λ k h. h }) (changes t (λ n. record n { pool = no_run }) (λ m e. refl))) (changes t (λ n. record n { is_ended = true; proposal = None }) (λ m e. e))))
 
   -- ## Frames
 

@@ -1,5 +1,5 @@
 -- What each act sends on a link, in order, how many messages it says and words it tells.
-use Rattle.std.proofs.Common.{◌≡◌, ◌≢◌, ◌⊎◌, inl, inr, ℕ, zero, suc, ◌+◌, ◌<◌, ◌≤◌, ◌==◌, ◌&&◌, ◌||◌, not, Bool, true, false, if◌then◌else◌, nat_lt, List, [], ◌∷◌, length, map, filter, Option, Some, None, option_map, refl, sym, ap, ◌∙◌, subst, arith, eq-eqb}
+use Rattle.std.proofs.Common.{◌≡◌, ◌≢◌, ◌⊎◌, inl, inr, ℕ, zero, suc, ◌+◌, ◌<◌, ◌≤◌, ◌==◌, ◌&&◌, ◌||◌, not, Bool, true, false, if◌then◌else◌, nat_lt, List, [], ◌∷◌, length, map, filter, Option, Some, None, option_map, refl, ap, ◌∙◌, arith, eq-eqb}
 use Rattle.std.specs.List.{range_with_len}
 use Rattle.std.specs.Option.{option_map_or}
 use Rattle.std.proofs.lemmas.Bool.{cond-true, lt-ltb, le-ltb, eqb-false, or_right, or_parts, not-true}
@@ -11,7 +11,8 @@ use Rattle.rbc_spec.specs.Message.{EndSession, unknown_group}
 use Rattle.rbc_spec.specs.Frame.{Body, ReturnRight, RouteReturn, Cancel, Yield, yielded_place}
 use Rattle.rbc_spec.specs.Outcome.{Told}
 use Rattle.rbc_spec.specs.Centre.{Centre, Entry, Out, Mission, Handing, is_taken_for, is_registrar_of, is_up}
-use Rattle.rbc_spec.specs.Acts.{Act, rest, become, ◌>>◌, where_so, send, say, booked, freed, returned, leave, set_mission, change_mission, cancel, return_right, close, propose_if_so, propose, may_propose, end_order, yield, yield_if_due, part_at, is_of_two}
+use Rattle.rbc_spec.specs.Acts.{Act, rest, become, ◌>>◌, where_so, send, say, booked, freed, returned, leave, set_mission, change_mission, cancel, return_right, close, propose_if_so, propose, may_propose, end_order, yield, part_at}
+use Rattle.rbc_spec.specs.Links.{taking_over}
 use Rattle.law_base.proofs.Puts.{put_there}
 use Rattle.law_centre.proofs.Sends.{Sends, key, side, side_below, sends_none, sends_yes, sends_words, sends_saying, sends_then, sends_less, sends_if, sends_some}
 
@@ -77,6 +78,10 @@ module _ (bound d : ℕ) (line : Line) (c t : ℕ) where
   pub leave_low : (track : ℕ) (r : SectionRun) (k : Centre) → behind r ≤ bound → Sends bound d 0 1 1 0 (r.count + 0) (leave line c t track r k)
   leave_low track r k low = sends_then bound d 0 0 1 0 1 0 0 r.count 0 (freed line c (is_taken_for t) r) (returned line c t track r) k (omega arith) (omega arith)
       (freed_sends 0 0 (is_taken_for t) r k) (home_low track r _ low)
+
+  pub leave_high : (track : ℕ) (r : SectionRun) (k : Centre) → (r.count ≡ 0) ⊎ (bound ≤ r.first) → Sends bound d 1 2 1 0 (r.count + 0) (leave line c t track r k)
+  leave_high track r k high = sends_then bound d 1 1 2 0 1 0 0 r.count 0 (freed line c (is_taken_for t) r) (returned line c t track r) k (omega arith) (omega arith)
+      (freed_sends 1 1 (is_taken_for t) r k) (home_high track r _ high)
 
   -- ## Closing
 
@@ -150,13 +155,13 @@ module _ (bound d : ℕ) (line : Line) (c t : ℕ) where
   yield_sends low n m h k le pool =
       let heard : ℕ = option_map_or (λ n. n) (k.heard t) 0 in
       let body : Body = Yield h.number t heard m.has_data m.is_ended (yielded_place m.place) m.hand in
-      let home : Act = returned line c t m.place.track m.pool >> booked (is_taken_for t) (Out t h.to) m.hand in
+      let home : Act = returned line c t m.place.track m.pool >> booked (is_taken_for t) (Out t) m.hand in
       let over : Act = set_mission t None >> send h.to body in
       let last : Act = if is_empty (part_at line c m.place.track m.hand) then end_order line c t else rest in
       sends_less bound d low 3 (n + 0 + (0 + 1) + 0) 1 0 low 3 (n + 1) 1 0 ((home >> over >> last) k) (omega arith) (omega arith) (omega arith) (omega arith) (omega arith)
       (sends_then bound d low 3 3 (n + 0 + (0 + 1)) 0 0 1 0 0 (home >> over) last k (omega arith) (omega arith)
       (sends_then bound d low 2 3 (n + 0) (0 + 1) 0 0 0 0 home over k (omega arith) (omega arith)
-      (sends_then bound d low 2 2 n 0 0 0 0 0 (returned line c t m.place.track m.pool) (booked (is_taken_for t) (Out t h.to) m.hand) k (omega arith) (omega arith) pool (sends_none bound d 2 2 _ refl refl refl))
+      (sends_then bound d low 2 2 n 0 0 0 0 0 (returned line c t m.place.track m.pool) (booked (is_taken_for t) (Out t) m.hand) k (omega arith) (omega arith) pool (sends_none bound d 2 2 _ refl refl refl))
       (sends_then bound d 2 2 3 0 1 0 0 0 0 (set_mission t None) (send h.to body) _ (omega arith) (omega arith) (sends_none bound d 2 2 _ refl refl refl) (sends_one 2 3 h.to body _ (omega arith) (omega arith))))
       (ordered (is_empty (part_at line c m.place.track m.hand)) _))
     where
@@ -164,17 +169,12 @@ module _ (bound d : ℕ) (line : Line) (c t : ℕ) where
       ordered true j = end_order_sends 3 3 j
       ordered false j = sends_saying bound d 3 3 (rest j) refl (omega arith) refl
 
-  pub due_sends : (low n : ℕ) (k : Centre) → low ≤ 2 → ((m : Mission) → k.mission t ≡ Some m → Sends bound d low 2 n 0 0 (returned line c t m.place.track m.pool k)) → Sends bound d low 3 (n + 1) 1 0 (yield_if_due line c t k)
-  due_sends low n k le pool = sends_some bound d low 3 (n + 1) 1 0 (k.mission t) _ (rest k)
+  pub over_sends : (low n e number : ℕ) (k : Centre) → low ≤ 2 → ((m : Mission) → k.mission t ≡ Some m → Sends bound d low 2 n 0 0 (returned line c t m.place.track m.pool k)) → Sends bound d low 3 (n + 1) 1 0 (taking_over line c e number t k)
+  over_sends low n e number k le pool = sends_some bound d low 3 (n + 1) 1 0 (k.mission t) _ (rest k)
       (λ m is. sends_some bound d low 3 (n + 1) 1 0 m.handing _ (rest k)
-      (λ h has. sends_if bound d low 3 (n + 1) 1 0 (h.is_claimed && is_of_two line c h.to m.hand) (yield line c t m h k) (rest k) (λ due. yield_sends low n m h k le (pool m is)) (λ not_due. none))
+      (λ h has. sends_if bound d low 3 (n + 1) 1 0 ((h.number == number) && (h.to == e)) (yield line c t m h k) (rest k) (λ due. yield_sends low n m h k le (pool m is)) (λ not_due. none))
       (λ has_none. none))
       (λ is. none)
     where
       none : Sends bound d low 3 (n + 1) 1 0 (rest k)
       none = sends_less bound d low 3 0 0 0 low 3 (n + 1) 1 0 (rest k) (omega arith) (omega arith) (omega arith) (omega arith) (omega arith) (sends_none bound d low 3 (rest k) refl refl refl)
-
-  -- a train that has no mission here is not yielded
-  pub none_due : (low high : ℕ) (k : Centre) → k.mission t ≡ None → Sends bound d low high 0 0 0 (yield_if_due line c t k)
-  none_due low high k none = subst (λ o. Sends bound d low high 0 0 0 (option_map_or (λ m. option_map_or (λ h. where_so (λ j. h.is_claimed && is_of_two line c h.to m.hand) (yield line c t m h) k) m.handing (rest k)) o (rest k))) (sym none)
-      (sends_none bound d low high (rest k) refl refl refl)

@@ -6,13 +6,13 @@ use Rattle.rbc_spec.specs.SectionRuns.{SectionRun, no_run, behind, part_from, jo
 use Rattle.rbc_spec.specs.Line.{Line}
 use Rattle.rbc_spec.specs.Place.{Place, Position, is_cleared, place_on}
 use Rattle.rbc_spec.specs.Centre.{Centre, Mission}
-use Rattle.rbc_spec.specs.Acts.{Act, Reply, rest, ◌>>◌, leave, set_mission, change_mission, return_pool, close, returned, yield_if_due}
+use Rattle.rbc_spec.specs.Acts.{Act, Reply, rest, ◌>>◌, leave, set_mission, change_mission, return_pool, close, returned}
 use Rattle.rbc_spec.specs.Rules.{cleared, clear, report_here}
 use Rattle.law_base.proofs.Puts.{put_there}
 use Rattle.law_base.proofs.Runs.{joined_count}
 use Rattle.law_base.proofs.Longest.{longest_is}
 use Rattle.law_centre.proofs.Sends.{Sends, sends_none, sends_quiet, sends_then, sends_less}
-use Rattle.law_centre.proofs.SentActs.{home_high, home_none, leave_any, leave_low, close_sends, close_leaves_none, due_sends, none_due}
+use Rattle.law_centre.proofs.SentActs.{home_high, home_none, leave_any, leave_low, close_sends, close_leaves_none}
 
 module _ (d : ℕ) (line : Line) (c t : ℕ) where
   -- all that a step may send and say
@@ -25,14 +25,14 @@ module _ (d : ℕ) (line : Line) (c t : ℕ) where
 
     -- ## Report
 
-    cleared_count : (place : Place) → (cleared line place m).count ≤ m.hand.count
+    pub cleared_count : (place : Place) → (cleared line place m).count ≤ m.hand.count
     cleared_count place = (longest_is (is_cleared line place) m.hand.first m.hand.count).fits
 
     -- the mission after sections were cleared
-    abbrev behind_cleared : Place → Mission
+    abbrev pub behind_cleared : Place → Mission
     behind_cleared place = record m { place = place; hand = part_from (behind (cleared line place m)) m.hand }
 
-    closed_sends : (place : Place) (k : Centre) → Sends bound d 0 5 3 0 64 ((leave line c t m.place.track (joined m.hand m.pool) >> close line c t m) k)
+    pub closed_sends : (place : Place) (k : Centre) → Sends bound d 0 5 3 0 64 ((leave line c t m.place.track (joined m.hand m.pool) >> close line c t m) k)
     closed_sends place k =
         let count = joined_count m.hand m.pool in
         sends_less bound d 0 5 3 0 ((joined m.hand m.pool).count + 0 + 0) 0 5 3 0 64 _ (omega arith) (omega arith) (omega arith) (omega arith) (omega (arith, count, few))
@@ -49,11 +49,11 @@ module _ (d : ℕ) (line : Line) (c t : ℕ) where
         (leave_low bound d line c t m.place.track (cleared line place m) k (omega (arith, count)))
         (sends_none bound d 1 1 _ refl refl refl))
 
-    closed_state : (k : Centre) → ((leave line c t m.place.track (joined m.hand m.pool) >> close line c t m) k).state.mission t ≡ None
+    pub closed_state : (k : Centre) → ((leave line c t m.place.track (joined m.hand m.pool) >> close line c t m) k).state.mission t ≡ None
     unfolding ◌>>◌
     closed_state k = close_leaves_none 0 0 line c t m _
 
-    kept_state : (place : Place) (k : Centre)
+    pub kept_state : (place : Place) (k : Centre)
         → ((leave line c t m.place.track (cleared line place m) >> set_mission t (Some (behind_cleared place))) k).state.mission t ≡ Some (behind_cleared place)
     unfolding ◌>>◌
     kept_state place k = put_there (leave line c t m.place.track (cleared line place m) k).state.mission t (Some (behind_cleared place))
@@ -66,45 +66,42 @@ module _ (d : ℕ) (line : Line) (c t : ℕ) where
     same_pool : (j : Centre) (n o : Mission) → j.mission t ≡ Some n → j.mission t ≡ Some o → n.pool ≡ m.pool → o.pool ≡ m.pool
     same_pool j n o one two is = let same : Some n ≡ Some o = sym one ∙ two in let e : n ≡ o = cc in ap (λ (x : Mission). x.pool) (sym e) ∙ is
 
-    report_open : (act : Act) (n : Mission) (k : Centre) → Sends bound d 0 1 1 0 64 (act k) → (act k).state.mission t ≡ Some n → n.pool ≡ m.pool → Few bound ((act >> yield_if_due line c t) k)
-    report_open act n k sends is same = sends_less bound d 0 3 (1 + 2) (0 + 1) (64 + 0) 0 8 3 2 64 _ (omega arith) (omega arith) (omega arith) (omega arith) (omega arith)
-        (sends_then bound d 0 1 3 1 2 0 1 64 0 act (yield_if_due line c t) k (omega arith) (omega arith) sends
-        (due_sends bound d line c t 1 1 (act k).state (omega arith) (λ o has. pool_sends o (act k).state (same_pool (act k).state n o is has same))))
+    report_open : (act : Act) (n : Mission) (k : Centre) → Sends bound d 0 1 1 0 64 (act k) → (act k).state.mission t ≡ Some n → n.pool ≡ m.pool → Few bound (act k)
+    report_open act n k sends is same = sends_less bound d 0 1 1 0 64 0 8 3 2 64 _ (omega arith) (omega arith) (omega arith) (omega arith) (omega arith) sends
 
-    report_closed : (act : Act) (k : Centre) → Sends bound d 0 5 3 0 64 (act k) → (act k).state.mission t ≡ None → Few bound ((act >> yield_if_due line c t) k)
-    report_closed act k sends is = sends_less bound d 0 5 (3 + 0) (0 + 0) (64 + 0) 0 8 3 2 64 _ (omega arith) (omega arith) (omega arith) (omega arith) (omega arith)
-        (sends_then bound d 0 5 5 3 0 0 0 64 0 act (yield_if_due line c t) k (omega arith) (omega arith) sends (none_due bound d line c t 5 5 (act k).state is))
+    report_closed : (act : Act) (k : Centre) → Sends bound d 0 5 3 0 64 (act k) → (act k).state.mission t ≡ None → Few bound (act k)
+    report_closed act k sends is = sends_less bound d 0 5 3 0 64 0 8 3 2 64 _ (omega arith) (omega arith) (omega arith) (omega arith) (omega arith) sends
 
-    report_at : (place : Place) (k : Centre) → Few bound ((clear line c t m place >> yield_if_due line c t) k)
+    report_at : (place : Place) (k : Centre) → Few bound (clear line c t m place k)
     report_at place k = by_rest ((cleared line place m).count == m.hand.count)
       where
-        by_rest : (b : Bool) → Few bound (((if b then (leave line c t m.place.track (joined m.hand m.pool) >> close line c t m)
-            else (leave line c t m.place.track (cleared line place m) >> set_mission t (Some (behind_cleared place)))) >> yield_if_due line c t) k)
+        by_rest : (b : Bool) → Few bound ((if b then (leave line c t m.place.track (joined m.hand m.pool) >> close line c t m)
+            else (leave line c t m.place.track (cleared line place m) >> set_mission t (Some (behind_cleared place)))) k)
         by_rest true = report_closed (leave line c t m.place.track (joined m.hand m.pool) >> close line c t m) k (closed_sends place k) (closed_state k)
         by_rest false = report_open (leave line c t m.place.track (cleared line place m) >> set_mission t (Some (behind_cleared place))) (behind_cleared place) k (kept_sends place k) (kept_state place k) refl
 
-    pub report_few : (position : Position) (k : Centre) → k.mission t ≡ Some m → Few bound ((report_here line c t position m >> yield_if_due line c t) k)
+    pub report_few : (position : Position) (k : Centre) → k.mission t ≡ Some m → Few bound (report_here line c t position m k)
     report_few position k is = by_place (place_on line m.place.track position)
       where
-        by_place : (o : Option Place) → Few bound ((option_map_or (clear line c t m) o rest >> yield_if_due line c t) k)
+        by_place : (o : Option Place) → Few bound (option_map_or (clear line c t m) o rest k)
         by_place (Some place) = report_at place k
         by_place None = report_open rest m k (sends_quiet bound d 0 1 1 0 64 (rest k) refl (omega arith) (omega arith)) is refl
 
     -- ## End of mission
 
-    abbrev without_pool : Mission → Mission
+    abbrev pub without_pool : Mission → Mission
     without_pool n = record n { pool = no_run }
 
-    abbrev as_ended : Mission → Mission
+    abbrev pub as_ended : Mission → Mission
     as_ended n = record n { is_ended = true; proposal = None }
 
-    abbrev ends : Mission → Act
+    abbrev pub ends : Mission → Act
     ends n = return_pool line c t n >> change_mission t as_ended
 
-    abbrev ends_if_so : Act
+    abbrev pub ends_if_so : Act
     ends_if_so j = option_map_or (λ n. ends n j) (j.mission t) (rest j)
 
-    ends_none : (low : ℕ) (j : Centre) → j.mission t ≡ None → Sends bound d low low 0 0 0 (ends_if_so j)
+    pub ends_none : (low : ℕ) (j : Centre) → j.mission t ≡ None → Sends bound d low low 0 0 0 (ends_if_so j)
     ends_none low j none = subst (λ o. Sends bound d low low 0 0 0 (option_map_or (λ n. ends n j) o (rest j))) (sym none) (sends_none bound d low low (rest j) refl refl refl)
 
     ends_none_state : (j : Centre) → j.mission t ≡ None → (ends_if_so j).state.mission t ≡ None
@@ -118,7 +115,7 @@ module _ (d : ℕ) (line : Line) (c t : ℕ) where
     ends_some : (n : Mission) (j : Centre) → j.mission t ≡ Some n → n.pool ≡ m.pool → Sends bound d 1 2 1 0 0 (ends_if_so j)
     ends_some n j is same = subst (λ o. Sends bound d 1 2 1 0 0 (option_map_or (λ n. ends n j) o (rest j))) (sym is) (ends_sends n j same)
 
-    ended_state : (n : Mission) (j : Centre) → j.mission t ≡ Some n → (ends n j).state.mission t ≡ Some (as_ended (without_pool n))
+    pub ended_state : (n : Mission) (j : Centre) → j.mission t ≡ Some n → (ends n j).state.mission t ≡ Some (as_ended (without_pool n))
     unfolding ◌>>◌
     ended_state n j is =
         put_there (put j.mission t (option_map without_pool (j.mission t))) t (option_map as_ended (put j.mission t (option_map without_pool (j.mission t)) t))
@@ -133,33 +130,11 @@ module _ (d : ℕ) (line : Line) (c t : ℕ) where
         let e : n ≡ o = cc in
         home_none bound d line c t low high o.place.track o.pool j (ap (λ (x : Mission). x.pool.count) (sym e) ∙ none)
 
-    end_open : (act : Act) (n : Mission) (k : Centre) → Sends bound d 0 1 1 0 64 (act k) → (act k).state.mission t ≡ Some n → n.pool ≡ m.pool
-        → Few bound (((act >> ends_if_so) >> yield_if_due line c t) k)
-    unfolding ◌>>◌
-    end_open act n k sends is same = sends_less bound d 0 3 (1 + 1 + 1) (0 + 0 + 1) (64 + 0 + 0) 0 8 3 2 64 _ (omega arith) (omega arith) (omega arith) (omega arith) (omega arith)
-        (sends_then bound d 0 2 3 2 1 0 1 64 0 (act >> ends_if_so) (yield_if_due line c t) k (omega arith) (omega arith)
+    pub end_open : (act : Act) (n : Mission) (k : Centre) → Sends bound d 0 1 1 0 64 (act k) → (act k).state.mission t ≡ Some n → n.pool ≡ m.pool
+        → Few bound ((act >> ends_if_so) k)
+    end_open act n k sends is same = sends_less bound d 0 2 (1 + 1) (0 + 0) (64 + 0) 0 8 3 2 64 _ (omega arith) (omega arith) (omega arith) (omega arith) (omega arith)
         (sends_then bound d 0 1 2 1 1 0 0 64 0 act ends_if_so k (omega arith) (omega arith) sends (ends_some n (act k).state is same))
-        (due_sends bound d line c t 2 0 (ends_if_so (act k).state).state (omega arith)
-        (λ o has. pool_gone 2 2 (ends_if_so (act k).state).state (as_ended (without_pool n)) o (ends_some_state n (act k).state is) refl has)))
 
-    end_closed : (act : Act) (k : Centre) → Sends bound d 0 5 3 0 64 (act k) → (act k).state.mission t ≡ None → Few bound (((act >> ends_if_so) >> yield_if_due line c t) k)
-    unfolding ◌>>◌
-    end_closed act k sends is = sends_less bound d 0 5 (3 + 0 + 0) (0 + 0 + 0) (64 + 0 + 0) 0 8 3 2 64 _ (omega arith) (omega arith) (omega arith) (omega arith) (omega arith)
-        (sends_then bound d 0 5 5 3 0 0 0 64 0 (act >> ends_if_so) (yield_if_due line c t) k (omega arith) (omega arith)
+    pub end_closed : (act : Act) (k : Centre) → Sends bound d 0 5 3 0 64 (act k) → (act k).state.mission t ≡ None → Few bound ((act >> ends_if_so) k)
+    end_closed act k sends is = sends_less bound d 0 5 (3 + 0) (0 + 0) (64 + 0) 0 8 3 2 64 _ (omega arith) (omega arith) (omega arith) (omega arith) (omega arith)
         (sends_then bound d 0 5 5 3 0 0 0 64 0 act ends_if_so k (omega arith) (omega arith) sends (ends_none 5 (act k).state is))
-        (none_due bound d line c t 5 5 (ends_if_so (act k).state).state (ends_none_state (act k).state is)))
-
-    end_at : (place : Place) (k : Centre) → Few bound (((clear line c t m place >> ends_if_so) >> yield_if_due line c t) k)
-    end_at place k = by_rest ((cleared line place m).count == m.hand.count)
-      where
-        by_rest : (b : Bool) → Few bound ((((if b then (leave line c t m.place.track (joined m.hand m.pool) >> close line c t m)
-            else (leave line c t m.place.track (cleared line place m) >> set_mission t (Some (behind_cleared place)))) >> ends_if_so) >> yield_if_due line c t) k)
-        by_rest true = end_closed (leave line c t m.place.track (joined m.hand m.pool) >> close line c t m) k (closed_sends place k) (closed_state k)
-        by_rest false = end_open (leave line c t m.place.track (cleared line place m) >> set_mission t (Some (behind_cleared place))) (behind_cleared place) k (kept_sends place k) (kept_state place k) refl
-
-    pub end_few : (position : Position) (k : Centre) → k.mission t ≡ Some m → Few bound (((report_here line c t position m >> ends_if_so) >> yield_if_due line c t) k)
-    end_few position k is = by_place (place_on line m.place.track position)
-      where
-        by_place : (o : Option Place) → Few bound (((option_map_or (clear line c t m) o rest >> ends_if_so) >> yield_if_due line c t) k)
-        by_place (Some place) = end_at place k
-        by_place None = end_open rest m k (sends_quiet bound d 0 1 1 0 64 (rest k) refl (omega arith) (omega arith)) is refl

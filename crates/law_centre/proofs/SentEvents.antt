@@ -9,13 +9,13 @@ use Rattle.rbc_spec.specs.Place.{Place}
 use Rattle.rbc_spec.specs.Frame.{Body, Frame, AskRight, GiveRight, RefuseRight, ReturnRight, RouteAsk, RouteInfo, RouteWithdraw, RouteReturn, Announce, Cancel, TakingOver, Yield, carried_place}
 use Rattle.rbc_spec.specs.Outcome.{Next, Old, Early, NoLink, Taken as LinkAnswer}
 use Rattle.rbc_spec.specs.Centre.{Centre, Taken, Out, Mission, is_open, is_out_for, uses_some, is_expected}
-use Rattle.rbc_spec.specs.Acts.{Act, Reply, rest, become, ◌>>◌, where_so, with_some, send, booked, freed, returned, set_mission, change_mission, propose_if_so, end_order, yield_if_due}
+use Rattle.rbc_spec.specs.Acts.{Act, Reply, rest, become, ◌>>◌, where_so, with_some, send, booked, freed, returned, set_mission, change_mission, propose_if_so, end_order}
 use Rattle.rbc_spec.specs.Rules.{drop_wait, begin, reject}
-use Rattle.rbc_spec.specs.Links.{received, right_asked, right_given, right_refused, right_returned, answered_ask, route_asked, lendable, route_told, route_withdrawn, route_returned, taking_over, claimed, yielded, take_mission, is_train, expect, announced}
+use Rattle.rbc_spec.specs.Links.{received, right_asked, right_given, right_refused, right_returned, answered_ask, route_asked, lendable, route_told, route_withdrawn, route_returned, taking_over, yielded, take_mission, is_train, expect, announced}
 use Rattle.rbc_spec.specs.Step.{taken_by}
 use Rattle.law_centre.specs.Sending.{HoldsFew, BringsFew, GoInOrder}
 use Rattle.law_centre.proofs.Sends.{Sends, side_below, sends_none, sends_quiet, sends_then}
-use Rattle.law_centre.proofs.SentActs.{sends_one, home_any, freed_sends, right_sends, due_sends, propose_sends, end_order_sends}
+use Rattle.law_centre.proofs.SentActs.{sends_one, home_any, freed_sends, right_sends, over_sends, propose_sends, end_order_sends}
 use Rattle.law_centre.proofs.SentSteps.{where_sends, some_sends}
 use Rattle.law_centre.proofs.SentFrames.{Few, few, quiet, few_if, drop_few}
 
@@ -56,7 +56,7 @@ module _ (d : ℕ) (line : Line) (c t : ℕ) where
 
   lent_few : (e first most : ℕ) (k : Centre) → Few d line c t (route_asked line c e t first most k)
   lent_few e first most k = where_few _ _ k (few d line c t 0 8 1 0 0 _ (omega arith) (omega arith) (omega arith) (omega arith)
-      (sends_then 0 d 0 0 8 0 1 0 0 0 0 (booked is_open (Out t e) (lendable line c k first most)) (send e (RouteInfo t (lendable line c k first most))) k (omega arith) (omega arith)
+      (sends_then 0 d 0 0 8 0 1 0 0 0 0 (booked is_open (Out t) (lendable line c k first most)) (send e (RouteInfo t (lendable line c k first most))) k (omega arith) (omega arith)
       (sends_none 0 d 0 0 _ refl refl refl) (sends_one 0 d line c t 0 8 e (RouteInfo t (lendable line c k first most)) _ (omega arith) (omega arith))))
 
   told_few : (e : ℕ) (r : SectionRun) (k : Centre) → Few d line c t (route_told line c e t r k)
@@ -82,23 +82,22 @@ module _ (d : ℕ) (line : Line) (c t : ℕ) where
       by_mission (Some m) = by_pool (within m.pool s) m
       by_mission None = quiet d line c t _ refl (omega arith) (omega arith)
 
-  come_home_few : (e : ℕ) (r : SectionRun) (k : Centre) → r.count ≤ 64 → Few d line c t (route_returned line c e t r k)
+  come_home_few : (e : ℕ) (r : SectionRun) (k : Centre) → r.count ≤ 64 → Few d line c t (route_returned line c t r k)
   come_home_few e r k size = few d line c t 0 0 0 1 (r.count + 0) _ (omega arith) (omega arith) (omega arith) (omega (arith, size))
-      (sends_then 0 d 0 0 0 0 0 0 1 r.count 0 (freed line c (is_out_for t e) r)
+      (sends_then 0 d 0 0 0 0 0 0 1 r.count 0 (freed line c (is_out_for t) r)
       (where_so (λ j. not (uses_some line c j t) && ((is_none (j.mission t) && is_none (j.wait t)) && not (is_expected line j t))) (end_order line c t)) k (omega arith) (omega arith)
-      (freed_sends 0 d line c t 0 0 (is_out_for t e) r k)
-      (where_sends d line c t 0 0 0 1 0 _ _ (freed line c (is_out_for t e) r k).state (end_order_sends 0 d line c t 0 0 (freed line c (is_out_for t e) r k).state)))
+      (freed_sends 0 d line c t 0 0 (is_out_for t) r k)
+      (where_sends d line c t 0 0 0 1 0 _ _ (freed line c (is_out_for t) r k).state (end_order_sends 0 d line c t 0 0 (freed line c (is_out_for t) r k).state)))
 
   -- ## Handover
 
   over_few : (e number : ℕ) (k : Centre) → Few d line c t (taking_over line c e number t k)
   over_few e number k = few d line c t 0 3 2 1 0 _ (omega arith) (omega arith) (omega arith) (omega arith)
-      (sends_then 0 d 0 0 3 0 2 0 1 0 0 (change_mission t (claimed e number)) (yield_if_due line c t) k (omega arith) (omega arith) (sends_none 0 d 0 0 _ refl refl refl)
-      (due_sends 0 d line c t 0 1 (change_mission t (claimed e number) k).state (omega arith) (λ m is. home_any 0 d line c t m.place.track m.pool (change_mission t (claimed e number) k).state)))
+      (over_sends 0 d line c t 0 1 e number k (omega arith) (λ m is. home_any 0 d line c t m.place.track m.pool k))
 
   -- what stands before the request to shorten of a mission that is taken
   abbrev takes : ℕ → ℕ → Mission → Act
-  takes e heard m = booked (is_out_for t e) (Taken t) m.hand >> set_mission t (Some m)
+  takes e heard m = booked (is_out_for t) (Taken t) m.hand >> set_mission t (Some m)
       >> (become (λ k. record k { heard = put k.heard t (Some (option_map_or (max heard) (k.heard t) heard)) }) >> expect e t None)
 
   abbrev wished_of : Mission → Centre → Option ℕ
@@ -143,7 +142,7 @@ module _ (d : ℕ) (line : Line) (c : ℕ) where
   received_few e (RouteAsk t first most) k h few = of_train_few t (is_train line t) _ k (lent_few d line c t e first most k)
   received_few e (RouteInfo t r) k h few = of_train_few t (is_train line t) _ k (told_few d line c t e r k)
   received_few e (RouteWithdraw t s) k h few = of_train_few t (is_train line t) _ k (of_train_few t (is_some (section line s)) (route_withdrawn line c t s) k (withdrawn_few d line c t s k))
-  received_few e (RouteReturn t r) k h few = of_train_few t (is_train line t) _ k (of_train_few t (all_of (λ s. is_some (section line s)) r) (route_returned line c e t r) k (come_home_few d line c t e r k few))
+  received_few e (RouteReturn t r) k h few = of_train_few t (is_train line t) _ k (of_train_few t (all_of (λ s. is_some (section line s)) r) (route_returned line c t r) k (come_home_few d line c t e r k few))
   received_few e (Announce number t track) k h few = of_train_few t (is_train line t) _ k (of_train_few t (nat_lt track (length line.tracks)) (announced e number t) k
       (where_few d line c t _ _ k (quiet d line c t (expect e t (Some (record { number = number; is_taking = false })) k) refl (omega arith) (omega arith))))
   received_few e (Cancel number t) k h few = of_train_few t (is_train line t) _ k (where_few d line c t _ _ k (quiet d line c t (expect e t None k) refl (omega arith) (omega arith)))

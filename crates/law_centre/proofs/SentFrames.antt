@@ -8,13 +8,14 @@ use Rattle.rbc_spec.specs.Place.{Place, Position, covered, fit_place}
 use Rattle.rbc_spec.specs.Frame.{Body, AskRight, TakingOver}
 use Rattle.rbc_spec.specs.Message.{TrainMessage, TrainBody, TrainData, Request, Report, ShorteningGranted, ShorteningRejected, EndOfMission, InitiationOfSession, TerminationOfSession, StartOfMission, SessionEstablished, SystemVersion, TerminationAcknowledged, unknown_group}
 use Rattle.rbc_spec.specs.Centre.{Centre, Mission, Taken, Closed, Opened, Expectation, is_open, is_taken_for, is_registrar_of, is_free}
-use Rattle.rbc_spec.specs.Acts.{Act, Reply, rest, become, ◌>>◌, where_so, with_some, send, say, return_pool, booked, freed, change_mission, yield_if_due}
-use Rattle.rbc_spec.specs.Rules.{answered, restart, start_new, start_here, start_waiting, start_mission, accept, reject, drop_wait, close_session, set_phase, report, take_over, end_mission, answer_granted, report_here}
+use Rattle.rbc_spec.specs.Acts.{Act, Reply, rest, become, ◌>>◌, where_so, with_some, send, say, return_pool, booked, freed, change_mission}
+use Rattle.rbc_spec.specs.Rules.{answered, restart, start_new, start_here, start_waiting, start_mission, accept, reject, drop_wait, close_session, set_phase, report, take_over, stand_still, end_mission, answer_granted, report_here}
 use Rattle.law_base.proofs.Acts.{alike_then}
 use Rattle.law_centre.specs.Sending.{HoldsFew}
 use Rattle.law_centre.proofs.Sends.{Sends, sends_none, sends_yes, sends_quiet, sends_then, sends_less, sends_some}
-use Rattle.law_centre.proofs.SentActs.{sends_one, freed_sends, none_due}
-use Rattle.law_centre.proofs.SentAnswers.{report_few, end_few}
+use Rattle.law_centre.proofs.SentActs.{sends_one, freed_sends}
+use Rattle.law_centre.proofs.SentAnswers.{report_few}
+use Rattle.law_centre.proofs.SentStandstill.{end_few}
 use Rattle.law_centre.proofs.SentSteps.{granted_few, request_sends, some_sends}
 
 module _ (d : ℕ) (line : Line) (c t : ℕ) where
@@ -105,7 +106,7 @@ module _ (d : ℕ) (line : Line) (c t : ℕ) where
   reported : (position : Position) (k : Centre) → HoldsFew line k → Few (report line c t position k)
   reported position k h = by_mission (k.mission t) refl
     where
-      by_mission : (o : Option Mission) → k.mission t ≡ o → Few (option_map_or (λ m. (report_here line c t position m >> yield_if_due line c t) k) o (take_over line t k))
+      by_mission : (o : Option Mission) → k.mission t ≡ o → Few (option_map_or (λ m. report_here line c t position m k) o (take_over line t k))
       by_mission (Some m) is = record { bound = behind m.hand; sends = report_few d line c t m (h.missions t m is) (h.pools t m is) position k is }
       by_mission None is = few 0 8 1 0 0 _ (omega arith) (omega arith) (omega arith) (omega arith) (takes_over (k.expects d t) refl)
         where
@@ -121,12 +122,18 @@ module _ (d : ℕ) (line : Line) (c t : ℕ) where
   abbrev ends_if_so : Act
   ends_if_so = with_some (λ j. j.mission t) ends
 
-  ended_none : (k : Centre) → k.mission t ≡ None → Sends 0 d 0 0 0 0 0 (((rest >> ends_if_so) >> yield_if_due line c t) k)
+  abbrev stands_if_so : Position → Act
+  stands_if_so position = with_some (λ j. j.mission t) (stand_still line c t position)
+
+  ended_none : (position : Position) (k : Centre) → k.mission t ≡ None → Sends 0 d 0 0 0 0 0 (((rest >> stands_if_so position) >> ends_if_so) k)
   unfolding ◌>>◌
-  ended_none k none = sends_then 0 d 0 0 0 0 0 0 0 0 0 (rest >> ends_if_so) (yield_if_due line c t) k (omega arith) (omega arith)
-      (sends_then 0 d 0 0 0 0 0 0 0 0 0 rest ends_if_so k (omega arith) (omega arith) (sends_none 0 d 0 0 _ refl refl refl)
-      (subst (λ o. Sends 0 d 0 0 0 0 0 (option_map_or (λ n. ends n k) o (rest k))) (sym none) (sends_none 0 d 0 0 (rest k) refl refl refl)))
-      (none_due 0 d line c t 0 0 (ends_if_so k).state (ap (λ o. (option_map_or {U = Reply} (λ n. ends n k) o (rest k)).state.mission t) none ∙ none))
+  ended_none position k none = sends_then 0 d 0 0 0 0 0 0 0 0 0 (rest >> stands_if_so position) ends_if_so k (omega arith) (omega arith)
+      (sends_then 0 d 0 0 0 0 0 0 0 0 0 rest (stands_if_so position) k (omega arith) (omega arith) (sends_none 0 d 0 0 _ refl refl refl)
+      (subst (λ o. Sends 0 d 0 0 0 0 0 (option_map_or (λ n. stand_still line c t position n k) o (rest k))) (sym none) (sends_none 0 d 0 0 (rest k) refl refl refl)))
+      (subst (λ o. Sends 0 d 0 0 0 0 0 (option_map_or (λ n. ends n (stands_if_so position k).state) o (rest (stands_if_so position k).state))) (sym stood) (sends_none 0 d 0 0 (rest (stands_if_so position k).state) refl refl refl))
+    where
+      stood : (stands_if_so position k).state.mission t ≡ None
+      stood = ap (λ o. (option_map_or {U = Reply} (λ n. stand_still line c t position n k) o (rest k)).state.mission t) none ∙ none
 
   abbrev first : Position → Act
   first position = with_some (λ j. j.mission t) (report_here line c t position)
@@ -134,14 +141,14 @@ module _ (d : ℕ) (line : Line) (c t : ℕ) where
   ended_few : (position : Position) (k : Centre) → HoldsFew line k → Few (end_mission line c t position k)
   ended_few position k h = by_mission (k.mission t) refl
     where
-      like : (act : Act) → first position k ≡ act k → end_mission line c t position k ≡ ((act >> ends_if_so) >> yield_if_due line c t) k
-      like act e = alike_then (first position >> ends_if_so) (act >> ends_if_so) (yield_if_due line c t) k (alike_then (first position) act ends_if_so k e)
+      like : (act : Act) → first position k ≡ act k → end_mission line c t position k ≡ ((act >> stands_if_so position) >> ends_if_so) k
+      like act e = alike_then (first position >> stands_if_so position) (act >> stands_if_so position) ends_if_so k (alike_then (first position) act (stands_if_so position) k e)
 
       by_mission : (o : Option Mission) → k.mission t ≡ o → Few (end_mission line c t position k)
       by_mission (Some m) is = subst Few (sym (like (report_here line c t position m) (ap (λ o. option_map_or (λ m. report_here line c t position m k) o (rest k)) is)))
-          (record { bound = behind m.hand; sends = end_few d line c t m (h.missions t m is) (h.pools t m is) position k is })
+          (let it = end_few d line c t m (h.missions t m is) (h.pools t m is) position k is in record { bound = it.0; sends = it.1 })
       by_mission None is = subst Few (sym (like rest (ap (λ o. option_map_or (λ m. report_here line c t position m k) o (rest k)) is)))
-          (few 0 0 0 0 0 _ (omega arith) (omega arith) (omega arith) (omega arith) (ended_none k is))
+          (few 0 0 0 0 0 _ (omega arith) (omega arith) (omega arith) (omega arith) (ended_none position k is))
 
   shortened_few : (position : Position) (k : Centre) → HoldsFew line k → Few (answer_granted line c t position k)
   shortened_few position k h = few 0 5 3 1 64 _ (omega arith) (omega arith) (omega arith) (omega arith)

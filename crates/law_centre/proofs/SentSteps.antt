@@ -1,50 +1,25 @@
 -- What a step sends on a link, how many messages it says and words it tells.
-use Rattle.std.proofs.Common.{◌≡◌, ℕ, ◌+◌, ◌-◌, ◌*◌, ◌≤◌, ◌==◌, ◌&&◌, not, Bool, true, false, if◌then◌else◌, nat_le, nat_lt, Option, Some, None, is_none, option_map, refl, sym, ap, ◌∙◌, arith, min}
+use Rattle.std.proofs.Common.{ℕ, ◌+◌, ◌-◌, ◌*◌, ◌≤◌, ◌==◌, ◌&&◌, not, Bool, true, false, if◌then◌else◌, nat_le, nat_lt, Option, Some, None, is_none, refl, arith, min}
 use Rattle.std.specs.Option.{option_map_or}
 use Rattle.rbc_spec.specs.Maps.{put}
 use Rattle.rbc_spec.specs.SectionRuns.{SectionRun, no_run, behind, is_empty, part_before, part_from, joined}
 use Rattle.rbc_spec.specs.Line.{Line, is_home, start, end, next_centre}
 use Rattle.rbc_spec.specs.Sections.{is_on, nid_rbc}
 use Rattle.rbc_spec.specs.Place.{Place, Position, group_start, place_on}
-use Rattle.rbc_spec.specs.Frame.{Body, Cancel, RouteAsk, Announce}
+use Rattle.rbc_spec.specs.Frame.{Body, RouteAsk, Announce}
 use Rattle.rbc_spec.specs.Centre.{Centre, Mission, Proposal, Handing, Taken, is_open}
 use Rattle.rbc_spec.specs.Message.{Authority, Transition}
-use Rattle.rbc_spec.specs.Acts.{Act, Reply, rest, become, ◌>>◌, where_so, with_some, say, send, booked, leave, set_mission, change_mission, cancel, close, yield_if_due, part_at, announce, ask_route}
+use Rattle.rbc_spec.specs.Acts.{Act, Reply, rest, become, ◌>>◌, where_so, with_some, say, send, booked, leave, set_mission, change_mission, cancel, close, part_at, announce, ask_route}
 use Rattle.rbc_spec.specs.Rules.{cut, granted, at_border, grant, extended_by, extension, authority, request}
-use Rattle.law_base.proofs.Puts.{put_there}
 use Rattle.law_base.proofs.Runs.{joined_count}
 use Rattle.law_centre.proofs.Sends.{Sends, sends_none, sends_quiet, sends_then, sends_less, sends_if, sends_some}
-use Rattle.law_centre.proofs.SentActs.{without_handing, sends_one, home_any, home_none, leave_any, cancel_sends, close_sends, close_leaves_none, due_sends, none_due}
+use Rattle.law_centre.proofs.SentActs.{sends_one, leave_any, cancel_sends, close_sends}
 
 module _ (d : ℕ) (line : Line) (c t : ℕ) where
   -- ## Shortening
 
   abbrev unproposed : Mission → Mission
   unproposed n = record n { proposal = None }
-
-  -- where no handover stands nothing is yielded
-  no_handing_due : (low high : ℕ) (j : Centre) → ((o : Mission) → j.mission t ≡ Some o → o.handing ≡ None) → Sends 0 d low high 0 0 0 (yield_if_due line c t j)
-  no_handing_due low high j none = sends_some 0 d low high 0 0 0 (j.mission t) _ (rest j)
-      (λ o is. sends_some 0 d low high 0 0 0 o.handing _ (rest j)
-      (λ h has. let wrong : None ≡ Some h = sym (none o is) ∙ has in cc)
-      (λ no. sends_none 0 d low high (rest j) refl refl refl))
-      (λ no. sends_none 0 d low high (rest j) refl refl refl)
-
-  -- behind a cancellation no handover stands
-  cancelled_state : (n : Mission) (j : Centre) → j.mission t ≡ Some n → (o : Mission) → (cancel t n j).state.mission t ≡ Some o → o.handing ≡ None
-  unfolding ◌>>◌
-  cancelled_state n j is o has = by_handing n.handing refl has
-    where
-      by_handing : (h : Option Handing) → n.handing ≡ h
-          → (option_map_or (λ h. send h.to (Cancel h.number t) >> change_mission t (λ n. record n { handing = None })) h rest j).state.mission t ≡ Some o → o.handing ≡ None
-      by_handing (Some h) at has =
-          let e : Some (without_handing n) ≡ Some o = sym (put_there j.mission t (option_map without_handing (j.mission t)) ∙ ap (option_map without_handing) is) ∙ has in
-          let same : without_handing n ≡ o = cc in
-          ap (λ (x : Mission). x.handing) (sym same)
-      by_handing None at has =
-          let e : Some n ≡ Some o = sym is ∙ has in
-          let same : n ≡ o = cc in
-          ap (λ (x : Mission). x.handing) (sym same) ∙ at
 
   module _ (m : Mission) (few : m.hand.count + m.pool.count ≤ 64) (last_kept : ℕ) where
     abbrev tail : SectionRun
@@ -62,52 +37,38 @@ module _ (d : ℕ) (line : Line) (c t : ℕ) where
         sends_less 0 d 0 2 1 0 ((joined tail m.pool).count + 0) 0 2 1 0 64 (leaves k) (omega arith) (omega arith) (omega arith) (omega arith) (omega (arith, count, few))
         (leave_any 0 d line c t m.place.track (joined tail m.pool) k)
 
-    cut_closed : (k : Centre) → Sends 0 d 0 5 3 1 64 (((leaves >> close line c t m) >> yield_if_due line c t) k)
-    unfolding ◌>>◌
-    cut_closed k = sends_less 0 d 0 5 (1 + 2 + 0) (0 + 0 + 0) (64 + 0 + 0) 0 5 3 1 64 _ (omega arith) (omega arith) (omega arith) (omega arith) (omega arith)
-        (sends_then 0 d 0 5 5 3 0 0 0 64 0 (leaves >> close line c t m) (yield_if_due line c t) k (omega arith) (omega arith)
+    cut_closed : (k : Centre) → Sends 0 d 0 5 3 1 64 ((leaves >> close line c t m) k)
+    cut_closed k = sends_less 0 d 0 5 (1 + 2) (0 + 0) (64 + 0) 0 5 3 1 64 _ (omega arith) (omega arith) (omega arith) (omega arith) (omega arith)
         (sends_then 0 d 0 3 5 1 2 0 0 64 0 leaves (close line c t m) k (omega arith) (omega arith)
         (sends_less 0 d 0 2 1 0 64 0 3 1 0 64 (leaves k) (omega arith) (omega arith) (omega arith) (omega arith) (omega arith) (leaves_sends k)) (close_sends 0 d line c t m (leaves k).state))
-        (none_due 0 d line c t 5 5 (close line c t m (leaves k).state).state (close_leaves_none 0 d line c t m (leaves k).state)))
 
-    cut_kept : (k : Centre) → Sends 0 d 0 5 3 1 64 (((leaves >> (set_mission t (Some kept) >> rest)) >> yield_if_due line c t) k)
+    cut_kept : (k : Centre) → Sends 0 d 0 5 3 1 64 ((leaves >> (set_mission t (Some kept) >> rest)) k)
     unfolding ◌>>◌
-    cut_kept k = sends_less 0 d 0 3 (1 + 0 + 1) (0 + 0 + 1) (64 + 0 + 0) 0 5 3 1 64 _ (omega arith) (omega arith) (omega arith) (omega arith) (omega arith)
-        (sends_then 0 d 0 2 3 1 1 0 1 64 0 (leaves >> (set_mission t (Some kept) >> rest)) (yield_if_due line c t) k (omega arith) (omega arith)
+    cut_kept k = sends_less 0 d 0 2 (1 + 0) (0 + 0) (64 + 0) 0 5 3 1 64 _ (omega arith) (omega arith) (omega arith) (omega arith) (omega arith)
         (sends_then 0 d 0 2 2 1 0 0 0 64 0 leaves (set_mission t (Some kept) >> rest) k (omega arith) (omega arith) (leaves_sends k) (sends_none 0 d 2 2 _ refl refl refl))
-        (due_sends 0 d line c t 2 0 (set_mission t (Some kept) (leaves k).state).state (omega arith) (λ o is.
-        let e : Some kept ≡ Some o = sym (put_there (leaves k).state.mission t (Some kept)) ∙ is in
-        let same : kept ≡ o = cc in
-        home_none 0 d line c t 2 2 o.place.track o.pool (set_mission t (Some kept) (leaves k).state).state (ap (λ (x : Mission). x.pool.count) (sym same)))))
 
-    cut_cancelled : (k : Centre) → Sends 0 d 0 5 3 1 64 (((leaves >> (set_mission t (Some kept) >> cancel t kept)) >> yield_if_due line c t) k)
-    unfolding ◌>>◌
-    cut_cancelled k = sends_less 0 d 0 4 (1 + (0 + 1) + 0) (0 + 0 + 0) (64 + 0 + 0) 0 5 3 1 64 _ (omega arith) (omega arith) (omega arith) (omega arith) (omega arith)
-        (sends_then 0 d 0 4 4 2 0 0 0 64 0 (leaves >> (set_mission t (Some kept) >> cancel t kept)) (yield_if_due line c t) k (omega arith) (omega arith)
+    cut_cancelled : (k : Centre) → Sends 0 d 0 5 3 1 64 ((leaves >> (set_mission t (Some kept) >> cancel t kept)) k)
+    cut_cancelled k = sends_less 0 d 0 4 (1 + (0 + 1)) (0 + 0) (64 + 0) 0 5 3 1 64 _ (omega arith) (omega arith) (omega arith) (omega arith) (omega arith)
         (sends_then 0 d 0 3 4 1 1 0 0 64 0 leaves (set_mission t (Some kept) >> cancel t kept) k (omega arith) (omega arith)
         (sends_less 0 d 0 2 1 0 64 0 3 1 0 64 (leaves k) (omega arith) (omega arith) (omega arith) (omega arith) (omega arith) (leaves_sends k))
         (sends_then 0 d 3 3 4 0 1 0 0 0 0 (set_mission t (Some kept)) (cancel t kept) (leaves k).state (omega arith) (omega arith) (sends_none 0 d 3 3 _ refl refl refl) (cancel_sends 0 d line c t kept (set_mission t (Some kept) (leaves k).state).state)))
-        (no_handing_due 4 4 (cancel t kept (set_mission t (Some kept) (leaves k).state).state).state
-        (cancelled_state kept (set_mission t (Some kept) (leaves k).state).state (put_there (leaves k).state.mission t (Some kept)))))
 
-    cut_few : (k : Centre) → Sends 0 d 0 5 3 1 64 ((cut line c t last_kept m >> yield_if_due line c t) k)
+    cut_few : (k : Centre) → Sends 0 d 0 5 3 1 64 (cut line c t last_kept m k)
     cut_few k = by_tail (tail.count == m.hand.count) m.handing
       where
-        by_part : (b : Bool) → Sends 0 d 0 5 3 1 64 (((leaves >> (set_mission t (Some kept) >> (if b then cancel t kept else rest))) >> yield_if_due line c t) k)
+        by_part : (b : Bool) → Sends 0 d 0 5 3 1 64 ((leaves >> (set_mission t (Some kept) >> (if b then cancel t kept else rest))) k)
         by_part true = cut_cancelled k
         by_part false = cut_kept k
 
-        by_tail : (b : Bool) (h : Option Handing) → Sends 0 d 0 5 3 1 64 (((leaves >> (if b then close line c t m else (set_mission t (Some kept)
-            >> option_map_or (λ h. if is_empty (part_at line h.to m.place.track kept.hand) then cancel t kept else rest) h rest))) >> yield_if_due line c t) k)
+        by_tail : (b : Bool) (h : Option Handing) → Sends 0 d 0 5 3 1 64 ((leaves >> (if b then close line c t m else (set_mission t (Some kept)
+            >> option_map_or (λ h. if is_empty (part_at line h.to m.place.track kept.hand) then cancel t kept else rest) h rest))) k)
         by_tail true h = cut_closed k
         by_tail false (Some h) = by_part (is_empty (part_at line h.to m.place.track kept.hand))
         by_tail false None = cut_kept k
 
     -- nothing is cut
-    not_cut : (k : Centre) → Sends 0 d 0 5 3 1 64 ((rest >> yield_if_due line c t) k)
-    not_cut k = sends_less 0 d 0 3 (0 + 2) (0 + 1) (0 + 0) 0 5 3 1 64 _ (omega arith) (omega arith) (omega arith) (omega arith) (omega arith)
-        (sends_then 0 d 0 0 3 0 2 0 1 0 0 rest (yield_if_due line c t) k (omega arith) (omega arith) (sends_none 0 d 0 0 _ refl refl refl)
-        (due_sends 0 d line c t 0 1 k (omega arith) (λ n has. home_any 0 d line c t n.place.track n.pool k)))
+    not_cut : (k : Centre) → Sends 0 d 0 5 3 1 64 (rest k)
+    not_cut k = sends_quiet 0 d 0 5 3 1 64 (rest k) refl (omega arith) (omega arith)
 
   pub granted_few : (m : Mission) (p : Proposal) (position : Position) (k : Centre) → m.hand.count + m.pool.count ≤ 64 → Sends 0 d 0 5 3 1 64 (granted line c t position m p k)
   unfolding ◌>>◌
@@ -116,11 +77,11 @@ module _ (d : ℕ) (line : Line) (c t : ℕ) where
       j : Centre
       j = (change_mission t unproposed k).state
 
-      by_end : (b : Bool) → Sends 0 d 0 5 3 1 64 (((if b then cut line c t p.last_kept m else rest) >> yield_if_due line c t) (change_mission t unproposed k).state)
+      by_end : (b : Bool) → Sends 0 d 0 5 3 1 64 ((if b then cut line c t p.last_kept m else rest) (change_mission t unproposed k).state)
       by_end true = cut_few m few p.last_kept (change_mission t unproposed k).state
       by_end false = not_cut m few p.last_kept (change_mission t unproposed k).state
 
-      by_place : (o : Option Place) → Sends 0 d 0 5 3 1 64 ((option_map_or (λ place. if nat_le place.front (10 * end line p.last_kept) then cut line c t p.last_kept m else rest) o rest >> yield_if_due line c t) (change_mission t unproposed k).state)
+      by_place : (o : Option Place) → Sends 0 d 0 5 3 1 64 (option_map_or (λ place. if nat_le place.front (10 * end line p.last_kept) then cut line c t p.last_kept m else rest) o rest (change_mission t unproposed k).state)
       by_place (Some place) = by_end (nat_le place.front (10 * end line p.last_kept))
       by_place None = not_cut m few p.last_kept (change_mission t unproposed k).state
 
@@ -132,7 +93,7 @@ module _ (d : ℕ) (line : Line) (c t : ℕ) where
       let border : ℕ = (part_at line e m.place.track m.hand).first in
       let a : Act = send e (Announce number t m.place.track) in
       let b : Act = become (λ j. record j { announced = number }) in
-      let f : Act = change_mission t (λ n. record n { handing = Some (record { number = number; to = e; is_claimed = false }) }) in
+      let f : Act = change_mission t (λ n. record n { handing = Some (record { number = number; to = e }) }) in
       let g : Act = say t group (Transition (start line border - group_start line m.place) line.nid_c (nid_rbc line e)) in
       sends_then 0 d 5 6 6 1 0 0 1 0 0 (a >> b >> f) g k (omega arith) (omega arith)
       (sends_then 0 d 5 6 6 1 0 0 0 0 0 (a >> b) f k (omega arith) (omega arith)

@@ -2,17 +2,17 @@
 use Rattle.std.proofs.Common.{◌≡◌, ℕ, suc, ◌+◌, ◌≤◌, not, Bool, true, false, if◌then◌else◌, List, [], ◌∷◌, length, map, Option, Some, None, refl, sym, ap, subst, arith}
 use Rattle.std.specs.Option.{option_map_or}
 use Rattle.rbc_spec.specs.Maps.{put}
-use Rattle.rbc_spec.specs.Line.{Line, is_home}
+use Rattle.rbc_spec.specs.Line.{Line, is_home, is_linked}
 use Rattle.rbc_spec.specs.Frame.{Body, Frame, RouteWithdraw}
 use Rattle.rbc_spec.specs.Message.{TrainMessage}
 use Rattle.rbc_spec.specs.Outcome.{Reason, Done, Asked, NotHome}
 use Rattle.rbc_spec.specs.Centre.{Centre, Entry, Shut, Open, Taken, Out, is_unused}
 use Rattle.rbc_spec.specs.Acts.{Act, rest, become, ◌>>◌, hear}
 use Rattle.rbc_spec.specs.Rules.{answered, tell}
-use Rattle.rbc_spec.specs.Step.{Event, Train, Set, Unset, Deliver, Effect, effect, silence, set, unset, wished, make, link_answer, ticked, stamp_of, taken, numbered, hear_and_answer}
+use Rattle.rbc_spec.specs.Step.{Event, Train, Set, Unset, Deliver, Effect, effect, silence, set, unset, withdraw, wished, make, link_answer, ticked, stamp_of, taken, numbered, hear_and_answer}
 use Rattle.law_centre.specs.Sending.{HoldsFew, TakesFew, GoInOrder}
-use Rattle.law_centre.proofs.Sends.{Sends, sends_quiet, sends_then, sends_less}
-use Rattle.law_centre.proofs.SentActs.{sends_one, propose_sends}
+use Rattle.law_centre.proofs.Sends.{Sends, sends_quiet, sends_then, sends_less, sends_yes}
+use Rattle.law_centre.proofs.SentActs.{propose_sends}
 use Rattle.law_centre.proofs.SentFrames.{Few, few, quiet, few_if, answer_few}
 use Rattle.law_centre.proofs.SentEvents.{IsFew, plain, taken_few}
 
@@ -34,21 +34,21 @@ module _ (d : ℕ) (line : Line) (c : ℕ) where
   unfolding ◌>>◌
   asks_back_sends s k = sends_quiet 0 d 0 0 0 0 1 (asks_back s k) refl (omega arith) (omega arith)
 
-  wished_sends : (s : ℕ) (entry : Entry) (j : Centre) → Sends 0 d 0 8 1 1 0 (wished line s entry j)
+  wished_sends : (s : ℕ) (entry : Entry) (j : Centre) → Sends 0 d 0 8 1 1 0 (wished line c s entry j)
   wished_sends s Shut j = sends_quiet 0 d 0 8 1 1 0 (rest j) refl (omega arith) (omega arith)
   wished_sends s Open j = sends_quiet 0 d 0 8 1 1 0 (rest j) refl (omega arith) (omega arith)
   wished_sends s (Taken t) j = sends_less 0 d 0 8 0 1 0 0 8 1 1 0 _ (omega arith) (omega arith) (omega arith) (omega arith) (omega arith) (propose_sends 0 d line c t 0 8 s j)
-  wished_sends s (Out t e) j = sends_less 0 d 0 8 1 0 0 0 8 1 1 0 _ (omega arith) (omega arith) (omega arith) (omega arith) (omega arith)
-      (sends_one 0 d line c t 0 8 e (RouteWithdraw t s) j (omega arith) (omega arith))
+  wished_sends s (Out t) j = sends_less 0 d 0 8 1 0 0 0 8 1 1 0 _ (omega arith) (omega arith) (omega arith) (omega arith) (omega arith)
+      (sends_yes 0 d 0 8 (is_linked line c d) (RouteWithdraw t s) (withdraw line c t s j) refl refl refl (λ linked. (omega arith, omega arith)))
 
   unset_few : (s : ℕ) (k : Centre) → Few d line c 0 (unset line c s k)
   unfolding ◌>>◌
   unset_few s k = few_if d line c 0 (not (is_home line c s)) _ _ (quiet d line c 0 (tell (NotHome s) k) refl (omega arith) (omega arith)) (back (is_unused (k.book s)))
     where
-      back : (b : Bool) → Few d line c 0 ((if b then (make s Shut false >> tell (Done s)) else (asks_back s >> wished line s (k.book s))) k)
+      back : (b : Bool) → Few d line c 0 ((if b then (make s Shut false >> tell (Done s)) else (asks_back s >> wished line c s (k.book s))) k)
       back true = quiet d line c 0 _ refl (omega arith) (omega arith)
       back false = few d line c 0 0 8 1 1 1 _ (omega arith) (omega arith) (omega arith) (omega arith)
-          (sends_then 0 d 0 0 8 0 1 0 1 1 0 (asks_back s) (wished line s (k.book s)) k (omega arith) (omega arith) (asks_back_sends s k) (wished_sends s (k.book s) (asks_back s k).state))
+          (sends_then 0 d 0 0 8 0 1 0 1 1 0 (asks_back s) (wished line c s (k.book s)) k (omega arith) (omega arith) (asks_back_sends s k) (wished_sends s (k.book s) (asks_back s k).state))
 
   -- ## The step
 

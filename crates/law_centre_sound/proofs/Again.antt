@@ -4,14 +4,14 @@ use Rattle.std.proofs.lemmas.Option.{same_Some}
 use Rattle.law_counting.specs.Sums.{one_if}
 use Rattle.rbc_spec.specs.Maps.{put}
 use Rattle.rbc_spec.specs.SectionRuns.{within}
-use Rattle.rbc_spec.specs.Line.{Line, is_centre, is_home, train_number}
+use Rattle.rbc_spec.specs.Line.{Line, is_home, train_number}
 use Rattle.rbc_spec.specs.Place.{Place, covered}
-use Rattle.rbc_spec.specs.Centre.{Centre, Entry, Shut, Out, Phase, Mission, is_unused, is_taken_for}
+use Rattle.rbc_spec.specs.Centre.{Centre, Entry, Shut, Phase, Mission, is_unused, is_taken_for}
 use Rattle.rbc_spec.specs.Acts.{◌>>◌, freed, change_mission}
 use Rattle.rbc_spec.specs.Rules.{set_phase, drop_wait}
 use Rattle.law_local.specs.Local.{hand_has}
 use Rattle.law_network.specs.Counts.{wait_has}
-use Rattle.law_network.specs.Sound.{IsMissionAt, IsCentreSound}
+use Rattle.law_network.specs.Sound.{IsMissionAt, IsCentreSound, IsOfNext}
 use Rattle.law_network.specs.Keeping.{LeavesSound}
 use Rattle.law_centre_sound.proofs.Held.{Held, held, still, sound_again, held_freed, held_mission, held_wait, held_aside}
 use Rattle.law_centre_sound.proofs.Sends.{Sound, leaves, none_sent, or_reply, rest_sound}
@@ -86,22 +86,23 @@ module _ (line : Line) (c : ℕ) (k : Centre) (old : IsCentreSound line c k) whe
 
   -- book, wishes, waits and missions as they are
   pub free_sound : (y : Centre) → y.book ≡ k.book → y.wish ≡ k.wish → y.wait ≡ k.wait → y.mission ≡ k.mission
-      → ((u : ℕ) → is_some (k.heard u) ≡ true → is_some (y.heard u) ≡ true) → k.announced ≤ y.announced → IsCentreSound line c y
-  free_sound y book wish waits missions heard announced =
+      → ((u : ℕ) → is_some (k.heard u) ≡ true → is_some (y.heard u) ≡ true) → k.announced ≤ y.announced
+      → ((u first : ℕ) → y.route_ask u ≡ Some first → IsOfNext line c first) → IsCentreSound line c y
+  free_sound y book wish waits missions heard announced asks =
       again 0 (λ s. is_taken_for 0 (k.book s)) (k.mission 0) y
-      (held_aside line c k 0 (λ s. is_taken_for 0 (k.book s)) (k.wait 0) (k.mission 0) k (held line c k 0 (k.wait 0) (k.mission 0) old refl refl) y book wish waits missions heard announced)
+      (held_aside line c k 0 (λ s. is_taken_for 0 (k.book s)) (k.wait 0) (k.mission 0) k (held line c k 0 (k.wait 0) (k.mission 0) old refl refl) y book wish waits missions heard announced asks)
       (λ s home. old.claims s 0 home)
       (λ m is. (old.mission 0 m is, old.mission_known 0 m is))
 
   -- another book, with the same sections taken for each train
-  pub book_sound : (book : ℕ → Entry) (wish : ℕ → Bool) → ((s : ℕ) → is_home line c s ≡ false → book s ≡ Shut) → ((s u d : ℕ) → book s ≡ Out u d → is_centre line d ≡ true)
+  pub book_sound : (book : ℕ → Entry) (wish : ℕ → Bool) → ((s : ℕ) → is_home line c s ≡ false → book s ≡ Shut)
       → ((s : ℕ) → is_unused (book s) ≡ true → wish s ≡ false) → ((s u : ℕ) → is_taken_for u (book s) ≡ is_taken_for u (k.book s))
       → IsCentreSound line c (record k { book = book; wish = wish })
-  book_sound book wish foreign out_at unwished same =
+  book_sound book wish foreign unwished same =
       again 0 (λ s. is_taken_for 0 (k.book s)) (k.mission 0) (record k { book = book; wish = wish })
       (record {
         foreign = foreign;
-        out_at = out_at;
+        asks = old.asks;
         unwished = unwished;
         mine = λ s home. same s 0;
         others = λ s u apart. same s u;
@@ -117,10 +118,10 @@ module _ (line : Line) (c : ℕ) (k : Centre) (old : IsCentreSound line c k) whe
 
   pub said_sound : (t : ℕ) → LeavesSound line c (record k { said = put k.said t (k.said t + 1) }) (λ d. [])
   said_sound t = leaves line c
-      (free_sound (record k { said = put k.said t (k.said t + 1) }) refl refl refl refl (λ u is. is) (omega arith)) (none_sent line c)
+      (free_sound (record k { said = put k.said t (k.said t + 1) }) refl refl refl refl (λ u is. is) (omega arith) old.asks) (none_sent line c)
 
   pub phase_sound : (t : ℕ) (phase : Phase) → Sound line c (set_phase t phase k)
-  phase_sound t phase = leaves line c (free_sound (set_phase t phase k).state refl refl refl refl (λ u is. is) (omega arith)) (none_sent line c)
+  phase_sound t phase = leaves line c (free_sound (set_phase t phase k).state refl refl refl refl (λ u is. is) (omega arith) old.asks) (none_sent line c)
 
   -- ## Missions
 

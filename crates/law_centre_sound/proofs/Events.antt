@@ -27,7 +27,7 @@ use Rattle.law_centre_sound.proofs.Starts.{start_sound}
 use Rattle.law_centre_sound.proofs.Interlocking.{set_sound, unset_sound}
 use Rattle.law_centre_sound.proofs.Rights.{asked_sound, given_sound, refused_sound, returned_sound}
 use Rattle.law_centre_sound.proofs.Routes.{asked_route, told_route, withdrawn_route, returned_route}
-use Rattle.law_centre_sound.proofs.Handovers.{announced_sound, cancelled_sound, claimed_sound, yielded_sound}
+use Rattle.law_centre_sound.proofs.Handovers.{announced_sound, cancelled_sound, over_sound, yielded_sound}
 
 some_from : {X : Type 0} (o : Option X) → is_none o ≡ false → is_some o ≡ true
 some_from (Some x) is = refl
@@ -40,7 +40,7 @@ none_from None is = refl
 -- linked centres are two
 pub linked_apart : (line : Line) (c d : ℕ) → is_linked line c d ≡ true → (is_centre line d ≡ true) × (c ≢ d)
 linked_apart line c d linked =
-    let ends = and_parts (is_centre line c && is_centre line d) (not (c == d)) (and_parts ((is_centre line c && is_centre line d) && not (c == d)) _ linked).0 in
+    let ends = and_parts (is_centre line c && is_centre line d) (not (c == d)) linked in
     ((and_parts (is_centre line c) (is_centre line d) ends.0).1, λ same. both_ways (c == d) (not-true (c == d) ends.1) (eq-eqb c d same))
 
 module _ (line : Line) (ok : IsLine line) (c : ℕ) where
@@ -78,7 +78,7 @@ module _ (line : Line) (ok : IsLine line) (c : ℕ) where
   heard_sound : (m : TrainMessage) (k : Centre) → IsCentreSound line c k → Sound line c (hear m k)
   heard_sound m k old = leaves line c (free_sound line c k old (record k { heard = put k.heard m.nid_engine (Some m.t_train) }) refl refl refl refl
       (λ u is. by_same u m.nid_engine (λ here. ap is_some (put_here k.heard m.nid_engine u (Some m.t_train) here)) (λ other. ap is_some (put_other k.heard m.nid_engine u (Some m.t_train) other) ∙ is))
-      (omega arith)) (none_sent line c)
+      (omega arith) old.asks) (none_sent line c)
 
   may_start : (m : TrainMessage) (k : Centre) → silence line c k m ≡ None → MayStart m.body (hear m k).state m.nid_engine
   may_start m k heard is_valid position is = (
@@ -116,12 +116,12 @@ module _ (line : Line) (ok : IsLine line) (c : ℕ) where
     frame_sound (RouteInfo t r) k range old = trained t _ k old (λ known. told_route line ok c d to apart t r k old)
     frame_sound (RouteWithdraw t s) k range old = trained t _ k old (λ known. if_sound line c (is_some (section line s)) (route_withdrawn line c t s) rest k
         (λ there. withdrawn_route line ok c d to t s k old) (λ none. rest_sound line c k old))
-    frame_sound (RouteReturn t r) k range old = trained t _ k old (λ known. if_sound line c (all_of (λ s. is_some (section line s)) r) (route_returned line c d t r) rest k
+    frame_sound (RouteReturn t r) k range old = trained t _ k old (λ known. if_sound line c (all_of (λ s. is_some (section line s)) r) (route_returned line c t r) rest k
         (λ there. returned_route line ok c d to t r k old) (λ none. rest_sound line c k old))
     frame_sound (Announce number t track) k range old = trained t _ k old (λ known. if_sound line c (nat_lt track (length line.tracks)) (announced d number t) rest k
         (λ there. announced_sound line ok c d number t k old) (λ none. rest_sound line c k old))
     frame_sound (Cancel number t) k range old = trained t _ k old (λ known. cancelled_sound line ok c d number t k old)
-    frame_sound (TakingOver number t) k range old = trained t _ k old (λ known. claimed_sound line ok c d number t k old)
+    frame_sound (TakingOver number t) k range old = trained t _ k old (λ known. over_sound line ok c d number t k old)
     frame_sound (Yield number t heard has_data is_ended place hand) k range old = trained t _ k old (λ known. or_sound line c (carried_place place) (yielded line c d number t hand heard has_data is_ended) rest k
         (λ at is. yielded_sound line ok c d number t heard hand has_data is_ended at k old known range) (λ none. rest_sound line c k old))
 
@@ -132,7 +132,7 @@ module _ (line : Line) (ok : IsLine line) (c : ℕ) where
       by_answer linked Next =
           let ends = linked_apart line c d linked in
           then_sound line c (become (λ j. record j { taken = put j.taken d f.number })) (received line c d f.body) k
-          (leaves line c (free_sound line c k old (record k { taken = put k.taken d f.number }) refl refl refl refl (λ u is. is) (omega arith)) (none_sent line c))
+          (leaves line c (free_sound line c k old (record k { taken = put k.taken d f.number }) refl refl refl refl (λ u is. is) (omega arith) old.asks) (none_sent line c))
           (λ j is sound. frame_sound d ends.0 ends.1 f.body j range sound)
       by_answer linked Old = rest_sound line c k old
       by_answer linked Early = rest_sound line c k old
@@ -154,5 +154,5 @@ module _ (line : Line) (ok : IsLine line) (c : ℕ) where
   stays_sound k event range old =
       let stamp : ℕ = stamp_of k event in
       let e : Effect = effect line c (ticked stamp k) event in
-      let after = effect_sound event (ticked stamp k) range (free_sound line c k old (ticked stamp k) refl refl refl refl (λ u is. is) (omega arith)) in
-      leaves line c (free_sound line c e.reply.state after.centre (state_after stamp k e) refl refl refl refl (λ u is. is) (omega arith)) (sends_of line c after)
+      let after = effect_sound event (ticked stamp k) range (free_sound line c k old (ticked stamp k) refl refl refl refl (λ u is. is) (omega arith) old.asks) in
+      leaves line c (free_sound line c e.reply.state after.centre (state_after stamp k e) refl refl refl refl (λ u is. is) (omega arith) after.centre.asks) (sends_of line c after)

@@ -1,18 +1,21 @@
 -- A sound centre stays so as handovers are announced, cancelled and claimed, and as a mission is taken.
-use Rattle.std.proofs.Common.{◌≡◌, ◌≢◌, ℕ, ◌*◌, ◌≤◌, ◌==◌, ◌&&◌, ◌||◌, not, if◌then◌else◌, Bool, true, false, Option, Some, None, option_map, is_some, is_none, max, nat_le, refl, sym, ap, ◌∙◌, subst, arith, eq-eqb, leb-true}
+use Rattle.law_base.proofs.Lines.{one_home}
+use Rattle.law_network.proofs.Neighbours.{next_apart}
+use Rattle.law_centre_sound.proofs.Leaving.{yielded_over}
+use Rattle.std.proofs.Common.{◌≡◌, ◌≢◌, ℕ, ◌*◌, ◌≤◌, ◌==◌, ◌&&◌, ◌||◌, not, Bool, true, false, Option, Some, None, is_some, is_none, max, nat_le, refl, sym, ap, ◌∙◌, subst, arith, eq-eqb, leb-true, ⊎_elim, eqb-true}
 use Rattle.std.specs.Option.{option_map_or}
 use Rattle.std.specs.List.{find, range_with_len}
 use Rattle.std.proofs.lemmas.Option.{same_Some}
-use Rattle.std.proofs.lemmas.Bool.{and_parts, cond-true, ne_eqb, or_right}
+use Rattle.std.proofs.lemmas.Bool.{and_parts, cond-true, ne_eqb, or_right, cond-false}
 use Rattle.law_counting.specs.Sums.{one_if}
 use Rattle.rbc_spec.specs.Maps.{has, put, put_pair}
 use Rattle.rbc_spec.specs.SectionRuns.{SectionRun, no_run, most_in_hand, within, all_of}
-use Rattle.rbc_spec.specs.Line.{Line, IsLine, is_home, section_of_group, train_number, next_centre}
+use Rattle.rbc_spec.specs.Line.{Line, IsLine, is_home, section_of_group, train_number, next_centre, section, Section}
 use Rattle.rbc_spec.specs.Sections.{is_on, is_on_track}
 use Rattle.rbc_spec.specs.Place.{Place, group_start}
-use Rattle.rbc_spec.specs.Centre.{Centre, Entry, Shut, Open, Taken, Out, Mission, Handing, Expectation, is_taken_for, is_out_for}
-use Rattle.rbc_spec.specs.Acts.{become, rest, ◌>>◌, with_some, booked, set_mission, change_mission, propose_if_so, yield_if_due}
-use Rattle.rbc_spec.specs.Links.{expect, announced, is_under, cancelled, claimed, taking_over, may_arrive, may_take, take_mission, yielded}
+use Rattle.rbc_spec.specs.Centre.{Centre, Entry, Shut, Open, Taken, Out, Mission, Expectation, is_taken_for, is_out_for}
+use Rattle.rbc_spec.specs.Acts.{become, rest, ◌>>◌, with_some, booked, set_mission, propose_if_so}
+use Rattle.rbc_spec.specs.Links.{expect, announced, is_under, cancelled, taking_over, may_arrive, may_take, take_mission, yielded}
 use Rattle.law_local.specs.Local.{hand_has}
 use Rattle.law_local.proofs.Entries.{booked_for, unused_booked}
 use Rattle.law_base.proofs.Runs.{each_within}
@@ -21,42 +24,41 @@ use Rattle.law_base.proofs.Puts.{put_here, put_other}
 use Rattle.law_local.proofs.Stays.{by_same}
 use Rattle.law_network.specs.Counts.{wait_has}
 use Rattle.law_network.specs.Sound.{IsMissionAt, IsCentreSound}
-use Rattle.law_centre_sound.proofs.Held.{Held, held, shut_unbooked, booked_out, held_mission}
+use Rattle.law_centre_sound.proofs.Held.{Held, held, shut_unbooked, held_mission}
 use Rattle.law_centre_sound.proofs.Sends.{Sound, leaves, none_sent, rest_sound, then_sound, if_reply, or_reply}
-use Rattle.law_centre_sound.proofs.Again.{grown_law, again, free_sound, changed_sound}
-use Rattle.law_centre_sound.proofs.Leaving.{yielded_if_due}
+use Rattle.law_centre_sound.proofs.Again.{grown_law, again, free_sound}
 use Rattle.law_centre_sound.proofs.Interlocking.{propose_sound}
 use Rattle.law_centre_sound.proofs.Requests.{some_is_none}
 
 -- what was out is taken for the train again
-back_taken : (t d : ℕ) (b hand : Bool) (e : Entry) → is_taken_for t e ≡ hand → (b ≡ true → is_out_for t d e ≡ true) → is_taken_for t (booked_for t (b && is_out_for t d e) e) ≡ (hand || b)
-back_taken t d true hand e is out = ap (λ z. is_taken_for t (booked_for t z e)) (out refl) ∙ eq-eqb t t refl ∙ sym (or_right hand true refl)
-back_taken t d false hand e is out = is ∙ or_none hand
+back_taken : (t : ℕ) (b hand : Bool) (e : Entry) → is_taken_for t e ≡ hand → (b ≡ true → is_out_for t e ≡ true) → is_taken_for t (booked_for t (b && is_out_for t e) e) ≡ (hand || b)
+back_taken t true hand e is out = ap (λ z. is_taken_for t (booked_for t z e)) (out refl) ∙ eq-eqb t t refl ∙ sym (or_right hand true refl)
+back_taken t false hand e is out = is ∙ or_none hand
   where
     or_none : (b : Bool) → b ≡ (b || false)
     or_none true = refl
     or_none false = refl
 
-back_others : (t d u : ℕ) (b : Bool) (e : Entry) → u ≢ t → is_taken_for u (booked_for t (b && is_out_for t d e) e) ≡ is_taken_for u e
-back_others t d u true Shut apart = refl
-back_others t d u true Open apart = refl
-back_others t d u true (Taken v) apart = refl
-back_others t d u true (Out v f) apart = by_test (is_out_for t d (Out v f))
+back_others : (t u : ℕ) (b : Bool) (e : Entry) → u ≢ t → is_taken_for u (booked_for t (b && is_out_for t e) e) ≡ is_taken_for u e
+back_others t u true Shut apart = refl
+back_others t u true Open apart = refl
+back_others t u true (Taken v) apart = refl
+back_others t u true (Out v) apart = by_test (is_out_for t (Out v))
   where
-    by_test : (z : Bool) → is_taken_for u (booked_for t z (Out v f)) ≡ false
+    by_test : (z : Bool) → is_taken_for u (booked_for t z (Out v)) ≡ false
     by_test true = ne_eqb t u (λ same. apart (sym same))
     by_test false = refl
-back_others t d u false e apart = refl
+back_others t u false e apart = refl
 
-pub out_untaken : (t d u : ℕ) (e : Entry) → is_out_for t d e ≡ true → is_taken_for u e ≡ false
-out_untaken t d u Shut is = cc
-out_untaken t d u Open is = cc
-out_untaken t d u (Taken v) is = cc
-out_untaken t d u (Out v f) is = refl
+pub out_untaken : (t u : ℕ) (e : Entry) → is_out_for t e ≡ true → is_taken_for u e ≡ false
+out_untaken t u Shut is = cc
+out_untaken t u Open is = cc
+out_untaken t u (Taken v) is = cc
+out_untaken t u (Out v) is = refl
 
 module _ (line : Line) (ok : IsLine line) (c : ℕ) where
   expects_sound : (d t : ℕ) (e : Option Expectation) (k : Centre) → IsCentreSound line c k → Sound line c (expect d t e k)
-  expects_sound d t e k old = leaves line c (free_sound line c k old (expect d t e k).state refl refl refl refl (λ u is. is) (omega arith)) (none_sent line c)
+  expects_sound d t e k old = leaves line c (free_sound line c k old (expect d t e k).state refl refl refl refl (λ u is. is) (omega arith) old.asks) (none_sent line c)
 
   pub announced_sound : (d number t : ℕ) (k : Centre) → IsCentreSound line c k → Sound line c (announced d number t k)
   announced_sound d number t k old = if_reply line c (is_none (k.expects d t)) _ (rest k) (λ none. expects_sound d t _ k old) (λ some. rest_sound line c k old)
@@ -64,52 +66,23 @@ module _ (line : Line) (ok : IsLine line) (c : ℕ) where
   pub cancelled_sound : (d number t : ℕ) (k : Centre) → IsCentreSound line c k → Sound line c (cancelled d number t k)
   cancelled_sound d number t k old = if_reply line c (is_under number (k.expects d t)) _ (rest k) (λ under. expects_sound d t None k old) (λ no. rest_sound line c k old)
 
-  -- the handover is claimed, and may then be due
-  pub claim_sound : (d number t : ℕ) (k : Centre) → IsCentreSound line c k → Sound line c (change_mission t (claimed d number) k)
-  claim_sound d number t k old = changed_sound line c k old t (claimed d number) (λ m at. refl) (λ m at. as_claimed m (old.mission t m at))
-    where
-      same_to : (h : Handing) (b : Bool) → let x : Handing = if b then record h { is_claimed = true } else h in (x.to ≡ h.to) × (x.number ≡ h.number)
-      same_to h true = (refl, refl)
-      same_to h false = (refl, refl)
-
-      was : (o : Option Handing) (h : Handing) → option_map (λ x. if (x.number == number) && (x.to == d) then record x { is_claimed = true } else x) o ≡ Some h
-          → (x : Handing) × (o ≡ Some x) × (h.to ≡ x.to) × (h.number ≡ x.number)
-      was (Some x) h is =
-          let same = same_Some _ h is in
-          let both = same_to x ((x.number == number) && (x.to == d)) in
-          (x, refl, ap (λ (y : Handing). y.to) (sym same) ∙ both.0, ap (λ (y : Handing). y.number) (sym same) ∙ both.1)
-      was None h is = cc
-
-      same_next : (h x : Handing) (track : ℕ) → h.to ≡ x.to → next_centre line c track ≡ Some x.to → next_centre line c track ≡ Some h.to
-      same_next h x track same next = next ∙ ap (λ y. Some y) (sym same)
-
-      as_claimed : (m : Mission) → IsMissionAt line c k m → IsMissionAt line c k (claimed d number m)
-      as_claimed m is = record {
-        hand = is.hand;
-        pool_follows = is.pool_follows;
-        pool_away = is.pool_away;
-        pool_on = is.pool_on;
-        handing_to = λ h handed. let old_one = was m.handing h handed in same_next h old_one.0 m.place.track old_one.2 (is.handing_to old_one.0 old_one.1);
-        handing_number = λ h handed. let old_one = was m.handing h handed in let counted = is.handing_number old_one.0 old_one.1 in (omega (arith, counted, old_one.3), omega (arith, counted, old_one.3));
-      }
-
-  pub claimed_sound : (d number t : ℕ) (k : Centre) → IsCentreSound line c k → Sound line c (taking_over line c d number t k)
-  claimed_sound d number t k old = then_sound line c (change_mission t (claimed d number)) (yield_if_due line c t) k
-      (claim_sound d number t k old) (λ j is sound. yielded_if_due line ok c t j sound)
+  -- the handover is yielded, where it is the one that is taken over
+  pub over_sound : (d number t : ℕ) (k : Centre) → IsCentreSound line c k → Sound line c (taking_over line c d number t k)
+  over_sound d number t k old = yielded_over line ok c d number t k old
 
   -- ## A mission is taken
 
-  module _ (k : Centre) (t d : ℕ) (is_mine : ℕ → Bool) (waiting : Option Place) (present : Option Mission) (y : Centre) (h : Held line c k t is_mine waiting present y) where
-    held_back : (r : SectionRun) → ((s : ℕ) → is_home line c s ≡ true → within r s ≡ true → is_out_for t d (y.book s) ≡ true)
-        → Held line c k t (λ s. is_mine s || within r s) waiting present (booked (is_out_for t d) (Taken t) r y).state
+  module _ (k : Centre) (t : ℕ) (is_mine : ℕ → Bool) (waiting : Option Place) (present : Option Mission) (y : Centre) (h : Held line c k t is_mine waiting present y) where
+    held_back : (r : SectionRun) → ((s : ℕ) → is_home line c s ≡ true → within r s ≡ true → is_out_for t (y.book s) ≡ true)
+        → Held line c k t (λ s. is_mine s || within r s) waiting present (booked (is_out_for t) (Taken t) r y).state
     held_back r out =
-        let there : ℕ → Bool = λ s. within r s && is_out_for t d (y.book s) in
+        let there : ℕ → Bool = λ s. within r s && is_out_for t (y.book s) in
         record {
-          foreign = λ s at. shut_unbooked (within r s) (Taken t) (y.book s) (h.foreign s at) (is_out_for t d) refl;
-          out_at = λ s u e is. h.out_at s u e (booked_out t (there s) (y.book s) u e is);
+          foreign = λ s at. shut_unbooked (within r s) (Taken t) (y.book s) (h.foreign s at) (is_out_for t) refl;
+          asks = h.asks;
           unwished = λ s unused. unused_booked t (there s) (y.wish s) (y.book s) (h.unwished s) unused;
-          mine = λ s home. back_taken t d (within r s) (is_mine s) (y.book s) (h.mine s home) (out s home);
-          others = λ s u apart. back_others t d u (within r s) (y.book s) apart ∙ h.others s u apart;
+          mine = λ s home. back_taken t (within r s) (is_mine s) (y.book s) (h.mine s home) (out s home);
+          others = λ s u apart. back_others t u (within r s) (y.book s) apart ∙ h.others s u apart;
           wait = h.wait;
           waits = h.waits;
           mission = h.mission;
@@ -125,20 +98,34 @@ module _ (line : Line) (ok : IsLine line) (c : ℕ) where
 
     front_parts : ((has (λ e. (e.number == number) && e.is_taking) (k.expects d t) && (is_none (k.mission t) && not (k.has_right t))) ≡ true)
         × (((is_on_track line place.track hand && has (is_on line place.track) (section_of_group line place.group))
-        && (nat_le (10 * group_start line place) place.front && all_of (may_arrive line c k d t place.track) hand)) ≡ true)
+        && (nat_le (10 * group_start line place) place.front && all_of (may_arrive line c k t place.track) hand)) ≡ true)
     front_parts = and_parts _ _ may
 
     none : k.mission t ≡ None
     none = some_is_none (k.mission t) (and_parts (is_none (k.mission t)) _ (and_parts _ (is_none (k.mission t) && not (k.has_right t)) front_parts.0).1).0
 
     tracks : (is_on_track line place.track hand ≡ true) × (has (is_on line place.track) (section_of_group line place.group) ≡ true)
-    tracks = and_parts _ _ (and_parts _ (nat_le (10 * group_start line place) place.front && all_of (may_arrive line c k d t place.track) hand) front_parts.1).0
+    tracks = and_parts _ _ (and_parts _ (nat_le (10 * group_start line place) place.front && all_of (may_arrive line c k t place.track) hand) front_parts.1).0
 
-    ends : (nat_le (10 * group_start line place) place.front ≡ true) × (all_of (may_arrive line c k d t place.track) hand ≡ true)
+    ends : (nat_le (10 * group_start line place) place.front ≡ true) × (all_of (may_arrive line c k t place.track) hand ≡ true)
     ends = and_parts _ _ (and_parts (is_on_track line place.track hand && has (is_on line place.track) (section_of_group line place.group)) _ front_parts.1).1
 
-    was_out : (s : ℕ) → is_home line c s ≡ true → within hand s ≡ true → is_out_for t d (k.book s) ≡ true
-    was_out s home has = sym (cond-true (is_home line c s) (is_out_for t d (k.book s)) _ home) ∙ each_within (may_arrive line c k d t place.track) hand ends.1 s has
+    was_out : (s : ℕ) → is_home line c s ≡ true → within hand s ≡ true → is_out_for t (k.book s) ≡ true
+    was_out s home has = sym (cond-true (is_home line c s) (is_out_for t (k.book s)) _ home) ∙ each_within (may_arrive line c k t place.track) hand ends.1 s has
+
+    -- no section of the hand is of the next centre
+    not_come : (s e : ℕ) → next_centre line c place.track ≡ Some e → within hand s ≡ true → is_home line e s ≡ true → ⊥
+    not_come s e next inside there = by_home (is_home line c s) refl
+      where
+        by_section : (o : Option Section) → option_map_or (λ p. p.home == e) o false ≡ true → option_map_or (λ p. not (has (λ n. n == p.home) (next_centre line c place.track))) o false ≡ true → ⊥
+        by_section None at may_come = cc
+        by_section (Some p) at may_come =
+            let is_next : has (λ n. n == p.home) (next_centre line c place.track) ≡ true = ap (has (λ n. n == p.home)) next ∙ eq-eqb e p.home (sym (eqb-true p.home e at)) in
+            let wrong : true ≡ false = sym may_come ∙ ap not is_next in cc
+
+        by_home : (b : Bool) → is_home line c s ≡ b → ⊥
+        by_home true own = next_apart line c e place.track next (sym (one_home line c e s own there))
+        by_home false away = by_section (section line s) there (sym (cond-false (is_home line c s) _ _ away) ∙ each_within (may_arrive line c k t place.track) hand ends.1 s inside)
 
     -- the train is heard, and the expectation ends
     abbrev ready : Centre
@@ -146,10 +133,10 @@ module _ (line : Line) (ok : IsLine line) (c : ℕ) where
 
     ready_sound : IsCentreSound line c ready
     ready_sound = free_sound line c k old ready refl refl refl refl
-        (λ u is. by_same u t (λ here. ap is_some (put_here k.heard t u (Some (option_map_or (max heard) (k.heard t) heard)) here)) (λ other. ap is_some (put_other k.heard t u _ other) ∙ is)) (omega arith)
+        (λ u is. by_same u t (λ here. ap is_some (put_here k.heard t u (Some (option_map_or (max heard) (k.heard t) heard)) here)) (λ other. ap is_some (put_other k.heard t u _ other) ∙ is)) (omega arith) old.asks
 
     abbrev y : Centre
-    y = (set_mission t (Some came) (booked (is_out_for t d) (Taken t) hand ready).state).state
+    y = (set_mission t (Some came) (booked (is_out_for t) (Taken t) hand ready).state).state
 
     abbrev mine : ℕ → Bool
     mine s = is_taken_for t (k.book s)
@@ -160,21 +147,26 @@ module _ (line : Line) (ok : IsLine line) (c : ℕ) where
       pool_follows = λ some. cc;
       pool_away = λ s has. absurd (none_within s has);
       pool_on = λ s has. absurd (none_within s has);
+      pool_next = λ s e next has. absurd (none_within s has);
       handing_to = λ h is. cc;
       handing_number = λ h is. cc;
+      hand_ends = λ s e n next behind come has. absurd (⊎_elim
+          (λ (stands : is_some came.handing ≡ true). let wrong : false ≡ true = stands in let no : ⊥ = cc in no)
+          (λ (some : (x : ℕ) × (within hand x ≡ true) × (is_home line e x ≡ true)). not_come some.0 e next some.1 some.2)
+          come);
     }
 
     taken_sound : IsCentreSound line c y
     taken_sound = again line c ready ready_sound t (λ s. mine s || within hand s) (Some came) y
-        (held_mission line c ready t _ (k.wait t) None (booked (is_out_for t d) (Taken t) hand ready).state
-        (held_back ready t d mine (k.wait t) None ready (held line c ready t (k.wait t) None ready_sound refl none) hand was_out) (Some came))
+        (held_mission line c ready t _ (k.wait t) None (booked (is_out_for t) (Taken t) hand ready).state
+        (held_back ready t mine (k.wait t) None ready (held line c ready t (k.wait t) None ready_sound refl none) hand was_out) (Some came))
         (λ s home. grown_law (within hand s) (mine s) (wait_has line (k.wait t) s) false (omega (arith, old.claims s t home, ap (λ (o : Option Mission). one_if (hand_has o s)) none))
-        (λ has. out_untaken t d t (k.book s) (was_out s home has)))
+        (λ has. out_untaken t t (k.book s) (was_out s home has)))
         (λ m is. (subst (IsMissionAt line c ready) (same_Some came m is) came_sound, (known, ap is_some (put_here k.heard t t (Some (option_map_or (max heard) (k.heard t) heard)) refl))))
 
     pub take_sound : Sound line c (take_mission line c d t heard came k)
     unfolding ◌>>◌
-    take_sound = then_sound line c ((booked (is_out_for t d) (Taken t) hand >> set_mission t (Some came))
+    take_sound = then_sound line c ((booked (is_out_for t) (Taken t) hand >> set_mission t (Some came))
         >> (become (λ j. record j { heard = put j.heard t (Some (option_map_or (max heard) (j.heard t) heard)) }) >> expect d t None))
         (with_some (λ j. find (λ s. is_home line c s && j.wish s) (range_with_len hand.first hand.count)) (propose_if_so line t)) k
         (leaves line c taken_sound (none_sent line c))

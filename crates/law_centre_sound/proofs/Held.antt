@@ -1,31 +1,22 @@
 -- A centre in the middle of an act: what it holds for one train, where all else is as it was before the act.
-use Rattle.std.proofs.Common.{◌≡◌, ◌≢◌, ℕ, ◌+◌, ◌≤◌, ◌&&◌, ◌||◌, not, if◌then◌else◌, Bool, true, false, Option, Some, is_some, refl, sym, ap, ◌∙◌, subst, arith, ⊎_elim}
+use Rattle.std.proofs.Common.{◌≡◌, ◌≢◌, ℕ, ◌+◌, ◌≤◌, ◌&&◌, ◌||◌, not, if◌then◌else◌, Bool, true, false, Option, Some, is_some, refl, sym, ap, ◌∙◌, subst, arith, ⊎_elim, inl, inr}
 use Rattle.std.proofs.lemmas.Bool.{cases_eq, both_ways, and_parts, and_right, and_left}
 use Rattle.law_counting.specs.Sums.{one_if}
 use Rattle.rbc_spec.specs.Maps.{put}
 use Rattle.rbc_spec.specs.SectionRuns.{SectionRun, within}
-use Rattle.rbc_spec.specs.Line.{Line, is_centre, is_home, train_number}
+use Rattle.rbc_spec.specs.Line.{Line, is_home, train_number, next_centre}
 use Rattle.rbc_spec.specs.Place.{Place, covered}
 use Rattle.rbc_spec.specs.Centre.{Centre, Entry, Shut, Taken, Out, Mission, is_open, is_unused, is_taken_for}
 use Rattle.rbc_spec.specs.Acts.{booked, freed, set_mission}
 use Rattle.law_local.specs.Local.{hand_has}
 use Rattle.law_base.proofs.Puts.{put_here, put_other}
-use Rattle.law_local.proofs.Entries.{given, taken_given, taken_for_one, hand_given, others_given, booked_for, taken_here, taken_elsewhere, unused_booked}
+use Rattle.law_local.proofs.Entries.{given, taken_given, taken_for_one, hand_given, others_given, taken_here, taken_elsewhere, unused_booked}
 use Rattle.law_network.specs.Counts.{wait_has}
-use Rattle.law_network.specs.Sound.{IsHandAt, IsMissionAt, IsCentreSound}
-
-pub given_out : (back wish : Bool) (e : Entry) (u d : ℕ) → given back wish e ≡ Out u d → e ≡ Out u d
-given_out true true e u d is = cc
-given_out true false e u d is = cc
-given_out false wish e u d is = is
+use Rattle.law_network.specs.Sound.{IsHandAt, IsMissionAt, IsCentreSound, HasComeTo, IsOfNext}
 
 pub given_unused : (back wish : Bool) (e : Entry) → (is_unused e ≡ true → wish ≡ false) → is_unused (given back wish e) ≡ true → (not back && wish) ≡ false
 given_unused true wish e was unused = refl
 given_unused false wish e was unused = was unused
-
-pub booked_out : (t : ℕ) (there : Bool) (e : Entry) (u d : ℕ) → booked_for t there e ≡ Out u d → e ≡ Out u d
-booked_out t true e u d is = cc
-booked_out t false e u d is = is
 
 pub away : (b home mine : Bool) → home ≡ false → ((b && home) && mine) ≡ false
 away b home mine e = and_left (b && home) mine (and_right b home e)
@@ -37,34 +28,30 @@ both_or false b h to = refl
 pub shut_unbooked : (b : Bool) (x e : Entry) → e ≡ Shut → (test : Entry → Bool) → test Shut ≡ false → (if b && test e then x else e) ≡ Shut
 shut_unbooked b x e is test none = ap (λ z. if b && z then x else e) (ap test is ∙ none) ∙ ap (λ z. if z then x else e) (and_right b false refl) ∙ is
 
--- out at d for t, where it was taken for t
-abbrev pub lent_for : ℕ → ℕ → Bool → Entry → Entry
-lent_for t d there e = if there then Out t d else e
+-- out for t, where it was taken for t
+abbrev pub lent_for : ℕ → Bool → Entry → Entry
+lent_for t there e = if there then Out t else e
 
-pub lent_out : (t to : ℕ) (there : Bool) (e : Entry) (P : ℕ → Type 0) → P to → ((u d : ℕ) → e ≡ Out u d → P d) → (u d : ℕ) → lent_for t to there e ≡ Out u d → P d
-lent_out t to true e P at was u d is = let same : to ≡ d = cc in subst P same at
-lent_out t to false e P at was u d is = was u d is
+pub lent_unused : (t : ℕ) (there wish : Bool) (e : Entry) → (is_unused e ≡ true → wish ≡ false) → is_unused (lent_for t there e) ≡ true → wish ≡ false
+lent_unused t true wish e was unused = cc
+lent_unused t false wish e was unused = was unused
 
-pub lent_unused : (t d : ℕ) (there wish : Bool) (e : Entry) → (is_unused e ≡ true → wish ≡ false) → is_unused (lent_for t d there e) ≡ true → wish ≡ false
-lent_unused t d true wish e was unused = cc
-lent_unused t d false wish e was unused = was unused
-
-lent_taken : (t d : ℕ) (b mine : Bool) (e : Entry) → is_taken_for t e ≡ mine → is_taken_for t (lent_for t d (b && is_taken_for t e) e) ≡ (mine && not b)
-lent_taken t d b mine e is = by_mine b mine (is_taken_for t e) refl is
+lent_taken : (t : ℕ) (b mine : Bool) (e : Entry) → is_taken_for t e ≡ mine → is_taken_for t (lent_for t (b && is_taken_for t e) e) ≡ (mine && not b)
+lent_taken t b mine e is = by_mine b mine (is_taken_for t e) refl is
   where
     and_one : (z : Bool) → z ≡ (z && true)
     and_one true = refl
     and_one false = refl
 
-    by_mine : (b mine x : Bool) → is_taken_for t e ≡ x → x ≡ mine → is_taken_for t (lent_for t d (b && x) e) ≡ (mine && not b)
+    by_mine : (b mine x : Bool) → is_taken_for t e ≡ x → x ≡ mine → is_taken_for t (lent_for t (b && x) e) ≡ (mine && not b)
     by_mine true mine true at same = ap (λ z. z && false) same
     by_mine true mine false at same = at ∙ ap (λ z. z && false) same
     by_mine false mine x at same = at ∙ same ∙ and_one mine
 
-lent_others : (t d u : ℕ) (b : Bool) (e : Entry) → u ≢ t → is_taken_for u (lent_for t d (b && is_taken_for t e) e) ≡ is_taken_for u e
-lent_others t d u b e apart = by_mine b (is_taken_for t e) refl
+lent_others : (t u : ℕ) (b : Bool) (e : Entry) → u ≢ t → is_taken_for u (lent_for t (b && is_taken_for t e) e) ≡ is_taken_for u e
+lent_others t u b e apart = by_mine b (is_taken_for t e) refl
   where
-    by_mine : (b x : Bool) → is_taken_for t e ≡ x → is_taken_for u (lent_for t d (b && x) e) ≡ is_taken_for u e
+    by_mine : (b x : Bool) → is_taken_for t e ≡ x → is_taken_for u (lent_for t (b && x) e) ≡ is_taken_for u e
     by_mine true true at = sym (taken_for_one t u e apart at)
     by_mine true false at = refl
     by_mine false x at = refl
@@ -74,7 +61,7 @@ lent_others t d u b e apart = by_mine b (is_taken_for t e) refl
 -- of centre c, which was k, with train t: its home sections that are taken for the train are `mine`
 pub record Held (line : Line) (c : ℕ) (k : Centre) (t : ℕ) (is_mine : ℕ → Bool) (waiting : Option Place) (present : Option Mission) (y : Centre) : Type 0 where
   pub foreign : (s : ℕ) → is_home line c s ≡ false → y.book s ≡ Shut
-  pub out_at : (s u d : ℕ) → y.book s ≡ Out u d → is_centre line d ≡ true
+  pub asks : (u first : ℕ) → y.route_ask u ≡ Some first → IsOfNext line c first
   pub unwished : (s : ℕ) → is_unused (y.book s) ≡ true → y.wish s ≡ false
   pub mine : (s : ℕ) → is_home line c s ≡ true → is_taken_for t (y.book s) ≡ is_mine s
   pub others : (s u : ℕ) → u ≢ t → is_taken_for u (y.book s) ≡ is_taken_for u (k.book s)
@@ -101,9 +88,20 @@ still line c k y m more is = record {
   pool_follows = is.pool_follows;
   pool_away = is.pool_away;
   pool_on = is.pool_on;
+  pool_next = is.pool_next;
   handing_to = is.handing_to;
   handing_number = λ h some. let counted = is.handing_number h some in (counted.0, omega (arith, counted.1, more));
+  hand_ends = is.hand_ends;
 }
+
+-- so does where its hand ends, where the hand becomes a part of itself and no handover is new
+pub ends_less : (line : Line) (c : ℕ) (k : Centre) (m n : Mission) → IsMissionAt line c k m → n.place.track ≡ m.place.track → (is_some n.handing ≡ true → is_some m.handing ≡ true)
+    → ((s : ℕ) → within n.hand s ≡ true → within m.hand s ≡ true) → (s d x : ℕ) → next_centre line c n.place.track ≡ Some d → next_centre line d n.place.track ≡ Some x
+    → HasComeTo line d n → within n.hand s ≡ true → is_home line x s ≡ false
+ends_less line c k m n is track handing part s d x next behind come has =
+    is.hand_ends s d x (ap (next_centre line c) (sym track) ∙ next) (ap (next_centre line d) (sym track) ∙ behind)
+    (⊎_elim (λ (stands : is_some n.handing ≡ true). inl (handing stands)) (λ (some : (e : ℕ) × (within n.hand e ≡ true) × (is_home line d e ≡ true)). inr (some.0, part some.0 some.1, some.2)) come)
+    (part s has)
 
 module _ (line : Line) (c : ℕ) (k : Centre) (t : ℕ) where
   -- ## From a sound centre, and to one
@@ -112,7 +110,7 @@ module _ (line : Line) (c : ℕ) (k : Centre) (t : ℕ) where
       → Held line c k t (λ s. is_taken_for t (k.book s)) wait mission k
   held wait mission sound waits at = record {
     foreign = sound.foreign;
-    out_at = sound.out_at;
+    asks = sound.asks;
     unwished = sound.unwished;
     mine = λ s home. refl;
     others = λ s u apart. refl;
@@ -131,7 +129,7 @@ module _ (line : Line) (c : ℕ) (k : Centre) (t : ℕ) where
         (omega (arith, owes.claims s home, ap one_if (h.mine s home), ap (λ o. one_if (wait_has line o s)) h.wait, ap (λ o. one_if (hand_has o s)) h.mission))
         (λ other. omega (arith, old.claims s u home, ap one_if (h.others s u other), ap (λ o. one_if (wait_has line o s)) (h.waits u other), ap (λ o. one_if (hand_has o s)) (h.missions u other)));
     foreign = h.foreign;
-    out_at = h.out_at;
+    asks = h.asks;
     unwished = h.unwished;
     wait_home = λ u s. by_train (λ x. wait_has line (y.wait x) s ≡ true → is_home line c s ≡ true) u
         (λ is. owes.wait_home s (sym (ap (λ o. wait_has line o s) h.wait) ∙ is))
@@ -161,7 +159,7 @@ module _ (line : Line) (c : ℕ) (k : Centre) (t : ℕ) where
         let back : ℕ → Bool = λ s. (within r s && is_home line c s) && is_taken_for t (y.book s) in
         record {
           foreign = λ s out. ap (λ b. given b (y.wish s) (y.book s)) (away (within r s) (is_home line c s) (is_taken_for t (y.book s)) out) ∙ h.foreign s out;
-          out_at = λ s u d is. h.out_at s u d (given_out (back s) (y.wish s) (y.book s) u d is);
+          asks = h.asks;
           unwished = λ s unused. given_unused (back s) (y.wish s) (y.book s) (h.unwished s) unused;
           mine = λ s home. taken_given t (back s) (y.wish s) (y.book s)
               ∙ hand_given (within r s) (is_home line c s) (is_taken_for t (y.book s)) (mine s) (h.mine s home) (λ out. absurd (both_ways (is_home line c s) out home));
@@ -183,7 +181,7 @@ module _ (line : Line) (c : ℕ) (k : Centre) (t : ℕ) where
         let is_there : (s : ℕ) → there s ≡ true → is_open (y.book s) ≡ true = λ s is. (and_parts (within r s) (is_open (y.book s)) is).1 in
         record {
           foreign = λ s out. shut_unbooked (within r s) (Taken t) (y.book s) (h.foreign s out) is_open refl;
-          out_at = λ s u d is. h.out_at s u d (booked_out t (there s) (y.book s) u d is);
+          asks = h.asks;
           unwished = λ s unused. unused_booked t (there s) (y.wish s) (y.book s) (h.unwished s) unused;
           mine = λ s home. taken_here t (there s) (mine s) (y.book s) (h.mine s home) (is_there s) ∙ both_or (within r s) (is_open (y.book s)) (mine s) (opened s home);
           others = λ s u apart. taken_elsewhere t u (there s) (y.book s) apart (is_there s) ∙ h.others s u apart;
@@ -195,14 +193,14 @@ module _ (line : Line) (c : ℕ) (k : Centre) (t : ℕ) where
           announced = h.announced;
         }
 
-    -- the train's sections are lent to a centre
-    pub held_lent : (r : SectionRun) (d : ℕ) → is_centre line d ≡ true → Held line c k t (λ s. mine s && not (within r s)) wait mission (booked (is_taken_for t) (Out t d) r y).state
-    held_lent r d at = record {
-      foreign = λ s out. shut_unbooked (within r s) (Out t d) (y.book s) (h.foreign s out) (is_taken_for t) refl;
-      out_at = λ s u e is. lent_out t d (within r s && is_taken_for t (y.book s)) (y.book s) (λ x. is_centre line x ≡ true) at (h.out_at s) u e is;
-      unwished = λ s unused. lent_unused t d (within r s && is_taken_for t (y.book s)) (y.wish s) (y.book s) (h.unwished s) unused;
-      mine = λ s home. lent_taken t d (within r s) (mine s) (y.book s) (h.mine s home);
-      others = λ s u apart. lent_others t d u (within r s) (y.book s) apart ∙ h.others s u apart;
+    -- the train's sections are lent
+    pub held_lent : (r : SectionRun) → Held line c k t (λ s. mine s && not (within r s)) wait mission (booked (is_taken_for t) (Out t) r y).state
+    held_lent r = record {
+      foreign = λ s out. shut_unbooked (within r s) (Out t) (y.book s) (h.foreign s out) (is_taken_for t) refl;
+      asks = h.asks;
+      unwished = λ s unused. lent_unused t (within r s && is_taken_for t (y.book s)) (y.wish s) (y.book s) (h.unwished s) unused;
+      mine = λ s home. lent_taken t (within r s) (mine s) (y.book s) (h.mine s home);
+      others = λ s u apart. lent_others t u (within r s) (y.book s) apart ∙ h.others s u apart;
       wait = h.wait;
       waits = h.waits;
       mission = h.mission;
@@ -214,7 +212,7 @@ module _ (line : Line) (c : ℕ) (k : Centre) (t : ℕ) where
     pub held_mission : (new : Option Mission) → Held line c k t mine wait new (set_mission t new y).state
     held_mission new = record {
       foreign = h.foreign;
-      out_at = h.out_at;
+      asks = h.asks;
       unwished = h.unwished;
       mine = h.mine;
       others = h.others;
@@ -229,7 +227,7 @@ module _ (line : Line) (c : ℕ) (k : Centre) (t : ℕ) where
     pub held_wait : (new : Option Place) → Held line c k t mine new mission (record y { wait = put y.wait t new })
     held_wait new = record {
       foreign = h.foreign;
-      out_at = h.out_at;
+      asks = h.asks;
       unwished = h.unwished;
       mine = h.mine;
       others = h.others;
@@ -243,10 +241,10 @@ module _ (line : Line) (c : ℕ) (k : Centre) (t : ℕ) where
 
     -- what is not held for a train is free
     pub held_aside : (z : Centre) → z.book ≡ y.book → z.wish ≡ y.wish → z.wait ≡ y.wait → z.mission ≡ y.mission
-        → ((u : ℕ) → is_some (y.heard u) ≡ true → is_some (z.heard u) ≡ true) → y.announced ≤ z.announced → Held line c k t mine wait mission z
-    held_aside z book wish waits missions heard announced = record {
+        → ((u : ℕ) → is_some (y.heard u) ≡ true → is_some (z.heard u) ≡ true) → y.announced ≤ z.announced → ((u first : ℕ) → z.route_ask u ≡ Some first → IsOfNext line c first) → Held line c k t mine wait mission z
+    held_aside z book wish waits missions heard announced asks = record {
       foreign = λ s out. ap (λ (f : ℕ → Entry). f s) book ∙ h.foreign s out;
-      out_at = λ s u d is. h.out_at s u d (sym (ap (λ (f : ℕ → Entry). f s) book) ∙ is);
+      asks = asks;
       unwished = λ s unused. ap (λ (f : ℕ → Bool). f s) wish ∙ h.unwished s (sym (ap (λ (f : ℕ → Entry). is_unused (f s)) book) ∙ unused);
       mine = λ s home. ap (λ (f : ℕ → Entry). is_taken_for t (f s)) book ∙ h.mine s home;
       others = λ s u apart. ap (λ (f : ℕ → Entry). is_taken_for u (f s)) book ∙ h.others s u apart;

@@ -1,18 +1,19 @@
 -- A sound centre stays so as its interlocking sets and unsets sections, and as requests to shorten are made.
-use Rattle.std.proofs.Common.{◌≡◌, ◌≢◌, ℕ, ◌+◌, ◌-◌, not, if◌then◌else◌, Bool, true, false, Some, refl, sym, ap, ◌∙◌, ⊎_elim}
-use Rattle.std.proofs.lemmas.Bool.{cases_eq, both_ways, not-false}
+use Rattle.std.proofs.lemmas.List.Elements.{All-nil, All-cons}
+use Rattle.std.proofs.Common.{◌≡◌, ◌≢◌, ℕ, ◌+◌, ◌-◌, not, if◌then◌else◌, Bool, true, false, Some, refl, sym, ap, ◌∙◌, ⊎_elim, [], ◌∷◌, All, ◌&&◌, ◌==◌}
+use Rattle.std.proofs.lemmas.Bool.{cases_eq, both_ways, not-false, and_parts}
 use Rattle.rbc_spec.specs.Maps.{put}
-use Rattle.rbc_spec.specs.Line.{Line, IsLine, is_centre, is_home}
+use Rattle.rbc_spec.specs.Line.{Line, IsLine, is_centre, is_home, is_linked}
 use Rattle.rbc_spec.specs.Frame.{RouteWithdraw}
 use Rattle.rbc_spec.specs.Outcome.{Word, Done, Asked, NotHome}
 use Rattle.rbc_spec.specs.Centre.{Centre, Entry, Shut, Open, Taken, Out, is_unused, is_taken_for}
 use Rattle.rbc_spec.specs.Acts.{become, rest, ◌>>◌, change_mission, may_propose, propose, propose_if_so}
 use Rattle.rbc_spec.specs.Rules.{tell}
-use Rattle.rbc_spec.specs.Step.{make, set, unset, wished}
+use Rattle.rbc_spec.specs.Step.{make, set, unset, wished, withdraw}
 use Rattle.law_local.proofs.Entries.{unused_taken}
 use Rattle.law_base.proofs.Puts.{put_here, put_other}
-use Rattle.law_network.specs.Sound.{IsCentreSound}
-use Rattle.law_centre_sound.proofs.Sends.{Sound, leaves, none_sent, one_sent, rest_sound, then_sound, if_sound, if_reply, or_reply}
+use Rattle.law_network.specs.Sound.{IsCentreSound, IsBodySound}
+use Rattle.law_centre_sound.proofs.Sends.{Sound, leaves, none_sent, rest_sound, then_sound, if_sound, if_reply, or_reply}
 use Rattle.law_centre_sound.proofs.Again.{book_sound, changed_sound, said_sound}
 use Rattle.law_centre_sound.proofs.Reports.{other_words}
 
@@ -38,7 +39,6 @@ module _ (line : Line) (ok : IsLine line) (c : ℕ) where
   made : (s : ℕ) (entry : Entry) (k : Centre) → is_unused entry ≡ true → is_unused (k.book s) ≡ true → is_home line c s ≡ true → IsCentreSound line c k → Sound line c (make s entry false k)
   made s entry k new unused home old = leaves line c (book_sound line c k old (put k.book s entry) (put k.wish s false)
       (λ x away. by_section x (λ e. absurd (both_ways (is_home line c x) away (ap (is_home line c) e ∙ home))) (λ other. put_other k.book s x entry other ∙ old.foreign x away))
-      (λ x u d is. by_section x (λ e. absurd (not_out entry u d new (sym (put_here k.book s x entry e) ∙ is))) (λ other. old.out_at x u d (sym (put_other k.book s x entry other) ∙ is)))
       (λ x is. by_section x (λ e. put_here k.wish s x false e) (λ other. put_other k.wish s x false other ∙ old.unwished x (sym (ap is_unused (put_other k.book s x entry other)) ∙ is)))
       (λ x u. by_section x
       (λ e. ap (is_taken_for u) (put_here k.book s x entry e) ∙ unused_taken u entry new ∙ sym (ap (λ i. is_taken_for u (k.book i)) e ∙ unused_taken u (k.book s) unused))
@@ -47,12 +47,9 @@ module _ (line : Line) (ok : IsLine line) (c : ℕ) where
       by_section : {P : Type 0} (x : ℕ) → (x ≡ s → P) → (x ≢ s → P) → P
       by_section x here other = ⊎_elim here other (cases_eq x s)
 
-      not_out : (e : Entry) (u d : ℕ) → is_unused e ≡ true → e ≡ Out u d → ⊥
-      not_out e u d is same = let wrong : false ≡ true = sym (ap is_unused same) ∙ is in cc
-
   -- another wish, of a section that is wished back only if it is used
   wished_sound : (s : ℕ) (wish : Bool) (k : Centre) → (is_unused (k.book s) ≡ true → wish ≡ false) → IsCentreSound line c k → IsCentreSound line c (record k { wish = put k.wish s wish })
-  wished_sound s wish k used old = book_sound line c k old k.book (put k.wish s wish) old.foreign old.out_at
+  wished_sound s wish k used old = book_sound line c k old k.book (put k.wish s wish) old.foreign
       (λ x is. ⊎_elim
       (λ (e : x ≡ s). put_here k.wish s x wish e ∙ used (ap (λ i. is_unused (k.book i)) (sym e) ∙ is))
       (λ (other : x ≢ s). put_other k.wish s x wish other ∙ old.unwished x is)
@@ -70,19 +67,31 @@ module _ (line : Line) (ok : IsLine line) (c : ℕ) where
       (λ used. rest_sound line c j sound))
       (λ i same last. told (Done s) i last)))
 
-  withdrawn : (s : ℕ) (e : Entry) (k : Centre) → ((t d : ℕ) → e ≡ Out t d → is_centre line d ≡ true) → IsCentreSound line c k → Sound line c (wished line s e k)
-  withdrawn s (Taken t) k out old = propose_sound t s k old
-  withdrawn s (Out t d) k out old = leaves line c old (one_sent line c d (RouteWithdraw t s) k (out t d refl) (record {}))
-  withdrawn s Shut k out old = rest_sound line c k old
-  withdrawn s Open k out old = rest_sound line c k old
+  -- a section is withdrawn from centres of the line
+  withdraw_sound : (t s : ℕ) (k : Centre) → IsCentreSound line c k → Sound line c (withdraw line c t s k)
+  withdraw_sound t s k old = leaves line c old (record { inside = λ d out. none_outside d (is_linked line c d) refl out; bodies = λ d. each d (is_linked line c d) })
+    where
+      none_outside : (d : ℕ) (b : Bool) → is_linked line c d ≡ b → is_centre line d ≡ false → (if b then RouteWithdraw t s ∷ [] else []) ≡ []
+      none_outside d true linked out = absurd (both_ways (is_centre line d) out (and_parts (is_centre line c) (is_centre line d) (and_parts (is_centre line c && is_centre line d) (not (c == d)) linked).0).1)
+      none_outside d false apart out = refl
+
+      each : (d : ℕ) (b : Bool) → All (IsBodySound line c d) (if b then RouteWithdraw t s ∷ [] else [])
+      each d true = All-cons (IsBodySound line c d) (RouteWithdraw t s) [] (record {}) (All-nil (IsBodySound line c d))
+      each d false = All-nil (IsBodySound line c d)
+
+  withdrawn : (s : ℕ) (e : Entry) (k : Centre) → IsCentreSound line c k → Sound line c (wished line c s e k)
+  withdrawn s (Taken t) k old = propose_sound t s k old
+  withdrawn s (Out t) k old = withdraw_sound t s k old
+  withdrawn s Shut k old = rest_sound line c k old
+  withdrawn s Open k old = rest_sound line c k old
 
   pub unset_sound : (s : ℕ) (k : Centre) → IsCentreSound line c k → Sound line c (unset line c s k)
   unset_sound s k old = if_reply line c (not (is_home line c s)) (tell (NotHome s) k) _ (λ away. told (NotHome s) k old)
       (λ at. let home = not-false (is_home line c s) at in
-      if_sound line c (is_unused (k.book s)) (make s Shut false >> tell (Done s)) ((become (λ j. record j { wish = put j.wish s true }) >> tell (Asked s)) >> wished line s (k.book s)) k
+      if_sound line c (is_unused (k.book s)) (make s Shut false >> tell (Done s)) ((become (λ j. record j { wish = put j.wish s true }) >> tell (Asked s)) >> wished line c s (k.book s)) k
       (λ unused. then_sound line c (make s Shut false) (tell (Done s)) k (made s Shut k refl unused home old) (λ j is sound. told (Done s) j sound))
-      (λ used. then_sound line c (become (λ j. record j { wish = put j.wish s true }) >> tell (Asked s)) (wished line s (k.book s)) k
+      (λ used. then_sound line c (become (λ j. record j { wish = put j.wish s true }) >> tell (Asked s)) (wished line c s (k.book s)) k
       (then_sound line c (become (λ j. record j { wish = put j.wish s true })) (tell (Asked s)) k
       (leaves line c (wished_sound s true k (λ unused. absurd (both_ways (is_unused (k.book s)) used unused)) old) (none_sent line c))
       (λ j is sound. told (Asked s) j sound))
-      (λ j is sound. withdrawn s (k.book s) j (old.out_at s) sound)))
+      (λ j is sound. withdrawn s (k.book s) j sound)))

@@ -1,8 +1,9 @@
 -- Sections that leave a hand, a mission that closes, and one that is yielded.
-use Rattle.std.proofs.Common.{◌≡◌, ◌⊎◌, ℕ, ◌+◌, ◌≤◌, ◌==◌, ◌&&◌, ◌||◌, not, if◌then◌else◌, Bool, true, false, [], Option, Some, None, option_map, is_some, refl, ap, subst, arith, lt-ltb}
+use Rattle.rbc_spec.specs.Links.{taking_over}
+use Rattle.std.proofs.Common.{◌≡◌, ℕ, ◌+◌, ◌≤◌, ◌==◌, ◌&&◌, not, if◌then◌else◌, Bool, true, false, [], Option, Some, None, option_map, is_some, refl, ap, subst, arith, lt-ltb, inl}
 use Rattle.std.specs.Option.{option_map_or}
 use Rattle.std.proofs.lemmas.Option.{same_Some}
-use Rattle.std.proofs.lemmas.Bool.{and_parts, or_cases}
+use Rattle.std.proofs.lemmas.Bool.{and_parts}
 use Rattle.law_counting.specs.Sums.{one_if}
 use Rattle.rbc_spec.specs.Maps.{put}
 use Rattle.rbc_spec.specs.SectionRuns.{SectionRun, within, is_empty}
@@ -10,9 +11,8 @@ use Rattle.rbc_spec.specs.Line.{Line, IsLine, is_centre, is_home, next_centre, r
 use Rattle.rbc_spec.specs.Place.{Place}
 use Rattle.rbc_spec.specs.Frame.{Cancel, ReturnRight, yielded_place}
 use Rattle.rbc_spec.specs.Centre.{Centre, Out, Mission, Handing, is_up, is_taken_for, is_registrar_of}
-use Rattle.rbc_spec.specs.Acts.{Act, become, rest, ◌>>◌, where_so, send, booked, leave, set_mission, change_mission, cancel, return_right, close, part_at, end_order, yield, is_of_two, yield_if_due}
+use Rattle.rbc_spec.specs.Acts.{Act, become, rest, ◌>>◌, where_so, send, booked, leave, set_mission, change_mission, cancel, return_right, close, part_at, end_order, yield}
 use Rattle.law_local.specs.Local.{hand_has}
-use Rattle.law_base.proofs.Runs.{each_within}
 use Rattle.law_network.specs.Counts.{wait_has}
 use Rattle.law_network.specs.Sound.{IsMissionAt, IsCentreSound, IsYieldSound}
 use Rattle.law_network.proofs.Neighbours.{neighbours}
@@ -25,7 +25,7 @@ use Rattle.law_centre_sound.proofs.Again.{left_law, gone_law, again, said_sound}
 pub next_is_centre : (line : Line) → IsLine line → (c d track : ℕ) → next_centre line c track ≡ Some d → is_centre line d ≡ true
 next_is_centre line ok c d track next =
     let linked = (neighbours line ok).linked c d track next in
-    let centres = and_parts (is_centre line d && is_centre line c) (not (d == c)) (and_parts ((is_centre line d && is_centre line c) && not (d == c)) _ linked).0 in
+    let centres = and_parts (is_centre line d && is_centre line c) (not (d == c)) linked in
     (and_parts (is_centre line d) (is_centre line c) centres.0).0
 
 -- and so is a registrar
@@ -54,7 +54,7 @@ module _ (line : Line) (c : ℕ) (k : Centre) (t : ℕ) (mine : ℕ → Bool) (w
       by_registrar None = h
 
       by_test : (b : Bool) → Held line c k t mine wait None ((if b then become (λ j. record j { has_right = put j.has_right t true }) else option_map_or (λ r. send r (ReturnRight t)) (registrar line t) rest) y).state
-      by_test true = held_aside line c k t mine wait None y h (record y { has_right = put y.has_right t true }) refl refl refl refl (λ u is. is) (omega arith)
+      by_test true = held_aside line c k t mine wait None y h (record y { has_right = put y.has_right t true }) refl refl refl refl (λ u is. is) (omega arith) h.asks
       by_test false = by_registrar (registrar line t)
 
   pub held_closed : (mission : Option Mission) (m : Mission) (y : Centre) → Held line c k t mine wait mission y → Held line c k t mine wait None (close line c t m y).state
@@ -153,23 +153,22 @@ module _ (line : Line) (ok : IsLine line) (c : ℕ) where
 
     -- ## Yield
 
-    pub yielded_centre : (d : ℕ) → is_centre line d ≡ true → IsCentreSound line c (set_mission t None (booked (is_taken_for t) (Out t d) n.hand k).state).state
-    yielded_centre d to =
-        again line c k old t _ None _ (held_mission line c k t _ (k.wait t) (Some n) (booked (is_taken_for t) (Out t d) n.hand k).state (held_lent line c k t _ (k.wait t) (Some n) k now n.hand d to) None)
+    pub yielded_centre : IsCentreSound line c (set_mission t None (booked (is_taken_for t) (Out t) n.hand k).state).state
+    yielded_centre =
+        again line c k old t _ None _ (held_mission line c k t _ (k.wait t) (Some n) (booked (is_taken_for t) (Out t) n.hand k).state (held_lent line c k t _ (k.wait t) (Some n) k now n.hand) None)
         (λ s home. gone_law (within n.hand s) (is_taken_for t (k.book s)) (wait_has line (k.wait t) s) (within n.hand s) (claims s home) refl) (λ p is. cc)
 
   pub ordered_end : (t : ℕ) (k : Centre) → IsCentreSound line c k → Sound line c (end_order line c t k)
   ordered_end t k old = if_reply line c (is_up (k.phase t)) _ (rest k) (λ up. said_sound line c k old t) (λ down. rest_sound line c k old)
 
   -- a mission is yielded to the next centre
-  pub yield_sound : (t : ℕ) (m : Mission) (h : Handing) (k : Centre) → IsCentreSound line c k → k.mission t ≡ Some m → m.handing ≡ Some h → is_of_two line c h.to m.hand ≡ true
-      → Sound line c (yield line c t m h k)
+  pub yield_sound : (t : ℕ) (m : Mission) (h : Handing) (k : Centre) → IsCentreSound line c k → k.mission t ≡ Some m → m.handing ≡ Some h → Sound line c (yield line c t m h k)
   unfolding ◌>>◌
-  yield_sound t m h k old at handed two =
+  yield_sound t m h k old at handed =
       let is = old.mission t m at in
       let to = to_centre k m is h handed in
-      let j : Centre = (set_mission t None (booked (is_taken_for t) (Out t h.to) m.hand k).state).state in
-      let done = yielded_centre k old t m at h.to to in
+      let j : Centre = (set_mission t None (booked (is_taken_for t) (Out t) m.hand k).state).state in
+      let done = yielded_centre k old t m at in
       let after = if_sound line c (is_empty (part_at line c m.place.track m.hand)) (end_order line c t) rest j (λ none. ordered_end t j done) (λ some. rest_sound line c j done) in
       leaves line c after.centre
       (then_sent line c _ _
@@ -184,17 +183,14 @@ module _ (line : Line) (ok : IsLine line) (c : ℕ) where
         is_hand = is.hand;
         to_next = is.handing_to h handed;
         known = known;
-        of_two = λ s has. by_home s (or_cases (is_home line c s) (is_home line h.to s) (each_within (λ x. is_home line c x || is_home line h.to x) m.hand two s has));
+        hand_ends = λ s n behind has. is.hand_ends s h.to n (is.handing_to h handed) behind (inl (ap is_some handed)) has;
       }
-        where
-          by_home : (s : ℕ) → (is_home line c s ≡ true) ⊎ (is_home line h.to s ≡ true) → (is_home line c s ≡ true) ⊎ (is_home line h.to s ≡ true)
-          by_home s e = e
 
-  pub yielded_if_due : (t : ℕ) (k : Centre) → IsCentreSound line c k → Sound line c (yield_if_due line c t k)
-  yielded_if_due t k old = or_reply line c (k.mission t) _ (rest k)
-      (λ m at. or_reply line c m.handing (λ h. where_so (λ j. h.is_claimed && is_of_two line c h.to m.hand) (yield line c t m h) k) (rest k)
-      (λ h handed. if_reply line c (h.is_claimed && is_of_two line c h.to m.hand) (yield line c t m h k) (rest k)
-      (λ due. yield_sound t m h k old at handed (and_parts h.is_claimed (is_of_two line c h.to m.hand) due).1)
-      (λ wait. rest_sound line c k old))
+  pub yielded_over : (d number t : ℕ) (k : Centre) → IsCentreSound line c k → Sound line c (taking_over line c d number t k)
+  yielded_over d number t k old = or_reply line c (k.mission t) _ (rest k)
+      (λ m at. or_reply line c m.handing (λ h. where_so (λ j. (h.number == number) && (h.to == d)) (yield line c t m h) k) (rest k)
+      (λ h handed. if_reply line c ((h.number == number) && (h.to == d)) (yield line c t m h k) (rest k)
+      (λ so. yield_sound t m h k old at handed)
+      (λ other. rest_sound line c k old))
       (λ none. rest_sound line c k old))
       (λ none. rest_sound line c k old)

@@ -1,16 +1,17 @@
 -- A sound centre stays so as its trains report, shorten, and end.
-use Rattle.std.proofs.Common.{◌≡◌, ◌≢◌, ℕ, ◌+◌, ◌*◌, ◌≤◌, ◌==◌, ◌&&◌, ◌||◌, not, if◌then◌else◌, Bool, true, false, [], ◌∷◌, Option, Some, None, option_map, nat_le, refl, sym, ap, ◌∙◌, subst, arith, ⊎_elim, eq-eqb, eqb-true, All}
+use Rattle.std.proofs.Common.{◌≡◌, ◌≢◌, ℕ, ◌+◌, ◌*◌, ◌≤◌, ◌==◌, ◌&&◌, ◌||◌, not, if◌then◌else◌, Bool, true, false, [], ◌∷◌, Option, Some, None, option_map, nat_le, refl, sym, ap, ◌∙◌, subst, arith, ⊎_elim, eq-eqb, eqb-true, All, ◌-◌}
 use Rattle.std.specs.Option.{option_map_or}
 use Rattle.std.proofs.lemmas.Bool.{and_parts, cases_eq, cases_Bool, cond-true, eqb-false, both_ways}
 use Rattle.std.proofs.lemmas.List.Elements.{All-nil, All-cons}
+use Rattle.law_base.proofs.Standstill.{rests_or_cuts}
 use Rattle.rbc_spec.specs.SectionRuns.{SectionRun, no_run, within, behind, is_empty, part_before, part_from, joined}
 use Rattle.rbc_spec.specs.Line.{Line, IsLine, is_centre, is_home, end, next_centre}
 use Rattle.rbc_spec.specs.Sections.{is_on}
 use Rattle.rbc_spec.specs.Place.{Place, Position, is_cleared, place_on}
 use Rattle.rbc_spec.specs.Frame.{TakingOver, Cancel}
 use Rattle.rbc_spec.specs.Centre.{Centre, Mission, Proposal, Expectation}
-use Rattle.rbc_spec.specs.Acts.{Act, rest, ◌>>◌, with_mission, send, leave, returned, set_mission, change_mission, return_pool, cancel, close, part_at, yield_if_due}
-use Rattle.rbc_spec.specs.Rules.{cleared, clear, report_here, report, take_over, end_mission, cut, granted, answer_granted}
+use Rattle.rbc_spec.specs.Acts.{Act, rest, ◌>>◌, with_mission, send, leave, returned, set_mission, change_mission, return_pool, cancel, close, part_at}
+use Rattle.rbc_spec.specs.Rules.{cleared, clear, report_here, report, take_over, end_mission, cut, granted, answer_granted, stand_still}
 use Rattle.law_base.proofs.Longest.{longest_few}
 use Rattle.law_base.proofs.Runs.{within_true, within_from, same_tests}
 use Rattle.law_local.proofs.Hands.{within_rest, within_kept}
@@ -18,11 +19,11 @@ use Rattle.law_local.proofs.Missions.{none_within}
 use Rattle.law_base.proofs.Runs.{within_none, within_joined, joined_empty}
 use Rattle.law_centre.proofs.Places.{placed_on}
 use Rattle.law_network.specs.Sound.{IsMissionAt, IsCentreSound, IsBodySound}
-use Rattle.law_centre_sound.proofs.Held.{still}
+use Rattle.law_centre_sound.proofs.Held.{still, ends_less}
 use Rattle.law_centre_sound.proofs.Sends.{Sound, leaves, one_sent, returned_sent, rest_sound, then_sound, if_sound, or_sound, or_reply}
 use Rattle.law_centre_sound.proofs.Again.{changed_sound, free_sound}
 use Rattle.law_centre_sound.proofs.Places.{IsReported, reported}
-use Rattle.law_centre_sound.proofs.Leaving.{to_centre, whole_leaves, part_leaves, part_then, yielded_if_due}
+use Rattle.law_centre_sound.proofs.Leaving.{to_centre, whole_leaves, part_leaves, part_then}
 
 -- a run and one behind it, which does not have the section
 pub joined_without : (a b : SectionRun) (s : ℕ) → (a.count ≢ 0 → is_empty b ≡ false → b.first ≡ behind a) → within b s ≡ false → within (joined a b) s ≡ within a s
@@ -69,8 +70,11 @@ module _ (line : Line) (ok : IsLine line) (c : ℕ) where
     pool_follows = λ some. is.pool_follows some ∙ (omega (arith, few, other));
     pool_away = is.pool_away;
     pool_on = λ s has. subst (λ t. is_on line t s ≡ true) (sym same) (is.pool_on s has);
+    pool_next = λ s d next has. is.pool_next s d (ap (next_centre line c) (sym same) ∙ next) has;
     handing_to = λ h handed. ap (next_centre line c) same ∙ is.handing_to h handed;
     handing_number = is.handing_number;
+    hand_ends = ends_less line c k m (record m { place = place; hand = part_from (m.hand.first + n) m.hand }) is same (λ stands. stands)
+        (λ s has. (and_parts (within m.hand s) _ (sym (within_rest m.hand n s few) ∙ has)).0);
   }
 
   clear_sound : (t : ℕ) (m : Mission) (place : Place) (k : Centre) → IsCentreSound line c k → k.mission t ≡ Some m → place.track ≡ m.place.track → IsReported line place
@@ -94,7 +98,7 @@ module _ (line : Line) (ok : IsLine line) (c : ℕ) where
       (λ none. rest_sound line c k old)
 
   pub take_over_sound : (t : ℕ) (k : Centre) → IsCentreSound line c k → Sound line c (take_over line t k)
-  take_over_sound t k old = leaves line c (free_sound line c k old (take_over line t k).state refl refl refl refl (λ u is. is) (omega arith)) (record {
+  take_over_sound t k old = leaves line c (free_sound line c k old (take_over line t k).state refl refl refl refl (λ u is. is) (omega arith) old.asks) (record {
     inside = λ d out. none_outside (is_centre line d) _ (k.expects d t) d out;
     bodies = λ d. each d _ (k.expects d t);
   })
@@ -111,36 +115,22 @@ module _ (line : Line) (ok : IsLine line) (c : ℕ) where
 
   pub report_sound : (t : ℕ) (position : Position) (k : Centre) → IsCentreSound line c k → Sound line c (report line c t position k)
   report_sound t position k old = or_reply line c (k.mission t) _ (take_over line t k)
-      (λ m at. then_sound line c (report_here line c t position m) (yield_if_due line c t) k (report_here_sound t position m k old at) (λ j is sound. yielded_if_due line ok c t j sound))
+      (λ m at. report_here_sound t position m k old at)
       (λ none. take_over_sound t k old)
 
   -- ## End of mission
 
   pub without_pool : (k : Centre) (m : Mission) → IsMissionAt line c k m → IsMissionAt line c k (record m { pool = no_run })
-  without_pool k m is = record { hand = is.hand; pool_follows = λ some. cc; pool_away = λ s has. absurd (none_within s has); pool_on = λ s has. absurd (none_within s has); handing_to = is.handing_to; handing_number = is.handing_number }
+  without_pool k m is = record { hand = is.hand; pool_follows = λ some. cc; pool_away = λ s has. absurd (none_within s has); pool_on = λ s has. absurd (none_within s has); pool_next = λ s d next has. absurd (none_within s has); handing_to = is.handing_to; handing_number = is.handing_number; hand_ends = is.hand_ends }
 
   pub other_words : (k : Centre) (m : Mission) (has_data is_ended : Bool) (proposal : Option Proposal) → IsMissionAt line c k m
       → IsMissionAt line c k (record m { has_data = has_data; is_ended = is_ended; proposal = proposal })
-  other_words k m has_data is_ended proposal is = record { hand = is.hand; pool_follows = is.pool_follows; pool_away = is.pool_away; pool_on = is.pool_on; handing_to = is.handing_to; handing_number = is.handing_number }
+  other_words k m has_data is_ended proposal is = record { hand = is.hand; pool_follows = is.pool_follows; pool_away = is.pool_away; pool_on = is.pool_on; pool_next = is.pool_next; handing_to = is.handing_to; handing_number = is.handing_number; hand_ends = is.hand_ends }
 
   pub pool_returned : (t : ℕ) (m : Mission) (k : Centre) → IsCentreSound line c k → Sound line c (return_pool line c t m k)
   pool_returned t m k old = then_sound line c (returned line c t m.place.track m.pool) (change_mission t (λ n. record n { pool = no_run })) k
       (leaves line c old (returned_sent line c ok t m.place.track m.pool k))
       (λ j is sound. changed_sound line c j sound t (λ n. record n { pool = no_run }) (λ n at. refl) (λ n at. without_pool j n (sound.mission t n at)))
-
-  pub end_sound : (t : ℕ) (position : Position) (k : Centre) → IsCentreSound line c k → Sound line c (end_mission line c t position k)
-  end_sound t position k old = then_sound line c (with_mission t (report_here line c t position) >> with_mission t ends) (yield_if_due line c t) k
-      (then_sound line c (with_mission t (report_here line c t position)) (with_mission t ends) k
-      (or_reply line c (k.mission t) _ (rest k) (λ m at. report_here_sound t position m k old at) (λ none. rest_sound line c k old))
-      (λ j is sound. or_reply line c (j.mission t) (λ m. ends m j) (rest j)
-      (λ m at. then_sound line c (return_pool line c t m) (change_mission t (λ n. record n { is_ended = true; proposal = None })) j (pool_returned t m j sound)
-      (λ i same last. changed_sound line c i last t (λ n. record n { is_ended = true; proposal = None }) (λ n there. refl)
-      (λ n there. other_words i n n.has_data true None (last.mission t n there))))
-      (λ none. rest_sound line c j sound)))
-      (λ j is sound. yielded_if_due line ok c t j sound)
-    where
-      ends : Mission → Act
-      ends m = return_pool line c t m >> change_mission t (λ n. record n { is_ended = true; proposal = None })
 
   -- ## Shortening
 
@@ -152,7 +142,7 @@ module _ (line : Line) (ok : IsLine line) (c : ℕ) where
       (λ none. rest_sound line c k old)
     where
       unhanded : (j : Centre) (n : Mission) → IsMissionAt line c j n → IsMissionAt line c j (record n { handing = None })
-      unhanded j n is = record { hand = is.hand; pool_follows = is.pool_follows; pool_away = is.pool_away; pool_on = is.pool_on; handing_to = λ h some. cc; handing_number = λ h some. cc }
+      unhanded j n is = record { hand = is.hand; pool_follows = is.pool_follows; pool_away = is.pool_away; pool_on = is.pool_on; pool_next = is.pool_next; handing_to = λ h some. cc; handing_number = λ h some. cc; hand_ends = ends_less line c j n (record n { handing = None }) is refl (λ stands. cc) (λ s has. has) }
 
   kept_sound : (k : Centre) (m : Mission) (n : ℕ) → IsMissionAt line c k m → (part_from n m.hand).count ≢ m.hand.count
       → IsMissionAt line c k (record m { hand = part_before n m.hand; pool = no_run; proposal = None })
@@ -167,8 +157,11 @@ module _ (line : Line) (ok : IsLine line) (c : ℕ) where
     pool_follows = λ some. cc;
     pool_away = λ s has. absurd (none_within s has);
     pool_on = λ s has. absurd (none_within s has);
+    pool_next = λ s d next has. absurd (none_within s has);
     handing_to = is.handing_to;
     handing_number = is.handing_number;
+    hand_ends = ends_less line c k m (record m { hand = part_before n m.hand; pool = no_run; proposal = None }) is refl (λ stands. stands)
+        (λ s has. (and_parts (within m.hand s) _ (sym (within_kept m.hand n s) ∙ has)).0);
   }
 
   then_if : (a f g : Act) (b : Bool) (k : Centre) → (b ≡ true → Sound line c ((a >> f) k)) → (b ≡ false → Sound line c ((a >> g) k)) → Sound line c ((a >> (if b then f else g)) k)
@@ -203,16 +196,33 @@ module _ (line : Line) (ok : IsLine line) (c : ℕ) where
       let j : Centre = (change_mission t f k).state in
       let there : j.mission t ≡ Some (f m) = cond-true (t == t) (option_map f (k.mission t)) (k.mission t) (eq-eqb t t refl) ∙ ap (option_map f) at in
       let change = changed_sound line c k old t f (λ n is. refl) (λ n is. other_words k n n.has_data n.is_ended None (old.mission t n is)) in
-      then_sound line c (change_mission t f >> cuts) (yield_if_due line c t) k
-      (then_sound line c (change_mission t f) cuts k change (λ i is sound. subst (λ (x : Centre). Sound line c (cuts x)) (sym is)
+      then_sound line c (change_mission t f) cuts k change (λ i is sound. subst (λ (x : Centre). Sound line c (cuts x)) (sym is)
       (or_sound line c (place_on line m.place.track position) _ rest j
       (λ place on. if_sound line c (nat_le place.front (10 * end line p.last_kept)) (cut line c t p.last_kept m) rest j
       (λ kept. cut_sound t p.last_kept m (f m) j change.centre there refl (still line c k j m (omega arith) (old.mission t m at)))
       (λ past. rest_sound line c j change.centre))
-      (λ none. rest_sound line c j change.centre))))
-      (λ i is sound. yielded_if_due line ok c t i sound)
+      (λ none. rest_sound line c j change.centre)))
 
   pub granting_sound : (t : ℕ) (position : Position) (k : Centre) → IsCentreSound line c k → Sound line c (answer_granted line c t position k)
   granting_sound t position k old = or_reply line c (k.mission t) _ (rest k)
       (λ m at. or_reply line c m.proposal (λ p. granted line c t position m p k) (rest k) (λ p is. granted_sound t position m p k old at) (λ none. rest_sound line c k old))
       (λ none. rest_sound line c k old)
+
+  -- ## End of mission
+
+  pub stand_sound : (t : ℕ) (position : Position) (m : Mission) (k : Centre) → IsCentreSound line c k → k.mission t ≡ Some m → Sound line c (stand_still line c t position m k)
+  stand_sound t position m k old at = rests_or_cuts (λ act. Sound line c (act k)) line c t position m (rest_sound line c k old) (λ n some fits. cut_sound t (m.hand.first + n - 1) m m k old at refl (old.mission t m at))
+
+  pub end_sound : (t : ℕ) (position : Position) (k : Centre) → IsCentreSound line c k → Sound line c (end_mission line c t position k)
+  end_sound t position k old = then_sound line c (with_mission t (report_here line c t position) >> with_mission t (stand_still line c t position)) (with_mission t ends) k
+      (then_sound line c (with_mission t (report_here line c t position)) (with_mission t (stand_still line c t position)) k
+      (or_reply line c (k.mission t) _ (rest k) (λ m at. report_here_sound t position m k old at) (λ none. rest_sound line c k old))
+      (λ j is sound. or_reply line c (j.mission t) (λ m. stand_still line c t position m j) (rest j) (λ m at. stand_sound t position m j sound at) (λ none. rest_sound line c j sound)))
+      (λ j is sound. or_reply line c (j.mission t) (λ m. ends m j) (rest j)
+      (λ m at. then_sound line c (return_pool line c t m) (change_mission t (λ n. record n { is_ended = true; proposal = None })) j (pool_returned t m j sound)
+      (λ i same last. changed_sound line c i last t (λ n. record n { is_ended = true; proposal = None }) (λ n there. refl)
+      (λ n there. other_words i n n.has_data true None (last.mission t n there))))
+      (λ none. rest_sound line c j sound))
+    where
+      ends : Mission → Act
+      ends m = return_pool line c t m >> change_mission t (λ n. record n { is_ended = true; proposal = None })

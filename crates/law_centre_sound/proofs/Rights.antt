@@ -1,5 +1,5 @@
 -- A sound centre stays so as rights to supervise trains come and are asked for.
-use Rattle.std.proofs.Common.{◌≡◌, ℕ, ◌&&◌, not, if◌then◌else◌, Bool, true, false, Option, Some, None, is_some, is_none, refl, ap, subst, arith}
+use Rattle.std.proofs.Common.{◌≡◌, ℕ, ◌&&◌, not, if◌then◌else◌, Bool, true, false, Option, Some, None, is_some, is_none, refl, ap, subst, arith, ◌∙◌}
 use Rattle.std.specs.Option.{option_map_or}
 use Rattle.std.proofs.lemmas.Option.{same_Some}
 use Rattle.std.proofs.lemmas.Bool.{and_parts}
@@ -26,7 +26,7 @@ use Rattle.rbc_spec.specs.Frame.{ReturnRight}
 
 module _ (line : Line) (ok : IsLine line) (c : ℕ) where
   has_right_sound : (right : ℕ → Bool) (k : Centre) → IsCentreSound line c k → IsCentreSound line c (record k { has_right = right })
-  has_right_sound right k old = free_sound line c k old (record k { has_right = right }) refl refl refl refl (λ u is. is) (omega arith)
+  has_right_sound right k old = free_sound line c k old (record k { has_right = right }) refl refl refl refl (λ u is. is) (omega arith) old.asks
 
   pub asked_sound : (d t : ℕ) (k : Centre) → is_centre line d ≡ true → IsCentreSound line c k → Sound line c (right_asked line c d t k)
   asked_sound d t k to old = if_reply line c (is_registrar_of line c t) _ (rest k)
@@ -49,7 +49,7 @@ module _ (line : Line) (ok : IsLine line) (c : ℕ) where
       by_test false = by_registrar (registrar line t)
 
   answered_sound : (t : ℕ) (k : Centre) → IsCentreSound line c k → Sound line c (answered_ask t k)
-  answered_sound t k old = leaves line c (free_sound line c k old (answered_ask t k).state refl refl refl refl (λ u is. is) (omega arith)) (none_sent line c)
+  answered_sound t k old = leaves line c (free_sound line c k old (answered_ask t k).state refl refl refl refl (λ u is. is) (omega arith) old.asks) (none_sent line c)
 
   -- a start that waits becomes a mission
   admitted : (t : ℕ) (place : Place) (k : Centre) → IsCentreSound line c k → k.wait t ≡ Some place → k.mission t ≡ None
@@ -69,7 +69,7 @@ module _ (line : Line) (ok : IsLine line) (c : ℕ) where
         wait_home = λ s is. cc;
         wait_fits = λ p is. cc;
         wait_known = λ p is. cc;
-        mission = λ m is. subst (IsMissionAt line c y) (same_Some (begun line place) m is) (begun_is line c y place (old.wait_fits t place waits));
+        mission = λ m is. subst (IsMissionAt line c y) (same_Some (begun line place) m is) (begun_is line c y place (old.wait_fits t place waits) (λ e has. old.wait_home t e (ap (λ (o : Option Place). wait_has line o e) waits ∙ has)));
         mission_known = λ m is. old.wait_known t place waits;
       })
 

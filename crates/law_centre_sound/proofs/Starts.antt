@@ -1,4 +1,5 @@
 -- A sound centre stays so as missions start.
+use Rattle.law_network.proofs.Neighbours.{begun_ends}
 use Rattle.std.proofs.Common.{◌≡◌, ℕ, ◌||◌, not, Bool, true, false, Option, Some, None, refl, sym, ap, ◌∙◌, subst, arith}
 use Rattle.std.specs.Option.{option_map_or}
 use Rattle.std.proofs.lemmas.Option.{same_Some}
@@ -19,7 +20,7 @@ use Rattle.law_base.proofs.Runs.{each_within}
 use Rattle.law_local.proofs.Missions.{none_within}
 use Rattle.law_network.specs.Counts.{wait_has}
 use Rattle.law_network.specs.Sound.{IsHandAt, IsMissionAt, IsCentreSound}
-use Rattle.law_centre_sound.proofs.Held.{Held, held, still, sound_again, held_booked, held_mission, held_wait, held_aside}
+use Rattle.law_centre_sound.proofs.Held.{Held, held, still, ends_less, sound_again, held_booked, held_mission, held_wait, held_aside}
 use Rattle.law_centre_sound.proofs.Sends.{Sound, leaves, none_sent, one_sent, rest_sound, then_sound, if_sound, if_reply, or_sound, or_reply}
 use Rattle.law_centre_sound.proofs.Again.{IsKnown, grown_law, waiting_law, again, changed_sound, free_sound, said_sound}
 use Rattle.law_centre_sound.proofs.Places.{IsReported, reported, moved, fit_is, fit_hand, same_track}
@@ -27,8 +28,9 @@ use Rattle.law_centre_sound.proofs.Leaving.{registrar_is_centre}
 use Rattle.law_centre_sound.proofs.Requests.{open_untaken}
 
 -- a mission that begins is sound
-pub begun_is : (line : Line) (c : ℕ) (k : Centre) (place : Place) → IsHandAt line place (covered line place) → IsMissionAt line c k (begun line place)
-begun_is line c k place hand = record { hand = hand; pool_follows = λ some. cc; pool_away = λ s has. absurd (none_within s has); pool_on = λ s has. absurd (none_within s has); handing_to = λ h is. cc; handing_number = λ h is. cc }
+pub begun_is : (line : Line) (c : ℕ) (k : Centre) (place : Place) → IsHandAt line place (covered line place) → ((e : ℕ) → within (covered line place) e ≡ true → is_home line c e ≡ true)
+    → IsMissionAt line c k (begun line place)
+begun_is line c k place hand own = record { hand = hand; pool_follows = λ some. cc; pool_away = λ s has. absurd (none_within s has); pool_on = λ s has. absurd (none_within s has); pool_next = λ s d next has. absurd (none_within s has); handing_to = λ h is. cc; handing_number = λ h is. cc; hand_ends = λ s d n next behind come has. begun_ends line c d n s place next own come }
 
 module _ (line : Line) (ok : IsLine line) (c : ℕ) (k : Centre) (old : IsCentreSound line c k) (t : ℕ) where
   restart_sound : (place : Place) (m : Mission) → k.mission t ≡ Some m → IsHandAt line place (covered line place) → IsReported line place → Sound line c (restart line t place m k)
@@ -50,8 +52,10 @@ module _ (line : Line) (ok : IsLine line) (c : ℕ) (k : Centre) (old : IsCentre
             pool_follows = is.pool_follows;
             pool_away = is.pool_away;
             pool_on = λ s has. subst (λ track. is_on line track s ≡ true) (sym same) (is.pool_on s has);
+            pool_next = λ s d next has. is.pool_next s d (ap (next_centre line c) (sym same) ∙ next) has;
             handing_to = λ h handed. ap (next_centre line c) same ∙ is.handing_to h handed;
             handing_number = is.handing_number;
+            hand_ends = ends_less line c k n (f n) is same (λ stands. stands) (λ s has. has);
           }
 
   module _ (place : Place) (known : IsKnown line k t) (none : k.mission t ≡ None) (no_wait : k.wait t ≡ None) (hand : IsHandAt line place (covered line place))
@@ -75,10 +79,10 @@ module _ (line : Line) (ok : IsLine line) (c : ℕ) (k : Centre) (old : IsCentre
     began_sound =
         let h = held_mission line c k t _ (k.wait t) (k.mission t) taken_now taken_held (Some (begun line place)) in
         again line c k old t (λ s. mine s || within (covered line place) s) (Some (begun line place)) began
-        (held_aside line c k t _ (k.wait t) (Some (begun line place)) (set_mission t (Some (begun line place)) taken_now).state h began refl refl refl refl (λ u is. is) (omega arith))
+        (held_aside line c k t _ (k.wait t) (Some (begun line place)) (set_mission t (Some (begun line place)) taken_now).state h began refl refl refl refl (λ u is. is) (omega arith) h.asks)
         (λ s home. grown_law (within (covered line place) s) (mine s) (wait_has line (k.wait t) s) false
         (omega (arith, old.claims s t home, ap (λ (o : Option Mission). one_if (hand_has o s)) none)) (λ has. open_untaken t k s (is_free_at s has).1))
-        (λ m is. (subst (IsMissionAt line c k) (same_Some (begun line place) m is) (begun_is line c k place hand), known))
+        (λ m is. (subst (IsMissionAt line c k) (same_Some (begun line place) m is) (begun_is line c k place hand (λ e has. (is_free_at e has).0)), known))
 
     start_here_sound : Sound line c (start_here line t place k)
     unfolding ◌>>◌
@@ -118,7 +122,7 @@ module _ (line : Line) (ok : IsLine line) (c : ℕ) (k : Centre) (old : IsCentre
             (or_sound line c (registrar line t) (λ r. send r (AskRight t)) rest j
             (λ r is. leaves line c sound (one_sent line c r (AskRight t) j (registrar_is_centre line ok t r is) (record {})))
             (λ no. rest_sound line c j sound))
-            (λ i is last. leaves line c (free_sound line c i last (record i { has_asked = put i.has_asked t true }) refl refl refl refl (λ u has. has) (omega arith)) (none_sent line c))
+            (λ i is last. leaves line c (free_sound line c i last (record i { has_asked = put i.has_asked t true }) refl refl refl refl (λ u has. has) (omega arith) last.asks) (none_sent line c))
 
   pub start_sound : (is_valid : Bool) (position : Position) → IsKnown line k t → k.wait t ≡ None → Sound line c (start_mission line c t is_valid position k)
   start_sound is_valid position known no_wait = or_reply line c (fit_place line is_valid position) _ (reject t k)

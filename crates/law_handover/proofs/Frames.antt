@@ -1,5 +1,7 @@
 -- What the next frame of a link comes to, and what a set and an unset come to.
-use Rattle.std.proofs.Common.{◌≡◌, ◌≢◌, ℕ, ◌+◌, ◌*◌, ◌≤◌, ◌==◌, ◌&&◌, not, Bool, true, false, if◌then◌else◌, nat_lt, nat_le, length, max, is_none, is_some, List, Option, Some, None, refl, sym, ap, ◌∙◌, subst, arith, ⊎_elim}
+use Rattle.law_network.specs.Keeping.{IsNeutral}
+use Rattle.std.proofs.lemmas.List.Elements.{All-nil, All-cons}
+use Rattle.std.proofs.Common.{◌≡◌, ◌≢◌, ℕ, ◌+◌, ◌*◌, ◌≤◌, ◌==◌, ◌&&◌, not, Bool, true, false, if◌then◌else◌, nat_lt, nat_le, length, max, is_none, is_some, List, Option, Some, None, refl, sym, ap, ◌∙◌, subst, arith, ⊎_elim, All, [], ◌∷◌}
 use Rattle.std.specs.Option.{option_map_or}
 use Rattle.std.specs.List.{find, range_with_len}
 use Rattle.std.proofs.lemmas.Bool.{cases_eq, ne_eqb, and_parts}
@@ -8,7 +10,7 @@ use Rattle.law_counting.specs.Sums.{one_if}
 use Rattle.law_counting.proofs.Sums.{put_same, put_other}
 use Rattle.rbc_spec.specs.Maps.{put, has}
 use Rattle.rbc_spec.specs.SectionRuns.{SectionRun, no_run, within, is_empty, part_before, part_from, all_of}
-use Rattle.rbc_spec.specs.Line.{Line, is_home, section, section_of_group}
+use Rattle.rbc_spec.specs.Line.{Line, is_home, section, section_of_group, is_linked}
 use Rattle.rbc_spec.specs.Sections.{is_on, is_on_track}
 use Rattle.rbc_spec.specs.Place.{Place, group_start}
 use Rattle.rbc_spec.specs.Frame.{Body, YieldedPlace, carried_place, AskRight, GiveRight, RefuseRight, ReturnRight, RouteAsk, RouteInfo, RouteWithdraw, RouteReturn, Announce, Cancel, TakingOver, Yield}
@@ -16,15 +18,15 @@ use Rattle.rbc_spec.specs.Outcome.{Done, Asked, NotHome}
 use Rattle.rbc_spec.specs.Centre.{Centre, Entry, Shut, Open, Taken, Out, Mission, Expectation, is_open, is_unused, is_out_for, is_registrar_of, uses_some, is_expected}
 use Rattle.rbc_spec.specs.Acts.{Act, Reply, rest, become, ◌>>◌, where_so, with_some, send, booked, freed, returned, set_mission, change_mission, return_right, propose_if_so, end_order}
 use Rattle.rbc_spec.specs.Rules.{tell, choose, begin, drop_wait, reject}
-use Rattle.rbc_spec.specs.Links.{answered_ask, right_asked, right_given, right_refused, right_returned, lendable, route_asked, is_wanted, route_told, route_withdrawn, route_returned, expect, announced, cancelled, is_under, claimed, taking_over, may_arrive, may_take, take_mission, yielded, is_train, of_train, is_of_line, received}
-use Rattle.rbc_spec.specs.Step.{wished, make, set, unset}
+use Rattle.rbc_spec.specs.Links.{answered_ask, right_asked, right_given, right_refused, right_returned, lendable, route_asked, is_wanted, route_told, route_withdrawn, route_returned, expect, announced, cancelled, is_under, taking_over, may_arrive, may_take, take_mission, yielded, is_train, of_train, is_of_line, received}
+use Rattle.rbc_spec.specs.Step.{wished, make, set, unset, withdraw}
 use Rattle.law_base.proofs.Puts.{itself}
 use Rattle.law_base.proofs.Lists.{none_is}
 use Rattle.law_network.specs.Pairs.{follows, handing_to, is_number}
-use Rattle.law_handover.specs.Orderly.{number_expected, waiting, IsOrderly, IsTakenWith}
-use Rattle.law_handover.proofs.Orderly.{Goes, still, goes_rest, goes_send, goes_returned, goes_change, goes_then, goes_if, goes_or, goes_if_act}
-use Rattle.law_handover.proofs.Handing.{goes_return_right, goes_end_order, goes_yield_if_due}
-use Rattle.law_handover.proofs.Taking.{expect_taking, claim_taking}
+use Rattle.law_handover.specs.Orderly.{number_expected, waiting, IsOrderly, IsTakenWith, IsTaking, allowed_by}
+use Rattle.law_handover.proofs.Orderly.{Goes, still, goes_rest, goes_send, goes_returned, goes_change, goes_then, goes_if, goes_or, goes_if_act, loosened, apart}
+use Rattle.law_handover.proofs.Handing.{goes_return_right, goes_end_order, goes_taking_over}
+use Rattle.law_handover.proofs.Taking.{expect_taking}
 use Rattle.law_handover.proofs.Messages.{goes_propose_if, goes_drop_wait, goes_begin, goes_reject}
 
 module _ (line : Line) (c : ℕ) where
@@ -73,7 +75,7 @@ module _ (line : Line) (c : ℕ) where
 
   goes_route_asked : (d t first most : ℕ) (k : Centre) → Goes k (route_asked line c d t first most k)
   goes_route_asked d t first most k = goes_if (is_some (section line first)) k _ (rest k)
-      (λ so. goes_then (booked is_open (Out t d) (lendable line c k first most)) (send d (RouteInfo t (lendable line c k first most))) k (still k _ refl refl refl)
+      (λ so. goes_then (booked is_open (Out t) (lendable line c k first most)) (send d (RouteInfo t (lendable line c k first most))) k (still k _ refl refl refl)
       (goes_send d _ _ (record { follows = λ u n. refl; announces = λ u h. refl; takes_over = λ u h. refl; yields = λ u h. refl })))
       (λ so. goes_rest k)
 
@@ -97,34 +99,33 @@ module _ (line : Line) (c : ℕ) where
       (λ not_in. goes_propose_if line t s k))
       (λ none. goes_rest k)
 
-  goes_home : (d t : ℕ) (r : SectionRun) (k : Centre) → Goes k (route_returned line c d t r k)
-  goes_home d t r k = goes_then (freed line c (is_out_for t d) r) (where_so (λ j. not (uses_some line c j t) && ((is_none (j.mission t) && is_none (j.wait t)) && not (is_expected line j t))) (end_order line c t)) k
+  goes_home : (d t : ℕ) (r : SectionRun) (k : Centre) → Goes k (route_returned line c t r k)
+  goes_home d t r k = goes_then (freed line c (is_out_for t) r) (where_so (λ j. not (uses_some line c j t) && ((is_none (j.mission t) && is_none (j.wait t)) && not (is_expected line j t))) (end_order line c t)) k
       (still k _ refl refl refl)
       (goes_if (not (uses_some line c j t) && ((is_none (j.mission t) && is_none (j.wait t)) && not (is_expected line j t))) j (end_order line c t j) (rest j) (λ so. goes_end_order line c t j) (λ so. goes_rest j))
     where
       j : Centre
-      j = (freed line c (is_out_for t d) r k).state
+      j = (freed line c (is_out_for t) r k).state
 
   -- ## A frame that is taken
 
   abbrev pub Comes : ℕ → Body → Centre → Reply → Type 0
   Comes a f k q = IsTakenWith a f k q.state q.frames
 
-  -- a frame that says nothing of what is expected here is taken, whatever it comes to
-  pub passes : {new : Centre} {frames : ℕ → List Body} (a : ℕ) (f : Body) (k : Centre) → ((t : ℕ) (n : Option ℕ) → follows t f n ≡ Some n) → IsOrderly k new frames → IsTakenWith a f k new frames
-  passes a f k none goes = record {
-    y = k;
-    taking = record {
-      leads = λ t. none t (number_expected (k.expects a t));
-      expected = λ i t apart. refl;
-      waits = λ t h. omega arith;
-      announced = refl;
-      number = λ t. refl;
-      claimed = λ t h. omega arith;
-      handing = λ b t apart. refl;
-    };
-    behind = goes;
+  -- a frame that says nothing of what is expected here leaves the centre as it is
+  pub passed : (a : ℕ) (f : Body) (k : Centre) → ((t : ℕ) (n : Option ℕ) → follows t f n ≡ Some n) → IsTaking a f k k
+  passed a f k none = record {
+    leads = λ t. none t (number_expected (k.expects a t));
+    expected = λ i t apart. refl;
+    waits = λ t h. omega arith;
+    announced = refl;
+    number = λ t. refl;
+    handing = λ b t apart. refl;
   }
+
+  -- whatever it comes to then
+  pub passes : {new : Centre} {frames : ℕ → List Body} (a : ℕ) (f : Body) (k : Centre) → ((t : ℕ) (n : Option ℕ) → follows t f n ≡ Some n) → IsOrderly k new frames → IsTakenWith a f k new frames
+  passes {new} {frames} a f k none goes = record { y = k; taking = passed a f k none; behind = loosened (allowed_by a f) k new frames goes }
 
   of_lines_train : (t : ℕ) (act : Act) (k : Centre) → Goes k (act k) → Goes k (of_train line t act k)
   of_lines_train t act k goes = goes_if_act (is_train line t) act rest k (λ so. goes) (λ so. goes_rest k)
@@ -143,7 +144,7 @@ module _ (line : Line) (c : ℕ) where
   comes_announced : (a number t track : ℕ) (k : Centre) → Fits a (Announce number t track) k → Comes a (Announce number t track) k (received line c a (Announce number t track) k)
   comes_announced a number t track k fits = subst (Comes a (Announce number t track) k)
       (sym (done t (nat_lt track (length line.tracks)) (announced a number t) k fits.0 fits.1 ∙ ap (λ z. if z then expect a t (Some new) k else rest k) fits.2))
-      (record { y = y; taking = expect_taking a t (Announce number t track) (Some new) k y refl refl (λ b u. refl) other leads waits; behind = goes_rest y })
+      (record { y = y; taking = expect_taking a t (Announce number t track) (Some new) k y refl refl (λ b u. refl) other leads waits; behind = loosened (allowed_by a (Announce number t track)) y _ _ (goes_rest y) })
     where
       new : Expectation
       new = record { number = number; is_taking = false }
@@ -173,18 +174,15 @@ module _ (line : Line) (c : ℕ) where
         taking = expect_taking a t (Cancel number t) None k (expect a t None k).state refl refl (λ b u. refl)
             (λ u n apart. ap (λ b. if b then (if is_number number n then Some None else None) else Some n) (ne_eqb t u (λ same. apart (sym same))))
             (ends number t (k.expects a t) fits.1) (λ h. omega arith);
-        behind = goes_rest (expect a t None k).state;
+        behind = loosened (allowed_by a (Cancel number t)) _ _ _ (goes_rest (expect a t None k).state);
       })
 
   comes_taking_over : (a number t : ℕ) (k : Centre) → Comes a (TakingOver number t) k (received line c a (TakingOver number t) k)
   unfolding ◌>>◌
   comes_taking_over a number t k = by_train (is_train line t)
     where
-      y : Centre
-      y = (change_mission t (claimed a number) k).state
-
       by_train : (b : Bool) → Comes a (TakingOver number t) k ((if b then taking_over line c a number t else rest) k)
-      by_train true = record { y = y; taking = claim_taking a number t k; behind = goes_yield_if_due line c t y }
+      by_train true = record { y = k; taking = passed a (TakingOver number t) k (λ u n. refl); behind = goes_taking_over line c a number t k }
       by_train false = passes a (TakingOver number t) k (λ u n. refl) (goes_rest k)
 
   comes_yielded : (a number t heard : ℕ) (has_data is_ended : Bool) (carried : YieldedPlace) (hand : SectionRun) (k : Centre) → Fits a (Yield number t heard has_data is_ended carried hand) k
@@ -199,7 +197,8 @@ module _ (line : Line) (c : ℕ) where
         taking = expect_taking a t f None k y refl refl same_handing
             (λ u n apart. ap (λ b. if b then (if is_number number n then Some None else None) else Some n) (ne_eqb t u (λ same. apart (sym same))))
             (ends number t (k.expects a t) (under (k.expects a t) here.0)) (λ h. omega arith);
-        behind = goes_or (find (λ s. is_home line c s && y.wish s) (range_with_len m.hand.first m.hand.count)) (λ s. propose_if_so line t s y) y (rest y) (λ s found. goes_propose_if line t s y) (λ nothing. goes_rest y);
+        behind = loosened (allowed_by a f) y _ _
+            (goes_or (find (λ s. is_home line c s && y.wish s) (range_with_len m.hand.first m.hand.count)) (λ s. propose_if_so line t s y) y (rest y) (λ s found. goes_propose_if line t s y) (λ nothing. goes_rest y));
       })
     where
       f : Body
@@ -212,7 +211,7 @@ module _ (line : Line) (c : ℕ) where
       m = record { place = place; hand = hand; pool = no_run; has_data = has_data; is_ended = is_ended; proposal = None; handing = None }
 
       takes : Act
-      takes = (booked (is_out_for t a) (Taken t) m.hand >> set_mission t (Some m)) >> (become (λ j. record j { heard = put j.heard t (Some (option_map_or (max heard) (j.heard t) heard)) }) >> expect a t None)
+      takes = (booked (is_out_for t) (Taken t) m.hand >> set_mission t (Some m)) >> (become (λ j. record j { heard = put j.heard t (Some (option_map_or (max heard) (j.heard t) heard)) }) >> expect a t None)
 
       y : Centre
       y = (takes k).state
@@ -220,7 +219,7 @@ module _ (line : Line) (c : ℕ) where
       here : (has (λ e. (e.number == number) && e.is_taking) (k.expects a t) ≡ true) × ((is_none (k.mission t) && not (k.has_right t)) ≡ true)
       here = and_parts (has (λ e. (e.number == number) && e.is_taking) (k.expects a t)) (is_none (k.mission t) && not (k.has_right t))
           (and_parts (has (λ e. (e.number == number) && e.is_taking) (k.expects a t) && (is_none (k.mission t) && not (k.has_right t)))
-          ((is_on_track line place.track hand && has (is_on line place.track) (section_of_group line place.group)) && (nat_le (10 * group_start line place) place.front && all_of (may_arrive line c k a t place.track) hand)) fits.1.2).0
+          ((is_on_track line place.track hand && has (is_on line place.track) (section_of_group line place.group)) && (nat_le (10 * group_start line place) place.front && all_of (may_arrive line c k t place.track) hand)) fits.1.2).0
 
       under : (e : Option Expectation) → has (λ x. (x.number == number) && x.is_taking) e ≡ true → is_under number e ≡ true
       under None is = cc
@@ -242,8 +241,8 @@ module _ (line : Line) (c : ℕ) where
   goes_received a (RouteInfo t r) k fits = passes a (RouteInfo t r) k (λ u n. refl) (of_lines_train t (route_told line c a t r) k (goes_told a t r k))
   goes_received a (RouteWithdraw t s) k fits = passes a (RouteWithdraw t s) k (λ u n. refl) (of_lines_train t (if is_some (section line s) then route_withdrawn line c t s else rest) k
       (goes_if_act (is_some (section line s)) (route_withdrawn line c t s) rest k (λ so. goes_withdrawn t s k) (λ so. goes_rest k)))
-  goes_received a (RouteReturn t r) k fits = passes a (RouteReturn t r) k (λ u n. refl) (of_lines_train t (if all_of (λ s. is_some (section line s)) r then route_returned line c a t r else rest) k
-      (goes_if_act (all_of (λ s. is_some (section line s)) r) (route_returned line c a t r) rest k (λ so. goes_home a t r k) (λ so. goes_rest k)))
+  goes_received a (RouteReturn t r) k fits = passes a (RouteReturn t r) k (λ u n. refl) (of_lines_train t (if all_of (λ s. is_some (section line s)) r then route_returned line c t r else rest) k
+      (goes_if_act (all_of (λ s. is_some (section line s)) r) (route_returned line c t r) rest k (λ so. goes_home a t r k) (λ so. goes_rest k)))
   goes_received a (Announce number t track) k fits = comes_announced a number t track k fits
   goes_received a (Cancel number t) k fits = comes_cancelled a number t k fits
   goes_received a (TakingOver number t) k fits = comes_taking_over a number t k
@@ -251,11 +250,15 @@ module _ (line : Line) (c : ℕ) where
 
   -- ## The interlocking
 
-  goes_wished : (s : ℕ) (e : Entry) (k : Centre) → Goes k (wished line s e k)
+  goes_wished : (s : ℕ) (e : Entry) (k : Centre) → Goes k (wished line c s e k)
   goes_wished s Shut k = goes_rest k
   goes_wished s Open k = goes_rest k
   goes_wished s (Taken t) k = goes_propose_if line t s k
-  goes_wished s (Out t d) k = goes_send d _ k (record { follows = λ u n. refl; announces = λ u h. refl; takes_over = λ u h. refl; yields = λ u h. refl })
+  goes_wished s (Out t) k = apart k k (withdraw line c t s k).frames (record { expects = λ a u. refl; announced = refl; handing = λ b u. refl }) (λ d. by_link (is_linked line c d))
+    where
+      by_link : (b : Bool) → All IsNeutral (if b then RouteWithdraw t s ∷ [] else [])
+      by_link true = All-cons IsNeutral (RouteWithdraw t s) [] (record { follows = λ u n. refl; announces = λ u h. refl; takes_over = λ u h. refl; yields = λ u h. refl }) (All-nil IsNeutral)
+      by_link false = All-nil IsNeutral
 
   pub goes_section_set : (s : ℕ) (k : Centre) → Goes k (set line c s k)
   goes_section_set s k = goes_if (not (is_home line c s)) k (tell (NotHome s) k) _ (λ so. still k _ refl refl refl)
@@ -265,7 +268,7 @@ module _ (line : Line) (c : ℕ) where
 
   pub goes_section_unset : (s : ℕ) (k : Centre) → Goes k (unset line c s k)
   goes_section_unset s k = goes_if (not (is_home line c s)) k (tell (NotHome s) k) _ (λ so. still k _ refl refl refl)
-      (λ so. goes_if_act (is_unused (k.book s)) (make s Shut false >> tell (Done s)) ((become (λ j. record j { wish = put j.wish s true }) >> tell (Asked s)) >> wished line s (k.book s)) k
+      (λ so. goes_if_act (is_unused (k.book s)) (make s Shut false >> tell (Done s)) ((become (λ j. record j { wish = put j.wish s true }) >> tell (Asked s)) >> wished line c s (k.book s)) k
       (λ unused. goes_then (make s Shut false) (tell (Done s)) k (still k _ refl refl refl) (still _ _ refl refl refl))
-      (λ used. goes_then (become (λ j. record j { wish = put j.wish s true }) >> tell (Asked s)) (wished line s (k.book s)) k
+      (λ used. goes_then (become (λ j. record j { wish = put j.wish s true }) >> tell (Asked s)) (wished line c s (k.book s)) k
       (goes_then (become (λ j. record j { wish = put j.wish s true })) (tell (Asked s)) k (still k _ refl refl refl) (still _ _ refl refl refl)) (goes_wished s (k.book s) _)))

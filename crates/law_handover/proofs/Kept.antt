@@ -1,6 +1,6 @@
 -- An orderly act keeps what pairs of centres know of handovers, and so does a frame that is taken as it says.
-use Rattle.std.proofs.Common.{◌≡◌, ◌≢◌, ◌⊎◌, ℕ, zero, suc, ◌+◌, ◌<◌, ◌≤◌, Bool, List, [], Option, Some, refl, sym, ap, ◌∙◌, subst, subst₂, inl, inr, arith, ⊎_elim}
-use Rattle.std.proofs.lemmas.Bool.{cases_eq}
+use Rattle.std.proofs.Common.{◌≡◌, ◌≢◌, ◌⊎◌, ℕ, zero, suc, ◌+◌, ◌<◌, ◌≤◌, Bool, List, [], Option, Some, refl, sym, ap, ◌∙◌, subst, subst₂, inl, inr, arith, ⊎_elim, true}
+use Rattle.std.proofs.lemmas.Bool.{cases_eq, cases_lt}
 use Rattle.law_counting.specs.Sums.{one_if}
 use Rattle.law_counting.specs.Network.{way, took, acted, TakesHead, IsCounted}
 use Rattle.law_counting.specs.Chain.{Chain}
@@ -12,11 +12,13 @@ use Rattle.rbc_spec.specs.Centre.{Centre}
 use Rattle.law_network.specs.Flow.{Flow}
 use Rattle.law_network.proofs.Kept.{count_append}
 use Rattle.law_network.specs.Pairs.{IsPaired, follows, handing_to, count_if, announces, takes_over, yields, before, after}
-use Rattle.law_handover.specs.Orderly.{number_expected, number_announced, waiting, claimed_as, IsOrderly, IsTaking}
+use Rattle.law_handover.specs.Orderly.{number_expected, number_announced, waiting, Allowance, IsOrderlyWith, IsTaking}
 
 -- ## An act
 
-module _ (u : Flow) (counted : IsCounted u) (c : ℕ) (y : Centre) (frames : ℕ → List Body) (is : IsOrderly (u.at c) y frames) where
+module _ (u : Flow) (counted : IsCounted u) (c : ℕ) (y : Centre) (frames : ℕ → List Body) (allow : Allowance) (is : IsOrderlyWith allow (u.at c) y frames)
+    -- what may be yielded was announced, and is taken over
+    (may : (d t h : ℕ) → allow d t h ≡ true → (before u c d t h ≡ 0) × (h ≤ (u.at c).announced)) where
   abbrev new : Flow
   new = acted u c y frames
 
@@ -24,8 +26,7 @@ module _ (u : Flow) (counted : IsCounted u) (c : ℕ) (y : Centre) (frames : ℕ
   record Sends (i j t h : ℕ) : Type 0 where
     pub n : ℕ
     pub announced : count_if (announces t h) (way new i j) ≡ count_if (announces t h) (way u i j) + n
-    pub claimed : claimed_as h (handing_to j ((new.at i).mission t)) + count_if (yields t h) (way new i j)
-        ≤ claimed_as h (handing_to j ((u.at i).mission t)) + count_if (yields t h) (way u i j)
+    pub yielded : (count_if (yields t h) (way new i j) ≡ count_if (yields t h) (way u i j)) ⊎ ((before u i j t h ≡ 0) × (h ≤ (u.at i).announced))
     pub anew : (n ≡ 0) ⊎ (((u.at i).announced < h) × (h ≤ (new.at i).announced) × (n ≤ 1))
 
   sends : (i j t h : ℕ) → Sends i j t h
@@ -34,11 +35,7 @@ module _ (u : Flow) (counted : IsCounted u) (c : ℕ) (y : Centre) (frames : ℕ
       (λ (other : i ≢ c). record {
         n = 0;
         announced = omega (arith, ap (count_if (announces t h)) (way_acted_other u c y frames i j other));
-        claimed = omega (
-          arith,
-          ap (λ (z : Centre). claimed_as h (handing_to j (z.mission t))) (put_other u.at c y i other),
-          ap (count_if (yields t h)) (way_acted_other u c y frames i j other),
-        );
+        yielded = inl (ap (count_if (yields t h)) (way_acted_other u c y frames i j other));
         anew = inl refl;
       })
       (cases_eq i c)
@@ -47,13 +44,10 @@ module _ (u : Flow) (counted : IsCounted u) (c : ℕ) (y : Centre) (frames : ℕ
       at_c = record {
         n = count_if (announces t h) (frames j);
         announced = ap (count_if (announces t h)) (way_acted u c y frames counted j) ∙ count_append (announces t h) (way u c j) (frames j);
-        claimed = omega (
-          arith,
-          is.claimed j t h,
-          ap (λ (z : Centre). claimed_as h (handing_to j (z.mission t))) (put_same u.at c y),
-          ap (count_if (yields t h)) (way_acted u c y frames counted j),
-          count_append (yields t h) (way u c j) (frames j),
-        );
+        yielded = ⊎_elim
+            (λ (none : count_if (yields t h) (frames j) ≡ 0). inl (omega (arith, none, ap (count_if (yields t h)) (way_acted u c y frames counted j), count_append (yields t h) (way u c j) (frames j))))
+            (λ (so : allow j t h ≡ true). inr (may j t h so))
+            (is.yielded j t h);
         anew = ⊎_elim
             (λ (none : count_if (announces t h) (frames j) ≡ 0). inl none)
             (λ (some : ((u.at c).announced < h) × (h ≤ y.announced) × (count_if (announces t h) (frames j) ≤ 1)).
@@ -108,12 +102,16 @@ module _ (u : Flow) (counted : IsCounted u) (c : ℕ) (y : Centre) (frames : ℕ
       (chain_acted_other (follows t) u c y frames i j start _ other chain))
       (cases_eq i c)
 
-  -- what a centre waits for goes over to what is claimed, and both go
+  -- what a centre waits for goes over to what it takes over, and that to what is yielded
   pub orderly_pairs : (i j t : ℕ) → IsPaired u i j t → IsPaired new i j t
   orderly_pairs i j t p = record {
     chain = subst (λ s. Chain (follows t) (way new i j) s (number_announced (handing_to j ((new.at i).mission t)))) (sym (expected_same i j t)) (chain_goes i j t _ p.chain);
     fresh = λ h above. ⊎_elim
-        (λ (none : (sends i j t h).n ≡ 0). omega (arith, none, (sends i j t h).announced, (sends i j t h).claimed, (takes i j t h).waits, (takes i j t h).takes, p.fresh h (omega (arith, above, more_announced i))))
+        (λ (none : (sends i j t h).n ≡ 0). ⊎_elim
+        (λ (same : count_if (yields t h) (way new i j) ≡ count_if (yields t h) (way u i j)).
+        omega (arith, none, (sends i j t h).announced, same, (takes i j t h).waits, (takes i j t h).takes, p.fresh h (omega (arith, above, more_announced i))))
+        (λ (was : (before u i j t h ≡ 0) × (h ≤ (u.at i).announced)). absurd (let no : ⊥ = omega (arith, above, was.1, more_announced i) in no))
+        (sends i j t h).yielded)
         (λ (some : ((u.at i).announced < h) × (h ≤ (new.at i).announced) × ((sends i j t h).n ≤ 1)). absurd (let no : ⊥ = omega (arith, above, some.1) in no))
         (sends i j t h).anew;
     once = λ h. ⊎_elim
@@ -126,12 +124,18 @@ module _ (u : Flow) (counted : IsCounted u) (c : ℕ) (y : Centre) (frames : ℕ
         (λ (not_after : after u i j t h ≡ 0). by_taking h none not_after (takes i j t h).n refl)
         (p.apart h))
         (λ (some : ((u.at i).announced < h) × (h ≤ (new.at i).announced) × ((sends i j t h).n ≤ 1)).
-        inr (omega (arith, (sends i j t h).claimed, (takes i j t h).waits, (takes i j t h).takes, p.fresh h some.0)))
+        ⊎_elim
+        (λ (same : count_if (yields t h) (way new i j) ≡ count_if (yields t h) (way u i j)). inr (omega (arith, same, (takes i j t h).waits, (takes i j t h).takes, p.fresh h some.0)))
+        (λ (was : (before u i j t h ≡ 0) × (h ≤ (u.at i).announced)). absurd (let no : ⊥ = omega (arith, some.0, was.1) in no))
+        (sends i j t h).yielded)
         (sends i j t h).anew;
   }
     where
       by_taking : (h : ℕ) → (sends i j t h).n ≡ 0 → after u i j t h ≡ 0 → (x : ℕ) → (takes i j t h).n ≡ x → (before new i j t h ≡ 0) ⊎ (after new i j t h ≡ 0)
-      by_taking h none not_after zero still = inr (omega (arith, still, not_after, (sends i j t h).claimed, (takes i j t h).takes))
+      by_taking h none not_after zero still = ⊎_elim
+          (λ (same : count_if (yields t h) (way new i j) ≡ count_if (yields t h) (way u i j)). inr (omega (arith, still, not_after, same, (takes i j t h).takes)))
+          (λ (was : (before u i j t h ≡ 0) × (h ≤ (u.at i).announced)). inl (omega (arith, none, was.0, (sends i j t h).announced, (takes i j t h).waits)))
+          (sends i j t h).yielded
       by_taking h none not_after (suc x) more = inl (omega (arith, more, none, (sends i j t h).announced, (takes i j t h).waits, p.once h))
 
 -- ## The next frame of a link
@@ -201,8 +205,8 @@ module _ (w : Flow) (a c : ℕ) (f : Body) (head : TakesHead w a c f) (y : Centr
   after_less : (i j t h : ℕ) → after now i j t h ≤ after w i j t h
   after_less i j t h = ⊎_elim
       (λ (here : (j ≡ a) × (i ≡ c)). subst₂ (λ x z. after now x z t h ≤ after w x z t h) (sym here.1) (sym here.0)
-      (omega (arith, count_here (takes_over t h), is.claimed t h, ap (λ (z : Centre). claimed_as h (handing_to a (z.mission t))) (put_same w.at c y), count_less (yields t h) c a)))
-      (λ (other : j ≡ a → i ≢ c). omega (arith, count_other (takes_over t h) j i other, ap (claimed_as h) (handing_other i j t other), count_less (yields t h) i j))
+      (omega (arith, count_here (takes_over t h), count_less (yields t h) c a)))
+      (λ (other : j ≡ a → i ≢ c). omega (arith, count_other (takes_over t h) j i other, count_less (yields t h) i j))
       (cases_link j i a c)
 
   announced_same : (i : ℕ) → (now.at i).announced ≡ (w.at i).announced
@@ -210,6 +214,14 @@ module _ (w : Flow) (a c : ℕ) (f : Body) (head : TakesHead w a c f) (y : Centr
       (λ (here : i ≡ c). subst (λ x. (now.at x).announced ≡ (w.at x).announced) (sym here) (ap (λ (z : Centre). z.announced) (put_same w.at c y) ∙ is.announced))
       (λ (other : i ≢ c). ap (λ (z : Centre). z.announced) (put_other w.at c y i other))
       (cases_eq i c)
+
+  -- what the frame takes over was announced, and waits no longer
+  pub taken_over : (t h : ℕ) → takes_over t h f ≡ true → IsPaired w c a t → (before now c a t h ≡ 0) × (h ≤ (now.at c).announced)
+  taken_over t h so p =
+      let some : 1 ≤ after w c a t h = omega (arith, count_here (takes_over t h), ap one_if so) in (
+        ⊎_elim (λ (none : before w c a t h ≡ 0). omega (arith, before_less c a t h, none)) (λ (none : after w c a t h ≡ 0). absurd (let no : ⊥ = omega (arith, some, none) in no)) (p.apart h),
+        ⊎_elim (λ (above : (w.at c).announced < h). absurd (let no : ⊥ = omega (arith, some, p.fresh h above) in no)) (λ (low : h ≤ (w.at c).announced). omega (arith, low, announced_same c)) (cases_lt (w.at c).announced h),
+      )
 
   pub taking_pairs : (i j t : ℕ) → IsPaired w i j t → IsPaired now i j t
   taking_pairs i j t p = record {

@@ -3,6 +3,7 @@ use Rattle.std.proofs.Common.{◌≡◌, ℕ, ◌+◌, ◌-◌, ◌*◌, ◌==�
 use Rattle.std.specs.Option.{option_map_or}
 use Rattle.std.proofs.lemmas.Bool.{and_parts}
 use Rattle.law_counting.proofs.Sums.{put_same}
+use Rattle.law_base.proofs.Standstill.{rests_or_cuts}
 use Rattle.rbc_spec.specs.Maps.{put}
 use Rattle.rbc_spec.specs.SectionRuns.{SectionRun, no_run, most_in_hand, within, behind, is_empty, part_before, part_from, joined, all_of}
 use Rattle.rbc_spec.specs.Line.{Line, is_home, start, end, next_centre, registrar}
@@ -11,12 +12,12 @@ use Rattle.rbc_spec.specs.Place.{Place, Position, covered, group_start, place_on
 use Rattle.rbc_spec.specs.Message.{TrainMessage, TrainBody, TrainData, Request, Report, ShorteningGranted, ShorteningRejected, EndOfMission, InitiationOfSession, TerminationOfSession, StartOfMission, SessionEstablished, Authority, ShorteningRequest, DataAcknowledged, SystemVersion, TerminationAcknowledged, TrainAccepted, TrainRejected, unknown_group}
 use Rattle.rbc_spec.specs.Frame.{AskRight, RouteAsk}
 use Rattle.rbc_spec.specs.Centre.{Centre, Taken, Opened, Closed, Mission, Proposal, is_open, is_taken_for, is_free, is_registrar_of}
-use Rattle.rbc_spec.specs.Acts.{Act, rest, become, ◌>>◌, where_so, with_mission, send, say, booked, freed, returned, leave, set_mission, change_mission, return_pool, cancel, close, begun, part_at, announce, ask_route, yield_if_due, may_propose, propose, propose_if_so}
-use Rattle.rbc_spec.specs.Rules.{drop_wait, set_phase, close_session, accept, reject, restart, begin, start_here, start_waiting, start_new, start_mission, authority, extension, extended_by, announce_if_due, ask_route_if_due, at_border, grant, request, cleared, clear, report_here, report, end_mission, cut, granted, answered}
+use Rattle.rbc_spec.specs.Acts.{Act, rest, become, ◌>>◌, where_so, with_mission, send, say, booked, freed, returned, leave, set_mission, change_mission, return_pool, cancel, close, begun, part_at, announce, ask_route, may_propose, propose, propose_if_so}
+use Rattle.rbc_spec.specs.Rules.{drop_wait, set_phase, close_session, accept, reject, restart, begin, start_here, start_waiting, start_new, start_mission, authority, extension, extended_by, announce_if_due, ask_route_if_due, at_border, grant, request, cleared, clear, report_here, report, end_mission, cut, granted, answered, stand_still}
 use Rattle.law_base.proofs.Lists.{none_is}
 use Rattle.law_network.specs.Pairs.{handing_to}
 use Rattle.law_handover.proofs.Orderly.{Goes, still, goes_rest, goes_say, goes_send, goes_returned, goes_set, goes_set_some, goes_change, goes_then, goes_if, goes_or, goes_if_act, goes_or_act}
-use Rattle.law_handover.proofs.Handing.{goes_announce, goes_cancel, goes_close, goes_leave, goes_yield_if_due}
+use Rattle.law_handover.proofs.Handing.{goes_announce, goes_cancel, goes_close, goes_leave}
 use Rattle.law_handover.proofs.Taking.{goes_take_over}
 
 module _ (line : Line) where
@@ -155,26 +156,8 @@ module _ (line : Line) where
 
   goes_report : (c t : ℕ) (position : Position) (k : Centre) → Goes k (report line c t position k)
   goes_report c t position k = goes_or (k.mission t) _ k _
-      (λ m at. goes_then (report_here line c t position m) (yield_if_due line c t) k (goes_report_here c t position m k at) (goes_yield_if_due line c t _))
+      (λ m at. goes_report_here c t position m k at)
       (λ none. goes_take_over line t k)
-
-  goes_end : (c t : ℕ) (position : Position) (k : Centre) → Goes k (end_mission line c t position k)
-  goes_end c t position k = goes_then (with_mission t (report_here line c t position) >> with_mission t ends) (yield_if_due line c t) k
-      (goes_then (with_mission t (report_here line c t position)) (with_mission t ends) k
-      (goes_or (k.mission t) _ k (rest k) (λ m at. goes_report_here c t position m k at) (λ none. goes_rest k))
-      (goes_or (j.mission t) _ j (rest j) (λ m at. ending m) (λ none. goes_rest j)))
-      (goes_yield_if_due line c t _)
-    where
-      ends : Mission → Act
-      ends m = return_pool line c t m >> change_mission t (λ n. record n { is_ended = true; proposal = None })
-
-      j : Centre
-      j = (with_mission t (report_here line c t position) k).state
-
-      ending : (m : Mission) → Goes j (ends m j)
-      ending m = goes_then (return_pool line c t m) (change_mission t (λ n. record n { is_ended = true; proposal = None })) j
-          (goes_then (returned line c t m.place.track m.pool) (change_mission t (λ n. record n { pool = no_run })) j (goes_returned line c t m.place.track m.pool j) (goes_change t (λ n. record n { pool = no_run }) _ (λ n. refl)))
-          (goes_change t (λ n. record n { is_ended = true; proposal = None }) _ (λ n. refl))
 
   -- ## Shortening
 
@@ -205,13 +188,11 @@ module _ (line : Line) where
       cut_to = (set_mission t (Some kept) left).state
 
   goes_granted : (c t : ℕ) (position : Position) (m : Mission) (p : Proposal) (k : Centre) → k.mission t ≡ Some m → Goes k (granted line c t position m p k)
-  goes_granted c t position m p k at = goes_then (change_mission t dropped >> cuts) (yield_if_due line c t) k
-      (goes_then (change_mission t dropped) cuts k (goes_change t dropped k (λ n. refl))
+  goes_granted c t position m p k at = goes_then (change_mission t dropped) cuts k (goes_change t dropped k (λ n. refl))
       (goes_or_act (place_on line m.place.track position) (λ place. if nat_le place.front (10 * end line p.last_kept) then cut line c t p.last_kept m else rest) rest middle
       (λ place is. goes_if_act (nat_le place.front (10 * end line p.last_kept)) (cut line c t p.last_kept m) rest middle
       (λ before. goes_cut c t p.last_kept m (dropped m) middle (put_same k.mission t (option_map dropped (k.mission t)) ∙ ap (option_map dropped) at) refl) (λ past. goes_rest middle))
-      (λ none. goes_rest middle)))
-      (goes_yield_if_due line c t _)
+      (λ none. goes_rest middle))
     where
       dropped : Mission → Mission
       dropped n = record n { proposal = None }
@@ -221,6 +202,32 @@ module _ (line : Line) where
 
       middle : Centre
       middle = (change_mission t dropped k).state
+
+  -- ## End of mission
+
+  pub goes_stand : (c t : ℕ) (position : Position) (m : Mission) (k : Centre) → k.mission t ≡ Some m → Goes k (stand_still line c t position m k)
+  goes_stand c t position m k at = rests_or_cuts (λ act. Goes k (act k)) line c t position m (goes_rest k) (λ n some fits. goes_cut c t (m.hand.first + n - 1) m m k at refl)
+
+  goes_end : (c t : ℕ) (position : Position) (k : Centre) → Goes k (end_mission line c t position k)
+  goes_end c t position k = goes_then (with_mission t (report_here line c t position) >> with_mission t (stand_still line c t position)) (with_mission t ends) k
+      (goes_then (with_mission t (report_here line c t position)) (with_mission t (stand_still line c t position)) k
+      (goes_or (k.mission t) _ k (rest k) (λ m at. goes_report_here c t position m k at) (λ none. goes_rest k))
+      (goes_or (i.mission t) _ i (rest i) (λ m at. goes_stand c t position m i at) (λ none. goes_rest i)))
+      (goes_or (j.mission t) _ j (rest j) (λ m at. ending m) (λ none. goes_rest j))
+    where
+      ends : Mission → Act
+      ends m = return_pool line c t m >> change_mission t (λ n. record n { is_ended = true; proposal = None })
+
+      i : Centre
+      i = (with_mission t (report_here line c t position) k).state
+
+      j : Centre
+      j = ((with_mission t (report_here line c t position) >> with_mission t (stand_still line c t position)) k).state
+
+      ending : (m : Mission) → Goes j (ends m j)
+      ending m = goes_then (return_pool line c t m) (change_mission t (λ n. record n { is_ended = true; proposal = None })) j
+          (goes_then (returned line c t m.place.track m.pool) (change_mission t (λ n. record n { pool = no_run })) j (goes_returned line c t m.place.track m.pool j) (goes_change t (λ n. record n { pool = no_run }) _ (λ n. refl)))
+          (goes_change t (λ n. record n { is_ended = true; proposal = None }) _ (λ n. refl))
 
   -- ## A message
 

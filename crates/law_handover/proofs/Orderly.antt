@@ -1,5 +1,5 @@
 -- Orderly acts one after another, and the smallest of them.
-use Rattle.std.proofs.Common.{◌≡◌, ◌≢◌, ◌⊎◌, ℕ, ◌+◌, ◌<◌, ◌≤◌, ◌==◌, ◌||◌, Bool, true, false, if◌then◌else◌, List, [], ◌∷◌, Option, Some, None, option_map, refl, sym, ap, ◌∙◌, subst, inl, inr, arith, ⊎_elim, All}
+use Rattle.std.proofs.Common.{◌≡◌, ◌≢◌, ◌⊎◌, ℕ, ◌+◌, ◌<◌, ◌≤◌, ◌==◌, ◌||◌, Bool, true, false, if◌then◌else◌, List, [], ◌∷◌, Option, Some, None, option_map, refl, sym, ap, ◌∙◌, subst, inl, inr, arith, ⊎_elim, All, subst₂}
 use Rattle.std.specs.Option.{option_map_or}
 use Rattle.std.proofs.lemmas.Bool.{cases_eq}
 use Rattle.std.proofs.lemmas.List.Elements.{All-nil, All-cons, All-weaker}
@@ -20,7 +20,7 @@ use Rattle.rbc_spec.specs.Acts.{Act, Reply, rest, ◌>>◌, send, say, returned,
 use Rattle.law_network.specs.Pairs.{follows, handing_to, count_if, announces, takes_over, yields}
 use Rattle.law_network.specs.Keeping.{IsNeutral, IsApart}
 use Rattle.law_network.proofs.Kept.{count_append, count_none}
-use Rattle.law_handover.specs.Orderly.{number_expected, number_announced, waiting, claimed_as, IsOrderly}
+use Rattle.law_handover.specs.Orderly.{number_expected, number_announced, waiting, Allowance, none_allowed, IsOrderlyWith, IsOrderly}
 
 module _ where
   abbrev pub Goes : Centre → Reply → Type 0
@@ -35,7 +35,7 @@ module _ where
         (All-weaker IsNeutral (λ f. follows t f (number_announced (handing_to d (k.mission t))) ≡ Some (number_announced (handing_to d (k.mission t)))) (λ f none. none.follows t (number_announced (handing_to d (k.mission t)))) (frames d) (sends d)));
     expected = λ a t. ap number_expected (is.expects a t);
     announced = omega (arith, is.announced);
-    claimed = λ d t h. omega (arith, ap (claimed_as h) (is.handing d t), count_none (yields t h) (frames d) (All-weaker IsNeutral (λ f. yields t h f ≡ false) (λ f none. none.yields t h) (frames d) (sends d)));
+    yielded = λ d t h. inl (count_none (yields t h) (frames d) (All-weaker IsNeutral (λ f. yields t h f ≡ false) (λ f none. none.yields t h) (frames d) (sends d)));
     anew = λ d t h. inl (count_none (announces t h) (frames d) (All-weaker IsNeutral (λ f. announces t h f ≡ false) (λ f none. none.announces t h) (frames d) (sends d)));
     takes = λ a t h. omega (arith, ap (waiting h) (is.expects a t), count_none (takes_over t h) (frames a) (All-weaker IsNeutral (λ f. takes_over t h f ≡ false) (λ f none. none.takes_over t h) (frames a) (sends a)));
   }
@@ -92,13 +92,33 @@ module _ where
 
   -- ## One after another
 
-  pub goes_then : (a b : Act) (k : Centre) → Goes k (a k) → Goes (a k).state (b (a k).state) → Goes k ((a >> b) k)
+  -- where more may be yielded
+  abbrev pub GoesWith : Allowance → Centre → Reply → Type 0
+  GoesWith allow k q = IsOrderlyWith allow k q.state q.frames
+
+  pub loosened : (allow : Allowance) (k y : Centre) (frames : ℕ → List Body) → IsOrderly k y frames → IsOrderlyWith allow k y frames
+  loosened allow k y frames is = record {
+    leads = is.leads;
+    expected = is.expected;
+    announced = is.announced;
+    yielded = λ d t h. ⊎_elim (λ (none : count_if (yields t h) (frames d) ≡ 0). inl none) (λ (so : false ≡ true). cc) (is.yielded d t h);
+    anew = is.anew;
+    takes = is.takes;
+  }
+
+  pub goes_then_with : (allow : Allowance) (a b : Act) (k : Centre) → GoesWith allow k (a k) → GoesWith allow (a k).state (b (a k).state) → GoesWith allow k ((a >> b) k)
   unfolding ◌>>◌
-  goes_then a b k one two = record {
+  goes_then_with allow a b k one two = record {
     leads = λ d t. chain_sent (follows t) (fs d) (gs d) _ _ _ (one.leads d t) (two.leads d t);
     expected = λ i t. two.expected i t ∙ one.expected i t;
     announced = omega (arith, one.announced, two.announced);
-    claimed = λ d t h. omega (arith, one.claimed d t h, two.claimed d t h, count_append (yields t h) (fs d) (gs d));
+    yielded = λ d t h. ⊎_elim
+        (λ (none : count_if (yields t h) (fs d) ≡ 0). ⊎_elim
+        (λ (no_more : count_if (yields t h) (gs d) ≡ 0). inl (omega (arith, none, no_more, count_append (yields t h) (fs d) (gs d))))
+        (λ (so : allow d t h ≡ true). inr so)
+        (two.yielded d t h))
+        (λ (so : allow d t h ≡ true). inr so)
+        (one.yielded d t h);
     anew = λ d t h. ⊎_elim
         (λ (none : count_if (announces t h) (fs d) ≡ 0). ⊎_elim
         (λ (no_more : count_if (announces t h) (gs d) ≡ 0). inl (omega (arith, none, no_more, count_append (announces t h) (fs d) (gs d))))
@@ -120,6 +140,9 @@ module _ where
       gs : ℕ → List Body
       gs = (b (a k).state).frames
 
+  pub goes_then : (a b : Act) (k : Centre) → Goes k (a k) → Goes (a k).state (b (a k).state) → Goes k ((a >> b) k)
+  goes_then a b k one two = goes_then_with none_allowed a b k one two
+
   pub goes_if : (b : Bool) (k : Centre) (p q : Reply) → (b ≡ true → Goes k p) → (b ≡ false → Goes k q) → Goes k (if b then p else q)
   goes_if true k p q one two = one refl
   goes_if false k p q one two = two refl
@@ -139,7 +162,7 @@ module _ where
   -- ## A frame about one handover
 
   -- the act sends body to centre d alone, about the handover of train t to d
-  pub record IsSent (d t : ℕ) (body : Body) (k y : Centre) : Type 0 where
+  pub record IsSent (allow : Allowance) (d t : ℕ) (body : Body) (k y : Centre) : Type 0 where
     pub follows_other : (u : ℕ) (n : Option ℕ) → u ≢ t → follows u body n ≡ Some n
     pub announces_other : (u h : ℕ) → u ≢ t → announces u h body ≡ false
     pub yields_other : (u h : ℕ) → u ≢ t → yields u h body ≡ false
@@ -147,22 +170,29 @@ module _ where
     pub other_train : (u : ℕ) → u ≢ t → y.mission u ≡ k.mission u
     pub other_centre : (e : ℕ) → e ≢ d → handing_to e (y.mission t) ≡ handing_to e (k.mission t)
     pub leads : follows t body (number_announced (handing_to d (k.mission t))) ≡ Some (number_announced (handing_to d (y.mission t)))
-    pub claimed : (h : ℕ) → claimed_as h (handing_to d (y.mission t)) + one_if (yields t h body) ≤ claimed_as h (handing_to d (k.mission t))
+    pub yielded : (h : ℕ) → (yields t h body ≡ false) ⊎ (allow d t h ≡ true)
     pub announced : k.announced ≤ y.announced
     pub anew : (h : ℕ) → (announces t h body ≡ false) ⊎ ((k.announced < h) × (h ≤ y.announced))
     pub expects : y.expects ≡ k.expects
 
-  pub goes_sent : (d t : ℕ) (body : Body) (k y : Centre) (frames : ℕ → List Body) → IsSent d t body k y → ((e : ℕ) → frames e ≡ to_one d (body ∷ []) e) → IsOrderly k y frames
-  goes_sent d t body k y frames is same = record {
+  pub goes_sent : (allow : Allowance) (d t : ℕ) (body : Body) (k y : Centre) (frames : ℕ → List Body) → IsSent allow d t body k y → ((e : ℕ) → frames e ≡ to_one d (body ∷ []) e) → IsOrderlyWith allow k y frames
+  goes_sent allow d t body k y frames is same = record {
     leads = λ e u. by_link e u (λ v f x z. Chain (follows v) f (number_announced x) (number_announced z)) (chain_one (follows t) body _ _ is.leads)
         (λ other. subst (λ (o : Option Mission). Chain (follows u) (body ∷ []) (number_announced (handing_to d (k.mission u))) (number_announced (handing_to d o))) (sym (is.other_train u other))
         (chain_one (follows u) body _ _ (is.follows_other u _ other)))
         (λ away. subst (λ o. Chain (follows u) [] (number_announced (handing_to e (k.mission u))) (number_announced o)) (sym (elsewhere e u away)) (chain_none (follows u) _));
     expected = λ a u. ap (λ (f : ℕ → ℕ → Option Expectation). number_expected (f a u)) is.expects;
     announced = is.announced;
-    claimed = λ e u h. by_link e u (λ v f x z. claimed_as h z + count_if (yields v h) f ≤ claimed_as h x) (omega (arith, is.claimed h))
-        (λ other. omega (arith, ap (λ (o : Option Mission). claimed_as h (handing_to d o)) (is.other_train u other), ap one_if (is.yields_other u h other)))
-        (λ away. omega (arith, ap (claimed_as h) (elsewhere e u away)));
+    yielded = λ e u h. ⊎_elim
+        (λ (here : e ≡ d). ⊎_elim
+        (λ (train : u ≡ t). ⊎_elim
+        (λ (none : yields t h body ≡ false). inl (ap (count_if (yields u h)) (same e ∙ ap (λ x. to_one d (body ∷ []) x) here ∙ to_one_same d (body ∷ [])) ∙ ap (λ v. one_if (yields v h body) + 0) train ∙ ap (λ b. one_if b + 0) none))
+        (λ (so : allow d t h ≡ true). inr (subst₂ (λ x v. allow x v h ≡ true) (sym here) (sym train) so))
+        (is.yielded h))
+        (λ (other : u ≢ t). inl (ap (count_if (yields u h)) (same e ∙ ap (λ x. to_one d (body ∷ []) x) here ∙ to_one_same d (body ∷ [])) ∙ ap (λ b. one_if b + 0) (is.yields_other u h other)))
+        (cases_eq u t))
+        (λ (away : e ≢ d). inl (ap (count_if (yields u h)) (same e ∙ to_one_other d (body ∷ []) e away)))
+        (cases_eq e d);
     anew = λ e u h. by_link e u (λ v f x z. (count_if (announces v h) f ≡ 0) ⊎ ((k.announced < h) × (h ≤ y.announced) × (count_if (announces v h) f ≤ 1)))
         (⊎_elim (λ (none : announces t h body ≡ false). inl (omega (arith, ap one_if none)))
         (λ (some : (k.announced < h) × (h ≤ y.announced)). inr (some.0, some.1, omega (arith, one_if_le_one (announces t h body)))) (is.anew h))

@@ -1,7 +1,7 @@
 -- Each step of a centre keeps what any two centres know of a handover.
-use Rattle.std.proofs.Common.{◌≡◌, ◌≢◌, ℕ, ◌==◌, Bool, true, false, if◌then◌else◌, List, [], is_none, Option, Some, None, refl, sym, ap, ◌∙◌, subst}
+use Rattle.std.proofs.Common.{◌≡◌, ◌≢◌, ℕ, ◌==◌, Bool, true, false, if◌then◌else◌, List, [], is_none, Option, Some, None, refl, sym, ap, ◌∙◌, subst, ◌≤◌, eqb-true}
 use Rattle.std.specs.Option.{option_map_or}
-use Rattle.std.proofs.lemmas.Bool.{ltb-true}
+use Rattle.std.proofs.lemmas.Bool.{ltb-true, and_parts}
 use Rattle.law_counting.specs.Network.{took, acted, TakesHead, IsCounted}
 use Rattle.law_counting.proofs.Sums.{put_same}
 use Rattle.law_counting.proofs.Network.{counted_took, counted_acted, each_head}
@@ -20,14 +20,13 @@ use Rattle.rbc_spec.specs.Step as step
 use Rattle.rbc_spec.specs.Step.{Event, Train, Set, Unset, Deliver, Effect, effect, hear_and_answer, taken_by, link_answer, stamp_of, ticked, state_after}
 use Rattle.law_base.proofs.Puts.{itself}
 use Rattle.law_network.specs.Flow.{Flow, centre_count}
-use Rattle.law_network.specs.Pairs.{IsPaired, follows, is_number}
+use Rattle.law_network.specs.Pairs.{IsPaired, follows, is_number, before, takes_over}
 use Rattle.law_network.specs.Sound.{IsFlowSound, IsBodySound, ArePaired}
 use Rattle.law_network.proofs.Compose.{acted_twice}
-use Rattle.law_network.proofs.Neighbours.{neighbours}
 use Rattle.law_network.proofs.Taken as taken
-use Rattle.law_handover.specs.Orderly.{number_expected, IsOrderly, IsTakenWith}
+use Rattle.law_handover.specs.Orderly.{number_expected, IsTakenWith, IsOrderly, IsOrderlyWith, none_allowed, allowed_by}
 use Rattle.law_handover.specs.Steps.{IsByItself, left_by, sent_by}
-use Rattle.law_handover.proofs.Kept.{orderly_pairs, taking_pairs}
+use Rattle.law_handover.proofs.Kept.{orderly_pairs, taking_pairs, taken_over}
 use Rattle.law_handover.proofs.Orderly.{Goes, still, goes_rest, goes_then}
 use Rattle.law_handover.proofs.Messages.{goes_answered}
 use Rattle.law_handover.proofs.Frames.{Fits, goes_received, goes_section_set, goes_section_unset}
@@ -60,7 +59,7 @@ module _ (line : Line) (c : ℕ) where
 
   pub step_orderly : (event : Event) (k : Centre) → IsByItself line c k event → IsOrderly k (left_by line c k event) (sent_by line c k event)
   step_orderly event k by_itself = let is = goes_event event (ticked (stamp_of k event) k) (same_itself event (stamp_of k event) k by_itself) in
-      record { leads = is.leads; expected = is.expected; announced = is.announced; claimed = is.claimed; anew = is.anew; takes = is.takes }
+      record { leads = is.leads; expected = is.expected; announced = is.announced; yielded = is.yielded; anew = is.anew; takes = is.takes }
 
   -- ## At the head of a link
 
@@ -69,7 +68,7 @@ module _ (line : Line) (c : ℕ) where
   unfolding ◌>>◌
   comes_next a f k fits = let comes = goes_received line c a f.body (become (λ i. record i { taken = put i.taken a f.number }) k).state fits in record {
     y = comes.y;
-    taking = record { leads = comes.taking.leads; expected = comes.taking.expected; waits = comes.taking.waits; announced = comes.taking.announced; number = comes.taking.number; claimed = comes.taking.claimed; handing = comes.taking.handing };
+    taking = record { leads = comes.taking.leads; expected = comes.taking.expected; waits = comes.taking.waits; announced = comes.taking.announced; number = comes.taking.number; handing = comes.taking.handing };
     behind = comes.behind;
   }
 
@@ -115,13 +114,12 @@ module _ (line : Line) (ok : IsLine line) (w : Flow) (sound : IsFlowSound line w
   fits_head (TakingOver h t) head = record {}
   fits_head (Yield h t heard has_data is_ended carried hand) head =
       let small = ltb-true a (centre_count line) from in
-      let below = ltb-true c (centre_count line) to in
-      let near = neighbours line ok in (
+      let below = ltb-true c (centre_count line) to in (
         (each_head (IsBodySound line) w a c (Yield h t heard has_data is_ended carried hand) head sound.bodies).known,
         (
-          taken.place line near w sound a c h t heard has_data is_ended carried hand from to small below head,
-          taken.is_carried line near w sound a c h t heard has_data is_ended carried hand from to small below head,
-          taken.is_taken line near w sound a c h t heard has_data is_ended carried hand from to small below head,
+          taken.place line w sound a c h t heard has_data is_ended carried hand from to small below head,
+          taken.is_carried line w sound a c h t heard has_data is_ended carried hand from to small below head,
+          taken.is_taken line w sound a c h t heard has_data is_ended carried hand from to small below head,
         ),
       )
 
@@ -150,12 +148,15 @@ module _ (line : Line) (ok : IsLine line) (w : Flow) (sound : IsFlowSound line w
           → IsTakenWith a f.body (w.at c) (state_after (stamp_of (w.at c) (Deliver a f)) (w.at c) (record { reply = taken_by line c a f answer k; link = Some answer; silence = None })) (taken_by line c a f answer k).frames
       by_answer Next is = let comes = comes_next line c a f k (as_before f.body (fits_head f.body head)) in let orderly = comes.behind in record {
         y = comes.y;
-        taking = record { leads = comes.taking.leads; expected = comes.taking.expected; waits = comes.taking.waits; announced = comes.taking.announced; number = comes.taking.number; claimed = comes.taking.claimed; handing = comes.taking.handing };
-        behind = record { leads = orderly.leads; expected = orderly.expected; announced = orderly.announced; claimed = orderly.claimed; anew = orderly.anew; takes = orderly.takes };
+        taking = record { leads = comes.taking.leads; expected = comes.taking.expected; waits = comes.taking.waits; announced = comes.taking.announced; number = comes.taking.number; handing = comes.taking.handing };
+        behind = record { leads = orderly.leads; expected = orderly.expected; announced = orderly.announced; yielded = orderly.yielded; anew = orderly.anew; takes = orderly.takes };
       }
       by_answer Old is = cc
       by_answer Early is = cc
       by_answer NoLink is = cc
+
+pub none_is_allowed : false ≡ true → ⊥
+none_is_allowed is = cc
 
 -- ## What is kept
 
@@ -166,18 +167,24 @@ module _ (w : Flow) (counted : IsCounted w) (a c : ℕ) (f : Body) (head : Takes
   counted_between : IsCounted between
   counted_between = counted_acted (took w a c) c is.y (λ d. []) (counted_took w a c f head counted)
 
-  behind : IsOrderly (between.at c) new frames
-  behind = subst (λ z. IsOrderly z new frames) (sym (put_same w.at c is.y)) is.behind
+  behind : IsOrderlyWith (allowed_by a f) (between.at c) new frames
+  behind = subst (λ z. IsOrderlyWith (allowed_by a f) z new frames) (sym (put_same w.at c is.y)) is.behind
 
-  pub taken_pairs : (i j t : ℕ) → IsPaired w i j t → IsPaired (acted (took w a c) c new frames) i j t
-  taken_pairs i j t p = subst (λ u. IsPaired u i j t) (acted_twice (took w a c) c is.y new (λ d. []) frames)
-      (orderly_pairs between counted_between c new frames behind i j t (taking_pairs w a c f head is.y is.taking i j t p))
+  -- what may be yielded is what the frame takes over
+  may_be : ((t : ℕ) → IsPaired w c a t) → (d t h : ℕ) → allowed_by a f d t h ≡ true → (before between c d t h ≡ 0) × (h ≤ (between.at c).announced)
+  may_be pairs d t h so =
+      let both = and_parts (d == a) (takes_over t h f) so in
+      subst (λ x. (before between c x t h ≡ 0) × (h ≤ (between.at c).announced)) (sym (eqb-true d a both.0)) (taken_over w a c f head is.y is.taking t h both.1 (pairs t))
+
+  pub taken_pairs : ((u : ℕ) → IsPaired w c a u) → (i j t : ℕ) → IsPaired w i j t → IsPaired (acted (took w a c) c new frames) i j t
+  taken_pairs pairs i j t p = subst (λ u. IsPaired u i j t) (acted_twice (took w a c) c is.y new (λ d. []) frames)
+      (orderly_pairs between counted_between c new frames (allowed_by a f) behind (may_be pairs) i j t (taking_pairs w a c f head is.y is.taking i j t p))
 
 -- ## Steps
 
 module _ (line : Line) (w : Flow) (c : ℕ) (event : Event) (counted : IsCounted w) (by_itself : IsByItself line c (w.at c) event) where
   pub paired_by_itself : ArePaired line w → ArePaired line (acted w c (left_by line c (w.at c) event) (sent_by line c (w.at c) event))
-  paired_by_itself pairs i j t from to = orderly_pairs w counted c (left_by line c (w.at c) event) (sent_by line c (w.at c) event) (step_orderly line c event (w.at c) by_itself) i j t (pairs i j t from to)
+  paired_by_itself pairs i j t from to = orderly_pairs w counted c (left_by line c (w.at c) event) (sent_by line c (w.at c) event) none_allowed (step_orderly line c event (w.at c) by_itself) (λ d u h is. absurd (none_is_allowed is)) i j t (pairs i j t from to)
 
 module _ (line : Line) (ok : IsLine line) (w : Flow) (sound : IsFlowSound line w) (a c : ℕ) (from : is_centre line a ≡ true) (to : is_centre line c ≡ true)
     (f : Frame) (head : TakesHead w a c f.body) (next : link_answer line c (w.at c) a f ≡ Next) where
@@ -185,4 +192,4 @@ module _ (line : Line) (ok : IsLine line) (w : Flow) (sound : IsFlowSound line w
   is_taken = step_taken line ok w sound a c from to f head next
 
   pub paired_at_head : ArePaired line (acted (took w a c) c (left_by line c (w.at c) (Deliver a f)) (sent_by line c (w.at c) (Deliver a f)))
-  paired_at_head i j t at there = taken_pairs w sound.counted a c f.body head (left_by line c (w.at c) (Deliver a f)) (sent_by line c (w.at c) (Deliver a f)) is_taken i j t (sound.pairs i j t at there)
+  paired_at_head i j t at there = taken_pairs w sound.counted a c f.body head (left_by line c (w.at c) (Deliver a f)) (sent_by line c (w.at c) (Deliver a f)) is_taken (λ u. sound.pairs c a u to from) i j t (sound.pairs i j t at there)

@@ -1,22 +1,19 @@
 -- What the centre that is handed a train does: it expects the train, takes over, and takes the mission.
 use Rattle.std.proofs.Common.{◌≡◌, ◌≢◌, ℕ, ◌+◌, ◌≤◌, ◌==◌, ◌&&◌, not, Bool, true, false, if◌then◌else◌, List, [], ◌∷◌, Option, Some, None, option_map, refl, sym, ap, ◌∙◌, subst, inl, arith, ⊎_elim, All}
 use Rattle.std.specs.Option.{option_map_or}
-use Rattle.std.proofs.lemmas.Bool.{cases_eq, ne_eqb, and_parts, eqb-true}
+use Rattle.std.proofs.lemmas.Bool.{cases_eq, ne_eqb, and_parts}
 use Rattle.std.proofs.lemmas.List.Elements.{All-nil, All-cons}
-use Rattle.std.proofs.Math.Bool.{and-true}
 use Rattle.law_counting.specs.Sums.{one_if}
 use Rattle.law_counting.proofs.Chain.{chain_still}
 use Rattle.law_counting.proofs.Sums.{put_same, put_other}
 use Rattle.rbc_spec.specs.Maps.{put, put_pair, has}
 use Rattle.rbc_spec.specs.Line.{Line, is_centre}
 use Rattle.rbc_spec.specs.Frame.{Body, TakingOver}
-use Rattle.rbc_spec.specs.Centre.{Centre, Mission, Handing, Expectation}
-use Rattle.rbc_spec.specs.Acts.{change_mission}
+use Rattle.rbc_spec.specs.Centre.{Centre, Expectation}
 use Rattle.rbc_spec.specs.Rules.{taking, take_over}
-use Rattle.rbc_spec.specs.Links.{claimed}
 use Rattle.law_base.proofs.Puts.{itself, put_pair_there}
 use Rattle.law_network.specs.Pairs.{follows, handing_to, count_if, announces, takes_over, yields}
-use Rattle.law_handover.specs.Orderly.{number_expected, number_announced, waiting, claimed_as, IsTaking}
+use Rattle.law_handover.specs.Orderly.{number_expected, number_announced, waiting, IsTaking}
 use Rattle.law_handover.proofs.Orderly.{Goes}
 
 -- ## It takes over
@@ -88,7 +85,7 @@ module _ (line : Line) (t : ℕ) (k : Centre) where
         (sent_all (λ f. follows u f (number_announced (handing_to d (k.mission u))) ≡ Some (number_announced (handing_to d (k.mission u)))) (λ n. refl) (is_new d) (k.expects d t));
     expected = λ a u. number_same (is_new a) (k.expects a) u;
     announced = omega arith;
-    claimed = λ d u h. omega (arith, sent_none (yields u h) (λ n. refl) (is_new d) (k.expects d t));
+    yielded = λ d u h. inl (sent_none (yields u h) (λ n. refl) (is_new d) (k.expects d t));
     anew = λ d u h. inl (sent_none (announces u h) (λ n. refl) (is_new d) (k.expects d t));
     takes = λ a u h. waits_less (is_new a) (k.expects a) u h (λ new. (and_parts (is_centre line a) (has (λ e. not e.is_taking) (k.expects a t)) new).1);
   }
@@ -117,79 +114,5 @@ module _ (a t : ℕ) (f : Body) (e : Option Expectation) (k y : Centre) (expects
         (cases_eq u t);
     announced = announced;
     number = λ u. ap number_announced (handing a u);
-    claimed = λ u h. omega (arith, ap (claimed_as h) (handing a u));
     handing = λ b u apart. handing b u;
-  }
-
--- ## A handover is claimed
-
-module _ (a number t : ℕ) (k : Centre) where
-  abbrev claim : Handing → Handing
-  claim h = if (h.number == number) && (h.to == a) then record h { is_claimed = true } else h
-
-  -- the mission of t, with its handover claimed
-  abbrev so : ℕ → Option Mission
-  so = (change_mission t (claimed a number) k).state.mission
-
-  by_train : (P : ℕ → Option Mission → Option Mission → Type 0) (u : ℕ) → P t (option_map (claimed a number) (k.mission t)) (k.mission t) → (u ≢ t → P u (k.mission u) (k.mission u)) → P u (so u) (k.mission u)
-  by_train P u here other = ⊎_elim
-      (λ (same : u ≡ t). subst (λ v. P v (so v) (k.mission v)) (sym same) (subst (λ o. P t o (k.mission t)) (sym (put_same k.mission t (option_map (claimed a number) (k.mission t)))) here))
-      (λ (apart : u ≢ t). subst (λ o. P u o (k.mission u)) (sym (put_other k.mission t (option_map (claimed a number) (k.mission t)) u apart)) (other apart))
-      (cases_eq u t)
-
-  -- what is said of a mission's handover to b, and of the same when it is claimed
-  by_mission : (b : ℕ) (P : Option Handing → Option Handing → Type 0) → P None None
-      → ((h : Handing) → P (if (claim h).to == b then Some (claim h) else None) (if h.to == b then Some h else None))
-      → (o : Option Mission) → P (handing_to b (option_map (claimed a number) o)) (handing_to b o)
-  by_mission b P none some None = none
-  by_mission b P none some (Some m) = by_handing m.handing
-    where
-      by_handing : (o : Option Handing) → P (option_map_or (λ h. if h.to == b then Some h else None) (option_map claim o) None) (option_map_or (λ h. if h.to == b then Some h else None) o None)
-      by_handing None = none
-      by_handing (Some h) = some h
-
-  same_number : (h : Handing) → number_announced (if (claim h).to == a then Some (claim h) else None) ≡ number_announced (if h.to == a then Some h else None)
-  same_number h = by_test ((h.number == number) && (h.to == a))
-    where
-      by_to : (x : Bool) → number_announced (if x then Some (record h { is_claimed = true }) else None) ≡ number_announced (if x then Some h else None)
-      by_to true = refl
-      by_to false = refl
-
-      by_test : (x : Bool) → number_announced (if (if x then record h { is_claimed = true } else h).to == a then Some (if x then record h { is_claimed = true } else h) else None) ≡ number_announced (if h.to == a then Some h else None)
-      by_test true = by_to (h.to == a)
-      by_test false = refl
-
-  one_more : (n : ℕ) (h : Handing) → claimed_as n (if (claim h).to == a then Some (claim h) else None) ≤ claimed_as n (if h.to == a then Some h else None) + one_if ((t == t) && (number == n))
-  one_more n h = by_test ((h.number == number) && (h.to == a)) refl
-    where
-      by_to : (x : Bool) → h.number ≡ number → claimed_as n (if x then Some (record h { is_claimed = true }) else None) ≤ claimed_as n (if x then Some h else None) + one_if ((t == t) && (number == n))
-      by_to true same = omega (arith, ap one_if (and-true (h.number == n)), ap (λ v. one_if (v == n)) same, ap (λ b. one_if (b && (number == n))) (itself t))
-      by_to false same = omega arith
-
-      by_test : (x : Bool) → ((h.number == number) && (h.to == a)) ≡ x → claimed_as n (if (if x then record h { is_claimed = true } else h).to == a then Some (if x then record h { is_claimed = true } else h) else None)
-          ≤ claimed_as n (if h.to == a then Some h else None) + one_if ((t == t) && (number == n))
-      by_test true is = by_to (h.to == a) (eqb-true h.number number (and_parts (h.number == number) (h.to == a) is).0)
-      by_test false is = omega arith
-
-  same_other : (b : ℕ) → b ≢ a → (h : Handing) → ◌≡◌ {A = Option Handing} (if (claim h).to == b then Some (claim h) else None) (if h.to == b then Some h else None)
-  same_other b apart h = by_test ((h.number == number) && (h.to == a)) refl
-    where
-      none : (x z : Option Handing) → h.to ≡ a → (if h.to == b then x else None) ≡ (if h.to == b then z else None)
-      none x z same = ap (λ c. if c then x else None) (ne_eqb h.to b (λ there. apart (sym there ∙ same))) ∙ sym (ap (λ c. if c then z else None) (ne_eqb h.to b (λ there. apart (sym there ∙ same))))
-
-      by_test : (x : Bool) → ((h.number == number) && (h.to == a)) ≡ x
-          → ◌≡◌ {A = Option Handing} (if (if x then record h { is_claimed = true } else h).to == b then Some (if x then record h { is_claimed = true } else h) else None) (if h.to == b then Some h else None)
-      by_test true is = none (Some (record h { is_claimed = true })) (Some h) (eqb-true h.to a (and_parts (h.number == number) (h.to == a) is).1)
-      by_test false is = refl
-
-  pub claim_taking : IsTaking a (TakingOver number t) k (change_mission t (claimed a number) k).state
-  claim_taking = record {
-    leads = λ u. refl;
-    expected = λ i u apart. refl;
-    waits = λ u h. omega arith;
-    announced = refl;
-    number = λ u. by_train (λ v x z. number_announced (handing_to a x) ≡ number_announced (handing_to a z)) u (by_mission a (λ x z. number_announced x ≡ number_announced z) refl same_number (k.mission t)) (λ other. refl);
-    claimed = λ u h. by_train (λ v x z. claimed_as h (handing_to a x) ≤ claimed_as h (handing_to a z) + one_if ((t == v) && (number == h))) u
-        (by_mission a (λ x z. claimed_as h x ≤ claimed_as h z + one_if ((t == t) && (number == h))) (omega arith) (one_more h) (k.mission t)) (λ other. omega arith);
-    handing = λ b u apart. by_train (λ v x z. handing_to b x ≡ handing_to b z) u (by_mission b (λ x z. x ≡ z) refl (same_other b apart) (k.mission t)) (λ other. refl);
   }

@@ -15,7 +15,7 @@ use Rattle.rbc_spec.specs.Step.{Effect, Refusal, step, refusal, taken, taken_by,
 use Rattle.rbc_spec.specs.World.{World, Event, Bytes, Set, Unset, Delivery, Answer, NoCentre, NotSent, new_world, frame_sent, mention, stepped, at_centre, takes, world_step, world_run}
 use Rattle.law_local.proofs.Worlds.{world_of, bind_ok}
 use Rattle.law_network.specs.Flow.{Flow, flow_of, in_world, centre_count}
-use Rattle.law_network.specs.Counts.{rights, tokens, lent}
+use Rattle.law_network.specs.Counts.{rights, tokens}
 use Rattle.law_network.specs.Numbers.{taken_after}
 use Rattle.law_network.specs.Keeping.{nothing_came, came_with, IsFairAct}
 use Rattle.law_network.specs.Sound.{IsFlowSound, IsBodySound}
@@ -28,7 +28,7 @@ use Rattle.law_centre_sound.specs.Stays.{IsInRange}
 use Rattle.law_centre_sound.proofs.Ranges.{sound_hand}
 use Rattle.law_centre_sound.proofs.Events.{stays_sound}
 use Rattle.law_no_copy.specs.Steps.{came_to, came_by, done}
-use Rattle.law_no_copy_lent.proofs.Fair.{step_is_fair}
+use Rattle.law_no_copy.proofs.Fair.{step_is_fair}
 use Rattle.law_handover.specs.Steps.{IsByItself, left_by, sent_by}
 use Rattle.law_handover.specs.Worlds.{IsWorldSound}
 use Rattle.law_handover.proofs.Steps.{paired_by_itself, paired_at_head}
@@ -69,7 +69,6 @@ module _ (line : Line) (ok : IsLine line) (w : World) (old : IsWorldSound line w
     fair = let is = step_is_fair line c (w.at c) event ok (old.flow.centres c to) in record {
       rights = λ t. subst (λ n. IsFair (rights line t) (centre_count line) c (w.at c) n (left_by line c (w.at c) event) (sent_by line c (w.at c) event)) (none (rights line t)) (is.rights t);
       tokens = λ t s. subst (λ n. IsFair (tokens line t s) (centre_count line) c (w.at c) n (left_by line c (w.at c) event) (sent_by line c (w.at c) event)) (none (tokens line t s)) (is.tokens t s);
-      lent = λ t s d. subst (λ n. IsFair (lent line t s d) (centre_count line) c (w.at c) n (left_by line c (w.at c) event) (sent_by line c (w.at c) event)) (none (lent line t s d)) (is.lent t s d);
     }
 
     same : flow_of (in_world w c (left_by line c (w.at c) event) trains) ≡ acted (flow_of w) c (left_by line c (w.at c) event) (sent_by line c (w.at c) event)
@@ -89,7 +88,6 @@ module _ (line : Line) (ok : IsLine line) (w : World) (old : IsWorldSound line w
     fair_head = let is = step_is_fair line c (w.at c) event ok (old.flow.centres c to) in record {
       rights = λ t. subst (λ n. IsFair (rights line t) (centre_count line) c (w.at c) n (left_by line c (w.at c) event) (sent_by line c (w.at c) event)) (came (rights line t)) (is.rights t);
       tokens = λ t s. subst (λ n. IsFair (tokens line t s) (centre_count line) c (w.at c) n (left_by line c (w.at c) event) (sent_by line c (w.at c) event)) (came (tokens line t s)) (is.tokens t s);
-      lent = λ t s d. subst (λ n. IsFair (lent line t s d) (centre_count line) c (w.at c) n (left_by line c (w.at c) event) (sent_by line c (w.at c) event)) (came (lent line t s d)) (is.lent t s d);
     }
       where
         came : (r : Resource Centre Body) → came_to line c (w.at c) event r ≡ r.inside a c f.body
@@ -129,9 +127,9 @@ module _ (line : Line) (ok : IsLine line) (w : World) (old : IsWorldSound line w
 
     so_sound : (o : outcome.Taken) → o ≢ Next → IsFlowSound line (answered_so o)
     so_sound Next apart = absurd (apart refl)
-    so_sound Old apart = aside_sound line (flow_of w) old.flow c to _ (record { book = refl; wish = refl; mission = refl; wait = refl; has_right = refl; expects = refl; announced = refl; heard = λ t h. h })
-    so_sound Early apart = aside_sound line (flow_of w) old.flow c to _ (record { book = refl; wish = refl; mission = refl; wait = refl; has_right = refl; expects = refl; announced = refl; heard = λ t h. h })
-    so_sound NoLink apart = aside_sound line (flow_of w) old.flow c to _ (record { book = refl; wish = refl; mission = refl; wait = refl; has_right = refl; expects = refl; announced = refl; heard = λ t h. h })
+    so_sound Old apart = aside_sound line (flow_of w) old.flow c to _ (record { book = refl; wish = refl; mission = refl; wait = refl; has_right = refl; expects = refl; announced = refl; asks = λ t first is. is; heard = λ t h. h })
+    so_sound Early apart = aside_sound line (flow_of w) old.flow c to _ (record { book = refl; wish = refl; mission = refl; wait = refl; has_right = refl; expects = refl; announced = refl; asks = λ t first is. is; heard = λ t h. h })
+    so_sound NoLink apart = aside_sound line (flow_of w) old.flow c to _ (record { book = refl; wish = refl; mission = refl; wait = refl; has_right = refl; expects = refl; announced = refl; asks = λ t first is. is; heard = λ t h. h })
 
     after_other : (trains : List ℕ) → After c (centre.Deliver a f) trains
     after_other trains = subst (IsFlowSound line) (sym same_other) (so_sound (link_answer line c (w.at c) a f) not_next)

@@ -1,5 +1,5 @@
 -- What an act of a centre does to handovers: those that it announces, those that it expects, and the frames between.
-use Rattle.std.specs.Prelude.{◌≡◌, ◌≢◌, ◌⊎◌, ℕ, ◌+◌, ◌==◌, ◌<◌, ◌≤◌, ◌&&◌, not, List, Option, Some, option_map}
+use Rattle.std.specs.Prelude.{◌≡◌, ◌≢◌, ◌⊎◌, ℕ, ◌+◌, ◌==◌, ◌<◌, ◌≤◌, ◌&&◌, not, List, Option, Some, option_map, Bool, false, true}
 use Rattle.law_counting.specs.Sums.{one_if}
 use Rattle.law_counting.specs.Chain.{Chain}
 use Rattle.rbc_spec.specs.Maps.{has}
@@ -18,24 +18,35 @@ number_announced h = option_map (λ x. x.number) h
 abbrev pub waiting : ℕ → Option Expectation → ℕ
 waiting h e = one_if (has (λ x. (x.number == h) && not x.is_taking) e)
 
--- 1 where the handover with number h is claimed
-abbrev pub claimed_as : ℕ → Option Handing → ℕ
-claimed_as h o = one_if (has (λ x. (x.number == h) && x.is_claimed) o)
+-- which handovers an act may yield: to a centre, of a train, under a number
+abbrev pub Allowance : Type 0
+Allowance = ℕ → ℕ → ℕ → Bool
 
--- an act of a centre, which was k, leaves it as y and sends these frames
-pub record IsOrderly (k y : Centre) (frames : ℕ → List Body) : Type 0 where
+abbrev pub none_allowed : Allowance
+none_allowed d t h = false
+
+-- a frame from centre a that takes over allows what it takes over
+abbrev pub allowed_by : ℕ → Body → Allowance
+allowed_by a f d t h = (d == a) && takes_over t h f
+
+-- an act of a centre, which was k, leaves it as y and sends these frames, and yields no more than it may
+pub record IsOrderlyWith (allow : Allowance) (k y : Centre) (frames : ℕ → List Body) : Type 0 where
   -- what it sends about a train leads from the handover that was announced to the one that is
   pub leads : (d t : ℕ) → Chain (follows t) (frames d) (number_announced (handing_to d (k.mission t))) (number_announced (handing_to d (y.mission t)))
   -- it expects each train as before
   pub expected : (a t : ℕ) → number_expected (y.expects a t) ≡ number_expected (k.expects a t)
   pub announced : k.announced ≤ y.announced
-  -- a handover that is claimed was so, and ends by its one Yield
-  pub claimed : (d t h : ℕ) → claimed_as h (handing_to d (y.mission t)) + count_if (yields t h) (frames d) ≤ claimed_as h (handing_to d (k.mission t))
+  -- it yields what it may
+  pub yielded : (d t h : ℕ) → (count_if (yields t h) (frames d) ≡ 0) ⊎ (allow d t h ≡ true)
   -- what it announces has a number that no handover had, and is announced once
   pub anew : (d t h : ℕ) → (count_if (announces t h) (frames d) ≡ 0)
       ⊎ ((k.announced < h) × (h ≤ y.announced) × (count_if (announces t h) (frames d) ≤ 1))
   -- it says that it takes over where it has waited, and waits no longer
   pub takes : (a t h : ℕ) → waiting h (y.expects a t) + count_if (takes_over t h) (frames a) ≤ waiting h (k.expects a t)
+
+-- an act that yields none
+abbrev pub IsOrderly : Centre → Centre → (ℕ → List Body) → Type 0
+IsOrderly k y frames = IsOrderlyWith none_allowed k y frames
 
 -- centre k becomes y by frame f from a, which is the next of its link
 pub record IsTaking (a : ℕ) (f : Body) (k y : Centre) : Type 0 where
@@ -44,13 +55,12 @@ pub record IsTaking (a : ℕ) (f : Body) (k y : Centre) : Type 0 where
   pub expected : (i t : ℕ) → i ≢ a → y.expects i t ≡ k.expects i t
   pub waits : (t h : ℕ) → waiting h (y.expects a t) ≤ waiting h (k.expects a t) + one_if (announces t h f)
   pub announced : y.announced ≡ k.announced
-  -- what was announced to a stays, and is claimed where the frame says so
+  -- what was announced to a stays
   pub number : (t : ℕ) → number_announced (handing_to a (y.mission t)) ≡ number_announced (handing_to a (k.mission t))
-  pub claimed : (t h : ℕ) → claimed_as h (handing_to a (y.mission t)) ≤ claimed_as h (handing_to a (k.mission t)) + one_if (takes_over t h f)
   pub handing : (b t : ℕ) → b ≢ a → handing_to b (y.mission t) ≡ handing_to b (k.mission t)
 
--- with what the frame comes to behind that: an orderly act of y
+-- with what the frame comes to behind that: an orderly act of y, which may yield what the frame takes over
 pub record IsTakenWith (a : ℕ) (f : Body) (k new : Centre) (frames : ℕ → List Body) : Type 0 where
   pub y : Centre
   pub taking : IsTaking a f k y
-  pub behind : IsOrderly y new frames
+  pub behind : IsOrderlyWith (allowed_by a f) y new frames

@@ -1,6 +1,6 @@
 //! Laws of handovers, for each step of a centre.
 
-ghost use Rattle.std.specs.Prelude.{◌≡◌, ℕ, true, List, [], Ok};
+ghost use Rattle.std.specs.Prelude.{◌≡◌, ◌≤◌, ℕ, true, List, [], Ok};
 ghost use Rattle.law_counting.specs.Network.{took, acted, TakesHead, IsCounted};
 ghost use Rattle.rbc_spec.specs.Line.{Line, IsLine, is_centre};
 ghost use Rattle.rbc_spec.specs.Frame.{Frame, Body};
@@ -10,16 +10,19 @@ ghost use Rattle.rbc_spec.specs.Step.{Event, Deliver, link_answer};
 ghost use Rattle.rbc_spec.specs.World as world;
 ghost use Rattle.rbc_spec.specs.World.{World, Answer, new_world, world_step, world_run};
 ghost use Rattle.law_network.specs.Flow.{Flow};
-ghost use Rattle.law_network.specs.Pairs.{IsPaired};
+ghost use Rattle.law_network.specs.Pairs.{IsPaired, before};
 ghost use Rattle.law_network.specs.Sound.{IsFlowSound, ArePaired};
-ghost use Rattle.law_handover.specs.Orderly.{IsOrderly, IsTaking, IsTakenWith};
+ghost use Rattle.law_handover.specs.Orderly.{Allowance, IsOrderlyWith, IsOrderly, IsTaking, IsTakenWith};
 ghost use Rattle.law_handover.specs.Steps.{IsByItself, left_by, sent_by};
 ghost use Rattle.law_handover.specs.Worlds.{IsWorldSound};
 
-/// An orderly act of a centre keeps what any two centres know of the handover of a train, and so does a frame that is the next of its
-/// link and is taken as it says.
+/// An orderly act of a centre keeps what any two centres know of the handover of a train, where it yields none but what was announced and
+/// is taken over; and so does a frame that is the next of its link and is taken as it says.
 pub fn an_orderly_act_keeps_all_paired()
     ensures acts { (w : Flow) (c i j t : ℕ) (y : Centre) (frames : ℕ → List Body) → IsCounted w → IsOrderly (w.at c) y frames
+        → IsPaired w i j t → IsPaired (acted w c y frames) i j t }
+    ensures yields { (w : Flow) (c i j t : ℕ) (y : Centre) (frames : ℕ → List Body) (allow : Allowance) → IsCounted w → IsOrderlyWith allow (w.at c) y frames
+        → ((d u h : ℕ) → allow d u h ≡ true → (before w c d u h ≡ 0) × (h ≤ (w.at c).announced))
         → IsPaired w i j t → IsPaired (acted w c y frames) i j t }
     ensures takes { (w : Flow) (a c i j t : ℕ) (f : Body) (y : Centre) → TakesHead w a c f → IsTaking a f (w.at c) y
         → IsPaired w i j t → IsPaired (acted (took w a c) c y (λ d. [])) i j t }

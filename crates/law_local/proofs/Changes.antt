@@ -126,7 +126,7 @@ module _ (line : Line) (c : ℕ) where
         taken = λ s. taken_here t (within r s && is_open (k.book s)) (hand_has (k.mission t) s) (k.book s) (h.taken s t) (is_there s)
             ∙ ap (λ b. hand_has (k.mission t) s || b) (there s) ∙ sym (hand s);
         others = λ s u apart. taken_elsewhere t u (within r s && is_open (k.book s)) (k.book s) apart (is_there s);
-        not_out = λ s u d. out_booked t u d (within r s && is_open (k.book s)) (k.book s) (h.not_out s u d);
+        not_out = λ s u. out_booked t u (within r s && is_open (k.book s)) (k.book s) (h.not_out s u);
         foreign = λ s away. ap (λ b. booked_for t b (k.book s)) (not_booked k s (within r s) away (opened s) (free s)) ∙ h.foreign s away;
         unwished = λ s unused. unused_booked t (within r s && is_open (k.book s)) (k.wish s) (k.book s) (h.unwished s) unused;
         right = follows.right;
@@ -156,7 +156,7 @@ module _ (line : Line) (c : ℕ) where
             ∙ hand_given (within r s) (is_home line c s) (is_taken_for t (k.book s)) (hand_has (k.mission t) s) (h.taken s t) (away_untaken k t s h) ∙ sym (hand s);
         others = λ s u apart. taken_given u (back s) (k.wish s) (k.book s)
             ∙ others_given (within r s && is_home line c s) (is_taken_for t (k.book s)) (is_taken_for u (k.book s)) (taken_for_one t u (k.book s) apart);
-        not_out = λ s u d. out_given u d (back s) (k.wish s) (k.book s) ∙ and_right (not (back s)) _ (h.not_out s u d);
+        not_out = λ s u. out_given u (back s) (k.wish s) (k.book s) ∙ and_right (not (back s)) _ (h.not_out s u);
         foreign = λ s away. ap (λ b. given b (k.wish s) (k.book s)) (away_stays (within r s) (is_home line c s) (is_taken_for t (k.book s)) away) ∙ h.foreign s away;
         unwished = λ s unused. unwished_given (back s) (k.wish s) (k.book s) (h.unwished s) unused;
         right = follows.right;

@@ -12,17 +12,17 @@ taken_given u true true e = refl
 taken_given u true false e = refl
 taken_given u false wish e = refl
 
-pub out_given : (u d : ℕ) (back wish : Bool) (e : Entry) → is_out_for u d (given back wish e) ≡ (not back && is_out_for u d e)
-out_given u d true true e = refl
-out_given u d true false e = refl
-out_given u d false wish e = refl
+pub out_given : (u : ℕ) (back wish : Bool) (e : Entry) → is_out_for u (given back wish e) ≡ (not back && is_out_for u e)
+out_given u true true e = refl
+out_given u true false e = refl
+out_given u false wish e = refl
 
 -- an entry is taken for one train alone
 pub taken_once : (t u : ℕ) (e : Entry) → is_taken_for t e ≡ true → is_taken_for u e ≡ true → u ≡ t
 taken_once t u Shut one two = cc
 taken_once t u Open one two = cc
 taken_once t u (Taken v) one two = sym (eqb-true v u two) ∙ eqb-true v t one
-taken_once t u (Out v d) one two = cc
+taken_once t u (Out v) one two = cc
 
 pub taken_for_one : (t u : ℕ) (e : Entry) → (u ≡ t → ⊥) → is_taken_for t e ≡ true → is_taken_for u e ≡ false
 taken_for_one t u e apart one = false_from_ne_true (is_taken_for u e) (λ two. apart (taken_once t u e one two))
@@ -52,7 +52,7 @@ pub open_taken : (u : ℕ) (e : Entry) → is_open e ≡ true → is_taken_for u
 open_taken u Shut free = refl
 open_taken u Open free = refl
 open_taken u (Taken v) free = cc
-open_taken u (Out v d) free = refl
+open_taken u (Out v) free = refl
 
 pub taken_here : (t : ℕ) (there hand : Bool) (e : Entry) → is_taken_for t e ≡ hand → (there ≡ true → is_open e ≡ true) → is_taken_for t (booked_for t there e) ≡ (hand || there)
 taken_here t true hand e is is_free = eq-eqb t t refl ∙ sym (or_right hand true refl)
@@ -66,9 +66,9 @@ pub taken_elsewhere : (t u : ℕ) (there : Bool) (e : Entry) → (u ≡ t → �
 taken_elsewhere t u true e apart is_free = ne_eqb t u (λ same. apart (sym same)) ∙ sym (open_taken u e (is_free refl))
 taken_elsewhere t u false e apart is_free = refl
 
-pub out_booked : (t u d : ℕ) (there : Bool) (e : Entry) → is_out_for u d e ≡ false → is_out_for u d (booked_for t there e) ≡ false
-out_booked t u d true e is = refl
-out_booked t u d false e is = is
+pub out_booked : (t u : ℕ) (there : Bool) (e : Entry) → is_out_for u e ≡ false → is_out_for u (booked_for t there e) ≡ false
+out_booked t u true e is = refl
+out_booked t u false e is = is
 
 pub unused_booked : (t : ℕ) (there wish : Bool) (e : Entry) → (is_unused e ≡ true → wish ≡ false) → is_unused (booked_for t there e) ≡ true → wish ≡ false
 unused_booked t true wish e is unused = cc
@@ -79,10 +79,10 @@ pub unused_taken : (u : ℕ) (e : Entry) → is_unused e ≡ true → is_taken_f
 unused_taken u Shut unused = refl
 unused_taken u Open unused = refl
 unused_taken u (Taken v) unused = cc
-unused_taken u (Out v d) unused = refl
+unused_taken u (Out v) unused = refl
 
-pub unused_out : (u d : ℕ) (e : Entry) → is_unused e ≡ true → is_out_for u d e ≡ false
-unused_out u d Shut unused = refl
-unused_out u d Open unused = refl
-unused_out u d (Taken v) unused = refl
-unused_out u d (Out v f) unused = cc
+pub unused_out : (u : ℕ) (e : Entry) → is_unused e ≡ true → is_out_for u e ≡ false
+unused_out u Shut unused = refl
+unused_out u Open unused = refl
+unused_out u (Taken v) unused = refl
+unused_out u (Out v) unused = cc

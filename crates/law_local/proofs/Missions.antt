@@ -10,14 +10,13 @@ use Rattle.rbc_spec.specs.Sections.{is_on}
 use Rattle.rbc_spec.specs.Place.{Place, Position, extent, covered, place_on, fit_place}
 use Rattle.rbc_spec.specs.Message.{TrackBody, Authority}
 use Rattle.rbc_spec.specs.Centre.{Centre, Taken, Mission, is_open, is_registrar_of, is_free}
-use Rattle.rbc_spec.specs.Acts.{Act, become, rest, ◌>>◌, say, booked, set_mission, begun, yield_if_due}
+use Rattle.rbc_spec.specs.Acts.{Act, become, rest, ◌>>◌, say, booked, set_mission, begun}
 use Rattle.rbc_spec.specs.Rules.{accept, reject, restart, start_here, start_new, start_mission, begin, extension, extended_by, may_follow, authority, at_border, grant, request, start_waiting}
 use Rattle.rbc_spec.specs.Theorems.{IsOneCentreLine}
 use Rattle.law_base.proofs.Longest.{longest_few, longest_each}
 use Rattle.law_base.proofs.Runs.{within_true, within_joined, each_within, joined_count}
 use Rattle.law_local.specs.Local.{IsOrdered, IsLocalAt, IsLocalMission, hand_has}
-use Rattle.law_local.proofs.Simple.{no_yield}
-use Rattle.law_local.proofs.Stays.{Stays, rest_stays, then_stays, alike_stays, other_parts, if_stays, or_stays}
+use Rattle.law_local.proofs.Stays.{Stays, rest_stays, then_stays, other_parts, if_stays, or_stays}
 use Rattle.law_local.proofs.Changes.{goes_on, starts_here, changed, booked_local}
 use Rattle.law_local.proofs.Fits.{IsFit, fit_parts, begun_local, restarted_local}
 use Rattle.law_local.proofs.Homes.{fit_of, free_at_registrar, none_next}
@@ -59,10 +58,6 @@ module _ (line : Line) (c : ℕ) where
     state = other_parts line c k k.clock k.phase k.heard (put k.said t (k.said t + 1)) k.announced k.taken h;
     frames = λ d. refl;
   }
-
-  -- of a mission no handover is due
-  pub none_yielded : (t : ℕ) (k : Centre) → IsLocalAt line c k → Stays line c (yield_if_due line c t k)
-  none_yielded t k h = alike_stays line c (yield_if_due line c t k) (rest k) (no_yield line c t k (λ m at. (h.mission t m at).no_handing)) (rest_stays line c k h)
 
   module _ (ordered : IsOrdered line) where
     -- ## Start

@@ -18,7 +18,7 @@ pub begins_local : (line : Line) (c : ℕ) → IsLocalAt line c (beginning line 
 unfolding beginning
 begins_local line c = record {
   taken = λ s t. refl;
-  not_out = λ s t d. refl;
+  not_out = λ s t. refl;
   foreign = λ s away. refl;
   unwished = λ s unused. refl;
   right = λ t. sym (and-true (is_registrar_of line c t));

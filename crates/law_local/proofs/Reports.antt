@@ -1,5 +1,5 @@
 -- A centre that is local stays so as its trains report, shorten, and end.
-use Rattle.std.proofs.Common.{◌≡◌, ℕ, ◌+◌, ◌*◌, ◌≤◌, ◌==◌, ◌&&◌, not, if◌then◌else◌, Bool, true, false, Some, None, option_map, nat_le, refl, sym, ap, ◌∙◌, subst, arith, eqb-true}
+use Rattle.std.proofs.Common.{◌≡◌, ℕ, ◌+◌, ◌*◌, ◌≤◌, ◌==◌, ◌&&◌, not, if◌then◌else◌, Bool, true, false, Some, None, option_map, nat_le, refl, sym, ap, ◌∙◌, subst, arith, eqb-true, ◌-◌}
 use Rattle.std.specs.Option.{option_map_or}
 use Rattle.std.proofs.lemmas.Bool.{and_parts, eqb-false}
 use Rattle.rbc_spec.specs.Maps.{put}
@@ -8,8 +8,9 @@ use Rattle.rbc_spec.specs.Line.{Line, end}
 use Rattle.rbc_spec.specs.Sections.{is_on}
 use Rattle.rbc_spec.specs.Place.{Place, Position, extent, is_cleared, place_on}
 use Rattle.rbc_spec.specs.Centre.{Centre, Mission, Proposal, is_taken_for}
-use Rattle.rbc_spec.specs.Acts.{Act, rest, ◌>>◌, with_some, freed, leave, set_mission, change_mission, return_pool, cancel, close, part_at, yield_if_due}
-use Rattle.rbc_spec.specs.Rules.{cleared, clear, report_here, report, take_over, end_mission, cut, granted, answer_granted}
+use Rattle.rbc_spec.specs.Acts.{Act, rest, ◌>>◌, with_some, freed, leave, set_mission, change_mission, return_pool, cancel, close, part_at}
+use Rattle.rbc_spec.specs.Rules.{cleared, clear, report_here, report, take_over, stand_still, end_mission, cut, granted, answer_granted}
+use Rattle.law_base.proofs.Standstill.{rests_or_cuts}
 use Rattle.law_base.proofs.Acts.{alike_then, then_alike, then_resting, resting_then}
 use Rattle.law_base.proofs.Puts.{put_here}
 use Rattle.law_base.proofs.Longest.{longest_few}
@@ -19,7 +20,7 @@ use Rattle.law_local.proofs.Simple.{all_home, leave_home, no_pool_returned, clos
 use Rattle.law_local.proofs.Hands.{within_rest, within_kept}
 use Rattle.law_local.proofs.Stays.{Stays, rest_stays, then_stays, alike_stays, or_stays}
 use Rattle.law_local.proofs.Changes.{registrar_of_mission, hand_home, goes_on, ends_here, changed, freed_local}
-use Rattle.law_local.proofs.Missions.{place_of, then_both, if_act, or_act, none_yielded}
+use Rattle.law_local.proofs.Missions.{place_of, then_both, if_act, or_act}
 
 none_left : (b : Bool) → false ≡ (b && not b)
 none_left true = refl
@@ -92,33 +93,8 @@ module _ (line : Line) (c : ℕ) (ordered : IsOrdered line) where
 
   pub answered_report : (t : ℕ) (position : Position) (k : Centre) → IsLocalAt line c k → Stays line c (report line c t position k)
   answered_report t position k h = or_stays line c (k.mission t) _ (take_over line t k)
-      (λ m at. then_both line c (report_here line c t position m) (yield_if_due line c t) k (reported_here t position m k h at) (λ j stays. none_yielded line c t j stays))
+      (λ m at. reported_here t position m k h at)
       (λ none. alike_stays line c (take_over line t k) (rest k) (no_take_over line t k (λ d. h.not_expected d t)) (rest_stays line c k h))
-
-  -- ## End of mission
-
-  abbrev end_of : ℕ → Mission → Act
-  end_of t m = return_pool line c t m >> change_mission t (λ n. record n { is_ended = true; proposal = None })
-
-  pub ended : (t : ℕ) (position : Position) (k : Centre) → IsLocalAt line c k → Stays line c (end_mission line c t position k)
-  ended t position k h =
-      then_both line c (with_some (λ j. j.mission t) (report_here line c t position) >> with_some (λ j. j.mission t) (end_of t)) (yield_if_due line c t) k
-      (then_both line c (with_some (λ j. j.mission t) (report_here line c t position)) (with_some (λ j. j.mission t) (end_of t)) k
-      (or_stays line c (k.mission t) _ (rest k) (λ m at. reported_here t position m k h at) (λ none. rest_stays line c k h))
-      (λ j stays. or_stays line c (j.mission t) _ (rest j) (λ m at. end_stays t m j stays at) (λ none. rest_stays line c j stays)))
-      (λ j stays. none_yielded line c t j stays)
-    where
-      end_stays : (t : ℕ) (m : Mission) (j : Centre) → IsLocalAt line c j → j.mission t ≡ Some m → Stays line c (end_of t m j)
-      end_stays t m j stays at =
-          alike_stays line c (end_of t m j) (change_mission t (λ n. record n { is_ended = true; proposal = None }) j)
-          (resting_then (return_pool line c t m) (change_mission t (λ n. record n { is_ended = true; proposal = None })) j (no_pool_returned line c t m j at (stays.mission t m at).no_pool))
-          (changed line c t (λ n. record n { is_ended = true; proposal = None }) j stays (λ n is. refl) (λ n is. let local = stays.mission t n is in record {
-            no_pool = local.no_pool;
-            no_handing = local.no_handing;
-            some = local.some;
-            few = local.few;
-            on_track = local.on_track;
-          }))
 
   -- ## Shortening
 
@@ -170,14 +146,12 @@ module _ (line : Line) (c : ℕ) (ordered : IsOrdered line) where
       let cuts : Act = option_map_or (λ place. if nat_le place.front (10 * end line p.last_kept) then cut line c t p.last_kept m else rest) (place_on line m.place.track position) rest in
       let change = changed line c t f k h (λ n is. refl) (λ n is. unproposed n (h.mission t n is)) in
       let after : put k.mission t (option_map f (k.mission t)) t ≡ Some (f m) = put_here k.mission t t (option_map f (k.mission t)) refl ∙ ap (option_map f) at in
-      then_both line c (change_mission t f >> cuts) (yield_if_due line c t) k
-      (then_stays line c (change_mission t f) cuts k (λ d. refl)
+      then_stays line c (change_mission t f) cuts k (λ d. refl)
       (or_act line c (place_on line m.place.track position) _ rest (change_mission t f k).state
       (λ place is. if_act line c (nat_le place.front (10 * end line p.last_kept)) (cut line c t p.last_kept m) rest (change_mission t f k).state
       (λ kept. cut_off t p.last_kept m (f m) (change_mission t f k).state change.state after refl (h.mission t m at))
       (λ past. rest_stays line c (change_mission t f k).state change.state))
-      (λ none. rest_stays line c (change_mission t f k).state change.state)))
-      (λ j stays. none_yielded line c t j stays)
+      (λ none. rest_stays line c (change_mission t f k).state change.state))
     where
       unproposed : (n : Mission) → IsLocalMission line n → IsLocalMission line (record n { proposal = None })
       unproposed n local = record { no_pool = local.no_pool; no_handing = local.no_handing; some = local.some; few = local.few; on_track = local.on_track }
@@ -186,3 +160,31 @@ module _ (line : Line) (c : ℕ) (ordered : IsOrdered line) where
   answered_shortening t position k h = or_stays line c (k.mission t) _ (rest k)
       (λ m at. or_stays line c m.proposal (λ p. granted line c t position m p k) (rest k) (λ p is. shortened t position m p k h at) (λ none. rest_stays line c k h))
       (λ none. rest_stays line c k h)
+
+  -- ## End of mission
+
+  abbrev end_of : ℕ → Mission → Act
+  end_of t m = return_pool line c t m >> change_mission t (λ n. record n { is_ended = true; proposal = None })
+
+  stood : (t : ℕ) (position : Position) (m : Mission) (k : Centre) → IsLocalAt line c k → k.mission t ≡ Some m → Stays line c (stand_still line c t position m k)
+  stood t position m k h at = rests_or_cuts (λ act. Stays line c (act k)) line c t position m (rest_stays line c k h) (λ n some fits. cut_off t (m.hand.first + n - 1) m m k h at refl (h.mission t m at))
+
+  pub ended : (t : ℕ) (position : Position) (k : Centre) → IsLocalAt line c k → Stays line c (end_mission line c t position k)
+  ended t position k h =
+      then_both line c (with_some (λ j. j.mission t) (report_here line c t position) >> with_some (λ j. j.mission t) (stand_still line c t position)) (with_some (λ j. j.mission t) (end_of t)) k
+      (then_both line c (with_some (λ j. j.mission t) (report_here line c t position)) (with_some (λ j. j.mission t) (stand_still line c t position)) k
+      (or_stays line c (k.mission t) _ (rest k) (λ m at. reported_here t position m k h at) (λ none. rest_stays line c k h))
+      (λ j stays. or_stays line c (j.mission t) _ (rest j) (λ m at. stood t position m j stays at) (λ none. rest_stays line c j stays)))
+      (λ j stays. or_stays line c (j.mission t) _ (rest j) (λ m at. end_stays t m j stays at) (λ none. rest_stays line c j stays))
+    where
+      end_stays : (t : ℕ) (m : Mission) (j : Centre) → IsLocalAt line c j → j.mission t ≡ Some m → Stays line c (end_of t m j)
+      end_stays t m j stays at =
+          alike_stays line c (end_of t m j) (change_mission t (λ n. record n { is_ended = true; proposal = None }) j)
+          (resting_then (return_pool line c t m) (change_mission t (λ n. record n { is_ended = true; proposal = None })) j (no_pool_returned line c t m j at (stays.mission t m at).no_pool))
+          (changed line c t (λ n. record n { is_ended = true; proposal = None }) j stays (λ n is. refl) (λ n is. let local = stays.mission t n is in record {
+            no_pool = local.no_pool;
+            no_handing = local.no_handing;
+            some = local.some;
+            few = local.few;
+            on_track = local.on_track;
+          }))

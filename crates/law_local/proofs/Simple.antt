@@ -1,5 +1,5 @@
 -- Acts that do nothing where no other centre has a part: each equals the act that rests, or a shorter one.
-use Rattle.std.proofs.Common.{◌≡◌, ℕ, ◌+◌, ◌<◌, ◌≤◌, ◌==◌, ◌&&◌, ◌||◌, not, if◌then◌else◌, Bool, true, false, [], ◌∷◌, Option, Some, None, option_map, refl, sym, ap, ◌∙◌, arith, ⊎_elim, eqb-true, eq-eqb, nat_lt, nat_le}
+use Rattle.std.proofs.Common.{◌≡◌, ℕ, ◌+◌, ◌<◌, ◌≤◌, ◌==◌, ◌&&◌, ◌||◌, not, if◌then◌else◌, Bool, true, false, [], ◌∷◌, Option, Some, None, option_map, sym, ap, ◌∙◌, arith, ⊎_elim, eqb-true, eq-eqb, nat_lt, nat_le}
 use Rattle.std.specs.Option.{option_map_or}
 use Rattle.std.proofs.lemmas.Bool.{cases_Bool, cond-true, cond-false, and_right, and_parts, and_from, or_left, or_right, cases_lt, lt-ltb, le-leb}
 use Rattle.rbc_spec.specs.Maps.{put}
@@ -8,7 +8,7 @@ use Rattle.rbc_spec.specs.Line.{Line, Section, is_home, section, is_centre}
 use Rattle.rbc_spec.specs.Sections.{is_on, home_run}
 use Rattle.rbc_spec.specs.Frame.{RouteReturn, Cancel, TakingOver}
 use Rattle.rbc_spec.specs.Centre.{Centre, Mission, is_taken_for, is_registrar_of}
-use Rattle.rbc_spec.specs.Acts.{Act, become, rest, ◌>>◌, send, freed, returned, leave, set_mission, change_mission, return_pool, cancel, return_right, close, yield_if_due, where_so, with_some, yield, is_of_two}
+use Rattle.rbc_spec.specs.Acts.{Act, become, rest, ◌>>◌, send, freed, returned, leave, set_mission, change_mission, return_pool, cancel, return_right, close}
 use Rattle.rbc_spec.specs.Place.{covered}
 use Rattle.rbc_spec.specs.Rules.{drop_wait, take_over, taking}
 use Rattle.law_base.proofs.Acts.{alike_then, then_resting, resting_then}
@@ -16,21 +16,7 @@ use Rattle.law_local.specs.Local.{IsOrdered}
 
 -- ## What does not stand
 
--- the mission, if there is one, has no handover that stands
-abbrev pub HasNoHanding : Option Mission → Type 0
-HasNoHanding mission = (m : Mission) → mission ≡ Some m → m.handing ≡ None
-
-yield_of : (line : Line) (c t : ℕ) (k : Centre) (o : Option Mission) → HasNoHanding o
-    → option_map_or (λ m. with_some (λ j. m.handing) (λ h. where_so (λ j. h.is_claimed && is_of_two line c h.to m.hand) (yield line c t m h)) k) o (rest k) ≡ rest k
-yield_of line c t k (Some m) none =
-    ap (λ o. option_map_or (λ h. where_so (λ j. h.is_claimed && is_of_two line c h.to m.hand) (yield line c t m h) k) o (rest k)) (none m refl)
-yield_of line c t k None none = refl
-
--- no handover, so none is yielded
-pub no_yield : (line : Line) (c t : ℕ) (k : Centre) → HasNoHanding (k.mission t) → yield_if_due line c t k ≡ rest k
-no_yield line c t k none = yield_of line c t k (k.mission t) none
-
--- nor cancelled
+-- no handover, so none is cancelled
 pub no_cancel : (t : ℕ) (m : Mission) (k : Centre) → m.handing ≡ None → cancel t m k ≡ rest k
 no_cancel t m k none = ap (λ o. option_map_or (λ h. send h.to (Cancel h.number t) >> change_mission t (λ n. record n { handing = None })) o rest k) none
 

@@ -61,7 +61,7 @@ module _ (line : Line) (c : ℕ) where
   pub record Remade (k : Centre) (t : ℕ) (book : ℕ → Entry) (wish : ℕ → Bool) (mission : Option Mission) (has_right : ℕ → Bool) : Type 0 where
     pub taken : (s : ℕ) → is_taken_for t (book s) ≡ hand_has mission s
     pub others : (s u : ℕ) → (u ≡ t → ⊥) → is_taken_for u (book s) ≡ is_taken_for u (k.book s)
-    pub not_out : (s u d : ℕ) → is_out_for u d (book s) ≡ false
+    pub not_out : (s u : ℕ) → is_out_for u (book s) ≡ false
     pub foreign : (s : ℕ) → is_home line c s ≡ false → book s ≡ Shut
     pub unwished : (s : ℕ) → is_unused (book s) ≡ true → wish s ≡ false
     pub right : has_right t ≡ (is_registrar_of line c t && is_none mission)

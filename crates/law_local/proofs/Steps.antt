@@ -1,7 +1,7 @@
 -- A centre that is local stays so through each step that no frame brings.
-use Rattle.std.proofs.Common.{◌≡◌, ℕ, ◌+◌, ◌-◌, ◌==◌, ◌&&◌, not, if◌then◌else◌, Bool, true, false, [], ◌++◌, length, Option, Some, None, is_none, slice_get, refl, sym, ap, ◌∙◌, eq-eqb}
+use Rattle.std.proofs.Common.{◌≡◌, ℕ, ◌+◌, ◌-◌, ◌==◌, not, if◌then◌else◌, Bool, true, false, [], ◌++◌, length, Option, Some, None, is_none, slice_get, refl, sym, ap, ◌∙◌, eq-eqb}
 use Rattle.std.specs.Option.{option_map_or}
-use Rattle.std.proofs.lemmas.Bool.{both_ways, and_from, not-false}
+use Rattle.std.proofs.lemmas.Bool.{both_ways, not-false}
 use Rattle.rbc_spec.specs.Maps.{put}
 use Rattle.rbc_spec.specs.Line.{Line, is_home, start, train_number}
 use Rattle.rbc_spec.specs.Place.{group_start}
@@ -75,9 +75,9 @@ module _ (line : Line) (c : ℕ) where
       taken = λ u t. by_same u s
           (λ here. ap (is_taken_for t) (put_here k.book s u entry here) ∙ unused_taken t entry new ∙ sym (unused_taken t (k.book s) unused) ∙ h.taken s t ∙ ap (hand_has (k.mission t)) (sym here))
           (λ apart. ap (is_taken_for t) (put_other k.book s u entry apart) ∙ h.taken u t);
-      not_out = λ u t d. by_same u s
-          (λ here. ap (is_out_for t d) (put_here k.book s u entry here) ∙ unused_out t d entry new)
-          (λ apart. ap (is_out_for t d) (put_other k.book s u entry apart) ∙ h.not_out u t d);
+      not_out = λ u t. by_same u s
+          (λ here. ap (is_out_for t) (put_here k.book s u entry here) ∙ unused_out t entry new)
+          (λ apart. ap (is_out_for t) (put_other k.book s u entry apart) ∙ h.not_out u t);
       foreign = λ u away. by_same u s
           (λ here. absurd (both_ways (is_home line c s) (ap (is_home line c) (sym here) ∙ away) home))
           (λ apart. put_other k.book s u entry apart ∙ h.foreign u away);
@@ -112,11 +112,11 @@ module _ (line : Line) (c : ℕ) where
       (λ none. rest_stays line c k h)
 
   -- what is wished back of a section that is not out
-  pub wished_back : (s : ℕ) (entry : Entry) (k : Centre) → IsLocalAt line c k → ((t d : ℕ) → is_out_for t d entry ≡ false) → Stays line c (wished line s entry k)
+  pub wished_back : (s : ℕ) (entry : Entry) (k : Centre) → IsLocalAt line c k → ((t : ℕ) → is_out_for t entry ≡ false) → Stays line c (wished line c s entry k)
   wished_back s Shut k h not_out = rest_stays line c k h
   wished_back s Open k h not_out = rest_stays line c k h
   wished_back s (Taken t) k h not_out = proposed t s k h
-  wished_back s (Out t d) k h not_out = absurd (both_ways ((t == t) && (d == d)) (not_out t d) (and_from (t == t) (d == d) (eq-eqb t t refl) (eq-eqb d d refl)))
+  wished_back s (Out t) k h not_out = absurd (both_ways (t == t) (not_out t) (eq-eqb t t refl))
 
   pub set_stays : (s : ℕ) (k : Centre) → IsLocalAt line c k → Stays line c (set line c s k)
   set_stays s k h = if_stays line c (not (is_home line c s)) _ _
@@ -134,14 +134,14 @@ module _ (line : Line) (c : ℕ) where
   pub unset_stays : (s : ℕ) (k : Centre) → IsLocalAt line c k → Stays line c (unset line c s k)
   unset_stays s k h = if_stays line c (not (is_home line c s)) _ _
       (λ away. told (NotHome s) k h)
-      (λ here. if_act line c (is_unused (k.book s)) (make s Shut false >> tell (Done s)) ((become (λ j. record j { wish = put j.wish s true }) >> tell (Asked s)) >> wished line s (k.book s)) k
+      (λ here. if_act line c (is_unused (k.book s)) (make s Shut false >> tell (Done s)) ((become (λ j. record j { wish = put j.wish s true }) >> tell (Asked s)) >> wished line c s (k.book s)) k
       (λ unused. then_both line c (make s Shut false) (tell (Done s)) k (made s Shut k h (not-false (is_home line c s) here) unused refl) (λ j stays. told (Done s) j stays))
       (λ used.
       let wishes : IsLocalAt line c (record k { wish = put k.wish s true }) = wished_local k (put k.wish s true) h
       (λ u unused. by_same u s (λ same. absurd (both_ways (is_unused (k.book s)) used (ap (λ v. is_unused (k.book v)) (sym same) ∙ unused))) (λ apart. put_other k.wish s u true apart ∙ h.unwished u unused)) in
-      then_both line c (become (λ j. record j { wish = put j.wish s true }) >> tell (Asked s)) (wished line s (k.book s)) k
+      then_both line c (become (λ j. record j { wish = put j.wish s true }) >> tell (Asked s)) (wished line c s (k.book s)) k
       (then_both line c (become (λ j. record j { wish = put j.wish s true })) (tell (Asked s)) k (record { state = wishes; frames = λ d. refl }) (λ j stays. told (Asked s) j stays))
-      (λ j stays. wished_back s (k.book s) j stays (λ t d. h.not_out s t d))))
+      (λ j stays. wished_back s (k.book s) j stays (λ t. h.not_out s t))))
 
   -- ## The step
 

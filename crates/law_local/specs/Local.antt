@@ -32,7 +32,7 @@ pub record IsLocalMission (line : Line) (m : Mission) : Type 0 where
 -- back, a mission is of a train whose registrar it is, and then the right is in the mission; nothing stands with another centre
 pub record IsLocalAt (line : Line) (c : ℕ) (k : Centre) : Type 0 where
   pub taken : (s t : ℕ) → is_taken_for t (k.book s) ≡ hand_has (k.mission t) s
-  pub not_out : (s t d : ℕ) → is_out_for t d (k.book s) ≡ false
+  pub not_out : (s t : ℕ) → is_out_for t (k.book s) ≡ false
   pub foreign : (s : ℕ) → is_home line c s ≡ false → k.book s ≡ centre.Shut
   pub unwished : (s : ℕ) → is_unused (k.book s) ≡ true → k.wish s ≡ false
   pub right : (t : ℕ) → k.has_right t ≡ (is_registrar_of line c t && is_none (k.mission t))

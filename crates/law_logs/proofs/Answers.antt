@@ -1,6 +1,7 @@
 -- No answer to a message or to a frame touches the clock of its centre.
-use Rattle.std.proofs.Common.{ℕ, ◌+◌, ◌*◌, ◌==◌, ◌&&◌, not, Bool, true, false, if◌then◌else◌, Some, None, is_none, nat_lt, nat_le, refl}
+use Rattle.std.proofs.Common.{ℕ, ◌+◌, ◌*◌, ◌==◌, ◌&&◌, not, Bool, true, false, if◌then◌else◌, Some, None, is_none, nat_lt, nat_le, refl, ◌-◌}
 use Rattle.std.specs.Option.{option_map_or}
+use Rattle.law_base.proofs.Standstill.{rests_or_cuts}
 use Rattle.rbc_spec.specs.Maps.{put}
 use Rattle.rbc_spec.specs.SectionRuns.{no_run, most_in_hand, within, behind, is_empty, part_before, part_from, joined, all_of}
 use Rattle.rbc_spec.specs.Line.{Line, is_home, end, next_centre, registrar}
@@ -10,8 +11,8 @@ use Rattle.rbc_spec.specs.Message.{TrainMessage, TrainBody, TrainData, Request, 
 use Rattle.rbc_spec.specs.Frame.{AskRight}
 use Rattle.rbc_spec.specs.Centre.{Taken, Phase, Closed, Opened, Up, Mission, Proposal, is_open, is_taken_for, is_free, is_registrar_of}
 use Rattle.rbc_spec.specs.Acts.{rest, send, cancel, begun, part_at}
-use Rattle.rbc_spec.specs.Rules.{drop_wait, set_phase, close_session, accept, reject, restart, begin, start_here, start_waiting, start_new, start_mission, authority, extension, extended_by, announce_if_due, ask_route_if_due, at_border, grant, request, cleared, clear, report_here, take_over, report, end_mission, cut, granted, answer_granted, answered}
-use Rattle.law_logs.proofs.Clocks.{Keeps, then_keeps, if_keeps, choose_keeps, rest_keeps, where_keeps, option_keeps, by_keeps, some_keeps, mission_keeps, becomes, send_keeps, say_keeps, booked_keeps, freed_keeps, leave_keeps, set_mission_keeps, change_mission_keeps, return_pool_keeps, cancel_keeps, close_keeps, announce_keeps, ask_route_keeps, yield_if_due_keeps}
+use Rattle.rbc_spec.specs.Rules.{drop_wait, set_phase, close_session, accept, reject, restart, begin, start_here, start_waiting, start_new, start_mission, authority, extension, extended_by, announce_if_due, ask_route_if_due, at_border, grant, request, cleared, clear, report_here, take_over, report, end_mission, cut, granted, answer_granted, answered, stand_still}
+use Rattle.law_logs.proofs.Clocks.{Keeps, then_keeps, if_keeps, choose_keeps, rest_keeps, where_keeps, option_keeps, by_keeps, some_keeps, mission_keeps, becomes, send_keeps, say_keeps, booked_keeps, freed_keeps, leave_keeps, set_mission_keeps, change_mission_keeps, return_pool_keeps, cancel_keeps, close_keeps, announce_keeps, ask_route_keeps}
 
 module _ (line : Line) (c t : ℕ) where
   -- ## Sessions and starts
@@ -95,12 +96,7 @@ module _ (line : Line) (c t : ℕ) where
   take_over_keeps = record { clock = λ k. refl }
 
   report_keeps : (position : Position) → Keeps (report line c t position)
-  report_keeps position = by_keeps (λ k. k.mission t) _ (λ m. then_keeps (report_here_keeps position m) (yield_if_due_keeps line c t)) take_over_keeps
-
-  end_mission_keeps : (position : Position) → Keeps (end_mission line c t position)
-  end_mission_keeps position = then_keeps (then_keeps (mission_keeps t (report_here line c t position) (report_here_keeps position))
-      (mission_keeps t _ (λ m. then_keeps (return_pool_keeps line c t m) (change_mission_keeps t (λ n. record n { is_ended = true; proposal = None })))))
-      (yield_if_due_keeps line c t)
+  report_keeps position = by_keeps (λ k. k.mission t) _ (λ m. report_here_keeps position m) take_over_keeps
 
   -- ## Shortening
 
@@ -114,13 +110,19 @@ module _ (line : Line) (c t : ℕ) where
       (λ h. if_keeps (is_empty (part_at line h.to m.place.track kept.hand)) (cancel_keeps line c t kept) rest_keeps) rest_keeps)))
 
   granted_keeps : (position : Position) (m : Mission) (p : Proposal) → Keeps (granted line c t position m p)
-  granted_keeps position m p = then_keeps (then_keeps (change_mission_keeps t (λ n. record n { proposal = None }))
+  granted_keeps position m p = then_keeps (change_mission_keeps t (λ n. record n { proposal = None }))
       (option_keeps (place_on line m.place.track position) (λ place. if nat_le place.front (10 * end line p.last_kept) then cut line c t p.last_kept m else rest)
-      (λ place. if_keeps (nat_le place.front (10 * end line p.last_kept)) (cut_keeps p.last_kept m) rest_keeps) rest_keeps))
-      (yield_if_due_keeps line c t)
+      (λ place. if_keeps (nat_le place.front (10 * end line p.last_kept)) (cut_keeps p.last_kept m) rest_keeps) rest_keeps)
 
   answer_granted_keeps : (position : Position) → Keeps (answer_granted line c t position)
   answer_granted_keeps position = mission_keeps t _ (λ m. some_keeps (λ k. m.proposal) (granted line c t position m) (granted_keeps position m))
+
+  -- ## End of mission
+
+  end_mission_keeps : (position : Position) → Keeps (end_mission line c t position)
+  end_mission_keeps position = then_keeps (then_keeps (mission_keeps t (report_here line c t position) (report_here_keeps position))
+      (mission_keeps t (stand_still line c t position) (λ m. rests_or_cuts Keeps line c t position m rest_keeps (λ n some fits. cut_keeps (m.hand.first + n - 1) m))))
+      (mission_keeps t _ (λ m. then_keeps (return_pool_keeps line c t m) (change_mission_keeps t (λ n. record n { is_ended = true; proposal = None }))))
 
 -- ## A train's message
 

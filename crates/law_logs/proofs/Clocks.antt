@@ -1,5 +1,6 @@
 -- No act of a step touches the clock of its centre: part by part.
-use Rattle.std.proofs.Common.{◌≡◌, ℕ, ◌&&◌, Bool, true, false, if◌then◌else◌, Option, Some, None, refl, ◌∙◌}
+use Rattle.rbc_spec.specs.Links.{taking_over}
+use Rattle.std.proofs.Common.{◌≡◌, ℕ, ◌&&◌, Bool, true, false, if◌then◌else◌, Option, Some, None, refl, ◌∙◌, ◌==◌}
 use Rattle.std.specs.Option.{option_map_or}
 use Rattle.rbc_spec.specs.Maps.{put}
 use Rattle.rbc_spec.specs.SectionRuns.{SectionRun, no_run, is_empty}
@@ -9,7 +10,7 @@ use Rattle.rbc_spec.specs.Sections.{nid_rbc}
 use Rattle.rbc_spec.specs.Frame.{Body, ReturnRight, Cancel, Yield, yielded_place}
 use Rattle.rbc_spec.specs.Outcome.{Word}
 use Rattle.rbc_spec.specs.Centre.{Centre, Entry, Out, Mission, Handing, is_up, is_taken_for, is_registrar_of}
-use Rattle.rbc_spec.specs.Acts.{Act, Reply, become, rest, ◌>>◌, where_so, with_some, with_mission, send, say, booked, freed, returned, leave, set_mission, change_mission, return_pool, cancel, return_right, close, may_propose, propose, propose_if_so, part_at, announce, ask_route, end_order, yield, is_of_two, yield_if_due}
+use Rattle.rbc_spec.specs.Acts.{Act, Reply, become, rest, ◌>>◌, where_so, with_some, with_mission, send, say, booked, freed, returned, leave, set_mission, change_mission, return_pool, cancel, return_right, close, may_propose, propose, propose_if_so, part_at, announce, ask_route, end_order, yield}
 use Rattle.rbc_spec.specs.Rules.{tell, choose}
 
 -- the act leaves the clock as it was
@@ -127,11 +128,11 @@ module _ (line : Line) (c t : ℕ) where
   yield_keeps : (m : Mission) (h : Handing) → Keeps (yield line c t m h)
   yield_keeps m h = record {
     clock = λ k. (then_keeps
-        (then_keeps (then_keeps (returned_keeps line c t m.place.track m.pool) (booked_keeps (is_taken_for t) (Out t h.to) m.hand))
+        (then_keeps (then_keeps (returned_keeps line c t m.place.track m.pool) (booked_keeps (is_taken_for t) (Out t) m.hand))
         (then_keeps (set_mission_keeps t None)
         (send_keeps h.to (Yield h.number t (option_map_or (λ n. n) (k.heard t) 0) m.has_data m.is_ended (yielded_place m.place) m.hand))))
         (if_keeps (is_empty (part_at line c m.place.track m.hand)) end_order_keeps rest_keeps)).clock k;
   }
 
-  pub yield_if_due_keeps : Keeps (yield_if_due line c t)
-  yield_if_due_keeps = mission_keeps t _ (λ m. some_keeps (λ k. m.handing) _ (λ h. where_keeps (λ k. h.is_claimed && is_of_two line c h.to m.hand) (yield_keeps m h)))
+  pub taking_over_keeps : (d number : ℕ) → Keeps (taking_over line c d number t)
+  taking_over_keeps d number = mission_keeps t _ (λ m. some_keeps (λ k. m.handing) _ (λ h. where_keeps (λ k. (h.number == number) && (h.to == d)) (yield_keeps m h)))

@@ -4,12 +4,12 @@ use Rattle.std.specs.Option.{option_map_or}
 use Rattle.rbc_spec.specs.Maps.{put}
 use Rattle.rbc_spec.specs.Line.{Line, is_home}
 use Rattle.rbc_spec.specs.Message.{TrainMessage}
-use Rattle.rbc_spec.specs.Frame.{Frame, RouteWithdraw}
+use Rattle.rbc_spec.specs.Frame.{Frame}
 use Rattle.rbc_spec.specs.Outcome.{Reason, Done, Asked, NotHome, Taken as LinkAnswer, Next, Old, Early, NoLink}
 use Rattle.rbc_spec.specs.Centre.{Centre, Entry, Shut, Open, Taken, Out, is_unused}
 use Rattle.rbc_spec.specs.Acts.{rest, hear}
 use Rattle.rbc_spec.specs.Step.{Event, Train, Set, Unset, Deliver, Effect, effect, silence, hear_and_answer, set, unset, wished, make, taken_by, link_answer}
-use Rattle.law_logs.proofs.Clocks.{Keeps, then_keeps, if_keeps, choose_keeps, rest_keeps, becomes, tell_keeps, send_keeps, propose_if_so_keeps}
+use Rattle.law_logs.proofs.Clocks.{Keeps, then_keeps, if_keeps, choose_keeps, rest_keeps, becomes, tell_keeps, propose_if_so_keeps}
 use Rattle.law_logs.proofs.Answers.{answered_keeps}
 use Rattle.law_logs.proofs.Received.{received_keeps}
 
@@ -20,11 +20,11 @@ hears : (m : TrainMessage) → Keeps (hear m)
 hears m = record { clock = λ k. refl }
 
 module _ (line : Line) (c : ℕ) where
-  wished_keeps : (s : ℕ) (e : Entry) → Keeps (wished line s e)
+  wished_keeps : (s : ℕ) (e : Entry) → Keeps (wished line c s e)
   wished_keeps s Shut = rest_keeps
   wished_keeps s Open = rest_keeps
   wished_keeps s (Taken t) = propose_if_so_keeps line c t s
-  wished_keeps s (Out t d) = send_keeps d (RouteWithdraw t s)
+  wished_keeps s (Out t) = record { clock = λ k. refl }
 
   set_keeps : (s : ℕ) → Keeps (set line c s)
   set_keeps s = record {

@@ -10,8 +10,8 @@ use Rattle.rbc_spec.specs.Frame.{Body, AskRight, GiveRight, RefuseRight, ReturnR
 use Rattle.rbc_spec.specs.Centre.{Taken, Out, Mission, Expectation, is_out_for, is_open, uses_some, is_expected, is_registrar_of}
 use Rattle.rbc_spec.specs.Acts.{Act, become, ◌>>◌, propose_if_so}
 use Rattle.rbc_spec.specs.Rules.{begin}
-use Rattle.rbc_spec.specs.Links.{is_of_line, right_asked, answered_ask, right_given, right_refused, right_returned, lendable, route_asked, is_wanted, route_told, route_withdrawn, route_returned, expect, announced, is_under, cancelled, claimed, taking_over, may_take, take_mission, yielded, is_train, of_train, received}
-use Rattle.law_logs.proofs.Clocks.{Keeps, then_keeps, if_keeps, choose_keeps, rest_keeps, where_keeps, option_keeps, some_keeps, mission_keeps, becomes, send_keeps, booked_keeps, freed_keeps, returned_keeps, set_mission_keeps, change_mission_keeps, return_right_keeps, propose_if_so_keeps, end_order_keeps, yield_if_due_keeps}
+use Rattle.rbc_spec.specs.Links.{is_of_line, right_asked, answered_ask, right_given, right_refused, right_returned, lendable, route_asked, is_wanted, route_told, route_withdrawn, route_returned, expect, announced, is_under, cancelled, may_take, take_mission, yielded, is_train, of_train, received}
+use Rattle.law_logs.proofs.Clocks.{Keeps, then_keeps, if_keeps, choose_keeps, rest_keeps, where_keeps, option_keeps, some_keeps, mission_keeps, becomes, send_keeps, booked_keeps, freed_keeps, returned_keeps, set_mission_keeps, change_mission_keeps, return_right_keeps, propose_if_so_keeps, end_order_keeps, taking_over_keeps}
 use Rattle.law_logs.proofs.Answers.{drop_wait_keeps, reject_keeps, begin_keeps}
 
 module _ (line : Line) (c d t : ℕ) where
@@ -37,7 +37,7 @@ module _ (line : Line) (c d t : ℕ) where
   lends_keeps : (first most : ℕ) → Keeps (route_asked line c d t first most)
   lends_keeps first most = record {
     clock = λ k. (where_keeps (λ j. is_some (section line first))
-        (then_keeps (booked_keeps is_open (Out t d) (lendable line c k first most)) (send_keeps d (RouteInfo t (lendable line c k first most))))).clock k;
+        (then_keeps (booked_keeps is_open (Out t) (lendable line c k first most)) (send_keeps d (RouteInfo t (lendable line c k first most))))).clock k;
   }
 
   told_keeps : (r : SectionRun) → Keeps (route_told line c d t r)
@@ -50,8 +50,8 @@ module _ (line : Line) (c d t : ℕ) where
       (then_keeps (returned_keeps line c t m.place.track (part_from s m.pool)) (change_mission_keeps t (λ n. record n { pool = part_before s n.pool })))
       (propose_if_so_keeps line c t s))
 
-  home_keeps : (r : SectionRun) → Keeps (route_returned line c d t r)
-  home_keeps r = then_keeps (freed_keeps line c (is_out_for t d) r)
+  home_keeps : (r : SectionRun) → Keeps (route_returned line c t r)
+  home_keeps r = then_keeps (freed_keeps line c (is_out_for t) r)
       (where_keeps (λ k. not (uses_some line c k t) && ((is_none (k.mission t) && is_none (k.wait t)) && not (is_expected line k t))) (end_order_keeps line c t))
 
   expect_keeps : (e : Option Expectation) → Keeps (expect d t e)
@@ -63,12 +63,9 @@ module _ (line : Line) (c d t : ℕ) where
   cancelled_keeps : (number : ℕ) → Keeps (cancelled d number t)
   cancelled_keeps number = where_keeps (λ k. is_under number (k.expects d t)) (expect_keeps None)
 
-  taking_over_keeps : (number : ℕ) → Keeps (taking_over line c d number t)
-  taking_over_keeps number = then_keeps (change_mission_keeps t (claimed d number)) (yield_if_due_keeps line c t)
-
   take_mission_keeps : (heard : ℕ) (m : Mission) → Keeps (take_mission line c d t heard m)
   take_mission_keeps heard m = then_keeps
-      (then_keeps (then_keeps (booked_keeps (is_out_for t d) (Taken t) m.hand) (set_mission_keeps t (Some m)))
+      (then_keeps (then_keeps (booked_keeps (is_out_for t) (Taken t) m.hand) (set_mission_keeps t (Some m)))
       (then_keeps (becomes (λ k. record k { heard = put k.heard t (Some (option_map_or (max heard) (k.heard t) heard)) }) (λ k. refl)) (expect_keeps None)))
       (some_keeps (λ k. find (λ s. is_home line c s && k.wish s) (range_with_len m.hand.first m.hand.count)) (propose_if_so line t) (propose_if_so_keeps line c t))
 
@@ -90,6 +87,6 @@ received_keeps line c d (RouteWithdraw t s) = of_keeps line t (if_keeps (is_some
 received_keeps line c d (RouteReturn t r) = of_keeps line t (if_keeps (all_of (λ s. is_some (section line s)) r) (home_keeps line c d t r) rest_keeps)
 received_keeps line c d (Announce number t track) = of_keeps line t (if_keeps (nat_lt track (length line.tracks)) (announced_keeps line c d t number) rest_keeps)
 received_keeps line c d (Cancel number t) = of_keeps line t (cancelled_keeps line c d t number)
-received_keeps line c d (TakingOver number t) = of_keeps line t (taking_over_keeps line c d t number)
+received_keeps line c d (TakingOver number t) = of_keeps line t (taking_over_keeps line c t d number)
 received_keeps line c d (Yield number t heard has_data is_ended place hand) = of_keeps line t
     (option_keeps (carried_place place) (yielded line c d number t hand heard has_data is_ended) (yielded_keeps line c d t number hand heard has_data is_ended) rest_keeps)

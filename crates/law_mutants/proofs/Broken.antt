@@ -39,9 +39,9 @@ pub return_comes : TakesHead (flow returning) 0 1 (RouteReturn 1 (only 2))
 unfolding within longest line_start end extent beginning ◌>>◌ step new_world world_step world_run behind
 return_comes = record { head = refl }
 
-pub opened_early : GoesPast (tokens small 1 1) small (flow returning) (replied (took (flow returning) 0 1) 1 (giving_back_all small 1 0 1 (only 2) ((flow returning).at 1)))
+pub opened_early : GoesPast (tokens small 1 1) small (flow returning) (replied (took (flow returning) 0 1) 1 (giving_back_all small 1 1 (only 2) ((flow returning).at 1)))
 unfolding within longest line_start end extent beginning ◌>>◌ step new_world world_step world_run behind placed allowed sum_below sum_links carried
-opened_early = goes_past (tokens small 1 1) small (flow returning) (replied (took (flow returning) 0 1) 1 (giving_back_all small 1 0 1 (only 2) ((flow returning).at 1))) refl refl
+opened_early = goes_past (tokens small 1 1) small (flow returning) (replied (took (flow returning) 0 1) 1 (giving_back_all small 1 1 (only 2) ((flow returning).at 1))) refl refl
 
 pub pool_kept : GoesPast (tokens small 1 1) small (flow pooled) (replied (flow pooled) 0 (sent_home_by (keeping_pool small 0 1) 1 ((flow pooled).at 0)))
 unfolding within longest line_start end extent beginning ◌>>◌ step new_world world_step world_run behind placed allowed sum_below sum_links carried

@@ -58,9 +58,9 @@ module _ (line : Line) (ok : IsLine line) (c t s : ℕ) where
 
   pub home_once : (w : Flow) (a u : ℕ) (r : SectionRun) → IsCounted w → is_centre line a ≡ true → is_centre line c ≡ true → TakesHead w a c (RouteReturn u r)
       → IsWithinCap (tokens line t s) (centre_count line) w
-      → IsWithinCap (tokens line t s) (centre_count line) (replied (took w a c) c (route_returned line c a u r (w.at c)))
+      → IsWithinCap (tokens line t s) (centre_count line) (replied (took w a c) c (route_returned line c u r (w.at c)))
   home_once w a u r counted from centre takes =
-      at_head line c (tokens_tally line c t s) is w a (RouteReturn u r) (route_returned line c a u r (w.at c)) counted from centre takes
+      at_head line c (tokens_tally line c t s) is w a (RouteReturn u r) (route_returned line c u r (w.at c)) counted from centre takes
       (fair_home line c (tokens_tally line c t s) is a u r (w.at c) (λ so. cc))
 
   pub asked_back_once : (w : Flow) (e : ℕ) → IsCounted w → is_centre line c ≡ true → IsWithinCap (tokens line t s) (centre_count line) w

@@ -44,7 +44,7 @@ module _ (line : Line) (c d t heard : ℕ) (m : Mission) (k : Centre) where
   hears = become (λ j. record j { heard = put j.heard t (Some (option_map_or (max heard) (j.heard t) heard)) })
 
   last : Centre
-  last = (((booked (is_out_for t d) (Taken t) m.hand >> set_mission t (Some m)) >> (hears >> expect d t None)) k).state
+  last = (((booked (is_out_for t) (Taken t) m.hand >> set_mission t (Some m)) >> (hears >> expect d t None)) k).state
 
   kept : last.heard t ≡ Some (option_map_or (max heard) (k.heard t) heard)
   unfolding ◌>>◌ last
@@ -73,7 +73,7 @@ still_taken line c d older number t place hand k apart may = by_number (is_under
     expected = (and_parts (has (λ e. (e.number == number) && e.is_taking) (k.expects d t)) (is_none (k.mission t) && not (k.has_right t))
         (and_parts (has (λ e. (e.number == number) && e.is_taking) (k.expects d t) && (is_none (k.mission t) && not (k.has_right t)))
         ((is_on_track line place.track hand && has (is_on line place.track) (section_of_group line place.group))
-        && (nat_le (10 * group_start line place) place.front && all_of (may_arrive line c k d t place.track) hand)) may).0).0
+        && (nat_le (10 * group_start line place) place.front && all_of (may_arrive line c k t place.track) hand)) may).0).0
 
     by_number : (b : Bool) → is_under older (k.expects d t) ≡ b
         → may_take line c (if b then expect d t None k else rest k).state d number t place hand ≡ true

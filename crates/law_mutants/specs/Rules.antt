@@ -19,7 +19,7 @@ use Rattle.rbc_spec.specs.Step.{make, wished}
 
 abbrev pub is_there : Entry → Bool
 is_there Open = true
-is_there (Out t d) = true
+is_there (Out t) = true
 is_there e = false
 
 abbrev pub lendable_again : Line → ℕ → Centre → ℕ → ℕ → SectionRun
@@ -30,19 +30,19 @@ lendable_again line c k first most =
 abbrev pub lending_again : Line → ℕ → ℕ → ℕ → ℕ → ℕ → Act
 lending_again line c d t first most k =
     let r = lendable_again line c k first most in
-    (where_so (λ j. is_some (section line first)) (booked is_there (Out t d) r >> send d (RouteInfo t r))) k
+    (where_so (λ j. is_some (section line first)) (booked is_there (Out t) r >> send d (RouteInfo t r))) k
 
 -- as `unset`, but a section in use is shut at once, while the one who has it is told
 abbrev pub shutting_at_once : Line → ℕ → ℕ → Act
 shutting_at_once line c s k =
     if not (is_home line c s) then tell (NotHome s) k
     else (if is_unused (k.book s) then (make s Shut false >> tell (Done s))
-    else ((wished line s (k.book s) >> make s Shut false) >> tell (Done s))) k
+    else ((wished line c s (k.book s) >> make s Shut false) >> tell (Done s))) k
 
--- as `route_returned`, but with the sections that come home all are given back that are out at centre d for the train
-abbrev pub giving_back_all : Line → ℕ → ℕ → ℕ → SectionRun → Act
-giving_back_all line c d t r =
-    freed line c (is_out_for t d) (record { first = 0; count = 512 })
+-- as `route_returned`, but with the sections that come home all are given back that are out for the train
+abbrev pub giving_back_all : Line → ℕ → ℕ → SectionRun → Act
+giving_back_all line c t r =
+    freed line c (is_out_for t) (record { first = 0; count = 512 })
     >> where_so (λ k. not (uses_some line c k t) && ((is_none (k.mission t) && is_none (k.wait t)) && not (is_expected line k t))) (end_order line c t)
 
 -- as `return_pool`, but the pool stays
@@ -61,14 +61,14 @@ starting_at_once line t place =
 -- as `yield`, but the mission goes on here
 abbrev pub keeping_yield : Line → ℕ → ℕ → Mission → Handing → Act
 keeping_yield line c t m h k =
-    (((returned line c t m.place.track m.pool >> booked (is_taken_for t) (Out t h.to) m.hand)
+    (((returned line c t m.place.track m.pool >> booked (is_taken_for t) (Out t) m.hand)
     >> send h.to (Yield h.number t (option_map_or (λ n. n) (k.heard t) 0) m.has_data m.is_ended (yielded_place m.place) m.hand))
     >> (if is_empty (part_at line c m.place.track m.hand) then end_order line c t else rest)) k
 
 -- as `take_mission`, but the older of both stamps is kept
 abbrev pub keeping_older : Line → ℕ → ℕ → ℕ → ℕ → Mission → Act
 keeping_older line c d t heard m =
-    ((booked (is_out_for t d) (Taken t) m.hand >> set_mission t (Some m))
+    ((booked (is_out_for t) (Taken t) m.hand >> set_mission t (Some m))
     >> (become (λ k. record k { heard = put k.heard t (Some (option_map_or (min heard) (k.heard t) heard)) }) >> expect d t None))
     >> with_some (λ k. find (λ s. is_home line c s && k.wish s) (range_with_len m.hand.first m.hand.count)) (propose_if_so line t)
 

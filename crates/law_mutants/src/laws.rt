@@ -59,14 +59,14 @@ pub fn no_start_begins_before_its_right()
 {}
 
 /// Whatever sections come home at the head of a link, no section is then held more often than its home lets be out. Where all are given back
-/// that are out at that centre for the train, one opens that is still in a pool there.
+/// that are out for the train, one opens that is still in a pool there.
 pub fn no_section_opens_before_its_return()
     ensures the_rule_keeps { (line : Line) (w : Flow) (a c u t s : ℕ) (r : SectionRun) → IsLine line → IsCounted w
         → is_centre line a ≡ true → is_centre line c ≡ true → TakesHead w a c (RouteReturn u r)
         → IsWithinCap (tokens line t s) (centre_count line) w
-        → IsWithinCap (tokens line t s) (centre_count line) (replied (took w a c) c (route_returned line c a u r (w.at c))) }
+        → IsWithinCap (tokens line t s) (centre_count line) (replied (took w a c) c (route_returned line c u r (w.at c))) }
     ensures the_wrong_rule_breaks { TakesHead (flow returning) 0 1 (RouteReturn 1 (only 2))
-        × GoesPast (tokens small 1 1) small (flow returning) (replied (took (flow returning) 0 1) 1 (giving_back_all small 1 0 1 (only 2) ((flow returning).at 1))) }
+        × GoesPast (tokens small 1 1) small (flow returning) (replied (took (flow returning) 0 1) 1 (giving_back_all small 1 1 (only 2) ((flow returning).at 1))) }
 {}
 
 /// Nor does a section that the interlocking wishes back: it stays in use until it comes home. Where it is shut as it is asked back, it is

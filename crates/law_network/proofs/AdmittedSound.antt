@@ -1,5 +1,5 @@
 -- A right that was asked for comes to a centre where a start of mission waits for it: the start becomes a mission, and all stays sound.
-use Rattle.std.proofs.Common.{◌≡◌, ◌≢◌, ◌⊎◌, ℕ, ◌+◌, ◌<◌, ◌≤◌, ◌==◌, ◌&&◌, not, Bool, true, false, [], Option, Some, None, refl, sym, ap, ◌∙◌, subst, inl, inr, arith, ⊎_elim, is_some, eq-eqb}
+use Rattle.std.proofs.Common.{◌≡◌, ◌≢◌, ◌⊎◌, ℕ, ◌+◌, ◌<◌, ◌≤◌, ◌==◌, Bool, true, false, [], Option, Some, None, refl, sym, ap, ◌∙◌, subst, inl, inr, arith, ⊎_elim, is_some, eq-eqb}
 use Rattle.std.proofs.lemmas.Bool.{cases_eq, cond-true, ne_eqb, ltb-true}
 use Rattle.std.proofs.lemmas.List.Elements.{All-nil}
 use Rattle.law_counting.specs.Sums.{one_if, put}
@@ -18,14 +18,13 @@ use Rattle.rbc_spec.specs.Acts.{begun}
 use Rattle.law_local.specs.Local.{hand_has}
 use Rattle.law_local.proofs.Missions.{none_within}
 use Rattle.law_network.specs.Flow.{Flow, centre_count}
-use Rattle.law_network.specs.Counts.{rights, tokens, lent, missions, pool_has, wait_has}
+use Rattle.law_network.specs.Counts.{rights, tokens, missions, pool_has, wait_has}
 use Rattle.law_network.specs.Pairs.{handing_to}
 use Rattle.law_network.specs.Sound.{IsFlowSound, IsCentreSound, IsMissionAt, IsBodySound}
 use Rattle.law_network.proofs.Basics.{itself, missions_le}
-use Rattle.law_network.proofs.Begins.{no_use}
 use Rattle.law_network.specs.Keeping.{came_with, IsFairAct, IsNeutral, IsApart}
 use Rattle.law_network.proofs.Kept.{delivered_neutral}
-use Rattle.law_network.proofs.Neighbours.{one_registrar}
+use Rattle.law_network.proofs.Neighbours.{one_registrar, begun_ends}
 
 module _ (line : Line) (w : Flow) (sound : IsFlowSound line w) (a c t number : ℕ) (place : Place) (from : is_centre line a ≡ true) (to : is_centre line c ≡ true)
     (takes : TakesHead w a c (GiveRight t)) (waits : (w.at c).wait t ≡ Some place) where
@@ -134,10 +133,10 @@ module _ (line : Line) (w : Flow) (sound : IsFlowSound line w) (a c t number : �
       (λ (other : u ≢ t). sym (put_other k.wait t None u other) ∙ is) (cases_eq u t)
 
   begun_sound : IsMissionAt line c y (begun line place)
-  begun_sound = record { hand = (sound.centres c to).wait_fits t place waits; pool_follows = λ some. cc; pool_away = λ s has. absurd (none_within s has); pool_on = λ s has. absurd (none_within s has); handing_to = λ h is. cc; handing_number = λ h is. cc }
+  begun_sound = record { hand = (sound.centres c to).wait_fits t place waits; pool_follows = λ some. cc; pool_away = λ s has. absurd (none_within s has); pool_on = λ s has. absurd (none_within s has); pool_next = λ s d next has. absurd (none_within s has); handing_to = λ h is. cc; handing_number = λ h is. cc; hand_ends = λ s d n next behind come has. begun_ends line c d n s place next (λ e in_hand. (sound.centres c to).wait_home t e (wait_then e ∙ in_hand)) come }
 
   at_centre : (m : centre.Mission) → IsMissionAt line c k m → IsMissionAt line c y m
-  at_centre m is = record { hand = is.hand; pool_follows = is.pool_follows; pool_away = is.pool_away; pool_on = is.pool_on; handing_to = is.handing_to; handing_number = is.handing_number }
+  at_centre m is = record { hand = is.hand; pool_follows = is.pool_follows; pool_away = is.pool_away; pool_on = is.pool_on; pool_next = is.pool_next; handing_to = is.handing_to; handing_number = is.handing_number; hand_ends = is.hand_ends }
 
   is_mission : (u : ℕ) (m : centre.Mission) → y.mission u ≡ Some m → ((u ≡ t) × (begun line place ≡ m)) ⊎ (k.mission u ≡ Some m)
   is_mission u m is = ⊎_elim
@@ -153,7 +152,7 @@ module _ (line : Line) (w : Flow) (sound : IsFlowSound line w) (a c t number : �
         (omega (arith, old.claims s t home, ap one_if (hand_now s), ap one_if (hand_then s), ap one_if (wait_now s), ap one_if (wait_then s)))
         (λ other. omega (arith, old.claims s u home, ap one_if (hand_put u s other), ap one_if (wait_put u s other)));
     foreign = old.foreign;
-    out_at = old.out_at;
+    asks = old.asks;
     unwished = old.unwished;
     wait_home = λ u s has. by_train (λ x. wait_has line (y.wait x) s ≡ true → is_home line c s ≡ true) u
         (λ now. absurd (let wrong : false ≡ true = sym (wait_now s) ∙ now in cc)) (λ other now. old.wait_home u s (sym (wait_put u s other) ∙ now)) has;
@@ -177,18 +176,6 @@ module _ (line : Line) (w : Flow) (sound : IsFlowSound line w) (a c t number : �
         (λ other. ap (handing_to b) (put_other k.mission t (Some (begun line place)) u other));
   }
 
-  nothing_out : (s d : ℕ) (b : Bool) → within (covered line place) s ≡ b → (((c == d) && not (is_home line c s)) && b) ≡ false
-  nothing_out s d true is = ap (λ h. ((c == d) && not h) && true) (home_here s is) ∙ no_way (c == d)
-    where
-      no_way : (z : Bool) → ((z && false) && true) ≡ false
-      no_way true = refl
-      no_way false = refl
-  nothing_out s d false is = no_way ((c == d) && not (is_home line c s))
-    where
-      no_way : (z : Bool) → (z && false) ≡ false
-      no_way true = refl
-      no_way false = refl
-
   pub keeps : IsFlowSound line new
   keeps = delivered_neutral line w sound c to y (λ d. []) (record { centre = centre_sound; inside = λ d out_of. refl; bodies = λ d. All-nil (IsBodySound line c d) }) a (GiveRight t) takes from fair neutral (λ d. All-nil IsNeutral) apart_so
     where
@@ -210,16 +197,6 @@ module _ (line : Line) (w : Flow) (sound : IsFlowSound line w) (a c t number : �
             by_train (λ x. (one_if (wait_has line (y.wait x) s) + one_if (hand_has (y.mission x) s)) + one_if (pool_has (y.mission x) s) ≤ (one_if (wait_has line (k.wait x) s) + one_if (hand_has (k.mission x) s)) + one_if (pool_has (k.mission x) s)) u
                 (omega (arith, ap one_if (hand_now s), ap one_if (wait_now s), ap one_if (wait_then s), ap one_if (pool_now s)))
                 (λ other. omega (arith, ap one_if (hand_put u s other), ap one_if (wait_put u s other), ap one_if (pool_put u s other))),
-          );
-        };
-        lent = λ u s d. record {
-          law = omega (
-            arith,
-            sent_none (lent line u s d) (centre_count line) c,
-            by_train (λ x. one_if (((c == d) && not (is_home line c s)) && hand_has (y.mission x) s) + one_if (((c == d) && not (is_home line c s)) && pool_has (y.mission x) s)
-                ≤ one_if (((c == d) && not (is_home line c s)) && hand_has (k.mission x) s) + one_if (((c == d) && not (is_home line c s)) && pool_has (k.mission x) s)) u
-                (omega (arith, ap (λ b. one_if (((c == d) && not (is_home line c s)) && b)) (hand_now s), ap one_if (nothing_out s d (within (covered line place) s) refl), ap (λ b. one_if (((c == d) && not (is_home line c s)) && b)) (pool_now s), no_use ((c == d) && not (is_home line c s))))
-                (λ other. omega (arith, ap (λ b. one_if (((c == d) && not (is_home line c s)) && b)) (hand_put u s other), ap (λ b. one_if (((c == d) && not (is_home line c s)) && b)) (pool_put u s other))),
           );
         };
       }

@@ -1,5 +1,5 @@
 -- The beginning of a line is sound, and the one line centre's beginning shows it.
-use Rattle.std.proofs.Common.{◌≡◌, ℕ, ◌&&◌, ◌==◌, not, Bool, true, false, [], None, refl, inl, arith}
+use Rattle.std.proofs.Common.{◌≡◌, ℕ, ◌&&◌, Bool, true, false, [], None, refl, inl, arith}
 use Rattle.law_counting.specs.Sums.{one_if}
 use Rattle.law_counting.specs.Network.{way}
 use Rattle.law_counting.proofs.Resource.{within_start, at_cap_start}
@@ -10,7 +10,7 @@ use Rattle.rbc_spec.specs.Centre.{beginning}
 use Rattle.rbc_spec.specs.World.{new_world}
 use Rattle.rbc_spec.specs.LineCentre.{line_beginning}
 use Rattle.law_network.specs.Flow.{flow_of, centre_count}
-use Rattle.law_network.specs.Counts.{rights, tokens, lent}
+use Rattle.law_network.specs.Counts.{rights, tokens}
 use Rattle.law_network.specs.Pairs.{follows}
 use Rattle.law_network.specs.Sound.{IsCentreSound, IsFlowSound, IsBodySound, LosesNothing}
 use Rattle.law_network.specs.Numbers.{IsNumbered}
@@ -29,7 +29,7 @@ unfolding beginning
 centre_begins line c = record {
   claims = λ s t home. refl;
   foreign = λ s away. refl;
-  out_at = λ s t d is. cc;
+  asks = λ t first is. cc;
   unwished = λ s unused. refl;
   wait_home = λ t s has. cc;
   wait_fits = λ t place is. cc;
@@ -47,7 +47,6 @@ line_begins line = record {
   no_sent = λ a b out. refl;
   rights = λ t. within_start (rights line t) (centre_count line) (flow_of (new_world line)) (none_way line) (λ c small. omega arith);
   tokens = λ t s. within_start (tokens line t s) (centre_count line) (flow_of (new_world line)) (none_way line) (λ c small. omega arith);
-  lent = λ t s d. within_start (lent line t s d) (centre_count line) (flow_of (new_world line)) (none_way line) (λ c small. omega (arith, no_use ((c == d) && not (is_home line c s))));
   bodies = each_start (IsBodySound line) (flow_of (new_world line)) (none_way line);
   pairs = λ a b t at to. record {
     chain = chain_none (follows t) None;

@@ -12,11 +12,11 @@ use Rattle.law_counting.proofs.Resource.{fair_still, placed_sound, placed_sound_
 use Rattle.rbc_spec.specs.Maps.{has}
 use Rattle.rbc_spec.specs.Line.{Line, is_centre, is_home}
 use Rattle.rbc_spec.specs.Frame.{Body}
-use Rattle.rbc_spec.specs.Centre.{Centre, Entry, Mission, Expectation, is_unused, is_taken_for, is_used_for, is_out_for}
+use Rattle.rbc_spec.specs.Centre.{Centre, Entry, Mission, Expectation, is_unused, is_taken_for, is_used_for}
 use Rattle.rbc_spec.specs.Place.{Place}
 use Rattle.law_local.specs.Local.{hand_has}
 use Rattle.law_network.specs.Flow.{Flow, centre_count}
-use Rattle.law_network.specs.Counts.{rights, tokens, lent, pool_has, wait_has}
+use Rattle.law_network.specs.Counts.{rights, tokens, pool_has, wait_has}
 use Rattle.law_network.specs.Pairs.{IsPaired, follows, handing_to, count_if, announces, takes_over, yields, before, after}
 use Rattle.law_network.specs.Sound.{IsMissionAt, IsCentreSound, IsFlowSound, IsBodySound}
 use Rattle.law_network.specs.Keeping.{nothing_came, came_with, IsFairAct, LeavesSound, IsNeutral, IsApart, IsAside}
@@ -65,7 +65,6 @@ module _ (u : Flow) (counted : IsCounted u) (c : ℕ) (y : Centre) (frames : ℕ
     arith,
     count_new (takes_over t h) (λ g is. is.takes_over t h) j i,
     count_new (yields t h) (λ g is. is.yields t h) i j,
-    ap (λ o. one_if (has (λ x. (x.number == h) && x.is_claimed) o)) (handing_same i j t),
   )
 
   chain_goes : (i j t : ℕ) (start end : Option ℕ) → Chain (follows t) (way u i j) start end → Chain (follows t) (way new i j) start end
@@ -154,7 +153,6 @@ module _ (line : Line) (w : Flow) (sound : IsFlowSound line w) (c : ℕ) (to : i
     no_sent = no_sent_after;
     rights = λ t. placed_sound (rights line t) (centre_count line) w c y frames sound.counted below (fair.rights t) (sound.rights t);
     tokens = λ t s. placed_sound (tokens line t s) (centre_count line) w c y frames sound.counted below (fair.tokens t s) (sound.tokens t s);
-    lent = λ t s d. placed_sound (lent line t s d) (centre_count line) w c y frames sound.counted below (fair.lent t s d) (sound.lent t s d);
     bodies = each_acted (IsBodySound line) w c y frames sound.counted leaves.bodies sound.bodies;
     pairs = pairs;
   }
@@ -170,7 +168,6 @@ module _ (line : Line) (w : Flow) (sound : IsFlowSound line w) (c : ℕ) (to : i
     no_sent = no_sent_after;
     rights = λ t. placed_sound_took (rights line t) (centre_count line) w a c f y frames sound.counted (ltb-true a (centre_count line) from) below takes (fair.rights t) (sound.rights t);
     tokens = λ t s. placed_sound_took (tokens line t s) (centre_count line) w a c f y frames sound.counted (ltb-true a (centre_count line) from) below takes (fair.tokens t s) (sound.tokens t s);
-    lent = λ t s d. placed_sound_took (lent line t s d) (centre_count line) w a c f y frames sound.counted (ltb-true a (centre_count line) from) below takes (fair.lent t s d) (sound.lent t s d);
     bodies = each_acted (IsBodySound line) (took w a c) c y frames (counted_took w a c f takes sound.counted) leaves.bodies (each_took (IsBodySound line) w a c f takes sound.bodies);
     pairs = pairs;
   }
@@ -197,7 +194,7 @@ module _ (line : Line) (c : ℕ) (k y : Centre) (aside : IsAside k y) where
       ap (λ (f : ℕ → Option Mission). one_if (hand_has (f t) s)) aside.mission,
     );
     foreign = λ s away. ap (λ (f : ℕ → Entry). f s) aside.book ∙ old.foreign s away;
-    out_at = λ s t d is. old.out_at s t d (sym (ap (λ (f : ℕ → Entry). f s) aside.book) ∙ is);
+    asks = λ t first is. old.asks t first (aside.asks t first is);
     unwished = λ s unused. ap (λ (f : ℕ → Bool). f s) aside.wish ∙ old.unwished s (sym (ap (λ (f : ℕ → Entry). is_unused (f s)) aside.book) ∙ unused);
     wait_home = λ t s is. old.wait_home t s (sym (ap (λ (f : ℕ → Option Place). wait_has line (f t) s) aside.wait) ∙ is);
     wait_fits = λ t place is. old.wait_fits t place (was_waiting t place is);
@@ -218,8 +215,10 @@ module _ (line : Line) (c : ℕ) (k y : Centre) (aside : IsAside k y) where
         pool_follows = is.pool_follows;
         pool_away = is.pool_away;
         pool_on = is.pool_on;
+        pool_next = is.pool_next;
         handing_to = is.handing_to;
         handing_number = λ h some. let counted = is.handing_number h some in (counted.0, omega (arith, counted.1, aside.announced));
+        hand_ends = is.hand_ends;
       }
 
 -- an act that changes nothing that is counted, and sends nothing
@@ -232,13 +231,6 @@ aside_sound line w sound c to y aside = acted_neutral line w sound c to y (λ d.
       tokens = λ t s. fair_still (tokens line t s) (centre_count line) c (w.at c) y
           (omega (arith, ap (λ (f : ℕ → Option Place). one_if (wait_has line (f t) s)) aside.wait, ap (λ (f : ℕ → Option Mission). one_if (hand_has (f t) s)) aside.mission, ap (λ (f : ℕ → Option Mission). one_if (pool_has (f t) s)) aside.mission))
           (omega (arith, ap (λ (f : ℕ → Entry). one_if (is_home line c s && is_used_for t (f s))) aside.book));
-      lent = λ t s d. fair_still (lent line t s d) (centre_count line) c (w.at c) y
-          (omega (
-            arith,
-            ap (λ (f : ℕ → Option Mission). one_if (((c == d) && not (is_home line c s)) && hand_has (f t) s)) aside.mission,
-            ap (λ (f : ℕ → Option Mission). one_if (((c == d) && not (is_home line c s)) && pool_has (f t) s)) aside.mission,
-          ))
-          (omega (arith, ap (λ (f : ℕ → Entry). one_if (is_home line c s && is_out_for t d (f s))) aside.book));
     })
     (λ d. All-nil IsNeutral)
     (record {

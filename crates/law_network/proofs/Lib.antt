@@ -8,7 +8,6 @@ pub mod Steps
 pub mod Takes
 pub mod Kept
 pub mod Homes
-pub mod Yields
 pub mod Neighbours
 pub mod Taken
 pub mod Seats

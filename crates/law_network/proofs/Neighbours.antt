@@ -1,7 +1,14 @@
 -- The next centre of a track is linked with the one before it, which does not follow it in turn.
-use Rattle.std.proofs.Common.{◌≡◌, ◌≢◌, ℕ, zero, suc, ◌==◌, ◌<◌, ◌≤◌, ◌&&◌, ◌||◌, not, cond, Bool, true, false, Option, Some, None, option_map, List, [], ◌∷◌, length, drop, slice_get, refl, sym, ap, ◌∙◌, inl, inr, arith, ⊎_elim}
+use Rattle.law_base.proofs.Lines.{one_home}
+use Rattle.rbc_spec.specs.SectionRuns.{within}
+use Rattle.rbc_spec.specs.Sections.{is_on}
+use Rattle.rbc_spec.specs.Place.{Place, covered}
+use Rattle.rbc_spec.specs.Acts.{begun}
+use Rattle.rbc_spec.proofs.Places.{section_on}
+use Rattle.law_network.specs.Sound.{HasComeTo}
+use Rattle.std.proofs.Common.{◌≡◌, ◌≢◌, is_some, ℕ, zero, suc, ◌==◌, ◌<◌, ◌≤◌, ◌&&◌, not, cond, Bool, true, false, Option, Some, None, option_map, List, [], ◌∷◌, length, drop, slice_get, refl, sym, ap, ◌∙◌, inl, inr, arith, ⊎_elim}
 use Rattle.std.specs.Option.{option_map_or}
-use Rattle.std.specs.List.{All, find, zip, list_any}
+use Rattle.std.specs.List.{All, find, zip}
 use Rattle.std.proofs.lemmas.Bool.{and_parts, and_from, cases_lt, lt-ltb, eqb-true}
 use Rattle.std.proofs.lemmas.Bool.Decides.{eqb_tells}
 use Rattle.std.proofs.lemmas.Option.{same_Some}
@@ -12,7 +19,7 @@ use Rattle.law_counting.proofs.Sums.{sum_zero, sum_only, one_if_le_one}
 use Rattle.law_network.specs.Neighbours.{AreNeighbours}
 use Rattle.law_network.specs.Flow.{Flow}
 use Rattle.law_network.specs.Counts.{rights}
-use Rattle.rbc_spec.specs.Line.{Line, IsLine, Section, section, registrar, seams, is_centre, is_joint, is_border, is_linked, next_centre}
+use Rattle.rbc_spec.specs.Line.{Line, IsLine, Section, section, registrar, seams, is_centre, is_home, is_joint, is_linked, next_centre}
 
 abbrev Seam : Type 0
 Seam = Section × Section
@@ -32,22 +39,6 @@ find_seam test (x ∷ xs) (y ∷ ys) seam is = by_test (test (x, y)) refl is (fi
     by_test true h e later = let same : (x, y) ≡ seam = same_Some (x, y) seam e in record { place = 0; first = ap (λ (s : Seam). Some (s.0)) same; second = ap (λ (s : Seam). Some (s.1)) same; passes = ap test (sym same) ∙ h }
     by_test false h e later = let more = later e in record { place = suc more.place; first = more.first; second = more.second; passes = more.passes }
 
-found_any : (test other : Seam → Bool) (xs : List Seam) (seam : Seam) → find test xs ≡ Some seam → other seam ≡ true → list_any other xs ≡ true
-found_any test other [] seam is so = cc
-found_any test other (x ∷ xs) seam is so = by_test (test x) is (λ e. found_any test other xs seam e so)
-  where
-    either : (b : Bool) (rest : Bool) → rest ≡ true → (b || rest) ≡ true
-    either true rest h = refl
-    either false rest h = h
-
-    first : (b : Bool) (rest : Bool) → b ≡ true → (b || rest) ≡ true
-    first true rest h = refl
-    first false rest h = cc
-
-    by_test : (b : Bool) → cond b (Some x) (find test xs) ≡ Some seam → (find test xs ≡ Some seam → list_any other xs ≡ true) → (other x || list_any other xs) ≡ true
-    by_test true e later = first (other x) (list_any other xs) (ap other (same_Some x seam e) ∙ so)
-    by_test false e later = either (other x) (list_any other xs) (later e)
-
 behind_one : {X : Type 0} (xs : List X) (i : ℕ) → slice_get (drop 1 xs) i ≡ slice_get xs (suc i)
 behind_one [] i = refl
 behind_one (x ∷ xs) i = refl
@@ -60,11 +51,6 @@ same_is a b e = elim (eqb_tells a b) [ inl x ↦ x.0 | inr x ↦ absurd (x.1 e) 
 
 apart_is : (a b : ℕ) → a ≢ b → not (a == b) ≡ true
 apart_is a b e = elim (eqb_tells a b) [ inl x ↦ absurd (e x.1) | inr x ↦ ap not x.0 ]
-
-or_first : (x y z : Bool) → y ≡ true → ((x || y) || z) ≡ true
-or_first true y z h = refl
-or_first false true z h = refl
-or_first false false z h = cc
 
 -- the home of a section is a centre of the line
 module _ (line : Line) (ok : IsLine line) where
@@ -139,12 +125,53 @@ module _ (line : Line) (ok : IsLine line) (a track b : ℕ) (next : next_centre 
   pub linked : is_linked line b a ≡ true
   linked =
       let one = border a b next in
-      let joins : is_border line a b ≡ true = found_any (test_of a) (λ seam. (is_joint seam && (seam.0.home == a)) && (seam.1.home == b)) (seams line) one.seam one.found
-      (and_from _ _ (and_from _ _ (same_is one.seam.0.track one.seam.1.track one.one_track) (same_is one.seam.0.home a one.from)) (same_is one.seam.1.home b one.to)) in
       let centre_a : is_centre line a ≡ true = ap (is_centre line) (sym one.from) ∙ home_below line ok one.at one.seam.0 one.first in
       let centre_b : is_centre line b ≡ true = ap (is_centre line) (sym one.to) ∙ home_below line ok (suc one.at) one.seam.1 one.second in
-      and_from _ _ (and_from _ _ (and_from _ _ centre_b centre_a) (apart_is b a (λ e. one.apart (one.to ∙ e))))
-      (or_first (is_border line b a) (is_border line a b) _ joins)
+      and_from _ _ (and_from _ _ centre_b centre_a) (apart_is b a (λ e. one.apart (one.to ∙ e)))
+
+  -- a section of the track whose home is c
+  home_at : (c s : ℕ) → is_on line track s ≡ true → is_home line c s ≡ true → (p : Section) × (section line s ≡ Some p) × (p.track ≡ track) × (p.home ≡ c)
+  home_at c s on home =
+      let p = section_on line track s on in
+      (p.0, p.1.at, p.1.on, eqb-true p.0.home c (sym (ap (λ o. option_map_or (λ (q : Section). q.home == c) o false) p.1.at) ∙ home))
+
+  -- the sections of the next centre come later
+  pub later : (s e : ℕ) → is_on line track s ≡ true → is_home line a s ≡ true → is_on line track e ≡ true → is_home line b e ≡ true → s < e
+  later s e s_on s_home e_on e_home =
+      let one = border a b next in
+      let p = home_at a s s_on s_home in
+      let q = home_at b e e_on e_home in
+      ⊎_elim
+      (λ (before : s < e). before)
+      (λ (past : e ≤ s). absurd (⊎_elim
+      (λ (low : one.at < s).
+      one.apart (ok.homes one.at (suc one.at) s one.seam.0 one.seam.1 p.0 (omega arith) (omega (arith, low)) one.first one.second p.1
+      (one.track_is ∙ sym p.2) (one.from ∙ sym p.3) ∙ one.from))
+      (λ (high : s ≤ one.at).
+      one.apart (one.to ∙ sym (sym p.3 ∙ ok.homes e s (suc one.at) q.0 p.0 one.seam.1 past (omega (arith, high)) q.1 p.1 one.second
+      (q.2 ∙ sym one.track_is ∙ one.one_track) (q.3 ∙ sym one.to) ∙ q.3)))
+      (cases_lt one.at s)))
+      (cases_lt s e)
+
+-- the next centre is another, so no section is of both
+pub next_apart : (line : Line) (c d track : ℕ) → next_centre line c track ≡ Some d → d ≢ c
+next_apart line c d track is = by_find (find test (seams line)) refl is
+  where
+    test : Seam → Bool
+    test seam = ((is_joint seam && (seam.0.track == track)) && (seam.0.home == c)) && not (seam.1.home == c)
+
+    by_find : (o : Option Seam) → find test (seams line) ≡ o → option_map (λ (s : Seam). s.1.home) o ≡ Some d → d ≢ c
+    by_find None e h = cc
+    by_find (Some s) e h = λ same. differ s.1.home c (and_parts ((is_joint s && (s.0.track == track)) && (s.0.home == c)) (not (s.1.home == c)) (find_seam test line.sections (drop 1 line.sections) s e).passes).1
+        (same_Some s.1.home d h ∙ same)
+
+-- a mission that begins with sections of home c alone has not come to the next centre
+pub begun_ends : (line : Line) (c d n s : ℕ) (place : Place) → next_centre line c place.track ≡ Some d → ((e : ℕ) → within (covered line place) e ≡ true → is_home line c e ≡ true)
+    → HasComeTo line d (begun line place) → is_home line n s ≡ false
+begun_ends line c d n s place next own come = absurd (⊎_elim
+    (λ (stands : is_some (begun line place).handing ≡ true). let wrong : false ≡ true = stands in let no : ⊥ = cc in no)
+    (λ (some : (e : ℕ) × (within (covered line place) e ≡ true) × (is_home line d e ≡ true)). next_apart line c d place.track next (sym (one_home line c d some.0 (own some.0 some.1) some.2)))
+    come)
 
 not_next : (line : Line) → IsLine line → (a b track : ℕ) → next_centre line a track ≡ Some b → (o : Option ℕ) → next_centre line b track ≡ o → option_map_or (λ n. n == a) o false ≡ false
 not_next line ok a b track next None is = refl
@@ -161,6 +188,7 @@ pub neighbours : (line : Line) → IsLine line → AreNeighbours line
 neighbours line ok = record {
   linked = λ a b track next. linked line ok a track b next;
   onward = λ a b track next. not_next line ok a b track next (next_centre line b track) refl;
+  later = λ a b track s e next. later line ok a track b next s e;
 }
 
 -- a train has one registrar at most

@@ -57,7 +57,7 @@ only_given_shown (Taken u) g t is = by_given (g u) refl is
     by_given : (b : Bool) → g u ≡ b → (if b then line_centre.Given u else line_centre.Kept u) ≡ line_centre.Given t → g t ≡ true
     by_given true h is = let same : u ≡ t = cc in ap g (sym same) ∙ h
     by_given false h is = cc
-only_given_shown (Out u d) g t is = by_given (g u) refl is
+only_given_shown (Out u) g t is = by_given (g u) refl is
   where
     by_given : (b : Bool) → g u ≡ b → (if b then line_centre.Given u else line_centre.Kept u) ≡ line_centre.Given t → g t ≡ true
     by_given true h is = let same : u ≡ t = cc in ap g (sym same) ∙ h
@@ -67,7 +67,7 @@ pub given_shown : (e : Entry) (g : ℕ → Bool) (t : ℕ) → is_used_for t e �
 given_shown Shut g t used is = cc
 given_shown Open g t used is = cc
 given_shown (Taken u) g t used is = let same = eqb-true u t used in cond-true (g u) (line_centre.Given u) (line_centre.Kept u) (ap g same ∙ is) ∙ ap (λ x. line_centre.Given x) same
-given_shown (Out u d) g t used is = let same = eqb-true u t used in cond-true (g u) (line_centre.Given u) (line_centre.Kept u) (ap g same ∙ is) ∙ ap (λ x. line_centre.Given x) same
+given_shown (Out u) g t used is = let same = eqb-true u t used in cond-true (g u) (line_centre.Given u) (line_centre.Kept u) (ap g same ∙ is) ∙ ap (λ x. line_centre.Given x) same
 
 either_shown : (b : Bool) (u t : ℕ) → u ≡ t → ((if b then line_centre.Given u else line_centre.Kept u) ≡ line_centre.Given t) ⊎ ((if b then line_centre.Given u else line_centre.Kept u) ≡ line_centre.Kept t)
 either_shown true u t same = inl (ap (λ x. line_centre.Given x) same)
@@ -77,7 +77,7 @@ used_shown : (e : Entry) (g : ℕ → Bool) (t : ℕ) → is_used_for t e ≡ tr
 used_shown Shut g t used = cc
 used_shown Open g t used = cc
 used_shown (Taken u) g t used = either_shown (g u) u t (eqb-true u t used)
-used_shown (Out u d) g t used = either_shown (g u) u t (eqb-true u t used)
+used_shown (Out u) g t used = either_shown (g u) u t (eqb-true u t used)
 
 pub given_mark : (t : ℕ) (m : Mark) → is_given_to t m ≡ true → m ≡ line_centre.Given t
 given_mark t line_centre.Shut is = cc
@@ -89,7 +89,7 @@ one_user : (e : Entry) (t u : ℕ) → is_used_for t e ≡ true → is_used_for 
 one_user Shut t u a b = cc
 one_user Open t u a b = cc
 one_user (Taken x) t u a b = sym (eqb-true x t a) ∙ eqb-true x u b
-one_user (Out x d) t u a b = sym (eqb-true x t a) ∙ eqb-true x u b
+one_user (Out x) t u a b = sym (eqb-true x t a) ∙ eqb-true x u b
 
 -- where a section is in use for a train at its home, if it is in a hand
 pub used_in_hand : (line : Line) (w : Flow) → IsFlowSound line w → (t s : ℕ) → is_in_hand line w s t ≡ true → (h : ℕ) × (is_home line h s ≡ true) × (is_used_for t ((w.at h).book s) ≡ true)

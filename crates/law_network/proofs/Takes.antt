@@ -1,5 +1,5 @@
 -- No act of a centre but the taking of a frame changes how many frames it has taken of each other.
-use Rattle.std.proofs.Common.{◌≡◌, ℕ, ◌+◌, Bool, true, false, not, ◌&&◌, if◌then◌else◌, Option, Some, None, is_none, is_some, nat_lt, nat_le, length, ◌*◌, refl, ◌∙◌}
+use Rattle.std.proofs.Common.{◌≡◌, ℕ, ◌+◌, Bool, true, false, not, ◌&&◌, if◌then◌else◌, Option, Some, None, is_none, is_some, nat_lt, nat_le, length, ◌*◌, refl, ◌∙◌, ◌-◌, ◌==◌}
 use Rattle.std.specs.Option.{option_map_or}
 use Rattle.rbc_spec.specs.Maps.{has, put}
 use Rattle.rbc_spec.specs.SectionRuns.{SectionRun, part_from, all_of, within, no_run, most_in_hand, behind, is_empty, part_before}
@@ -11,7 +11,8 @@ use Rattle.rbc_spec.specs.Frame.{Frame, Body, AskRight, GiveRight, RefuseRight, 
 use Rattle.rbc_spec.specs.Outcome.{Reason, Done, Asked, NotHome, Next, Old, Early, NoLink}
 use Rattle.rbc_spec.specs.Outcome as outcome
 use Rattle.rbc_spec.specs.Centre.{Centre, Entry, Shut, Open, Taken, Out, Mission, Handing, Proposal, is_registrar_of, is_free, is_unused, is_open, is_up, uses_some, is_expected}
-use Rattle.rbc_spec.specs.Acts.{Act, become, booked, returned, is_of_two, say, send, change_mission, part_at, may_propose, rest, ◌>>◌, where_so, with_some, leave, cancel, return_right, close, propose, propose_if_so, announce, ask_route, end_order, yield, yield_if_due}
+use Rattle.rbc_spec.specs.Acts.{Act, become, booked, returned, say, send, change_mission, part_at, may_propose, rest, ◌>>◌, where_so, with_some, leave, cancel, return_right, close, propose, propose_if_so, announce, ask_route, end_order, yield}
+use Rattle.law_base.proofs.Standstill.{rests_or_cuts}
 use Rattle.rbc_spec.specs.Rules.{tell, accept, choose, drop_wait, close_session, restart, begin, start_here, start_waiting, start_new, start_mission, announce_if_due, ask_route_if_due, at_border, grant, request, report_here, take_over, report, end_mission, cut, granted, answered, reject}
 use Rattle.rbc_spec.specs.Links.{received, of_train, is_train, lendable, expect, is_under, may_take, is_wanted, right_asked, right_given, right_refused, right_returned, route_asked, route_told, route_withdrawn, route_returned, announced, cancelled, taking_over, take_mission, yielded}
 use Rattle.law_network.specs.Numbers.{taken_after}
@@ -85,8 +86,8 @@ module _ (line : Line) (c t : ℕ) where
   yield_keeps : (m : Mission) (h : Handing) → Keeps (yield line c t m h)
   yield_keeps m h = record { each = λ k. (both _ _ (both _ _ (both _ _ (record { each = λ k. refl }) (record { each = λ k. refl })) (both _ _ (record { each = λ k. refl }) (record { each = λ k. refl }))) (branch (is_empty (part_at line c m.place.track m.hand)) (end_order line c t) rest end_keeps (record { each = λ k. refl }))).each k }
 
-  yield_if_keeps : Keeps (yield_if_due line c t)
-  yield_if_keeps = of_some (λ k. k.mission t) _ (λ m. of_some (λ k. m.handing) _ (λ h. when (λ k. h.is_claimed && is_of_two line c h.to m.hand) _ (yield_keeps m h)))
+  over_keeps : (d number : ℕ) → Keeps (taking_over line c d number t)
+  over_keeps d number = of_some (λ k. k.mission t) _ (λ m. of_some (λ k. m.handing) _ (λ h. when (λ k. (h.number == number) && (h.to == d)) _ (yield_keeps m h)))
 
   drop_keeps : Keeps (drop_wait line c t)
   drop_keeps = of_some _ _ (λ place. both _ _ (record { each = λ k. refl }) (record { each = λ k. refl }))
@@ -151,12 +152,9 @@ module _ (line : Line) (c t : ℕ) where
   report_keeps : (position : Position) → Keeps (report line c t position)
   report_keeps position = record { each = λ k. by_mission k (k.mission t) }
     where
-      by_mission : (k : Centre) (o : Option Mission) → (option_map_or (λ m. (report_here line c t position m >> yield_if_due line c t) k) o (take_over line t k)).state.taken ≡ k.taken
+      by_mission : (k : Centre) (o : Option Mission) → (option_map_or (λ m. report_here line c t position m k) o (take_over line t k)).state.taken ≡ k.taken
       by_mission k None = refl
-      by_mission k (Some m) = (both _ _ (here_keeps position m) yield_if_keeps).each k
-
-  end_mission_keeps : (position : Position) → Keeps (end_mission line c t position)
-  end_mission_keeps position = both _ _ (both _ _ (of_some _ _ (here_keeps position)) (of_some _ _ (λ m. both _ _ (both _ _ (record { each = λ k. refl }) (record { each = λ k. refl })) (record { each = λ k. refl })))) yield_if_keeps
+      by_mission k (Some m) = (here_keeps position m).each k
 
   abbrev kept_by : ℕ → Mission → Mission
   kept_by last_kept m = record m { hand = part_before (last_kept + 1) m.hand; pool = no_run; proposal = None }
@@ -170,9 +168,14 @@ module _ (line : Line) (c t : ℕ) where
       (λ h. branch (is_empty (part_at line h.to m.place.track (kept_by last_kept m).hand)) (cancel t (kept_by last_kept m)) rest (cancel_keeps (kept_by last_kept m)) (record { each = λ k. refl })) (record { each = λ k. refl }))))
 
   granted_keeps : (position : Position) (m : Mission) (p : Proposal) → Keeps (granted line c t position m p)
-  granted_keeps position m p = both _ _ (both _ _ (record { each = λ k. refl })
+  granted_keeps position m p = both _ _ (record { each = λ k. refl })
       (of_option (place_on line m.place.track position) (λ place. if nat_le place.front (10 * end line p.last_kept) then cut line c t p.last_kept m else rest) rest
-      (λ place. branch (nat_le place.front (10 * end line p.last_kept)) (cut line c t p.last_kept m) rest (cut_keeps p.last_kept m) (record { each = λ k. refl })) (record { each = λ k. refl }))) yield_if_keeps
+      (λ place. branch (nat_le place.front (10 * end line p.last_kept)) (cut line c t p.last_kept m) rest (cut_keeps p.last_kept m) (record { each = λ k. refl })) (record { each = λ k. refl }))
+
+  end_mission_keeps : (position : Position) → Keeps (end_mission line c t position)
+  end_mission_keeps position = both _ _ (both _ _ (of_some _ _ (here_keeps position))
+      (of_some _ _ (λ m. rests_or_cuts Keeps line c t position m (record { each = λ k. refl }) (λ n some fits. cut_keeps (m.hand.first + n - 1) m))))
+      (of_some _ _ (λ m. both _ _ (both _ _ (record { each = λ k. refl }) (record { each = λ k. refl })) (record { each = λ k. refl })))
 
   -- ## Frames
 
@@ -205,7 +208,7 @@ module _ (line : Line) (c : ℕ) where
   lent_keeps : (d t first most : ℕ) → Keeps (route_asked line c d t first most)
   lent_keeps d t first most = record {
     each = λ k. (when (λ j. is_some (section line first))
-        (booked is_open (Out t d) (lendable line c k first most) >> send d (RouteInfo t (lendable line c k first most))) (both _ _ (record { each = λ k. refl }) (record { each = λ k. refl }))).each k;
+        (booked is_open (Out t) (lendable line c k first most) >> send d (RouteInfo t (lendable line c k first most))) (both _ _ (record { each = λ k. refl }) (record { each = λ k. refl }))).each k;
   }
 
   withdrawn_keeps : (t s : ℕ) → Keeps (route_withdrawn line c t s)
@@ -213,7 +216,7 @@ module _ (line : Line) (c : ℕ) where
       (λ m. branch (within m.pool s) (returned line c t m.place.track (part_from s m.pool) >> change_mission t (λ n. record n { pool = part_before s n.pool })) (propose_if_so line t s)
       (both _ _ (record { each = λ k. refl }) (record { each = λ k. refl })) (propose_if_keeps line c t s))
 
-  home_keeps : (d t : ℕ) (r : SectionRun) → Keeps (route_returned line c d t r)
+  home_keeps : (d t : ℕ) (r : SectionRun) → Keeps (route_returned line c t r)
   home_keeps d t r = both _ _ (record { each = λ k. refl }) (when (λ k. not (uses_some line c k t) && ((is_none (k.mission t) && is_none (k.wait t)) && not (is_expected line k t))) (end_order line c t) (end_keeps line c t))
 
   pub received_keeps : (d : ℕ) (body : Body) → Keeps (received line c d body)
@@ -224,12 +227,12 @@ module _ (line : Line) (c : ℕ) where
   received_keeps d (RouteAsk t first most) = trains t (route_asked line c d t first most) (lent_keeps d t first most)
   received_keeps d (RouteInfo t r) = trains t (route_told line c d t r) (told_keeps line c t d r)
   received_keeps d (RouteWithdraw t s) = trains t (if is_some (section line s) then route_withdrawn line c t s else rest) (branch (is_some (section line s)) (route_withdrawn line c t s) rest (withdrawn_keeps t s) (record { each = λ k. refl }))
-  received_keeps d (RouteReturn t r) = trains t (if all_of (λ s. is_some (section line s)) r then route_returned line c d t r else rest)
-      (branch (all_of (λ s. is_some (section line s)) r) (route_returned line c d t r) rest (home_keeps d t r) (record { each = λ k. refl }))
+  received_keeps d (RouteReturn t r) = trains t (if all_of (λ s. is_some (section line s)) r then route_returned line c t r else rest)
+      (branch (all_of (λ s. is_some (section line s)) r) (route_returned line c t r) rest (home_keeps d t r) (record { each = λ k. refl }))
   received_keeps d (Announce number t track) = trains t (if nat_lt track (length line.tracks) then announced d number t else rest)
       (branch (nat_lt track (length line.tracks)) (announced d number t) rest (when (λ k. is_none (k.expects d t)) (expect d t (Some (record { number = number; is_taking = false }))) (record { each = λ k. refl })) (record { each = λ k. refl }))
   received_keeps d (Cancel number t) = trains t (cancelled d number t) (when (λ k. is_under number (k.expects d t)) (expect d t None) (record { each = λ k. refl }))
-  received_keeps d (TakingOver number t) = trains t (taking_over line c d number t) (both _ _ (record { each = λ k. refl }) (yield_if_keeps line c t))
+  received_keeps d (TakingOver number t) = trains t (taking_over line c d number t) (over_keeps line c t d number)
   received_keeps d (Yield number t heard has_data is_ended place hand) = trains t (option_map_or (yielded line c d number t hand heard has_data is_ended) (carried_place place) rest)
       (of_option (carried_place place) (yielded line c d number t hand heard has_data is_ended) rest (λ at. when (λ k. may_take line c k d number t at hand) _ (take_keeps line c t d heard _)) (record { each = λ k. refl }))
 
@@ -245,11 +248,11 @@ module _ (line : Line) (c : ℕ) where
   answered_keeps m (StartOfMission is_valid position) = start_keeps line c m.nid_engine is_valid position
   answered_keeps m SessionEstablished = record { each = λ k. refl }
 
-  wished_keeps : (s : ℕ) (e : Entry) → Keeps (wished line s e)
+  wished_keeps : (s : ℕ) (e : Entry) → Keeps (wished line c s e)
   wished_keeps s Shut = record { each = λ k. refl }
   wished_keeps s Open = record { each = λ k. refl }
   wished_keeps s (Taken t) = propose_if_keeps line c t s
-  wished_keeps s (Out t d) = record { each = λ k. refl }
+  wished_keeps s (Out t) = record { each = λ k. refl }
 
   pub set_keeps : (s : ℕ) → Keeps (set line c s)
   set_keeps s = record { each = λ k. by_home k (not (is_home line c s)) }
@@ -263,7 +266,7 @@ module _ (line : Line) (c : ℕ) where
   unset_keeps s = record { each = λ k. by_home k (not (is_home line c s)) }
     where
       by_home : (k : Centre) (z : Bool) → (if z then tell (NotHome s) k
-          else (if is_unused (k.book s) then (make s Shut false >> tell (Done s)) else ((become (λ j. record j { wish = put j.wish s true }) >> tell (Asked s)) >> wished line s (k.book s))) k).state.taken ≡ k.taken
+          else (if is_unused (k.book s) then (make s Shut false >> tell (Done s)) else ((become (λ j. record j { wish = put j.wish s true }) >> tell (Asked s)) >> wished line c s (k.book s))) k).state.taken ≡ k.taken
       by_home k true = refl
       by_home k false = (branch _ _ _ (both _ _ (record { each = λ k. refl }) (record { each = λ k. refl })) (both _ _ (both _ _ (record { each = λ k. refl }) (record { each = λ k. refl })) (wished_keeps s (k.book s)))).each k
 

@@ -56,7 +56,7 @@ pub is_user : (us : List ℕ) (e : Entry) → ((t : ℕ) → times t us ≡ one_
 is_user us centre.Shut is = none_of us is
 is_user us centre.Open is = none_of us is
 is_user us (centre.Taken t) is = one_of t us is
-is_user us (centre.Out t d) is = one_of t us is
+is_user us (centre.Out t) is = one_of t us is
 
 pub times_once : (b : Bool) (u t : ℕ) → times t (once b u) ≡ one_if ((u == t) && b)
 times_once true u t = omega (arith, count_more (λ x. x == t) u [], both (u == t))

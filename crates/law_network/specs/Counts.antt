@@ -1,5 +1,5 @@
 -- What of a line's trains and sections there is at most one, counted over all centres and all that is on the way.
-use Rattle.std.specs.Prelude.{ℕ, ◌+◌, ◌==◌, Bool, ◌&&◌, not, if◌then◌else◌, Option, is_some}
+use Rattle.std.specs.Prelude.{ℕ, ◌+◌, ◌==◌, Bool, ◌&&◌, Option, is_some}
 use Rattle.law_counting.specs.Sums.{one_if}
 use Rattle.law_counting.specs.Resource.{Resource}
 use Rattle.rbc_spec.specs.Maps.{has}
@@ -7,7 +7,7 @@ use Rattle.rbc_spec.specs.SectionRuns.{within}
 use Rattle.rbc_spec.specs.Line.{Line, is_home}
 use Rattle.rbc_spec.specs.Place.{Place, covered}
 use Rattle.rbc_spec.specs.Frame.{Body, RouteInfo, RouteReturn, Yield}
-use Rattle.rbc_spec.specs.Centre.{Centre, Mission, is_used_for, is_out_for, is_registrar_of}
+use Rattle.rbc_spec.specs.Centre.{Centre, Mission, is_used_for, is_registrar_of}
 use Rattle.rbc_spec.specs.Promises.{carries_right}
 use Rattle.law_local.specs.Local.{hand_has}
 
@@ -71,20 +71,3 @@ yield_inside t body = 0
 
 abbrev pub missions : ℕ → Resource Centre Body
 missions t = record { held = λ c k. one_if (is_some (k.mission t)); inside = λ a b body. yield_inside t body; cap = λ c k. 0 }
-
--- ## The name of a section that is out for a train at centre d: there in a hand or a pool, or in a frame
-
--- a frame from a to b has the section's name on its way to d, or on its way home from d
-abbrev pub lent_inside : Line → ℕ → ℕ → ℕ → ℕ → ℕ → Body → ℕ
-lent_inside line t s d a b (RouteInfo u r) = one_if (((u == t) && within r s) && (b == d))
-lent_inside line t s d a b (RouteReturn u r) = one_if (((u == t) && within r s) && (a == d))
-lent_inside line t s d a b (Yield number u heard has_data is_ended place hand) =
-    one_if (((u == t) && within hand s) && (if is_home line b s then a == d else b == d))
-lent_inside line t s d a b body = 0
-
-abbrev pub lent : Line → ℕ → ℕ → ℕ → Resource Centre Body
-lent line t s d = record {
-  held = λ c k. one_if (((c == d) && not (is_home line c s)) && hand_has (k.mission t) s) + one_if (((c == d) && not (is_home line c s)) && pool_has (k.mission t) s);
-  inside = λ a b body. lent_inside line t s d a b body;
-  cap = λ c k. one_if (is_home line c s && is_out_for t d (k.book s));
-}

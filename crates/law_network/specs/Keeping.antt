@@ -5,7 +5,7 @@ use Rattle.rbc_spec.specs.Line.{Line, is_centre}
 use Rattle.rbc_spec.specs.Frame.{Body}
 use Rattle.rbc_spec.specs.Centre.{Centre}
 use Rattle.law_network.specs.Flow.{centre_count}
-use Rattle.law_network.specs.Counts.{rights, tokens, lent}
+use Rattle.law_network.specs.Counts.{rights, tokens}
 use Rattle.law_network.specs.Pairs.{follows, handing_to, announces, takes_over, yields}
 use Rattle.law_network.specs.Sound.{IsCentreSound, IsBodySound}
 
@@ -17,11 +17,10 @@ nothing_came r = 0
 abbrev pub came_with : ℕ → ℕ → Body → Resource Centre Body → ℕ
 came_with a c f r = r.inside a c f
 
--- an act of centre c, which was k, leaves it as y and sends these frames: it makes no right, no token and no lent name beyond what came
+-- an act of centre c, which was k, leaves it as y and sends these frames: it makes no right and no token beyond what came
 pub record IsFairAct (line : Line) (c : ℕ) (k : Centre) (came : Resource Centre Body → ℕ) (y : Centre) (frames : ℕ → List Body) : Type 0 where
   pub rights : (t : ℕ) → IsFair (rights line t) (centre_count line) c k (came (rights line t)) y frames
   pub tokens : (t s : ℕ) → IsFair (tokens line t s) (centre_count line) c k (came (tokens line t s)) y frames
-  pub lent : (t s d : ℕ) → IsFair (lent line t s d) (centre_count line) c k (came (lent line t s d)) y frames
 
 -- it leaves its centre sound, and sends sound bodies to centres of the line alone
 pub record LeavesSound (line : Line) (c : ℕ) (y : Centre) (frames : ℕ → List Body) : Type 0 where
@@ -46,7 +45,7 @@ pub record IsApart (k y : Centre) : Type 0 where
 
 -- ## Aside
 
--- a centre that changes nothing that is counted: phases, what it has said and heard, its asks and its clock at most
+-- a centre that changes nothing that is counted: phases, what it has said and heard, its clock, and asks that end, at most
 pub record IsAside (k y : Centre) : Type 0 where
   pub book : y.book ≡ k.book
   pub wish : y.wish ≡ k.wish
@@ -55,4 +54,5 @@ pub record IsAside (k y : Centre) : Type 0 where
   pub has_right : y.has_right ≡ k.has_right
   pub expects : y.expects ≡ k.expects
   pub announced : y.announced ≡ k.announced
+  pub asks : (t first : ℕ) → y.route_ask t ≡ Some first → k.route_ask t ≡ Some first
   pub heard : (t : ℕ) → is_some (k.heard t) ≡ true → is_some (y.heard t) ≡ true

@@ -45,11 +45,9 @@ abbrev pub before : Flow → ℕ → ℕ → ℕ → ℕ → ℕ
 before w a b t h =
     count_if (announces t h) (way w a b) + one_if (has (λ e. (e.number == h) && not e.is_taking) ((w.at b).expects a t))
 
--- and after: that is on the way, or the sender has it, or yields
+-- and after: that is on the way, or the sender has yielded
 abbrev pub after : Flow → ℕ → ℕ → ℕ → ℕ → ℕ
-after w a b t h =
-    (count_if (takes_over t h) (way w b a) + one_if (has (λ x. (x.number == h) && x.is_claimed) (handing_to b ((w.at a).mission t))))
-    + count_if (yields t h) (way w a b)
+after w a b t h = count_if (takes_over t h) (way w b a) + count_if (yields t h) (way w a b)
 
 -- the handover of train t from a to b
 pub record IsPaired (w : Flow) (a b t : ℕ) : Type 0 where

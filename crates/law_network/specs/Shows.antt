@@ -21,7 +21,7 @@ abbrev pub shown : centre.Entry → (ℕ → Bool) → Mark
 shown centre.Shut given = Shut
 shown centre.Open given = Open
 shown (centre.Taken t) given = if given t then Given t else Kept t
-shown (centre.Out t d) given = if given t then Given t else Kept t
+shown (centre.Out t) given = if given t then Given t else Kept t
 
 -- the mission that a Yield hands over
 abbrev pub parted : ℕ → Bool → Bool → Place → LineMission

@@ -9,10 +9,10 @@ use Rattle.rbc_spec.specs.Line.{Line, is_centre, is_home, section_of_group, next
 use Rattle.rbc_spec.specs.Sections.{is_on}
 use Rattle.rbc_spec.specs.Place.{Place, covered, group_start}
 use Rattle.rbc_spec.specs.Frame.{YieldedPlace, yielded_place, Body, Announce, Cancel, Yield}
-use Rattle.rbc_spec.specs.Centre.{Centre, Shut, Out, Mission, Handing, is_unused, is_taken_for}
+use Rattle.rbc_spec.specs.Centre.{Centre, Shut, Mission, Handing, is_unused, is_taken_for}
 use Rattle.law_local.specs.Local.{hand_has}
 use Rattle.law_network.specs.Flow.{Flow, centre_count}
-use Rattle.law_network.specs.Counts.{wait_has, rights, tokens, lent}
+use Rattle.law_network.specs.Counts.{wait_has, rights, tokens}
 use Rattle.law_network.specs.Pairs.{IsPaired}
 
 -- ## Of one centre
@@ -25,19 +25,31 @@ pub record IsHandAt (line : Line) (place : Place) (hand : SectionRun) : Type 0 w
   pub group : has (is_on line place.track) (section_of_group line place.group) ≡ true
   pub front : 10 * group_start line place ≤ place.front
 
--- a mission at centre c: its pool follows the hand at once, on its track, and has no section of home c; a handover that it announced is to the next centre
+-- the section is of the centre that is the next on its track after c, of which c may ask for it
+pub record IsOfNext (line : Line) (c s : ℕ) : Type 0 where
+  pub home : (track d : ℕ) → is_on line track s ≡ true → next_centre line c track ≡ Some d → is_home line d s ≡ true
+
+-- the mission has come to centre d: a handover stands, or the hand has a section of d
+abbrev pub HasComeTo : Line → ℕ → Mission → Type 0
+HasComeTo line d m = (is_some m.handing ≡ true) ⊎ ((e : ℕ) × (within m.hand e ≡ true) × (is_home line d e ≡ true))
+
+-- a mission at centre c: its pool follows the hand at once, on its track, and is of the next centre; a handover that it announced is to the next
+-- centre, and where one may stand no section of the hand is of the centre behind that
 pub record IsMissionAt (line : Line) (c : ℕ) (k : Centre) (m : Mission) : Type 0 where
   pub hand : IsHandAt line m.place m.hand
   pub pool_follows : is_empty m.pool ≡ false → m.pool.first ≡ behind m.hand
   pub pool_away : (s : ℕ) → within m.pool s ≡ true → is_home line c s ≡ false
   pub pool_on : (s : ℕ) → within m.pool s ≡ true → is_on line m.place.track s ≡ true
+  pub pool_next : (s d : ℕ) → next_centre line c m.place.track ≡ Some d → within m.pool s ≡ true → is_home line d s ≡ true
   pub handing_to : (h : Handing) → m.handing ≡ Some h → next_centre line c m.place.track ≡ Some h.to
   pub handing_number : (h : Handing) → m.handing ≡ Some h → (1 ≤ h.number) × (h.number ≤ k.announced)
+  pub hand_ends : (s d n : ℕ) → next_centre line c m.place.track ≡ Some d → next_centre line d m.place.track ≡ Some n → HasComeTo line d m
+      → within m.hand s ≡ true → is_home line n s ≡ false
 
 pub record IsCentreSound (line : Line) (c : ℕ) (k : Centre) : Type 0 where
   pub claims : (s t : ℕ) → is_home line c s ≡ true → one_if (is_taken_for t (k.book s)) ≡ one_if (wait_has line (k.wait t) s) + one_if (hand_has (k.mission t) s)  -- a home section is taken exactly where a start that waits or a hand has it
   pub foreign : (s : ℕ) → is_home line c s ≡ false → k.book s ≡ Shut
-  pub out_at : (s t d : ℕ) → k.book s ≡ Out t d → is_centre line d ≡ true
+  pub asks : (t first : ℕ) → k.route_ask t ≡ Some first → IsOfNext line c first  -- sections are asked of the next centre alone
   pub unwished : (s : ℕ) → is_unused (k.book s) ≡ true → k.wish s ≡ false
   pub wait_home : (t s : ℕ) → wait_has line (k.wait t) s ≡ true → is_home line c s ≡ true  -- a start that waits could begin here
   pub wait_fits : (t : ℕ) (place : Place) → k.wait t ≡ Some place → IsHandAt line place (covered line place)
@@ -47,14 +59,14 @@ pub record IsCentreSound (line : Line) (c : ℕ) (k : Centre) : Type 0 where
 
 -- ## Of what is on the way
 
--- a Yield from a to b carries a place of the line with its hand, to the next centre, and each section of the hand is of one of these two
+-- a Yield from a to b carries a place of the line with its hand, to the next centre, and no section of the hand is of the one behind that
 pub record IsYieldSound (line : Line) (a b t : ℕ) (carried : YieldedPlace) (hand : SectionRun) : Type 0 where
   pub place : Place
   pub is_carried : carried ≡ yielded_place place
   pub is_hand : IsHandAt line place hand
   pub to_next : next_centre line a place.track ≡ Some b
   pub known : is_some (train_number line t) ≡ true
-  pub of_two : (s : ℕ) → within hand s ≡ true → (is_home line a s ≡ true) ⊎ (is_home line b s ≡ true)
+  pub hand_ends : (s n : ℕ) → next_centre line b place.track ≡ Some n → within hand s ≡ true → is_home line n s ≡ false
 
 -- and an announcement and its cancellation are not passed over for what they name
 abbrev pub IsBodySound : Line → ℕ → ℕ → Body → Type 0
@@ -76,7 +88,6 @@ pub record IsFlowSound (line : Line) (w : Flow) : Type 0 where
   pub no_sent : (a b : ℕ) → (is_centre line a ≡ false) ⊎ (is_centre line b ≡ false) → w.sent a b ≡ []
   pub rights : (t : ℕ) → IsWithinCap (rights line t) (centre_count line) w
   pub tokens : (t s : ℕ) → IsWithinCap (tokens line t s) (centre_count line) w
-  pub lent : (t s d : ℕ) → IsWithinCap (lent line t s d) (centre_count line) w
   pub bodies : EachOnTheWay (IsBodySound line) w
   pub pairs : ArePaired line w
 

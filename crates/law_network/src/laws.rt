@@ -24,7 +24,7 @@ ghost use Rattle.rbc_spec.specs.World.{World, Event, Answer, new_world, frame_se
 ghost use Rattle.law_network.specs.Flow.{Flow, flow_of, in_world, took_frame, centre_count};
 ghost use Rattle.law_network.specs.Numbers.{IsNumbered, taken_after};
 ghost use Rattle.law_network.specs.Neighbours.{AreNeighbours};
-ghost use Rattle.law_network.specs.Counts.{tokens, lent};
+ghost use Rattle.law_network.specs.Counts.{tokens};
 ghost use Rattle.law_network.specs.Pairs.{IsPaired};
 ghost use Rattle.law_network.specs.Keeping.{nothing_came, came_with, IsFairAct, LeavesSound, IsNeutral, IsApart, IsAside};
 ghost use Rattle.law_network.specs.Sound.{ArePaired, IsFlowSound, LosesNothing};
@@ -124,14 +124,8 @@ pub fn a_step_is_an_act()
         → flow_of (in_world w c (state_after stamp k e) trains) ≡ acted (took (flow_of w) a c) c (state_after stamp k e) e.reply.frames }
 {}
 
-/// The frames by which sections go home name each section of the run once at most, and no other; and with a Yield behind them no section's
-/// name is on its way more often than the centre had it.
+/// The frames by which sections go home name each section of the run once at most, and no other.
 pub fn what_goes_home_goes_once()
-    ensures tokens { (line : Line) (c t track u s : ℕ) (r : SectionRun) (k : Centre) → IsOrdered line
+    ensures { (line : Line) (c t track u s : ℕ) (r : SectionRun) (k : Centre) → IsOrdered line
         → sent_by (tokens line u s) (centre_count line) c (returned line c t track r k).frames ≤ one_if ((t == u) && within r s) }
-    ensures names { (line : Line) (c t to track number heard u s d : ℕ) (has_data is_ended : Bool) (place : YieldedPlace) (hand pool : SectionRun) (k : Centre)
-        → IsOrdered line → to < centre_count line
-        → sent_by (lent line u s d) (centre_count line) c (λ e. (returned line c t track pool k).frames e ++ to_one to (Yield number t heard has_data is_ended place hand ∷ []) e)
-        ≤ one_if (((t == u) && within pool s) && ((c == d) && not (is_home line c s)))
-        + one_if (((t == u) && within hand s) && (if is_home line to s then c == d else to == d)) }
 {}

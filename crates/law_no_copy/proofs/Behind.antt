@@ -1,21 +1,21 @@
 -- Behind a report, an end of mission and a shortening a handover may still be yielded.
-use Rattle.std.proofs.Common.{◌≡◌, ℕ, ◌+◌, ◌<◌, ◌==◌, ◌*◌, ◌&&◌, Bool, true, false, if◌then◌else◌, nat_le, nat_lt, Option, Some, None, option_map, refl, sym, ap, ◌∙◌, arith, leb-true, ltb-true}
+use Rattle.std.proofs.Common.{◌≡◌, ℕ, ◌+◌, ◌<◌, ◌==◌, Bool, true, false, if◌then◌else◌, nat_le, nat_lt, Option, Some, None, refl, sym, ap, ◌∙◌, arith, leb-true, ltb-true, ◌-◌}
 use Rattle.std.specs.Option.{option_map_or}
 use Rattle.std.proofs.Common.{subst}
 use Rattle.std.proofs.lemmas.Bool.{and_parts, eqb-true}
-use Rattle.law_counting.proofs.Sums.{put_same}
+use Rattle.law_base.proofs.Standstill.{rests_or_cuts}
+use Rattle.law_centre.proofs.Reported.{report_leaves}
 use Rattle.rbc_spec.specs.SectionRuns.{no_run, within, behind, is_empty, part_before, part_from, joined}
-use Rattle.rbc_spec.specs.Line.{Line, end}
+use Rattle.rbc_spec.specs.Line.{Line}
 use Rattle.rbc_spec.specs.Place.{Place, Position, place_on}
-use Rattle.rbc_spec.specs.Centre.{Centre, Mission, Handing, Proposal}
-use Rattle.rbc_spec.specs.Acts.{rest, ◌>>◌, leave, set_mission, change_mission, return_pool, cancel, close, part_at, with_mission}
-use Rattle.rbc_spec.specs.Rules.{cleared, clear, report_here, cut}
-use Rattle.rbc_spec.specs.Links.{claimed}
+use Rattle.rbc_spec.specs.Centre.{Centre, Mission, Handing}
+use Rattle.rbc_spec.specs.Acts.{rest, ◌>>◌, leave, set_mission, cancel, close, part_at, with_mission}
+use Rattle.rbc_spec.specs.Rules.{cleared, clear, report_here, cut, stand_still}
 use Rattle.law_local.specs.Local.{hand_has}
 use Rattle.law_centre.proofs.Places.{placed_on}
 use Rattle.law_base.proofs.Runs.{none_within, within_true, within_behind, within_part_before, within_part_from}
 use Rattle.law_no_copy.proofs.Tally.{Tally}
-use Rattle.law_no_copy.proofs.Ready.{Ready, Leaves, ready_changed, ready_left, ready_cancel, ready_closed}
+use Rattle.law_no_copy.proofs.Ready.{Ready, Leaves, ready_left, ready_cancel, ready_closed}
 use Rattle.law_no_copy.proofs.Parts.{Follows, out_of_joined, tail_follows}
 
 module _ (line : Line) (c : ℕ) (y : Tally) where
@@ -62,21 +62,7 @@ module _ (line : Line) (c : ℕ) (y : Tally) where
       by_mission None has = ready
       by_mission (Some m) has = ready_report_here t position m k has ready
 
-  ready_ended : (t : ℕ) (k : Centre) → Ready line c y k → Ready line c y (with_mission t (λ m. return_pool line c t m >> change_mission t (λ n. record n { is_ended = true; proposal = None })) k).state
-  unfolding ◌>>◌
-  ready_ended t k ready = by_mission (k.mission t)
-    where
-      by_mission : (o : Option Mission) → Ready line c y (option_map_or (λ m. (return_pool line c t m >> change_mission t (λ n. record n { is_ended = true; proposal = None })) k) o (rest k)).state
-      by_mission None = ready
-      by_mission (Some m) = ready_changed line c y t (λ n. record n { is_ended = true; proposal = None }) (change_mission t (λ n. record n { pool = no_run }) k).state (λ n. refl) (λ n h is. (h, is, refl)) (λ n. record { track = refl; hand = λ is. is; pool = λ is. is })
-          (ready_changed line c y t (λ n. record n { pool = no_run }) k (λ n. refl) (λ n h is. (h, is, refl)) (λ n. record { track = refl; hand = λ is. is; pool = λ is. absurd (let wrong : false ≡ true = sym (none_within y.section) ∙ is in cc) }) ready)
-
-  pub ready_end : (t : ℕ) (position : Position) (k : Centre) → Ready line c y k
-      → Ready line c y ((with_mission t (report_here line c t position) >> with_mission t (λ m. return_pool line c t m >> change_mission t (λ n. record n { is_ended = true; proposal = None }))) k).state
-  unfolding ◌>>◌
-  ready_end t position k ready = ready_ended t (with_mission t (report_here line c t position) k).state (ready_reported t position k ready)
-
-  -- ## Shortening
+  -- ## What lies ahead is cut
 
   abbrev kept_by : ℕ → Mission → Mission
   kept_by last_kept m = record m { hand = part_before (last_kept + 1) m.hand; pool = no_run; proposal = None }
@@ -101,17 +87,16 @@ module _ (line : Line) (c : ℕ) (y : Tally) where
       not_pool true is false some low = absurd (let ends = within_true m.pool y.section is in omega (arith, ends.0, low, follows some))
       not_pool true is true none low = absurd (let ends = within_true m.pool y.section is in let nothing : m.pool.count ≡ 0 = eqb-true m.pool.count 0 none in omega (arith, ends.0, ends.1, nothing))
 
-  -- of a mission that stands as m, but for its request to shorten
-  ready_cut : (t last_kept : ℕ) (m : Mission) (k : Centre) → k.mission t ≡ Some (record m { proposal = None }) → Follows m → Ready line c y k → Ready line c y (cut line c t last_kept m k).state
+  ready_cut : (t last_kept : ℕ) (m : Mission) (k : Centre) → k.mission t ≡ Some m → Follows m → Ready line c y k → Ready line c y (cut line c t last_kept m k).state
   unfolding ◌>>◌
   ready_cut t last_kept m k has follows ready = by_count ((part_from (last_kept + 1) m.hand).count == m.hand.count)
     where
       left : Leaves line c y k t (joined (part_from (last_kept + 1) m.hand) m.pool) (kept_by last_kept m)
       left = record {
         hand = λ kept home. let both = kept_apart last_kept m follows kept in (ap (λ o. hand_has o y.section) has ∙ both.0, both.1);
-        way = λ h stands. (record m { proposal = None }, has, stands);
+        way = λ h stands. (m, has, stands);
         less = (
-          record m { proposal = None },
+          m,
           has,
           record { track = refl; hand = λ kept. (kept_apart last_kept m follows kept).0; pool = λ is. absurd (let wrong : false ≡ true = sym (none_within y.section) ∙ is in cc) },
           (λ h is. (h, is, refl)),
@@ -139,39 +124,23 @@ module _ (line : Line) (c : ℕ) (y : Tally) where
       by_count false = cancels m.handing behind_cut (ready_left line c y t m.place.track (joined (part_from (last_kept + 1) m.hand) m.pool) (Some (kept_by last_kept m)) k
           (λ n same. subst (Leaves line c y k t (joined (part_from (last_kept + 1) m.hand) m.pool)) (some_left _ n same) left) ready)
 
-  pub ready_shortened : (t : ℕ) (position : Position) (m : Mission) (p : Proposal) (k : Centre) → k.mission t ≡ Some m → Follows m → Ready line c y k
-      → Ready line c y ((change_mission t (λ n. record n { proposal = None })
-      >> option_map_or (λ place. if nat_le place.front (10 * end line p.last_kept) then cut line c t p.last_kept m else rest) (place_on line m.place.track position) rest) k).state
+  -- ## End of mission
+
+  -- behind a report the pool follows the hand
+  pub follows_reported : (t : ℕ) (position : Position) (k : Centre) → ((m : Mission) → k.mission t ≡ Some m → Follows m) → (n : Mission)
+      → (with_mission t (report_here line c t position) k).state.mission t ≡ Some n → Follows n
+  follows_reported t position k follow n at some = let was = report_leaves line c t position k n at in
+      ap (λ r. r.first) was.2.pool ∙ follow was.0 was.1 (sym (ap is_empty was.2.pool) ∙ some) ∙ sym was.2.ends
+
+  pub ready_stood : (t : ℕ) (position : Position) (k : Centre) → ((m : Mission) → k.mission t ≡ Some m → Follows m) → Ready line c y k
+      → Ready line c y (with_mission t (stand_still line c t position) k).state
+  ready_stood t position k follow ready = by_mission (k.mission t) refl
+    where
+      by_mission : (o : Option Mission) → k.mission t ≡ o → Ready line c y (option_map_or (λ m. stand_still line c t position m k) o (rest k)).state
+      by_mission None has = ready
+      by_mission (Some m) has = rests_or_cuts (λ act. Ready line c y (act k).state) line c t position m ready (λ n some fits. ready_cut t (m.hand.first + n - 1) m k has (follow m has) ready)
+
+  pub ready_both : (t : ℕ) (position : Position) (k : Centre) → ((m : Mission) → k.mission t ≡ Some m → Follows m) → Ready line c y k
+      → Ready line c y ((with_mission t (report_here line c t position) >> with_mission t (stand_still line c t position)) k).state
   unfolding ◌>>◌
-  ready_shortened t position m p k has follows ready = by_place (place_on line m.place.track position)
-    where
-      middle : Centre
-      middle = (change_mission t (λ n. record n { proposal = None }) k).state
-
-      now : Ready line c y middle
-      now = ready_changed line c y t (λ n. record n { proposal = None }) k (λ n. refl) (λ n h is. (h, is, refl)) (λ n. record { track = refl; hand = λ is. is; pool = λ is. is }) ready
-
-      still : middle.mission t ≡ Some (record m { proposal = None })
-      still = put_same k.mission t (option_map {T = Mission} {U = Mission} (λ n. record n { proposal = None }) (k.mission t)) ∙ ap (option_map {T = Mission} {U = Mission} (λ n. record n { proposal = None })) has
-
-      by_place : (o : Option Place) → Ready line c y (option_map_or (λ place. if nat_le place.front (10 * end line p.last_kept) then cut line c t p.last_kept m else rest) o rest middle).state
-      by_place None = now
-      by_place (Some place) = by_front (nat_le place.front (10 * end line p.last_kept))
-        where
-          by_front : (b : Bool) → Ready line c y ((if b then cut line c t p.last_kept m else rest) middle).state
-          by_front true = ready_cut t p.last_kept m middle still follows now
-          by_front false = now
-
-  -- ## A claim
-
-  pub ready_claimed : (t d number : ℕ) (k : Centre) → Ready line c y k → Ready line c y (change_mission t (claimed d number) k).state
-  ready_claimed t d number k ready = ready_changed line c y t (claimed d number) k (λ m. refl) (λ m h is. by_handing m.handing refl h is) (λ m. record { track = refl; hand = λ is. is; pool = λ is. is }) ready
-    where
-      to_same : (b : Bool) (g h : Handing) → ◌≡◌ {A = Option Handing} (Some (if b then record g { is_claimed = true } else g)) (Some h) → g.to ≡ h.to
-      to_same true g h is = let same : record g { is_claimed = true } ≡ h = cc in ap (λ x. x.to) same
-      to_same false g h is = let same : g ≡ h = cc in ap (λ x. x.to) same
-
-      by_handing : {m : Option Handing} (o : Option Handing) → m ≡ o → (h : Handing) → option_map (λ g. if (g.number == number) && (g.to == d) then record g { is_claimed = true } else g) o ≡ Some h
-          → (g : Handing) × (m ≡ Some g) × (g.to ≡ h.to)
-      by_handing None was h is = cc
-      by_handing (Some g) was h is = (g, was, to_same ((g.number == number) && (g.to == d)) g h is)
+  ready_both t position k follow ready = ready_stood t position (with_mission t (report_here line c t position) k).state (follows_reported t position k follow) (ready_reported t position k ready)

@@ -46,7 +46,7 @@ module _ (line : Line) (c : ℕ) (y : Tally) (is : IsTally line c y) where
       number = k.announced + 1
 
       stands : Mission → Mission
-      stands n = record n { handing = Some (record { number = number; to = d; is_claimed = false }) }
+      stands n = record n { handing = Some (record { number = number; to = d }) }
 
       tells : message.TrackBody
       tells = Transition (start line (part_at line d m.place.track m.hand).first - group_start line m.place) line.nid_c (nid_rbc line d)

@@ -1,5 +1,5 @@
 -- What comes with a frame has its place, or nothing of it is counted; rights that are asked for and that come back.
-use Rattle.std.proofs.Common.{◌≡◌, ◌≢◌, ℕ, ◌<◌, ◌==◌, ◌&&◌, ◌||◌, not, Bool, true, false, if◌then◌else◌, is_none, refl, sym, ap, ◌∙◌, subst, arith, ⊎_elim}
+use Rattle.std.proofs.Common.{◌≡◌, ◌≢◌, ℕ, ◌<◌, ◌&&◌, ◌||◌, not, Bool, true, false, if◌then◌else◌, is_none, refl, sym, ap, ◌∙◌, subst, arith, ⊎_elim}
 use Rattle.std.proofs.lemmas.Bool.{cases_eq, and_parts, ne_eqb, eqb-true}
 use Rattle.rbc_spec.specs.Maps.{put}
 use Rattle.rbc_spec.specs.Line.{Line}
@@ -13,24 +13,24 @@ use Rattle.law_no_copy.proofs.Tally.{Tally, IsTally, HasRegistrar, Fair, is_away
 use Rattle.law_no_copy.proofs.Leaving.{Makes, gives_back, returns_back, sends_plain, sends, fair_return_right}
 use Rattle.law_no_copy.proofs.Starts.{fair_right_taken}
 
-pub used_out : (t d : ℕ) (e : Entry) → is_out_for t d e ≡ true → is_used_for t e ≡ true
-used_out t d Shut h = cc
-used_out t d Open h = cc
-used_out t d (Taken u) h = cc
-used_out t d (Out u a) h = (and_parts (u == t) (a == d) h).0
+pub used_out : (t : ℕ) (e : Entry) → is_out_for t e ≡ true → is_used_for t e ≡ true
+used_out t Shut h = cc
+used_out t Open h = cc
+used_out t (Taken u) h = cc
+used_out t (Out u) h = h
 
 pub unused_here : (u : ℕ) (e : Entry) → is_unused e ≡ true → is_away u e ≡ false
 unused_here u Shut h = refl
 unused_here u Open h = refl
 unused_here u (Taken v) h = cc
-unused_here u (Out v d) h = cc
+unused_here u (Out v) h = cc
 
 -- out for one train, a section is out for no other
-pub out_apart : (t d u : ℕ) (e : Entry) → t ≢ u → is_out_for t d e ≡ true → is_away u e ≡ false
-out_apart t d u Shut other h = refl
-out_apart t d u Open other h = refl
-out_apart t d u (Taken v) other h = refl
-out_apart t d u (Out v a) other h = ne_eqb v u (λ same. other (sym (eqb-true v t (and_parts (v == t) (a == d) h).0) ∙ same))
+pub out_apart : (t u : ℕ) (e : Entry) → t ≢ u → is_out_for t e ≡ true → is_away u e ≡ false
+out_apart t u Shut other h = refl
+out_apart t u Open other h = refl
+out_apart t u (Taken v) other h = refl
+out_apart t u (Out v) other h = ne_eqb v u (λ same. other (sym (eqb-true v t h) ∙ same))
 
 module _ (line : Line) (c : ℕ) (y : Tally) (is : IsTally line c y) where
   -- what comes is no more than this

@@ -5,21 +5,20 @@ use Rattle.std.specs.List.{find, range_with_len}
 use Rattle.std.proofs.lemmas.Bool.{and_parts}
 use Rattle.rbc_spec.specs.Maps.{put, has}
 use Rattle.rbc_spec.specs.SectionRuns.{SectionRun, no_run, within, all_of}
-use Rattle.rbc_spec.specs.Line.{Line, Section, is_home, is_linked, next_centre, section, section_of_group}
+use Rattle.rbc_spec.specs.Line.{Line, Section, is_home, next_centre, section, section_of_group}
 use Rattle.rbc_spec.specs.Sections.{is_on, is_on_track}
 use Rattle.rbc_spec.specs.Place.{Place, group_start}
 use Rattle.rbc_spec.specs.Frame.{Body, YieldedPlace, carried_place, AskRight, GiveRight, RefuseRight, ReturnRight, RouteAsk, RouteInfo, RouteWithdraw, RouteReturn, Announce, Cancel, TakingOver, Yield}
 use Rattle.rbc_spec.specs.Centre.{Centre, Taken, Mission, is_out_for}
-use Rattle.rbc_spec.specs.Acts.{Act, rest, become, ◌>>◌, with_some, booked, set_mission, change_mission, propose_if_so, yield_if_due}
-use Rattle.rbc_spec.specs.Links.{right_asked, right_given, right_refused, right_returned, route_asked, route_told, route_withdrawn, route_returned, expect, announced, cancelled, is_under, claimed, taking_over, may_arrive, may_take, take_mission, yielded, is_train, of_train, received}
+use Rattle.rbc_spec.specs.Acts.{Act, rest, become, ◌>>◌, with_some, booked, set_mission, propose_if_so}
+use Rattle.rbc_spec.specs.Links.{right_asked, right_given, right_refused, right_returned, route_asked, route_told, route_withdrawn, route_returned, expect, announced, cancelled, is_under, taking_over, may_arrive, may_take, take_mission, yielded, is_train, of_train, received}
 use Rattle.law_base.proofs.Lists.{none_is}
 use Rattle.law_base.proofs.Runs.{each_within, all_within}
 use Rattle.law_no_copy.specs.Stray.{is_plain, train_of, has_place_for}
-use Rattle.law_no_copy.proofs.Tally.{Tally, IsTally, part, mission_of, fair_rest, fair_then, fair_both, eased, fair_if, fair_or, fair_set, fair_change, fair_booked, fair_plain, mission_put, mission_back}
+use Rattle.law_no_copy.proofs.Tally.{Tally, IsTally, part, mission_of, fair_rest, fair_then, fair_both, eased, fair_if, fair_or, fair_set, fair_booked, fair_plain, mission_put, mission_back}
 use Rattle.law_no_copy.proofs.Parts.{none_part}
-use Rattle.law_no_copy.proofs.Leaving.{Makes, gives_back, fair_yield_if}
+use Rattle.law_no_copy.proofs.Leaving.{gives_back, fair_yield_over}
 use Rattle.law_no_copy.proofs.Ready.{Ready}
-use Rattle.law_no_copy.proofs.Behind.{ready_claimed}
 use Rattle.law_no_copy.proofs.Starts.{WaitsHome, IsAskedFor, fair_given, fair_refused}
 use Rattle.law_no_copy.proofs.Borders.{fair_propose_if}
 use Rattle.law_no_copy.proofs.Comes.{used_out, out_apart, Comes, lost, plain, IsFrom, IsDue, IsPlaced, registrar_of, right_gone, fair_asked, fair_right_returned}
@@ -28,56 +27,53 @@ use Rattle.law_no_copy.proofs.Routes.{fair_route_asked, fair_told, fair_withdraw
 module _ (line : Line) (c : ℕ) (y : Tally) (is : IsTally line c y) where
   -- ## Handovers
 
-  fair_taking_over : (d number t : ℕ) (k : Centre) → Ready line c y k → Makes line c y is k (taking_over line c d number t k)
-  fair_taking_over d number t k ready = fair_both line c y (change_mission t (claimed d number)) (yield_if_due line c t) k (fair_change line c y t (claimed d number) k (λ m. (refl, refl))) (fair_yield_if line c y is t _ (ready_claimed line c y t d number k ready))
-
   taken_law : (d number t heard : ℕ) (has_data is_ended : Bool) (place : YieldedPlace) (m : Mission) (k : Centre) → m.pool ≡ no_run
       → y.entry (k.book y.section) + mission_of y (put k.mission t (Some m) y.train)
-      ≤ (y.res.inside d c (Yield number t heard has_data is_ended place m.hand) + y.entry (if within m.hand y.section && is_out_for t d (k.book y.section) then Taken t else k.book y.section)) + mission_of y (k.mission y.train)
+      ≤ (y.res.inside d c (Yield number t heard has_data is_ended place m.hand) + y.entry (if within m.hand y.section && is_out_for t (k.book y.section) then Taken t else k.book y.section)) + mission_of y (k.mission y.train)
   taken_law d number t heard has_data is_ended place m k none = mission_put line c y k t (Some m) (y.entry (k.book y.section)) _
       (λ here. omega (
         arith,
         none_part y,
         ap (part y) none,
-        subst (λ v. y.entry (k.book y.section) + (y.one + part y m.hand) ≤ y.res.inside d c (Yield number v heard has_data is_ended place m.hand) + y.entry (if within m.hand y.section && is_out_for v d (k.book y.section) then Taken v else k.book y.section))
+        subst (λ v. y.entry (k.book y.section) + (y.one + part y m.hand) ≤ y.res.inside d c (Yield number v heard has_data is_ended place m.hand) + y.entry (if within m.hand y.section && is_out_for v (k.book y.section) then Taken v else k.book y.section))
             (sym here) (is.takes d number heard has_data is_ended place m.hand (k.book y.section)),
       ))
-      (λ other. omega (arith, by_tests other (within m.hand y.section) (is_out_for t d (k.book y.section)) refl))
+      (λ other. omega (arith, by_tests other (within m.hand y.section) (is_out_for t (k.book y.section)) refl))
     where
-      by_tests : t ≢ y.train → (w x : Bool) → is_out_for t d (k.book y.section) ≡ x → y.entry (k.book y.section) ≤ y.entry (if w && x then Taken t else k.book y.section)
+      by_tests : t ≢ y.train → (w x : Bool) → is_out_for t (k.book y.section) ≡ x → y.entry (k.book y.section) ≤ y.entry (if w && x then Taken t else k.book y.section)
       by_tests other false x out = omega arith
       by_tests other true false out = omega arith
-      by_tests other true true out = is.other t (k.book y.section) (Taken t) other (used_out t d (k.book y.section) out)
+      by_tests other true true out = is.other t (k.book y.section) (Taken t) other (used_out t (k.book y.section) out)
 
   -- where what is lost line c y is is counted, no mission is here, and each own section of the hand is out for the train at the sender
   abbrev CanTake : ℕ → ℕ → SectionRun → Centre → Type 0
-  CanTake d t hand k = y.exact ≡ true → (k.mission t ≡ None) × (within hand y.section ≡ true → is_home line c y.section ≡ true → is_out_for t d (k.book y.section) ≡ true)
+  CanTake d t hand k = y.exact ≡ true → (k.mission t ≡ None) × (within hand y.section ≡ true → is_home line c y.section ≡ true → is_out_for t (k.book y.section) ≡ true)
 
   taken_back : y.exact ≡ true → (d number t heard : ℕ) (has_data is_ended : Bool) (place : YieldedPlace) (m : Mission) (k : Centre) → CanTake d t m.hand k
-      → (y.res.inside d c (Yield number t heard has_data is_ended place m.hand) + y.entry (if within m.hand y.section && is_out_for t d (k.book y.section) then Taken t else k.book y.section)) + mission_of y (k.mission y.train)
+      → (y.res.inside d c (Yield number t heard has_data is_ended place m.hand) + y.entry (if within m.hand y.section && is_out_for t (k.book y.section) then Taken t else k.book y.section)) + mission_of y (k.mission y.train)
       ≤ y.entry (k.book y.section) + mission_of y (put k.mission t (Some m) y.train)
   taken_back so d number t heard has_data is_ended place m k can = mission_back line c y k t (Some m) (y.entry (k.book y.section)) _
       (λ here. omega (
         arith,
         ap (mission_of y) (can so).0,
-        subst (λ v. y.res.inside d c (Yield number v heard has_data is_ended place m.hand) + y.entry (if within m.hand y.section && is_out_for v d (k.book y.section) then Taken v else k.book y.section) ≤ y.entry (k.book y.section) + (y.one + part y m.hand))
-            (sym here) ((is.back so).takes d number heard has_data is_ended place m.hand (k.book y.section) (λ in_hand home. subst (λ v. is_out_for v d (k.book y.section) ≡ true) here ((can so).1 in_hand home))),
+        subst (λ v. y.res.inside d c (Yield number v heard has_data is_ended place m.hand) + y.entry (if within m.hand y.section && is_out_for v (k.book y.section) then Taken v else k.book y.section) ≤ y.entry (k.book y.section) + (y.one + part y m.hand))
+            (sym here) ((is.back so).takes d number heard has_data is_ended place m.hand (k.book y.section) (λ in_hand home. subst (λ v. is_out_for v (k.book y.section) ≡ true) here ((can so).1 in_hand home))),
       ))
-      (λ other. omega (arith, is.others d c (Yield number t heard has_data is_ended place m.hand) other, by_tests other (within m.hand y.section) (is_out_for t d (k.book y.section)) refl))
+      (λ other. omega (arith, is.others d c (Yield number t heard has_data is_ended place m.hand) other, by_tests other (within m.hand y.section) (is_out_for t (k.book y.section)) refl))
     where
-      by_tests : t ≢ y.train → (w x : Bool) → is_out_for t d (k.book y.section) ≡ x → y.entry (if w && x then Taken t else k.book y.section) ≤ y.entry (k.book y.section)
+      by_tests : t ≢ y.train → (w x : Bool) → is_out_for t (k.book y.section) ≡ x → y.entry (if w && x then Taken t else k.book y.section) ≤ y.entry (k.book y.section)
       by_tests other false x out = omega arith
       by_tests other true false out = omega arith
-      by_tests other true true out = (is.back so).here (Taken t) (k.book y.section) refl (out_apart t d y.train (k.book y.section) other out)
+      by_tests other true true out = (is.back so).here (Taken t) (k.book y.section) refl (out_apart t y.train (k.book y.section) other out)
 
   fair_take : (d number t heard : ℕ) (has_data is_ended : Bool) (place : YieldedPlace) (m : Mission) (k : Centre) → m.pool ≡ no_run → CanTake d t m.hand k
       → Comes line c y is d (Yield number t heard has_data is_ended place m.hand) k (take_mission line c d t heard m k)
   unfolding ◌>>◌
   fair_take d number t heard has_data is_ended place m k none can = eased line c y _ 0 k _ (omega (arith, taken_law d number t heard has_data is_ended place m k none))
       (λ so. omega (arith, taken_back so d number t heard has_data is_ended place m k can))
-      (fair_then line c y ((booked (is_out_for t d) (Taken t) m.hand >> set_mission t (Some m)) >> (hears >> expect d t None)) proposes k
-      (fair_then line c y (booked (is_out_for t d) (Taken t) m.hand >> set_mission t (Some m)) (hears >> expect d t None) k
-      (fair_then line c y (booked (is_out_for t d) (Taken t) m.hand) (set_mission t (Some m)) k (fair_booked line c y (is_out_for t d) (Taken t) m.hand k) (fair_set line c y t (Some m) (booked (is_out_for t d) (Taken t) m.hand k).state))
+      (fair_then line c y ((booked (is_out_for t) (Taken t) m.hand >> set_mission t (Some m)) >> (hears >> expect d t None)) proposes k
+      (fair_then line c y (booked (is_out_for t) (Taken t) m.hand >> set_mission t (Some m)) (hears >> expect d t None) k
+      (fair_then line c y (booked (is_out_for t) (Taken t) m.hand) (set_mission t (Some m)) k (fair_booked line c y (is_out_for t) (Taken t) m.hand k) (fair_set line c y t (Some m) (booked (is_out_for t) (Taken t) m.hand k).state))
       (fair_both line c y hears (expect d t None) middle (fair_plain line c y middle (hears middle) refl refl refl) (fair_plain line c y (hears middle).state (expect d t None (hears middle).state) refl refl refl)))
       (fair_or line c y (find (λ s. is_home line c s && last.wish s) (range_with_len m.hand.first m.hand.count)) (λ s. propose_if_so line t s last) last (rest last) (λ s found. fair_propose_if line c y is t s last) (λ nothing. fair_rest line c y last)))
     where
@@ -88,10 +84,10 @@ module _ (line : Line) (c : ℕ) (y : Tally) (is : IsTally line c y) where
       proposes = with_some (λ j. find (λ s. is_home line c s && j.wish s) (range_with_len m.hand.first m.hand.count)) (propose_if_so line t)
 
       middle : Centre
-      middle = ((booked (is_out_for t d) (Taken t) m.hand >> set_mission t (Some m)) k).state
+      middle = ((booked (is_out_for t) (Taken t) m.hand >> set_mission t (Some m)) k).state
 
       last : Centre
-      last = (((booked (is_out_for t d) (Taken t) m.hand >> set_mission t (Some m)) >> (hears >> expect d t None)) k).state
+      last = (((booked (is_out_for t) (Taken t) m.hand >> set_mission t (Some m)) >> (hears >> expect d t None)) k).state
 
   -- ## A body
 
@@ -132,23 +128,23 @@ module _ (line : Line) (c : ℕ) (y : Tally) (is : IsTally line c y) where
   fair_received d (RouteInfo t r) k home ready from due = of_lines_train d t (RouteInfo t r) (route_told line c d t r) k refl due (fair_told line c y is d t r k from (placed d (RouteInfo t r) k refl due))
   fair_received d (RouteWithdraw t s) k home ready from due = of_lines_train d t (RouteWithdraw t s) (if is_some (section line s) then route_withdrawn line c t s else rest) k refl due
       (where_line (is_some (section line s)) d (RouteWithdraw t s) (route_withdrawn line c t s) k (λ so here no. is.plain d c (RouteWithdraw t s) refl) (plain line c y is d (RouteWithdraw t s) k _ refl (fair_withdrawn line c y is t s k ready)))
-  fair_received d (RouteReturn t r) k home ready from due = of_lines_train d t (RouteReturn t r) (if all_of (λ s. is_some (section line s)) r then route_returned line c d t r else rest) k refl due
-      (where_line (all_of (λ s. is_some (section line s)) r) d (RouteReturn t r) (route_returned line c d t r) k
+  fair_received d (RouteReturn t r) k home ready from due = of_lines_train d t (RouteReturn t r) (if all_of (λ s. is_some (section line s)) r then route_returned line c t r else rest) k refl due
+      (where_line (all_of (λ s. is_some (section line s)) r) d (RouteReturn t r) (route_returned line c t r) k
       (λ so here no. absurd (let wrong : true ≡ false = sym (of_sections (placed d (RouteReturn t r) k refl due so here).1) ∙ no in cc)) (fair_home line c y is d t r k (placed d (RouteReturn t r) k refl due)))
     where
       at_section : (s : ℕ) (o : Option Section) → has (λ p. p.home == c) o ≡ true → is_some o ≡ true
       at_section s None h = cc
       at_section s (Some p) h = refl
 
-      of_sections : all_of (λ s. is_home line c s && is_out_for t d (k.book s)) r ≡ true → all_of (λ s. is_some (section line s)) r ≡ true
+      of_sections : all_of (λ s. is_home line c s && is_out_for t (k.book s)) r ≡ true → all_of (λ s. is_some (section line s)) r ≡ true
       of_sections all = all_within (λ s. is_some (section line s)) r
-          (λ s in_run. at_section s (section line s) (and_parts (is_home line c s) (is_out_for t d (k.book s)) (each_within (λ u. is_home line c u && is_out_for t d (k.book u)) r all s in_run)).0)
+          (λ s in_run. at_section s (section line s) (and_parts (is_home line c s) (is_out_for t (k.book s)) (each_within (λ u. is_home line c u && is_out_for t (k.book u)) r all s in_run)).0)
   fair_received d (Announce number t track) k home ready from due = of_lines_train d t (Announce number t track) (if nat_lt track (length line.tracks) then announced d number t else rest) k refl due
       (where_line (nat_lt track (length line.tracks)) d (Announce number t track) (announced d number t) k (λ so here no. is.plain d c (Announce number t track) refl) (plain line c y is d (Announce number t track) k _ refl
       (fair_if line c y (is_none (k.expects d t)) k _ (rest k) (λ so. fair_plain line c y k (expect d t (Some (record { number = number; is_taking = false })) k) refl refl refl) (λ so. fair_rest line c y k))))
   fair_received d (Cancel number t) k home ready from due = of_lines_train d t (Cancel number t) (cancelled d number t) k refl due (plain line c y is d (Cancel number t) k _ refl
       (fair_if line c y (is_under number (k.expects d t)) k _ (rest k) (λ so. fair_plain line c y k (expect d t None k) refl refl refl) (λ so. fair_rest line c y k)))
-  fair_received d (TakingOver number t) k home ready from due = of_lines_train d t (TakingOver number t) (taking_over line c d number t) k refl due (plain line c y is d (TakingOver number t) k _ refl (fair_taking_over d number t k ready))
+  fair_received d (TakingOver number t) k home ready from due = of_lines_train d t (TakingOver number t) (taking_over line c d number t) k refl due (plain line c y is d (TakingOver number t) k _ refl (fair_yield_over line c y is d number t k ready))
   fair_received d (Yield number t heard has_data is_ended place hand) k home ready from due =
       of_lines_train d t body (option_map_or (yielded line c d number t hand heard has_data is_ended) (carried_place place) rest) k refl due (by_place (carried_place place) refl)
     where
@@ -161,14 +157,14 @@ module _ (line : Line) (c : ℕ) (y : Tally) (is : IsTally line c y) where
       can : (at : Place) → may_take line c k d number t at hand ≡ true → CanTake d t hand k
       can at so exact =
           let parts = and_parts (has (λ e. (e.number == number) && e.is_taking) (k.expects d t) && (is_none (k.mission t) && not (k.has_right t)))
-          ((is_on_track line at.track hand && has (is_on line at.track) (section_of_group line at.group)) && (nat_le (10 * group_start line at) at.front && all_of (may_arrive line c k d t at.track) hand)) so in
+          ((is_on_track line at.track hand && has (is_on line at.track) (section_of_group line at.group)) && (nat_le (10 * group_start line at) at.front && all_of (may_arrive line c k t at.track) hand)) so in
           let none = and_parts (has (λ e. (e.number == number) && e.is_taking) (k.expects d t)) (is_none (k.mission t) && not (k.has_right t)) parts.0 in
-          let fits = and_parts (is_on_track line at.track hand && has (is_on line at.track) (section_of_group line at.group)) (nat_le (10 * group_start line at) at.front && all_of (may_arrive line c k d t at.track) hand) parts.1 in
-          let arrives = and_parts (nat_le (10 * group_start line at) at.front) (all_of (may_arrive line c k d t at.track) hand) fits.1 in
-          (none_is (k.mission t) (and_parts (is_none (k.mission t)) (not (k.has_right t)) none.1).0, (λ in_hand home. own (is_home line c y.section) home (each_within (may_arrive line c k d t at.track) hand arrives.1 y.section in_hand)))
+          let fits = and_parts (is_on_track line at.track hand && has (is_on line at.track) (section_of_group line at.group)) (nat_le (10 * group_start line at) at.front && all_of (may_arrive line c k t at.track) hand) parts.1 in
+          let arrives = and_parts (nat_le (10 * group_start line at) at.front) (all_of (may_arrive line c k t at.track) hand) fits.1 in
+          (none_is (k.mission t) (and_parts (is_none (k.mission t)) (not (k.has_right t)) none.1).0, (λ in_hand home. own (is_home line c y.section) home (each_within (may_arrive line c k t at.track) hand arrives.1 y.section in_hand)))
         where
-          own : (h : Bool) → h ≡ true → (if h then is_out_for t d (k.book y.section)
-              else has (λ p. is_linked line c p.home && not (has (λ n. n == p.home) (next_centre line c at.track))) (section line y.section)) ≡ true → is_out_for t d (k.book y.section) ≡ true
+          own : (h : Bool) → h ≡ true → (if h then is_out_for t (k.book y.section)
+              else has (λ p. not (has (λ n. n == p.home) (next_centre line c at.track))) (section line y.section)) ≡ true → is_out_for t (k.book y.section) ≡ true
           own true at_home arrives = arrives
           own false at_home arrives = cc
 

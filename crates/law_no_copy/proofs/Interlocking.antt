@@ -1,28 +1,41 @@
 -- What a set and an unset come to makes nothing, and loses nothing.
-use Rattle.std.proofs.Common.{◌≡◌, ◌≢◌, ℕ, ◌≤◌, not, Bool, true, false, if◌then◌else◌, refl, ap, ◌∙◌, arith, ⊎_elim}
+use Rattle.law_counting.specs.Resource.{carried, sent_by}
+use Rattle.std.proofs.Common.{◌≡◌, ◌≢◌, ℕ, ◌≤◌, not, Bool, true, false, if◌then◌else◌, refl, ap, ◌∙◌, arith, ⊎_elim, [], ◌∷◌}
 use Rattle.std.proofs.lemmas.Bool.{cases_eq}
-use Rattle.law_counting.proofs.Sums.{put_same, put_other}
-use Rattle.law_counting.proofs.Resource.{sent_none}
+use Rattle.law_counting.proofs.Sums.{put_same, put_other, sum_zero}
+use Rattle.law_counting.proofs.Resource.{sent_none, carried_more, carried_none}
 use Rattle.rbc_spec.specs.Maps.{put}
-use Rattle.rbc_spec.specs.Line.{Line, is_home}
+use Rattle.rbc_spec.specs.Line.{Line, is_home, is_linked}
 use Rattle.rbc_spec.specs.Frame.{RouteWithdraw}
 use Rattle.rbc_spec.specs.Outcome.{Done, Asked, NotHome}
 use Rattle.rbc_spec.specs.Centre.{Centre, Entry, Shut, Open, Taken, Out, is_unused}
 use Rattle.rbc_spec.specs.Acts.{rest, become, ◌>>◌}
 use Rattle.rbc_spec.specs.Rules.{tell}
-use Rattle.rbc_spec.specs.Step.{wished, make, set, unset}
+use Rattle.rbc_spec.specs.Step.{wished, make, set, unset, withdraw}
 use Rattle.law_network.specs.Flow.{centre_count}
 use Rattle.law_no_copy.proofs.Tally.{Tally, IsTally, fair_rest, fair_both, fair_if, fair_plain}
-use Rattle.law_no_copy.proofs.Leaving.{Makes, sends_plain}
+use Rattle.law_no_copy.proofs.Leaving.{Makes}
 use Rattle.law_no_copy.proofs.Borders.{fair_propose_if}
 use Rattle.law_no_copy.proofs.Comes.{unused_here}
 
 module _ (line : Line) (c : ℕ) (y : Tally) (is : IsTally line c y) where
-  fair_wished : (s : ℕ) (e : Entry) (k : Centre) → Makes line c y is k (wished line s e k)
+  -- each other centre is told; nothing is inside
+  fair_withdraw : (t s : ℕ) (k : Centre) → Makes line c y is k (withdraw line c t s k)
+  unfolding sent_by
+  fair_withdraw t s k = record { law = omega (arith, none_sent); back = λ so. omega (arith, none_sent) }
+    where
+      none_carried : (d : ℕ) (b : Bool) → carried y.res c d (if b then RouteWithdraw t s ∷ [] else []) ≡ 0
+      none_carried d true = omega (arith, carried_more y.res c d (RouteWithdraw t s) [], carried_none y.res c d, is.plain c d (RouteWithdraw t s) refl)
+      none_carried d false = carried_none y.res c d
+
+      none_sent : sent_by y.res (centre_count line) c (withdraw line c t s k).frames ≡ 0
+      none_sent = sum_zero (centre_count line) (λ d. carried y.res c d (if is_linked line c d then RouteWithdraw t s ∷ [] else [])) (λ d at. none_carried d (is_linked line c d))
+
+  fair_wished : (s : ℕ) (e : Entry) (k : Centre) → Makes line c y is k (wished line c s e k)
   fair_wished s Shut k = fair_rest line c y k
   fair_wished s Open k = fair_rest line c y k
   fair_wished s (Taken t) k = fair_propose_if line c y is t s k
-  fair_wished s (Out t d) k = sends_plain line c y is d (RouteWithdraw t s) k refl
+  fair_wished s (Out t) k = fair_withdraw t s k
 
   fair_make : (s : ℕ) (e : Entry) (k : Centre) → is_unused e ≡ true → is_unused (k.book s) ≡ true → Makes line c y is k (make s e false k)
   fair_make s e k same unused = record {
@@ -55,8 +68,8 @@ module _ (line : Line) (c : ℕ) (y : Tally) (is : IsTally line c y) where
   fair_section_unset s k = fair_if line c y (not (is_home line c s)) k (tell (NotHome s) k) _ (λ so. fair_plain line c y k (tell (NotHome s) k) refl refl refl) (λ so. by_use (is_unused (k.book s)) refl)
     where
       by_use : (b : Bool) → is_unused (k.book s) ≡ b
-          → Makes line c y is k ((if b then (make s Shut false >> tell (Done s)) else ((become (λ j. record j { wish = put j.wish s true }) >> tell (Asked s)) >> wished line s (k.book s))) k)
+          → Makes line c y is k ((if b then (make s Shut false >> tell (Done s)) else ((become (λ j. record j { wish = put j.wish s true }) >> tell (Asked s)) >> wished line c s (k.book s))) k)
       by_use true unused = fair_both line c y (make s Shut false) (tell (Done s)) k (fair_make s Shut k refl unused) (fair_plain line c y _ (tell (Done s) _) refl refl refl)
-      by_use false used = fair_both line c y (become (λ j. record j { wish = put j.wish s true }) >> tell (Asked s)) (wished line s (k.book s)) k
+      by_use false used = fair_both line c y (become (λ j. record j { wish = put j.wish s true }) >> tell (Asked s)) (wished line c s (k.book s)) k
           (fair_both line c y (become (λ j. record j { wish = put j.wish s true })) (tell (Asked s)) k (fair_plain line c y k _ refl refl refl) (fair_plain line c y _ (tell (Asked s) _) refl refl refl))
           (fair_wished s (k.book s) _)

@@ -1,7 +1,8 @@
 -- Acts by which sections leave a mission, and by which it closes or is yielded.
+use Rattle.rbc_spec.specs.Links.{taking_over}
 use Rattle.std.proofs.Common.{◌≡◌, ◌≢◌, ◌⊎◌, inl, inr, ℕ, ◌+◌, ◌<◌, ◌≤◌, ◌==◌, ◌&&◌, [], ◌∷◌, Bool, true, false, if◌then◌else◌, Option, Some, None, refl, sym, ap, ◌∙◌, subst, arith, ⊎_elim, eq-eqb}
 use Rattle.std.specs.Option.{option_map_or}
-use Rattle.std.proofs.lemmas.Bool.{and_parts, cases_eq, ne_eqb}
+use Rattle.std.proofs.lemmas.Bool.{cases_eq, ne_eqb}
 use Rattle.law_counting.proofs.Sums.{put_same, put_other}
 use Rattle.rbc_spec.specs.Maps.{put}
 use Rattle.rbc_spec.specs.SectionRuns.{SectionRun, within, is_empty}
@@ -10,7 +11,7 @@ use Rattle.rbc_spec.specs.Sections.{nid_rbc, is_on}
 use Rattle.rbc_spec.specs.Message.{unknown_group, EndSession}
 use Rattle.rbc_spec.specs.Frame.{Body, GiveRight, ReturnRight, Cancel, Yield, yielded_place}
 use Rattle.rbc_spec.specs.Centre.{Centre, Entry, Out, Mission, Handing, is_taken_for, is_registrar_of, is_up}
-use Rattle.rbc_spec.specs.Acts.{Reply, rest, become, ◌>>◌, send, say, booked, freed, returned, leave, set_mission, change_mission, cancel, return_right, close, end_order, part_at, yield, is_of_two, yield_if_due}
+use Rattle.rbc_spec.specs.Acts.{Reply, rest, become, ◌>>◌, send, say, booked, freed, returned, leave, set_mission, change_mission, cancel, return_right, close, end_order, part_at, yield}
 use Rattle.law_network.specs.Flow.{centre_count}
 use Rattle.law_no_copy.proofs.Ready.{Ready, may_yield, cancel_rights}
 use Rattle.law_no_copy.proofs.Tally.{Tally, IsTally, HasRegistrar, MayYield, Fair, right_of, part, whole, mission_of, gone, back, fair_rest, fair_then, fair_both, eased, fair_if, fair_or, fair_set, fair_change, fair_booked, fair_freed, sent_le, sent_is, fair_say, mission_put, mission_back}
@@ -167,19 +168,19 @@ module _ (line : Line) (c : ℕ) (y : Tally) (is : IsTally line c y) where
   fair_end_order t k = fair_if line c y (is_up (k.phase t)) k (say t unknown_group (EndSession line.nid_c (nid_rbc line c)) k) (rest k)
       (λ so. fair_say line c y t unknown_group (EndSession line.nid_c (nid_rbc line c)) k) (λ so. fair_rest line c y k)
 
-  abbrev lent_entry : ℕ → ℕ → SectionRun → Entry → Entry
-  lent_entry t to hand e = if within hand y.section && is_taken_for t e then Out t to else e
+  abbrev lent_entry : ℕ → SectionRun → Entry → Entry
+  lent_entry t hand e = if within hand y.section && is_taken_for t e then Out t else e
 
-  yielded_law : (t to number heard : ℕ) (m : Mission) (k : Centre) → mission_of y (k.mission t) ≡ whole y m.hand m.pool → (t ≡ y.train → y.names ≡ true → MayYield line c y m.hand (k.book y.section) to)
+  yielded_law : (t to number heard : ℕ) (m : Mission) (k : Centre) → mission_of y (k.mission t) ≡ whole y m.hand m.pool → (t ≡ y.train → y.outside ≡ true → MayYield line c y m.hand (k.book y.section))
       → ((gone y t m.pool + y.entry (k.book y.section)) + y.res.inside c to (Yield number t heard m.has_data m.is_ended (yielded_place m.place) m.hand)) + mission_of y (put k.mission t None y.train)
-      ≤ y.entry (lent_entry t to m.hand (k.book y.section)) + mission_of y (k.mission y.train)
-  yielded_law t to number heard m k has may = mission_put line c y k t None _ (y.entry (lent_entry t to m.hand (k.book y.section)))
+      ≤ y.entry (lent_entry t m.hand (k.book y.section)) + mission_of y (k.mission y.train)
+  yielded_law t to number heard m k has may = mission_put line c y k t None _ (y.entry (lent_entry t m.hand (k.book y.section)))
       (λ here. omega (
         arith,
         has,
         gone_here line c y is t m.pool,
         away_part line c y is m.pool,
-        subst (λ v. y.entry (k.book y.section) + y.res.inside c to (Yield number v heard m.has_data m.is_ended (yielded_place m.place) m.hand) ≤ (y.one + part y m.hand) + y.entry (lent_entry v to m.hand (k.book y.section)))
+        subst (λ v. y.entry (k.book y.section) + y.res.inside c to (Yield number v heard m.has_data m.is_ended (yielded_place m.place) m.hand) ≤ (y.one + part y m.hand) + y.entry (lent_entry v m.hand (k.book y.section)))
             (sym here) (is.yields to number heard m.has_data m.is_ended (yielded_place m.place) m.hand (k.book y.section) (may here)),
       ))
       (λ other. omega (
@@ -189,44 +190,44 @@ module _ (line : Line) (c : ℕ) (y : Tally) (is : IsTally line c y) where
         by_tests other (within m.hand y.section) (is_taken_for t (k.book y.section)) refl,
       ))
     where
-      by_tests : t ≢ y.train → (w x : Bool) → is_taken_for t (k.book y.section) ≡ x → y.entry (k.book y.section) ≤ y.entry (if w && x then Out t to else k.book y.section)
+      by_tests : t ≢ y.train → (w x : Bool) → is_taken_for t (k.book y.section) ≡ x → y.entry (k.book y.section) ≤ y.entry (if w && x then Out t else k.book y.section)
       by_tests other false x taken = omega arith
       by_tests other true false taken = omega arith
-      by_tests other true true taken = is.other t (k.book y.section) (Out t to) other (used_taken line c y is t (k.book y.section) taken)
+      by_tests other true true taken = is.other t (k.book y.section) (Out t) other (used_taken line c y is t (k.book y.section) taken)
 
   -- the entry becomes that of a section that is out, or stays here
-  lent_back : y.exact ≡ true → (t to : ℕ) (hand : SectionRun) (e : Entry) → t ≢ y.train → y.entry (lent_entry t to hand e) ≤ y.entry e
-  lent_back so t to hand e other = by_tests (within hand y.section) (is_taken_for t e) refl
+  lent_back : y.exact ≡ true → (t : ℕ) (hand : SectionRun) (e : Entry) → t ≢ y.train → y.entry (lent_entry t hand e) ≤ y.entry e
+  lent_back so t hand e other = by_tests (within hand y.section) (is_taken_for t e) refl
     where
-      by_tests : (w x : Bool) → is_taken_for t e ≡ x → y.entry (if w && x then Out t to else e) ≤ y.entry e
+      by_tests : (w x : Bool) → is_taken_for t e ≡ x → y.entry (if w && x then Out t else e) ≤ y.entry e
       by_tests false x taken = omega arith
       by_tests true false taken = omega arith
-      by_tests true true taken = (is.back so).here (Out t to) e (ne_eqb t y.train other) (taken_here line c y is t y.train e taken)
+      by_tests true true taken = (is.back so).here (Out t) e (ne_eqb t y.train other) (taken_here line c y is t y.train e taken)
 
-  yielded_back : y.exact ≡ true → (t to number heard : ℕ) (m : Mission) (k : Centre) → mission_of y (k.mission t) ≡ whole y m.hand m.pool → (t ≡ y.train → MayYield line c y m.hand (k.book y.section) to)
-      → y.entry (lent_entry t to m.hand (k.book y.section)) + mission_of y (k.mission y.train)
+  yielded_back : y.exact ≡ true → (t to number heard : ℕ) (m : Mission) (k : Centre) → mission_of y (k.mission t) ≡ whole y m.hand m.pool → (t ≡ y.train → MayYield line c y m.hand (k.book y.section))
+      → y.entry (lent_entry t m.hand (k.book y.section)) + mission_of y (k.mission y.train)
       ≤ ((gone y t m.pool + y.entry (k.book y.section)) + y.res.inside c to (Yield number t heard m.has_data m.is_ended (yielded_place m.place) m.hand)) + mission_of y (put k.mission t None y.train)
-  yielded_back so t to number heard m k has may = mission_back line c y k t None _ (y.entry (lent_entry t to m.hand (k.book y.section)))
+  yielded_back so t to number heard m k has may = mission_back line c y k t None _ (y.entry (lent_entry t m.hand (k.book y.section)))
       (λ here. omega (
         arith,
         has,
         part_gone line c y is so t m.pool here,
-        subst (λ v. (y.one + part y m.hand) + y.entry (lent_entry v to m.hand (k.book y.section)) ≤ y.entry (k.book y.section) + y.res.inside c to (Yield number v heard m.has_data m.is_ended (yielded_place m.place) m.hand))
+        subst (λ v. (y.one + part y m.hand) + y.entry (lent_entry v m.hand (k.book y.section)) ≤ y.entry (k.book y.section) + y.res.inside c to (Yield number v heard m.has_data m.is_ended (yielded_place m.place) m.hand))
             (sym here) ((is.back so).yields to number heard m.has_data m.is_ended (yielded_place m.place) m.hand (k.book y.section) (may here)),
       ))
-      (λ other. omega (arith, lent_back so t to m.hand (k.book y.section) other))
+      (λ other. omega (arith, lent_back so t m.hand (k.book y.section) other))
 
-  pub fair_yield : (t : ℕ) (m : Mission) (h : Handing) (k : Centre) → mission_of y (k.mission t) ≡ whole y m.hand m.pool → (t ≡ y.train → y.names ≡ true → MayYield line c y m.hand (k.book y.section) h.to)
-      → IsOnTrack t m.place.track m.pool → (y.exact ≡ true → t ≡ y.train → (y.names ≡ true) × (h.to < centre_count line)) → Makes k (yield line c t m h k)
+  pub fair_yield : (t : ℕ) (m : Mission) (h : Handing) (k : Centre) → mission_of y (k.mission t) ≡ whole y m.hand m.pool → (t ≡ y.train → y.outside ≡ true → MayYield line c y m.hand (k.book y.section))
+      → IsOnTrack t m.place.track m.pool → (y.exact ≡ true → t ≡ y.train → (y.outside ≡ true) × (h.to < centre_count line)) → Makes k (yield line c t m h k)
   unfolding ◌>>◌
   fair_yield t m h k has may on can = eased line c y 0 0 k (yield line c t m h k)
       (omega (arith, yielded_law t h.to h.number (option_map_or (λ n. n) (k.heard t) 0) m k has may))
       (λ so. omega (arith, yielded_back so t h.to h.number (option_map_or (λ n. n) (k.heard t) 0) m k has (λ here. may here (can so here).0)))
       (fair_then line c y
-      ((returned line c t m.place.track m.pool >> booked (is_taken_for t) (Out t h.to) m.hand) >> (set_mission t None >> send h.to gives))
+      ((returned line c t m.place.track m.pool >> booked (is_taken_for t) (Out t) m.hand) >> (set_mission t None >> send h.to gives))
       (if is_empty (part_at line c m.place.track m.hand) then end_order line c t else rest) k
-      (fair_then line c y (returned line c t m.place.track m.pool >> booked (is_taken_for t) (Out t h.to) m.hand) (set_mission t None >> send h.to gives) k
-      (fair_then line c y (returned line c t m.place.track m.pool) (booked (is_taken_for t) (Out t h.to) m.hand) k (fair_returned t m.place.track m.pool k on) (fair_booked line c y (is_taken_for t) (Out t h.to) m.hand k))
+      (fair_then line c y (returned line c t m.place.track m.pool >> booked (is_taken_for t) (Out t) m.hand) (set_mission t None >> send h.to gives) k
+      (fair_then line c y (returned line c t m.place.track m.pool) (booked (is_taken_for t) (Out t) m.hand) k (fair_returned t m.place.track m.pool k on) (fair_booked line c y (is_taken_for t) (Out t) m.hand k))
       (fair_then line c y (set_mission t None) (send h.to gives) middle (fair_set line c y t None middle) (sends h.to t gives (set_mission t None middle).state refl (λ so here. (can so here).1))))
       (ends (is_empty (part_at line c m.place.track m.hand)) _))
     where
@@ -234,16 +235,16 @@ module _ (line : Line) (c : ℕ) (y : Tally) (is : IsTally line c y) where
       gives = Yield h.number t (option_map_or (λ n. n) (k.heard t) 0) m.has_data m.is_ended (yielded_place m.place) m.hand
 
       middle : Centre
-      middle = ((returned line c t m.place.track m.pool >> booked (is_taken_for t) (Out t h.to) m.hand) k).state
+      middle = ((returned line c t m.place.track m.pool >> booked (is_taken_for t) (Out t) m.hand) k).state
 
       ends : (b : Bool) (j : Centre) → Makes j ((if b then end_order line c t else rest) j)
       ends true j = fair_end_order t j
       ends false j = fair_rest line c y j
 
-  pub fair_yield_if : (t : ℕ) (k : Centre) → Ready line c y k → Makes k (yield_if_due line c t k)
-  fair_yield_if t k ready = fair_or line c y (k.mission t) _ k (rest k)
+  pub fair_yield_over : (d number t : ℕ) (k : Centre) → Ready line c y k → Makes k (taking_over line c d number t k)
+  fair_yield_over d number t k ready = fair_or line c y (k.mission t) _ k (rest k)
       (λ m has. fair_or line c y m.handing _ k (rest k)
-      (λ h stands. fair_if line c y (h.is_claimed && is_of_two line c h.to m.hand) k (yield line c t m h k) (rest k) (λ so. fair_yield t m h k (ap (mission_of y) has) (may_yield line c y t m h k has stands (and_parts h.is_claimed (is_of_two line c h.to m.hand) so).1 ready)
+      (λ h stands. fair_if line c y ((h.number == number) && (h.to == d)) k (yield line c t m h k) (rest k) (λ so. fair_yield t m h k (ap (mission_of y) has) (may_yield line c y t m k has ready)
       (λ exact here. (ready.stands exact m (ap (λ v. k.mission v) (sym here) ∙ has)).pool_on)
       (λ exact here. ((is.back exact).named, (ready.stands exact m (ap (λ v. k.mission v) (sym here) ∙ has)).to_centre h stands))) (λ so. fair_rest line c y k))
       (λ none. fair_rest line c y k))

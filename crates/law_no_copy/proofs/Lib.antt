@@ -14,3 +14,4 @@ pub mod Steps
 pub mod Homes
 pub mod Rights
 pub mod Tokens
+pub mod Fair

@@ -1,10 +1,11 @@
 -- What a train's message comes to makes nothing.
-use Rattle.std.proofs.Common.{◌≡◌, ⊎_elim, inl, inr, eqb-true, eq-eqb, ℕ, ◌+◌, ◌<◌, ◌≤◌, ◌==◌, ◌*◌, ◌&&◌, not, Bool, true, false, if◌then◌else◌, nat_le, [], ◌∷◌, Option, Some, None, option_map, refl, sym, ap, ◌∙◌, arith}
+use Rattle.std.proofs.Common.{◌≡◌, ⊎_elim, inl, inr, eqb-true, eq-eqb, ℕ, ◌+◌, ◌<◌, ◌≤◌, ◌==◌, ◌*◌, ◌&&◌, not, Bool, true, false, if◌then◌else◌, nat_le, [], ◌∷◌, Option, Some, None, option_map, refl, sym, ap, ◌∙◌, arith, ◌-◌}
 use Rattle.std.specs.Option.{option_map_or}
 use Rattle.std.proofs.lemmas.Bool.{and_parts, and_from, cases_lt, le-leb, leb-true}
 use Rattle.law_counting.proofs.Sums.{sum_zero, put_same}
 use Rattle.law_counting.specs.Resource.{carried, sent_by}
 use Rattle.law_counting.proofs.Resource.{sent_none, carried_none, carried_more}
+use Rattle.law_base.proofs.Standstill.{rests_or_cuts}
 use Rattle.rbc_spec.specs.Maps.{put, has}
 use Rattle.rbc_spec.specs.SectionRuns.{SectionRun, no_run, within, behind, is_empty, part_before, part_from, joined}
 use Rattle.rbc_spec.specs.Line.{Line, end, is_centre}
@@ -12,16 +13,16 @@ use Rattle.rbc_spec.specs.Place.{Place, Position, is_cleared, place_on}
 use Rattle.rbc_spec.specs.Message.{TrainMessage, TrainBody, TrainData, Request, Report, ShorteningGranted, ShorteningRejected, EndOfMission, InitiationOfSession, TerminationOfSession, StartOfMission, SessionEstablished, DataAcknowledged, SystemVersion, TerminationAcknowledged, unknown_group}
 use Rattle.rbc_spec.specs.Frame.{TakingOver}
 use Rattle.rbc_spec.specs.Centre.{Centre, Mission, Handing, Proposal, Expectation, Opened, Up}
-use Rattle.rbc_spec.specs.Acts.{Act, rest, ◌>>◌, say, returned, leave, set_mission, change_mission, with_mission, return_pool, cancel, close, part_at, yield_if_due}
-use Rattle.rbc_spec.specs.Rules.{set_phase, close_session, cleared, clear, report_here, take_over, report, end_mission, cut, granted, answered}
+use Rattle.rbc_spec.specs.Acts.{Act, rest, ◌>>◌, say, returned, leave, set_mission, change_mission, with_mission, return_pool, cancel, close, part_at}
+use Rattle.rbc_spec.specs.Rules.{set_phase, close_session, cleared, clear, report_here, take_over, report, end_mission, cut, granted, answered, stand_still}
 use Rattle.law_base.proofs.Runs.{within_true, within_from, within_behind, within_part_from, parts_count}
 use Rattle.law_base.proofs.Longest.{longest_is}
 use Rattle.law_network.specs.Flow.{centre_count}
 use Rattle.law_no_copy.proofs.Tally.{Tally, IsTally, Fair, part, whole, mission_of, gone, alike, fair_rest, fair_then, fair_both, eased, fair_or, fair_set, fair_change, fair_say, fair_plain, mission_put, mission_back}
 use Rattle.law_no_copy.proofs.Parts.{Follows, two_parts, covered_parts, cut_parts, cut_back, joined_part, joined_back, in_joined, none_part, empty_part, tail_follows, gone_here, gone_other, away_part, part_gone}
-use Rattle.law_no_copy.proofs.Leaving.{Makes, IsOnTrack, fair_returned, fair_cancel, fair_leave, left_law, left_back, leave_close, leave_set, fair_yield_if}
+use Rattle.law_no_copy.proofs.Leaving.{Makes, IsOnTrack, fair_returned, fair_cancel, fair_leave, left_law, left_back, leave_close, leave_set}
 use Rattle.law_no_copy.proofs.Ready.{Ready, Stands, stands_again}
-use Rattle.law_no_copy.proofs.Behind.{ready_report_here, ready_reported, ready_end, ready_shortened}
+use Rattle.law_no_copy.proofs.Behind.{ready_reported, follows_reported, ready_both}
 use Rattle.law_no_copy.proofs.Starts.{fair_close_session, fair_start}
 use Rattle.law_no_copy.proofs.Borders.{fair_request}
 
@@ -99,7 +100,7 @@ module _ (line : Line) (c : ℕ) (y : Tally) (is : IsTally line c y) where
 
   fair_report : (t : ℕ) (position : Position) (k : Centre) → AllFollow k → Ready line c y k → Makes line c y is k (report line c t position k)
   fair_report t position k follows ready = fair_or line c y (k.mission t) _ k (take_over line t k)
-      (λ m stands. fair_both line c y (report_here line c t position m) (yield_if_due line c t) k (fair_report_here t position m k (ap (mission_of y) stands) (follows t m stands) (standing t m k stands ready)) (fair_yield_if line c y is t _ (ready_report_here line c y t position m k stands ready)))
+      (λ m stands. fair_report_here t position m k (ap (mission_of y) stands) (follows t m stands) (standing t m k stands ready))
       (λ none. fair_take_over t k)
 
   -- ## The pool
@@ -129,21 +130,6 @@ module _ (line : Line) (c : ℕ) (y : Tally) (is : IsTally line c y) where
 
   pub fair_return_pool : (t : ℕ) (m : Mission) (k : Centre) → k.mission t ≡ Some m → IsStanding t m k → Makes line c y is k (return_pool line c t m k)
   fair_return_pool t m k has stands = pool_goes t m.place.track m.pool (λ n. record n { pool = no_run }) m k has (omega (arith, none_part y)) (λ so. omega (arith, none_part y)) (λ so here. (stands so here).pool_on)
-
-  fair_end_mission : (t : ℕ) (position : Position) (k : Centre) → AllFollow k → Ready line c y k → Makes line c y is k (end_mission line c t position k)
-  fair_end_mission t position k follows ready = fair_both line c y (with_mission t (report_here line c t position) >> with_mission t ends) (yield_if_due line c t) k
-      (fair_both line c y (with_mission t (report_here line c t position)) (with_mission t ends) k
-      (fair_or line c y (k.mission t) _ k (rest k) (λ m stands. fair_report_here t position m k (ap (mission_of y) stands) (follows t m stands) (standing t m k stands ready)) (λ none. fair_rest line c y k))
-      (fair_or line c y (reported.mission t) (λ m. ends m reported) reported (rest reported)
-      (λ m stands. fair_both line c y (return_pool line c t m) (change_mission t (λ n. record n { is_ended = true; proposal = None })) reported (fair_return_pool t m reported stands (standing t m reported stands (ready_reported line c y t position k ready)))
-      (fair_change line c y t (λ n. record n { is_ended = true; proposal = None }) _ (λ n. (refl, refl)))) (λ none. fair_rest line c y reported)))
-      (fair_yield_if line c y is t _ (ready_end line c y t position k ready))
-    where
-      ends : Mission → Act
-      ends m = return_pool line c t m >> change_mission t (λ n. record n { is_ended = true; proposal = None })
-
-      reported : Centre
-      reported = (with_mission t (report_here line c t position) k).state
 
   -- ## Shortening
 
@@ -201,10 +187,8 @@ module _ (line : Line) (c : ℕ) (y : Tally) (is : IsTally line c y) where
           (fair_set line c y t (Some (kept_by last_kept m)) left) (cancels m.handing (set_mission t (Some (kept_by last_kept m)) left).state)))
 
   fair_granted : (t : ℕ) (position : Position) (m : Mission) (p : Proposal) (k : Centre) → k.mission t ≡ Some m → Follows m → Ready line c y k → Makes line c y is k (granted line c t position m p k)
-  fair_granted t position m p k stands follows ready = fair_both line c y _ (yield_if_due line c t) k
-      (fair_both line c y (change_mission t (λ n. record n { proposal = None })) _ k (fair_change line c y t (λ n. record n { proposal = None }) k (λ n. (refl, refl)))
-      (by_place (place_on line m.place.track position)))
-      (fair_yield_if line c y is t _ (ready_shortened line c y t position m p k stands follows ready))
+  fair_granted t position m p k stands follows ready = fair_both line c y (change_mission t (λ n. record n { proposal = None })) _ k (fair_change line c y t (λ n. record n { proposal = None }) k (λ n. (refl, refl)))
+      (by_place (place_on line m.place.track position))
     where
       middle : Centre
       middle = (change_mission t (λ n. record n { proposal = None }) k).state
@@ -219,6 +203,29 @@ module _ (line : Line) (c : ℕ) (y : Tally) (is : IsTally line c y) where
           by_front : (b : Bool) → Makes line c y is middle ((if b then cut line c t p.last_kept m else rest) middle)
           by_front true = fair_cut t p.last_kept m middle still follows (λ so here. stands_again line c y k middle m refl (standing t m k stands ready so here))
           by_front false = fair_rest line c y middle
+
+  -- ## End of mission
+
+  fair_end_mission : (t : ℕ) (position : Position) (k : Centre) → AllFollow k → Ready line c y k → Makes line c y is k (end_mission line c t position k)
+  fair_end_mission t position k follows ready = fair_both line c y (with_mission t (report_here line c t position) >> with_mission t (stand_still line c t position)) (with_mission t ends) k
+      (fair_both line c y (with_mission t (report_here line c t position)) (with_mission t (stand_still line c t position)) k
+      (fair_or line c y (k.mission t) _ k (rest k) (λ m stands. fair_report_here t position m k (ap (mission_of y) stands) (follows t m stands) (standing t m k stands ready)) (λ none. fair_rest line c y k))
+      (fair_or line c y (reported.mission t) (λ m. stand_still line c t position m reported) reported (rest reported)
+      (λ m stands. rests_or_cuts (λ act. Makes line c y is reported (act reported)) line c t position m (fair_rest line c y reported)
+      (λ n some fits. fair_cut t (m.hand.first + n - 1) m reported (ap (mission_of y) stands) (follows_reported line c y t position k (follows t) m stands) (standing t m reported stands (ready_reported line c y t position k ready))))
+      (λ none. fair_rest line c y reported)))
+      (fair_or line c y (stood.mission t) (λ m. ends m stood) stood (rest stood)
+      (λ m stands. fair_both line c y (return_pool line c t m) (change_mission t (λ n. record n { is_ended = true; proposal = None })) stood (fair_return_pool t m stood stands (standing t m stood stands (ready_both line c y t position k (follows t) ready)))
+      (fair_change line c y t (λ n. record n { is_ended = true; proposal = None }) _ (λ n. (refl, refl)))) (λ none. fair_rest line c y stood))
+    where
+      ends : Mission → Act
+      ends m = return_pool line c t m >> change_mission t (λ n. record n { is_ended = true; proposal = None })
+
+      reported : Centre
+      reported = (with_mission t (report_here line c t position) k).state
+
+      stood : Centre
+      stood = ((with_mission t (report_here line c t position) >> with_mission t (stand_still line c t position)) k).state
 
   -- ## A message
 

@@ -17,13 +17,13 @@ pub open_unused : (e : Entry) → is_open e ≡ true → is_unused e ≡ true
 open_unused Shut h = refl
 open_unused Open h = refl
 open_unused (Taken t) h = cc
-open_unused (Out t d) h = cc
+open_unused (Out t) h = cc
 
 pub open_here : (u : ℕ) (e : Entry) → is_open e ≡ true → is_away u e ≡ false
 open_here u Shut h = refl
 open_here u Open h = refl
 open_here u (Taken t) h = refl
-open_here u (Out t d) h = cc
+open_here u (Out t) h = cc
 
 module _ (y : Tally) where
   -- two parts of the run that share nothing
@@ -178,7 +178,7 @@ module _ (line : Line) (c : ℕ) (y : Tally) (is : IsTally line c y) where
   taken_here t u Shut h = refl
   taken_here t u Open h = refl
   taken_here t u (Taken v) h = refl
-  taken_here t u (Out v d) h = cc
+  taken_here t u (Out v) h = cc
 
   pub given_here : (wish : Bool) (u : ℕ) → is_away u (if wish then Shut else Open) ≡ false
   given_here true u = refl
@@ -212,7 +212,7 @@ module _ (line : Line) (c : ℕ) (y : Tally) (is : IsTally line c y) where
   used_taken t Shut h = cc
   used_taken t Open h = cc
   used_taken t (Taken u) h = h
-  used_taken t (Out u d) h = cc
+  used_taken t (Out u) h = cc
 
   pub freed_other : (t : ℕ) (r : SectionRun) (k : Centre) → t ≢ y.train
       → gone y t r + y.entry (k.book y.section) ≤ y.entry ((freed line c (is_taken_for t) r k).state.book y.section)

@@ -1,5 +1,5 @@
--- What a yield wants of its centre, so that the names of lent sections are counted: and which acts before it keep that.
-use Rattle.std.proofs.Common.{◌≡◌, ◌≢◌, ◌⊎◌, inl, inr, ℕ, ◌<◌, ◌&&◌, ◌||◌, Bool, true, false, if◌then◌else◌, Option, Some, None, option_map, refl, sym, ap, ◌∙◌, subst, ⊎_elim}
+-- What a yield wants of its centre, so that sections are counted outside their home: and which acts before it keep that.
+use Rattle.std.proofs.Common.{◌≡◌, ◌≢◌, ◌⊎◌, inl, inr, ℕ, ◌<◌, ◌&&◌, Bool, true, false, if◌then◌else◌, Option, Some, None, option_map, refl, sym, ap, ◌∙◌, subst, ⊎_elim}
 use Rattle.std.proofs.lemmas.Bool.{cases_eq, eqb-true}
 use Rattle.law_counting.proofs.Sums.{put_same, put_other}
 use Rattle.rbc_spec.specs.Maps.{put}
@@ -9,13 +9,11 @@ use Rattle.rbc_spec.specs.Centre.{Centre, Entry, Shut, Open, Taken, Out, Mission
 use Rattle.rbc_spec.specs.Acts.{◌>>◌, freed, leave, set_mission, change_mission}
 use Rattle.law_local.specs.Local.{hand_has}
 use Rattle.std.specs.Option.{option_map_or}
-use Rattle.law_base.proofs.Runs.{each_within}
-use Rattle.law_base.proofs.Lines.{one_home}
 use Rattle.rbc_spec.specs.Line.{registrar}
 use Rattle.rbc_spec.specs.Sections.{is_on}
 use Rattle.rbc_spec.specs.Frame.{ReturnRight, Cancel}
 use Rattle.rbc_spec.specs.Centre.{is_registrar_of}
-use Rattle.rbc_spec.specs.Acts.{rest, become, send, cancel, return_right, close, is_of_two}
+use Rattle.rbc_spec.specs.Acts.{rest, become, send, cancel, return_right, close}
 use Rattle.law_network.specs.Flow.{centre_count}
 use Rattle.law_no_copy.proofs.Tally.{Tally, HasRegistrar, MayYield}
 
@@ -24,7 +22,7 @@ pub taken_once : (u t : ℕ) (e : Entry) → is_taken_for u e ≡ true → is_ta
 taken_once u t Shut one two = cc
 taken_once u t Open one two = cc
 taken_once u t (Taken v) one two = sym (eqb-true v u one) ∙ eqb-true v t two
-taken_once u t (Out v d) one two = cc
+taken_once u t (Out v) one two = cc
 
 module _ (line : Line) (c : ℕ) (y : Tally) where
   -- where what is lost is counted: each section of the train's mission is on its track, its right is with it, and has a registrar to go back
@@ -36,10 +34,9 @@ module _ (line : Line) (c : ℕ) (y : Tally) where
     pub to_registrar : HasRegistrar line y.train
     pub to_centre : (h : Handing) → m.handing ≡ Some h → h.to < centre_count line
 
-  -- where names are counted: a home section in the train's hand is taken for it, and its handover is to another centre
+  -- where it is counted outside its home alone, a home section in the train's hand is taken for it
   pub record Ready (k : Centre) : Type 0 where
-    pub claims : y.names ≡ true → hand_has (k.mission y.train) y.section ≡ true → is_home line c y.section ≡ true → is_taken_for y.train (k.book y.section) ≡ true
-    pub apart : y.names ≡ true → (m : Mission) (h : Handing) → k.mission y.train ≡ Some m → m.handing ≡ Some h → h.to ≢ c
+    pub claims : y.outside ≡ true → hand_has (k.mission y.train) y.section ≡ true → is_home line c y.section ≡ true → is_taken_for y.train (k.book y.section) ≡ true
     pub stands : y.exact ≡ true → (m : Mission) → k.mission y.train ≡ Some m → Stands k m
 
   -- a mission that stands on the same track, with no more of hand and pool
@@ -60,7 +57,6 @@ module _ (line : Line) (c : ℕ) (y : Tally) where
   pub ready_again : (k j : Centre) → j.mission y.train ≡ k.mission y.train → j.book y.section ≡ k.book y.section → j.has_right y.train ≡ k.has_right y.train → Ready k → Ready j
   ready_again k j mission book right ready = record {
     claims = λ so has home. ap (is_taken_for y.train) book ∙ ready.claims so (ap (λ o. hand_has o y.section) (sym mission) ∙ has) home;
-    apart = λ so m h is. ready.apart so m h (sym mission ∙ is);
     stands = λ so m is. stands_again k j m right (ready.stands so m (sym mission ∙ is));
   }
 
@@ -79,7 +75,6 @@ module _ (line : Line) (c : ℕ) (y : Tally) where
       (λ (here : y.train ≡ t). changed (ap (λ v. put k.mission t (option_map f (k.mission t)) v) here ∙ put_same k.mission t (option_map f (k.mission t)) ∙ ap (λ v. option_map f (k.mission v)) (sym here)))
       (λ (other : y.train ≢ t). let same : put k.mission t (option_map f (k.mission t)) y.train ≡ k.mission y.train = put_other k.mission t (option_map f (k.mission t)) y.train other in record {
         claims = λ so has home. ready.claims so (ap (λ o. hand_has o y.section) (sym same) ∙ has) home;
-        apart = λ so m h is. ready.apart so m h (sym same ∙ is);
         stands = λ so m is. stands_again k (change_mission t f k).state m refl (ready.stands so m (sym same ∙ is));
       })
       (cases_eq y.train t)
@@ -88,11 +83,6 @@ module _ (line : Line) (c : ℕ) (y : Tally) where
       hand_same None = refl
       hand_same (Some m) = ap (λ r. within r y.section) (hand m)
 
-      by_mission : y.names ≡ true → (o : Option Mission) → k.mission y.train ≡ o → (n : Mission) (h : Handing) → option_map f o ≡ Some n → n.handing ≡ Some h → h.to ≢ c
-      by_mission so None was n h is stands = cc
-      by_mission so (Some m) was n h is stands = let same : f m ≡ n = cc in let before = way m h (ap (λ x. x.handing) same ∙ stands) in
-          λ there. ready.apart so m before.0 was before.1 (before.2 ∙ there)
-
       by_standing : y.exact ≡ true → (o : Option Mission) → k.mission y.train ≡ o → (n : Mission) → option_map f o ≡ Some n → Stands (change_mission t f k).state n
       by_standing so None was n is = cc
       by_standing so (Some m) was n is = let same : f m ≡ n = cc in subst (Stands (change_mission t f k).state) same (part_stands k (change_mission t f k).state m (f m) refl (less m) (way m) (ready.stands so m was))
@@ -100,7 +90,6 @@ module _ (line : Line) (c : ℕ) (y : Tally) where
       changed : put k.mission t (option_map f (k.mission t)) y.train ≡ option_map f (k.mission y.train) → Ready (change_mission t f k).state
       changed now = record {
         claims = λ so has home. ready.claims so (sym (hand_same (k.mission y.train)) ∙ ap (λ o. hand_has o y.section) (sym now) ∙ has) home;
-        apart = λ so m h is stands. by_mission so (k.mission y.train) refl m h (sym now ∙ is) stands;
         stands = λ so m is. by_standing so (k.mission y.train) refl m (sym now ∙ is);
       }
 
@@ -133,27 +122,17 @@ module _ (line : Line) (c : ℕ) (y : Tally) where
       by_train (inl here) = let now : put k.mission t o y.train ≡ o = ap (λ v. put k.mission t o v) here ∙ put_same k.mission t o in record {
         claims = λ so has home. let both = by_hand o refl (ap (λ z. hand_has z y.section) (sym now) ∙ has) home in
             still_taken t r k (λ e h. both.1) home (ready.claims so (ap (λ v. hand_has (k.mission v) y.section) here ∙ both.0) home);
-        apart = λ so n h is stands. let before = (leaves n (sym now ∙ is)).way h stands in ready.apart so before.0 h (ap (λ v. k.mission v) here ∙ before.1) before.2;
         stands = λ so n is. let less = (leaves n (sym now ∙ is)).less in
             part_stands k ((leave line c t track r >> set_mission t o) k).state less.0 n refl less.2 less.3 (ready.stands so less.0 (ap (λ v. k.mission v) here ∙ less.1));
       }
       by_train (inr other) = let now : put k.mission t o y.train ≡ k.mission y.train = put_other k.mission t o y.train other in record {
         claims = λ so has home. still_taken t r k (λ e. absurd (other (sym e))) home (ready.claims so (ap (λ z. hand_has z y.section) (sym now) ∙ has) home);
-        apart = λ so n h is stands. ready.apart so n h (sym now ∙ is) stands;
         stands = λ so n is. stands_again k ((leave line c t track r >> set_mission t o) k).state n refl (ready.stands so n (sym now ∙ is));
       }
 
-  -- a handover that is claimed may be yielded
-  pub may_yield : (t : ℕ) (m : Mission) (h : Handing) (k : Centre) → k.mission t ≡ Some m → m.handing ≡ Some h → is_of_two line c h.to m.hand ≡ true → Ready k → t ≡ y.train → y.names ≡ true
-      → MayYield line c y m.hand (k.book y.section) h.to
-  may_yield t m h k has stands two ready here so in_hand = (
-    (λ home. (ready.claims so (ap (λ v. hand_has (k.mission v) y.section) (sym here) ∙ ap (λ o. hand_has o y.section) has ∙ in_hand) home, not_there home (is_home line h.to y.section) refl)),
-    (λ away. sym (ap (λ z. z || is_home line h.to y.section) away) ∙ each_within (λ s. is_home line c s || is_home line h.to s) m.hand two y.section in_hand),
-  )
-    where
-      not_there : is_home line c y.section ≡ true → (b : Bool) → is_home line h.to y.section ≡ b → b ≡ false
-      not_there home false there = refl
-      not_there home true there = absurd (ready.apart so m h (ap (λ v. k.mission v) (sym here) ∙ has) stands (one_home line h.to c y.section there home))
+  -- a handover may be yielded
+  pub may_yield : (t : ℕ) (m : Mission) (k : Centre) → k.mission t ≡ Some m → Ready k → t ≡ y.train → y.outside ≡ true → MayYield line c y m.hand (k.book y.section)
+  may_yield t m k has ready here so in_hand home = ready.claims so (ap (λ v. hand_has (k.mission v) y.section) (sym here) ∙ ap (λ o. hand_has o y.section) has ∙ in_hand) home
 
   -- ## A mission that closes
 
@@ -192,7 +171,7 @@ module _ (line : Line) (c : ℕ) (y : Tally) where
           (cases_eq y.train t)
 
       by_registrar : (b : Bool) (o : Option ℕ) → Ready ((if b then become (λ j. record j { has_right = put j.has_right t true }) else option_map_or (λ r. send r (ReturnRight t)) o rest) k).state
-      by_registrar true o = record { claims = ready.claims; apart = ready.apart; stands = stands_still }
+      by_registrar true o = record { claims = ready.claims; stands = stands_still }
       by_registrar false (Some r) = ready
       by_registrar false None = ready
 

@@ -24,7 +24,7 @@ no_number true = refl
 no_number false = refl
 
 abbrev pub rights_tally : Line → ℕ → ℕ → Tally
-rights_tally line c t = record { res = rights line t; train = t; section = 0; one = 1; weight = 0; waiting = 0; away = 0; entry = λ e. one_if (is_registrar_of line c t); names = false; exact = false }
+rights_tally line c t = record { res = rights line t; train = t; section = 0; one = 1; weight = 0; waiting = 0; away = 0; entry = λ e. one_if (is_registrar_of line c t); outside = false; exact = false }
 
 module _ (line : Line) (c t : ℕ) where
   no_wait : (o : Option Place) → wait_of line (rights_tally line c t) o ≡ 0
@@ -98,4 +98,4 @@ module _ (line : Line) (c t : ℕ) where
 
   -- no name is counted
   pub rights_ready : (k : Centre) → Ready line c (rights_tally line c t) k
-  rights_ready k = record { claims = λ so has home. cc; apart = λ so m h is stands. cc; stands = λ so m is. cc }
+  rights_ready k = record { claims = λ so has home. cc; stands = λ so m is. cc }

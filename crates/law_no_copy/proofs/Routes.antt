@@ -24,49 +24,49 @@ use Rattle.law_no_copy.proofs.Comes.{used_out, out_apart, Comes, lost, IsFrom, I
 module _ (line : Line) (c : ℕ) (y : Tally) (is : IsTally line c y) where
   pub lent_law : (t d first most : ℕ) (k : Centre)
       → y.entry (k.book y.section) + y.res.inside c d (RouteInfo t (lendable line c k first most))
-      ≤ y.entry (if within (lendable line c k first most) y.section && is_open (k.book y.section) then Out t d else k.book y.section)
+      ≤ y.entry (if within (lendable line c k first most) y.section && is_open (k.book y.section) then Out t else k.book y.section)
   lent_law t d first most k = ⊎_elim
       (λ (here : t ≡ y.train). by_within here (within (lendable line c k first most) y.section) refl)
-      (λ (other : t ≢ y.train). omega (arith, is.others c d (RouteInfo t (lendable line c k first most)) other, booked_open line c y is (Out t d) (lendable line c k first most) (k.book y.section)))
+      (λ (other : t ≢ y.train). omega (arith, is.others c d (RouteInfo t (lendable line c k first most)) other, booked_open line c y is (Out t) (lendable line c k first most) (k.book y.section)))
       (cases_eq t y.train)
     where
       free : within (lendable line c k first most) y.section ≡ true → (is_home line c y.section && is_open (k.book y.section)) ≡ true
       free in_run = (and_parts (is_free line c k y.section) _ ((longest_is (λ s. is_free line c k s && has (λ p. is_on line p.track s) (section line first)) first most).each y.section in_run)).0
 
       by_within : t ≡ y.train → (b : Bool) → within (lendable line c k first most) y.section ≡ b
-          → y.entry (k.book y.section) + y.res.inside c d (RouteInfo t (lendable line c k first most)) ≤ y.entry (if b && is_open (k.book y.section) then Out t d else k.book y.section)
+          → y.entry (k.book y.section) + y.res.inside c d (RouteInfo t (lendable line c k first most)) ≤ y.entry (if b && is_open (k.book y.section) then Out t else k.book y.section)
       by_within here false out = subst (λ v. y.entry (k.book y.section) + y.res.inside c d (RouteInfo v (lendable line c k first most)) ≤ y.entry (k.book y.section)) (sym here)
           (omega (arith, is.names c d (lendable line c k first most) out))
       by_within here true in_run = let both = and_parts (is_home line c y.section) (is_open (k.book y.section)) (free in_run) in
-          subst (λ z. y.entry (k.book y.section) + y.res.inside c d (RouteInfo t (lendable line c k first most)) ≤ y.entry (if z then Out t d else k.book y.section)) (sym both.1)
-          (subst (λ v. y.entry (k.book y.section) + y.res.inside c d (RouteInfo v (lendable line c k first most)) ≤ y.entry (Out v d)) (sym here)
+          subst (λ z. y.entry (k.book y.section) + y.res.inside c d (RouteInfo t (lendable line c k first most)) ≤ y.entry (if z then Out t else k.book y.section)) (sym both.1)
+          (subst (λ v. y.entry (k.book y.section) + y.res.inside c d (RouteInfo v (lendable line c k first most)) ≤ y.entry (Out v)) (sym here)
           (is.lends d (lendable line c k first most) (k.book y.section) both.0 both.1))
 
   pub lent_back : y.exact ≡ true → (t d first most : ℕ) (k : Centre)
-      → y.entry (if within (lendable line c k first most) y.section && is_open (k.book y.section) then Out t d else k.book y.section)
+      → y.entry (if within (lendable line c k first most) y.section && is_open (k.book y.section) then Out t else k.book y.section)
       ≤ y.entry (k.book y.section) + y.res.inside c d (RouteInfo t (lendable line c k first most))
   lent_back so t d first most k = ⊎_elim
       (λ (here : t ≡ y.train). by_within here (within (lendable line c k first most) y.section) refl)
-      (λ (other : t ≢ y.train). omega (arith, booked_back line c y is so (Out t d) (lendable line c k first most) (k.book y.section) (ne_eqb t y.train other)))
+      (λ (other : t ≢ y.train). omega (arith, booked_back line c y is so (Out t) (lendable line c k first most) (k.book y.section) (ne_eqb t y.train other)))
       (cases_eq t y.train)
     where
       free : within (lendable line c k first most) y.section ≡ true → (is_home line c y.section && is_open (k.book y.section)) ≡ true
       free in_run = (and_parts (is_free line c k y.section) _ ((longest_is (λ s. is_free line c k s && has (λ p. is_on line p.track s) (section line first)) first most).each y.section in_run)).0
 
       by_within : t ≡ y.train → (b : Bool) → within (lendable line c k first most) y.section ≡ b
-          → y.entry (if b && is_open (k.book y.section) then Out t d else k.book y.section) ≤ y.entry (k.book y.section) + y.res.inside c d (RouteInfo t (lendable line c k first most))
+          → y.entry (if b && is_open (k.book y.section) then Out t else k.book y.section) ≤ y.entry (k.book y.section) + y.res.inside c d (RouteInfo t (lendable line c k first most))
       by_within here false out = omega arith
       by_within here true in_run = let both = and_parts (is_home line c y.section) (is_open (k.book y.section)) (free in_run) in
-          subst (λ z. y.entry (if z then Out t d else k.book y.section) ≤ y.entry (k.book y.section) + y.res.inside c d (RouteInfo t (lendable line c k first most))) (sym both.1)
-          (subst (λ v. y.entry (Out v d) ≤ y.entry (k.book y.section) + y.res.inside c d (RouteInfo v (lendable line c k first most))) (sym here)
+          subst (λ z. y.entry (if z then Out t else k.book y.section) ≤ y.entry (k.book y.section) + y.res.inside c d (RouteInfo t (lendable line c k first most))) (sym both.1)
+          (subst (λ v. y.entry (Out v) ≤ y.entry (k.book y.section) + y.res.inside c d (RouteInfo v (lendable line c k first most))) (sym here)
           ((is.back so).lends d (lendable line c k first most) (k.book y.section) both.0 in_run both.1))
 
   pub fair_route_asked : (d t first most : ℕ) (k : Centre) → IsFrom line c y is d → Makes line c y is k (route_asked line c d t first most k)
   unfolding ◌>>◌
   fair_route_asked d t first most k from = fair_if line c y (is_some (section line first)) k _ (rest k)
       (λ so. eased line c y 0 0 k _ (omega (arith, lent_law t d first most k)) (λ exact. omega (arith, lent_back exact t d first most k))
-      (fair_then line c y (booked is_open (Out t d) (lendable line c k first most)) (send d (RouteInfo t (lendable line c k first most))) k
-      (fair_booked line c y is_open (Out t d) (lendable line c k first most) k) (sends line c y is d t (RouteInfo t (lendable line c k first most)) _ refl (λ exact here. (from exact).0))))
+      (fair_then line c y (booked is_open (Out t) (lendable line c k first most)) (send d (RouteInfo t (lendable line c k first most))) k
+      (fair_booked line c y is_open (Out t) (lendable line c k first most) k) (sends line c y is d t (RouteInfo t (lendable line c k first most)) _ refl (λ exact here. (from exact).0))))
       (λ so. fair_rest line c y k)
 
   pub told_law : (d t : ℕ) (r : SectionRun) (k : Centre)
@@ -131,24 +131,24 @@ module _ (line : Line) (c : ℕ) (y : Tally) (is : IsTally line c y) where
           (λ exact here in_part. (standing line c y is t m k at ready exact here).pool_on (and_parts (within m.pool y.section) (nat_le s y.section) (sym (within_part_from m.pool s y.section) ∙ in_part)).0)
       by_pool m at false = fair_propose_if line c y is t s k
 
-  pub home_law : (d t : ℕ) (r : SectionRun) (k : Centre) → y.entry (k.book y.section) ≤ y.res.inside d c (RouteReturn t r) + y.entry ((freed line c (is_out_for t d) r k).state.book y.section)
-  home_law d t r k = by_tests (within r y.section) refl (is_home line c y.section) refl (is_out_for t d (k.book y.section)) refl
+  pub home_law : (d t : ℕ) (r : SectionRun) (k : Centre) → y.entry (k.book y.section) ≤ y.res.inside d c (RouteReturn t r) + y.entry ((freed line c (is_out_for t) r k).state.book y.section)
+  home_law d t r k = by_tests (within r y.section) refl (is_home line c y.section) refl (is_out_for t (k.book y.section)) refl
     where
-      by_train : (e g : Entry) → is_home line c y.section ≡ true → within r y.section ≡ true → is_out_for t d e ≡ true → y.entry e ≤ y.res.inside d c (RouteReturn t r) + y.entry g
+      by_train : (e g : Entry) → is_home line c y.section ≡ true → within r y.section ≡ true → is_out_for t e ≡ true → y.entry e ≤ y.res.inside d c (RouteReturn t r) + y.entry g
       by_train e g home in_run out = ⊎_elim
-          (λ (here : t ≡ y.train). subst (λ v. y.entry e ≤ y.res.inside d c (RouteReturn v r) + y.entry g) (sym here) (is.comes_home d r e g home in_run (subst (λ v. is_out_for v d e ≡ true) here out)))
-          (λ (other : t ≢ y.train). omega (arith, is.other t e g other (used_out t d e out))) (cases_eq t y.train)
+          (λ (here : t ≡ y.train). subst (λ v. y.entry e ≤ y.res.inside d c (RouteReturn v r) + y.entry g) (sym here) (is.comes_home d r e g home in_run (subst (λ v. is_out_for v e ≡ true) here out)))
+          (λ (other : t ≢ y.train). omega (arith, is.other t e g other (used_out t e out))) (cases_eq t y.train)
 
-      by_tests : (w : Bool) → within r y.section ≡ w → (h : Bool) → is_home line c y.section ≡ h → (x : Bool) → is_out_for t d (k.book y.section) ≡ x
+      by_tests : (w : Bool) → within r y.section ≡ w → (h : Bool) → is_home line c y.section ≡ h → (x : Bool) → is_out_for t (k.book y.section) ≡ x
           → y.entry (k.book y.section) ≤ y.res.inside d c (RouteReturn t r) + y.entry (if (w && h) && x then (if k.wish y.section then Shut else Open) else k.book y.section)
       by_tests false in_run h home x out = omega arith
       by_tests true in_run false home x out = omega arith
       by_tests true in_run true home false out = omega arith
       by_tests true in_run true home true out = by_train (k.book y.section) (if k.wish y.section then Shut else Open) home in_run out
 
-  pub home_back : y.exact ≡ true → (d t : ℕ) (r : SectionRun) (k : Centre) → (t ≡ y.train → all_of (λ s. is_home line c s && is_out_for t d (k.book s)) r ≡ true)
-      → y.res.inside d c (RouteReturn t r) + y.entry ((freed line c (is_out_for t d) r k).state.book y.section) ≤ y.entry (k.book y.section)
-  home_back so d t r k all = ⊎_elim (λ (here : t ≡ y.train). at_home here (within r y.section) refl) (λ (other : t ≢ y.train). omega (arith, is.others d c (RouteReturn t r) other, apart other (within r y.section && is_home line c y.section) (is_out_for t d (k.book y.section)) refl))
+  pub home_back : y.exact ≡ true → (d t : ℕ) (r : SectionRun) (k : Centre) → (t ≡ y.train → all_of (λ s. is_home line c s && is_out_for t (k.book s)) r ≡ true)
+      → y.res.inside d c (RouteReturn t r) + y.entry ((freed line c (is_out_for t) r k).state.book y.section) ≤ y.entry (k.book y.section)
+  home_back so d t r k all = ⊎_elim (λ (here : t ≡ y.train). at_home here (within r y.section) refl) (λ (other : t ≢ y.train). omega (arith, is.others d c (RouteReturn t r) other, apart other (within r y.section && is_home line c y.section) (is_out_for t (k.book y.section)) refl))
       (cases_eq t y.train)
     where
       given : Entry
@@ -159,21 +159,21 @@ module _ (line : Line) (c : ℕ) (y : Tally) (is : IsTally line c y) where
       given_unused false = refl
 
       at_home : t ≡ y.train → (w : Bool) → within r y.section ≡ w
-          → y.res.inside d c (RouteReturn t r) + y.entry (if (w && is_home line c y.section) && is_out_for t d (k.book y.section) then given else k.book y.section) ≤ y.entry (k.book y.section)
+          → y.res.inside d c (RouteReturn t r) + y.entry (if (w && is_home line c y.section) && is_out_for t (k.book y.section) then given else k.book y.section) ≤ y.entry (k.book y.section)
       at_home here false out = omega (arith, subst (λ v. y.res.inside d c (RouteReturn v r) ≡ 0) (sym here) ((is.back so).not_home d c r out))
       at_home here true in_run =
-          let both = and_parts (is_home line c y.section) (is_out_for t d (k.book y.section)) (each_within (λ s. is_home line c s && is_out_for t d (k.book s)) r (all here) y.section in_run) in
+          let both = and_parts (is_home line c y.section) (is_out_for t (k.book y.section)) (each_within (λ s. is_home line c s && is_out_for t (k.book s)) r (all here) y.section in_run) in
           subst (λ z. y.res.inside d c (RouteReturn t r) + y.entry (if z then given else k.book y.section) ≤ y.entry (k.book y.section))
-          (sym (and_from (is_home line c y.section) (is_out_for t d (k.book y.section)) both.0 both.1))
+          (sym (and_from (is_home line c y.section) (is_out_for t (k.book y.section)) both.0 both.1))
           (subst (λ v. y.res.inside d c (RouteReturn v r) + y.entry given ≤ y.entry (k.book y.section)) (sym here)
-          ((is.back so).comes_home d r (k.book y.section) given both.0 (subst (λ v. is_out_for v d (k.book y.section) ≡ true) here both.1) (given_unused (k.wish y.section))))
+          ((is.back so).comes_home d r (k.book y.section) given both.0 (subst (λ v. is_out_for v (k.book y.section) ≡ true) here both.1) (given_unused (k.wish y.section))))
 
-      apart : t ≢ y.train → (w x : Bool) → is_out_for t d (k.book y.section) ≡ x → y.entry (if w && x then given else k.book y.section) ≤ y.entry (k.book y.section)
+      apart : t ≢ y.train → (w x : Bool) → is_out_for t (k.book y.section) ≡ x → y.entry (if w && x then given else k.book y.section) ≤ y.entry (k.book y.section)
       apart other false x out = omega arith
       apart other true false out = omega arith
-      apart other true true out = (is.back so).here given (k.book y.section) (given_here line c y is (k.wish y.section) y.train) (out_apart t d y.train (k.book y.section) other out)
+      apart other true true out = (is.back so).here given (k.book y.section) (given_here line c y is (k.wish y.section) y.train) (out_apart t y.train (k.book y.section) other out)
 
-  pub fair_home : (d t : ℕ) (r : SectionRun) (k : Centre) → IsPlaced line c y is d (RouteReturn t r) k → Comes line c y is d (RouteReturn t r) k (route_returned line c d t r k)
+  pub fair_home : (d t : ℕ) (r : SectionRun) (k : Centre) → IsPlaced line c y is d (RouteReturn t r) k → Comes line c y is d (RouteReturn t r) k (route_returned line c t r k)
   fair_home d t r k due = eased line c y _ 0 k _ (omega (arith, home_law d t r k)) (λ exact. omega (arith, home_back exact d t r k (λ here. (due exact here).1)))
-      (fair_then line c y (freed line c (is_out_for t d) r) _ k (fair_freed line c y (is_out_for t d) r k)
+      (fair_then line c y (freed line c (is_out_for t) r) _ k (fair_freed line c y (is_out_for t) r k)
       (fair_if line c y _ _ _ (rest _) (λ so. fair_end_order line c y is t _) (λ so. fair_rest line c y _)))

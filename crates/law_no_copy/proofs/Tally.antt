@@ -35,7 +35,7 @@ pub record Tally : Type 0 where
   pub waiting : ℕ  -- in a start that waits
   pub away : ℕ  -- and in a frame by which it goes home
   pub entry : Entry → ℕ  -- what its home lets be out
-  pub names : Bool  -- the names of lent sections are counted
+  pub outside : Bool  -- the section is counted where it is not at home alone
   pub exact : Bool  -- what is lost is counted too
 
 abbrev pub right_of : Tally → Bool → ℕ
@@ -69,14 +69,13 @@ gone y t r = if t == y.train then part_away y r else 0
 abbrev pub back : Tally → ℕ → ℕ
 back y t = if t == y.train then y.one else 0
 
--- the section, if it is in this hand: an own one is taken for the train, and is of no home of the centre that the hand goes to; another is
-abbrev pub MayYield : Line → ℕ → Tally → SectionRun → Entry → ℕ → Type 0
-MayYield line c y hand e to = within hand y.section ≡ true
-    → (is_home line c y.section ≡ true → (is_taken_for y.train e ≡ true) × (is_home line to y.section ≡ false)) × (is_home line c y.section ≡ false → is_home line to y.section ≡ true)
+-- the section, if it is an own one in this hand, is taken for the train
+abbrev pub MayYield : Line → ℕ → Tally → SectionRun → Entry → Type 0
+MayYield line c y hand e = within hand y.section ≡ true → is_home line c y.section ≡ true → is_taken_for y.train e ≡ true
 
 -- the entry is of a section that is out for the train
 abbrev pub is_away : ℕ → Entry → Bool
-is_away t (Out u d) = u == t
+is_away t (Out u) = u == t
 is_away t e = false
 
 -- and they count no less, where what is lost is counted
@@ -84,25 +83,25 @@ pub record IsExactTally (line : Line) (c : ℕ) (y : Tally) : Type 0 where
   pub home_goes : (t track : ℕ) (r : SectionRun) (k : Centre) → (t ≡ y.train → within r y.section ≡ true → is_on line track y.section ≡ true)
       → gone y t r ≤ sent_by y.res (centre_count line) c (returned line c t track r k).frames
   pub here : (e g : Entry) → is_away y.train e ≡ false → is_away y.train g ≡ false → y.entry e ≤ y.entry g
-  pub named : y.names ≡ true
+  pub named : y.outside ≡ true
   pub registrar : is_train line y.train ≡ true → HasRegistrar line y.train
   pub heavy : y.weight ≤ y.away
   pub waiting : y.waiting ≡ 0
   pub own : is_home line c y.section ≡ true → y.weight ≡ 0
   pub lends : (d : ℕ) (r : SectionRun) (e : Entry) → is_home line c y.section ≡ true → within r y.section ≡ true → is_open e ≡ true
-      → y.entry (Out y.train d) ≤ y.entry e + y.res.inside c d (RouteInfo y.train r)
+      → y.entry (Out y.train) ≤ y.entry e + y.res.inside c d (RouteInfo y.train r)
   pub told : (a : ℕ) (r : SectionRun) → (within r y.section ≡ true → is_home line c y.section ≡ false) → y.res.inside a c (RouteInfo y.train r) ≤ part y r
   pub told_back : (a : ℕ) (r : SectionRun) → y.res.inside a c (RouteInfo y.train r) ≤ y.res.inside c a (RouteReturn y.train r)
   pub not_told : (a b : ℕ) (r : SectionRun) → is_empty r ≡ true → y.res.inside a b (RouteInfo y.train r) ≡ 0
-  pub comes_home : (a : ℕ) (r : SectionRun) (e g : Entry) → is_home line c y.section ≡ true → is_out_for y.train a e ≡ true → is_unused g ≡ true
+  pub comes_home : (a : ℕ) (r : SectionRun) (e g : Entry) → is_home line c y.section ≡ true → is_out_for y.train e ≡ true → is_unused g ≡ true
       → y.res.inside a c (RouteReturn y.train r) + y.entry g ≤ y.entry e
   pub not_home : (a b : ℕ) (r : SectionRun) → within r y.section ≡ false → y.res.inside a b (RouteReturn y.train r) ≡ 0
-  pub yields : (to number heard : ℕ) (has_data is_ended : Bool) (place : YieldedPlace) (hand : SectionRun) (e : Entry) → MayYield line c y hand e to
-      → (y.one + part y hand) + y.entry (if within hand y.section && is_taken_for y.train e then Out y.train to else e)
+  pub yields : (to number heard : ℕ) (has_data is_ended : Bool) (place : YieldedPlace) (hand : SectionRun) (e : Entry) → MayYield line c y hand e
+      → (y.one + part y hand) + y.entry (if within hand y.section && is_taken_for y.train e then Out y.train else e)
       ≤ y.entry e + y.res.inside c to (Yield number y.train heard has_data is_ended place hand)
   pub takes : (a number heard : ℕ) (has_data is_ended : Bool) (place : YieldedPlace) (hand : SectionRun) (e : Entry)
-      → (within hand y.section ≡ true → is_home line c y.section ≡ true → is_out_for y.train a e ≡ true)
-      → y.res.inside a c (Yield number y.train heard has_data is_ended place hand) + y.entry (if within hand y.section && is_out_for y.train a e then Taken y.train else e)
+      → (within hand y.section ≡ true → is_home line c y.section ≡ true → is_out_for y.train e ≡ true)
+      → y.res.inside a c (Yield number y.train heard has_data is_ended place hand) + y.entry (if within hand y.section && is_out_for y.train e then Taken y.train else e)
       ≤ y.entry e + (y.one + part y hand)
 
 -- these numbers count the resource at centre c
@@ -120,18 +119,18 @@ pub record IsTally (line : Line) (c : ℕ) (y : Tally) : Type 0 where
   pub opens : (e : Entry) → is_home line c y.section ≡ true → is_open e ≡ true → (y.entry e + y.weight ≤ y.entry (Taken y.train)) × (y.entry e + y.waiting ≤ y.entry (Taken y.train))
   pub frees : (e g : Entry) → is_home line c y.section ≡ true → is_taken_for y.train e ≡ true → (y.away + y.entry e ≤ y.entry g + y.weight) × (y.entry e ≤ y.entry g + y.waiting)
   pub waits : is_home line c y.section ≡ true → y.weight ≤ y.waiting
-  pub lends : (d : ℕ) (r : SectionRun) (e : Entry) → is_home line c y.section ≡ true → is_open e ≡ true → y.entry e + y.res.inside c d (RouteInfo y.train r) ≤ y.entry (Out y.train d)
+  pub lends : (d : ℕ) (r : SectionRun) (e : Entry) → is_home line c y.section ≡ true → is_open e ≡ true → y.entry e + y.res.inside c d (RouteInfo y.train r) ≤ y.entry (Out y.train)
   pub names : (a b : ℕ) (r : SectionRun) → within r y.section ≡ false → y.res.inside a b (RouteInfo y.train r) ≡ 0
   pub told : (a : ℕ) (r : SectionRun) → part y r ≤ y.res.inside a c (RouteInfo y.train r)
   pub told_back : (a : ℕ) (r : SectionRun) → y.res.inside c a (RouteReturn y.train r) ≤ y.res.inside a c (RouteInfo y.train r)
-  pub comes_home : (a : ℕ) (r : SectionRun) (e g : Entry) → is_home line c y.section ≡ true → within r y.section ≡ true → is_out_for y.train a e ≡ true
+  pub comes_home : (a : ℕ) (r : SectionRun) (e g : Entry) → is_home line c y.section ≡ true → within r y.section ≡ true → is_out_for y.train e ≡ true
       → y.entry e ≤ y.res.inside a c (RouteReturn y.train r) + y.entry g
-  pub yields : (to number heard : ℕ) (has_data is_ended : Bool) (place : YieldedPlace) (hand : SectionRun) (e : Entry) → (y.names ≡ true → MayYield line c y hand e to)
+  pub yields : (to number heard : ℕ) (has_data is_ended : Bool) (place : YieldedPlace) (hand : SectionRun) (e : Entry) → (y.outside ≡ true → MayYield line c y hand e)
       → y.entry e + y.res.inside c to (Yield number y.train heard has_data is_ended place hand)
-      ≤ (y.one + part y hand) + y.entry (if within hand y.section && is_taken_for y.train e then Out y.train to else e)
+      ≤ (y.one + part y hand) + y.entry (if within hand y.section && is_taken_for y.train e then Out y.train else e)
   pub takes : (a number heard : ℕ) (has_data is_ended : Bool) (place : YieldedPlace) (hand : SectionRun) (e : Entry)
       → y.entry e + (y.one + part y hand)
-      ≤ y.res.inside a c (Yield number y.train heard has_data is_ended place hand) + y.entry (if within hand y.section && is_out_for y.train a e then Taken y.train else e)
+      ≤ y.res.inside a c (Yield number y.train heard has_data is_ended place hand) + y.entry (if within hand y.section && is_out_for y.train e then Taken y.train else e)
   pub back : y.exact ≡ true → IsExactTally line c y
 
 module _ (line : Line) (c : ℕ) (y : Tally) where

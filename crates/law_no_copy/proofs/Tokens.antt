@@ -26,13 +26,13 @@ pub unused_none : (t : ℕ) (e : Entry) → is_unused e ≡ true → is_used_for
 unused_none t Shut h = refl
 unused_none t Open h = refl
 unused_none t (Taken u) h = cc
-unused_none t (Out u d) h = cc
+unused_none t (Out u) h = cc
 
 pub open_none : (t : ℕ) (e : Entry) → is_open e ≡ true → is_used_for t e ≡ false
 open_none t Shut h = refl
 open_none t Open h = refl
 open_none t (Taken u) h = cc
-open_none t (Out u d) h = cc
+open_none t (Out u) h = cc
 
 pub used_once : (u t : ℕ) (e : Entry) → u ≢ t → is_used_for u e ≡ true → is_used_for t e ≡ false
 used_once u t e other used = by_entry e used
@@ -44,7 +44,7 @@ used_once u t e other used = by_entry e used
     by_entry Shut h = refl
     by_entry Open h = refl
     by_entry (Taken v) h = apart v h
-    by_entry (Out v d) h = apart v h
+    by_entry (Out v) h = apart v h
 
 abbrev pub tokens_tally : Line → ℕ → ℕ → ℕ → Tally
 tokens_tally line c t s = record {
@@ -56,7 +56,7 @@ tokens_tally line c t s = record {
   waiting = 1;
   away = one_if (not (is_home line c s));
   entry = λ e. one_if (is_home line c s && is_used_for t e);
-  names = false;
+  outside = false;
   exact = false;
 }
 
@@ -151,11 +151,11 @@ module _ (line : Line) (ordered : IsOrdered line) (c t s : ℕ) where
     told = λ a r. omega (arith, as_part r);
     told_back = λ a r. omega arith;
     comes_home = λ a r e g home is out. omega (arith, in_run r is, one_if_le_one (is_home line c s && is_used_for t e));
-    yields = λ to number heard has_data is_ended place hand e may. omega (arith, as_part hand, still_used (within hand s && is_taken_for t e) e (Out t to) (λ h. itself t));
-    takes = λ a number heard has_data is_ended place hand e. omega (arith, as_part hand, still_used (within hand s && is_out_for t a e) e (Taken t) (λ h. itself t));
+    yields = λ to number heard has_data is_ended place hand e may. omega (arith, as_part hand, still_used (within hand s && is_taken_for t e) e (Out t) (λ h. itself t));
+    takes = λ a number heard has_data is_ended place hand e. omega (arith, as_part hand, still_used (within hand s && is_out_for t e) e (Taken t) (λ h. itself t));
     back = λ so. cc;
   }
 
-  -- no name is counted
+  -- nor is it counted outside its home alone
   pub tokens_ready : (k : Centre) → Ready line c (tokens_tally line c t s) k
-  tokens_ready k = record { claims = λ so has home. cc; apart = λ so m h is stands. cc; stands = λ so m is. cc }
+  tokens_ready k = record { claims = λ so has home. cc; stands = λ so m is. cc }

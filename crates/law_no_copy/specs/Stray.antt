@@ -39,7 +39,7 @@ abbrev pub has_place_for : Line → ℕ → ℕ → Centre → Body → Bool
 has_place_for line c d k (GiveRight t) = k.has_asked t && not (k.has_right t)
 has_place_for line c d k (ReturnRight t) = is_registrar_of line c t && (not (k.has_right t) && is_none (k.mission t))
 has_place_for line c d k (RouteInfo t r) = (has (λ first. first == r.first) (k.route_ask t) && (is_of_line line r && is_home line d r.first)) && all_of (is_home line d) r
-has_place_for line c d k (RouteReturn t r) = all_of (λ s. is_home line c s && is_out_for t d (k.book s)) r
+has_place_for line c d k (RouteReturn t r) = all_of (λ s. is_home line c s && is_out_for t (k.book s)) r
 has_place_for line c d k (Yield number t heard has_data is_ended place hand) = has (λ at. may_take line c k d number t at hand) (carried_place place)
 has_place_for line c d k body = true
 

@@ -3,10 +3,11 @@
 ghost use Rattle.std.specs.Prelude.{ℕ};
 ghost use Rattle.rbc_spec.specs.Line.{Line, IsLine};
 ghost use Rattle.rbc_spec.specs.Centre.{Centre};
-ghost use Rattle.rbc_spec.specs.Step.{Event};
+ghost use Rattle.rbc_spec.specs.Step.{Event, stamp_of, state_after};
 ghost use Rattle.law_network.specs.Counts.{rights, tokens};
 ghost use Rattle.law_network.specs.Sound.{IsCentreSound};
-ghost use Rattle.law_no_copy.specs.Steps.{IsFairStep};
+ghost use Rattle.law_network.specs.Keeping.{IsFairAct};
+ghost use Rattle.law_no_copy.specs.Steps.{came_to, done, IsFairStep};
 
 /// Whatever event comes to a centre: its step makes no right to supervise a train. What the centre then has of it, alone
 /// or in a mission, and what its frames carry, it had, or it came.
@@ -20,4 +21,10 @@ pub fn no_step_makes_a_right()
 pub fn no_step_makes_a_token()
     ensures { (line : Line) (c t s : ℕ) (k : Centre) (event : Event) → IsLine line → IsCentreSound line c k
         → IsFairStep (tokens line t s) line c k event }
+{}
+
+/// So each step of a sound centre is a fair act of the flow: of rights and of tokens.
+pub fn each_step_is_fair()
+    ensures { (line : Line) (c : ℕ) (k : Centre) (event : Event) → IsLine line → IsCentreSound line c k
+        → IsFairAct line c k (came_to line c k event) (state_after (stamp_of k event) k (done line c k event)) (done line c k event).reply.frames }
 {}

@@ -5,4 +5,4 @@
 
 mod laws;
 
-pub use laws::{no_step_makes_a_right, no_step_makes_a_token};
+pub use laws::{each_step_is_fair, no_step_makes_a_right, no_step_makes_a_token};

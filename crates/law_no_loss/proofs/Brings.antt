@@ -1,7 +1,9 @@
 -- What a sound flow brings is looked for.
-use Rattle.std.proofs.Common.{◌≡◌, ℕ, ◌+◌, ◌<◌, ◌≤◌, ◌==◌, ◌&&◌, not, if◌then◌else◌, Bool, true, false, length, nat_lt, slice_get, Option, Some, None, is_some, is_none, option_map, refl, sym, ap, subst, arith, ltb-true}
+use Rattle.law_network.proofs.Basics.{some_cap}
+use Rattle.law_network.proofs.Taken.{token_out}
+use Rattle.std.proofs.Common.{◌≡◌, ℕ, ◌+◌, ◌≤◌, ◌==◌, ◌&&◌, not, if◌then◌else◌, Bool, true, false, length, nat_lt, slice_get, Option, Some, None, is_some, is_none, option_map, refl, sym, ap, arith, ltb-true}
 use Rattle.std.specs.List.{find, position_or_len}
-use Rattle.std.proofs.lemmas.Bool.{and_from, and_parts, lt-ltb}
+use Rattle.std.proofs.lemmas.Bool.{and_from, lt-ltb}
 use Rattle.std.proofs.lemmas.List.Folds.{find_at}
 use Rattle.std.proofs.lemmas.Option.{slice_get_within}
 use Rattle.law_counting.specs.Sums.{one_if}
@@ -16,12 +18,10 @@ use Rattle.rbc_spec.specs.Line.{Line, Train, is_centre, is_home}
 use Rattle.rbc_spec.specs.Frame.{Body, RouteReturn}
 use Rattle.rbc_spec.specs.Centre.{is_registrar_of, is_out_for}
 use Rattle.rbc_spec.specs.Links.{is_train}
-use Rattle.law_base.proofs.Lines.{one_home}
 use Rattle.law_base.proofs.Puts.{itself}
 use Rattle.law_network.specs.Flow.{Flow, centre_count}
-use Rattle.law_network.specs.Counts.{rights, right_inside, lent}
+use Rattle.law_network.specs.Counts.{rights, right_inside}
 use Rattle.law_network.specs.Sound.{IsFlowSound}
-use Rattle.law_network.proofs.Basics.{some_cap}
 use Rattle.law_network.proofs.Neighbours.{one_registrar}
 
 -- a train with a registrar is of the line
@@ -72,21 +72,8 @@ right_comes line w a c t f sound from to takes one = record {
     no_some None is = refl
     no_some (Some x) is = absurd (omega (arith, is))
 
--- a section that comes to its home is out for the train where it comes from
+-- a section that comes to its home is out for the train
 pub out_there : (line : Line) (w : Flow) (a c t s : ℕ) (r : SectionRun) → IsFlowSound line w → is_centre line a ≡ true → is_centre line c ≡ true → TakesHead w a c (RouteReturn t r)
-    → within r s ≡ true → is_home line c s ≡ true → is_out_for t a ((w.at c).book s) ≡ true
-out_there line w a c t s r sound from to takes in_run home = at_home (some_cap (lent line t s a) (centre_count line) w (omega (arith, there, (sound.lent t s a).law)))
-  where
-    there : 1 ≤ placed (lent line t s a) (centre_count line) w
-    there = omega (
-      arith,
-      held_carried_le_placed (lent line t s a) (centre_count line) w c a c (ltb-true c (centre_count line) to) (ltb-true a (centre_count line) from) (ltb-true c (centre_count line) to),
-      ap (carried (lent line t s a) a c) takes.head,
-      carried_more (lent line t s a) a c (RouteReturn t r) (way (took w a c) a c),
-      one_if_true (((t == t) && within r s) && (a == a)) (and_from ((t == t) && within r s) (a == a) (and_from (t == t) (within r s) (itself t) in_run) (itself a)),
-    )
-
-    at_home : (h : ℕ) × (h < centre_count line) × (0 < one_if (is_home line h s && is_out_for t a ((w.at h).book s))) → is_out_for t a ((w.at c).book s) ≡ true
-    at_home found =
-        let both = and_parts (is_home line found.0 s) (is_out_for t a ((w.at found.0).book s)) (one_if_some (is_home line found.0 s && is_out_for t a ((w.at found.0).book s)) found.2) in
-        subst (λ h. is_out_for t a ((w.at h).book s) ≡ true) (one_home line found.0 c s both.0 home) both.1
+    → within r s ≡ true → is_home line c s ≡ true → is_out_for t ((w.at c).book s) ≡ true
+out_there line w a c t s r sound from to takes in_run home = token_out line w sound a c t s (RouteReturn t r) (ltb-true a (centre_count line) from) (ltb-true c (centre_count line) to) takes home
+    (one_if_true ((t == t) && within r s) (and_from (t == t) (within r s) (itself t) in_run))

@@ -20,7 +20,7 @@ use Rattle.law_network.specs.Flow.{Flow, centre_count}
 use Rattle.law_network.specs.Counts.{rights}
 use Rattle.law_network.specs.Sound.{IsFlowSound, IsBodySound}
 use Rattle.law_network.proofs.Basics.{some_cap}
-use Rattle.law_network.proofs.Neighbours.{neighbours, one_registrar}
+use Rattle.law_network.proofs.Neighbours.{one_registrar}
 use Rattle.law_network.proofs.Taken.{is_carried, is_taken}
 use Rattle.law_no_copy.specs.Stray.{is_looked_for}
 use Rattle.law_no_unasked.specs.Asked.{Question, OfRight, OfRoute, answers, stands, questions, IsBodyAsked, IsAsked}
@@ -86,19 +86,18 @@ module _ (line : Line) (ok : IsLine line) (w : Flow) (sound : IsFlowSound line w
 
   comes_home : (t : ℕ) (r : SectionRun) → TakesHead w a c (RouteReturn t r) → is_looked_for line c a (w.at c) (RouteReturn t r) ≡ true
   comes_home t r takes = let is = each_head (IsBodyAsked line) w a c (RouteReturn t r) takes asked.bodies in
-      and_from (is_train line t) (all_of (λ s. is_home line c s && is_out_for t a ((w.at c).book s)) r) is.0
-      (all_within (λ s. is_home line c s && is_out_for t a ((w.at c).book s)) r (λ s in_run. let own = each_within (is_home line c) r is.2 s in_run in
-      and_from (is_home line c s) (is_out_for t a ((w.at c).book s)) own (out_there line w a c t s r sound from to takes in_run own)))
+      and_from (is_train line t) (all_of (λ s. is_home line c s && is_out_for t ((w.at c).book s)) r) is.0
+      (all_within (λ s. is_home line c s && is_out_for t ((w.at c).book s)) r (λ s in_run. let own = each_within (is_home line c) r is.2 s in_run in
+      and_from (is_home line c s) (is_out_for t ((w.at c).book s)) own (out_there line w a c t s r sound from to takes in_run own)))
 
   hands : (number t heard : ℕ) (has_data is_ended : Bool) (carried : YieldedPlace) (hand : SectionRun) → TakesHead w a c (Yield number t heard has_data is_ended carried hand)
       → is_looked_for line c a (w.at c) (Yield number t heard has_data is_ended carried hand) ≡ true
   hands number t heard has_data is_ended carried hand takes =
-      let near = neighbours line ok in
       let body : Body = Yield number t heard has_data is_ended carried hand in
       let whole = each_head (IsBodySound line) w a c body takes sound.bodies in
       let taken : has (λ at. may_take line c (w.at c) a number t at hand) (carried_place carried) ≡ true =
-      ap (has (λ at. may_take line c (w.at c) a number t at hand)) (is_carried line near w sound a c number t heard has_data is_ended carried hand from to small below takes)
-      ∙ is_taken line near w sound a c number t heard has_data is_ended carried hand from to small below takes in
+      ap (has (λ at. may_take line c (w.at c) a number t at hand)) (is_carried line w sound a c number t heard has_data is_ended carried hand from to small below takes)
+      ∙ is_taken line w sound a c number t heard has_data is_ended carried hand from to small below takes in
       and_from (is_train line t) (has (λ at. may_take line c (w.at c) a number t at hand) (carried_place carried)) whole.known taken
 
   pub looked_for : (f : Body) → TakesHead w a c f → is_looked_for line c a (w.at c) f ≡ true

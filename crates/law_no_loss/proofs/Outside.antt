@@ -1,6 +1,6 @@
 -- Tokens of a section are counted where they are not at home: in a hand, a pool or a frame; the section's home has it out for the train.
 use Rattle.std.proofs.Common.{◌≡◌, ℕ, ◌+◌, ◌≤◌, ◌==◌, ◌&&◌, ◌||◌, not, if◌then◌else◌, Bool, true, false, [], ◌∷◌, Option, Some, None, refl, sym, ap, ◌∙◌, subst, arith, eqb-true, ltb-true}
-use Rattle.std.proofs.lemmas.Bool.{and_parts, and_from}
+use Rattle.std.proofs.lemmas.Bool.{and_from}
 use Rattle.law_counting.specs.Sums.{one_if}
 use Rattle.law_counting.specs.Resource.{Resource, carried, sent_by}
 use Rattle.law_counting.proofs.Sums.{one_if_true, one_if_le_one, term_le_sum}
@@ -45,7 +45,7 @@ outside_kept line c t s = record {
   waiting = 0;
   away = one_if (not (is_home line c s));
   entry = λ e. one_if (is_home line c s && is_away t e);
-  names = true;
+  outside = true;
   exact = true;
 }
 
@@ -53,19 +53,19 @@ away_used : (t : ℕ) (e : Entry) → is_used_for t e ≡ false → is_away t e 
 away_used t Shut h = refl
 away_used t Open h = refl
 away_used t (Taken u) h = refl
-away_used t (Out u d) h = h
+away_used t (Out u) h = h
 
 taken_at_home : (u t : ℕ) (e : Entry) → is_taken_for u e ≡ true → is_away t e ≡ false
 taken_at_home u t Shut h = refl
 taken_at_home u t Open h = refl
 taken_at_home u t (Taken v) h = refl
-taken_at_home u t (Out v d) h = cc
+taken_at_home u t (Out v) h = cc
 
-out_away : (t d : ℕ) (e : Entry) → is_out_for t d e ≡ true → is_away t e ≡ true
-out_away t d Shut h = cc
-out_away t d Open h = cc
-out_away t d (Taken v) h = cc
-out_away t d (Out v a) h = (and_parts (v == t) (a == d) h).0
+out_away : (t : ℕ) (e : Entry) → is_out_for t e ≡ true → is_away t e ≡ true
+out_away t Shut h = cc
+out_away t Open h = cc
+out_away t (Taken v) h = cc
+out_away t (Out v) h = h
 
 module _ (line : Line) (ok : IsLine line) (c t s : ℕ) where
   abbrev y : Tally
@@ -163,26 +163,26 @@ module _ (line : Line) (ok : IsLine line) (c t s : ℕ) where
       by_run false is away = omega (arith, out_of_run r is)
 
   -- a yield: the section goes from the hand, or its entry becomes out
-  yields_law : (to : ℕ) (hand : SectionRun) (e : Entry) → MayYield line c y hand e to
-      → one_if (is_home line c s && is_away t e) + one_if ((t == t) && within hand s) ≡ part y hand + one_if (is_home line c s && is_away t (if within hand s && is_taken_for t e then Out t to else e))
-  yields_law to hand e may = by_tests (within hand s) refl (is_home line c s) refl
+  yields_law : (hand : SectionRun) (e : Entry) → MayYield line c y hand e
+      → one_if (is_home line c s && is_away t e) + one_if ((t == t) && within hand s) ≡ part y hand + one_if (is_home line c s && is_away t (if within hand s && is_taken_for t e then Out t else e))
+  yields_law hand e may = by_tests (within hand s) refl (is_home line c s) refl
     where
       goal_of : Bool → Bool → Type 0
-      goal_of w x = one_if (is_home line c s && is_away t e) + one_if ((t == t) && within hand s) ≡ (if w then one_if (not (is_home line c s)) else 0) + one_if (is_home line c s && is_away t (if w && x then Out t to else e))
+      goal_of w x = one_if (is_home line c s && is_away t e) + one_if ((t == t) && within hand s) ≡ (if w then one_if (not (is_home line c s)) else 0) + one_if (is_home line c s && is_away t (if w && x then Out t else e))
 
       foreign : is_home line c s ≡ false → (x : Bool) → within hand s ≡ true → goal_of true x
-      foreign away x is = omega (arith, in_run hand is, foreign_weight away, foreign_entry away e, foreign_entry away (if x then Out t to else e))
+      foreign away x is = omega (arith, in_run hand is, foreign_weight away, foreign_entry away e, foreign_entry away (if x then Out t else e))
 
       by_tests : (w : Bool) → within hand s ≡ w → (h : Bool) → is_home line c s ≡ h → goal_of w (is_taken_for t e)
       by_tests false is h home = omega (arith, out_of_run hand is)
-      by_tests true is true home = let taken = ((may is).0 home).0 in
-          subst (goal_of true) (sym taken) (omega (arith, in_run hand is, own_weight home, no_entry e (taken_at_home t t e taken), own_entry home (Out t to) (itself t)))
+      by_tests true is true home = let taken = may is home in
+          subst (goal_of true) (sym taken) (omega (arith, in_run hand is, own_weight home, no_entry e (taken_at_home t t e taken), own_entry home (Out t) (itself t)))
       by_tests true is false home = foreign home (is_taken_for t e) is
 
   -- a mission that is taken: the section comes into the hand, or its entry is taken
-  takes_le : (a : ℕ) (hand : SectionRun) (e : Entry)
-      → one_if (is_home line c s && is_away t e) + part y hand ≤ one_if ((t == t) && within hand s) + one_if (is_home line c s && is_away t (if within hand s && is_out_for t a e then Taken t else e))
-  takes_le a hand e = by_tests (within hand s) refl (is_home line c s) refl (is_out_for t a e)
+  takes_le : (hand : SectionRun) (e : Entry)
+      → one_if (is_home line c s && is_away t e) + part y hand ≤ one_if ((t == t) && within hand s) + one_if (is_home line c s && is_away t (if within hand s && is_out_for t e then Taken t else e))
+  takes_le hand e = by_tests (within hand s) refl (is_home line c s) refl (is_out_for t e)
     where
       by_tests : (w : Bool) → within hand s ≡ w → (h : Bool) → is_home line c s ≡ h → (x : Bool)
           → one_if (is_home line c s && is_away t e) + (if w then one_if (not (is_home line c s)) else 0) ≤ one_if ((t == t) && within hand s) + one_if (is_home line c s && is_away t (if w && x then Taken t else e))
@@ -190,14 +190,14 @@ module _ (line : Line) (ok : IsLine line) (c t s : ℕ) where
       by_tests true is true home x = omega (arith, in_run hand is, own_weight home, one_if_le_one (is_home line c s && is_away t e))
       by_tests true is false home x = omega (arith, in_run hand is, foreign_weight home, foreign_entry home e)
 
-  takes_ge : (a : ℕ) (hand : SectionRun) (e : Entry) → (within hand s ≡ true → is_home line c s ≡ true → is_out_for t a e ≡ true)
-      → one_if ((t == t) && within hand s) + one_if (is_home line c s && is_away t (if within hand s && is_out_for t a e then Taken t else e)) ≤ one_if (is_home line c s && is_away t e) + part y hand
-  takes_ge a hand e out = by_tests (within hand s) refl (is_home line c s) refl (is_out_for t a e) refl
+  takes_ge : (hand : SectionRun) (e : Entry) → (within hand s ≡ true → is_home line c s ≡ true → is_out_for t e ≡ true)
+      → one_if ((t == t) && within hand s) + one_if (is_home line c s && is_away t (if within hand s && is_out_for t e then Taken t else e)) ≤ one_if (is_home line c s && is_away t e) + part y hand
+  takes_ge hand e out = by_tests (within hand s) refl (is_home line c s) refl (is_out_for t e) refl
     where
-      by_tests : (w : Bool) → within hand s ≡ w → (h : Bool) → is_home line c s ≡ h → (x : Bool) → is_out_for t a e ≡ x
+      by_tests : (w : Bool) → within hand s ≡ w → (h : Bool) → is_home line c s ≡ h → (x : Bool) → is_out_for t e ≡ x
           → one_if ((t == t) && within hand s) + one_if (is_home line c s && is_away t (if w && x then Taken t else e)) ≤ one_if (is_home line c s && is_away t e) + (if w then one_if (not (is_home line c s)) else 0)
       by_tests false is h home x at = omega (arith, out_of_run hand is)
-      by_tests true is true home true at = omega (arith, in_run hand is, own_entry home e (out_away t a e at), no_entry (Taken t) refl)
+      by_tests true is true home true at = omega (arith, in_run hand is, own_entry home e (out_away t e at), no_entry (Taken t) refl)
       by_tests true is true home false at = absurd (let wrong : true ≡ false = sym (out is home) ∙ at in cc)
       by_tests true is false home x at = omega (arith, in_run hand is, foreign_weight home, foreign_entry home (if x then Taken t else e))
 
@@ -214,10 +214,10 @@ module _ (line : Line) (ok : IsLine line) (c t s : ℕ) where
     told = λ a r foreign. told_less r foreign;
     told_back = λ a r. omega arith;
     not_told = λ a b r none. out_of_run r (within_none r s (eqb-true r.count 0 none));
-    comes_home = λ a r e g home out unused. omega (arith, own_entry home e (out_away t a e out), no_entry g (away_used t g (unused_none t g unused)), one_if_le_one ((t == t) && within r s));
+    comes_home = λ a r e g home out unused. omega (arith, own_entry home e (out_away t e out), no_entry g (away_used t g (unused_none t g unused)), one_if_le_one ((t == t) && within r s));
     not_home = λ a b r out. out_of_run r out;
-    yields = λ to number heard has_data is_ended place hand e may. omega (arith, yields_law to hand e may);
-    takes = λ a number heard has_data is_ended place hand e out. omega (arith, takes_ge a hand e out);
+    yields = λ to number heard has_data is_ended place hand e may. omega (arith, yields_law hand e may);
+    takes = λ a number heard has_data is_ended place hand e out. omega (arith, takes_ge hand e out);
   }
     where
       gone_all : (u track : ℕ) (r : SectionRun) (k : Centre) → (u ≡ t → within r s ≡ true → is_on line track s ≡ true) → gone y u r ≤ sent_by (outside line t s) (centre_count line) c (returned line c u track r k).frames
@@ -251,12 +251,12 @@ module _ (line : Line) (ok : IsLine line) (c t s : ℕ) where
     opens = λ e home is. (omega (arith, no_entry e (away_used t e (open_none t e is)), own_weight home), omega (arith, no_entry e (away_used t e (open_none t e is))));
     frees = λ e g home is. (omega (arith, own_weight home, no_entry e (taken_at_home t t e is)), omega (arith, no_entry e (taken_at_home t t e is)));
     waits = λ home. omega (arith, own_weight home);
-    lends = λ d r e home is. omega (arith, no_entry e (away_used t e (open_none t e is)), own_entry home (Out t d) (itself t), one_if_le_one ((t == t) && within r s));
+    lends = λ d r e home is. omega (arith, no_entry e (away_used t e (open_none t e is)), own_entry home (Out t) (itself t), one_if_le_one ((t == t) && within r s));
     names = λ a b r out. out_of_run r out;
     told = λ a r. told r;
     told_back = λ a r. omega arith;
     comes_home = λ a r e g home is out. omega (arith, in_run r is, one_if_le_one (is_home line c s && is_away t e));
-    yields = λ to number heard has_data is_ended place hand e may. omega (arith, yields_law to hand e (may refl));
-    takes = λ a number heard has_data is_ended place hand e. omega (arith, takes_le a hand e);
+    yields = λ to number heard has_data is_ended place hand e may. omega (arith, yields_law hand e (may refl));
+    takes = λ a number heard has_data is_ended place hand e. omega (arith, takes_le hand e);
     back = λ so. exact;
   }

@@ -5,18 +5,15 @@ use Rattle.std.proofs.lemmas.List.Folds.{find_at}
 use Rattle.std.proofs.lemmas.Option.{slice_get-get_or}
 use Rattle.law_network.proofs.Trains.{is_there}
 use Rattle.law_counting.proofs.Sums.{one_if_true, one_if_some}
-use Rattle.rbc_spec.specs.Maps.{has}
-use Rattle.rbc_spec.specs.Line.{Line, IsLine, Train, is_linked, next_centre, registrar}
+use Rattle.rbc_spec.specs.Line.{Line, IsLine, Train, is_linked, registrar}
 use Rattle.rbc_spec.specs.Outcome.{Next, NoLink}
 use Rattle.rbc_spec.specs.Links.{is_train}
 use Rattle.rbc_spec.specs.Centre.{Centre, is_taken_for}
 use Rattle.rbc_spec.specs.Step.{Event, Train as FromTrain, Set, Unset, Deliver, offered, ticked}
 use Rattle.law_local.specs.Local.{hand_has}
 use Rattle.law_base.proofs.Lines.{registrar_below}
-use Rattle.law_base.proofs.Puts.{itself}
 use Rattle.law_network.specs.Flow.{centre_count}
 use Rattle.law_network.specs.Sound.{IsCentreSound}
-use Rattle.law_network.proofs.Neighbours.{neighbours}
 use Rattle.law_centre_sound.proofs.Leaving.{next_is_centre}
 use Rattle.law_centre_sound.proofs.Events.{linked_apart}
 use Rattle.law_no_copy.specs.Stray.{is_plain, train_of}
@@ -50,9 +47,6 @@ module _ (line : Line) (ok : IsLine line) (c : ℕ) (y : Tally) where
   pub ready_to_count : (k : Centre) → IsCentreSound line c k → HasRightOnce k → Ready line c y k
   ready_to_count k sound once = record {
     claims = λ so in_hand home. one_if_some (is_taken_for y.train (k.book y.section)) (omega (arith, sound.claims y.section y.train home, one_if_true (hand_has (k.mission y.train) y.section) in_hand));
-    apart = λ so m h is stands same.
-        let next : next_centre line c m.place.track ≡ Some c = (sound.mission y.train m is).handing_to h stands ∙ ap (λ (x : ℕ). Some x) same in
-        let wrong : true ≡ false = sym (itself c) ∙ sym (ap (has (λ n. n == c)) next) ∙ (neighbours line ok).onward c c m.place.track next in cc;
     stands = λ so m is. record {
       hand_on = (sound.mission y.train m is).hand.on_track y.section;
       pool_on = (sound.mission y.train m is).pool_on y.section;

@@ -17,7 +17,7 @@ use Rattle.law_no_loss.specs.Keeps.{HasRightOnce, BringsNoStray}
 use Rattle.law_no_loss.proofs.Ready.{registrar_known, ready_to_count, none_stray}
 
 abbrev pub rights_kept : Line → ℕ → ℕ → Tally
-rights_kept line c t = record { res = rights line t; train = t; section = 0; one = 1; weight = 0; waiting = 0; away = 0; entry = λ e. one_if (is_registrar_of line c t); names = true; exact = true }
+rights_kept line c t = record { res = rights line t; train = t; section = 0; one = 1; weight = 0; waiting = 0; away = 0; entry = λ e. one_if (is_registrar_of line c t); outside = true; exact = true }
 
 module _ (line : Line) (ok : IsLine line) (c t : ℕ) where
   none_gone : (a w : Bool) → ◌≡◌ {A = ℕ} (if a then (if w then 0 else 0) else 0) 0

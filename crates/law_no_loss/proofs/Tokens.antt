@@ -50,7 +50,7 @@ used_parts : (t : ℕ) (e : Entry) → one_if (is_used_for t e) ≡ one_if (is_a
 used_parts t Shut = refl
 used_parts t Open = refl
 used_parts t (Taken u) = omega arith
-used_parts t (Out u d) = omega arith
+used_parts t (Out u) = omega arith
 
 -- what is taken at home
 abbrev at_home : Line → ℕ → ℕ → ℕ → Centre → ℕ

@@ -26,7 +26,7 @@ use Rattle.law_no_stray.specs.Questions.{HasAsked, IsBodyKnown, HasKnownOuts}
 
 -- a change of the book by which no section goes out
 abbrev pub LendsNoMore : Centre → Centre → Type 0
-LendsNoMore k y = (s t d : ℕ) → is_out_for t d (y.book s) ≡ true → is_out_for t d (k.book s) ≡ true
+LendsNoMore k y = (s t : ℕ) → is_out_for t (y.book s) ≡ true → is_out_for t (k.book s) ≡ true
 
 module _ (line : Line) (c : ℕ) where
   -- an act of centre c, which was k, leaves it as y and sends these frames: what comes and what then stands anew is asked or answered by them
@@ -61,38 +61,38 @@ module _ (line : Line) (c : ℕ) where
   }
 
   pub no_more : (k y : Centre) → LendsNoMore k y → HasKnownOuts line k → HasKnownOuts line y
-  no_more k y less old = record { each = λ s t d out. old.each s t d (less s t d out) }
+  no_more k y less old = record { each = λ s t out. old.each s t (less s t out) }
 
   -- no section goes out, and nothing is sent
   pub still : (k y : Centre) → y.has_asked ≡ k.has_asked → y.route_ask ≡ k.route_ask → y.wait ≡ k.wait → LendsNoMore k y → Goes k (record { state = y; frames = λ d. []; sayings = []; words = [] })
   still k y rights routes same less = aside k y (λ d. []) rights routes same (no_more k y less) (λ d. All-nil (IsBodyKnown line c d))
 
   pub goes_rest : (k : Centre) → Goes k (rest k)
-  goes_rest k = still k k refl refl refl (λ s t d out. out)
+  goes_rest k = still k k refl refl refl (λ s t out. out)
 
   pub goes_say : (t group : ℕ) (body : TrackBody) (k : Centre) → Goes k (say t group body k)
-  goes_say t group body k = still k (say t group body k).state refl refl refl (λ s u d out. out)
+  goes_say t group body k = still k (say t group body k).state refl refl refl (λ s u out. out)
 
   pub goes_set : (t : ℕ) (o : Option Mission) (k : Centre) → Goes k (set_mission t o k)
-  goes_set t o k = still k (set_mission t o k).state refl refl refl (λ s u d out. out)
+  goes_set t o k = still k (set_mission t o k).state refl refl refl (λ s u out. out)
 
   pub goes_change : (t : ℕ) (f : Mission → Mission) (k : Centre) → Goes k (change_mission t f k)
-  goes_change t f k = still k (change_mission t f k).state refl refl refl (λ s u d out. out)
+  goes_change t f k = still k (change_mission t f k).state refl refl refl (λ s u out. out)
 
   -- an entry that may become another, which is not out
-  pub stays_in : (b : Bool) (g e : Entry) (t d : ℕ) → is_out_for t d g ≡ false → is_out_for t d (if b then g else e) ≡ true → is_out_for t d e ≡ true
-  stays_in true g e t d none out = absurd (let wrong : false ≡ true = sym none ∙ out in cc)
-  stays_in false g e t d none out = out
+  pub stays_in : (b : Bool) (g e : Entry) (t : ℕ) → is_out_for t g ≡ false → is_out_for t (if b then g else e) ≡ true → is_out_for t e ≡ true
+  stays_in true g e t none out = absurd (let wrong : false ≡ true = sym none ∙ out in cc)
+  stays_in false g e t none out = out
 
   pub goes_taken : (test : Entry → Bool) (t : ℕ) (r : SectionRun) (k : Centre) → Goes k (booked test (Taken t) r k)
-  goes_taken test t r k = still k (booked test (Taken t) r k).state refl refl refl (λ s u d out. stays_in _ (Taken t) (k.book s) u d refl out)
+  goes_taken test t r k = still k (booked test (Taken t) r k).state refl refl refl (λ s u out. stays_in _ (Taken t) (k.book s) u refl out)
 
   pub freed_less : (test : Entry → Bool) (r : SectionRun) (k : Centre) → LendsNoMore k (freed line c test r k).state
-  freed_less test r k = λ s u d out. stays_in _ (if k.wish s then Shut else Open) (k.book s) u d (by_wish (k.wish s) u d) out
+  freed_less test r k = λ s u out. stays_in _ (if k.wish s then Shut else Open) (k.book s) u (by_wish (k.wish s) u) out
     where
-      by_wish : (b : Bool) (u d : ℕ) → is_out_for u d (if b then Shut else Open) ≡ false
-      by_wish true u d = refl
-      by_wish false u d = refl
+      by_wish : (b : Bool) (u : ℕ) → is_out_for u (if b then Shut else Open) ≡ false
+      by_wish true u = refl
+      by_wish false u = refl
 
   pub goes_freed : (test : Entry → Bool) (r : SectionRun) (k : Centre) → Goes k (record (freed line c test r k) { words = [] })
   goes_freed test r k = still k (freed line c test r k).state refl refl refl (freed_less test r k)

@@ -5,6 +5,7 @@ use Rattle.std.specs.Option.{option_map_or}
 use Rattle.std.proofs.lemmas.Bool.{cases_eq, and_parts, eqb-true}
 use Rattle.std.proofs.lemmas.List.Elements.{All-nil, All-cons}
 use Rattle.law_counting.proofs.Sums.{put_same, put_other}
+use Rattle.law_base.proofs.Standstill.{rests_or_cuts}
 use Rattle.rbc_spec.specs.Maps.{put, has}
 use Rattle.rbc_spec.specs.SectionRuns.{SectionRun, no_run, most_in_hand, behind, is_empty, part_before, part_from, joined}
 use Rattle.rbc_spec.specs.Line.{Line, IsLine, Section, section, is_centre, is_home, end, next_centre}
@@ -14,8 +15,8 @@ use Rattle.rbc_spec.specs.Message.{TrainMessage, TrainBody, TrainData, Request, 
 use Rattle.rbc_spec.specs.Message.{StartOfMission, SessionEstablished, Authority, DataAcknowledged, SystemVersion, TerminationAcknowledged, unknown_group}
 use Rattle.rbc_spec.specs.Frame.{Body, RouteAsk, TakingOver}
 use Rattle.rbc_spec.specs.Centre.{Centre, Taken, Opened, Mission, Proposal, Expectation, is_open}
-use Rattle.rbc_spec.specs.Acts.{Act, rest, ◌>>◌, with_mission, say, booked, leave, set_mission, change_mission, return_pool, cancel, close, part_at, announce, ask_route, yield_if_due}
-use Rattle.rbc_spec.specs.Rules.{set_phase, close_session, authority, extension, extended_by, announce_if_due, ask_route_if_due, at_border, grant, request, cleared, clear}
+use Rattle.rbc_spec.specs.Acts.{Act, rest, ◌>>◌, with_mission, say, booked, leave, set_mission, change_mission, return_pool, cancel, close, part_at, announce, ask_route}
+use Rattle.rbc_spec.specs.Rules.{set_phase, close_session, authority, extension, extended_by, announce_if_due, ask_route_if_due, at_border, grant, request, cleared, clear, stand_still}
 use Rattle.rbc_spec.specs.Rules.{report_here, take_over, report, end_mission, cut, granted, answered}
 use Rattle.rbc_spec.specs.Links.{is_train}
 use Rattle.law_base.proofs.Lists.{none_is}
@@ -26,7 +27,7 @@ use Rattle.law_no_unasked.specs.Asked.{Question, OfRight, OfRoute, questions}
 use Rattle.law_no_unasked.proofs.Asking.{none_comes}
 use Rattle.law_no_stray.specs.Questions.{IsBodyKnown}
 use Rattle.law_no_stray.proofs.Acts.{Goes, aside, still, goes_rest, goes_say, goes_set, goes_change, goes_taken, goes_then, goes_if, goes_or, goes_if_act, goes_or_act, sends_one}
-use Rattle.law_no_stray.proofs.Handing.{goes_leave, goes_cancel, goes_close, goes_return_pool, goes_announce, goes_yield_if_due}
+use Rattle.law_no_stray.proofs.Handing.{goes_leave, goes_cancel, goes_close, goes_return_pool, goes_announce}
 use Rattle.law_no_stray.proofs.Messages.{stands_anew, goes_close_session, goes_start}
 
 -- the home of a section is a centre of the line
@@ -149,25 +150,8 @@ module _ (line : Line) (ok : IsLine line) (c : ℕ) where
 
   goes_report : (t : ℕ) (position : Position) (k : Centre) → is_train line t ≡ true → Goes line c k (report line c t position k)
   goes_report t position k known = goes_or line c (k.mission t) _ k _
-      (λ m at. goes_then line c (report_here line c t position m) (yield_if_due line c t) k (goes_report_here t position m k known) (goes_yield_if_due line c t _ known))
+      (λ m at. goes_report_here t position m k known)
       (λ none. goes_take_over t k known)
-
-  goes_end : (t : ℕ) (position : Position) (k : Centre) → is_train line t ≡ true → Goes line c k (end_mission line c t position k)
-  goes_end t position k known = goes_then line c (with_mission t (report_here line c t position) >> with_mission t ends) (yield_if_due line c t) k
-      (goes_then line c (with_mission t (report_here line c t position)) (with_mission t ends) k
-      (goes_or line c (k.mission t) _ k (rest k) (λ m at. goes_report_here t position m k known) (λ none. goes_rest line c k))
-      (goes_or line c (j.mission t) _ j (rest j) (λ m at. ending m) (λ none. goes_rest line c j)))
-      (goes_yield_if_due line c t _ known)
-    where
-      ends : Mission → Act
-      ends m = return_pool line c t m >> change_mission t (λ n. record n { is_ended = true; proposal = None })
-
-      j : Centre
-      j = (with_mission t (report_here line c t position) k).state
-
-      ending : (m : Mission) → Goes line c j (ends m j)
-      ending m = goes_then line c (return_pool line c t m) (change_mission t (λ n. record n { is_ended = true; proposal = None })) j
-          (goes_return_pool line c t m j known) (goes_change line c t (λ n. record n { is_ended = true; proposal = None }) _)
 
   -- ## Shortening
 
@@ -198,13 +182,11 @@ module _ (line : Line) (ok : IsLine line) (c : ℕ) where
       cut_to = (set_mission t (Some kept) left).state
 
   goes_granted : (t : ℕ) (position : Position) (m : Mission) (p : Proposal) (k : Centre) → is_train line t ≡ true → Goes line c k (granted line c t position m p k)
-  goes_granted t position m p k known = goes_then line c (change_mission t dropped >> cuts) (yield_if_due line c t) k
-      (goes_then line c (change_mission t dropped) cuts k (goes_change line c t dropped k)
+  goes_granted t position m p k known = goes_then line c (change_mission t dropped) cuts k (goes_change line c t dropped k)
       (goes_or_act line c (place_on line m.place.track position) (λ place. if nat_le place.front (10 * end line p.last_kept) then cut line c t p.last_kept m else rest) rest middle
       (λ place is. goes_if_act line c (nat_le place.front (10 * end line p.last_kept)) (cut line c t p.last_kept m) rest middle
       (λ before. goes_cut t p.last_kept m middle known) (λ past. goes_rest line c middle))
-      (λ none. goes_rest line c middle)))
-      (goes_yield_if_due line c t _ known)
+      (λ none. goes_rest line c middle))
     where
       dropped : Mission → Mission
       dropped n = record n { proposal = None }
@@ -214,6 +196,29 @@ module _ (line : Line) (ok : IsLine line) (c : ℕ) where
 
       middle : Centre
       middle = (change_mission t dropped k).state
+
+  -- ## End of mission
+
+  goes_end : (t : ℕ) (position : Position) (k : Centre) → is_train line t ≡ true → Goes line c k (end_mission line c t position k)
+  goes_end t position k known = goes_then line c (with_mission t (report_here line c t position) >> with_mission t (stand_still line c t position)) (with_mission t ends) k
+      (goes_then line c (with_mission t (report_here line c t position)) (with_mission t (stand_still line c t position)) k
+      (goes_or line c (k.mission t) _ k (rest k) (λ m at. goes_report_here t position m k known) (λ none. goes_rest line c k))
+      (goes_or line c (i.mission t) _ i (rest i)
+      (λ m at. rests_or_cuts (λ act. Goes line c i (act i)) line c t position m (goes_rest line c i) (λ n some fits. goes_cut t (m.hand.first + n - 1) m i known)) (λ none. goes_rest line c i)))
+      (goes_or line c (j.mission t) _ j (rest j) (λ m at. ending m) (λ none. goes_rest line c j))
+    where
+      ends : Mission → Act
+      ends m = return_pool line c t m >> change_mission t (λ n. record n { is_ended = true; proposal = None })
+
+      i : Centre
+      i = (with_mission t (report_here line c t position) k).state
+
+      j : Centre
+      j = ((with_mission t (report_here line c t position) >> with_mission t (stand_still line c t position)) k).state
+
+      ending : (m : Mission) → Goes line c j (ends m j)
+      ending m = goes_then line c (return_pool line c t m) (change_mission t (λ n. record n { is_ended = true; proposal = None })) j
+          (goes_return_pool line c t m j known) (goes_change line c t (λ n. record n { is_ended = true; proposal = None }) _)
 
   -- ## A message
 
@@ -229,9 +234,9 @@ module _ (line : Line) (ok : IsLine line) (c : ℕ) where
   goes_answered m (EndOfMission position) k known = goes_end m.nid_engine position k known
   goes_answered m InitiationOfSession k known = goes_then line c (close_session line c m.nid_engine >> set_phase m.nid_engine Opened) (say m.nid_engine unknown_group SystemVersion) k
       (goes_then line c (close_session line c m.nid_engine) (set_phase m.nid_engine Opened) k (goes_close_session line c m.nid_engine k)
-      (still line c _ _ refl refl refl (λ s u d out. out)))
+      (still line c _ _ refl refl refl (λ s u out. out)))
       (goes_say line c m.nid_engine unknown_group SystemVersion _)
   goes_answered m TerminationOfSession k known = goes_then line c (close_session line c m.nid_engine) (say m.nid_engine unknown_group TerminationAcknowledged) k
       (goes_close_session line c m.nid_engine k) (goes_say line c m.nid_engine unknown_group TerminationAcknowledged _)
   goes_answered m (StartOfMission is_valid position) k known = goes_start line c ok m.nid_engine is_valid position k known
-  goes_answered m SessionEstablished k known = still line c k _ refl refl refl (λ s u d out. out)
+  goes_answered m SessionEstablished k known = still line c k _ refl refl refl (λ s u out. out)

@@ -2,7 +2,7 @@
 use Rattle.std.proofs.Common.{◌≡◌, ℕ, ◌+◌, ◌-◌, ◌==◌, ◌&&◌, Bool, true, false, if◌then◌else◌, [], ◌∷◌, All, Some, None, refl, subst}
 use Rattle.std.specs.Option.{option_map_or}
 use Rattle.std.proofs.lemmas.List.Elements.{All-nil, All-cons, All-append}
-use Rattle.std.proofs.lemmas.Bool.{and_parts, eqb-true}
+use Rattle.std.proofs.lemmas.Bool.{eqb-true}
 use Rattle.rbc_spec.specs.Maps.{put}
 use Rattle.rbc_spec.specs.SectionRuns.{SectionRun, no_run, is_empty}
 use Rattle.rbc_spec.specs.Line.{Line, start, registrar}
@@ -13,21 +13,18 @@ use Rattle.rbc_spec.specs.Message.{Transition, EndSession, unknown_group}
 use Rattle.rbc_spec.specs.Frame.{Body, ReturnRight, Announce, Cancel, Yield, yielded_place}
 use Rattle.rbc_spec.specs.Centre.{Centre, Entry, Out, Mission, Handing, is_taken_for, is_out_for, is_registrar_of, is_up}
 use Rattle.rbc_spec.specs.Acts.{Act, rest, become, ◌>>◌, send, say, booked, freed, returned, leave, set_mission, change_mission, return_pool, cancel, return_right, close, part_at}
-use Rattle.rbc_spec.specs.Acts.{announce, end_order, yield, is_of_two, yield_if_due}
-use Rattle.rbc_spec.specs.Links.{is_train}
+use Rattle.rbc_spec.specs.Acts.{announce, end_order, yield}
+use Rattle.rbc_spec.specs.Links.{is_train, taking_over}
 use Rattle.law_no_stray.specs.Questions.{IsBodyKnown, HasKnownOuts}
 use Rattle.law_no_stray.proofs.Acts.{Goes, aside, still, goes_rest, goes_say, goes_set, goes_change, goes_freed, goes_send, returned_known, goes_returned, goes_then, goes_if, goes_or, goes_if_act, goes_or_act}
 
 -- what is put out is out for a train of the line
-pub known_outs : (line : Line) (t d : ℕ) (test : Entry → Bool) (r : SectionRun) (k : Centre) → is_train line t ≡ true → HasKnownOuts line k → HasKnownOuts line (booked test (Out t d) r k).state
-known_outs line t d test r k known old = record { each = λ s u e out. by_test _ (k.book s) u e (old.each s u e) out }
+pub known_outs : (line : Line) (t : ℕ) (test : Entry → Bool) (r : SectionRun) (k : Centre) → is_train line t ≡ true → HasKnownOuts line k → HasKnownOuts line (booked test (Out t) r k).state
+known_outs line t test r k known old = record { each = λ s u out. by_test _ (k.book s) u (old.each s u) out }
   where
-    by_test : (b : Bool) (g : Entry) (u e : ℕ) → (is_out_for u e g ≡ true → is_train line u ≡ true) → is_out_for u e (if b then Out t d else g) ≡ true → is_train line u ≡ true
-    by_test false g u e before out = before out
-    by_test true g u e before out = same u (and_parts (t == u) (d == e) out).0
-      where
-        same : (u : ℕ) → (t == u) ≡ true → is_train line u ≡ true
-        same u is = subst (λ v. is_train line v ≡ true) (eqb-true t u is) known
+    by_test : (b : Bool) (g : Entry) (u : ℕ) → (is_out_for u g ≡ true → is_train line u ≡ true) → is_out_for u (if b then Out t else g) ≡ true → is_train line u ≡ true
+    by_test false g u before out = before out
+    by_test true g u before out = subst (λ v. is_train line v ≡ true) (eqb-true t u out) known
 
 module _ (line : Line) (c : ℕ) where
   pub goes_leave : (t track : ℕ) (r : SectionRun) (k : Centre) → is_train line t ≡ true → Goes line c k (leave line c t track r k)
@@ -43,7 +40,7 @@ module _ (line : Line) (c : ℕ) where
   pub goes_return_right : (t : ℕ) (k : Centre) → is_train line t ≡ true → Goes line c k (return_right line c t k)
   goes_return_right t k known = goes_if_act line c (is_registrar_of line c t) (become (λ j. record j { has_right = put j.has_right t true }))
       (option_map_or (λ r. send r (ReturnRight t)) (registrar line t) rest) k
-      (λ here. still line c k _ refl refl refl (λ s u d out. out))
+      (λ here. still line c k _ refl refl refl (λ s u out. out))
       (λ away. goes_or_act line c (registrar line t) (λ r. send r (ReturnRight t)) rest k
       (λ r is. goes_send line c r (ReturnRight t) k (record { known = known; sent = record {} })) (λ none. goes_rest line c k))
 
@@ -62,7 +59,7 @@ module _ (line : Line) (c : ℕ) where
   goes_announce t group d m k known = goes_then line c act (say t group tells) k
       (goes_then line c (send d (Announce number t m.place.track) >> become (λ j. record j { announced = number })) (change_mission t stands_so) k
       (goes_then line c (send d (Announce number t m.place.track)) (become (λ j. record j { announced = number })) k
-      (goes_send line c d (Announce number t m.place.track) k (record { known = known; sent = record {} })) (still line c _ _ refl refl refl (λ s u e out. out)))
+      (goes_send line c d (Announce number t m.place.track) k (record { known = known; sent = record {} })) (still line c _ _ refl refl refl (λ s u out. out)))
       (goes_change line c t stands_so _))
       (goes_say line c t group tells _)
     where
@@ -70,7 +67,7 @@ module _ (line : Line) (c : ℕ) where
       number = k.announced + 1
 
       stands_so : Mission → Mission
-      stands_so n = record n { handing = Some (record { number = number; to = d; is_claimed = false }) }
+      stands_so n = record n { handing = Some (record { number = number; to = d }) }
 
       act : Act
       act = (send d (Announce number t m.place.track) >> become (λ j. record j { announced = number })) >> change_mission t stands_so
@@ -85,7 +82,7 @@ module _ (line : Line) (c : ℕ) where
   goes_yield : (t : ℕ) (m : Mission) (h : Handing) (k : Centre) → is_train line t ≡ true → Goes line c k (yield line c t m h k)
   unfolding ◌>>◌
   goes_yield t m h k known = goes_then line c (sends >> gives) ends k
-      (aside line c k ((sends >> gives) k).state ((sends >> gives) k).frames refl refl refl (λ old. record { each = (known_outs line t h.to (is_taken_for t) m.hand k known old).each })
+      (aside line c k ((sends >> gives) k).state ((sends >> gives) k).frames refl refl refl (λ old. record { each = (known_outs line t (is_taken_for t) m.hand k known old).each })
       (λ d. All-append (IsBodyKnown line c d) ((sends k).frames d) ((gives (sends k).state).frames d)
       (All-append (IsBodyKnown line c d) ((returned line c t m.place.track m.pool k).frames d) [] (returned_known line c t m.place.track m.pool k known d)
       (All-nil (IsBodyKnown line c d)))
@@ -97,7 +94,7 @@ module _ (line : Line) (c : ℕ) where
       body = Yield h.number t (option_map_or (λ n. n) (k.heard t) 0) m.has_data m.is_ended (yielded_place m.place) m.hand
 
       sends : Act
-      sends = returned line c t m.place.track m.pool >> booked (is_taken_for t) (Out t h.to) m.hand
+      sends = returned line c t m.place.track m.pool >> booked (is_taken_for t) (Out t) m.hand
 
       gives : Act
       gives = set_mission t None >> send h.to body
@@ -109,10 +106,10 @@ module _ (line : Line) (c : ℕ) where
       by_one d true = All-cons (IsBodyKnown line c d) body [] (record { known = known; sent = record {} }) (All-nil (IsBodyKnown line c d))
       by_one d false = All-nil (IsBodyKnown line c d)
 
-  pub goes_yield_if_due : (t : ℕ) (k : Centre) → is_train line t ≡ true → Goes line c k (yield_if_due line c t k)
-  goes_yield_if_due t k known = goes_or line c (k.mission t) _ k (rest k)
+  pub goes_taking_over : (d number t : ℕ) (k : Centre) → is_train line t ≡ true → Goes line c k (taking_over line c d number t k)
+  goes_taking_over d number t k known = goes_or line c (k.mission t) _ k (rest k)
       (λ m at. goes_or line c m.handing _ k (rest k)
-      (λ h stands. goes_if line c (h.is_claimed && is_of_two line c h.to m.hand) k (yield line c t m h k) (rest k)
+      (λ h stands. goes_if line c ((h.number == number) && (h.to == d)) k (yield line c t m h k) (rest k)
       (λ due. goes_yield t m h k known) (λ wait. goes_rest line c k))
       (λ none. goes_rest line c k))
       (λ none. goes_rest line c k)

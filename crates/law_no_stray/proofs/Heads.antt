@@ -21,7 +21,6 @@ use Rattle.law_network.specs.Flow.{Flow, centre_count}
 use Rattle.law_network.specs.Pairs.{follows, is_number}
 use Rattle.law_network.specs.Sound.{IsFlowSound, IsBodySound}
 use Rattle.law_network.proofs.Basics.{some_cap}
-use Rattle.law_network.proofs.Neighbours.{neighbours}
 use Rattle.law_network.proofs.Taken.{body_sound, is_taken}
 use Rattle.law_no_copy.specs.Stray.{train_of, has_place_for}
 use Rattle.law_no_unasked.specs.Asked.{Question, OfRight, questions, IsBodyAsked, IsAsked}
@@ -119,6 +118,5 @@ module _ (line : Line) (ok : IsLine line) (w : Flow) (sound : IsFlowSound line w
       under number ((w.at c).expects a t) (may_come (is_number number (option_map (λ (e : Expectation). e.number) ((w.at c).expects a t))) None led.0 so)
   due_head (TakingOver number t) takes = record {}
   due_head (Yield number t heard has_data is_ended carried hand) takes =
-      let near = neighbours line ok in
-      let whole = body_sound line near w sound a c number t heard has_data is_ended carried hand from to small below takes in
-      (whole.place, whole.is_carried, is_taken line near w sound a c number t heard has_data is_ended carried hand from to small below takes)
+      let whole = body_sound line w sound a c number t heard has_data is_ended carried hand from to small below takes in
+      (whole.place, whole.is_carried, is_taken line w sound a c number t heard has_data is_ended carried hand from to small below takes)

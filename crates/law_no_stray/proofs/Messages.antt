@@ -48,7 +48,7 @@ module _ (line : Line) (c : ℕ) where
   goes_drop_wait t k = goes_or line c (k.wait t) _ k (rest k)
       (λ place at. goes_then line c (freed line c (is_taken_for t) (covered line place)) (become (λ j. record j { wait = put j.wait t None })) k
       (goes_freed line c (is_taken_for t) (covered line place) k)
-      (ends_one line c none_comes _ _ (same _) (λ s u d out. out) (λ old. record { each = λ u some. old.each u (waits_no_more t k.wait u some).1 })))
+      (ends_one line c none_comes _ _ (same _) (λ s u out. out) (λ old. record { each = λ u some. old.each u (waits_no_more t k.wait u some).1 })))
       (λ none. goes_rest line c k)
     where
       same : (j : Centre) (x : Question) (d : ℕ) → 0 + (questions x d).cap c (record j { wait = put j.wait t None }) ≤ (questions x d).cap c j
@@ -57,7 +57,7 @@ module _ (line : Line) (c : ℕ) where
 
   pub goes_close_session : (t : ℕ) (k : Centre) → Goes line c k (close_session line c t k)
   goes_close_session t k = goes_then line c (set_phase t Closed >> change_mission t (λ m. record m { proposal = None })) (drop_wait line c t) k
-      (goes_then line c (set_phase t Closed) (change_mission t (λ m. record m { proposal = None })) k (still line c k _ refl refl refl (λ s u d out. out))
+      (goes_then line c (set_phase t Closed) (change_mission t (λ m. record m { proposal = None })) k (still line c k _ refl refl refl (λ s u out. out))
       (goes_change line c t (λ m. record m { proposal = None }) _))
       (goes_drop_wait t _)
 
@@ -74,7 +74,7 @@ module _ (line : Line) (c : ℕ) where
       (λ has. goes_then line c (booked is_open (Taken t) (covered line place) >> become (λ j. record j { has_right = put j.has_right t false })) (begin line t place) k
       (goes_then line c (booked is_open (Taken t) (covered line place)) (become (λ j. record j { has_right = put j.has_right t false })) k
       (goes_taken line c is_open t (covered line place) k)
-      (still line c _ _ refl refl refl (λ s u d out. out)))
+      (still line c _ _ refl refl refl (λ s u out. out)))
       (goes_begin t place _))
       (λ has_not. goes_reject t k)
 
@@ -91,7 +91,7 @@ module _ (line : Line) (c : ℕ) where
   unfolding ◌>>◌
   goes_asked t place k asked = subst (Goes line c k) (sym same) (goes_then line c (booked is_open (Taken t) (covered line place)) (become (λ j. record j { wait = put j.wait t (Some place) })) k
       (goes_taken line c is_open t (covered line place) k)
-      (ends_one line c none_comes _ _ (counts _) (λ s u d out. out)
+      (ends_one line c none_comes _ _ (counts _) (λ s u out. out)
       (λ old. record { each = waits_asked t k.wait (put k.wait t (Some place)) k.has_asked place asked (λ u. refl) (λ u other some. old.each u some) })))
     where
       same : start_waiting line t place k ≡ (booked is_open (Taken t) (covered line place) >> become (λ j. record j { wait = put j.wait t (Some place) })) k

@@ -35,9 +35,9 @@ module _ (line : Line) (ok : IsLine line) (events : List Event) (outcomes : List
     pub route_asked : (t : ℕ) (r : SectionRun) → f.body ≡ RouteInfo t r → ((w.at b).route_ask t ≡ Some r.first) × (is_home line a r.first ≡ true) × ((s : ℕ) → within r s ≡ true → is_home line a s ≡ true)
     route_asked t r tells = let it = due_as (RouteInfo t r) tells in (it.0, it.2, each_within (is_home line a) r it.3)
 
-    pub home_out : (t s : ℕ) (r : SectionRun) → f.body ≡ RouteReturn t r → within r s ≡ true → (is_home line b s ≡ true) × (is_out_for t a ((w.at b).book s) ≡ true)
-    home_out t s r brings in_run = and_parts (is_home line b s) (is_out_for t a ((w.at b).book s))
-        (each_within (λ e. is_home line b e && is_out_for t a ((w.at b).book e)) r (due_as (RouteReturn t r) brings).1 s in_run)
+    pub home_out : (t s : ℕ) (r : SectionRun) → f.body ≡ RouteReturn t r → within r s ≡ true → (is_home line b s ≡ true) × (is_out_for t ((w.at b).book s) ≡ true)
+    home_out t s r brings in_run = and_parts (is_home line b s) (is_out_for t ((w.at b).book s))
+        (each_within (λ e. is_home line b e && is_out_for t ((w.at b).book e)) r (due_as (RouteReturn t r) brings).1 s in_run)
 
     pub taken_over : (t heard n : ℕ) (has_data is_ended : Bool) (carried : YieldedPlace) (hand : SectionRun) → f.body ≡ Yield n t heard has_data is_ended carried hand
         → (answer : Answer) (new : World) → world_step line w (Delivery a b number) ≡ Ok (answer, new) → (place : Place) × (carried ≡ yielded_place place) × IsTakenOver a n t place hand (w.at b) (new.at b)

@@ -70,7 +70,7 @@ module _ (line : Line) (c d t : ℕ) (k : Centre) (known : is_train line t ≡ t
       where
         by_wait : (o : Option Place) → k.wait t ≡ o → Comes line c (comes_with d c (GiveRight t)) k (right_given line c t k)
         by_wait None waits = subst (Comes line c (comes_with d c (GiveRight t)) k) (sym same) (comes_then line c (comes_with d c (GiveRight t)) (answered_ask t) (return_right line c t) k
-            (ends_one line c (comes_with d c (GiveRight t)) k answered counts (λ s u e out. out) (λ old. record { each = others_ask k.wait (none_waits waits) old }))
+            (ends_one line c (comes_with d c (GiveRight t)) k answered counts (λ s u out. out) (λ old. record { each = others_ask k.wait (none_waits waits) old }))
             (goes_return_right line c t answered known))
           where
             same : right_given line c t k ≡ (answered_ask t >> return_right line c t) k
@@ -80,7 +80,7 @@ module _ (line : Line) (c d t : ℕ) (k : Centre) (known : is_train line t ≡ t
             counts (OfRight u) e = ends u e
             counts (OfRoute u n) e = omega arith
         by_wait (Some place) waits = subst (Comes line c (comes_with d c (GiveRight t)) k) (sym same) (comes_then line c (comes_with d c (GiveRight t)) admits (begin line t place) k
-            (ends_one line c (comes_with d c (GiveRight t)) k middle counts (λ s u e out. out) (λ old. record { each = others_ask (put k.wait t None) (waits_no_more t k.wait) old }))
+            (ends_one line c (comes_with d c (GiveRight t)) k middle counts (λ s u out. out) (λ old. record { each = others_ask (put k.wait t None) (waits_no_more t k.wait) old }))
             (goes_begin line c t place middle))
           where
             admits : Act
@@ -103,7 +103,7 @@ module _ (line : Line) (c d t : ℕ) (k : Centre) (known : is_train line t ≡ t
       where
         by_wait : (o : Option Place) → k.wait t ≡ o → Comes line c (comes_with d c (RefuseRight t)) k (right_refused line c t k)
         by_wait None waits = subst (Comes line c (comes_with d c (RefuseRight t)) k) (sym same)
-            (ends_one line c (comes_with d c (RefuseRight t)) k answered counts (λ s u e out. out) (λ old. record { each = others_ask k.wait (none_waits waits) old }))
+            (ends_one line c (comes_with d c (RefuseRight t)) k answered counts (λ s u out. out) (λ old. record { each = others_ask k.wait (none_waits waits) old }))
           where
             same : right_refused line c t k ≡ answered_ask t k
             same = rw (asked, waits) refl

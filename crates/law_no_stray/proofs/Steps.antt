@@ -48,7 +48,7 @@ module _ (line : Line) (ok : IsLine line) (c : ℕ) where
       → Goes line c k (option_map_or {U = Effect} (λ why. record { reply = rest k; link = None; silence = Some why }) o
       (record { reply = hear_and_answer line c m k; link = None; silence = None })).reply
   goes_message m k (Some why) is = goes_rest line c k
-  goes_message m k None is = goes_then line c (hear m) (answered line c m m.body) k (still line c k _ refl refl refl (λ s t d out. out))
+  goes_message m k None is = goes_then line c (hear m) (answered line c m m.body) k (still line c k _ refl refl refl (λ s t out. out))
       (goes_answered line ok c m m.body _ (heard_train line c k m is))
 
   goes_frame : (d : ℕ) (f : Frame) (k : Centre) (answer : outcome.Taken) → answer ≢ Next → Goes line c k (taken_by line c d f answer k)

@@ -70,7 +70,7 @@ module _ (line : Line) (c a t : ℕ) (at : Place) (hand : SectionRun) where
       takes_it = take_mission line c a t heard m
 
       y : Centre
-      y = (((booked (is_out_for t a) (Taken t) hand >> set_mission t (Some m))
+      y = (((booked (is_out_for t) (Taken t) hand >> set_mission t (Some m))
           >> (become (λ j. record j { heard = put j.heard t (Some (option_map_or (max heard) (j.heard t) heard)) }) >> expect a t None)) k).state
 
       taken_here : IsHere a t at hand y

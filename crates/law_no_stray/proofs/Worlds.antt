@@ -47,7 +47,7 @@ unfolding new_world beginning
 begins_answered line = record {
   questions = λ x d. at_cap_start (questions x d) (centre_count line) (flow_of (new_world line)) (none_way line) (λ c small. none_stands x d c);
   bodies = each_start (IsBodyKnown line) (flow_of (new_world line)) (none_way line);
-  outs = λ c. record { each = λ s t d out. cc };
+  outs = λ c. record { each = λ s t out. cc };
   waits = λ c. record { each = λ t some. cc };
 }
   where

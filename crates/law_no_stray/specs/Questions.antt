@@ -50,7 +50,7 @@ pub record IsBodyKnown (line : Line) (a b : ℕ) (body : Body) : Type 0 where
 
 -- a section is out for a train of the line alone
 pub record HasKnownOuts (line : Line) (k : Centre) : Type 0 where
-  pub each : (s t d : ℕ) → is_out_for t d (k.book s) ≡ true → is_train line t ≡ true
+  pub each : (s t : ℕ) → is_out_for t (k.book s) ≡ true → is_train line t ≡ true
 
 -- as many questions and answers are on the way as questions stand
 pub record LeavesNone (line : Line) (w : Flow) : Type 0 where

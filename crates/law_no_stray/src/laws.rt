@@ -37,12 +37,12 @@ pub fn no_route_comes_unasked()
         → ((w.at b).route_ask t ≡ Some r.first) × (is_home line a r.first ≡ true) × ((s : ℕ) → within r s ≡ true → is_home line a s ≡ true) }
 {}
 
-/// Each section that comes home is out there for its train, at the centre that sends it.
+/// Each section that comes home is out there for its train.
 pub fn only_what_is_out_comes_home()
     ensures { (line : Line) (events : List Event) (answers : List Answer) (w : World) (a b number t s : ℕ) (r : SectionRun) (f : Frame) → IsLine line
         → world_run line (new_world line) events ≡ Ok (answers, w) → frame_sent w a b number ≡ Some f → link_answer line b (w.at b) a f ≡ Next
         → f.body ≡ RouteReturn t r → within r s ≡ true
-        → (is_home line b s ≡ true) × (is_out_for t a ((w.at b).book s) ≡ true) }
+        → (is_home line b s ≡ true) × (is_out_for t ((w.at b).book s) ≡ true) }
 {}
 
 /// Each Yield that is the next of its link is expected under its number, and its delivery leaves the mission at the centre that it comes to.

@@ -1,5 +1,6 @@
 -- What the next frame of a link comes to, and what a set and an unset come to, keeps what is asked for.
-use Rattle.std.proofs.Common.{◌≡◌, ◌≢◌, ℕ, ◌+◌, ◌≤◌, ◌==◌, ◌&&◌, not, Bool, true, false, if◌then◌else◌, nat_lt, length, max, is_none, is_some, Option, Some, None, refl, sym, ap, ◌∙◌}
+use Rattle.std.proofs.lemmas.List.Elements.{All-nil, All-cons}
+use Rattle.std.proofs.Common.{◌≡◌, ◌≢◌, ℕ, ◌+◌, ◌≤◌, ◌==◌, ◌&&◌, not, Bool, true, false, if◌then◌else◌, nat_lt, length, max, is_none, is_some, Option, Some, None, refl, sym, ap, ◌∙◌, All, [], ◌∷◌}
 use Rattle.std.proofs.Common.{subst, arith, ⊎_elim}
 use Rattle.std.specs.Option.{option_map_or}
 use Rattle.std.specs.List.{find, range_with_len}
@@ -7,24 +8,24 @@ use Rattle.std.proofs.lemmas.Bool.{cases_eq, and_parts, eqb-true}
 use Rattle.law_counting.proofs.Sums.{put_same, put_other}
 use Rattle.rbc_spec.specs.Maps.{put, has}
 use Rattle.rbc_spec.specs.SectionRuns.{SectionRun, no_run, within, is_empty, part_before, part_from, all_of}
-use Rattle.rbc_spec.specs.Line.{Line, IsLine, Section, is_home, section}
+use Rattle.rbc_spec.specs.Line.{Line, IsLine, Section, is_home, section, is_linked}
 use Rattle.rbc_spec.specs.Sections.{is_on, is_on_track}
 use Rattle.rbc_spec.specs.Frame.{Body, YieldedPlace, carried_place, AskRight, GiveRight, RefuseRight, ReturnRight, RouteAsk, RouteInfo, RouteWithdraw, RouteReturn, Announce, Cancel}
 use Rattle.rbc_spec.specs.Frame.{TakingOver, Yield}
 use Rattle.rbc_spec.specs.Outcome.{Done, Asked, NotHome}
 use Rattle.rbc_spec.specs.Centre.{Centre, Entry, Shut, Open, Taken, Out, Mission, Expectation, is_open, is_unused, is_out_for, is_free, uses_some, is_expected}
-use Rattle.rbc_spec.specs.Acts.{Act, rest, become, ◌>>◌, where_so, with_some, send, booked, freed, returned, set_mission, change_mission, propose_if_so, end_order, yield_if_due}
+use Rattle.rbc_spec.specs.Acts.{Act, rest, become, ◌>>◌, where_so, with_some, send, booked, freed, returned, set_mission, change_mission, propose_if_so, end_order}
 use Rattle.rbc_spec.specs.Rules.{tell, choose}
 use Rattle.rbc_spec.specs.Links.{right_asked, right_given, right_refused, right_returned, lendable, route_asked, is_wanted, route_told, route_withdrawn, route_returned, expect}
-use Rattle.rbc_spec.specs.Links.{announced, cancelled, is_under, claimed, taking_over, may_take, take_mission, yielded, is_train, of_train, is_of_line, received}
-use Rattle.rbc_spec.specs.Step.{wished, make, set, unset}
+use Rattle.rbc_spec.specs.Links.{announced, cancelled, is_under, taking_over, may_take, take_mission, yielded, is_train, of_train, is_of_line, received}
+use Rattle.rbc_spec.specs.Step.{wished, make, set, unset, withdraw}
 use Rattle.law_base.proofs.Puts.{itself}
 use Rattle.law_base.proofs.Runs.{all_within}
 use Rattle.law_base.proofs.Longest.{longest_is}
 use Rattle.law_no_unasked.specs.Asked.{Question, OfRight, OfRoute, questions, IsBodyAsked}
-use Rattle.law_no_unasked.proofs.Asking.{Comes, Goes, comes_with, still, goes_rest, goes_set, goes_change, goes_taken, goes_freed, goes_home, goes_returned, goes_send}
+use Rattle.law_no_unasked.proofs.Asking.{Comes, Goes, comes_with, still, goes_rest, goes_set, goes_change, goes_taken, goes_freed, goes_home, goes_returned, aside, IsAside}
 use Rattle.law_no_unasked.proofs.Asking.{comes_then, comes_too, goes_then, goes_if, goes_or, goes_if_act, goes_or_act, sends_one, ends_one}
-use Rattle.law_no_unasked.proofs.Handing.{withdraw_aside, goes_end_order, goes_yield_if_due}
+use Rattle.law_no_unasked.proofs.Handing.{withdraw_aside, goes_end_order, goes_taking_over}
 use Rattle.law_no_unasked.proofs.Messages.{goes_propose_if}
 use Rattle.law_no_unasked.proofs.Rights.{less_stands, comes_asked, comes_given, comes_refused, goes_right_returned}
 
@@ -49,7 +50,7 @@ module _ (line : Line) (ok : IsLine line) (c : ℕ) where
   comes_route_asked : (d t first most : ℕ) (k : Centre) → is_train line t ≡ true → IsBodyAsked line d c (RouteAsk t first most)
       → Comes line c (comes_with d c (RouteAsk t first most)) k (route_asked line c d t first most k)
   unfolding ◌>>◌
-  comes_route_asked d t first most k known asked = goes_if line c (is_some (section line first)) k ((booked is_open (Out t d) r >> send d (RouteInfo t r)) k) (rest k)
+  comes_route_asked d t first most k known asked = goes_if line c (is_some (section line first)) k ((booked is_open (Out t) r >> send d (RouteInfo t r)) k) (rest k)
       (λ so. sends_one line c (comes_with d c (RouteAsk t first most)) d (RouteInfo t r) k lent _ (λ e. refl) counts
       (known, lent_of_line k first most so, asked, lent_home k first most))
       (λ so. comes_too line c (comes_with d c (RouteAsk t first most)) k (rest k) (goes_rest line c k))
@@ -58,7 +59,7 @@ module _ (line : Line) (ok : IsLine line) (c : ℕ) where
       r = lendable line c k first most
 
       lent : Centre
-      lent = (booked is_open (Out t d) r k).state
+      lent = (booked is_open (Out t) r k).state
 
       counts : (x : Question) (e : ℕ) → (questions x e).inside c d (RouteInfo t r) + (questions x e).cap c k ≤ (questions x e).inside d c (RouteAsk t first most) + (questions x e).cap c lent
       counts (OfRight u) e = omega arith
@@ -110,16 +111,16 @@ module _ (line : Line) (ok : IsLine line) (c : ℕ) where
       (λ not_in. goes_propose_if line ok c t s k))
       (λ none. goes_rest line c k)
 
-  goes_route_returned : (d t : ℕ) (r : SectionRun) (k : Centre) → Goes line c k (route_returned line c d t r k)
+  goes_route_returned : (d t : ℕ) (r : SectionRun) (k : Centre) → Goes line c k (route_returned line c t r k)
   goes_route_returned d t r k =
-      goes_then line c (freed line c (is_out_for t d) r) (where_so (λ j. not (uses_some line c j t) &&
+      goes_then line c (freed line c (is_out_for t) r) (where_so (λ j. not (uses_some line c j t) &&
       ((is_none (j.mission t) && is_none (j.wait t)) && not (is_expected line j t))) (end_order line c t)) k
-      (goes_freed line c (is_out_for t d) r k)
+      (goes_freed line c (is_out_for t) r k)
       (goes_if line c (not (uses_some line c j t) && ((is_none (j.mission t) && is_none (j.wait t)) && not (is_expected line j t))) j (end_order line c t j) (rest j)
       (λ so. goes_end_order line ok c t j) (λ so. goes_rest line c j))
     where
       j : Centre
-      j = (freed line c (is_out_for t d) r k).state
+      j = (freed line c (is_out_for t) r k).state
 
   -- ## Handovers
 
@@ -133,14 +134,10 @@ module _ (line : Line) (ok : IsLine line) (c : ℕ) where
   goes_cancelled : (d number t : ℕ) (k : Centre) → Goes line c k (cancelled d number t k)
   goes_cancelled d number t k = goes_if line c (is_under number (k.expects d t)) k (expect d t None k) (rest k) (λ so. goes_expect d t None k) (λ so. goes_rest line c k)
 
-  goes_taking_over : (d number t : ℕ) (k : Centre) → is_train line t ≡ true → Goes line c k (taking_over line c d number t k)
-  goes_taking_over d number t k known = goes_then line c (change_mission t (claimed d number)) (yield_if_due line c t) k (goes_change line c t (claimed d number) k)
-      (goes_yield_if_due line ok c t _ known)
-
   goes_take : (d t heard : ℕ) (m : Mission) (k : Centre) → Goes line c k (take_mission line c d t heard m k)
   goes_take d t heard m k = goes_then line c takes (with_some (λ j. find (λ s. is_home line c s && j.wish s) (range_with_len m.hand.first m.hand.count)) (propose_if_so line t)) k
-      (goes_then line c (booked (is_out_for t d) (Taken t) m.hand >> set_mission t (Some m)) (hears >> expect d t None) k
-      (goes_then line c (booked (is_out_for t d) (Taken t) m.hand) (set_mission t (Some m)) k (goes_taken line c (is_out_for t d) t m.hand k) (goes_set line c t (Some m) _))
+      (goes_then line c (booked (is_out_for t) (Taken t) m.hand >> set_mission t (Some m)) (hears >> expect d t None) k
+      (goes_then line c (booked (is_out_for t) (Taken t) m.hand) (set_mission t (Some m)) k (goes_taken line c (is_out_for t) t m.hand k) (goes_set line c t (Some m) _))
       (goes_then line c hears (expect d t None) _ (still line c _ _ refl refl) (goes_expect d t None _)))
       (goes_or line c (find (λ s. is_home line c s && y.wish s) (range_with_len m.hand.first m.hand.count)) (λ s. propose_if_so line t s y) y (rest y)
       (λ s found. goes_propose_if line ok c t s y) (λ nothing. goes_rest line c y))
@@ -149,7 +146,7 @@ module _ (line : Line) (ok : IsLine line) (c : ℕ) where
       hears = become (λ j. record j { heard = put j.heard t (Some (option_map_or (max heard) (j.heard t) heard)) })
 
       takes : Act
-      takes = (booked (is_out_for t d) (Taken t) m.hand >> set_mission t (Some m)) >> (hears >> expect d t None)
+      takes = (booked (is_out_for t) (Taken t) m.hand >> set_mission t (Some m)) >> (hears >> expect d t None)
 
       y : Centre
       y = (takes k).state
@@ -182,16 +179,16 @@ module _ (line : Line) (ok : IsLine line) (c : ℕ) where
   comes_received a (RouteWithdraw t s) k is = of_lines_train t (if is_some (section line s) then route_withdrawn line c t s else rest) (comes_with a c (RouteWithdraw t s)) k
       (λ known. comes_too line c (comes_with a c (RouteWithdraw t s)) k ((if is_some (section line s) then route_withdrawn line c t s else rest) k)
       (goes_if_too (is_some (section line s)) (route_withdrawn line c t s) k (λ so. goes_withdrawn t s k known)))
-  comes_received a (RouteReturn t r) k is = of_lines_train t (if all_of (λ s. is_some (section line s)) r then route_returned line c a t r else rest) (comes_with a c (RouteReturn t r)) k
-      (λ known. comes_too line c (comes_with a c (RouteReturn t r)) k ((if all_of (λ s. is_some (section line s)) r then route_returned line c a t r else rest) k)
-      (goes_if_too (all_of (λ s. is_some (section line s)) r) (route_returned line c a t r) k (λ so. goes_route_returned a t r k)))
+  comes_received a (RouteReturn t r) k is = of_lines_train t (if all_of (λ s. is_some (section line s)) r then route_returned line c t r else rest) (comes_with a c (RouteReturn t r)) k
+      (λ known. comes_too line c (comes_with a c (RouteReturn t r)) k ((if all_of (λ s. is_some (section line s)) r then route_returned line c t r else rest) k)
+      (goes_if_too (all_of (λ s. is_some (section line s)) r) (route_returned line c t r) k (λ so. goes_route_returned a t r k)))
   comes_received a (Announce number t track) k is = of_lines_train t (if nat_lt track (length line.tracks) then announced a number t else rest) (comes_with a c (Announce number t track)) k
       (λ known. comes_too line c (comes_with a c (Announce number t track)) k ((if nat_lt track (length line.tracks) then announced a number t else rest) k)
       (goes_if_too (nat_lt track (length line.tracks)) (announced a number t) k (λ so. goes_announced a number t k)))
   comes_received a (Cancel number t) k is = of_lines_train t (cancelled a number t) (comes_with a c (Cancel number t)) k
       (λ known. comes_too line c (comes_with a c (Cancel number t)) k (cancelled a number t k) (goes_cancelled a number t k))
   comes_received a (TakingOver number t) k is = of_lines_train t (taking_over line c a number t) (comes_with a c (TakingOver number t)) k
-      (λ known. comes_too line c (comes_with a c (TakingOver number t)) k (taking_over line c a number t k) (goes_taking_over a number t k known))
+      (λ known. comes_too line c (comes_with a c (TakingOver number t)) k (taking_over line c a number t k) (goes_taking_over line ok c a number t k known))
   comes_received a (Yield number t heard has_data is_ended carried hand) k is =
       of_lines_train t (option_map_or (yielded line c a number t hand heard has_data is_ended) (carried_place carried) rest) (comes_with a c (Yield number t heard has_data is_ended carried hand)) k
       (λ known. comes_too line c (comes_with a c (Yield number t heard has_data is_ended carried hand)) k
@@ -199,11 +196,15 @@ module _ (line : Line) (ok : IsLine line) (c : ℕ) where
 
   -- ## The interlocking
 
-  goes_wished : (s : ℕ) (e : Entry) (k : Centre) → Goes line c k (wished line s e k)
+  goes_wished : (s : ℕ) (e : Entry) (k : Centre) → Goes line c k (wished line c s e k)
   goes_wished s Shut k = goes_rest line c k
   goes_wished s Open k = goes_rest line c k
   goes_wished s (Taken t) k = goes_propose_if line ok c t s k
-  goes_wished s (Out t d) k = goes_send line c d (RouteWithdraw t s) k (withdraw_aside line ok c d t s)
+  goes_wished s (Out t) k = aside line c k k (withdraw line c t s k).frames refl refl (λ d. by_link d (is_linked line c d))
+    where
+      by_link : (d : ℕ) (b : Bool) → All (IsAside line c d) (if b then RouteWithdraw t s ∷ [] else [])
+      by_link d true = All-cons (IsAside line c d) (RouteWithdraw t s) [] (withdraw_aside line ok c d t s) (All-nil (IsAside line c d))
+      by_link d false = All-nil (IsAside line c d)
 
   goes_make : (s : ℕ) (entry : Entry) (wish : Bool) (k : Centre) → Goes line c k (make s entry wish k)
   goes_make s entry wish k = still line c k _ refl refl
@@ -219,8 +220,8 @@ module _ (line : Line) (ok : IsLine line) (c : ℕ) where
   pub goes_section_unset : (s : ℕ) (k : Centre) → Goes line c k (unset line c s k)
   goes_section_unset s k = goes_if line c (not (is_home line c s)) k (tell (NotHome s) k) _ (λ so. still line c k _ refl refl)
       (λ so. goes_if_act line c (is_unused (k.book s)) (make s Shut false >> tell (Done s))
-      ((become (λ j. record j { wish = put j.wish s true }) >> tell (Asked s)) >> wished line s (k.book s)) k
+      ((become (λ j. record j { wish = put j.wish s true }) >> tell (Asked s)) >> wished line c s (k.book s)) k
       (λ unused. goes_then line c (make s Shut false) (tell (Done s)) k (goes_make s Shut false k) (still line c _ _ refl refl))
-      (λ used. goes_then line c (become (λ j. record j { wish = put j.wish s true }) >> tell (Asked s)) (wished line s (k.book s)) k
+      (λ used. goes_then line c (become (λ j. record j { wish = put j.wish s true }) >> tell (Asked s)) (wished line c s (k.book s)) k
       (goes_then line c (become (λ j. record j { wish = put j.wish s true })) (tell (Asked s)) k (still line c k _ refl refl)
       (still line c _ _ refl refl)) (goes_wished s (k.book s) _)))

@@ -12,8 +12,8 @@ use Rattle.rbc_spec.specs.Message.{Transition, EndSession, unknown_group}
 use Rattle.rbc_spec.specs.Frame.{Body, YieldedPlace, ReturnRight, RouteWithdraw, Announce, Cancel, TakingOver, Yield, yielded_place}
 use Rattle.rbc_spec.specs.Centre.{Centre, Out, Mission, Handing, is_taken_for, is_registrar_of, is_up}
 use Rattle.rbc_spec.specs.Acts.{Act, rest, become, ◌>>◌, send, say, booked, freed, returned, leave, set_mission, change_mission, return_pool, cancel, return_right, close, part_at}
-use Rattle.rbc_spec.specs.Acts.{announce, end_order, yield, is_of_two, yield_if_due}
-use Rattle.rbc_spec.specs.Links.{is_train}
+use Rattle.rbc_spec.specs.Acts.{announce, end_order, yield}
+use Rattle.rbc_spec.specs.Links.{is_train, taking_over}
 use Rattle.law_base.proofs.Puts.{itself}
 use Rattle.law_no_unasked.specs.Asked.{Question, OfRight, OfRoute, asks, answers}
 use Rattle.law_no_unasked.proofs.Asking.{Goes, IsAside, aside, still, goes_rest, goes_say, goes_set, goes_change, goes_freed, goes_send, returned_aside, goes_returned, goes_then}
@@ -130,7 +130,7 @@ module _ (line : Line) (ok : IsLine line) (c : ℕ) where
       number = k.announced + 1
 
       stands_so : Mission → Mission
-      stands_so n = record n { handing = Some (record { number = number; to = d; is_claimed = false }) }
+      stands_so n = record n { handing = Some (record { number = number; to = d }) }
 
       act : Act
       act = (send d (Announce number t m.place.track) >> become (λ j. record j { announced = number })) >> change_mission t stands_so
@@ -157,7 +157,7 @@ module _ (line : Line) (ok : IsLine line) (c : ℕ) where
       body = Yield h.number t (option_map_or (λ n. n) (k.heard t) 0) m.has_data m.is_ended (yielded_place m.place) m.hand
 
       sends : Act
-      sends = returned line c t m.place.track m.pool >> booked (is_taken_for t) (Out t h.to) m.hand
+      sends = returned line c t m.place.track m.pool >> booked (is_taken_for t) (Out t) m.hand
 
       gives : Act
       gives = set_mission t None >> send h.to body
@@ -170,10 +170,10 @@ module _ (line : Line) (ok : IsLine line) (c : ℕ) where
           (yield_aside d h.number t (option_map_or (λ n. n) (k.heard t) 0) m.has_data m.is_ended (yielded_place m.place) m.hand) (All-nil (IsAside line c d))
       by_one d false = All-nil (IsAside line c d)
 
-  pub goes_yield_if_due : (t : ℕ) (k : Centre) → is_train line t ≡ true → Goes line c k (yield_if_due line c t k)
-  goes_yield_if_due t k known = goes_or line c (k.mission t) _ k (rest k)
+  pub goes_taking_over : (d number t : ℕ) (k : Centre) → is_train line t ≡ true → Goes line c k (taking_over line c d number t k)
+  goes_taking_over d number t k known = goes_or line c (k.mission t) _ k (rest k)
       (λ m at. goes_or line c m.handing _ k (rest k)
-      (λ h stands. goes_if line c (h.is_claimed && is_of_two line c h.to m.hand) k (yield line c t m h k) (rest k)
+      (λ h stands. goes_if line c ((h.number == number) && (h.to == d)) k (yield line c t m h k) (rest k)
       (λ due. goes_yield t m h k known) (λ wait. goes_rest line c k))
       (λ none. goes_rest line c k))
       (λ none. goes_rest line c k)

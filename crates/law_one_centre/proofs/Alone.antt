@@ -1,5 +1,5 @@
--- On a one-centre line what follows the own part of a message is nothing: no handover is due, and no centre follows on the track. So each message is
--- answered by the own step alone, and a start of mission is accepted wherever it may be.
+-- On a one-centre line nothing follows the own part of a message, since no centre follows on the track. So each message is answered by the own step alone,
+-- and a start of mission is accepted wherever it may be.
 use Rattle.std.proofs.Common.{◌≡◌, ◌&&◌, ℕ, List, [], ◌∷◌, Bool, true, false, Option, Some, None, is_none, refl, sym, ap, ◌∙◌, subst, inl, inr}
 use Rattle.std.specs.Option.{option_map_or}
 use Rattle.std.specs.Bool.{MatchBool}
@@ -10,8 +10,8 @@ use Rattle.rbc_spec.specs.SectionRuns.{all_of}
 use Rattle.rbc_spec.specs.Line.{Line, IsLine, is_centre}
 use Rattle.rbc_spec.specs.Place.{Place, Position, covered, fit_place, place_on}
 use Rattle.rbc_spec.specs.Message.{TrainBody, TrainData, Request, Report, ShorteningGranted, ShorteningRejected, EndOfMission, InitiationOfSession, TerminationOfSession, StartOfMission, SessionEstablished, TrainAccepted, TrackBody}
-use Rattle.rbc_spec.specs.Centre.{Centre, Mission, Handing, is_free, is_registrar_of}
-use Rattle.rbc_spec.specs.Acts.{Act, Reply, rest, ◌>>◌, hear, yield_if_due}
+use Rattle.rbc_spec.specs.Centre.{Centre, Mission, is_free, is_registrar_of}
+use Rattle.rbc_spec.specs.Acts.{Act, Reply, rest, ◌>>◌, hear}
 use Rattle.rbc_spec.specs.Rules.{at_border}
 use Rattle.rbc_spec.specs.Step as step
 use Rattle.rbc_spec.specs.LineCentre.{LineState, LineMission, Said, hears, is_at, supervises}
@@ -20,17 +20,16 @@ use Rattle.rbc_spec.specs.World.{World}
 use Rattle.rbc_spec.specs.Theorems.{IsOneCentreLine, IsStartAccepted}
 use Rattle.law_local.specs.Local.{IsLocal}
 use Rattle.law_local.proofs.Homes.{none_next}
-use Rattle.law_local.proofs.Simple.{no_yield}
-use Rattle.law_network.specs.Flow.{Flow, flow_of}
+use Rattle.law_network.specs.Flow.{flow_of}
 use Rattle.law_network.specs.Sound.{IsFlowSound}
 use Rattle.law_network.specs.Leads.{said_by, replied}
 use Rattle.law_refine_sessions.specs.Heard.{LeadsAlone}
 use Rattle.law_refine_sessions.proofs.Data.{established, data_heard, rejected}
 use Rattle.law_refine_sessions.proofs.Ends.{begins as session_begins, ends as session_ends}
 use Rattle.law_refine_sessions.proofs.Starts.{starts, may_is, accepted_is}
-use Rattle.law_refine_missions.specs.Parts.{IsOwnStep, IsInParts, own_report, own_end, own_granted, own_request, border_of, at_border_then}
+use Rattle.law_refine_missions.specs.Parts.{IsOwnStep, IsInParts, own_report, own_end, own_granted, own_request, border_of, at_border_then, IsWhole}
 use Rattle.law_refine_missions.proofs.Heard.{state_then}
-use Rattle.law_refine_missions.proofs.Asked.{report_is_own, report_in_parts, end_is_own, end_in_parts, granted_is_own, granted_in_parts, request_is_own, request_in_parts}
+use Rattle.law_refine_missions.proofs.Asked.{report_is_own, end_is_own, granted_is_own, request_is_own, request_in_parts, report_is_whole, end_is_whole, granted_is_whole}
 use Rattle.law_refinement.specs.Meets.{Meets}
 use Rattle.law_refinement.proofs.Work.{message}
 
@@ -42,14 +41,6 @@ accepts_it body = false
 abbrev is_acceptance : List Saying → Bool
 is_acceptance [] = false
 is_acceptance (first ∷ others) = accepts_it first.message.body
-
--- a handover is announced to the next centre, and there is none
-no_handing : (line : Line) (d : ℕ) → IsOneCentreLine line d → (w : Flow) → IsFlowSound line w → (c : ℕ) → is_centre line c ≡ true → (t : ℕ) (m : Mission) → (w.at c).mission t ≡ Some m → m.handing ≡ None
-no_handing line d one w sound c to t m at = by_handing m.handing refl
-  where
-    by_handing : (o : Option Handing) → m.handing ≡ o → o ≡ None
-    by_handing None is = refl
-    by_handing (Some h) is = absurd (let wrong : None ≡ Some h.to = sym (none_next line d one c m.place.track) ∙ ((sound.centres c to).mission t m at).handing_to h is in cc)
 
 module _ (line : Line) (ok : IsLine line) (d : ℕ) (one : IsOneCentreLine line d) (w : World) (v : LineState) (meets : Meets line w v) (local : IsLocal line w) (c : ℕ) (to : is_centre line c ≡ true)
     (stamp t_train t : ℕ) where
@@ -76,9 +67,10 @@ module _ (line : Line) (ok : IsLine line) (d : ℕ) (one : IsOneCentreLine line 
       let is : reply body ≡ first k = parts k heard ∙ then_resting first later k (resting (first k).state leads.sound (state_then (flow_of w) c (first k))) in
       subst (λ (r : Reply). LeadsAlone line (flow_of w) c (message t_train t body) r v) (sym is) (record { mid = leads.mid; own = leads.own; shows = leads.shows })
 
-  -- no handover is due
-  none_yielded : (u : Flow) (x : Centre) → IsFlowSound line u → u.at c ≡ x → yield_if_due line c t x ≡ rest x
-  none_yielded u x sound at = no_yield line c t x (λ m has. no_handing line d one u sound c to t m (ap (λ (y : Centre). y.mission t) at ∙ has))
+  in_whole : (body : TrainBody) (own : Act) → IsOwnStep line c (message t_train t body) own → IsWhole line c (message t_train t body) own → IsHeard body → Alone body
+  in_whole body own is_own is_whole heard =
+      let leads = is_own (flow_of w) v stamp meets.sound.flow meets.shows to heard in
+      subst (λ (r : Reply). LeadsAlone line (flow_of w) c (message t_train t body) r v) (sym (is_whole k heard)) (record { mid = leads.mid; own = leads.own; shows = leads.shows })
 
   -- no border is there
   none_at_border : (position : Position) (x : Centre) → at_border_then line c t position x ≡ rest x
@@ -103,12 +95,12 @@ module _ (line : Line) (ok : IsLine line) (d : ℕ) (one : IsOneCentreLine line 
   alone (ShorteningRejected asked position) heard = rejected line (flow_of w) v meets.sound.flow meets.shows c t_train t stamp to asked position heard
   alone (Request position) heard = in_parts (Request position) (own_request line c t position) (at_border_then line c t position)
       (request_is_own line ok c t_train t position) (request_in_parts line c t_train t position) (λ x sound at. none_at_border position x) heard
-  alone (Report position) heard = in_parts (Report position) (own_report line c t position) (yield_if_due line c t)
-      (report_is_own line ok c t_train t position) (report_in_parts line c t_train t position) (λ x sound at. none_yielded _ x sound at) heard
-  alone (EndOfMission position) heard = in_parts (EndOfMission position) (own_end line c t position) (yield_if_due line c t)
-      (end_is_own line ok c t_train t position) (end_in_parts line c t_train t position) (λ x sound at. none_yielded _ x sound at) heard
-  alone (ShorteningGranted asked position) heard = in_parts (ShorteningGranted asked position) (own_granted line c t position) (yield_if_due line c t)
-      (granted_is_own line ok c t_train t position asked) (granted_in_parts line c t_train t position asked) (λ x sound at. none_yielded _ x sound at) heard
+  alone (Report position) heard = in_whole (Report position) (own_report line c t position)
+      (report_is_own line ok c t_train t position) (report_is_whole line c t_train t position) heard
+  alone (EndOfMission position) heard = in_whole (EndOfMission position) (own_end line c t position)
+      (end_is_own line ok c t_train t position) (end_is_whole line c t_train t position) heard
+  alone (ShorteningGranted asked position) heard = in_whole (ShorteningGranted asked position) (own_granted line c t position)
+      (granted_is_own line ok c t_train t position asked) (granted_is_whole line c t_train t position asked) heard
 
   -- ## A start of mission
 

@@ -1,7 +1,7 @@
 -- What the interlocking tells leaves no choice: behind an unset a shortening is asked for where it may be, and nothing else is done.
-use Rattle.std.proofs.Common.{◌≡◌, ℕ, ◌==◌, Bool, true, false, if◌then◌else◌, List, [], ◌∷◌, Option, Some, None, refl, sym, ap, ◌∙◌, inl, subst, append-nil, eq-eqb}
+use Rattle.std.proofs.Common.{◌≡◌, ℕ, Bool, true, false, if◌then◌else◌, List, [], ◌∷◌, Option, Some, None, refl, sym, ap, ◌∙◌, inl, subst, append-nil, eq-eqb}
 use Rattle.std.specs.Bool.{MatchBool}
-use Rattle.std.proofs.lemmas.Bool.{both_ways, and_from}
+use Rattle.std.proofs.lemmas.Bool.{both_ways}
 use Rattle.rbc_spec.specs.Maps.{has}
 use Rattle.rbc_spec.specs.Line.{Line, IsLine, is_centre, is_home}
 use Rattle.rbc_spec.specs.Outcome.{Done, Asked, NotHome}
@@ -111,8 +111,8 @@ module _ (line : Line) (ok : IsLine line) (d : ℕ) (one : IsOneCentreLine line 
         (λ (b : Bool). MatchBool b (Tells (Done s ∷ []) (set_mark s line_centre.Shut v) h.said h.mid) (Tells (Asked s ∷ []) (wished_back s true v) h.said h.mid))
         (ap is_unused_mark (meets.shows.mark s c home ∙ ap (λ (e : Entry). shown e (is_in_hand line (flow_of w) s)) book)) own in
         none_so line h.mid (set_mark s line_centre.Shut v) c s h.quiets tells.new_is is (none_shut line w v meets local c s)
-    by_entry home (centre.Out t e) book is own = absurd
-        (both_ways _ (ap (centre.is_out_for t e) (sym book) ∙ (local.each c).not_out s t e) (and_from (t == t) (e == e) (eq-eqb t t refl) (eq-eqb e e refl)))
+    by_entry home (centre.Out t) book is own = absurd
+        (both_ways _ (ap (centre.is_out_for t) (sym book) ∙ (local.each c).not_out s t) (eq-eqb t t refl))
     by_entry home (centre.Taken t) book is own = by_mission ((w.at c).mission t) refl
       where
         in_hand : hand_has ((w.at c).mission t) s ≡ true

@@ -1,7 +1,7 @@
--- Where a section in use is: at the centre that its home has it taken or out at, or on the way between the two.
-use Rattle.std.specs.Prelude.{◌≡◌, ◌⊎◌, ℕ, ◌==◌, List, [], ◌∷◌}
+-- Where a section in use is: one that its home has taken, there; one that is out, at another centre or on the way between two.
+use Rattle.std.specs.Prelude.{◌≡◌, ◌⊎◌, ℕ, ◌==◌, List, [], ◌∷◌, true, false}
 use Rattle.std.specs.List.{flat_map, count_by}
-use Rattle.rbc_spec.specs.Line.{Line}
+use Rattle.rbc_spec.specs.Line.{Line, is_centre}
 use Rattle.rbc_spec.specs.Frame.{Frame}
 use Rattle.rbc_spec.specs.Centre.{Entry, Shut, Open, Taken, Out}
 use Rattle.rbc_spec.specs.World.{World, way}
@@ -11,13 +11,15 @@ use Rattle.rbc_spec.specs.Promises.{held_for, carried_for}
 abbrev pub times_carried : ℕ → ℕ → List Frame → ℕ
 times_carried s t fs = count_by (λ u. u == t) (flat_map (λ f. carried_for s f.body) fs)
 
--- a section that is taken is in the hand of its train at home, or in a start that waits there; one that is out is in the hand or the pool of its train at the
--- centre that it is out at, or in one frame from home to there, or from there to home
+-- a section that is taken is in the hand of its train at home, or in a start that waits there; one that is out is in the hand or the pool of its train at one
+-- other centre of the line, or in one frame between two
 abbrev pub IsFoundAs : Line → World → ℕ → ℕ → Entry → Type 0
 IsFoundAs line w c s Shut = Unit {0}
 IsFoundAs line w c s Open = Unit {0}
 IsFoundAs line w c s (Taken t) = held_for line s (w.at c) t ≡ t ∷ []
-IsFoundAs line w c s (Out t d) = (held_for line s (w.at d) t ≡ t ∷ []) ⊎ ((times_carried s t (way w c d) ≡ 1) ⊎ (times_carried s t (way w d c) ≡ 1))
+IsFoundAs line w c s (Out t) =
+    ((d : ℕ) × (is_centre line d ≡ true) × ((d == c) ≡ false) × (held_for line s (w.at d) t ≡ t ∷ [])) ⊎
+    ((a : ℕ) × (b : ℕ) × (is_centre line a ≡ true) × (is_centre line b ≡ true) × (times_carried s t (way w a b) ≡ 1))
 
 -- the section of home c is found as its home has it
 pub record IsWhereHomeHasIt (line : Line) (w : World) (c s : ℕ) : Type 0 where

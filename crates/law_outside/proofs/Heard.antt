@@ -1,18 +1,18 @@
 -- What is seen outside follows the one line centre's state through a train's message that is heard.
-use Rattle.std.proofs.Common.{◌≡◌, ℕ, zero, suc, ◌+◌, ◌-◌, ◌*◌, ◌<◌, ◌≤◌, ◌==◌, ◌&&◌, ◌||◌, not, nat_le, nat_lt, Bool, true, false, List, [], ◌∷◌, Option, Some, None, option_map, if◌then◌else◌, refl, sym, ap, ◌∙◌, inl, inr, subst, arith, eqb-true, eq-eqb, leb-true}
+use Rattle.std.proofs.Common.{◌≡◌, ℕ, zero, suc, ◌+◌, ◌-◌, ◌*◌, ◌<◌, ◌≤◌, ◌==◌, ◌&&◌, ◌||◌, not, nat_le, nat_lt, Bool, true, false, List, [], ◌∷◌, Option, Some, None, option_map, if◌then◌else◌, refl, sym, ap, ◌∙◌, inl, inr, subst, arith, eqb-true, eq-eqb, leb-true, ltb-true, min}
 use Rattle.std.specs.Option.{option_map_or, option_and_then}
 use Rattle.std.specs.List.{find, list_any, range_with_len}
 use Rattle.std.proofs.lemmas.Bool.{and_parts, or_cases, or_left, or_right, cases_lt, both_ways}
 use Rattle.std.proofs.lemmas.Option.{same_Some}
 use Rattle.rbc_spec.specs.Maps.{has, put, put_pair}
 use Rattle.rbc_spec.specs.SectionRuns.{SectionRun, within, behind, all_of}
-use Rattle.rbc_spec.specs.Line.{Line, Section, section, section_of_group, IsLine, is_centre, is_home, end}
+use Rattle.rbc_spec.specs.Line.{Line, Section, section, section_of_group, IsLine, is_centre, is_home, start, end}
 use Rattle.rbc_spec.specs.Sections.{is_on, section_count}
 use Rattle.rbc_spec.specs.Place.{Place, Position, has_place, place_behind, covered, extent, is_fit, fit_place, place_on, is_cleared, has_room, group_start}
 use Rattle.rbc_spec.specs.Message.{TrainMessage, TrainBody, TrainData, Request, Report, ShorteningGranted, ShorteningRejected, EndOfMission, InitiationOfSession, TerminationOfSession, StartOfMission, SessionEstablished}
 use Rattle.rbc_spec.specs.Centre.{Proposal, is_registrar_of}
 use Rattle.rbc_spec.specs.LineCentre.{LineState, LineMission, Mark, Shut, Open, Kept, Given, Supervisor, At, Parted, is_given_to, is_kept_for, is_mark_open, is_at, supervises, is_waiting_at, is_waiting, release, set_mission, change_mission, close_if_empty, Said}
-use Rattle.rbc_spec.specs.OwnSteps.{without_proposal, session_ends, begins, may_start, waits, restarted, Rejects, Accepts, StartsHere, Restarts, StartsNew, Starts, may_be_given, Extends, is_cleared_of, is_cut_of, reported, shortened, without_ask, ended, track_of, last_kept_of, Reports, Ending, Own}
+use Rattle.rbc_spec.specs.OwnSteps.{without_proposal, session_ends, begins, may_start, waits, restarted, Rejects, Accepts, StartsHere, Restarts, StartsNew, Starts, may_be_given, Extends, is_cleared_of, is_cut_of, reported, shortened, without_ask, ended, has_reached, is_ahead_of, stopped, track_of, last_kept_of, Reports, Ending, Own}
 use Rattle.rbc_spec.specs.Run.{may_request_at, last_of_hand, answers_it}
 use Rattle.rbc_spec.proofs.Places.{ends_rise}
 use Rattle.law_base.proofs.Lines.{on_line}
@@ -24,9 +24,10 @@ use Rattle.law_local.proofs.Fits.{fit_parts}
 use Rattle.law_runs.proofs.Waits.{WaitsKeep, IsLoose, opened, kept_for, PutAt, there, elsewhere, put_at}
 use Rattle.law_runs.proofs.Frees.{by_test, own_leaves, closed_mark}
 use Rattle.law_outside.specs.Outside as outside
-use Rattle.law_outside.specs.Outside.{View, is_placed, Stretch, accepted, is_told, all_told, change_stretch, reports, grants, metres_behind}
+use Rattle.law_outside.specs.Outside.{View, is_placed, Stretch, accepted, is_told, all_told, change_stretch, reports, grants, last_before, stands, metres_behind}
 use Rattle.law_outside.proofs.Marks.{Stays, Moves, by, if_true, if_false, loose_stays, given_moves, released_moves}
-use Rattle.law_outside.proofs.Tied.{IsReported, Way, Tied, tied_as, remade, tied_restarts, tied_extends, Left, some_left, none_left, tied_listens, tied_reports, tied_stays_long, tied_shortens}
+use Rattle.law_outside.proofs.Tied.{IsReported, Way, Tied, tied_as, remade, tied_restarts, tied_extends, Left, some_left, none_left, tied_listens, reports_keep, tied_reports, tied_stays_long, tied_shortens}
+use Rattle.law_outside.proofs.Standstill.{tied_stands, tied_stops}
 use Rattle.law_outside.proofs.Follows.{founded_still, IsStart, IsSeen, given, Follows, wait_still, wait_less, after_one, after_none, after_mission, changed_there, free_stays, waiting_loose, accepts_is, begins_follow}
 
 -- ## Who supervises
@@ -524,6 +525,121 @@ module _ (line : Line) (ok : IsLine line) (v : LineState) (x : View) (old : Foll
         fin : LineMission → LineMission
         fin k = record k { is_ended = true; proposal = None }
 
+    -- ## At standstill
+
+    abbrev past_report : LineState
+    past_report = reported line t c place v
+
+    abbrev stood : LineState
+    stood = stopped line t c place past_report
+
+    behind_marks : past_report.mark ≡ without.mark
+    behind_marks = closed_mark (list_any (λ s. is_given_to t (without.mark s)) (range_with_len 0 (section_count line))) behind_report (set_mission t None behind_report) refl
+
+    behind_left : Left (given past_report t) (placed_there n) (past_report.mission t)
+    behind_left = left_as (given without t) (given past_report t) (placed_there n) (past_report.mission t) (λ s. ap (λ (f : ℕ → Mark). is_given_to t (f s)) behind_marks) report_left
+
+    behind_tied : Tied line (given past_report t) (past_report.mission t) (option_map (reports line position) (x.stretch t)) (x.asked t)
+    behind_tied =
+        let placed = placed_on line n.place.track position place on in
+        let way = (old.tied t).way n is in
+        tied_reports line ok position place (given v t) (given past_report t) n (placed_there n) (past_report.mission t) (x.stretch t) (x.asked t) on refl placed.track_is (reported_is line position place placed.extent_is)
+        (λ d p at stands. way.asks d p at stands) (λ stamp at. way.parted stamp at)
+        (λ s. ap (λ (f : ℕ → Mark). is_given_to t (f s)) behind_marks ∙ report_moves.here s ∙ and_again (given v t s) (is_cleared line place s)) behind_left (of_mission n is)
+
+    ahead_moves : Moves past_report.mark (release line c t (is_ahead_of line past_report t place) past_report).mark t (λ s. given past_report t s && not (is_ahead_of line past_report t place s))
+    ahead_moves = released_moves line c t (is_ahead_of line past_report t place) past_report (λ s so. (and_parts (is_given_to t (past_report.mark s)) (nat_le place.front (10 * start line s)) so).0)
+
+    -- a place is on the track on which it was looked for
+    on_track : (track : ℕ) (q : Position) (p : Place) → place_on line track q ≡ Some p → p.track ≡ track
+    on_track track q p looked = (placed_on line track q p looked).track_is
+
+    stood_tied : position.v_train ≡ 0 → Tied line (given stood t) (stood.mission t) (option_map (stands line position) (option_map (reports line position) (x.stretch t))) (x.asked t)
+    stood_tied still = by_reached (has_reached line past_report t place) refl
+      where
+        by_left : (o : Option LineMission) → Left (given past_report t) (placed_there n) o → Tied line (given past_report t) o (option_map (reports line position) (x.stretch t)) (x.asked t) → (one : ℕ) → given past_report t one ≡ true → 10 * start line one < place.front
+            → Tied line (given (release line c t (is_ahead_of line past_report t place) past_report) t) o (option_map (stands line position) (option_map (reports line position) (x.stretch t))) (x.asked t)
+        by_left _ (none_left none) h one so early = absurd (both_ways (given past_report t one) (none one) so)
+        by_left _ (some_left first first_so) h one so early =
+            tied_stops line on_track position place (given past_report t) (given (release line c t (is_ahead_of line past_report t place) past_report) t) (placed_there n) (option_map (reports line position) (x.stretch t)) (x.asked t) still
+            (ap (λ (k : ℕ). place_on line k position) (on_track n.place.track position place on) ∙ on) one so early ahead_moves.here h
+
+        by_reached : (b : Bool) → has_reached line past_report t place ≡ b
+            → Tied line (given (if b then release line c t (is_ahead_of line past_report t place) past_report else past_report) t) ((if b then release line c t (is_ahead_of line past_report t place) past_report else past_report).mission t)
+            (option_map (stands line position) (option_map (reports line position) (x.stretch t))) (x.asked t)
+        by_reached false none = tied_stands line on_track position (given past_report t) (past_report.mission t) (option_map (reports line position) (x.stretch t)) (x.asked t) behind_tied
+        by_reached true some =
+            let one = any_one (λ s. is_given_to t (past_report.mark s) && nat_lt (10 * start line s) place.front) 0 (section_count line) some in
+            let parts = and_parts (is_given_to t (past_report.mark one.0)) (nat_lt (10 * start line one.0) place.front) one.1 in
+            by_left (past_report.mission t) behind_left behind_tied one.0 parts.0 (ltb-true (10 * start line one.0) place.front parts.1)
+
+    stood_wait : stood.wait ≡ v.wait
+    stood_wait = by_reached (has_reached line past_report t place)
+        ∙ closed_wait (list_any (λ s. is_given_to t (without.mark s)) (range_with_len 0 (section_count line))) behind_report (set_mission t None behind_report) refl
+      where
+        by_reached : (b : Bool) → (if b then release line c t (is_ahead_of line past_report t place) past_report else past_report).wait ≡ past_report.wait
+        by_reached true = refl
+        by_reached false = refl
+
+    stood_missions : (u : ℕ) → (u ≡ t → ⊥) → stood.mission u ≡ v.mission u
+    stood_missions u apart = by_reached (has_reached line past_report t place) ∙ closed_other line t u behind_report apart ∙ put_other v.mission t u (option_map placed_there (v.mission t)) apart
+      where
+        by_reached : (b : Bool) → (if b then release line c t (is_ahead_of line past_report t place) past_report else past_report).mission u ≡ past_report.mission u
+        by_reached true = refl
+        by_reached false = refl
+
+    stood_others : (u : ℕ) → (u ≡ t → ⊥) → (s : ℕ) → given stood u s ≡ given v u s
+    stood_others u apart s = by_reached (has_reached line past_report t place) ∙ ap (λ (f : ℕ → Mark). is_given_to u (f s)) behind_marks ∙ report_moves.others u apart s
+      where
+        by_reached : (b : Bool) → given (if b then release line c t (is_ahead_of line past_report t place) past_report else past_report) u s ≡ given past_report u s
+        by_reached true = ahead_moves.others u apart s
+        by_reached false = refl
+
+    stopped_follow : position.v_train ≡ 0 → (new : LineState) → WaitsKeep line new → new ≡ ended t stood → Follows line new (change_stretch t (λ y. stands line position (reports line position y)) x)
+    stopped_follow still new keep so =
+        after_stretch new (λ y. stands line position (reports line position y)) x.stray old.founded keep (ap (λ (w : LineState). w.wait) so ∙ stood_wait)
+        (λ u apart s. ap (λ (w : LineState). is_given_to u (w.mark s)) so ∙ stood_others u apart s)
+        (λ u apart. ap (λ (w : LineState). w.mission u) so ∙ put_other stood.mission t u (option_map fin (stood.mission t)) apart ∙ stood_missions u apart)
+        (tied_as line (given stood t) (given new t) (option_map fin (stood.mission t)) (new.mission t) (option_map (stands line position) (option_map (reports line position) (x.stretch t)))
+        (option_map (λ y. stands line position (reports line position y)) (x.stretch t)) (x.asked t) (x.asked t) (λ s. ap (λ (w : LineState). is_given_to t (w.mark s)) so)
+        (ap (λ (w : LineState). w.mission t) so ∙ put_there stood.mission t (option_map fin (stood.mission t))) (both (x.stretch t)) refl
+        (ends (stood.mission t) (stood_tied still)))
+      where
+        fin : LineMission → LineMission
+        fin k = record k { is_ended = true; proposal = None }
+
+        both : (o : Option Stretch) → option_map (λ y. stands line position (reports line position y)) o ≡ option_map (stands line position) (option_map (reports line position) o)
+        both None = refl
+        both (Some y) = refl
+
+        ends : (o : Option LineMission) → Tied line (given stood t) o (option_map (stands line position) (option_map (reports line position) (x.stretch t))) (x.asked t)
+            → Tied line (given stood t) (option_map fin o) (option_map (stands line position) (option_map (reports line position) (x.stretch t))) (x.asked t)
+        ends None h = h
+        ends (Some k) h = remade line ok (given stood t) k (fin k) (option_map (stands line position) (option_map (reports line position) (x.stretch t))) (x.asked t) (x.asked t) refl (λ d p at stands. cc) (λ stamp at. refl) h
+
+  -- where it does not stand still, or has no place, nothing ahead is taken back
+  nothing_back : (position : Position) → ((y : Stretch) → x.stretch t ≡ Some y → stands line position (reports line position y) ≡ reports line position y)
+      → change_stretch t (reports line position) x ≡ change_stretch t (λ y. stands line position (reports line position y)) x
+  nothing_back position same = λ i. record x { stretch = put x.stretch t (by_stretch (x.stretch t) same i) }
+    where
+      by_stretch : (o : Option Stretch) → ((y : Stretch) → o ≡ Some y → stands line position (reports line position y) ≡ reports line position y)
+          → option_map (reports line position) o ≡ option_map (λ y. stands line position (reports line position y)) o
+      by_stretch None same = refl
+      by_stretch (Some y) same = ap (λ (z : Stretch). Some z) (sym (same y refl))
+
+  under_way_still : (position : Position) → (position.v_train == 0) ≡ false → (y : Stretch) → stands line position y ≡ y
+  under_way_still position moves y =
+      if_false (position.v_train == 0) (option_map_or (λ s. record y { end = min y.end (end line s) }) (option_and_then (λ place. last_before line place (section_count line)) (place_on line y.track position)) y) y moves
+
+  unplaced_still : (position : Position) (y : Stretch) → place_on line y.track position ≡ None → stands line position y ≡ y
+  unplaced_still position y none =
+      ap (λ (o : Option Place). if position.v_train == 0 then option_map_or (λ s. record y { end = min y.end (end line s) }) (option_and_then (λ place. last_before line place (section_count line)) o) y else y) none
+      ∙ by_still (position.v_train == 0)
+    where
+      by_still : (b : Bool) → (if b then y else y) ≡ y
+      by_still true = refl
+      by_still false = refl
+
   -- an end of mission that has no place
   ends_unplaced : (position : Position) (n : LineMission) (new : LineState) → v.mission t ≡ Some n → WaitsKeep line new → new ≡ ended t v → Follows line new (change_stretch t (reports line position) x)
   ends_unplaced position n new is keep so =
@@ -621,13 +737,22 @@ module _ (line : Line) (ok : IsLine line) (v : LineState) (x : View) (old : Foll
       silently said new (change_stretch t (reports line position) x) (ap (λ (p : Said). p.sayings) h.said_is)
       (reported_follow position n is place (sym (ap (λ (k : ℕ). place_on line k position) (track_is n is)) ∙ on) new keep h.new_is)
 
-  ending_follow : (position : Position) (o : Option Place) (n : LineMission) (said : Said) (new : LineState) → v.mission t ≡ Some n → place_on line (track_of v t) position ≡ o → WaitsKeep line new → Ending line t c o v said new
-      → Follows line new (all_told line c said.sayings (change_stretch t (reports line position) x))
-  ending_follow position None n said new is on keep h =
-      silently said new (change_stretch t (reports line position) x) (ap (λ (p : Said). p.sayings) h.said_is) (ends_unplaced position n new is keep h.new_is)
-  ending_follow position (Some place) n said new is on keep h =
-      silently said new (change_stretch t (reports line position) x) (ap (λ (p : Said). p.sayings) h.said_is)
-      (ended_follow position n is place (sym (ap (λ (k : ℕ). place_on line k position) (track_is n is)) ∙ on) new keep h.new_is)
+  ending_follow : (position : Position) (b : Bool) (o : Option Place) (n : LineMission) (said : Said) (new : LineState) → (position.v_train == 0) ≡ b → v.mission t ≡ Some n → place_on line (track_of v t) position ≡ o
+      → WaitsKeep line new → Ending line t c b o v said new → Follows line new (all_told line c said.sayings (change_stretch t (λ y. stands line position (reports line position y)) x))
+  ending_follow position b None n said new still is on keep h =
+      let w = (old.tied t).way n is in
+      let none : place_on line w.x.track position ≡ None = ap (λ (k : ℕ). place_on line k position) (w.track ∙ sym (track_is n is)) ∙ on in
+      silently said new (change_stretch t (λ y. stands line position (reports line position y)) x) (ap (λ (p : Said). p.sayings) h.said_is)
+      (subst (Follows line new) (nothing_back position (λ y there. unplaced_still position (reports line position y)
+      (ap (λ (k : ℕ). place_on line k position) ((reports_keep line ok position y).0 ∙ ap (λ (z : Stretch). z.track) (same_Some y w.x (sym there ∙ w.is))) ∙ none)))
+      (ends_unplaced position n new is keep h.new_is))
+  ending_follow position false (Some place) n said new moves is on keep h =
+      silently said new (change_stretch t (λ y. stands line position (reports line position y)) x) (ap (λ (p : Said). p.sayings) h.said_is)
+      (subst (Follows line new) (nothing_back position (λ y there. under_way_still position moves (reports line position y)))
+      (ended_follow position n is place (sym (ap (λ (k : ℕ). place_on line k position) (track_is n is)) ∙ on) new keep h.new_is))
+  ending_follow position true (Some place) n said new still is on keep h =
+      silently said new (change_stretch t (λ y. stands line position (reports line position y)) x) (ap (λ (p : Said). p.sayings) h.said_is)
+      (stopped_follow position n is place (sym (ap (λ (k : ℕ). place_on line k position) (track_is n is)) ∙ on) (eqb-true position.v_train 0 still) new keep h.new_is)
 
   pub own_follows : (body : TrainBody) (said : Said) (new : LineState) → Fair body → Own line v c m body said new → Follows line new (all_told line c said.sayings (outside.says line c m body x))
   own_follows InitiationOfSession said new fair h =
@@ -666,23 +791,32 @@ module _ (line : Line) (ok : IsLine line) (v : LineState) (x : View) (old : Foll
       (after_change new (λ k. record k { proposal = None }) (keep_of (ShorteningRejected stamp position) said new h) (ap (λ (w : LineState). w.wait) h.new_is) (ap (λ (w : LineState). w.mark) h.new_is) (ap (λ (w : LineState). w.mission) h.new_is)
       (λ k. refl) (λ k. refl) (λ k p stands. cc) (λ k none. refl))
   own_follows (EndOfMission position) said new fair h =
-      ending_follow position (place_on line (track_of v t) position) fair.m said new fair.of_train refl (keep_of (EndOfMission position) said new h) h
+      ending_follow position (position.v_train == 0) (place_on line (track_of v t) position) fair.m said new refl fair.of_train refl (keep_of (EndOfMission position) said new h) h
 
   -- ## What is shut stays shut
 
-  reports_shut : (o : Option Place) (said : Said) (new : LineState) → Reports line t c o v said new → (s : ℕ) → v.mark s ≡ Shut → new.mark s ≡ Shut
-  reports_shut None said new h s shut = ap (λ (w : LineState). w.mark s) h.new_is ∙ shut
-  reports_shut (Some place) said new h s shut = ap (λ (w : LineState). w.mark s) h.new_is
-      ∙ ap (λ (f : ℕ → Mark). f s) (closed_mark (list_any (λ s. is_given_to t ((release line c t (is_cleared_of line v t place) v).mark s)) (range_with_len 0 (section_count line)))
+  reported_shut : (place : Place) (s : ℕ) → v.mark s ≡ Shut → (reported line t c place v).mark s ≡ Shut
+  reported_shut place s shut =
+      ap (λ (f : ℕ → Mark). f s) (closed_mark (list_any (λ s. is_given_to t ((release line c t (is_cleared_of line v t place) v).mark s)) (range_with_len 0 (section_count line)))
       (change_mission t (λ k. record k { place = place }) (release line c t (is_cleared_of line v t place) v)) (set_mission t None (change_mission t (λ k. record k { place = place }) (release line c t (is_cleared_of line v t place) v))) refl)
       ∙ (released_moves line c t (is_cleared_of line v t place) v (λ s so. (and_parts (is_given_to t (v.mark s)) (is_cleared line place s) so).0)).shut s shut
 
-  ending_shut : (o : Option Place) (said : Said) (new : LineState) → Ending line t c o v said new → (s : ℕ) → v.mark s ≡ Shut → new.mark s ≡ Shut
-  ending_shut None said new h s shut = ap (λ (w : LineState). w.mark s) h.new_is ∙ shut
-  ending_shut (Some place) said new h s shut = ap (λ (w : LineState). w.mark s) h.new_is
-      ∙ ap (λ (f : ℕ → Mark). f s) (closed_mark (list_any (λ s. is_given_to t ((release line c t (is_cleared_of line v t place) v).mark s)) (range_with_len 0 (section_count line)))
-      (change_mission t (λ k. record k { place = place }) (release line c t (is_cleared_of line v t place) v)) (set_mission t None (change_mission t (λ k. record k { place = place }) (release line c t (is_cleared_of line v t place) v))) refl)
-      ∙ (released_moves line c t (is_cleared_of line v t place) v (λ s so. (and_parts (is_given_to t (v.mark s)) (is_cleared line place s) so).0)).shut s shut
+  reports_shut : (o : Option Place) (said : Said) (new : LineState) → Reports line t c o v said new → (s : ℕ) → v.mark s ≡ Shut → new.mark s ≡ Shut
+  reports_shut None said new h s shut = ap (λ (w : LineState). w.mark s) h.new_is ∙ shut
+  reports_shut (Some place) said new h s shut = ap (λ (w : LineState). w.mark s) h.new_is ∙ reported_shut place s shut
+
+  stopped_shut : (place : Place) (s : ℕ) → v.mark s ≡ Shut → (stopped line t c place (reported line t c place v)).mark s ≡ Shut
+  stopped_shut place s shut = by_reached (has_reached line (reported line t c place v) t place)
+    where
+      by_reached : (b : Bool) → (if b then release line c t (is_ahead_of line (reported line t c place v) t place) (reported line t c place v) else reported line t c place v).mark s ≡ Shut
+      by_reached false = reported_shut place s shut
+      by_reached true = (released_moves line c t (is_ahead_of line (reported line t c place v) t place) (reported line t c place v)
+          (λ e so. (and_parts (is_given_to t ((reported line t c place v).mark e)) (nat_le place.front (10 * start line e)) so).0)).shut s (reported_shut place s shut)
+
+  ending_shut : (b : Bool) (o : Option Place) (said : Said) (new : LineState) → Ending line t c b o v said new → (s : ℕ) → v.mark s ≡ Shut → new.mark s ≡ Shut
+  ending_shut b None said new h s shut = ap (λ (w : LineState). w.mark s) h.new_is ∙ shut
+  ending_shut false (Some place) said new h s shut = ap (λ (w : LineState). w.mark s) h.new_is ∙ reported_shut place s shut
+  ending_shut true (Some place) said new h s shut = ap (λ (w : LineState). w.mark s) h.new_is ∙ stopped_shut place s shut
 
   shortened_shut : (o : Option Place) (last : ℕ) (new : LineState) → new ≡ shortened line t c o last (without_ask t v) → (s : ℕ) → v.mark s ≡ Shut → new.mark s ≡ Shut
   shortened_shut None last new so s shut = ap (λ (w : LineState). w.mark s) so ∙ shut
@@ -733,4 +867,4 @@ module _ (line : Line) (ok : IsLine line) (v : LineState) (x : View) (old : Foll
   own_shut (Report position) said new h s shut = by_test (supervises v c t) _ _ (λ _ r. reports_shut (place_on line (track_of v t) position) said new r s shut) (λ _ n. ap (λ (w : LineState). w.mark s) n.new_is ∙ shut) h
   own_shut (ShorteningGranted stamp position) said new h s shut = shortened_shut (place_on line (track_of v t) position) (last_kept_of v t) new h.new_is s shut
   own_shut (ShorteningRejected stamp position) said new h s shut = ap (λ (w : LineState). w.mark s) h.new_is ∙ shut
-  own_shut (EndOfMission position) said new h s shut = ending_shut (place_on line (track_of v t) position) said new h s shut
+  own_shut (EndOfMission position) said new h s shut = ending_shut (position.v_train == 0) (place_on line (track_of v t) position) said new h s shut

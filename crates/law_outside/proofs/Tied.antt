@@ -181,7 +181,7 @@ module _ (line : Line) (ok : IsLine line) where
 
   -- ## Reports
 
-  reports_keep : (position : Position) (x : Stretch) → ((reports line position x).track ≡ x.track) × ((reports line position x).end ≡ x.end) × ((n : ℕ) → int_lt (reports line position x).rear (pos n) ≡ true → int_lt x.rear (pos n) ≡ true)
+  pub reports_keep : (position : Position) (x : Stretch) → ((reports line position x).track ≡ x.track) × ((reports line position x).end ≡ x.end) × ((n : ℕ) → int_lt (reports line position x).rear (pos n) ≡ true → int_lt x.rear (pos n) ≡ true)
   reports_keep position x = by_rear (option_and_then (λ place. place.rear) (place_on line x.track position))
     where
       by_later : (rear : ℤ) (b : Bool) → int_lt x.rear rear ≡ b → ((if b then record x { rear = rear } else x).track ≡ x.track) × ((if b then record x { rear = rear } else x).end ≡ x.end)

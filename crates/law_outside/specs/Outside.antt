@@ -1,11 +1,11 @@
 -- What the world outside sees of the centres of a line: what trains say and are told, and what the interlocking does and is told. No state of
 -- a centre occurs here, no frame, and no word of the one line centre.
-use Rattle.std.specs.Prelude.{◌≡◌, ℕ, ◌+◌, ◌*◌, ◌==◌, Bool, true, false, ◌&&◌, ◌||◌, not, if◌then◌else◌, List, [], ◌∷◌, ◌++◌, min, Option, Some, None, option_map, option_and_then, ◌-◌, nat_lt, nat_le, ℤ, pos, int_lt, Ok}
+use Rattle.std.specs.Prelude.{◌≡◌, ℕ, zero, suc, ◌+◌, ◌*◌, ◌==◌, Bool, true, false, ◌&&◌, ◌||◌, not, if◌then◌else◌, List, [], ◌∷◌, ◌++◌, min, Option, Some, None, option_map, option_and_then, ◌-◌, nat_lt, nat_le, ℤ, pos, int_lt, Ok}
 use Rattle.std.specs.Option.{option_map_or}
 use Rattle.rbc_spec.specs.Maps.{has, put, put_pair}
 use Rattle.rbc_spec.specs.SectionRuns.{behind}
 use Rattle.rbc_spec.specs.Line.{Line, IsLine, section_of_group, start, end}
-use Rattle.rbc_spec.specs.Sections.{is_on}
+use Rattle.rbc_spec.specs.Sections.{is_on, section_count}
 use Rattle.rbc_spec.specs.Place.{Place, Position, covered, fit_place, place_on}
 use Rattle.rbc_spec.specs.Message.{TrainMessage, TrainBody, Report, ShorteningGranted, EndOfMission, StartOfMission, TrackBody, Authority, ShorteningRequest, TrainAccepted}
 use Rattle.rbc_spec.specs.Outcome.{Outcome, Saying, Word, Done, Told}
@@ -59,10 +59,22 @@ abbrev pub grants : Line → Position → ℕ → Stretch → Stretch
 grants line position end x = option_map_or
     (λ place. if nat_le place.front (10 * end) then record x { end = min x.end end } else x) (place_on line x.track position) x
 
+-- the last of the track's sections below n that begins before the front of the place
+unfoldable pub last_before : Line → Place → ℕ → Option ℕ
+last_before line place zero = None
+last_before line place (suc n) = if is_on line place.track n && nat_lt (10 * start line n) place.front then Some n else last_before line place n
+
+-- an end of mission at standstill takes back what lies ahead: what begins at the front or past it
+abbrev pub stands : Line → Position → Stretch → Stretch
+stands line position x =
+    if position.v_train == 0
+    then option_map_or (λ s. record x { end = min x.end (end line s) }) (option_and_then (λ place. last_before line place (section_count line)) (place_on line x.track position)) x
+    else x
+
 abbrev pub says : Line → ℕ → TrainMessage → TrainBody → View → View
 says line c m (StartOfMission is_valid position) v = record v { start = put_pair v.start m.nid_engine c (fit_place line is_valid position) }
 says line c m (Report position) v = change_stretch m.nid_engine (reports line position) v
-says line c m (EndOfMission position) v = change_stretch m.nid_engine (reports line position) v
+says line c m (EndOfMission position) v = change_stretch m.nid_engine (λ x. stands line position (reports line position x)) v
 says line c m (ShorteningGranted stamp position) v =
     option_map_or (λ end. change_stretch m.nid_engine (grants line position end) v) (v.asked m.nid_engine c stamp) v
 says line c m body v = v

@@ -11,9 +11,9 @@ use Rattle.rbc_spec.specs.Frame.{Frame, Body, AskRight, GiveRight, RefuseRight, 
 use Rattle.rbc_spec.specs.Outcome as outcome
 use Rattle.rbc_spec.specs.Outcome.{Next, Old, Early, NoLink}
 use Rattle.rbc_spec.specs.Centre.{Centre, Mission, Handing, Out, is_taken_for, is_open, is_registrar_of, is_up}
-use Rattle.rbc_spec.specs.Acts.{Act, Reply, rest, become, ◌>>◌, where_so, with_some, send, say, hear, booked, freed, returned, is_of_two, part_at, change_mission, set_mission, cancel, close, return_right, leave, may_propose, propose, propose_if_so, end_order, yield, yield_if_due}
+use Rattle.rbc_spec.specs.Acts.{Act, Reply, rest, become, ◌>>◌, where_so, with_some, send, say, hear, booked, freed, returned, part_at, change_mission, set_mission, cancel, close, return_right, leave, may_propose, propose, propose_if_so, end_order, yield}
 use Rattle.rbc_spec.specs.Rules.{choose, drop_wait, begin, reject, close_session, cleared, clear, report_here, take_over, report, answered}
-use Rattle.rbc_spec.specs.Links.{answered_ask, right_asked, right_given, right_refused, right_returned, lendable, route_asked, is_wanted, route_told, route_withdrawn, route_returned, expect, announced, cancelled, is_under, claimed}
+use Rattle.rbc_spec.specs.Links.{answered_ask, right_asked, right_given, right_refused, right_returned, lendable, route_asked, is_wanted, route_told, route_withdrawn, route_returned, expect, announced, cancelled, is_under}
 use Rattle.rbc_spec.specs.Links.{taking_over, may_take, take_mission, yielded, is_train, of_train, received}
 use Rattle.rbc_spec.specs.Step.{hear_and_answer, taken_by}
 use Rattle.law_progress.specs.Ends.{IsSessionOrReport}
@@ -87,8 +87,8 @@ module _ (line : Line) (c : ℕ) where
   keeps_yield : (t : ℕ) (m : Mission) (h : Handing) → Keeps (yield line c t m h)
   keeps_yield t m h k = both _ _ (both _ _ (both _ _ (λ j. still j _ refl) (λ j. still j _ refl)) (both _ _ (λ j. still j _ refl) (λ j. still j _ refl))) (if_act (is_empty (part_at line c m.place.track m.hand)) (end_order line c t) rest (keeps_end t) rests) k
 
-  keeps_yield_if : (t : ℕ) → Keeps (yield_if_due line c t)
-  keeps_yield_if t = some_act (λ k. k.mission t) _ (λ m. some_act (λ k. m.handing) _ (λ h. when (λ k. h.is_claimed && is_of_two line c h.to m.hand) (yield line c t m h) (keeps_yield t m h)))
+  keeps_over : (d number t : ℕ) → Keeps (taking_over line c d number t)
+  keeps_over d number t = some_act (λ k. k.mission t) _ (λ m. some_act (λ k. m.handing) _ (λ h. when (λ k. (h.number == number) && (h.to == d)) (yield line c t m h) (keeps_yield t m h)))
 
   -- ## A frame that is taken
 
@@ -104,7 +104,7 @@ module _ (line : Line) (c : ℕ) where
   keeps_refused t = when (λ k. k.has_asked t) _ (both (answered_ask t) _ (λ k. still k _ refl) (when (λ k. is_some (k.wait t)) (drop_wait line c t >> reject t) (both (drop_wait line c t) (reject t) (keeps_drop t) (λ k. still k _ refl))))
 
   keeps_lent : (d t first most : ℕ) → Keeps (route_asked line c d t first most)
-  keeps_lent d t first most k = when (λ j. is_some (section line first)) (booked is_open (Out t d) (lendable line c k first most) >> send d (RouteInfo t (lendable line c k first most))) (both _ _ (λ j. still j _ refl) (λ j. still j _ refl)) k
+  keeps_lent d t first most k = when (λ j. is_some (section line first)) (booked is_open (Out t) (lendable line c k first most) >> send d (RouteInfo t (lendable line c k first most))) (both _ _ (λ j. still j _ refl) (λ j. still j _ refl)) k
 
   keeps_told : (d t : ℕ) (r : SectionRun) → Keeps (route_told line c d t r)
   keeps_told d t r = when _ _ (both _ _ (λ k. still k _ refl) (chosen (λ k. has (is_wanted line r) (k.mission t)) (change_mission t (λ m. record m { pool = r })) (if is_empty r then rest else send d (RouteReturn t r))
@@ -114,7 +114,7 @@ module _ (line : Line) (c : ℕ) where
   keeps_withdrawn t s = some_act (λ k. k.mission t) _ (λ m. if_act (within m.pool s) (returned line c t m.place.track (part_from s m.pool) >> change_mission t (λ n. record n { pool = part_before s n.pool })) (propose_if_so line t s)
       (both _ _ (λ k. still k _ refl) (λ k. still k _ refl)) (keeps_propose t s))
 
-  keeps_home : (d t : ℕ) (r : SectionRun) → Keeps (route_returned line c d t r)
+  keeps_home : (d t : ℕ) (r : SectionRun) → Keeps (route_returned line c t r)
   keeps_home d t r = both _ _ (λ k. still k _ refl) (when _ (end_order line c t) (keeps_end t))
 
   keeps_taken : (d t heard : ℕ) (m : Mission) → Keeps (take_mission line c d t heard m)
@@ -134,10 +134,10 @@ module _ (line : Line) (c : ℕ) where
   received_keeps d (RouteAsk t first most) = of_train_keeps t (route_asked line c d t first most) (keeps_lent d t first most)
   received_keeps d (RouteInfo t r) = of_train_keeps t (route_told line c d t r) (keeps_told d t r)
   received_keeps d (RouteWithdraw t s) = of_train_keeps t _ (if_so_keeps (is_some (section line s)) (route_withdrawn line c t s) (keeps_withdrawn t s))
-  received_keeps d (RouteReturn t r) = of_train_keeps t _ (if_so_keeps (all_of (λ s. is_some (section line s)) r) (route_returned line c d t r) (keeps_home d t r))
+  received_keeps d (RouteReturn t r) = of_train_keeps t _ (if_so_keeps (all_of (λ s. is_some (section line s)) r) (route_returned line c t r) (keeps_home d t r))
   received_keeps d (Announce number t track) = of_train_keeps t _ (if_so_keeps (nat_lt track (length line.tracks)) (announced d number t) (when (λ k. is_none (k.expects d t)) (expect d t (Some (record { number = number; is_taking = false }))) (λ k. still k _ refl)))
   received_keeps d (Cancel number t) = of_train_keeps t (cancelled d number t) (when (λ k. is_under number (k.expects d t)) (expect d t None) (λ k. still k _ refl))
-  received_keeps d (TakingOver number t) = of_train_keeps t (taking_over line c d number t) (both (change_mission t (claimed d number)) (yield_if_due line c t) (λ k. still k _ refl) (keeps_yield_if t))
+  received_keeps d (TakingOver number t) = of_train_keeps t (taking_over line c d number t) (keeps_over d number t)
   received_keeps d (Yield number t heard has_data is_ended place hand) = of_train_keeps t _ (or_act (carried_place place) (yielded line c d number t hand heard has_data is_ended) rest
       (λ at. when (λ k. may_take line c k d number t at hand) _ (keeps_taken d t heard (record { place = at; hand = hand; pool = no_run; has_data = has_data; is_ended = is_ended; proposal = None; handing = None }))) rests)
 
@@ -166,8 +166,8 @@ module _ (line : Line) (c : ℕ) where
       (both _ _ (keeps_leave t m.place.track (cleared line place m)) (λ k. still k _ refl))
 
   keeps_report : (t : ℕ) (position : Position) → Keeps (report line c t position)
-  keeps_report t position k = of_reply (k.mission t) (λ m. (report_here line c t position m >> yield_if_due line c t) k) (take_over line t k) k
-      (λ m. both (report_here line c t position m) (yield_if_due line c t) (or_act (place_on line m.place.track position) (clear line c t m) rest (keeps_clear t m) rests) (keeps_yield_if t) k) (still k (take_over line t k) refl)
+  keeps_report t position k = of_reply (k.mission t) (λ m. report_here line c t position m k) (take_over line t k) k
+      (λ m. or_act (place_on line m.place.track position) (clear line c t m) rest (keeps_clear t m) rests k) (still k (take_over line t k) refl)
 
   pub keeps_session : (t : ℕ) → Keeps (close_session line c t)
   keeps_session t = both _ _ (both _ _ (λ k. still k _ refl) (λ k. still k _ refl)) (keeps_drop t)

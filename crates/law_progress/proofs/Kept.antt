@@ -19,7 +19,7 @@ use Rattle.law_base.proofs.Puts.{itself, put_keeps}
 use Rattle.law_local.proofs.Worlds.{world_of}
 use Rattle.law_network.specs.Flow.{Flow, flow_of}
 use Rattle.law_network.specs.Pairs.{follows, handing_to, announces, count_if}
-use Rattle.law_handover.specs.Orderly.{number_announced, IsOrderly, IsTakenWith}
+use Rattle.law_handover.specs.Orderly.{number_announced, IsTakenWith, Allowance, IsOrderlyWith}
 use Rattle.law_handover.specs.Steps.{left_by, sent_by}
 use Rattle.law_handover.specs.Worlds.{IsWorldSound}
 use Rattle.law_handover.proofs.Steps.{step_orderly, step_taken}
@@ -100,7 +100,7 @@ module _ (t : ℕ) where
 -- ## An act
 
 module _ (t : ℕ) where
-  orderly_none : (k y : Centre) (frames : ℕ → List Body) → IsOrderly k y frames → y.announced ≡ k.announced → is_handing (k.mission t) ≡ false → is_handing (y.mission t) ≡ false
+  orderly_none : {allow : Allowance} (k y : Centre) (frames : ℕ → List Body) → IsOrderlyWith allow k y frames → y.announced ≡ k.announced → is_handing (k.mission t) ≡ false → is_handing (y.mission t) ≡ false
   orderly_none k y frames is same none = none_from (y.mission t) (λ d. none_after t (frames d) (number_announced (handing_to d (y.mission t))) (λ h. counted d h (is.anew d t h))
       (subst (λ x. after_all (follows t) (frames d) x ≡ Some (number_announced (handing_to d (y.mission t)))) (none_to d (k.mission t) none) (is.leads d t).leads))
     where

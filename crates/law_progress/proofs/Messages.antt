@@ -11,7 +11,7 @@ use Rattle.rbc_spec.specs.Message.{TrainMessage, TrainBody, Report, InitiationOf
 use Rattle.rbc_spec.specs.Frame.{Frame, Cancel, ReturnRight}
 use Rattle.rbc_spec.specs.Outcome.{Outcome, Reason, ForeignEngine, StaleStamp, NoSession, WrongPhase, NotSupervised, NoPlace}
 use Rattle.rbc_spec.specs.Centre.{Centre, Mission, Handing, Phase, Closed, Opened, Up, is_closed, is_up, is_taken_for, is_registrar_of}
-use Rattle.rbc_spec.specs.Acts.{rest, become, ◌>>◌, where_so, with_some, send, freed, leave, set_mission, change_mission, cancel, close, return_right, is_of_two, yield, yield_if_due}
+use Rattle.rbc_spec.specs.Acts.{rest, become, ◌>>◌, send, freed, leave, set_mission, change_mission, cancel, close, return_right}
 use Rattle.rbc_spec.specs.Rules.{drop_wait, cleared, clear, report_here, take_over, report}
 use Rattle.rbc_spec.specs.Step.{Effect, Refusal, Train, step, refusal, taken, hear_and_answer, silence, is_awaited, mission_has, frames_of, ticked}
 use Rattle.rbc_spec.specs.World.{World, Bytes, Answer, NoCentre, mention, stepped, takes, world_step}
@@ -99,9 +99,6 @@ module _ (line : Line) (c t : ℕ) where
   unfolding ◌>>◌
   close_none m j = ap (λ (g : ℕ → Option Mission). g t) (back_mission (cancel t m (set_mission t None j).state).state) ∙ cancel_none m (set_mission t None j).state (put_there j.mission t None)
 
-  yield_none : (j : Centre) → j.mission t ≡ None → (yield_if_due line c t j).state.mission t ≡ None
-  yield_none j none = ap (λ (o : Option Mission). (option_map_or (λ m. with_some (λ i. m.handing) (λ h. where_so (λ i. h.is_claimed && is_of_two line c h.to m.hand) (yield line c t m h)) j) o (rest j)).state.mission t) none ∙ none
-
   module _ (m : Mission) (p : Position) (new : Place) (placed : place_on line m.place.track p ≡ Some new) (all : passing (is_cleared line new) m.hand ≡ m.hand.count) (k : Centre) where
     clear_none : (clear line c t m new k).state.mission t ≡ None
     unfolding ◌>>◌
@@ -114,8 +111,7 @@ module _ (line : Line) (c t : ℕ) where
 
     report_none : k.mission t ≡ Some m → (report line c t p k).state.mission t ≡ None
     unfolding ◌>>◌
-    report_none has = ap (λ (o : Option Mission). (option_map_or (λ n. (report_here line c t p n >> yield_if_due line c t) k) o (take_over line t k)).state.mission t) has
-        ∙ yield_none (report_here line c t p m k).state here_none
+    report_none has = ap (λ (o : Option Mission). (option_map_or (λ n. report_here line c t p n k) o (take_over line t k)).state.mission t) has ∙ here_none
 
 -- ## A step
 

@@ -1,5 +1,5 @@
 -- The head of a link can be delivered, and is less work then.
-use Rattle.std.proofs.Common.{◌≡◌, ◌≢◌, ℕ, zero, suc, ◌+◌, ◌-◌, ◌<◌, ◌≤◌, ◌==◌, ◌&&◌, ◌||◌, not, Bool, true, false, if◌then◌else◌, List, [], ◌∷◌, map, drop, slice_get, nat_le, Option, Some, None, Ok, Err, refl, sym, ap, ◌∙◌, subst, arith, ⊎_elim, ne_eqb, ltb-true, All}
+use Rattle.std.proofs.Common.{◌≡◌, ◌≢◌, ℕ, zero, suc, ◌+◌, ◌-◌, ◌<◌, ◌≤◌, ◌==◌, ◌&&◌, not, Bool, true, false, if◌then◌else◌, List, [], ◌∷◌, map, drop, slice_get, nat_le, Option, Some, None, Ok, Err, refl, sym, ap, ◌∙◌, subst, arith, ⊎_elim, ne_eqb, ltb-true, All}
 use Rattle.std.specs.Option.{option_map_or}
 use Rattle.std.proofs.lemmas.Bool.{cases_eq}
 use Rattle.std.proofs.lemmas.Option.{same_Some}
@@ -10,7 +10,7 @@ use Rattle.law_counting.proofs.Network.{counted_took}
 use Rattle.law_counting.proofs.Places.{placed_parts}
 use Rattle.law_counting.proofs.Resource.{placed_acted, placed_took, carried_none}
 use Rattle.rbc_spec.specs.Maps.{put}
-use Rattle.rbc_spec.specs.Line.{Line, is_centre, is_border, is_registrar, is_linked}
+use Rattle.rbc_spec.specs.Line.{Line, is_centre, is_linked}
 use Rattle.rbc_spec.specs.Frame.{Frame}
 use Rattle.rbc_spec.specs.Outcome.{Outcome, Next, Old, Early, NoLink}
 use Rattle.rbc_spec.specs.Outcome as outcome
@@ -38,12 +38,6 @@ use Rattle.law_quiescence.proofs.Sends.{load, left_of, less_left, Sends, receive
 
 -- ## Links go both ways
 
-or_swap : (p q : Bool) → (p || q) ≡ (q || p)
-or_swap true true = refl
-or_swap true false = refl
-or_swap false true = refl
-or_swap false false = refl
-
 and_swap : (p q : Bool) → (p && q) ≡ (q && p)
 and_swap true true = refl
 and_swap true false = refl
@@ -57,10 +51,7 @@ pub linked_back : (line : Line) (a b : ℕ) → is_linked line a b ≡ true → 
 linked_back line a b is = sym same ∙ is
   where
     same : is_linked line a b ≡ is_linked line b a
-    same = ap (λ x. (x && not (a == b)) && ((is_border line a b || is_border line b a) || (is_registrar line a || is_registrar line b))) (and_swap (is_centre line a) (is_centre line b))
-        ∙ ap (λ x. ((is_centre line b && is_centre line a) && not x) && ((is_border line a b || is_border line b a) || (is_registrar line a || is_registrar line b))) (same_swap a b)
-        ∙ ap (λ x. ((is_centre line b && is_centre line a) && not (b == a)) && (x || (is_registrar line a || is_registrar line b))) (or_swap (is_border line a b) (is_border line b a))
-        ∙ ap (λ x. ((is_centre line b && is_centre line a) && not (b == a)) && ((is_border line b a || is_border line a b) || x)) (or_swap (is_registrar line a) (is_registrar line b))
+    same = ap (λ x. x && not (a == b)) (and_swap (is_centre line a) (is_centre line b)) ∙ ap (λ x. (is_centre line b && is_centre line a) && not x) (same_swap a b)
 
 -- ## The head of a link
 

@@ -13,9 +13,9 @@ use Rattle.rbc_spec.specs.Place.{Place, covered}
 use Rattle.rbc_spec.specs.Message.{EndSession, unknown_group}
 use Rattle.rbc_spec.specs.Frame.{Body, AskRight, GiveRight, RefuseRight, ReturnRight, RouteAsk, RouteInfo, RouteWithdraw, RouteReturn, Announce, Cancel, TakingOver, Yield, yielded_place, carried_place}
 use Rattle.rbc_spec.specs.Centre.{Centre, Out, Mission, Handing, is_open, is_taken_for, is_registrar_of, is_up}
-use Rattle.rbc_spec.specs.Acts.{Act, Reply, rest, become, ◌>>◌, where_so, with_some, send, say, booked, freed, returned, change_mission, return_right, may_propose, propose, propose_if_so, end_order, is_of_two, yield, yield_if_due, part_at}
+use Rattle.rbc_spec.specs.Acts.{Act, Reply, rest, become, ◌>>◌, where_so, with_some, send, say, booked, freed, returned, change_mission, return_right, may_propose, propose, propose_if_so, end_order, yield, part_at}
 use Rattle.rbc_spec.specs.Rules.{choose, drop_wait, begin, reject}
-use Rattle.rbc_spec.specs.Links.{answered_ask, right_asked, right_given, right_refused, right_returned, lendable, route_asked, is_wanted, route_told, route_withdrawn, route_returned, expect, announced, cancelled, is_under, claimed}
+use Rattle.rbc_spec.specs.Links.{answered_ask, right_asked, right_given, right_refused, right_returned, lendable, route_asked, is_wanted, route_told, route_withdrawn, route_returned, expect, announced, cancelled, is_under}
 use Rattle.rbc_spec.specs.Links.{taking_over, may_take, take_mission, yielded, is_train, of_train, received}
 use Rattle.law_network.specs.Flow.{centre_count}
 use Rattle.law_no_unasked.proofs.Asking.{one_sent}
@@ -148,8 +148,8 @@ module _ (line : Line) (c : ℕ) where
       (both _ _ (λ j. quiet _ refl) (sends_one h.to (Yield h.number t (option_map_or (λ n. n) (k.heard t) 0) m.has_data m.is_ended (yielded_place m.place) m.hand))))
       (if_act (is_empty (part_at line c m.place.track m.hand)) (end_order line c t) rest (λ so. sends_end t) (λ so. sends_rest)) k)
 
-  sends_yield_if : (t : ℕ) → Each (centre_count line + 1) (yield_if_due line c t)
-  sends_yield_if t = some_act (λ k. k.mission t) _ (λ m. some_act (λ k. m.handing) _ (λ h. when (λ k. h.is_claimed && is_of_two line c h.to m.hand) (yield line c t m h) (sends_yield t m h)))
+  sends_over : (d number t : ℕ) → Each (centre_count line + 1) (taking_over line c d number t)
+  sends_over d number t = some_act (λ k. k.mission t) _ (λ m. some_act (λ k. m.handing) _ (λ h. when (λ k. (h.number == number) && (h.to == d)) (yield line c t m h) (sends_yield t m h)))
 
   -- ## A frame that is taken
 
@@ -175,7 +175,7 @@ module _ (line : Line) (c : ℕ) where
       by_registrar false away = rw away (sends_rest k)
 
   sends_lent : (d t first most : ℕ) → Each 2 (route_asked line c d t first most)
-  sends_lent d t first most k = when (λ j. is_some (section line first)) (booked is_open (Out t d) (lendable line c k first most) >> send d (RouteInfo t (lendable line c k first most)))
+  sends_lent d t first most k = when (λ j. is_some (section line first)) (booked is_open (Out t) (lendable line c k first most) >> send d (RouteInfo t (lendable line c k first most)))
       (behind _ _ (λ j. quiet _ refl) (sends_one d (RouteInfo t (lendable line c k first most)))) k
 
   sends_told : (d t : ℕ) (r : SectionRun) → Each 1 (route_told line c d t r)
@@ -187,7 +187,7 @@ module _ (line : Line) (c : ℕ) where
       (λ in_pool k. more (centre_count line + 0) (centre_count line) _ (omega arith) (both _ _ (sends_returned t m.place.track (part_from s m.pool)) (λ j. quiet _ refl) k))
       (λ not_in k. more 0 (centre_count line) _ (omega arith) (sends_propose t s k)))
 
-  sends_home : (d t : ℕ) (r : SectionRun) → Each 0 (route_returned line c d t r)
+  sends_home : (d t : ℕ) (r : SectionRun) → Each 0 (route_returned line c t r)
   sends_home d t r = both _ _ (λ k. quiet _ refl) (when _ (end_order line c t) (sends_end t))
 
   sends_taken : (d t heard : ℕ) (m : Mission) → Each 0 (take_mission line c d t heard m)
@@ -207,10 +207,10 @@ module _ (line : Line) (c : ℕ) where
   received_sends d (RouteAsk t first most) = of_train_sends t (route_asked line c d t first most) (sends_lent d t first most)
   received_sends d (RouteInfo t r) = of_train_sends t (route_told line c d t r) (sends_told d t r)
   received_sends d (RouteWithdraw t s) = of_train_sends t _ (if_so_sends (is_some (section line s)) (route_withdrawn line c t s) (sends_withdrawn t s))
-  received_sends d (RouteReturn t r) = of_train_sends t _ (if_so_sends (all_of (λ s. is_some (section line s)) r) (route_returned line c d t r) (sends_home d t r))
+  received_sends d (RouteReturn t r) = of_train_sends t _ (if_so_sends (all_of (λ s. is_some (section line s)) r) (route_returned line c t r) (sends_home d t r))
   received_sends d (Announce number t track) = of_train_sends t _ (if_so_sends (nat_lt track (length line.tracks)) (announced d number t)
       (when (λ k. is_none (k.expects d t)) (expect d t (Some (record { number = number; is_taking = false }))) (λ k. quiet _ refl)))
   received_sends d (Cancel number t) = of_train_sends t (cancelled d number t) (when (λ k. is_under number (k.expects d t)) (expect d t None) (λ k. quiet _ refl))
-  received_sends d (TakingOver number t) = of_train_sends t (taking_over line c d number t) (behind (change_mission t (claimed d number)) (yield_if_due line c t) (λ k. quiet _ refl) (sends_yield_if t))
+  received_sends d (TakingOver number t) = of_train_sends t (taking_over line c d number t) (sends_over d number t)
   received_sends d (Yield number t heard has_data is_ended place hand) = of_train_sends t _ (or_act (carried_place place) (yielded line c d number t hand heard has_data is_ended) rest
       (λ at. when (λ k. may_take line c k d number t at hand) _ (sends_taken d t heard (record { place = at; hand = hand; pool = no_run; has_data = has_data; is_ended = is_ended; proposal = None; handing = None }))) sends_rest)

@@ -1,14 +1,14 @@
 -- What a line's order and its limits give of the ranges of engines, sections, runs and links.
-use Rattle.std.proofs.Common.{◌≡◌, ◌≢◌, ◌⊎◌, inl, inr, ℕ, ◌+◌, ◌-◌, ◌<◌, ◌≤◌, ◌==◌, ◌&&◌, ◌||◌, not, cond, Bool, true, false, List, [], ◌∷◌, length, get_or, Option, Some, None, option_map, is_some, refl, sym, ap, ◌∙◌, subst, arith, ⊎_elim, All, eqb-true, eq-eqb, lt-ltb}
+use Rattle.std.proofs.Common.{◌≡◌, ◌≢◌, ◌⊎◌, inl, inr, ℕ, ◌+◌, ◌-◌, ◌<◌, ◌≤◌, ◌==◌, ◌&&◌, ◌||◌, not, Bool, true, false, List, length, get_or, Option, Some, None, is_some, refl, sym, ap, ◌∙◌, subst, arith, ⊎_elim, All, eqb-true, eq-eqb, lt-ltb}
 use Rattle.std.specs.Option.{option_map_or}
-use Rattle.std.specs.List.{list_any, find, position}
-use Rattle.std.proofs.lemmas.Bool.{and_parts, and_from, eqb-false, or_cases}
+use Rattle.std.specs.List.{position}
+use Rattle.std.proofs.lemmas.Bool.{and_parts, and_from, eqb-false, or_cases, or_left, or_right}
 use Rattle.std.proofs.lemmas.Bool.Decides.{eqb_tells}
-use Rattle.std.proofs.lemmas.Option.{same_Some, slice_get_within}
+use Rattle.std.proofs.lemmas.Option.{slice_get_within}
 use Rattle.std.proofs.lemmas.List.Quantifiers.{position-Some}
 use Rattle.std.proofs.lemmas.List.Elements.{All-get_or}
 use Rattle.rbc_spec.specs.SectionRuns.{SectionRun, within, behind, no_run, is_empty, part_before, part_from, joined, shared}
-use Rattle.rbc_spec.specs.Line.{Line, Section, Train, IsLine, section, registrar, train_number, is_centre, is_home, is_border, is_registrar, is_linked, next_centre}
+use Rattle.rbc_spec.specs.Line.{Line, Section, Train, IsLine, section, registrar, train_number, is_centre, is_home, is_linked, next_centre}
 use Rattle.rbc_spec.specs.Sections.{home_run, is_on}
 use Rattle.rbc_spec.specs.Frame.{IsEngine, HasRunRange}
 use Rattle.rbc_spec.specs.Centre.{is_registrar_of}
@@ -16,7 +16,7 @@ use Rattle.law_local.proofs.Ordered.{is_ordered}
 use Rattle.law_base.proofs.Lines.{on_line, one_home, registrar_below}
 use Rattle.law_base.proofs.Runs.{within_from, within_part_before, within_part_from, within_joined, none_within, joined_empty}
 use Rattle.law_network.proofs.Homes.{in_both}
-use Rattle.law_network.proofs.Neighbours.{neighbours}
+use Rattle.law_network.proofs.Neighbours.{neighbours, home_below as centre_at}
 use Rattle.law_ranges.specs.Ranges.{GoesHome}
 
 -- ## Engines
@@ -44,40 +44,14 @@ not_same a b is = elim (eqb_tells b a) [ inl e ↦ absurd (let wrong : false ≡
 -- a link is one of both ends
 pub linked_back : (line : Line) (a b : ℕ) → is_linked line b a ≡ true → is_linked line a b ≡ true
 linked_back line a b is =
-    let parts = and_parts ((is_centre line b && is_centre line a) && not (b == a)) ((is_border line b a || is_border line a b) || (is_registrar line b || is_registrar line a)) is in
-    let ends = and_parts (is_centre line b && is_centre line a) (not (b == a)) parts.0 in
+    let ends = and_parts (is_centre line b && is_centre line a) (not (b == a)) is in
     let each = and_parts (is_centre line b) (is_centre line a) ends.0 in
-    and_from _ _ (and_from _ _ (and_from _ _ each.1 each.0) (not_same b a ends.1)) (by_why (is_border line b a) (is_border line a b) (is_registrar line b) (is_registrar line a) parts.1)
-  where
-    by_why : (x y z u : Bool) → ((x || y) || (z || u)) ≡ true → ((y || x) || (u || z)) ≡ true
-    by_why true true z u h = refl
-    by_why true false z u h = refl
-    by_why false true z u h = refl
-    by_why false false true true h = refl
-    by_why false false true false h = refl
-    by_why false false false true h = refl
-    by_why false false false false h = cc
+    and_from _ _ (and_from _ _ each.1 each.0) (not_same b a ends.1)
 
 pub linked_centre : (line : Line) (c d : ℕ) → is_linked line c d ≡ true → is_centre line c ≡ true
 linked_centre line c d is =
-    let ends = (and_parts (is_centre line c && is_centre line d) (not (c == d)) (and_parts ((is_centre line c && is_centre line d) && not (c == d)) _ is).0).0 in
+    let ends = (and_parts (is_centre line c && is_centre line d) (not (c == d)) is).0 in
     (and_parts (is_centre line c) (is_centre line d) ends).0
-
-any_found : (test other : Train → Bool) (xs : List Train) (x : Train) → find test xs ≡ Some x → other x ≡ true → list_any other xs ≡ true
-any_found test other [] x is so = cc
-any_found test other (y ∷ ys) x is so = by_test (test y) is (λ e. any_found test other ys x e so)
-  where
-    either : (b r : Bool) → r ≡ true → (b || r) ≡ true
-    either true r h = refl
-    either false r h = h
-
-    first : (b r : Bool) → b ≡ true → (b || r) ≡ true
-    first true r h = refl
-    first false r h = cc
-
-    by_test : (b : Bool) → cond b (Some y) (find test ys) ≡ Some x → (find test ys ≡ Some x → list_any other ys ≡ true) → (other y || list_any other ys) ≡ true
-    by_test true e later = first (other y) (list_any other ys) (ap other (same_Some y x e) ∙ so)
-    by_test false e later = either (other y) (list_any other ys) (later e)
 
 -- a run whose sections are of the line
 pub run_range : (least most : ℕ) (r : SectionRun) → least ≤ r.count → r.count ≤ most → 1 ≤ r.count → ((s : ℕ) → within r s ≡ true → s < 512) → HasRunRange least most r
@@ -95,17 +69,19 @@ module _ (line : Line) (ok : IsLine line) where
   pub registrar_linked : (c t r : ℕ) → is_centre line c ≡ true → is_registrar_of line c t ≡ false → registrar line t ≡ Some r → is_linked line c r ≡ true
   registrar_linked c t r centre away at =
       let apart : (r == c) ≡ false = sym (ap (λ (o : Option ℕ). option_map_or (λ x. x == c) o false) at) ∙ away in
-      and_from _ _ (and_from _ _ (and_from _ _ centre (lt-ltb r (length line.centres) (registrar_below line ok t r at))) (not_same r c (ap not apart)))
-      (late (is_border line c r || is_border line r c) (is_registrar line c) (is_registrar line r) (by_train (find (λ p. p.nid_engine == t) line.trains) refl at))
-    where
-      late : (x y z : Bool) → z ≡ true → (x || (y || z)) ≡ true
-      late true y z h = refl
-      late false true z h = refl
-      late false false z h = h
+      and_from _ _ (and_from _ _ centre (lt-ltb r (length line.centres) (registrar_below line ok t r at))) (not_same r c (ap not apart))
 
-      by_train : (o : Option Train) → find (λ p. p.nid_engine == t) line.trains ≡ o → option_map (λ p. p.registrar) o ≡ Some r → is_registrar line r ≡ true
-      by_train None found h = cc
-      by_train (Some p) found h = any_found (λ q. q.nid_engine == t) (λ q. q.registrar == r) line.trains p found (eq-eqb p.registrar r (same_Some p.registrar r h))
+  -- each home is this centre, or one that it has a link with
+  pub goes_home : (c : ℕ) → is_centre line c ≡ true → (r : SectionRun) → GoesHome line c r
+  goes_home c centre r s e is home = by_same (e == c) refl
+    where
+      at : (o : Option Section) → section line s ≡ o → option_map_or (λ p. p.home == e) o false ≡ true → is_centre line e ≡ true
+      at (Some p) there so = ap (is_centre line) (sym (eqb-true p.home e so)) ∙ centre_at line ok s p there
+      at None there so = cc
+
+      by_same : (b : Bool) → (e == c) ≡ b → ((e == c) || is_linked line c e) ≡ true
+      by_same true same = or_left (e == c) (is_linked line c e) same
+      by_same false apart = or_right (e == c) (is_linked line c e) (and_from _ _ (and_from _ _ centre (at (section line s) refl home)) (not_same e c (ap not apart)))
 
   -- ## Sections and runs
 

@@ -3,9 +3,9 @@ use Rattle.std.proofs.Common.{◌≡◌, ℕ, ◌<◌, ◌==◌, not, if◌then�
 use Rattle.std.specs.Option.{option_map_or}
 use Rattle.std.proofs.lemmas.Option.{same_Some}
 use Rattle.rbc_spec.specs.Maps.{put}
-use Rattle.rbc_spec.specs.Line.{Line, IsLine, is_centre, is_home, is_linked, train_number}
+use Rattle.rbc_spec.specs.Line.{Line, IsLine, is_centre, is_home, train_number}
 use Rattle.rbc_spec.specs.Message.{TrainMessage, TrainBody, TrainData, Request, Report, ShorteningGranted, ShorteningRejected, EndOfMission, InitiationOfSession, TerminationOfSession, StartOfMission, SessionEstablished, unknown_time}
-use Rattle.rbc_spec.specs.Frame.{RouteWithdraw, IsEngine}
+use Rattle.rbc_spec.specs.Frame.{IsEngine}
 use Rattle.rbc_spec.specs.Outcome.{Reason, ForeignEngine, Done, Asked, NotHome}
 use Rattle.rbc_spec.specs.Centre.{Centre, Entry, Shut, Open, Taken, Out, Opened, Closed, is_unused}
 use Rattle.rbc_spec.specs.Acts.{become, rest, ◌>>◌, hear, change_mission}
@@ -14,7 +14,7 @@ use Rattle.rbc_spec.specs.Step.{Train, Effect, make, set, unset, wished, silence
 use Rattle.law_centre.proofs.Reasons.{not_for}
 use Rattle.law_ranges.specs.Ranges.{IsReportInRange, HasMessageRanges}
 use Rattle.law_ranges.proofs.Basics.{known_engine, home_below}
-use Rattle.law_ranges.proofs.Sent.{Kept, Goes, quiet, sends, then_goes, if_goes, if_reply, with_book, with_heard, changes, proposes, drops_wait}
+use Rattle.law_ranges.proofs.Sent.{Kept, Goes, quiet, then_goes, if_goes, if_reply, with_book, with_heard, changes, proposes, drops_wait, withdraws}
 use Rattle.law_ranges.proofs.Reports.{reports, ends, grants_shortening}
 use Rattle.law_ranges.proofs.Requests.{starts, requests}
 
@@ -76,22 +76,22 @@ module _ (line : Line) (ok : IsLine line) (c : ℕ) where
 
   -- ## The interlocking
 
-  makes : (s : ℕ) (entry : Entry) (wish : Bool) (k : Centre) → ((t d : ℕ) → entry ≡ Out t d → ⊥) → Kept line ok c k → Goes line ok c (make s entry wish k)
-  makes s entry wish k not_out old = quiet line ok c (with_book line ok c k (put k.book s entry) old (λ u t d is. by_section u t d (u == s) is))
+  makes : (s : ℕ) (entry : Entry) (wish : Bool) (k : Centre) → ((t : ℕ) → entry ≡ Out t → ⊥) → Kept line ok c k → Goes line ok c (make s entry wish k)
+  makes s entry wish k not_out old = quiet line ok c (with_book line ok c k (put k.book s entry) old (λ u t is. by_section u t (u == s) is))
     where
-      by_section : (u t d : ℕ) (b : Bool) → (if b then entry else k.book u) ≡ Out t d → IsEngine t × (is_linked line c d ≡ true)
-      by_section u t d true is = absurd (not_out t d is)
-      by_section u t d false is = old.out u t d is
+      by_section : (u t : ℕ) (b : Bool) → (if b then entry else k.book u) ≡ Out t → IsEngine t
+      by_section u t true is = absurd (not_out t is)
+      by_section u t false is = old.out u t is
 
   pub sets_it : (s : ℕ) (k : Centre) → Kept line ok c k → Goes line ok c (set line c s k)
   sets_it s k old = if_reply line ok c (not (is_home line c s)) (tell (NotHome s) k) _ (λ away. quiet line ok c old)
       (λ at. then_goes line ok c (become (λ j. record j { wish = put j.wish s false })) ((if is_unused (k.book s) then make s Open false else rest) >> tell (Done s)) k (quiet line ok c old)
       (λ j is same. then_goes line ok c (if is_unused (k.book s) then make s Open false else rest) (tell (Done s)) j
-      (if_goes line ok c (is_unused (k.book s)) (make s Open false) rest j (λ unused. makes s Open false j (λ t d e. cc) same) (λ used. quiet line ok c same)) (λ i was last. quiet line ok c last)))
+      (if_goes line ok c (is_unused (k.book s)) (make s Open false) rest j (λ unused. makes s Open false j (λ t e. cc) same) (λ used. quiet line ok c same)) (λ i was last. quiet line ok c last)))
 
-  wishes : (s : ℕ) (e : Entry) (k : Centre) → is_home line c s ≡ true → ((t d : ℕ) → e ≡ Out t d → IsEngine t × (is_linked line c d ≡ true)) → Kept line ok c k → Goes line ok c (wished line s e k)
+  wishes : (s : ℕ) (e : Entry) (k : Centre) → is_home line c s ≡ true → ((t : ℕ) → e ≡ Out t → IsEngine t) → Kept line ok c k → Goes line ok c (wished line c s e k)
   wishes s (Taken t) k home out old = proposes line ok c t s k old
-  wishes s (Out t d) k home out old = let at = out t d refl in sends line ok c d (RouteWithdraw t s) k at.1 (at.0, omega (arith, home_below line ok c s home)) old
+  wishes s (Out t) k home out old = withdraws line ok c t s k (out t refl) (omega (arith, home_below line ok c s home)) old
   wishes s Shut k home out old = quiet line ok c old
   wishes s Open k home out old = quiet line ok c old
 
@@ -99,10 +99,10 @@ module _ (line : Line) (ok : IsLine line) (c : ℕ) where
   unsets_it s k old = by_home (is_home line c s) refl
     where
       by_home : (b : Bool) → is_home line c s ≡ b → Goes line ok c (if not b then tell (NotHome s) k
-          else (if is_unused (k.book s) then (make s Shut false >> tell (Done s)) else ((become (λ j. record j { wish = put j.wish s true }) >> tell (Asked s)) >> wished line s (k.book s))) k)
+          else (if is_unused (k.book s) then (make s Shut false >> tell (Done s)) else ((become (λ j. record j { wish = put j.wish s true }) >> tell (Asked s)) >> wished line c s (k.book s))) k)
       by_home false away = quiet line ok c old
-      by_home true home = if_goes line ok c (is_unused (k.book s)) (make s Shut false >> tell (Done s)) ((become (λ j. record j { wish = put j.wish s true }) >> tell (Asked s)) >> wished line s (k.book s)) k
-          (λ unused. then_goes line ok c (make s Shut false) (tell (Done s)) k (makes s Shut false k (λ t d e. cc) old) (λ j is same. quiet line ok c same))
-          (λ used. then_goes line ok c (become (λ j. record j { wish = put j.wish s true }) >> tell (Asked s)) (wished line s (k.book s)) k
+      by_home true home = if_goes line ok c (is_unused (k.book s)) (make s Shut false >> tell (Done s)) ((become (λ j. record j { wish = put j.wish s true }) >> tell (Asked s)) >> wished line c s (k.book s)) k
+          (λ unused. then_goes line ok c (make s Shut false) (tell (Done s)) k (makes s Shut false k (λ t e. cc) old) (λ j is same. quiet line ok c same))
+          (λ used. then_goes line ok c (become (λ j. record j { wish = put j.wish s true }) >> tell (Asked s)) (wished line c s (k.book s)) k
           (then_goes line ok c (become (λ j. record j { wish = put j.wish s true })) (tell (Asked s)) k (quiet line ok c old) (λ j is same. quiet line ok c same))
           (λ j is same. wishes s (k.book s) j home (old.out s) same))

@@ -1,29 +1,28 @@
 -- A frame of another centre leaves a centre in its ranges.
-use Rattle.std.proofs.Common.{◌≡◌, inl, inr, ℕ, ◌*◌, ◌<◌, ◌≤◌, ◌==◌, ◌&&◌, ◌||◌, not, if◌then◌else◌, Bool, true, false, Option, Some, None, option_map, is_none, is_some, length, nat_lt, nat_le, max, refl, sym, ap, ◌∙◌, subst, arith, ⊎_elim, eqb-true, eq-eqb}
+use Rattle.std.proofs.Common.{◌≡◌, inl, inr, ℕ, ◌<◌, ◌≤◌, ◌==◌, ◌&&◌, not, if◌then◌else◌, Bool, true, false, Option, Some, None, is_none, is_some, length, nat_lt, max, refl, sym, ap, ◌∙◌, subst, arith, ⊎_elim, eqb-true}
 use Rattle.std.specs.Option.{option_map_or}
 use Rattle.std.specs.List.{find, range_with_len}
 use Rattle.std.proofs.lemmas.Option.{same_Some}
-use Rattle.std.proofs.lemmas.Bool.{and_parts, or_left, or_right, eqb-false}
+use Rattle.std.proofs.lemmas.Bool.{and_parts, or_right, eqb-false}
 use Rattle.rbc_spec.specs.Maps.{has, put}
 use Rattle.rbc_spec.specs.SectionRuns.{SectionRun, no_run, behind, within, is_empty, part_before, part_from, all_of}
-use Rattle.rbc_spec.specs.Line.{Line, Section, IsLine, is_centre, is_home, is_linked, next_centre, section, section_of_group}
-use Rattle.rbc_spec.specs.Sections.{is_on, is_on_track}
-use Rattle.rbc_spec.specs.Place.{Place, group_start}
+use Rattle.rbc_spec.specs.Line.{Line, IsLine, is_centre, is_home, is_linked, section}
+use Rattle.rbc_spec.specs.Sections.{is_on}
+use Rattle.rbc_spec.specs.Place.{Place}
 use Rattle.rbc_spec.specs.Message.{unknown_time}
 use Rattle.rbc_spec.specs.Frame.{Frame, Body, AskRight, GiveRight, RefuseRight, ReturnRight, RouteAsk, RouteInfo, RouteWithdraw, RouteReturn, Announce, Cancel, TakingOver, Yield, carried_place, IsEngine, IsHandoverNumber, HasRunRange, HasBodyRange}
 use Rattle.rbc_spec.specs.Outcome.{Taken as LinkAnswer, Next, Old, Early, NoLink}
-use Rattle.rbc_spec.specs.Centre.{Centre, Taken, Out, Mission, Handing, Expectation, is_open, is_out_for, is_free, is_registrar_of, uses_some, is_expected}
+use Rattle.rbc_spec.specs.Centre.{Centre, Taken, Out, Mission, Expectation, is_open, is_out_for, is_free, is_registrar_of, uses_some, is_expected}
 use Rattle.rbc_spec.specs.Acts.{Act, become, rest, ◌>>◌, with_some, send, booked, freed, returned, set_mission, change_mission, propose_if_so, return_right}
 use Rattle.rbc_spec.specs.Rules.{reject, begin, drop_wait}
-use Rattle.rbc_spec.specs.Links.{is_train, is_of_line, lendable, answered_ask, right_asked, right_given, right_refused, right_returned, route_asked, is_wanted, route_told, route_withdrawn, route_returned, announced, is_under, cancelled, claimed, taking_over, may_arrive, may_take, take_mission, yielded, expect, received}
+use Rattle.rbc_spec.specs.Links.{is_train, is_of_line, lendable, answered_ask, right_asked, right_given, right_refused, right_returned, route_asked, is_wanted, route_told, route_withdrawn, route_returned, announced, is_under, cancelled, taking_over, may_take, take_mission, yielded, expect, received}
 use Rattle.rbc_spec.specs.Step.{Deliver, taken_by, offered, effect}
-use Rattle.law_base.proofs.Lines.{one_home}
 use Rattle.law_base.proofs.Runs.{each_within}
 use Rattle.law_base.proofs.Longest.{longest_few}
-use Rattle.law_ranges.specs.Ranges.{GoesHome, HasMissionRanges}
-use Rattle.law_ranges.proofs.Basics.{known_engine, linked_centre, none_goes_home, before_goes_home, from_goes_home, own_goes_home}
+use Rattle.law_ranges.specs.Ranges.{HasMissionRanges}
+use Rattle.law_ranges.proofs.Basics.{known_engine, linked_centre, none_goes_home, before_goes_home, from_goes_home, own_goes_home, goes_home}
 use Rattle.law_ranges.proofs.Places.{carried_range}
-use Rattle.law_ranges.proofs.Sent.{Kept, Goes, quiet, sends, then_goes, if_goes, if_reply, or_goes, or_reply, with_wait, with_heard, with_expectation, sets, changes, changes_at, books, frees, returns, orders_end, yields_if_due, proposes, drops_wait}
+use Rattle.law_ranges.proofs.Sent.{Kept, Goes, quiet, sends, then_goes, if_goes, if_reply, or_goes, or_reply, with_wait, with_heard, with_expectation, sets, changes, changes_at, books, frees, returns, orders_end, proposes, drops_wait, yields_over}
 use Rattle.law_ranges.proofs.Reports.{gives_back}
 use Rattle.law_ranges.proofs.Requests.{begins}
 
@@ -71,13 +70,13 @@ module _ (line : Line) (ok : IsLine line) (c d : ℕ) (from : is_linked line c d
 
   route_is_asked : (first most : ℕ) (k : Centre) → HasRunRange 1 31 (record { first = first; count = most }) → Kept line ok c k → Goes line ok c (route_asked line c d t first most k)
   route_is_asked first most k range old = if_reply line ok c (is_some (section line first)) _ (rest k)
-      (λ there. then_goes line ok c (booked is_open (Out t d) (lendable line c k first most)) (send d (RouteInfo t (lendable line c k first most))) k
-      (books line ok c is_open (Out t d) (lendable line c k first most) k old out_to)
+      (λ there. then_goes line ok c (booked is_open (Out t) (lendable line c k first most)) (send d (RouteInfo t (lendable line c k first most))) k
+      (books line ok c is_open (Out t) (lendable line c k first most) k old out_to)
       (λ j is same. sends line ok c d (RouteInfo t (lendable line c k first most)) j from (engine, lent) same))
       (λ none. quiet line ok c old)
     where
-      out_to : (u e : ℕ) → Out t d ≡ Out u e → IsEngine u × (is_linked line c e ≡ true)
-      out_to u e is = let train : t ≡ u = cc in let to : d ≡ e = cc in (subst IsEngine train engine, subst (λ x. is_linked line c x ≡ true) to from)
+      out_to : (u : ℕ) → Out t ≡ Out u → IsEngine u
+      out_to u is = let train : t ≡ u = cc in subst IsEngine train engine
 
       few : (lendable line c k first most).count ≤ most
       few = longest_few (λ s. is_free line c k s && has (λ p. is_on line p.track s) (section line first)) first most
@@ -126,34 +125,18 @@ module _ (line : Line) (ok : IsLine line) (c d : ℕ) (from : is_linked line c d
       (λ no. proposes line ok c t s k old))
       (λ none. quiet line ok c old)
 
-  route_is_returned : (r : SectionRun) (k : Centre) → Kept line ok c k → Goes line ok c (route_returned line c d t r k)
-  route_is_returned r k old = then_goes line ok c (freed line c (is_out_for t d) r) _ k (frees line ok c (is_out_for t d) r k old)
+  route_is_returned : (r : SectionRun) (k : Centre) → Kept line ok c k → Goes line ok c (route_returned line c t r k)
+  route_is_returned r k old = then_goes line ok c (freed line c (is_out_for t) r) _ k (frees line ok c (is_out_for t) r k old)
       (λ j is same. if_reply line ok c (not (uses_some line c j t) && ((is_none (j.mission t) && is_none (j.wait t)) && not (is_expected line j t))) _ (rest j) (λ gone. orders_end line ok c t j same) (λ stays. quiet line ok c same))
 
   -- ## Handovers
 
-  claims : (number : ℕ) (k : Centre) → Kept line ok c k → Goes line ok c (taking_over line c d number t k)
-  claims number k old = then_goes line ok c (change_mission t (claimed d number)) _ k
-      (changes line ok c t (claimed d number) k old (λ n is. still n is)) (λ j is same. yields_if_due line ok c t j engine same)
-    where
-      by_claim : (b : Bool) (x : Handing) → IsHandoverNumber x.number × (is_linked line c x.to ≡ true) → let h = if b then record x { is_claimed = true } else x in IsHandoverNumber h.number × (is_linked line c h.to ≡ true)
-      by_claim true x is = is
-      by_claim false x is = is
-
-      by_handing : (o : Option Handing) → ((h : Handing) → o ≡ Some h → IsHandoverNumber h.number × (is_linked line c h.to ≡ true)) → (h : Handing)
-          → option_map (λ x. if (x.number == number) && (x.to == d) then record x { is_claimed = true } else x) o ≡ Some h → IsHandoverNumber h.number × (is_linked line c h.to ≡ true)
-      by_handing (Some x) fine h at = subst (λ (y : Handing). IsHandoverNumber y.number × (is_linked line c y.to ≡ true)) (same_Some _ h at) (by_claim ((x.number == number) && (x.to == d)) x (fine x refl))
-      by_handing None fine h at = cc
-
-      still : (n : Mission) → HasMissionRanges line c n → HasMissionRanges line c (claimed d number n)
-      still n is = record { place = is.place; hand = is.hand; hand_home = is.hand_home; pool = is.pool; pool_home = is.pool_home; follows = is.follows; handing = λ h at. by_handing n.handing is.handing h at }
-
   takes_it : (heard : ℕ) (m : Mission) (k : Centre) → heard < unknown_time → HasMissionRanges line c m → Kept line ok c k → Goes line ok c (take_mission line c d t heard m k)
-  takes_it heard m k low fine old = then_goes line ok c ((booked (is_out_for t d) (Taken t) m.hand >> set_mission t (Some m))
+  takes_it heard m k low fine old = then_goes line ok c ((booked (is_out_for t) (Taken t) m.hand >> set_mission t (Some m))
       >> (become (λ j. record j { heard = put j.heard t (Some (option_map_or (max heard) (j.heard t) heard)) }) >> expect d t None))
       (with_some (λ j. find (λ s. is_home line c s && j.wish s) (range_with_len m.hand.first m.hand.count)) (propose_if_so line t)) k
-      (then_goes line ok c (booked (is_out_for t d) (Taken t) m.hand >> set_mission t (Some m)) _ k
-      (then_goes line ok c (booked (is_out_for t d) (Taken t) m.hand) (set_mission t (Some m)) k (books line ok c (is_out_for t d) (Taken t) m.hand k old (λ u e is. cc))
+      (then_goes line ok c (booked (is_out_for t) (Taken t) m.hand >> set_mission t (Some m)) _ k
+      (then_goes line ok c (booked (is_out_for t) (Taken t) m.hand) (set_mission t (Some m)) k (books line ok c (is_out_for t) (Taken t) m.hand k old (λ u is. cc))
       (λ j is same. sets line ok c t (Some m) j same (λ n was. subst (HasMissionRanges line c) (same_Some m n was) fine)))
       (λ j is same. then_goes line ok c (become (λ i. record i { heard = put i.heard t (Some (option_map_or (max heard) (i.heard t) heard)) })) (expect d t None) j
       (quiet line ok c (with_heard line ok c j t (Some (option_map_or (max heard) (j.heard t) heard)) same (λ time was. subst (λ x. x < unknown_time) (same_Some _ time was) (later (j.heard t) (same.heard t)))))
@@ -163,29 +146,6 @@ module _ (line : Line) (ok : IsLine line) (c d : ℕ) (from : is_linked line c d
       later : (o : Option ℕ) → ((time : ℕ) → o ≡ Some time → time < unknown_time) → option_map_or (max heard) o heard < unknown_time
       later (Some time) known = omega (arith, low, known time refl)
       later None known = low
-
-  -- each section of a hand that may arrive is of this centre or of a linked one
-  arrives_home : (k : Centre) (track : ℕ) (hand : SectionRun) → all_of (may_arrive line c k d t track) hand ≡ true → GoesHome line c hand
-  arrives_home k track hand all s e is home = by_own (is_home line c s) refl (each_within (may_arrive line c k d t track) hand all s is)
-    where
-      by_section : (o : Option Section) → option_map_or (λ p. p.home == e) o false ≡ true
-          → option_map_or (λ p. is_linked line c p.home && not (has (λ n. n == p.home) (next_centre line c track))) o false ≡ true → is_linked line c e ≡ true
-      by_section (Some p) at may = ap (is_linked line c) (sym (eqb-true p.home e at)) ∙ (and_parts (is_linked line c p.home) (not (has (λ n. n == p.home) (next_centre line c track))) may).0
-      by_section None at may = cc
-
-      by_own : (b : Bool) → is_home line c s ≡ b
-          → (if b then is_out_for t d (k.book s) else has (λ p. is_linked line c p.home && not (has (λ n. n == p.home) (next_centre line c track))) (section line s)) ≡ true
-          → ((e == c) || is_linked line c e) ≡ true
-      by_own true own may = or_left (e == c) (is_linked line c e) (eq-eqb e c (one_home line e c s home own))
-      by_own false away may = or_right (e == c) (is_linked line c e) (by_section (section line s) home may)
-
-hand_arrives : (line : Line) (c : ℕ) (k : Centre) (d number t : ℕ) (place : Place) (hand : SectionRun) → may_take line c k d number t place hand ≡ true → all_of (may_arrive line c k d t place.track) hand ≡ true
-hand_arrives line c k d number t place hand may =
-    let free : Bool = has (λ e. (e.number == number) && e.is_taking) (k.expects d t) && (is_none (k.mission t) && not (k.has_right t)) in
-    let fits : Bool = is_on_track line place.track hand && has (is_on line place.track) (section_of_group line place.group) in
-    let arrives : Bool = all_of (may_arrive line c k d t place.track) hand in
-    let ahead : Bool = nat_le (10 * group_start line place) place.front in
-    (and_parts ahead arrives (and_parts fits (ahead && arrives) (and_parts free (fits && (ahead && arrives)) may).1).1).1
 
 module _ (line : Line) (ok : IsLine line) (c : ℕ) where
   trained : (t : ℕ) (act : Act) (k : Centre) → (IsEngine t → Goes line ok c (act k)) → Kept line ok c k → Goes line ok c ((if is_train line t then act else rest) k)
@@ -201,8 +161,8 @@ module _ (line : Line) (ok : IsLine line) (c : ℕ) where
   receives d (RouteInfo t r) k from range old = trained t _ k (λ engine. route_is_told line ok c d from t engine r k range.1 old) old
   receives d (RouteWithdraw t s) k from range old = trained t (if is_some (section line s) then route_withdrawn line c t s else rest) k
       (λ engine. if_goes line ok c (is_some (section line s)) (route_withdrawn line c t s) rest k (λ there. route_is_withdrawn line ok c d from t engine s k old) (λ none. quiet line ok c old)) old
-  receives d (RouteReturn t r) k from range old = trained t (if all_of (λ s. is_some (section line s)) r then route_returned line c d t r else rest) k
-      (λ engine. if_goes line ok c (all_of (λ s. is_some (section line s)) r) (route_returned line c d t r) rest k (λ there. route_is_returned line ok c d from t engine r k old) (λ none. quiet line ok c old)) old
+  receives d (RouteReturn t r) k from range old = trained t (if all_of (λ s. is_some (section line s)) r then route_returned line c t r else rest) k
+      (λ engine. if_goes line ok c (all_of (λ s. is_some (section line s)) r) (route_returned line c t r) rest k (λ there. route_is_returned line ok c d from t engine r k old) (λ none. quiet line ok c old)) old
   receives d (Announce number t track) k from range old = trained t (if nat_lt track (length line.tracks) then announced d number t else rest) k
       (λ engine. if_goes line ok c (nat_lt track (length line.tracks)) (announced d number t) rest k
       (λ there. if_reply line ok c (is_none (k.expects d t)) _ (rest k)
@@ -210,7 +170,7 @@ module _ (line : Line) (ok : IsLine line) (c : ℕ) where
       (λ some. quiet line ok c old)) (λ none. quiet line ok c old)) old
   receives d (Cancel number t) k from range old = trained t (cancelled d number t) k
       (λ engine. if_reply line ok c (is_under number (k.expects d t)) _ (rest k) (λ under. quiet line ok c (with_expectation line ok c k d t None old (λ e at. cc))) (λ no. quiet line ok c old)) old
-  receives d (TakingOver number t) k from range old = trained t (taking_over line c d number t) k (λ engine. claims line ok c d from t engine number k old) old
+  receives d (TakingOver number t) k from range old = trained t (taking_over line c d number t) k (λ engine. yields_over line ok c d number t k engine old) old
   receives d (Yield number t heard has_data is_ended carried hand) k from range old = trained t (option_map_or (yielded line c d number t hand heard has_data is_ended) (carried_place carried) rest) k
       (λ engine. or_goes line ok c (carried_place carried) (yielded line c d number t hand heard has_data is_ended) rest k
       (λ place is. if_reply line ok c (may_take line c k d number t place hand) _ (rest k)
@@ -222,7 +182,7 @@ module _ (line : Line) (ok : IsLine line) (c : ℕ) where
       arrived place is engine may = record {
         place = carried_range carried place is range.3;
         hand = range.4;
-        hand_home = arrives_home line ok c d from t engine k place.track hand (hand_arrives line c k d number t place hand may);
+        hand_home = goes_home line ok c (linked_centre line c d from) hand;
         pool = omega arith;
         pool_home = none_goes_home line c;
         follows = inl refl;

@@ -1,23 +1,24 @@
 -- Reports, ends of mission and shortenings leave a centre in its ranges.
-use Rattle.std.proofs.Common.{◌≡◌, ◌≢◌, inl, inr, ℕ, ◌+◌, ◌*◌, ◌≤◌, ◌==◌, ◌&&◌, not, if◌then◌else◌, Bool, true, false, [], ◌∷◌, All, Option, Some, None, option_map, nat_le, refl, sym, ◌∙◌, subst, arith, ⊎_elim, eq-eqb}
+use Rattle.std.proofs.Common.{◌≡◌, ◌≢◌, inl, inr, ℕ, ◌+◌, ◌*◌, ◌≤◌, ◌==◌, ◌&&◌, not, if◌then◌else◌, Bool, true, false, [], ◌∷◌, All, Option, Some, None, option_map, nat_le, refl, sym, ◌∙◌, subst, arith, ⊎_elim, eq-eqb, ◌-◌}
 use Rattle.std.specs.Option.{option_map_or}
 use Rattle.std.proofs.lemmas.Option.{same_Some}
 use Rattle.std.proofs.lemmas.Bool.{cases_eq, cond-true, eqb-false}
 use Rattle.std.proofs.lemmas.List.Elements.{All-nil, All-cons}
+use Rattle.law_base.proofs.Standstill.{rests_or_cuts}
 use Rattle.rbc_spec.specs.Maps.{put, has}
 use Rattle.rbc_spec.specs.SectionRuns.{SectionRun, most_in_hand, no_run, behind, is_empty, part_before, part_from, joined}
 use Rattle.rbc_spec.specs.Line.{Line, IsLine, end, registrar, is_centre, is_linked}
 use Rattle.rbc_spec.specs.Place.{Place, Position, is_cleared, place_on}
 use Rattle.rbc_spec.specs.Frame.{ReturnRight, TakingOver, IsEngine, IsHandoverNumber, HasRunRange, HasPlaceRange, yielded_place}
 use Rattle.rbc_spec.specs.Centre.{Centre, Mission, Proposal, Expectation, is_registrar_of}
-use Rattle.rbc_spec.specs.Acts.{Act, rest, ◌>>◌, with_mission, send, returned, leave, set_mission, change_mission, return_pool, cancel, return_right, close, part_at, yield_if_due}
-use Rattle.rbc_spec.specs.Rules.{cleared, clear, report_here, report, taking, take_over, end_mission, cut, granted, answer_granted}
+use Rattle.rbc_spec.specs.Acts.{Act, rest, ◌>>◌, with_mission, send, returned, leave, set_mission, change_mission, return_pool, cancel, return_right, close, part_at}
+use Rattle.rbc_spec.specs.Rules.{cleared, clear, report_here, report, taking, take_over, end_mission, cut, granted, answer_granted, stand_still}
 use Rattle.law_base.proofs.Runs.{within_true, within_from, joined_count}
 use Rattle.law_base.proofs.Longest.{longest_few}
 use Rattle.law_ranges.specs.Ranges.{HasPositionRanges, GoesHome, HasMissionRanges, IsSentInRange}
 use Rattle.law_ranges.proofs.Basics.{registrar_linked, none_goes_home, before_goes_home, from_goes_home, joined_goes_home}
 use Rattle.law_ranges.proofs.Places.{place_on_range}
-use Rattle.law_ranges.proofs.Sent.{Kept, Goes, quiet, sends, then_goes, if_goes, or_goes, or_reply, with_expects, sets, changes, returns, leaving, cancels, yields_if_due}
+use Rattle.law_ranges.proofs.Sent.{Kept, Goes, quiet, sends, then_goes, if_goes, or_goes, or_reply, with_expects, sets, changes, returns, leaving, cancels}
 
 -- ## Runs
 
@@ -141,29 +142,8 @@ module _ (line : Line) (ok : IsLine line) (c : ℕ) (centre : is_centre line c �
 
     pub reports : (k : Centre) → Kept line ok c k → Goes line ok c (report line c t position k)
     reports k old = or_reply line ok c (k.mission t) _ (take_over line t k)
-        (λ m at. then_goes line ok c (report_here line c t position m) (yield_if_due line c t) k (reports_here m k (old.mission t m at) old) (λ j is same. yields_if_due line ok c t j engine same))
+        (λ m at. reports_here m k (old.mission t m at) old)
         (λ none. takes_over k old)
-
-    -- ## Ends of mission
-
-    pub ends : (k : Centre) → Kept line ok c k → Goes line ok c (end_mission line c t position k)
-    ends k old = then_goes line ok c (with_mission t (report_here line c t position) >> with_mission t end_it) (yield_if_due line c t) k
-        (then_goes line ok c (with_mission t (report_here line c t position)) (with_mission t end_it) k
-        (or_reply line ok c (k.mission t) _ (rest k) (λ m at. reports_here m k (old.mission t m at) old) (λ none. quiet line ok c old))
-        (λ j is same. or_reply line ok c (j.mission t) (λ m. end_it m j) (rest j) (λ m at. ending m j (same.mission t m at) same) (λ none. quiet line ok c same)))
-        (λ j is same. yields_if_due line ok c t j engine same)
-      where
-        end_it : Mission → Act
-        end_it m = return_pool line c t m >> change_mission t (λ n. record n { is_ended = true; proposal = None })
-
-        no_pool : (n : Mission) → Fine n → Fine (record n { pool = no_run })
-        no_pool n is = record { place = is.place; hand = is.hand; hand_home = is.hand_home; pool = omega arith; pool_home = none_goes_home line c; follows = inl refl; handing = is.handing }
-
-        ending : (m : Mission) (j : Centre) → Fine m → Kept line ok c j → Goes line ok c (end_it m j)
-        ending m j fine same = then_goes line ok c (return_pool line c t m) (change_mission t (λ n. record n { is_ended = true; proposal = None })) j
-            (then_goes line ok c (returned line c t m.place.track m.pool) (change_mission t (λ n. record n { pool = no_run })) j
-            (returns line ok c t m.place.track m.pool j engine (let few = fine.pool in omega (arith, few)) fine.pool_home same) (λ i was last. changes line ok c t (λ n. record n { pool = no_run }) i last no_pool))
-            (λ i was last. changes line ok c t (λ n. record n { is_ended = true; proposal = None }) i last (λ n is. is))
 
     -- ## Shortenings
 
@@ -210,6 +190,30 @@ module _ (line : Line) (ok : IsLine line) (c : ℕ) (centre : is_centre line c �
             (λ h at. if_goes line ok c (is_empty (part_at line h.to m.place.track kept.hand)) (cancel t kept) rest i (λ gone. cancels line ok c t kept i engine is_fine last) (λ stays. quiet line ok c last))
             (λ none. quiet line ok c last))
 
+    -- ## Ends of mission
+
+    pub ends : (k : Centre) → Kept line ok c k → Goes line ok c (end_mission line c t position k)
+    ends k old = then_goes line ok c (with_mission t (report_here line c t position) >> with_mission t (stand_still line c t position)) (with_mission t end_it) k
+        (then_goes line ok c (with_mission t (report_here line c t position)) (with_mission t (stand_still line c t position)) k
+        (or_reply line ok c (k.mission t) _ (rest k) (λ m at. reports_here m k (old.mission t m at) old) (λ none. quiet line ok c old))
+        (λ j is same. or_reply line ok c (j.mission t) (λ m. stand_still line c t position m j) (rest j)
+        (λ m at. rests_or_cuts (λ act. Goes line ok c (act j)) line c t position m (quiet line ok c same) (λ n some fits. cuts (m.hand.first + n - 1) m j (same.mission t m at) same)) (λ none. quiet line ok c same)))
+        (λ j is same. or_reply line ok c (j.mission t) (λ m. end_it m j) (rest j) (λ m at. ending m j (same.mission t m at) same) (λ none. quiet line ok c same))
+      where
+        end_it : Mission → Act
+        end_it m = return_pool line c t m >> change_mission t (λ n. record n { is_ended = true; proposal = None })
+
+        no_pool : (n : Mission) → Fine n → Fine (record n { pool = no_run })
+        no_pool n is = record { place = is.place; hand = is.hand; hand_home = is.hand_home; pool = omega arith; pool_home = none_goes_home line c; follows = inl refl; handing = is.handing }
+
+        ending : (m : Mission) (j : Centre) → Fine m → Kept line ok c j → Goes line ok c (end_it m j)
+        ending m j fine same = then_goes line ok c (return_pool line c t m) (change_mission t (λ n. record n { is_ended = true; proposal = None })) j
+            (then_goes line ok c (returned line c t m.place.track m.pool) (change_mission t (λ n. record n { pool = no_run })) j
+            (returns line ok c t m.place.track m.pool j engine (let few = fine.pool in omega (arith, few)) fine.pool_home same) (λ i was last. changes line ok c t (λ n. record n { pool = no_run }) i last no_pool))
+            (λ i was last. changes line ok c t (λ n. record n { is_ended = true; proposal = None }) i last (λ n is. is))
+
+    -- ## Shortenings that are granted
+
     pub grants_shortening : (k : Centre) → Kept line ok c k → Goes line ok c (answer_granted line c t position k)
     grants_shortening k old = or_reply line ok c (k.mission t) _ (rest k)
         (λ m at. or_reply line ok c m.proposal (λ p. granted line c t position m p k) (rest k) (λ p is. granting m p (old.mission t m at)) (λ none. quiet line ok c old))
@@ -218,9 +222,7 @@ module _ (line : Line) (ok : IsLine line) (c : ℕ) (centre : is_centre line c �
         granting : (m : Mission) (p : Proposal) → Fine m → Goes line ok c (granted line c t position m p k)
         granting m p fine =
             let cutting : Act = option_map_or (λ place. if nat_le place.front (10 * end line p.last_kept) then cut line c t p.last_kept m else rest) (place_on line m.place.track position) rest in
-            then_goes line ok c (change_mission t (λ n. record n { proposal = None }) >> cutting) (yield_if_due line c t) k
-            (then_goes line ok c (change_mission t (λ n. record n { proposal = None })) cutting k (changes line ok c t (λ n. record n { proposal = None }) k old (λ n is. is))
+            then_goes line ok c (change_mission t (λ n. record n { proposal = None })) cutting k (changes line ok c t (λ n. record n { proposal = None }) k old (λ n is. is))
             (λ j is same. or_goes line ok c (place_on line m.place.track position) _ rest j
             (λ place on. if_goes line ok c (nat_le place.front (10 * end line p.last_kept)) (cut line c t p.last_kept m) rest j (λ far. cuts p.last_kept m j fine same) (λ past. quiet line ok c same))
-            (λ none. quiet line ok c same)))
-            (λ j is same. yields_if_due line ok c t j engine same)
+            (λ none. quiet line ok c same))

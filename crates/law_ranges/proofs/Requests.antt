@@ -66,7 +66,7 @@ module _ (line : Line) (ok : IsLine line) (c : ℕ) (t : ℕ) (engine : IsEngine
 
         waits : (place : Place) → HasStartRanges line c place → is_registrar_of line c t ≡ false → Goes line ok c (start_waiting line t place k)
         waits place may away = then_goes line ok c (booked is_open (Taken t) (covered line place) >> become (λ j. record j { wait = put j.wait t (Some place) })) (where_so (λ j. not (j.has_asked t)) asking) k
-            (then_goes line ok c (booked is_open (Taken t) (covered line place)) _ k (books line ok c is_open (Taken t) (covered line place) k old (λ u d is. cc))
+            (then_goes line ok c (booked is_open (Taken t) (covered line place)) _ k (books line ok c is_open (Taken t) (covered line place) k old (λ u is. cc))
             (λ j is same. quiet line ok c (with_wait line ok c j t (Some place) same (λ p was. subst (HasStartRanges line c) (same_Some place p was) may))))
             (λ j is same. if_reply line ok c (not (j.has_asked t)) (asking j) (rest j)
             (λ asks. then_goes line ok c (option_map_or (λ r. send r (AskRight t)) (registrar line t) rest) _ j
@@ -87,7 +87,7 @@ module _ (line : Line) (ok : IsLine line) (c : ℕ) (t : ℕ) (engine : IsEngine
             by_registrar : (place : Place) → HasStartRanges line c place → (b : Bool) → is_registrar_of line c t ≡ b → Goes line ok c ((if b then start_here line t place else start_waiting line t place) k)
             by_registrar place may true here = if_reply line ok c (k.has_right t) _ (reject t k)
                 (λ right. then_goes line ok c (booked is_open (Taken t) (covered line place) >> become (λ j. record j { has_right = put j.has_right t false })) (begin line t place) k
-                (then_goes line ok c (booked is_open (Taken t) (covered line place)) _ k (books line ok c is_open (Taken t) (covered line place) k old (λ u d is. cc)) (λ j is same. quiet line ok c same))
+                (then_goes line ok c (booked is_open (Taken t) (covered line place)) _ k (books line ok c is_open (Taken t) (covered line place) k old (λ u is. cc)) (λ j is same. quiet line ok c same))
                 (λ j is same. begins place j may same))
                 (λ no. quiet line ok c old)
             by_registrar place may false away = waits place may away
@@ -106,14 +106,14 @@ module _ (line : Line) (ok : IsLine line) (c : ℕ) (t : ℕ) (engine : IsEngine
       let telling : Act = say t group (Transition (start line border - group_start line m.place) line.nid_c (nid_rbc line d)) in
       let said = sends line ok c d (Announce number t m.place.track) k linked ((omega arith, omega (arith, room, low)), engine, track) old in
       let counted : Kept line ok c (record k { announced = number }) = record { clock = old.clock; announced = omega (arith, room); out = old.out; heard = old.heard; mission = old.mission; wait = old.wait; expects = old.expects } in
-      let f : Mission → Mission = λ n. record n { handing = Some (record { number = number; to = d; is_claimed = false }) } in
+      let f : Mission → Mission = λ n. record n { handing = Some (record { number = number; to = d }) } in
       then_goes line ok c ((send d (Announce number t m.place.track) >> become (λ j. record j { announced = number })) >> change_mission t f) telling k
       (then_goes line ok c (send d (Announce number t m.place.track) >> become (λ j. record j { announced = number })) (change_mission t f) k
       (then_goes line ok c (send d (Announce number t m.place.track)) (become (λ j. record j { announced = number })) k said (λ j is same. quiet line ok c (subst (λ (x : Centre). Kept line ok c (record x { announced = number })) (sym is) counted)))
       (λ j is same. changes line ok c t f j same (λ n fine. handed number n fine (omega arith) (omega (arith, room, low)))))
       (λ j is same. quiet line ok c same)
     where
-      handed : (number : ℕ) (n : Mission) → Fine n → 1 ≤ number → number ≤ 4294967295 → Fine (record n { handing = Some (record { number = number; to = d; is_claimed = false }) })
+      handed : (number : ℕ) (n : Mission) → Fine n → 1 ≤ number → number ≤ 4294967295 → Fine (record n { handing = Some (record { number = number; to = d }) })
       handed number n is low high = record {
         place = is.place;
         hand = is.hand;
@@ -121,7 +121,7 @@ module _ (line : Line) (ok : IsLine line) (c : ℕ) (t : ℕ) (engine : IsEngine
         pool = is.pool;
         pool_home = is.pool_home;
         follows = is.follows;
-        handing = λ h at. let same : record { number = number; to = d; is_claimed = false } ≡ h = same_Some _ h at in
+        handing = λ h at. let same : record { number = number; to = d } ≡ h = same_Some _ h at in
             subst (λ (x : Handing). IsHandoverNumber x.number × (is_linked line c x.to ≡ true)) same ((low, high), linked);
       }
 
@@ -237,7 +237,7 @@ module _ (line : Line) (ok : IsLine line) (c : ℕ) (t : ℕ) (engine : IsEngine
           then_goes line ok c first
           (option_map_or (at_border line c t) (next_centre line c m.place.track) rest) k
           (then_goes line ok c (booked is_open (Taken t) (extension line c k m) >> set_mission t (Some n)) (say t m.place.group (Authority (authority line n))) k
-          (then_goes line ok c (booked is_open (Taken t) (extension line c k m)) (set_mission t (Some n)) k (books line ok c is_open (Taken t) (extension line c k m) k old (λ u d is. cc))
+          (then_goes line ok c (booked is_open (Taken t) (extension line c k m)) (set_mission t (Some n)) k (books line ok c is_open (Taken t) (extension line c k m) k old (λ u is. cc))
           (λ j is same. sets line ok c t (Some n) j same (λ p was. subst Fine (same_Some n p was) (extended_range k m fine))))
           (λ j is same. quiet line ok c same))
           (λ j is same. or_goes line ok c (next_centre line c m.place.track) (at_border line c t) rest j

@@ -1,4 +1,6 @@
 -- Acts of a centre that leave it in its ranges and send bodies in theirs, on links alone: part by part.
+use Rattle.rbc_spec.specs.Links.{taking_over}
+use Rattle.rbc_spec.specs.Step.{withdraw}
 use Rattle.std.proofs.Common.{◌≡◌, ◌≢◌, ℕ, ◌+◌, ◌-◌, ◌<◌, ◌≤◌, ◌==◌, ◌&&◌, ◌||◌, if◌then◌else◌, Bool, true, false, [], ◌∷◌, All, Option, Some, None, option_map, refl, sym, ap, ◌∙◌, subst, arith, ⊎_elim, eqb-true}
 use Rattle.std.specs.Option.{option_map_or}
 use Rattle.std.proofs.lemmas.Option.{same_Some}
@@ -10,9 +12,9 @@ use Rattle.rbc_spec.specs.Line.{Line, IsLine, is_home, is_linked}
 use Rattle.rbc_spec.specs.Sections.{home_run, is_on}
 use Rattle.rbc_spec.specs.Place.{Place, covered}
 use Rattle.rbc_spec.specs.Message.{unknown_time}
-use Rattle.rbc_spec.specs.Frame.{Body, RouteReturn, Cancel, Yield, IsEngine, IsHandoverNumber, HasBodyRange, yielded_place}
+use Rattle.rbc_spec.specs.Frame.{Body, RouteReturn, Cancel, Yield, IsEngine, IsHandoverNumber, HasBodyRange, yielded_place, RouteWithdraw}
 use Rattle.rbc_spec.specs.Centre.{Centre, Entry, Shut, Open, Out, Mission, Handing, Expectation, is_up, is_taken_for}
-use Rattle.rbc_spec.specs.Acts.{Act, Reply, rest, ◌>>◌, where_so, send, booked, freed, returned, leave, set_mission, change_mission, cancel, part_at, end_order, yield, is_of_two, yield_if_due, may_propose, propose, propose_if_so}
+use Rattle.rbc_spec.specs.Acts.{Act, Reply, rest, ◌>>◌, where_so, send, booked, freed, returned, leave, set_mission, change_mission, cancel, part_at, end_order, yield, may_propose, propose, propose_if_so}
 use Rattle.rbc_spec.specs.Rules.{drop_wait}
 use Rattle.law_base.proofs.Puts.{put_here, put_other}
 use Rattle.law_base.proofs.Runs.{within_from}
@@ -30,7 +32,7 @@ module _ (line : Line) (ok : IsLine line) (c : ℕ) where
 
   -- ## What an act leaves
 
-  pub with_book : (k : Centre) (book : ℕ → Entry) → Kept k → ((s t d : ℕ) → book s ≡ Out t d → IsEngine t × (is_linked line c d ≡ true)) → Kept (record k { book = book })
+  pub with_book : (k : Centre) (book : ℕ → Entry) → Kept k → ((s t : ℕ) → book s ≡ Out t → IsEngine t) → Kept (record k { book = book })
   with_book k book old out = record { clock = old.clock; announced = old.announced; out = out; heard = old.heard; mission = old.mission; wait = old.wait; expects = old.expects }
 
   pub with_mission_of : (k : Centre) (t : ℕ) (new : Option Mission) → Kept k → ((m : Mission) → new ≡ Some m → HasMissionRanges line c m) → Kept (record k { mission = put k.mission t new })
@@ -139,20 +141,28 @@ module _ (line : Line) (ok : IsLine line) (c : ℕ) where
   pub changes : (t : ℕ) (change : Mission → Mission) (k : Centre) → Kept k → ((m : Mission) → HasMissionRanges line c m → HasMissionRanges line c (change m)) → Goes (change_mission t change k)
   changes t change k old keeps = changes_at t change k old (λ m at. keeps m (old.mission t m at))
 
-  pub books : (is_meant : Entry → Bool) (entry : Entry) (r : SectionRun) (k : Centre) → Kept k → ((t d : ℕ) → entry ≡ Out t d → IsEngine t × (is_linked line c d ≡ true)) → Goes (booked is_meant entry r k)
-  books is_meant entry r k old fine = quiet (with_book k _ old (λ s t d. by_test s t d (within r s && is_meant (k.book s))))
+  pub books : (is_meant : Entry → Bool) (entry : Entry) (r : SectionRun) (k : Centre) → Kept k → ((t : ℕ) → entry ≡ Out t → IsEngine t) → Goes (booked is_meant entry r k)
+  books is_meant entry r k old fine = quiet (with_book k _ old (λ s t. by_test s t (within r s && is_meant (k.book s))))
     where
-      by_test : (s t d : ℕ) (b : Bool) → (if b then entry else k.book s) ≡ Out t d → IsEngine t × (is_linked line c d ≡ true)
-      by_test s t d true is = fine t d is
-      by_test s t d false is = old.out s t d is
+      by_test : (s t : ℕ) (b : Bool) → (if b then entry else k.book s) ≡ Out t → IsEngine t
+      by_test s t true is = fine t is
+      by_test s t false is = old.out s t is
 
   pub frees : (is_meant : Entry → Bool) (r : SectionRun) (k : Centre) → Kept k → Goes (freed line c is_meant r k)
-  frees is_meant r k old = quiet (with_book k _ old (λ s t d. by_test s t d ((within r s && is_home line c s) && is_meant (k.book s)) (k.wish s)))
+  frees is_meant r k old = quiet (with_book k _ old (λ s t. by_test s t ((within r s && is_home line c s) && is_meant (k.book s)) (k.wish s)))
     where
-      by_test : (s t d : ℕ) (b wished : Bool) → (if b then (if wished then Shut else Open) else k.book s) ≡ Out t d → IsEngine t × (is_linked line c d ≡ true)
-      by_test s t d true true is = cc
-      by_test s t d true false is = cc
-      by_test s t d false wished is = old.out s t d is
+      by_test : (s t : ℕ) (b wished : Bool) → (if b then (if wished then Shut else Open) else k.book s) ≡ Out t → IsEngine t
+      by_test s t true true is = cc
+      by_test s t true false is = cc
+      by_test s t false wished is = old.out s t is
+
+  -- each other centre is told that a section is wished back
+  pub withdraws : (t s : ℕ) (k : Centre) → IsEngine t → s ≤ 511 → Kept k → Goes (withdraw line c t s k)
+  withdraws t s k engine low old = record { centre = old; bodies = λ d. by_link d (is_linked line c d) refl }
+    where
+      by_link : (d : ℕ) (b : Bool) → is_linked line c d ≡ b → All (IsSentInRange line c d) (if b then RouteWithdraw t s ∷ [] else [])
+      by_link d true linked = All-cons (IsSentInRange line c d) (RouteWithdraw t s) [] (record { linked = linked; body = (engine, low) }) (All-nil (IsSentInRange line c d))
+      by_link d false apart = All-nil (IsSentInRange line c d)
 
   -- ## Sections that go home
 
@@ -194,10 +204,10 @@ module _ (line : Line) (ok : IsLine line) (c : ℕ) where
 
   pub yields_it : (t : ℕ) (m : Mission) (h : Handing) (k : Centre) → IsEngine t → HasMissionRanges line c m → m.handing ≡ Some h → Kept k → Goes (yield line c t m h k)
   yields_it t m h k engine fine handed old = then_goes _ (if is_empty (part_at line c m.place.track m.hand) then end_order line c t else rest) k
-      (then_goes (returned line c t m.place.track m.pool >> booked (is_taken_for t) (Out t h.to) m.hand) _ k
-      (then_goes (returned line c t m.place.track m.pool) (booked (is_taken_for t) (Out t h.to) m.hand) k
+      (then_goes (returned line c t m.place.track m.pool >> booked (is_taken_for t) (Out t) m.hand) _ k
+      (then_goes (returned line c t m.place.track m.pool) (booked (is_taken_for t) (Out t) m.hand) k
       (returns t m.place.track m.pool k engine (omega (arith, fine.pool)) fine.pool_home old)
-      (λ j is same. books (is_taken_for t) (Out t h.to) m.hand j same out_to))
+      (λ j is same. books (is_taken_for t) (Out t) m.hand j same out_to))
       (λ j is same. then_goes (set_mission t None) (send h.to (Yield h.number t (option_map_or (λ n. n) (k.heard t) 0) m.has_data m.is_ended (yielded_place m.place) m.hand)) j
       (sets t None j same (λ n at. cc))
       (λ i at last. sends h.to _ i to.1 (to.0, engine, by_heard (k.heard t) (old.heard t), fine.place, fine.hand) last)))
@@ -206,17 +216,17 @@ module _ (line : Line) (ok : IsLine line) (c : ℕ) where
       to : IsHandoverNumber h.number × (is_linked line c h.to ≡ true)
       to = fine.handing h handed
 
-      out_to : (u d : ℕ) → Out t h.to ≡ Out u d → IsEngine u × (is_linked line c d ≡ true)
-      out_to u d is = let train : t ≡ u = cc in let centre : h.to ≡ d = cc in (subst IsEngine train engine, subst (λ x. is_linked line c x ≡ true) centre to.1)
+      out_to : (u : ℕ) → Out t ≡ Out u → IsEngine u
+      out_to u is = let train : t ≡ u = cc in subst IsEngine train engine
 
       by_heard : (o : Option ℕ) → ((time : ℕ) → o ≡ Some time → time < unknown_time) → option_map_or (λ n. n) o 0 ≤ 4294967294
       by_heard (Some time) known = omega (arith, known time refl)
       by_heard None known = omega arith
 
-  pub yields_if_due : (t : ℕ) (k : Centre) → IsEngine t → Kept k → Goes (yield_if_due line c t k)
-  yields_if_due t k engine old = or_reply (k.mission t) _ (rest k)
-      (λ m at. or_reply m.handing (λ h. where_so (λ j. h.is_claimed && is_of_two line c h.to m.hand) (yield line c t m h) k) (rest k)
-      (λ h handed. if_reply (h.is_claimed && is_of_two line c h.to m.hand) (yield line c t m h k) (rest k) (λ due. yields_it t m h k engine (old.mission t m at) handed old) (λ wait. quiet old))
+  pub yields_over : (d number t : ℕ) (k : Centre) → IsEngine t → Kept k → Goes (taking_over line c d number t k)
+  yields_over d number t k engine old = or_reply (k.mission t) _ (rest k)
+      (λ m at. or_reply m.handing (λ h. where_so (λ j. (h.number == number) && (h.to == d)) (yield line c t m h) k) (rest k)
+      (λ h handed. if_reply ((h.number == number) && (h.to == d)) (yield line c t m h k) (rest k) (λ due. yields_it t m h k engine (old.mission t m at) handed old) (λ wait. quiet old))
       (λ none. quiet old))
       (λ none. quiet old)
 

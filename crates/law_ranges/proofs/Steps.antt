@@ -20,7 +20,7 @@ unfolding beginning
 begins_in_range line c = record {
   clock = omega arith;
   announced = omega arith;
-  out = λ s t d is. cc;
+  out = λ s t is. cc;
   heard = λ t time is. cc;
   mission = λ t m is. cc;
   wait = λ t place is. cc;

@@ -63,13 +63,13 @@ pub record HasMissionParts (line : Line) (c : ℕ) (p : Place) (held lent : Sect
 abbrev pub HasMissionRanges : Line → ℕ → Mission → Type 0
 HasMissionRanges line c m = HasMissionParts line c m.place m.hand m.pool m.handing
 
--- what centre c keeps: no more handovers were announced than steps were made, each time that was heard is known, and each centre that has a
--- section of it or announced a train has a link with it
+-- what centre c keeps: no more handovers were announced than steps were made, each time that was heard is known, and each centre that announced
+-- a train has a link with it
 pub record HasStateParts (line : Line) (c stamp count : ℕ) (book : ℕ → Entry) (times : ℕ → Option ℕ) (missions : ℕ → Option Mission) (waits : ℕ → Option Place)
     (expected : ℕ → ℕ → Option Expectation) : Type 0 where
   pub clock : stamp ≤ last_stamp
   pub announced : count ≤ stamp
-  pub out : (s t d : ℕ) → book s ≡ Out t d → IsEngine t × (is_linked line c d ≡ true)
+  pub out : (s t : ℕ) → book s ≡ Out t → IsEngine t
   pub heard : (t time : ℕ) → times t ≡ Some time → time < unknown_time
   pub mission : (t : ℕ) (m : Mission) → missions t ≡ Some m → HasMissionRanges line c m
   pub wait : (t : ℕ) (place : Place) → waits t ≡ Some place → HasStartRanges line c place

@@ -5,7 +5,7 @@ use Rattle.std.proofs.lemmas.Option.{same_Some}
 use Rattle.std.proofs.lemmas.List.Elements.{All-weaker}
 use Rattle.law_counting.specs.Network.{EachOnTheWay, way}
 use Rattle.rbc_spec.specs.SectionRuns.{SectionRun}
-use Rattle.rbc_spec.specs.Line.{Line, is_home, next_centre}
+use Rattle.rbc_spec.specs.Line.{Line, next_centre}
 use Rattle.rbc_spec.specs.Place.{Place}
 use Rattle.rbc_spec.specs.Frame.{YieldedPlace, place_with_front, carried_place, Body, Announce, Cancel, Yield}
 use Rattle.law_network.specs.Flow.{Flow}
@@ -33,8 +33,7 @@ module _ (line : Line) (a b t : ℕ) (carried : YieldedPlace) (hand : SectionRun
     is_hand = λ place at. subst (λ (p : Place). IsHandAt line p hand) (same place at) sound.is_hand;
     to_next = λ place at. ap (λ (p : Place). next_centre line a p.track) (sym (same place at)) ∙ sound.to_next;
     known = sound.known;
-    of_two = λ s inside. ⊎_elim (λ (from : is_home line a s ≡ true). left_so (is_home line a s) (is_home line b s) from)
-        (λ (to : is_home line b s ≡ true). right_so (is_home line a s) (is_home line b s) to) (sound.of_two s inside);
+    hand_ends = λ place at s n next. sound.hand_ends s n (ap (λ (p : Place). next_centre line b p.track) (same place at) ∙ next);
   }
     where
       same : (place : Place) → carried_place carried ≡ Some place → sound.place ≡ place
@@ -50,7 +49,7 @@ module _ (line : Line) (a b t : ℕ) (carried : YieldedPlace) (hand : SectionRun
         is_hand = known.is_hand (record { track = carried.track; group = carried.group; front = front; rear = carried.rear }) (ap (place_with_front carried) at);
         to_next = known.to_next (record { track = carried.track; group = carried.group; front = front; rear = carried.rear }) (ap (place_with_front carried) at);
         known = known.known;
-        of_two = λ s inside. either (is_home line a s) (is_home line b s) (known.of_two s inside);
+        hand_ends = λ s n next. known.hand_ends (record { track = carried.track; group = carried.group; front = front; rear = carried.rear }) (ap (place_with_front carried) at) s n next;
       }
       by_front (negsuc n) at = absurd (let wrong : false ≡ true = sym (ap (λ (front : ℤ). is_some (place_with_front carried front)) at) ∙ known.carries in cc)
 

@@ -55,7 +55,6 @@ module _ (line : Line) (ok : IsLine line) (events : List Event) (answers : List 
     pairs = λ a b t from to. pair_known (flow_of w) a b t (met.sound.flow.pairs a b t from to);
     announced = reached.announced line ok events answers w is;
     whole = reached.loses_nothing line ok events answers w is;
-    lent = met.sound.flow.lent;
     shows = met.shows;
   }
 
@@ -70,7 +69,6 @@ module _ (line : Line) (w : World) (known : IsKnown line w) where
     no_sent = λ a b away. ap (map (λ (f : Frame). f.body)) (known.no_sent a b (one_away (is_centre line a) (is_centre line b) away));
     rights = λ t. record { law = omega (arith, (known.whole.rights t).law) };
     tokens = λ t s. record { law = omega (arith, (known.whole.tokens t s).law) };
-    lent = known.lent;
     bodies = bodies_sound line (flow_of w) known.bodies;
     pairs = λ a b t from to. pair_sound (flow_of w) a b t (known.pairs a b t from to);
   }

@@ -1,17 +1,15 @@
 -- What is known of a world that events led to. There is one proof of it at most, so a value may keep it: where a world is sound
 -- by one of two reasons, this says the test that tells.
-use Rattle.std.specs.Prelude.{◌≡◌, ℕ, ◌+◌, ◌<◌, ◌≤◌, true, false, ◌&&◌, ◌||◌, [], Some, None, option_map, is_some, nat_lt, length}
+use Rattle.std.specs.Prelude.{◌≡◌, ℕ, ◌+◌, ◌<◌, ◌≤◌, true, false, ◌&&◌, [], Some, None, option_map, is_some, nat_lt, length}
 use Rattle.law_counting.specs.Network.{IsCounted, EachOnTheWay, way}
 use Rattle.law_counting.specs.Chain.{Chain}
-use Rattle.law_counting.specs.Resource.{IsWithinCap}
 use Rattle.rbc_spec.specs.SectionRuns.{SectionRun, within}
 use Rattle.rbc_spec.specs.Line.{Line, is_centre, is_home, next_centre, train_number}
 use Rattle.rbc_spec.specs.Place.{Place}
 use Rattle.rbc_spec.specs.Frame.{YieldedPlace, carried_place, Body, Announce, Cancel, Yield}
 use Rattle.rbc_spec.specs.World.{World}
 use Rattle.rbc_spec.specs.ReadOff.{read_off}
-use Rattle.law_network.specs.Flow.{Flow, flow_of, centre_count}
-use Rattle.law_network.specs.Counts.{lent}
+use Rattle.law_network.specs.Flow.{Flow, flow_of}
 use Rattle.law_network.specs.Numbers.{IsNumbered}
 use Rattle.law_network.specs.Pairs.{follows, handing_to, before, after}
 use Rattle.law_network.specs.Sound.{IsHandAt, IsCentreSound, LosesNothing}
@@ -20,13 +18,13 @@ use Rattle.law_refinement.specs.Announced.{IsAnnounced}
 
 -- ## What is on the way
 
--- a Yield from a to b carries a place, which is of the line with its hand, to the next centre, and each section of the hand is of one of these two
+-- a Yield from a to b carries a place, which is of the line with its hand, to the next centre, and no section of the hand is of the one behind that
 pub record IsYieldKnown (line : Line) (a b t : ℕ) (carried : YieldedPlace) (hand : SectionRun) : Type 0 where
   pub carries : is_some (carried_place carried) ≡ true
   pub is_hand : (place : Place) → carried_place carried ≡ Some place → IsHandAt line place hand
   pub to_next : (place : Place) → carried_place carried ≡ Some place → next_centre line a place.track ≡ Some b
   pub known : is_some (train_number line t) ≡ true
-  pub of_two : (s : ℕ) → within hand s ≡ true → (is_home line a s || is_home line b s) ≡ true
+  pub hand_ends : (place : Place) → carried_place carried ≡ Some place → (s n : ℕ) → next_centre line b place.track ≡ Some n → within hand s ≡ true → is_home line n s ≡ false
 
 -- an announcement and its cancellation name a train and a track of the line
 abbrev pub IsBodyKnown : Line → ℕ → ℕ → Body → Type 0
@@ -58,8 +56,7 @@ pub record IsKnown (line : Line) (w : World) : Type 0 where
   -- any two centres agree on each handover, and each is announced as soon as it is due
   pub pairs : (a b t : ℕ) → is_centre line a ≡ true → is_centre line b ≡ true → IsPairKnown (flow_of w) a b t
   pub announced : IsAnnounced line w
-  -- no right and no token of a section is lost or in two places, and what is lent has one name
+  -- no right and no token of a section is lost or in two places
   pub whole : LosesNothing line (flow_of w)
-  pub lent : (t s d : ℕ) → IsWithinCap (lent line t s d) (centre_count line) (flow_of w)
   -- the one line centre shows the world, in the state that is read off it
   pub shows : Shows line (flow_of w) (read_off line w)

@@ -1,4 +1,5 @@
 -- Each act of a centre keeps that a mission without a handover has no section of the next centre.
+use Rattle.rbc_spec.specs.Links.{taking_over}
 use Rattle.std.proofs.Common.{◌≡◌, ◌==◌, ◌-◌, option_map, ℕ, ◌+◌, Bool, true, false, not, ◌&&◌, if◌then◌else◌, Option, Some, None, is_none, nat_lt, ◌≢◌, refl, sym, ap, ◌∙◌, subst, arith, eqb-true, ⊎_elim}
 use Rattle.std.specs.Option.{option_map_or}
 use Rattle.rbc_spec.specs.Maps.{has, put}
@@ -9,7 +10,7 @@ use Rattle.rbc_spec.specs.Place.{Place, covered}
 use Rattle.rbc_spec.specs.Message.{unknown_group, EndSession}
 use Rattle.rbc_spec.specs.Frame.{Cancel}
 use Rattle.rbc_spec.specs.Centre.{Centre, Taken, Mission, Handing, is_registrar_of, is_open, is_up}
-use Rattle.rbc_spec.specs.Acts.{Act, set_mission, begun, booked, is_of_two, say, send, change_mission, part_at, may_propose, rest, ◌>>◌, where_so, with_some, leave, cancel, return_right, close, propose, propose_if_so, announce, ask_route, end_order, yield, yield_if_due}
+use Rattle.rbc_spec.specs.Acts.{Act, set_mission, begun, booked, say, send, change_mission, part_at, may_propose, rest, ◌>>◌, where_so, with_some, leave, cancel, return_right, close, propose, propose_if_so, announce, ask_route, end_order, yield}
 use Rattle.rbc_spec.specs.Rules.{extension, extended_by, choose, drop_wait, close_session, begin, announce_if_due, ask_route_if_due, at_border, grant}
 use Rattle.std.proofs.lemmas.Bool.{cases_eq, and_parts, and_from, eqb-false}
 use Rattle.std.proofs.lemmas.Option.{same_Some}
@@ -158,8 +159,8 @@ module _ (line : Line) (ok : IsLine line) (c : ℕ) where
           (branch (is_empty (part_at line c m.place.track m.hand)) (end_order line c t) rest end_keeps (record { each = λ j old. old }))).each k;
     }
 
-    pub yield_if_keeps : Keeps (yield_if_due line c t)
-    yield_if_keeps = of_some (λ k. k.mission t) _ (λ m. of_some (λ k. m.handing) _ (λ h. when (λ k. h.is_claimed && is_of_two line c h.to m.hand) _ (yield_keeps m h)))
+    pub over_keeps : (d number : ℕ) → Keeps (taking_over line c d number t)
+    over_keeps d number = of_some (λ k. k.mission t) _ (λ m. of_some (λ k. m.handing) _ (λ h. when (λ k. (h.number == number) && (h.to == d)) _ (yield_keeps m h)))
 
     pub drop_keeps : Keeps (drop_wait line c t)
     drop_keeps = of_some _ _ (λ place. both _ _ (record { each = λ k old. old }) (record { each = λ k old. old }))
@@ -213,7 +214,7 @@ module _ (line : Line) (ok : IsLine line) (c : ℕ) where
           by_due : (x : Mission) → x ≡ n → (b : Bool) → is_due e x ≡ b → All (if b then announce line t x.place.group e x j else rest j).state
           by_due x same true is = others (announce line t x.place.group e x j).state
               (λ u other. put_other j.mission t u _ other ∙ put_other k.mission t u (Some n) other)
-              (λ z at d none. absurd (never (λ q. record q { handing = Some (record { number = j.announced + 1; to = e; is_claimed = false }) }) (λ q is_none. cc) (j.mission t) z (sym (put_there j.mission t _) ∙ at) none))
+              (λ z at d none. absurd (never (λ q. record q { handing = Some (record { number = j.announced + 1; to = e }) }) (λ q is_none. cc) (j.mission t) z (sym (put_there j.mission t _) ∙ at) none))
           by_due x same false is = with_n (stays_none x same is)
 
           by_mission : (o : Option Mission) → j.mission t ≡ o

@@ -1,6 +1,8 @@
 -- So does each event: a message, a word of the interlocking, and a frame.
-use Rattle.std.proofs.Common.{◌≡◌, ◌==◌, ℕ, ◌+◌, Bool, true, false, not, ◌&&◌, if◌then◌else◌, Option, Some, None, nat_lt, nat_le, ◌*◌, refl, sym, ap, ◌∙◌, subst, eqb-true}
+use Rattle.std.proofs.Common.{◌≡◌, ◌==◌, ℕ, ◌+◌, Bool, true, false, not, if◌then◌else◌, Option, Some, None, nat_lt, nat_le, ◌*◌, refl, sym, ap, ◌∙◌, subst, eqb-true, ◌-◌}
 use Rattle.std.specs.Option.{option_map_or}
+use Rattle.law_base.proofs.Standstill.{rests_or_cuts}
+use Rattle.law_centre.proofs.Reported.{report_leaves}
 use Rattle.rbc_spec.specs.Maps.{has, put}
 use Rattle.rbc_spec.specs.SectionRuns.{SectionRun, part_from, all_of, within, no_run, behind, is_empty, part_before, joined}
 use Rattle.rbc_spec.specs.Line.{Line, section, end, registrar, next_centre, is_home}
@@ -8,8 +10,8 @@ use Rattle.rbc_spec.specs.Sections.{is_on}
 use Rattle.rbc_spec.specs.Place.{Place, Position, covered, fit_place, place_on}
 use Rattle.rbc_spec.specs.Frame.{Cancel}
 use Rattle.rbc_spec.specs.Centre.{Centre, Taken, Mission, Handing, Proposal, is_registrar_of, is_free, is_open, is_out_for}
-use Rattle.rbc_spec.specs.Acts.{Act, return_pool, set_mission, become, booked, returned, send, change_mission, part_at, rest, ◌>>◌, with_some, leave, cancel, close, yield_if_due}
-use Rattle.rbc_spec.specs.Rules.{cleared, clear, accept, restart, begin, start_here, start_waiting, start_new, start_mission, report_here, take_over, report, end_mission, cut, granted, reject}
+use Rattle.rbc_spec.specs.Acts.{Act, return_pool, set_mission, become, booked, returned, send, change_mission, part_at, rest, ◌>>◌, with_some, leave, cancel, close}
+use Rattle.rbc_spec.specs.Rules.{cleared, clear, accept, restart, begin, start_here, start_waiting, start_new, start_mission, report_here, take_over, report, end_mission, cut, granted, reject, stand_still}
 use Rattle.rbc_spec.specs.Links.{may_arrive, take_mission}
 use Rattle.rbc_spec.specs.Step.{taken}
 use Rattle.std.proofs.lemmas.Bool.{and_parts}
@@ -18,14 +20,14 @@ use Rattle.law_base.proofs.Puts.{itself, put_there}
 use Rattle.law_base.proofs.Lines.{one_home}
 use Rattle.law_base.proofs.Runs.{within_part_from, within_part_before, each_within}
 use Rattle.rbc_spec.proofs.Places.{homes_run}
-use Rattle.rbc_spec.specs.Line.{IsLine, Section, is_linked}
+use Rattle.rbc_spec.specs.Line.{IsLine, Section}
 use Rattle.law_network.specs.Sound.{IsHandAt}
 use Rattle.law_local.proofs.Ordered.{is_ordered}
 use Rattle.law_centre.proofs.Places.{placed_on}
 use Rattle.law_centre_sound.proofs.Places.{reported, fit_is, fit_hand, same_track}
 use Rattle.law_refine_followups.specs.Announced.{IsAnnounced}
 use Rattle.law_refine_followups.specs.Shown.{ends}
-use Rattle.law_refine_followups.proofs.Announced.{All, Keeps, none_at, fewer, not_itself, set_all, change_all, both, branch, when, chosen, of_some, of_option, changes, leave_keeps, close_keeps, propose_if_keeps, yield_if_keeps, begin_keeps}
+use Rattle.law_refine_followups.proofs.Announced.{All, Keeps, none_at, fewer, not_itself, set_all, change_all, both, branch, when, chosen, of_some, of_option, changes, leave_keeps, close_keeps, propose_if_keeps, begin_keeps}
 
 module _ (line : Line) (ok : IsLine line) (c : ℕ) where
   abbrev pub Has : Centre → Type 0
@@ -70,21 +72,7 @@ module _ (line : Line) (ok : IsLine line) (c : ℕ) where
     unfolding ◌>>◌
     report_all position k old = by_mission (k.mission t) refl
       where
-        by_mission : (o : Option Mission) → k.mission t ≡ o → Has (option_map_or (λ m. (report_here line c t position m >> yield_if_due line c t) k) o (take_over line t k)).state
-        by_mission None none = old
-        by_mission (Some m) at = (yield_if_keeps line ok c t).each (report_here line c t position m k).state (here_all position m k at old)
-
-    ending : K (with_some (λ j. j.mission t) (ends line c t))
-    ending = of_some line ok c (λ j. j.mission t) (ends line c t) (λ m. both line ok c (return_pool line c t m) (change_mission t (λ n. record n { is_ended = true; proposal = None }))
-        (both line ok c (returned line c t m.place.track m.pool) (change_mission t (λ n. record n { pool = no_run })) (record { each = λ j has. has }) (changes line ok c t (λ n. record n { pool = no_run }) (λ n fits. fits)))
-        (changes line ok c t (λ n. record n { is_ended = true; proposal = None }) (λ n fits. fits)))
-
-    pub end_all : (position : Position) (k : Centre) → Has k → Has (end_mission line c t position k).state
-    unfolding ◌>>◌
-    end_all position k old = (yield_if_keeps line ok c t).each (with_some (λ j. j.mission t) (ends line c t) (with_some (λ j. j.mission t) (report_here line c t position) k).state).state
-        (ending.each (with_some (λ j. j.mission t) (report_here line c t position) k).state (by_mission (k.mission t) refl))
-      where
-        by_mission : (o : Option Mission) → k.mission t ≡ o → Has (option_map_or (λ m. report_here line c t position m k) o (rest k)).state
+        by_mission : (o : Option Mission) → k.mission t ≡ o → Has (option_map_or (λ m. report_here line c t position m k) o (take_over line t k)).state
         by_mission None none = old
         by_mission (Some m) at = here_all position m k at old
 
@@ -133,7 +121,7 @@ module _ (line : Line) (ok : IsLine line) (c : ℕ) where
     pub granted_all : (position : Position) (m : Mission) (p : Proposal) (k : Centre) → k.mission t ≡ Some m → ((h : Handing) → m.handing ≡ Some h → next_centre line c m.place.track ≡ Some h.to) → Has k
         → Has (granted line c t position m p k).state
     unfolding ◌>>◌
-    granted_all position m p k at to old = (yield_if_keeps line ok c t).each _ (by_place (place_on line m.place.track position))
+    granted_all position m p k at to old = by_place (place_on line m.place.track position)
       where
         j : Centre
         j = (change_mission t (λ n. record n { proposal = None }) k).state
@@ -148,6 +136,42 @@ module _ (line : Line) (ok : IsLine line) (c : ℕ) where
         by_place : (o : Option Place) → Has (option_map_or (λ place. if nat_le place.front (10 * end line p.last_kept) then cut line c t p.last_kept m else rest) o rest j).state
         by_place None = all_j
         by_place (Some place) = by_front (nat_le place.front (10 * end line p.last_kept))
+
+    -- ## End of mission
+
+    -- each handover is to the next centre of its mission's track
+    abbrev GoesOnward : Centre → Type 0
+    GoesOnward k = (m : Mission) → k.mission t ≡ Some m → (h : Handing) → m.handing ≡ Some h → next_centre line c m.place.track ≡ Some h.to
+
+    stood_all : (position : Position) (k : Centre) → GoesOnward k → Has k → Has (with_some (λ j. j.mission t) (stand_still line c t position) k).state
+    stood_all position k onward old = by_mission (k.mission t) refl
+      where
+        by_mission : (o : Option Mission) → k.mission t ≡ o → Has (option_map_or (λ m. stand_still line c t position m k) o (rest k)).state
+        by_mission None none = old
+        by_mission (Some m) at = rests_or_cuts (λ act. Has (act k).state) line c t position m old (λ n some fits. cut_all (m.hand.first + n - 1) m k (old t m at) (onward m at) old)
+
+    ending : K (with_some (λ j. j.mission t) (ends line c t))
+    ending = of_some line ok c (λ j. j.mission t) (ends line c t) (λ m. both line ok c (return_pool line c t m) (change_mission t (λ n. record n { is_ended = true; proposal = None }))
+        (both line ok c (returned line c t m.place.track m.pool) (change_mission t (λ n. record n { pool = no_run })) (record { each = λ j has. has }) (changes line ok c t (λ n. record n { pool = no_run }) (λ n fits. fits)))
+        (changes line ok c t (λ n. record n { is_ended = true; proposal = None }) (λ n fits. fits)))
+
+    pub end_all : (position : Position) (k : Centre) → GoesOnward k → Has k → Has (end_mission line c t position k).state
+    unfolding ◌>>◌
+    end_all position k onward old = ending.each stood (stood_all position reported onward_still (by_mission (k.mission t) refl))
+      where
+        reported : Centre
+        reported = (with_some (λ j. j.mission t) (report_here line c t position) k).state
+
+        stood : Centre
+        stood = (with_some (λ j. j.mission t) (stand_still line c t position) reported).state
+
+        onward_still : GoesOnward reported
+        onward_still n at h stands = let was = report_leaves line c t position k n at in
+            ap (next_centre line c) was.2.track ∙ onward was.0 was.1 h (sym was.2.handing ∙ stands)
+
+        by_mission : (o : Option Mission) → k.mission t ≡ o → Has (option_map_or (λ m. report_here line c t position m k) o (rest k)).state
+        by_mission None none = old
+        by_mission (Some m) at = here_all position m k at old
 
     -- ## Starts
 
@@ -192,22 +216,21 @@ module _ (line : Line) (ok : IsLine line) (c : ℕ) where
 
     -- ## A mission that comes
 
-    pub came_fits : (k : Centre) (d : ℕ) (place : Place) (m : Mission) → m.place ≡ place → all_of (may_arrive line c k d t place.track) m.hand ≡ true → IsAnnounced line c m
+    pub came_fits : (k : Centre) (d : ℕ) (place : Place) (m : Mission) → m.place ≡ place → all_of (may_arrive line c k t place.track) m.hand ≡ true → IsAnnounced line c m
     came_fits k d place m same arrives e none next = none_at line ok c e m.place.track m.hand (λ s in_hand in_run.
         let of_e = (and_parts (is_home line e s) (is_on line m.place.track s) (sym (homes_run line e m.place.track s ok) ∙ in_run)).0 in
-        let may : may_arrive line c k d t m.place.track s ≡ true = ap (λ (p : Place). may_arrive line c k d t p.track s) same ∙ each_within (may_arrive line c k d t place.track) m.hand arrives s in_hand in
+        let may : may_arrive line c k t m.place.track s ≡ true = ap (λ (p : Place). may_arrive line c k t p.track s) same ∙ each_within (may_arrive line c k t place.track) m.hand arrives s in_hand in
         by_home s e of_e next (is_home line c s) refl may)
       where
         by_section : (e : ℕ) → next_centre line c m.place.track ≡ Some e → (o : Option Section) → has (λ p. p.home == e) o ≡ true
-            → has (λ p. is_linked line c p.home && not (has (λ n. n == p.home) (next_centre line c m.place.track))) o ≡ true → ⊥
+            → has (λ p. not (has (λ n. n == p.home) (next_centre line c m.place.track))) o ≡ true → ⊥
         by_section e next None home may = cc
         by_section e next (Some p) home may =
             let is : p.home ≡ e = eqb-true p.home e home in
-            let no_next = (and_parts (is_linked line c p.home) (not (has (λ n. n == p.home) (next_centre line c m.place.track))) may).1 in
-            let wrong : false ≡ true = ap not (sym (itself e)) ∙ ap (λ x. not (e == x)) (sym is) ∙ ap (λ o. not (has (λ n. n == p.home) o)) (sym next) ∙ no_next in cc
+            let wrong : false ≡ true = ap not (sym (itself e)) ∙ ap (λ x. not (e == x)) (sym is) ∙ ap (λ o. not (has (λ n. n == p.home) o)) (sym next) ∙ may in cc
 
         by_home : (s e : ℕ) → is_home line e s ≡ true → next_centre line c m.place.track ≡ Some e → (b : Bool) → is_home line c s ≡ b
-            → (if b then is_out_for t d (k.book s) else has (λ p. is_linked line c p.home && not (has (λ n. n == p.home) (next_centre line c m.place.track))) (section line s)) ≡ true → ⊥
+            → (if b then is_out_for t (k.book s) else has (λ p. not (has (λ n. n == p.home) (next_centre line c m.place.track))) (section line s)) ≡ true → ⊥
         by_home s e of_e next true own may = not_itself line ok c e m.place.track next (one_home line e c s of_e own)
         by_home s e of_e next false away may = by_section e next (section line s) of_e may
 

@@ -1,5 +1,5 @@
 -- So each step of a centre does: of a message, a word of the interlocking, and a frame.
-use Rattle.std.proofs.Common.{◌≡◌, ◌==◌, option_map, ℕ, Bool, true, false, not, ◌&&◌, if◌then◌else◌, Option, Some, None, is_none, is_some, nat_lt, nat_le, length, ◌*◌, refl, ap, ◌∙◌}
+use Rattle.std.proofs.Common.{◌≡◌, ℕ, Bool, true, false, not, ◌&&◌, if◌then◌else◌, Option, Some, None, is_none, is_some, nat_lt, nat_le, length, ◌*◌, refl, ap, ◌∙◌}
 use Rattle.std.specs.Option.{option_map_or}
 use Rattle.rbc_spec.specs.Maps.{has, put}
 use Rattle.rbc_spec.specs.SectionRuns.{SectionRun, part_from, all_of, within, no_run, is_empty, part_before}
@@ -11,7 +11,7 @@ use Rattle.rbc_spec.specs.Outcome.{Reason, Taken as LinkAnswer, Done, Asked, Not
 use Rattle.rbc_spec.specs.Centre.{Centre, beginning, Entry, Shut, Open, Taken, Out, Mission, Handing, Proposal, is_registrar_of, is_unused, is_open, uses_some, is_expected}
 use Rattle.rbc_spec.specs.Acts.{Act, hear, become, booked, returned, send, change_mission, rest, ◌>>◌, with_some, return_right, propose_if_so, end_order}
 use Rattle.rbc_spec.specs.Rules.{tell, choose, drop_wait, begin, grant, granted, answered, reject}
-use Rattle.rbc_spec.specs.Links.{claimed, received, of_train, is_train, lendable, expect, is_under, may_take, may_arrive, answered_ask, is_wanted, right_asked, right_given, right_refused, right_returned, route_asked, route_told, route_withdrawn, route_returned, announced, cancelled, taking_over, take_mission, yielded}
+use Rattle.rbc_spec.specs.Links.{received, of_train, is_train, lendable, expect, is_under, may_take, may_arrive, answered_ask, is_wanted, right_asked, right_given, right_refused, right_returned, route_asked, route_told, route_withdrawn, route_returned, announced, cancelled, taking_over, take_mission, yielded}
 use Rattle.rbc_spec.specs.Step as step
 use Rattle.rbc_spec.specs.Step.{Train, taken, link_answer, taken_by, set, unset, wished, make, hear_and_answer}
 use Rattle.std.proofs.lemmas.Bool.{and_parts}
@@ -19,7 +19,7 @@ use Rattle.rbc_spec.specs.Line.{IsLine}
 use Rattle.law_network.specs.Sound.{IsHandAt}
 use Rattle.law_network.specs.Counts.{wait_has}
 use Rattle.law_refine_followups.specs.Announced.{AnnouncesAll}
-use Rattle.law_refine_followups.proofs.Announced.{both, branch, when, chosen, of_some, changes, return_keeps, propose_if_keeps, end_keeps, yield_if_keeps, drop_keeps, close_session_keeps, begin_keeps, grant_all}
+use Rattle.law_refine_followups.proofs.Announced.{both, branch, when, chosen, of_some, changes, return_keeps, propose_if_keeps, end_keeps, over_keeps, drop_keeps, close_session_keeps, begin_keeps, grant_all}
 use Rattle.rbc_spec.specs.Step.{Event, Set, Unset, Deliver, stamp_of}
 use Rattle.law_network.specs.Sound.{IsCentreSound}
 use Rattle.law_handover.specs.Steps.{left_by}
@@ -65,7 +65,7 @@ module _ (line : Line) (ok : IsLine line) (c : ℕ) where
       by_mission None none = old
       by_mission (Some n) at = by_proposal n at n.proposal
   answered_all m (ShorteningRejected stamp position) k facts old = (changes line ok c m.nid_engine (λ n. record n { proposal = None }) (λ n fits. fits)).each k old
-  answered_all m (EndOfMission position) k facts old = end_all line ok c m.nid_engine position k old
+  answered_all m (EndOfMission position) k facts old = end_all line ok c m.nid_engine position k (λ n at h. facts.1 m.nid_engine n h at) old
   answered_all m InitiationOfSession k facts old = (close_session_keeps line ok c m.nid_engine).each k old
   answered_all m TerminationOfSession k facts old = (close_session_keeps line ok c m.nid_engine).each k old
   answered_all m (StartOfMission is_valid position) k facts old = start_all line ok c m.nid_engine is_valid position k (facts.0 m.nid_engine) old
@@ -99,8 +99,8 @@ module _ (line : Line) (ok : IsLine line) (c : ℕ) where
       by_asked true = by_start (is_some (k.wait t) && is_none (k.mission t))
       by_asked false = old
 
-  arrives : (d number t : ℕ) (hand : SectionRun) (place : Place) (k : Centre) → may_take line c k d number t place hand ≡ true → all_of (may_arrive line c k d t place.track) hand ≡ true
-  arrives d number t hand place k may = (and_parts _ (all_of (may_arrive line c k d t place.track) hand) (and_parts _ (nat_le (10 * group_start line place) place.front && all_of (may_arrive line c k d t place.track) hand) (and_parts _ _ may).1).1).1
+  arrives : (d number t : ℕ) (hand : SectionRun) (place : Place) (k : Centre) → may_take line c k d number t place hand ≡ true → all_of (may_arrive line c k t place.track) hand ≡ true
+  arrives d number t hand place k may = (and_parts _ (all_of (may_arrive line c k t place.track) hand) (and_parts _ (nat_le (10 * group_start line place) place.front && all_of (may_arrive line c k t place.track) hand) (and_parts _ _ may).1).1).1
 
   yield_all : (d number t heard : ℕ) (hand : SectionRun) (has_data is_ended : Bool) (place : Place) (k : Centre) → H k → H (yielded line c d number t hand heard has_data is_ended place k).state
   yield_all d number t heard hand has_data is_ended place k old = by_may (may_take line c k d number t place hand) refl
@@ -133,7 +133,7 @@ module _ (line : Line) (ok : IsLine line) (c : ℕ) where
   lends : (d t first most : ℕ) → Act-keeps (route_asked line c d t first most)
   lends d t first most = record {
     each = λ k. (when line ok c (λ j. is_some (section line first))
-        (booked is_open (Out t d) (lendable line c k first most) >> send d (RouteInfo t (lendable line c k first most))) (both line ok c _ _ (record { each = λ j old. old }) (record { each = λ j old. old }))).each k;
+        (booked is_open (Out t) (lendable line c k first most) >> send d (RouteInfo t (lendable line c k first most))) (both line ok c _ _ (record { each = λ j old. old }) (record { each = λ j old. old }))).each k;
   }
 
   tells : (d t : ℕ) (r : SectionRun) → Act-keeps (route_told line c d t r)
@@ -146,15 +146,8 @@ module _ (line : Line) (ok : IsLine line) (c : ℕ) where
       (λ m. branch line ok c (within m.pool s) (returned line c t m.place.track (part_from s m.pool) >> change_mission t (λ n. record n { pool = part_before s n.pool })) (propose_if_so line t s)
       (both line ok c _ _ (record { each = λ k old. old }) (changes line ok c t (λ n. record n { pool = part_before s n.pool }) (λ n fits. fits))) (propose_if_keeps line ok c t s))
 
-  comes_home : (d t : ℕ) (r : SectionRun) → Act-keeps (route_returned line c d t r)
+  comes_home : (d t : ℕ) (r : SectionRun) → Act-keeps (route_returned line c t r)
   comes_home d t r = both line ok c _ _ (record { each = λ k old. old }) (when line ok c (λ k. not (uses_some line c k t) && ((is_none (k.mission t) && is_none (k.wait t)) && not (is_expected line k t))) (end_order line c t) (end_keeps line ok c t))
-
-  claims : (d number t : ℕ) → Act-keeps (taking_over line c d number t)
-  claims d number t = both line ok c _ _ (changes line ok c t (claimed d number) (λ m fits e none. fits e (unclaimed m.handing none))) (yield_if_keeps line ok c t)
-    where
-      unclaimed : (o : Option Handing) → ◌≡◌ {A = Option Handing} (option_map (λ h. if (h.number == number) && (h.to == d) then record h { is_claimed = true } else h) o) None → o ≡ None
-      unclaimed None is = refl
-      unclaimed (Some h) is = cc
 
   received_all : (d : ℕ) (body : Body) (k : Centre) → Facts k → H k → H (received line c d body k).state
   received_all d (AskRight t) k facts = trains t (right_asked line c d t) k ((asks d t).each k)
@@ -165,12 +158,12 @@ module _ (line : Line) (ok : IsLine line) (c : ℕ) where
   received_all d (RouteInfo t r) k facts = trains t (route_told line c d t r) k ((tells d t r).each k)
   received_all d (RouteWithdraw t s) k facts = trains t (if is_some (section line s) then route_withdrawn line c t s else rest) k
       ((branch line ok c (is_some (section line s)) (route_withdrawn line c t s) rest (withdraws t s) (record { each = λ j old. old })).each k)
-  received_all d (RouteReturn t r) k facts = trains t (if all_of (λ s. is_some (section line s)) r then route_returned line c d t r else rest) k
-      ((branch line ok c (all_of (λ s. is_some (section line s)) r) (route_returned line c d t r) rest (comes_home d t r) (record { each = λ j old. old })).each k)
+  received_all d (RouteReturn t r) k facts = trains t (if all_of (λ s. is_some (section line s)) r then route_returned line c t r else rest) k
+      ((branch line ok c (all_of (λ s. is_some (section line s)) r) (route_returned line c t r) rest (comes_home d t r) (record { each = λ j old. old })).each k)
   received_all d (Announce number t track) k facts = trains t (if nat_lt track (length line.tracks) then announced d number t else rest) k
       ((branch line ok c (nat_lt track (length line.tracks)) (announced d number t) rest (when line ok c (λ j. is_none (j.expects d t)) (expect d t (Some (record { number = number; is_taking = false }))) (record { each = λ j old. old })) (record { each = λ j old. old })).each k)
   received_all d (Cancel number t) k facts = trains t (cancelled d number t) k ((when line ok c (λ j. is_under number (j.expects d t)) (expect d t None) (record { each = λ j old. old })).each k)
-  received_all d (TakingOver number t) k facts = trains t (taking_over line c d number t) k ((claims d number t).each k)
+  received_all d (TakingOver number t) k facts = trains t (taking_over line c d number t) k ((over_keeps line ok c t d number).each k)
   received_all d (Yield number t heard has_data is_ended place hand) k facts = trains t (option_map_or (yielded line c d number t hand heard has_data is_ended) (carried_place place) rest) k (by_place (carried_place place))
     where
       by_place : (o : Option Place) → H k → H (option_map_or (yielded line c d number t hand heard has_data is_ended) o rest k).state
@@ -186,11 +179,11 @@ module _ (line : Line) (ok : IsLine line) (c : ℕ) where
 
   -- ## The interlocking
 
-  wishes : (s : ℕ) (e : Entry) → Act-keeps (wished line s e)
+  wishes : (s : ℕ) (e : Entry) → Act-keeps (wished line c s e)
   wishes s Shut = record { each = λ k old. old }
   wishes s Open = record { each = λ k old. old }
   wishes s (Taken t) = propose_if_keeps line ok c t s
-  wishes s (Out t d) = record { each = λ k old. old }
+  wishes s (Out t) = record { each = λ k old. old }
 
   set_keeps : (s : ℕ) (k : Centre) → H k → H (set line c s k).state
   set_keeps s k old = by_home (not (is_home line c s))
@@ -204,7 +197,7 @@ module _ (line : Line) (ok : IsLine line) (c : ℕ) where
   unset_keeps s k old = by_home (not (is_home line c s))
     where
       by_home : (z : Bool) → H (if z then tell (NotHome s) k
-          else (if is_unused (k.book s) then (make s Shut false >> tell (Done s)) else ((become (λ j. record j { wish = put j.wish s true }) >> tell (Asked s)) >> wished line s (k.book s))) k).state
+          else (if is_unused (k.book s) then (make s Shut false >> tell (Done s)) else ((become (λ j. record j { wish = put j.wish s true }) >> tell (Asked s)) >> wished line c s (k.book s))) k).state
       by_home true = old
       by_home false = (branch line ok c _ _ _ (both line ok c _ _ (record { each = λ j h. h }) (record { each = λ j h. h })) (both line ok c _ _ (both line ok c _ _ (record { each = λ j h. h }) (record { each = λ j h. h })) (wishes s (k.book s)))).each k old
 

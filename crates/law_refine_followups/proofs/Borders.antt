@@ -22,7 +22,7 @@ use Rattle.rbc_spec.specs.ReadOff.{seen}
 use Rattle.rbc_spec.proofs.Places.{homes_run}
 use Rattle.law_network.specs.Flow.{Flow}
 use Rattle.law_network.specs.Counts.{hands, missions}
-use Rattle.law_network.specs.Sound.{IsFlowSound}
+use Rattle.law_network.specs.Sound.{IsFlowSound, IsOfNext}
 use Rattle.law_network.specs.Shows.{Shows}
 use Rattle.law_network.specs.Leads.{said_by, replied, Leads}
 use Rattle.law_network.proofs.Compose.{leads_then}
@@ -31,10 +31,10 @@ use Rattle.law_abstraction.proofs.Frames.{sends_both, sends_single}
 use Rattle.law_abstraction.proofs.Marks.{hand_at_centre}
 use Rattle.law_centre_sound.proofs.Sends.{Sound, rest_sound, if_reply, or_reply}
 use Rattle.law_centre_sound.proofs.Leaving.{next_is_centre}
-use Rattle.law_centre_sound.proofs.Requests.{announce_sound, ask_sound}
+use Rattle.law_centre_sound.proofs.Requests.{announce_sound, ask_sound, place_stays, all_next}
 use Rattle.law_no_copy.proofs.Borders.{fair_announce_if, fair_ask_if}
 use Rattle.law_handover.proofs.Messages.{goes_announce_if, goes_ask_if}
-use Rattle.law_refine_followups.specs.Borders.{MayOrder, MayAnnounce}
+use Rattle.law_refine_followups.specs.Borders.{MayOrder, MayAnnounce, IsNextOf}
 use Rattle.law_refine_followups.proofs.Keeps.{act_sound}
 use Rattle.law_refine_followups.proofs.Moves.{Moves, leading, moves_if, moves_or, leads_or_act, rest_moves, unseen_moves, said_moves}
 use Rattle.law_refine_followups.proofs.Unseen.{unseen_change, unseen_still}
@@ -53,7 +53,7 @@ module _ (line : Line) (ok : IsLine line) (w : Flow) (sound : IsFlowSound line w
 
   pub rest_leads : Leads line w c (rest (w.at c)) v
   rest_leads = leading line w c v (rest (w.at c)) (rest_moves line w sound v sees c to)
-      (aside_sound line w sound c to (w.at c) (record { book = refl; wish = refl; mission = refl; wait = refl; has_right = refl; expects = refl; announced = refl; heard = λ u h. h }))
+      (aside_sound line w sound c to (w.at c) (record { book = refl; wish = refl; mission = refl; wait = refl; has_right = refl; expects = refl; announced = refl; asks = λ u first is. is; heard = λ u h. h }))
 
   -- ## More sections are asked for
 
@@ -74,14 +74,26 @@ module _ (line : Line) (ok : IsLine line) (w : Flow) (sound : IsFlowSound line w
       (ask_route t d m (w.at c)) (rest (w.at c)) (λ due. ask_moves m) (λ no. rest_moves line w sound v sees c to))
       (λ none. rest_moves line w sound v sees c to)
 
-  asks_sound : is_centre line d ≡ true → Sound line c (ask_route_if_due line t d (w.at c))
-  asks_sound there = or_reply line c ((w.at c).mission t) _ (rest (w.at c))
-      (λ m at. if_reply line c _ (ask_route t d m (w.at c)) (rest (w.at c)) (λ due. ask_sound line ok c t d m (w.at c) (sound.centres c to) there) (λ no. rest_sound line c (w.at c) (sound.centres c to)))
+  abbrev may_ask : Mission → Bool
+  may_ask m = ((is_home line d (behind m.hand) && is_on line m.place.track (behind m.hand)) && nat_lt m.hand.count most_in_hand) && (is_empty m.pool && is_none ((w.at c).route_ask t))
+
+  -- they are of the next centre
+  of_next : (m : Mission) → next_centre line c m.place.track ≡ Some d → may_ask m ≡ true → IsOfNext line c (behind m.hand)
+  of_next m next due =
+      let ends = and_parts (is_home line d (behind m.hand)) (is_on line m.place.track (behind m.hand))
+      (and_parts (is_home line d (behind m.hand) && is_on line m.place.track (behind m.hand)) (nat_lt m.hand.count most_in_hand)
+      (and_parts ((is_home line d (behind m.hand) && is_on line m.place.track (behind m.hand)) && nat_lt m.hand.count most_in_hand) (is_empty m.pool && is_none ((w.at c).route_ask t)) due).0).0 in
+      all_next line c d m.place.track (behind m.hand) ends.1 next ends.0
+
+  asks_sound : is_centre line d ≡ true → IsNextOf line c t d (w.at c) → Sound line c (ask_route_if_due line t d (w.at c))
+  asks_sound there next = or_reply line c ((w.at c).mission t) _ (rest (w.at c))
+      (λ m at. if_reply line c (may_ask m) (ask_route t d m (w.at c)) (rest (w.at c)) (λ due. ask_sound line ok c t d m (w.at c) (sound.centres c to) there (of_next m (next m at) due))
+      (λ no. rest_sound line c (w.at c) (sound.centres c to)))
       (λ none. rest_sound line c (w.at c) (sound.centres c to))
 
-  pub asks_leads : is_centre line d ≡ true → Leads line w c (ask_route_if_due line t d (w.at c)) v
-  asks_leads there = leading line w c v (ask_route_if_due line t d (w.at c)) asks_moves
-      (act_sound line ok c w sound to (ask_route_if_due line t d (w.at c)) (asks_sound there) (λ y counts ready. fair_ask_if line c y counts t d (w.at c)) (goes_ask_if line t d (w.at c)))
+  pub asks_leads : is_centre line d ≡ true → IsNextOf line c t d (w.at c) → Leads line w c (ask_route_if_due line t d (w.at c)) v
+  asks_leads there next = leading line w c v (ask_route_if_due line t d (w.at c)) asks_moves
+      (act_sound line ok c w sound to (ask_route_if_due line t d (w.at c)) (asks_sound there next) (λ y counts ready. fair_ask_if line c y counts t d (w.at c)) (goes_ask_if line t d (w.at c)))
 
   -- ## The border
 
@@ -143,7 +155,7 @@ module _ (line : Line) (ok : IsLine line) (w : Flow) (sound : IsFlowSound line w
     announce_moves : Moves line w c (announce line t m.place.group d m (w.at c)) v
     unfolding ◌>>◌
     announce_moves = said_moves line w sound v sees c to t (Order t c) (announce line t m.place.group d m (w.at c)) (itself c) orders
-        (unseen_change c t (λ (n : Mission). record n { handing = Some (record { number = (w.at c).announced + 1; to = d; is_claimed = false }) }) (w.at c)
+        (unseen_change c t (λ (n : Mission). record n { handing = Some (record { number = (w.at c).announced + 1; to = d }) }) (w.at c)
         (announce line t m.place.group d m (w.at c)).state (announce line t m.place.group d m (w.at c)).frames
         (record { seen_same = λ n. refl; hand_same = λ n. refl }) refl refl refl refl (λ u. no_more (missions u) refl) (λ u s. no_more (hands u s) refl)) refl refl refl
 
@@ -167,7 +179,7 @@ module _ (line : Line) (ok : IsLine line) (w : Flow) (sound : IsFlowSound line w
     announces_sound : Sound line c (announce_if_due line t d (w.at c))
     announces_sound = or_reply line c ((w.at c).mission t) _ (rest (w.at c))
         (λ m at. if_reply line c (is_due m) (announce line t m.place.group d m (w.at c)) (rest (w.at c))
-        (λ is. let so = due m at is in announce_sound line ok c t m.place.group d m (w.at c) (sound.centres c to) at so.0 so.2.next_is) (λ no. rest_sound line c (w.at c) (sound.centres c to)))
+        (λ is. let so = due m at is in announce_sound line ok c t m.place.group d m (w.at c) (sound.centres c to) at so.0 so.2.next_is so.1) (λ no. rest_sound line c (w.at c) (sound.centres c to)))
         (λ none. rest_sound line c (w.at c) (sound.centres c to))
 
     pub announces_leads : Leads line w c (announce_if_due line t d (w.at c)) v
@@ -180,16 +192,17 @@ module _ (line : Line) (w : Flow) (c t d : ℕ) (k : Centre) (v : LineState) (ok
   pub rest_so : Leads line w c (rest k) v
   rest_so = subst (λ x. Leads line w c (rest x) v) is (rest_leads line ok w sound v sees c to t d)
 
-  pub asks_so : is_centre line d ≡ true → Leads line w c (ask_route_if_due line t d k) v
-  asks_so there = subst (λ x. Leads line w c (ask_route_if_due line t d x) v) is (asks_leads line ok w sound v sees c to t d there)
+  pub asks_so : is_centre line d ≡ true → IsNextOf line c t d k → Leads line w c (ask_route_if_due line t d k) v
+  asks_so there next = subst (λ x. Leads line w c (ask_route_if_due line t d x) v) is (asks_leads line ok w sound v sees c to t d there (subst (IsNextOf line c t d) (sym is) next))
 
   pub announces_so : MayAnnounce line c t d k → Leads line w c (announce_if_due line t d k) v
   announces_so may = subst (λ x. Leads line w c (announce_if_due line t d x) v) is (announces_leads line ok w sound v sees c to t d (subst (MayAnnounce line c t d) (sym is) may))
 
 pub border_so : (line : Line) (w : Flow) (c t d : ℕ) (k : Centre) (v : LineState) → IsLine line → IsFlowSound line w → Shows line w v → is_centre line c ≡ true → w.at c ≡ k
-    → is_centre line d ≡ true → MayAnnounce line c t d k → Leads line w c (at_border line c t d k) v
-border_so line w c t d k v ok sound sees to is there may = leads_then line w c k v first (ask_route_if_due line t d) one
-    (asks_so line (replied w c (first k)) c t d (first k).state one.new ok one.sound one.shows to (put_there w.at c (first k).state) there)
+    → is_centre line d ≡ true → IsNextOf line c t d k → MayAnnounce line c t d k → Leads line w c (at_border line c t d k) v
+border_so line w c t d k v ok sound sees to is there next may = leads_then line w c k v first (ask_route_if_due line t d) one
+    (asks_so line (replied w c (first k)) c t d (first k).state one.new ok one.sound one.shows to (put_there w.at c (first k).state) there
+    (λ n at. let was = place_stays line ok c t d k n at in ap (next_centre line c) (sym was.2) ∙ next was.0 was.1))
   where
     first : Act
     first = announce_if_due line t d
@@ -199,7 +212,7 @@ border_so line w c t d k v ok sound sees to is there may = leads_then line w c k
 
 -- behind an extension, on the track of the mission
 pub grants_so : (line : Line) (w : Flow) (c t track : ℕ) (k : Centre) (v : LineState) → IsLine line → IsFlowSound line w → Shows line w v → is_centre line c ≡ true → w.at c ≡ k
-    → ((d : ℕ) → next_centre line c track ≡ Some d → MayAnnounce line c t d k)
+    → ((m : Mission) → k.mission t ≡ Some m → m.place.track ≡ track) → ((d : ℕ) → next_centre line c track ≡ Some d → MayAnnounce line c t d k)
     → Leads line w c (option_map_or (at_border line c t) (next_centre line c track) rest k) v
-grants_so line w c t track k v ok sound sees to is may = leads_or_act line w c v (next_centre line c track) (at_border line c t) rest k
-    (λ d next. border_so line w c t d k v ok sound sees to is (next_is_centre line ok c d track next) (may d next)) (λ none. rest_so line w c t 0 k v ok sound sees to is)
+grants_so line w c t track k v ok sound sees to is on may = leads_or_act line w c v (next_centre line c track) (at_border line c t) rest k
+    (λ d next. border_so line w c t d k v ok sound sees to is (next_is_centre line ok c d track next) (λ m at. ap (next_centre line c) (on m at) ∙ next) (may d next)) (λ none. rest_so line w c t 0 k v ok sound sees to is)

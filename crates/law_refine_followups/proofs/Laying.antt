@@ -1,5 +1,8 @@
 -- The quiet steps that a yield comes to: the supervision is laid down, and the train is told to end its session where no own section is left.
-use Rattle.std.proofs.Common.{◌≡◌, ℕ, ◌+◌, ◌==◌, ◌&&◌, Bool, true, false, if◌then◌else◌, List, [], ◌∷◌, ◌++◌, Option, Some, None, is_some, refl, sym, ap, ◌∙◌, subst, append-nil, eqb-true}
+use Rattle.law_network.specs.Pairs.{before}
+use Rattle.law_handover.specs.Orderly.{allowed_by}
+use Rattle.rbc_spec.specs.Links.{taking_over}
+use Rattle.std.proofs.Common.{◌≡◌, ℕ, ◌+◌, ◌==◌, ◌&&◌, Bool, true, false, if◌then◌else◌, List, [], ◌∷◌, ◌++◌, Option, Some, None, is_some, refl, sym, ap, ◌∙◌, subst, append-nil, eqb-true, ◌≤◌}
 use Rattle.std.specs.Option.{option_map_or}
 use Rattle.std.proofs.lemmas.Bool.{and_parts, and_from}
 use Rattle.law_counting.specs.Network.{acted, to_one}
@@ -10,9 +13,9 @@ use Rattle.rbc_spec.specs.SectionRuns.{within, is_empty}
 use Rattle.rbc_spec.specs.Line.{Line, IsLine, is_centre, is_home}
 use Rattle.rbc_spec.specs.Sections.{nid_rbc, is_on, home_run}
 use Rattle.rbc_spec.specs.Message.{EndSession, unknown_group}
-use Rattle.rbc_spec.specs.Frame.{Body}
+use Rattle.rbc_spec.specs.Frame.{Body, TakingOver}
 use Rattle.rbc_spec.specs.Centre.{Centre, Out, Mission, Handing, is_up, is_taken_for}
-use Rattle.rbc_spec.specs.Acts.{Act, rest, ◌>>◌, send, say, booked, returned, set_mission, part_at, end_order, yield, is_of_two, yield_if_due}
+use Rattle.rbc_spec.specs.Acts.{Act, rest, ◌>>◌, send, say, booked, returned, set_mission, part_at, end_order, yield}
 use Rattle.rbc_spec.specs.LineCentre.{LineState, LineMission, nothing, says, is_given_to, At, Parted}
 use Rattle.rbc_spec.specs.Quiet.{LayDown, EndOrder, LaysDown, EndsSession}
 use Rattle.rbc_spec.specs.ReadOff.{seen}
@@ -23,10 +26,10 @@ use Rattle.law_network.specs.Shows.{Shows}
 use Rattle.law_network.specs.Leads.{Leads}
 use Rattle.law_abstraction.proofs.Marks.{hand_at_centre}
 use Rattle.law_abstraction.proofs.Shows.{part_stays, part_changes}
-use Rattle.law_centre_sound.proofs.Leaving.{next_is_centre, yielded_if_due}
-use Rattle.law_no_copy.proofs.Leaving.{fair_yield_if}
-use Rattle.law_handover.proofs.Handing.{goes_yield_if_due}
-use Rattle.law_refine_followups.proofs.Keeps.{act_sound}
+use Rattle.law_centre_sound.proofs.Leaving.{next_is_centre, yielded_over}
+use Rattle.law_no_copy.proofs.Leaving.{fair_yield_over}
+use Rattle.law_handover.proofs.Handing.{goes_taking_over}
+use Rattle.law_refine_followups.proofs.Keeps.{act_sound_with}
 use Rattle.law_refine_followups.proofs.Moves.{Moves, leading, moves_if, moves_or, one_quiet, rest_moves}
 use Rattle.law_refine_followups.proofs.Proposals.{up_is}
 use Rattle.law_refine_followups.proofs.Borders.{none_or}
@@ -82,7 +85,7 @@ module _ (line : Line) (ok : IsLine line) (w : Flow) (sound : IsFlowSound line w
     -- what the centre becomes, but for what it says
     abbrev left : Centre
     left = record (w.at c) {
-      book = λ s. if within m.hand s && is_taken_for t ((w.at c).book s) then Out t h.to else (w.at c).book s;
+      book = λ s. if within m.hand s && is_taken_for t ((w.at c).book s) then Out t else (w.at c).book s;
       mission = put (w.at c).mission t None;
     }
 
@@ -139,7 +142,7 @@ module _ (line : Line) (ok : IsLine line) (w : Flow) (sound : IsFlowSound line w
     }
 
     abbrev first : Act
-    first = (returned line c t m.place.track m.pool >> booked (is_taken_for t) (Out t h.to) m.hand)
+    first = (returned line c t m.place.track m.pool >> booked (is_taken_for t) (Out t) m.hand)
         >> (set_mission t None >> send h.to (yields.gives line w sound v sees c to t h.to h.number there m at))
 
     yield_moves : Moves line w c (yield line c t m h (w.at c)) v
@@ -155,17 +158,22 @@ module _ (line : Line) (ok : IsLine line) (w : Flow) (sound : IsFlowSound line w
         by_ends true empty = by_up empty (is_up ((w.at c).phase t)) refl
         by_ends false some = quietly
 
-  pub yields_moves : Moves line w c (yield_if_due line c t (w.at c)) v
-  yields_moves = moves_or line w c v ((w.at c).mission t) _ (rest (w.at c))
+  pub yields_moves : (a number : ℕ) → Moves line w c (taking_over line c a number t (w.at c)) v
+  yields_moves a number = moves_or line w c v ((w.at c).mission t) _ (rest (w.at c))
       (λ m at. moves_or line w c v m.handing _ (rest (w.at c))
-      (λ h stands. moves_if line w c v (h.is_claimed && is_of_two line c h.to m.hand) (yield line c t m h (w.at c)) (rest (w.at c))
-      (λ due. yield_moves m at h stands) (λ wait. rest_moves line w sound v sees c to))
+      (λ h stands. moves_if line w c v ((h.number == number) && (h.to == a)) (yield line c t m h (w.at c)) (rest (w.at c))
+      (λ so. yield_moves m at h stands) (λ other. rest_moves line w sound v sees c to))
       (λ none. rest_moves line w sound v sees c to))
       (λ none. rest_moves line w sound v sees c to)
 
-pub yields_so : (line : Line) (w : Flow) (c t : ℕ) (k : Centre) (v : LineState) → IsLine line → IsFlowSound line w → Shows line w v → is_centre line c ≡ true → w.at c ≡ k
-    → Leads line w c (yield_if_due line c t k) v
-yields_so line w c t k v ok sound sees to is = subst (λ x. Leads line w c (yield_if_due line c t x) v) is
-    (leading line w c v (yield_if_due line c t (w.at c)) (yields_moves line ok w sound v sees c to t)
-    (act_sound line ok c w sound to (yield_if_due line c t (w.at c)) (yielded_if_due line ok c t (w.at c) (sound.centres c to))
-    (λ y counts ready. fair_yield_if line c y counts t (w.at c) ready) (goes_yield_if_due line c t (w.at c))))
+-- what may be yielded was announced, and is taken over
+abbrev pub MayYieldTo : Flow → ℕ → ℕ → ℕ → ℕ → Centre → Type 0
+MayYieldTo w c a number t k = (d u h : ℕ) → allowed_by a (TakingOver number t) d u h ≡ true → (before w c d u h ≡ 0) × (h ≤ k.announced)
+
+pub yields_so : (line : Line) (w : Flow) (c a number t : ℕ) (k : Centre) (v : LineState) → IsLine line → IsFlowSound line w → Shows line w v → is_centre line c ≡ true → w.at c ≡ k
+    → MayYieldTo w c a number t k → Leads line w c (taking_over line c a number t k) v
+yields_so line w c a number t k v ok sound sees to is may = subst (λ x. Leads line w c (taking_over line c a number t x) v) is
+    (leading line w c v (taking_over line c a number t (w.at c)) (yields_moves line ok w sound v sees c to t a number)
+    (act_sound_with line ok c w sound to (taking_over line c a number t (w.at c)) (yielded_over line ok c a number t (w.at c) (sound.centres c to))
+    (allowed_by a (TakingOver number t)) (subst (MayYieldTo w c a number t) (sym is) may)
+    (λ y counts ready. fair_yield_over line c y counts a number t (w.at c) ready) (goes_taking_over line c a number t (w.at c))))

@@ -69,7 +69,7 @@ module _ (line : Line) (w : Flow) (sound : IsFlowSound line w) (v : LineState) (
   )
 
   module _ (y : Centre) (phase : y.phase ≡ (w.at c).phase) (heard : y.heard ≡ (w.at c).heard) (wait : y.wait ≡ (w.at c).wait) (wish : y.wish ≡ (w.at c).wish)
-      (book : y.book ≡ (λ s. if within m.hand s && is_taken_for t ((w.at c).book s) then Out t d else (w.at c).book s)) (mission : y.mission ≡ put (w.at c).mission t None)
+      (book : y.book ≡ (λ s. if within m.hand s && is_taken_for t ((w.at c).book s) then Out t else (w.at c).book s)) (mission : y.mission ≡ put (w.at c).mission t None)
       (count : ℕ → ℕ → ℕ) (said : PartAfter c v.said y.said count) where
     abbrev new : Flow
     new = acted w c y frames
@@ -115,13 +115,13 @@ module _ (line : Line) (w : Flow) (sound : IsFlowSound line w) (v : LineState) (
     -- own sections of the hand become lent, and stay given
     marks : (s e : ℕ) → is_home line e s ≡ true → (b : Bool) → (within m.hand s && is_taken_for t ((w.at c).book s)) ≡ b → MarkAfter line w new s e (v.mark s) (v.mark s)
     marks s e is_of false is = mark_stays line w c nothing_came y frames new s e (v.mark s) act
-        (ap (λ (g : ℕ → Entry). g s) book ∙ ap (λ (b : Bool). if b then Out t d else (w.at c).book s) is) (λ u used. hands_same u s)
+        (ap (λ (g : ℕ → Entry). g s) book ∙ ap (λ (b : Bool). if b then Out t else (w.at c).book s) is) (λ u used. hands_same u s)
     marks s e is_of true is =
         let both = and_parts (within m.hand s) (is_taken_for t ((w.at c).book s)) is in
         let own = home_of s (is_home line c s) refl both.1 in
         let has = had s both.0 in
         is_given t (given_mark_of line w v t sound sees s (was line w c nothing_came y frames new t s act has))
-        (ap (is_used_for t) (entry_here line w c nothing_came y frames new s e act is_of own ∙ ap (λ (g : ℕ → Entry). g s) book ∙ ap (λ (b : Bool). if b then Out t d else (w.at c).book s) is) ∙ itself t)
+        (ap (is_used_for t) (entry_here line w c nothing_came y frames new s e act is_of own ∙ ap (λ (g : ℕ → Entry). g s) book ∙ ap (λ (b : Bool). if b then Out t else (w.at c).book s) is) ∙ itself t)
         (given line w c nothing_came y frames new t s act (omega (arith, has, hands_same t s)))
 
     none_other : (u : ℕ) → u ≢ t → SendsNone (missions u) c frames

@@ -14,6 +14,10 @@ pub record MayOrder (line : Line) (c t d : ℕ) (k : Centre) (m : Mission) : Typ
   pub ahead : group_start line m.place ≤ start line (part_at line d m.place.track m.hand).first
   pub within_reach : start line (part_at line d m.place.track m.hand).first ≤ group_start line m.place + farthest
 
+-- centre d is the next of the track of the train's mission, if there is one
+abbrev pub IsNextOf : Line → ℕ → ℕ → ℕ → Centre → Type 0
+IsNextOf line c t d k = (m : Mission) → k.mission t ≡ Some m → next_centre line c m.place.track ≡ Some d
+
 -- it may wherever a handover is due: none stands, and the hand has a section of home d
 abbrev pub MayAnnounce : Line → ℕ → ℕ → ℕ → Centre → Type 0
 MayAnnounce line c t d k =

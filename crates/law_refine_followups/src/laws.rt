@@ -1,29 +1,31 @@
 //! Laws of the acts that follow a centre's own step.
 
-ghost use Rattle.std.specs.Prelude.{◌≡◌, ℕ, ◌&&◌, true, false, Some, None};
+ghost use Rattle.std.specs.Prelude.{◌≡◌, ◌≤◌, ℕ, ◌&&◌, true, false, Some, None};
 ghost use Rattle.std.specs.Option.{option_map_or};
 ghost use Rattle.law_counting.specs.Network.{took, TakesHead};
 ghost use Rattle.rbc_spec.specs.Line.{Line, IsLine, is_centre, is_home, next_centre};
-ghost use Rattle.rbc_spec.specs.Frame.{Body};
+ghost use Rattle.rbc_spec.specs.Frame.{Body, TakingOver};
+ghost use Rattle.rbc_spec.specs.Links.{taking_over};
 ghost use Rattle.rbc_spec.specs.SectionRuns.{is_empty};
 ghost use Rattle.rbc_spec.specs.Place.{Place};
 ghost use Rattle.rbc_spec.specs.Message.{TrainMessage};
 ghost use Rattle.rbc_spec.specs.Centre.{Centre, Mission, beginning};
-ghost use Rattle.rbc_spec.specs.Acts.{Reply, rest, part_at, propose_if_so, end_order, yield_if_due};
+ghost use Rattle.rbc_spec.specs.Acts.{Reply, rest, part_at, propose_if_so, end_order};
 ghost use Rattle.rbc_spec.specs.Rules.{announce_if_due, ask_route_if_due, at_border};
 ghost use Rattle.rbc_spec.specs.LineCentre.{LineState, is_given_to};
 ghost use Rattle.rbc_spec.specs.OwnSteps.{ended};
 ghost use Rattle.law_centre.specs.Distances.{IsRequestHeard, extended};
 ghost use Rattle.law_network.specs.Flow.{Flow};
+ghost use Rattle.law_network.specs.Pairs.{before};
 ghost use Rattle.law_network.specs.Keeping.{nothing_came, came_with, IsFairAct, LeavesSound};
 ghost use Rattle.law_network.specs.Sound.{IsFlowSound, IsCentreSound, IsHandAt};
 ghost use Rattle.law_network.specs.Shows.{Shows};
 ghost use Rattle.law_network.specs.Leads.{replied, Leads};
-ghost use Rattle.law_handover.specs.Orderly.{IsOrderly, IsTakenWith};
+ghost use Rattle.law_handover.specs.Orderly.{allowed_by, IsOrderly, IsTakenWith};
 ghost use Rattle.rbc_spec.specs.Step.{Event};
 ghost use Rattle.law_handover.specs.Steps.{left_by};
 ghost use Rattle.law_refine_followups.specs.Announced.{AnnouncesAll};
-ghost use Rattle.law_refine_followups.specs.Borders.{MayAnnounce};
+ghost use Rattle.law_refine_followups.specs.Borders.{IsNextOf, MayAnnounce};
 ghost use Rattle.law_refine_followups.specs.Shown.{IsShownSo, ends};
 
 /// An act of a centre that leaves what is sound, is fair and orderly keeps all sound: by itself, and behind the next frame of a link.
@@ -54,23 +56,25 @@ pub fn an_end_of_session_is_quiet()
 /// the border is, where that may be said; and both together.
 pub fn what_follows_at_a_border()
     ensures asks { (line : Line) (w : Flow) (c t d : ℕ) (k : Centre) (v : LineState) → IsLine line → IsFlowSound line w → Shows line w v
-        → is_centre line c ≡ true → w.at c ≡ k → is_centre line d ≡ true → Leads line w c (ask_route_if_due line t d k) v }
+        → is_centre line c ≡ true → w.at c ≡ k → is_centre line d ≡ true → IsNextOf line c t d k → Leads line w c (ask_route_if_due line t d k) v }
     ensures announces { (line : Line) (w : Flow) (c t d : ℕ) (k : Centre) (v : LineState) → IsLine line → IsFlowSound line w → Shows line w v
         → is_centre line c ≡ true → w.at c ≡ k → MayAnnounce line c t d k → Leads line w c (announce_if_due line t d k) v }
     ensures both { (line : Line) (w : Flow) (c t d : ℕ) (k : Centre) (v : LineState) → IsLine line → IsFlowSound line w → Shows line w v
-        → is_centre line c ≡ true → w.at c ≡ k → is_centre line d ≡ true → MayAnnounce line c t d k
+        → is_centre line c ≡ true → w.at c ≡ k → is_centre line d ≡ true → IsNextOf line c t d k → MayAnnounce line c t d k
         → Leads line w c (at_border line c t d k) v }
     ensures grants { (line : Line) (w : Flow) (c t track : ℕ) (k : Centre) (v : LineState) → IsLine line → IsFlowSound line w → Shows line w v
         → is_centre line c ≡ true → w.at c ≡ k
-        → ((d : ℕ) → next_centre line c track ≡ Some d → MayAnnounce line c t d k)
+        → ((m : Mission) → k.mission t ≡ Some m → m.place.track ≡ track) → ((d : ℕ) → next_centre line c track ≡ Some d → MayAnnounce line c t d k)
         → Leads line w c (option_map_or (at_border line c t) (next_centre line c track) rest k) v }
 {}
 
-/// A handover that is claimed is yielded, where no third centre's section is in the hand: the supervision is laid down by a quiet step, and
-/// the train is told by another to end its session, where that is up and no own section is in the hand.
+/// A handover that is taken over is yielded, whatever homes the hand has: the supervision is laid down by a quiet step, and the train is told
+/// by another to end its session, where that is up and no own section is in the hand.
 pub fn a_yield_lays_down()
-    ensures { (line : Line) (w : Flow) (c t : ℕ) (k : Centre) (v : LineState) → IsLine line → IsFlowSound line w → Shows line w v
-        → is_centre line c ≡ true → w.at c ≡ k → Leads line w c (yield_if_due line c t k) v }
+    ensures { (line : Line) (w : Flow) (c a number t : ℕ) (k : Centre) (v : LineState) → IsLine line → IsFlowSound line w → Shows line w v
+        → is_centre line c ≡ true → w.at c ≡ k
+        → ((d u h : ℕ) → allowed_by a (TakingOver number t) d u h ≡ true → (before w c d u h ≡ 0) × (h ≤ k.announced))
+        → Leads line w c (taking_over line c a number t k) v }
 {}
 
 /// Behind the extension that a request comes to the border may be told, if the hand had no section of the next centre where no handover was

@@ -17,7 +17,6 @@ use Rattle.law_network.specs.Keeping.{nothing_came, came_with, IsFairAct, Leaves
 use Rattle.law_network.specs.Sound.{IsCentreSound, IsFlowSound}
 use Rattle.law_network.specs.Shows.{Shows}
 use Rattle.law_network.specs.Leads.{said_by, replied, Leads}
-use Rattle.law_network.proofs.Neighbours.{neighbours}
 use Rattle.law_abstraction.specs.After.{IsUnseen}
 use Rattle.law_abstraction.proofs.Acts.{at_head}
 use Rattle.law_abstraction.proofs.Shows.{part_stays, unseen_shown}
@@ -27,7 +26,6 @@ use Rattle.law_no_copy.proofs.Ready.{Ready, ready_again}
 use Rattle.law_no_copy.proofs.Frames.{fair_received}
 use Rattle.law_no_copy.proofs.Rights.{rights_tally, rights_counted, rights_ready}
 use Rattle.law_no_copy.proofs.Tokens.{tokens_tally, tokens_counted, tokens_ready}
-use Rattle.law_no_copy_lent.proofs.Lent.{lent_tally, lent_counted, lent_ready}
 use Rattle.law_handover.specs.Orderly.{IsTakenWith}
 use Rattle.law_handover.proofs.Frames.{Fits, goes_received}
 use Rattle.law_refine_followups.proofs.Keeps.{head_keeps}
@@ -44,7 +42,7 @@ module _ (line : Line) (ok : IsLine line) (w : Flow) (sound : IsFlowSound line w
   j = met w a c phase number stamp
 
   pub met_sound : IsCentreSound line c (met w a c phase number stamp)
-  met_sound = free_sound line c (w.at c) (sound.centres c to) j refl refl refl refl (λ u is. is) (omega arith)
+  met_sound = free_sound line c (w.at c) (sound.centres c to) j refl refl refl refl (λ u is. is) (omega arith) (sound.centres c to).asks
 
   module _ (f : Body) where
     abbrev q : Reply
@@ -71,8 +69,6 @@ module _ (line : Line) (ok : IsLine line) (w : Flow) (sound : IsFlowSound line w
     received_fair = record {
       rights = λ t. fair_of (rights_tally line c t) (rights_counted line c t) (rights_ready line c t (w.at c)) refl;
       tokens = λ t s. fair_of (tokens_tally line c t s) (tokens_counted line (is_ordered line ok) c t s) (tokens_ready line (is_ordered line ok) c t s (w.at c)) refl;
-      lent = λ t s d. fair_of (lent_tally line c t s d) (lent_counted line (is_ordered line ok) c t s d)
-          (lent_ready line (is_ordered line ok) c t s d (neighbours line ok) (w.at c) (sound.centres c to)) refl;
     }
 
     module _ (fits : Fits line c a f j) where
@@ -80,7 +76,7 @@ module _ (line : Line) (ok : IsLine line) (w : Flow) (sound : IsFlowSound line w
       pub received_taken : IsTakenWith a f (w.at c) (received line c a f (met w a c phase number stamp)).state (received line c a f (met w a c phase number stamp)).frames
       received_taken = let comes = goes_received line c a f j fits in record {
         y = comes.y;
-        taking = record { leads = comes.taking.leads; expected = comes.taking.expected; waits = comes.taking.waits; announced = comes.taking.announced; number = comes.taking.number; claimed = comes.taking.claimed; handing = comes.taking.handing };
+        taking = record { leads = comes.taking.leads; expected = comes.taking.expected; waits = comes.taking.waits; announced = comes.taking.announced; number = comes.taking.number; handing = comes.taking.handing };
         behind = comes.behind;
       }
 

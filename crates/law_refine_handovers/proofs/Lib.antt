@@ -1,5 +1,5 @@
 pub mod Heads
 pub mod Announced
-pub mod Claimed
+pub mod TakenOver
 pub mod TakenUp
 pub mod Yielded

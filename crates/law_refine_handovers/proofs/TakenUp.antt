@@ -41,8 +41,8 @@ use Rattle.law_abstraction.proofs.Shows.{part_stays, part_changes, shows_after}
 abbrev pub later : ℕ → Option ℕ → Option ℕ
 later stamp heard = Some (option_map_or (max stamp) heard stamp)
 
-used_taken : (t d : ℕ) (e : Entry) → is_out_for t d e ≡ true → is_used_for t (if true && is_out_for t d e then Taken t else e) ≡ true
-used_taken t d e is = ap (λ b. is_used_for t (if b then Taken t else e)) is ∙ itself t
+used_taken : (t : ℕ) (e : Entry) → is_out_for t e ≡ true → is_used_for t (if true && is_out_for t e then Taken t else e) ≡ true
+used_taken t e is = ap (λ b. is_used_for t (if b then Taken t else e)) is ∙ itself t
 
 no_one : (b : Bool) → one_if (b && false) ≡ 0
 no_one true = refl
@@ -50,14 +50,14 @@ no_one false = refl
 
 module _ (line : Line) (w : Flow) (v : LineState) (sound : IsFlowSound line w) (sees : Shows line w v) (a c h t stamp : ℕ) (has_data is_ended : Bool)
     (place : Place) (carried : YieldedPlace) (hand : SectionRun) (is_carried : carried ≡ yielded_place place) (from : is_centre line a ≡ true) (to : is_centre line c ≡ true) (head : TakesHead w a c (Yield h t stamp has_data is_ended carried hand))
-    (out : (s : ℕ) → is_home line c s ≡ true → within hand s ≡ true → is_out_for t a ((w.at c).book s) ≡ true) where
+    (out : (s : ℕ) → is_home line c s ≡ true → within hand s ≡ true → is_out_for t ((w.at c).book s) ≡ true) where
   -- the mission that comes
   abbrev pub m : Mission
   m = record { place = place; hand = hand; pool = no_run; has_data = has_data; is_ended = is_ended; proposal = None; handing = None }
 
   module _ (y : Centre) (y_phase : y.phase ≡ (w.at c).phase) (y_said : y.said ≡ (w.at c).said) (y_wait : y.wait ≡ (w.at c).wait) (y_wish : y.wish ≡ (w.at c).wish)
       (y_heard : y.heard ≡ put (w.at c).heard t (later stamp ((w.at c).heard t))) (y_mission : y.mission ≡ put (w.at c).mission t (Some m))
-      (y_book : (s : ℕ) → y.book s ≡ (if within hand s && is_out_for t a ((w.at c).book s) then Taken t else (w.at c).book s)) where
+      (y_book : (s : ℕ) → y.book s ≡ (if within hand s && is_out_for t ((w.at c).book s) then Taken t else (w.at c).book s)) where
     abbrev came : Resource Centre Body → ℕ
     came = came_with a c (Yield h t stamp has_data is_ended carried hand)
 
@@ -106,7 +106,7 @@ module _ (line : Line) (w : Flow) (v : LineState) (sound : IsFlowSound line w) (
       where
         by_home : (b : Bool) → is_home line c s ≡ b → MarkAfter line w new s d (v.mark s) (line_centre.Given t)
         by_home true at_c = enters_here line w c came y (λ e. []) new s d act home t (v.mark s) at_c
-            (ap (is_used_for t) (y_book s) ∙ ap (λ b. is_used_for t (if b && is_out_for t a ((w.at c).book s) then Taken t else (w.at c).book s)) is ∙ used_taken t a ((w.at c).book s) (out s at_c is))
+            (ap (is_used_for t) (y_book s) ∙ ap (λ b. is_used_for t (if b && is_out_for t ((w.at c).book s) then Taken t else (w.at c).book s)) is ∙ used_taken t ((w.at c).book s) (out s at_c is))
             (omega (arith, one_if_true (hand_has (y.mission t) s) (hand_now s is)))
         by_home false away = enters_elsewhere line w c came y (λ e. []) new s d act home t (v.mark s) sound away
             (omega (arith, came_in s is)) (omega (arith, one_if_true (hand_has (y.mission t) s) (hand_now s is)))
@@ -116,7 +116,7 @@ module _ (line : Line) (w : Flow) (v : LineState) (sound : IsFlowSound line w) (
         (sym (given_mark_of line w v t sound sees s (was line w c came y (λ e. []) new t s act (omega (arith, came_in s is)))))
         (given_as s d home is)
     marks s d home false is = mark_stays line w c came y (λ e. []) new s d (v.mark s) act
-        (y_book s ∙ ap (λ b. if b && is_out_for t a ((w.at c).book s) then Taken t else (w.at c).book s) is)
+        (y_book s ∙ ap (λ b. if b && is_out_for t ((w.at c).book s) then Taken t else (w.at c).book s) is)
         (λ u used. omega (arith, hand_apart u s is, sends_none (hands u s) (centre_count line) c (λ e. []) (λ e. carried_none (hands u s) c e)))
 
     -- ## Missions

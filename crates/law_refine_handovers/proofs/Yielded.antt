@@ -55,7 +55,7 @@ module _ (line : Line) (w : Flow) (v : LineState) (a c h t heard number stamp : 
     m = record { place = place; hand = hand; pool = no_run; has_data = has_data; is_ended = is_ended; proposal = None; handing = None }
 
     abbrev takes : Act
-    takes = (booked (is_out_for t a) (Taken t) m.hand >> set_mission t (Some m))
+    takes = (booked (is_out_for t) (Taken t) m.hand >> set_mission t (Some m))
         >> (become (λ k. record k { heard = put k.heard t (Some (option_map_or (max heard) (k.heard t) heard)) }) >> expect a t None)
 
     abbrev proposes : Act
@@ -64,7 +64,7 @@ module _ (line : Line) (w : Flow) (v : LineState) (a c h t heard number stamp : 
     -- the centre with the mission
     abbrev y : (ℕ → Phase) → Centre
     y phase = record (found phase) {
-      book = λ s. if within hand s && is_out_for t a ((w.at c).book s) then Taken t else (w.at c).book s;
+      book = λ s. if within hand s && is_out_for t ((w.at c).book s) then Taken t else (w.at c).book s;
       mission = put (w.at c).mission t (Some m);
       heard = put (w.at c).heard t (later heard ((w.at c).heard t));
       expects = put_pair (w.at c).expects a t None;
@@ -106,7 +106,7 @@ module _ (line : Line) (w : Flow) (v : LineState) (a c h t heard number stamp : 
         (free_sound line c (y closed)
         (subst (λ (r : Reply). LeavesSound line c r.state r.frames) (yielded_is closed ∙ quietly)
         (yielded_sound line ok c a h t heard hand has_data is_ended place (found closed) (met_sound line ok w sound a c to closed number stamp) known range)).centre
-        (y (w.at c).phase) refl refl refl refl (λ u is. is) (omega arith))
+        (y (w.at c).phase) refl refl refl refl (λ u is. is) (omega arith) (sound.centres c to).asks)
         (none_sent line c)
 
     fair_so : IsFairAct line c (w.at c) (came_with a c f) (y (w.at c).phase) (λ d. [])
@@ -114,7 +114,6 @@ module _ (line : Line) (w : Flow) (v : LineState) (a c h t heard number stamp : 
         (received_fair line ok w sound a c to closed number stamp f) in record {
           rights = λ u. record { law = (fair.rights u).law };
           tokens = λ u s. record { law = (fair.tokens u s).law };
-          lent = λ u s d. record { law = (fair.lent u s d).law };
         }
 
     taken_so : IsTakenWith a f (w.at c) (y (w.at c).phase) (λ d. [])
@@ -122,7 +121,7 @@ module _ (line : Line) (w : Flow) (v : LineState) (a c h t heard number stamp : 
         (received_taken line ok w sound a c to closed number stamp f (fits_head line ok w sound a c from to f head)) in let orderly = is.behind in record {
           y = is.y;
           taking = is.taking;
-          behind = record { leads = orderly.leads; expected = orderly.expected; announced = orderly.announced; claimed = orderly.claimed; anew = orderly.anew; takes = orderly.takes };
+          behind = record { leads = orderly.leads; expected = orderly.expected; announced = orderly.announced; yielded = orderly.yielded; anew = orderly.anew; takes = orderly.takes };
         }
 
     kept : IsFlowSound line (replied (took w a c) c (rest (y (w.at c).phase)))
@@ -130,18 +129,18 @@ module _ (line : Line) (w : Flow) (v : LineState) (a c h t heard number stamp : 
 
     -- ## The taking up
 
-    out : (s : ℕ) → is_home line c s ≡ true → within hand s ≡ true → is_out_for t a ((w.at c).book s) ≡ true
-    out s home is = sym (cond-true (is_home line c s) (is_out_for t a ((w.at c).book s)) _ home) ∙ each_within (may_arrive line c (w.at c) a t place.track) hand arrives s is
+    out : (s : ℕ) → is_home line c s ≡ true → within hand s ≡ true → is_out_for t ((w.at c).book s) ≡ true
+    out s home is = sym (cond-true (is_home line c s) (is_out_for t ((w.at c).book s)) _ home) ∙ each_within (may_arrive line c (w.at c) t place.track) hand arrives s is
       where
         parts : ((has (λ e. (e.number == h) && e.is_taking) ((w.at c).expects a t) && (is_none ((w.at c).mission t) && not ((w.at c).has_right t))) ≡ true)
             × (((is_on_track line place.track hand && has (is_on line place.track) (section_of_group line place.group))
-            && (nat_le (10 * group_start line place) place.front && all_of (may_arrive line c (w.at c) a t place.track) hand)) ≡ true)
+            && (nat_le (10 * group_start line place) place.front && all_of (may_arrive line c (w.at c) t place.track) hand)) ≡ true)
         parts = and_parts _ _ may
 
-        arrives : all_of (may_arrive line c (w.at c) a t place.track) hand ≡ true
-        arrives = (and_parts (nat_le (10 * group_start line place) place.front) (all_of (may_arrive line c (w.at c) a t place.track) hand)
+        arrives : all_of (may_arrive line c (w.at c) t place.track) hand ≡ true
+        arrives = (and_parts (nat_le (10 * group_start line place) place.front) (all_of (may_arrive line c (w.at c) t place.track) hand)
             (and_parts (is_on_track line place.track hand && has (is_on line place.track) (section_of_group line place.group))
-            (nat_le (10 * group_start line place) place.front && all_of (may_arrive line c (w.at c) a t place.track) hand) parts.1).1).1
+            (nat_le (10 * group_start line place) place.front && all_of (may_arrive line c (w.at c) t place.track) hand) parts.1).1).1
 
     taken_up : Leads line (took w a c) c (rest (y (w.at c).phase)) v
     taken_up = record {

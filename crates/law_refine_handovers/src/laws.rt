@@ -28,7 +28,7 @@ pub fn a_cancellation_leads_on()
         → Leads line (took w a c) c (received line c a (Cancel h t) (took_frame a number (ticked stamp (w.at c)))) v }
 {}
 
-/// The accepting centre takes over: the handover is claimed, of which nothing is shown, and the mission is yielded where that is due.
+/// The accepting centre takes over: the mission whose handover it names is yielded.
 pub fn a_taking_over_leads_on()
     ensures { (line : Line) (w : Flow) (v : LineState) (a c h t number stamp : ℕ) → IsLine line → IsFlowSound line w
         → Shows line w v → is_centre line a ≡ true → is_centre line c ≡ true → TakesHead w a c (TakingOver h t)

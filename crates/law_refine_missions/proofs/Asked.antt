@@ -3,7 +3,7 @@
 use Rattle.std.proofs.Common.{subst, ◌≡◌, ℕ, ◌-◌, ◌*◌, ◌==◌, ◌&&◌, not, nat_le, true, false, Option, Some, None, is_none, refl, sym, ap, ◌∙◌, append_assoc, slice_get}
 use Rattle.std.specs.Option.{option_map_or}
 use Rattle.std.proofs.lemmas.Bool.{and_parts, not-false}
-use Rattle.law_base.proofs.Acts.{alike_then, then_alike, then_resting}
+use Rattle.law_base.proofs.Acts.{alike_then, then_alike}
 use Rattle.law_base.proofs.Lists.{none_passes}
 use Rattle.law_base.proofs.Puts.{put_there}
 use Rattle.rbc_spec.specs.Maps.{has}
@@ -13,8 +13,8 @@ use Rattle.rbc_spec.specs.Place.{Place, Position, has_room, place_on}
 use Rattle.rbc_spec.specs.Message.{TrainMessage, Request, Report, ShorteningGranted, EndOfMission}
 use Rattle.rbc_spec.specs.Outcome.{Reason, NotSupervised, Unasked, NoPlace, reasons_of}
 use Rattle.rbc_spec.specs.Centre.{Centre, Mission, Proposal}
-use Rattle.rbc_spec.specs.Acts.{Act, Reply, rest, ◌>>◌, with_some, where_so, hear, change_mission, yield, is_of_two, yield_if_due}
-use Rattle.rbc_spec.specs.Rules.{report, report_here, take_over, extension, extended_by, grant, granted, answer_granted, request}
+use Rattle.rbc_spec.specs.Acts.{Act, rest, ◌>>◌, hear}
+use Rattle.rbc_spec.specs.Rules.{extension, extended_by, grant, request}
 use Rattle.rbc_spec.specs.Step.{silence, holds, mission_has, may_request, ticked, hear_and_answer}
 use Rattle.rbc_spec.specs.LineCentre.{LineState, hears}
 use Rattle.law_centre.proofs.Places.{placed_on}
@@ -23,7 +23,7 @@ use Rattle.law_network.specs.Sound.{IsFlowSound}
 use Rattle.law_network.specs.Shows.{Shows}
 use Rattle.law_network.specs.Leads.{replied, LeadsHeard}
 use Rattle.law_network.proofs.Compose.{heard_then}
-use Rattle.law_refine_missions.specs.Parts.{own_report, own_end, own_granted, own_request, cut_in_time, extend, border_of, at_border_then, of_train, IsOwnStep, IsInParts, LeadsOnward}
+use Rattle.law_refine_missions.specs.Parts.{own_report, own_end, own_granted, own_request, extend, border_of, at_border_then, of_train, IsOwnStep, IsWhole, IsInParts, LeadsOnward}
 use Rattle.law_refine_missions.proofs.Heard.{state_then, sound_then, shows_then, heard_first}
 use Rattle.law_refine_missions.proofs.Reports.{report_answers}
 use Rattle.law_refine_missions.proofs.Ends.{end_answers}
@@ -124,10 +124,6 @@ then_then a b d k = λ i. record {
 in_two : (m : TrainMessage) (whole own later : Act) (k : Centre) → whole (hear m k).state ≡ (own >> later) (hear m k).state → (hear m >> whole) k ≡ ((hear m >> own) >> later) k
 in_two m whole own later k same = then_alike (hear m) whole (own >> later) k same ∙ sym (then_then (hear m) own later k)
 
--- a train that has no mission here is not yielded
-yields_nothing : (line : Line) (c t : ℕ) (x : Centre) → x.mission t ≡ None → yield_if_due line c t x ≡ rest x
-yields_nothing line c t x none = ap (λ (o : Option Mission). option_map_or (λ m. with_some (λ k. m.handing) (λ h. where_so (λ k. h.is_claimed && is_of_two line c h.to m.hand) (yield line c t m h)) x) o (rest x)) none
-
 grant_parts : (line : Line) (c t : ℕ) (m : Mission) (k : Centre) → grant line c t m k ≡ (extend line c t m >> border_of line c t m.place.track) k
 unfolding ◌>>◌
 grant_parts line c t m k = refl
@@ -137,45 +133,14 @@ unfolding ◌>>◌
 extended_so line c t m k = put_there k.mission t (Some (extended_by (extension line c k m) m))
 
 module _ (line : Line) (c t_train t : ℕ) (position : Position) where
-  report_parts : (j : Centre) → report line c t position j ≡ (own_report line c t position >> yield_if_due line c t) j
-  report_parts j = by_mission (j.mission t) refl
-    where
-      parts : Option Mission → Reply
-      parts o = option_map_or (λ m. (report_here line c t position m >> yield_if_due line c t) j) o (take_over line t j)
+  pub report_is_whole : IsWhole line c (of_train t_train t (Report position)) (own_report line c t position)
+  report_is_whole k none = refl
 
-      own : Option Mission → Reply
-      own o = option_map_or (λ m. report_here line c t position m j) o (take_over line t j)
+  pub end_is_whole : IsWhole line c (of_train t_train t (EndOfMission position)) (own_end line c t position)
+  end_is_whole k none = refl
 
-      by_mission : (o : Option Mission) → j.mission t ≡ o → report line c t position j ≡ (own_report line c t position >> yield_if_due line c t) j
-      by_mission (Some m) at = ap parts at ∙ sym (alike_then (own_report line c t position) (report_here line c t position m) (yield_if_due line c t) j (ap own at))
-      by_mission None none = ap parts none ∙ sym (alike_then (own_report line c t position) (take_over line t) (yield_if_due line c t) j (ap own none)
-          ∙ then_resting (take_over line t) (yield_if_due line c t) j (yields_nothing line c t (take_over line t j).state none))
-
-  pub report_in_parts : IsInParts line c (of_train t_train t (Report position)) (own_report line c t position) (yield_if_due line c t)
-  report_in_parts k none = let m = of_train t_train t (Report position) in in_two m (report line c t position) (own_report line c t position) (yield_if_due line c t) k (report_parts (hear m k).state)
-
-  pub end_in_parts : IsInParts line c (of_train t_train t (EndOfMission position)) (own_end line c t position) (yield_if_due line c t)
-  end_in_parts k none = let m = of_train t_train t (EndOfMission position) in in_two m (own_end line c t position >> yield_if_due line c t) (own_end line c t position) (yield_if_due line c t) k refl
-
-  pub granted_in_parts : (stamp : ℕ) → IsInParts line c (of_train t_train t (ShorteningGranted stamp position)) (own_granted line c t position) (yield_if_due line c t)
-  granted_in_parts stamp k none =
-      let m = of_train t_train t (ShorteningGranted stamp position) in
-      let here = asked line c t_train t k stamp position none in
-      in_two m (answer_granted line c t position) (own_granted line c t position) (yield_if_due line c t) k (both_so (hear m k).state here.0 here.1 here.2 here.3)
-    where
-      both_so : (j : Centre) (n : Mission) → j.mission t ≡ Some n → (p : Proposal) → n.proposal ≡ Some p → answer_granted line c t position j ≡ (own_granted line c t position >> yield_if_due line c t) j
-      both_so j n at p stands =
-          ap (λ (o : Option Mission). option_map_or (λ x. option_map_or (λ q. granted line c t position x q j) x.proposal (rest j)) o (rest j)) at
-          ∙ ap (λ (o : Option Proposal). option_map_or (λ q. granted line c t position n q j) o (rest j)) stands
-          ∙ sym (alike_then (own_granted line c t position) first (yield_if_due line c t) j
-          (ap (λ (o : Option Mission). option_map_or (λ x. option_map_or (λ q. own_of x q j) x.proposal (rest j)) o (rest j)) at
-          ∙ ap (λ (o : Option Proposal). option_map_or (λ q. own_of n q j) o (rest j)) stands))
-        where
-          own_of : Mission → Proposal → Act
-          own_of x q = change_mission t (λ z. record z { proposal = None }) >> cut_in_time line c t q.last_kept position x
-
-          first : Act
-          first = own_of n p
+  pub granted_is_whole : (stamp : ℕ) → IsWhole line c (of_train t_train t (ShorteningGranted stamp position)) (own_granted line c t position)
+  granted_is_whole stamp k none = refl
 
   pub request_in_parts : IsInParts line c (of_train t_train t (Request position)) (own_request line c t position) (at_border_then line c t position)
   request_in_parts k none =

@@ -27,7 +27,7 @@ use Rattle.law_no_copy.proofs.Tally.{mission_of}
 use Rattle.law_no_copy.proofs.Messages.{fair_report_here, standing}
 use Rattle.law_refine_missions.proofs.Keeps.{act_sound}
 use Rattle.law_refine_missions.proofs.Sets.{Sets, sets_mission, sets_close}
-use Rattle.law_refine_missions.proofs.Leaves.{given_is, leaving_shown, none_given, some_given, close_is, run_leaves, run_told}
+use Rattle.law_refine_missions.proofs.Leaves.{given_is, leaving_shown, none_given, some_given, close_is, still_given, run_leaves, run_told}
 
 -- where a section is cleared, one that ends no farther is
 cleared_before : (line : Line) (place : Place) (s e : ℕ) → end line s ≤ end line e → is_cleared line place e ≡ true → is_cleared line place s ≡ true
@@ -59,6 +59,7 @@ module _ (line : Line) (ok : IsLine line) (w : Flow) (sound : IsFlowSound line w
     pub left : Option Mission
     pub left_is : q.state.mission t ≡ left
     pub shown_is : (reported line t c place v).mission t ≡ option_map (seen c) left
+    pub none_left : left ≡ None → (s : ℕ) → is_given_to t ((reported line t c place v).mark s) ≡ false
 
   module _ (place : Place) where
     abbrev part : SectionRun
@@ -120,6 +121,7 @@ module _ (line : Line) (ok : IsLine line) (w : Flow) (sound : IsFlowSound line w
       left = None;
       left_is = (run_leaves line w sound v sees c t to m at is_released inside (joined m.hand m.pool) at_home m.place.track (close line c t m) None sets none_left).mission t ∙ put_there k.mission t None;
       shown_is = ap (λ (x : LineState). x.mission t) becomes ∙ put_there v.mission t None;
+      none_left = λ gone s. ap (λ (x : LineState). is_given_to t (x.mark s)) becomes ∙ still_given line w sound v sees c t to m at is_released inside s ∙ sym (none_left s);
     }
       where
         left_so : Centre
@@ -155,6 +157,7 @@ module _ (line : Line) (ok : IsLine line) (w : Flow) (sound : IsFlowSound line w
       left = Some shorter;
       left_is = (run_leaves line w sound v sees c t to m at is_released inside part (λ s home. part_is s) m.place.track (set_here t (Some shorter)) (Some shorter) sets rest_of).mission t ∙ put_there k.mission t (Some shorter);
       shown_is = ap (λ (x : LineState). x.mission t) becomes ∙ put_there v.mission t (Some (seen c shorter));
+      none_left = λ gone. cc;
     }
       where
         left_so : Centre

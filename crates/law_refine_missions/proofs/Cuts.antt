@@ -1,8 +1,8 @@
 -- A shortening that is granted: the hand is cut behind the last section kept, if the train has not run past the proposed end.
 use Rattle.std.proofs.Common.{◌≡◌, ◌≢◌, ◌⊎◌, ℕ, ◌+◌, ◌*◌, ◌<◌, ◌≤◌, ◌==◌, ◌&&◌, not, nat_lt, nat_le, if◌then◌else◌, Bool, true, false, [], Option, Some, None, option_map, refl, sym, ap, ◌∙◌, subst, inl, inr, arith, ⊎_elim, eqb-true, ltb-true, lt-ltb}
 use Rattle.std.specs.Option.{option_map_or}
-use Rattle.std.proofs.lemmas.Bool.{and_parts, and_from, cases_lt, eqb-false}
-use Rattle.law_base.proofs.Puts.{put_same, put_there}
+use Rattle.std.proofs.lemmas.Bool.{and_parts, and_from, cases_lt, eqb-false, ne_eqb}
+use Rattle.law_base.proofs.Puts.{put_over, put_same, put_there}
 use Rattle.law_base.proofs.Runs.{within_true, within_from, within_before, same_tests}
 use Rattle.rbc_spec.specs.Maps.{put}
 use Rattle.rbc_spec.specs.SectionRuns.{SectionRun, no_run, within, is_empty, joined, part_from, part_before}
@@ -40,15 +40,19 @@ unasked n = record n { proposal = None }
 -- ## The cut
 
 module _ (line : Line) (ok : IsLine line) (w : Flow) (sound : IsFlowSound line w) (v : LineState) (sees : Shows line w v) (c t : ℕ) (to : is_centre line c ≡ true) (last_kept : ℕ)
-    (m : Mission) (at : (w.at c).mission t ≡ Some (unasked m)) where
+    (m : Mission) (asked : Option Proposal) (at : (w.at c).mission t ≡ Some (record m { proposal = asked })) where
   abbrev k : Centre
   k = w.at c
 
-  is : IsMissionAt line c k (unasked m)
-  is = (sound.centres c to).mission t (unasked m) at
+  -- the mission as it stands, with whatever request
+  abbrev was : Mission
+  was = record m { proposal = asked }
+
+  is : IsMissionAt line c k was
+  is = (sound.centres c to).mission t was at
 
   is_before : IsMissionAt line c k m
-  is_before = record { hand = is.hand; pool_follows = is.pool_follows; pool_away = is.pool_away; pool_on = is.pool_on; handing_to = is.handing_to; handing_number = is.handing_number }
+  is_before = record { hand = is.hand; pool_follows = is.pool_follows; pool_away = is.pool_away; pool_on = is.pool_on; pool_next = is.pool_next; handing_to = is.handing_to; handing_number = is.handing_number; hand_ends = is.hand_ends }
 
   abbrev tail : SectionRun
   tail = part_from (last_kept + 1) m.hand
@@ -63,30 +67,30 @@ module _ (line : Line) (ok : IsLine line) (w : Flow) (sound : IsFlowSound line w
   is_released s = is_cut_of v t last_kept s
 
   inside : (s : ℕ) → is_released s ≡ true → within m.hand s ≡ true
-  inside s so = sym (given_is line w sound v sees c t to (unasked m) at s) ∙ (and_parts (is_given_to t (v.mark s)) (nat_lt last_kept s) so).0
+  inside s so = sym (given_is line w sound v sees c t to was at s) ∙ (and_parts (is_given_to t (v.mark s)) (nat_lt last_kept s) so).0
 
   tail_is : (s : ℕ) → within tail s ≡ is_released s
   tail_is s = same_tests (within tail s) (within m.hand s && nat_lt last_kept s)
       (λ in_tail. let ends = within_true tail s in_tail in and_from (within m.hand s) (nat_lt last_kept s) (tail_part (last_kept + 1) m.hand s in_tail) (lt-ltb last_kept s (omega (arith, ends))))
       (λ both. let parts = and_parts (within m.hand s) (nat_lt last_kept s) both in let ends = within_true m.hand s parts.0 in let past = ltb-true last_kept s parts.1 in
       within_from tail s (omega (arith, ends, past)) (omega (arith, ends, past)))
-      ∙ sym (ap (λ b. b && nat_lt last_kept s) (given_is line w sound v sees c t to (unasked m) at s))
+      ∙ sym (ap (λ b. b && nat_lt last_kept s) (given_is line w sound v sees c t to was at s))
 
   at_home : (s : ℕ) → is_home line c s ≡ true → within gone s ≡ is_released s
   at_home s home = joined_without tail m.pool s (λ some more. is.pool_follows more ∙ sym (tail_behind (last_kept + 1) m.hand some)) (not_away (within m.pool s) (is_home line c s) home (is.pool_away s)) ∙ tail_is s
 
   -- the words of the cut, and what is shown behind it
-  record CutSo (q : Reply) : Type 0 where
-    tells : said_by q ≡ record { sayings = []; words = release_words line c is_released v }
-    shows : Shows line (replied w c q) (close_if_empty line t (release line c t is_released v))
+  pub record CutSo (q : Reply) : Type 0 where
+    pub tells : said_by q ≡ record { sayings = []; words = release_words line c is_released v }
+    pub shows : Shows line (replied w c q) (close_if_empty line t (release line c t is_released (without_ask t v)))
 
   cut_all : (tail.count == m.hand.count) ≡ true → CutSo ((leave line c t m.place.track gone >> close line c t m) k)
   cut_all all = record {
-    tells = run_told line w sound v sees c t to (unasked m) at is_released inside gone at_home m.place.track (close line c t m) None sets;
+    tells = run_told line w sound v sees c t to was at is_released inside gone at_home m.place.track (close line c t m) None sets;
     shows = subst (Shows line (replied w c ((leave line c t m.place.track gone >> close line c t m) k)))
-        (sym (close_is line t (release line c t is_released v) false (none_given line w sound v sees c t to (unasked m) at is_released inside (λ s so. whole s ∙ so))))
-        (leaving_shown line w sound v sees c t to (unasked m) at is_released inside None _
-        (run_leaves line w sound v sees c t to (unasked m) at is_released inside gone at_home m.place.track (close line c t m) None sets (λ s. none_left (within m.hand s) (is_released s) (sym (whole s)))));
+        (sym (close_is line t (release line c t is_released (without_ask t v)) false (none_given line w sound v sees c t to was at is_released inside (λ s so. whole s ∙ so)) ∙ closed_over))
+        (leaving_shown line w sound v sees c t to was at is_released inside None _
+        (run_leaves line w sound v sees c t to was at is_released inside gone at_home m.place.track (close line c t m) None sets (λ s. none_left (within m.hand s) (is_released s) (sym (whole s)))));
   }
     where
       left_so : Centre
@@ -94,6 +98,9 @@ module _ (line : Line) (ok : IsLine line) (w : Flow) (sound : IsFlowSound line w
 
       sets : Sets c t None left_so (close line c t m left_so)
       sets = sets_close c t line m left_so
+
+      closed_over : set_mission t None (release line c t is_released (without_ask t v)) ≡ set_mission t None (release line c t is_released v)
+      closed_over = λ i. record (release line c t is_released v) { mission = λ u. put_over t None (option_map (λ (n : LineMission). record n { proposal = None }) (v.mission t)) v.mission u i }
 
       whole : (s : ℕ) → is_released s ≡ within m.hand s
       whole s = sym (tail_is s) ∙ whole_tail (last_kept + 1) m.hand s (eqb-true tail.count m.hand.count all)
@@ -147,12 +154,26 @@ module _ (line : Line) (ok : IsLine line) (w : Flow) (sound : IsFlowSound line w
           by_part true = cancelled
           by_part false = rests
 
-  cut_part : (tail.count == m.hand.count) ≡ false → CutSo ((leave line c t m.place.track gone >> (set_here t (Some kept) >> cancels)) k)
+  -- a part of the hand is kept
+  pub record PartSo (q : Reply) : Type 0 where
+    pub tells : said_by q ≡ record { sayings = []; words = release_words line c is_released v }
+    pub shows : Shows line (replied w c q) (release line c t is_released (without_ask t v))
+    pub left : Mission
+    pub left_is : q.state.mission t ≡ Some left
+    pub shown_is : (without_ask t v).mission t ≡ Some (seen c left)
+    pub closes_not : close_if_empty line t (release line c t is_released (without_ask t v)) ≡ release line c t is_released (without_ask t v)
+
+  cut_part : (tail.count == m.hand.count) ≡ false → PartSo ((leave line c t m.place.track gone >> (set_here t (Some kept) >> cancels)) k)
   cut_part some = record {
-    tells = run_told line w sound v sees c t to (unasked m) at is_released inside gone at_home m.place.track (set_here t (Some kept) >> cancels) (Some done.left) done.sets;
+    tells = run_told line w sound v sees c t to was at is_released inside gone at_home m.place.track (set_here t (Some kept) >> cancels) (Some done.left) done.sets;
     shows = subst (Shows line (replied w c ((leave line c t m.place.track gone >> (set_here t (Some kept) >> cancels)) k))) becomes
-        (leaving_shown line w sound v sees c t to (unasked m) at is_released inside (Some done.left) _
-        (run_leaves line w sound v sees c t to (unasked m) at is_released inside gone at_home m.place.track (set_here t (Some kept) >> cancels) (Some done.left) done.sets left_of));
+        (leaving_shown line w sound v sees c t to was at is_released inside (Some done.left) _
+        (run_leaves line w sound v sees c t to was at is_released inside gone at_home m.place.track (set_here t (Some kept) >> cancels) (Some done.left) done.sets left_of));
+    left = done.left;
+    left_is = (run_leaves line w sound v sees c t to was at is_released inside gone at_home m.place.track (set_here t (Some kept) >> cancels) (Some done.left) done.sets left_of).mission t ∙ put_there k.mission t (Some done.left);
+    shown_is = put_there v.mission t (option_map (λ (n : LineMission). record n { proposal = None }) (v.mission t)) ∙ sym shown_so;
+    closes_not = close_is line t (release line c t is_released (without_ask t v)) true (some_given line w sound v sees c t to was at is_released inside m.hand.first
+        (within_from m.hand m.hand.first (omega arith) (omega (arith, is.hand.some))) first_kept);
   }
     where
       done : Left (leave line c t m.place.track gone k).state ((set_here t (Some kept) >> cancels) (leave line c t m.place.track gone k).state)
@@ -174,45 +195,74 @@ module _ (line : Line) (ok : IsLine line) (w : Flow) (sound : IsFlowSound line w
       first_kept : is_released m.hand.first ≡ false
       first_kept = sym (tail_is m.hand.first) ∙ within_before tail m.hand.first (omega (arith, differ))
 
-      becomes : set_mission t (Some (seen c done.left)) (release line c t is_released v) ≡ close_if_empty line t (release line c t is_released v)
-      becomes = (λ i. record (release line c t is_released v) { mission = λ u. (ap (λ (n : LineMission). put v.mission t (Some n) u) done.seen_is ∙ put_same t (Some (seen c (unasked m))) v.mission (sees.mission t c (unasked m) at) u) i })
-          ∙ sym (close_is line t (release line c t is_released v) true (some_given line w sound v sees c t to (unasked m) at is_released inside m.hand.first
-          (within_from m.hand m.hand.first (omega arith) (omega (arith, is.hand.some))) first_kept))
+      shown_so : Some (seen c done.left) ≡ option_map (λ (n : LineMission). record n { proposal = None }) (v.mission t)
+      shown_so = ap (λ (n : LineMission). Some n) done.seen_is ∙ sym (ap (option_map (λ (n : LineMission). record n { proposal = None })) (sees.mission t c was at))
+
+      becomes : set_mission t (Some (seen c done.left)) (release line c t is_released v) ≡ release line c t is_released (without_ask t v)
+      becomes = λ i. record (release line c t is_released v) { mission = λ u. put v.mission t (shown_so i) u }
+
+  cut_part_so : (tail.count == m.hand.count) ≡ false → CutSo ((leave line c t m.place.track gone >> (set_here t (Some kept) >> cancels)) k)
+  cut_part_so some = let done = cut_part some in record { tells = done.tells; shows = subst (Shows line (replied w c ((leave line c t m.place.track gone >> (set_here t (Some kept) >> cancels)) k))) (sym done.closes_not) done.shows }
 
   then_either : (a f g : Act) (b : Bool) → (b ≡ true → CutSo ((a >> f) k)) → (b ≡ false → CutSo ((a >> g) k)) → CutSo ((a >> (if b then f else g)) k)
   then_either a f g true one two = one refl
   then_either a f g false one two = two refl
 
-  cuts : CutSo (cut line c t last_kept m k)
-  cuts = then_either (leave line c t m.place.track gone) (close line c t m) (set_here t (Some kept) >> cancels) (tail.count == m.hand.count) cut_all cut_part
+  pub cuts : CutSo (cut line c t last_kept m k)
+  cuts = then_either (leave line c t m.place.track gone) (close line c t m) (set_here t (Some kept) >> cancels) (tail.count == m.hand.count) cut_all cut_part_so
 
-  cut_keeps : IsFlowSound line (replied w c (cut line c t last_kept m k))
-  cut_keeps = act_sound line ok c w sound to (cut line c t last_kept m k) (cut_sound line ok c t last_kept m (unasked m) k (sound.centres c to) at refl is_before)
-      (λ y counts ready. fair_cut line c y counts t last_kept m k (ap (mission_of y) at) is.pool_follows (λ so here. let stands = standing line c y counts t (unasked m) k at ready so here in
+  -- and the whole act, where a part is kept
+  pub cuts_part : tail.count ≢ m.hand.count → PartSo (cut line c t last_kept m k)
+  cuts_part differ = subst (λ b. PartSo ((leave line c t m.place.track gone >> (if b then close line c t m else (set_here t (Some kept) >> cancels))) k)) (sym (ne_eqb tail.count m.hand.count differ)) (cut_part (ne_eqb tail.count m.hand.count differ))
+
+  pub cut_keeps : IsFlowSound line (replied w c (cut line c t last_kept m k))
+  cut_keeps = act_sound line ok c w sound to (cut line c t last_kept m k) (cut_sound line ok c t last_kept m was k (sound.centres c to) at refl is_before)
+      (λ y counts ready. fair_cut line c y counts t last_kept m k (ap (mission_of y) at) is.pool_follows (λ so here. let stands = standing line c y counts t was k at ready so here in
       record { hand_on = stands.hand_on; pool_on = stands.pool_on; alone = stands.alone; to_registrar = stands.to_registrar; to_centre = stands.to_centre }))
-      (goes_cut line c t last_kept m (unasked m) k at refl)
+      (goes_cut line c t last_kept m was k at refl)
 
-  rest_keeps : IsFlowSound line (replied w c (rest k))
-  rest_keeps = act_sound line ok c w sound to (rest k) (rest_sound line c k (sound.centres c to)) (λ y counts ready. fair_rest line c y k) (goes_rest k)
+-- ## In time
+
+module _ (line : Line) (ok : IsLine line) (w : Flow) (sound : IsFlowSound line w) (v : LineState) (sees : Shows line w v) (c t : ℕ) (to : is_centre line c ≡ true) (last_kept : ℕ)
+    (m : Mission) (at : (w.at c).mission t ≡ Some (unasked m)) where
+  abbrev now : Centre
+  now = w.at c
+
+  -- no request stood
+  unasked_already : without_ask t v ≡ v
+  unasked_already = λ i. record v { mission = λ u. same u i }
+    where
+      same : (u : ℕ) → put v.mission t (option_map (λ (n : LineMission). record n { proposal = None }) (v.mission t)) u ≡ v.mission u
+      same u = put_same t (option_map (λ (n : LineMission). record n { proposal = None }) (v.mission t)) v.mission
+          (sees.mission t c (unasked m) at ∙ sym (ap (option_map (λ (n : LineMission). record n { proposal = None })) (sees.mission t c (unasked m) at))) u
+
+  cut_now : CutSo line ok w sound v sees c t to last_kept m None at (cut line c t last_kept m now)
+  cut_now = cuts line ok w sound v sees c t to last_kept m None at
+
+  cut_shows : Shows line (replied w c (cut line c t last_kept m now)) (close_if_empty line t (release line c t (is_cut_of v t last_kept) v))
+  cut_shows = subst (λ (x : LineState). Shows line (replied w c (cut line c t last_kept m now)) (close_if_empty line t (release line c t (is_cut_of v t last_kept) x))) unasked_already cut_now.shows
+
+  rest_keeps : IsFlowSound line (replied w c (rest now))
+  rest_keeps = act_sound line ok c w sound to (rest now) (rest_sound line c now (sound.centres c to)) (λ y counts ready. fair_rest line c y now) (goes_rest now)
 
   -- where the report has a place, and in time
   pub record Shortens (o : Option Place) (q : Reply) : Type 0 where
     pub tells : said_by q ≡ record { sayings = []; words = shortening_words line t c o last_kept v }
     pub reaches : Reaches line w c q (shortened line t c o last_kept v)
 
-  rests : Reaches line w c (rest k) v
+  rests : Reaches line w c (rest now) v
   rests = record { shows = rest_shown line ok w sound v sees c t to (unasked m) at; sound = rest_keeps }
 
-  pub shortens : (position : Position) → Shortens (place_on line m.place.track position) (cut_in_time line c t last_kept position m k)
+  pub shortens : (position : Position) → Shortens (place_on line m.place.track position) (cut_in_time line c t last_kept position m now)
   shortens position = by_place (place_on line m.place.track position)
     where
-      by_place : (o : Option Place) → Shortens o (option_map_or (λ place. if nat_le place.front (10 * end line last_kept) then cut line c t last_kept m else rest) o rest k)
+      by_place : (o : Option Place) → Shortens o (option_map_or (λ place. if nat_le place.front (10 * end line last_kept) then cut line c t last_kept m else rest) o rest now)
       by_place None = record { tells = refl; reaches = rests }
       by_place (Some place) = let r = by_time (nat_le place.front (10 * end line last_kept)) in record { tells = r.0; reaches = r.1 }
         where
-          by_time : (b : Bool) → let q = (if b then cut line c t last_kept m else rest) k in
-              (said_by q ≡ record { sayings = []; words = if b then release_words line c is_released v else [] }) × Reaches line w c q (if b then close_if_empty line t (release line c t is_released v) else v)
-          by_time true = (cuts.tells, record { shows = cuts.shows; sound = cut_keeps })
+          by_time : (b : Bool) → let q = (if b then cut line c t last_kept m else rest) now in
+              (said_by q ≡ record { sayings = []; words = if b then release_words line c (is_cut_of v t last_kept) v else [] }) × Reaches line w c q (if b then close_if_empty line t (release line c t (is_cut_of v t last_kept) v) else v)
+          by_time true = (cut_now.tells, record { shows = cut_shows; sound = cut_keeps line ok w sound v sees c t to last_kept m None at })
           by_time false = (refl, rests)
 
 -- ## The request no longer stands

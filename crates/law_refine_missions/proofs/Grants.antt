@@ -56,7 +56,7 @@ shown_open (centre.Taken u) given = by_given (given u)
     by_given : (b : Bool) → is_mark_open (if b then line_centre.Given u else line_centre.Kept u) ≡ false
     by_given true = refl
     by_given false = refl
-shown_open (centre.Out u d) given = by_given (given u)
+shown_open (centre.Out u) given = by_given (given u)
   where
     by_given : (b : Bool) → is_mark_open (if b then line_centre.Given u else line_centre.Kept u) ≡ false
     by_given true = refl

@@ -54,7 +54,7 @@ module _ (line : Line) (w : Flow) (sound : IsFlowSound line w) (v : LineState) (
       (λ (other : u ≢ m.nid_engine). ap is_some (put_other (w.at c).heard m.nid_engine u (Some m.t_train) other) ∙ is) (cases_eq u m.nid_engine)
 
   pub sound_then : IsFlowSound line (replied w c (hear m k))
-  sound_then = aside_sound line w sound c to y (record { book = refl; wish = refl; mission = refl; wait = refl; has_right = refl; expects = refl; announced = refl; heard = heard_more })
+  sound_then = aside_sound line w sound c to y (record { book = refl; wish = refl; mission = refl; wait = refl; has_right = refl; expects = refl; announced = refl; asks = λ u first is. is; heard = heard_more })
 
   pub shows_then : Shows line (replied w c (hear m k)) (hears c m v)
   shows_then = unseen_shown line w c nothing_came y (λ d. []) (acted w c y (λ d. [])) v v.phase (put_pair v.heard m.nid_engine c (Some m.t_train)) v.said sound sees to

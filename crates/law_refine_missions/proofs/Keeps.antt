@@ -1,4 +1,5 @@
 -- What an act of a centre keeps: all of it, where it makes nothing of what is counted, leaves what is sound, and is orderly.
+use Rattle.law_handover.proofs.Steps.{none_is_allowed}
 use Rattle.std.proofs.Common.{◌≡◌, ℕ, true, arith}
 use Rattle.law_counting.specs.Resource.{Resource, IsFair}
 use Rattle.rbc_spec.specs.Line.{Line, IsLine, is_centre}
@@ -11,13 +12,11 @@ use Rattle.law_network.specs.Keeping.{nothing_came, IsFairAct, LeavesSound}
 use Rattle.law_network.specs.Sound.{IsCentreSound, IsFlowSound}
 use Rattle.law_network.specs.Leads.{replied}
 use Rattle.law_network.proofs.Kept.{acted_sound}
-use Rattle.law_network.proofs.Neighbours.{neighbours}
 use Rattle.law_no_copy.proofs.Tally.{Tally, IsTally, Fair}
 use Rattle.law_no_copy.proofs.Ready.{Ready}
 use Rattle.law_no_copy.proofs.Rights.{rights_tally, rights_counted, rights_ready}
 use Rattle.law_no_copy.proofs.Tokens.{tokens_tally, tokens_counted, tokens_ready}
-use Rattle.law_no_copy_lent.proofs.Lent.{lent_tally, lent_counted, lent_ready}
-use Rattle.law_handover.specs.Orderly.{IsOrderly}
+use Rattle.law_handover.specs.Orderly.{IsOrderly, none_allowed}
 use Rattle.law_handover.proofs.Kept.{orderly_pairs}
 
 module _ (line : Line) (ok : IsLine line) (c : ℕ) where
@@ -34,15 +33,13 @@ module _ (line : Line) (ok : IsLine line) (c : ℕ) where
     rights = λ t. let is = rights_counted line c t in as_fair k (came (rights_tally line c t).res) q (rights_tally line c t) is (makes (rights_tally line c t) is (rights_ready line c t k));
     tokens = λ t s. let is = tokens_counted line (is_ordered line ok) c t s in
         as_fair k (came (tokens_tally line c t s).res) q (tokens_tally line c t s) is (makes (tokens_tally line c t s) is (tokens_ready line (is_ordered line ok) c t s k));
-    lent = λ t s d. let is = lent_counted line (is_ordered line ok) c t s d in
-        as_fair k (came (lent_tally line c t s d).res) q (lent_tally line c t s d) is (makes (lent_tally line c t s d) is (lent_ready line (is_ordered line ok) c t s d (neighbours line ok) k sound));
   }
 
   module _ (w : Flow) (sound : IsFlowSound line w) (to : is_centre line c ≡ true) (q : Reply) (leaves : LeavesSound line c q.state q.frames) where
     -- by itself
     pub act_keeps : IsFairAct line c (w.at c) nothing_came q.state q.frames → IsOrderly (w.at c) q.state q.frames → IsFlowSound line (replied w c q)
     act_keeps fair orderly = acted_sound line w sound c to q.state q.frames leaves fair
-        (λ i j t at there. orderly_pairs w sound.counted c q.state q.frames orderly i j t (sound.pairs i j t at there))
+        (λ i j t at there. orderly_pairs w sound.counted c q.state q.frames none_allowed orderly (λ d u h so. absurd (none_is_allowed so)) i j t (sound.pairs i j t at there))
 
     pub act_sound : MakesNoMore (w.at c) nothing_came q → IsOrderly (w.at c) q.state q.frames → IsFlowSound line (replied w c q)
     act_sound makes orderly = act_keeps (made_fair (w.at c) nothing_came q (sound.centres c to) makes) orderly

@@ -4,8 +4,9 @@ pub mod Sets
 pub mod Leaves
 pub mod Clears
 pub mod Reports
-pub mod Ends
 pub mod Cuts
+pub mod Stands
+pub mod Ends
 pub mod Extending
 pub mod Grants
 pub mod Asked

@@ -20,7 +20,7 @@ use Rattle.rbc_spec.specs.Centre as centre
 use Rattle.rbc_spec.specs.Centre.{Centre, Mission, Expectation}
 use Rattle.rbc_spec.specs.Acts.{Reply, rest}
 use Rattle.rbc_spec.specs.Rules.{clear, report_here, take_over}
-use Rattle.rbc_spec.specs.LineCentre.{LineState, LineMission, nothing, supervises, is_at}
+use Rattle.rbc_spec.specs.LineCentre.{LineState, LineMission, nothing, supervises, is_at, is_given_to}
 use Rattle.rbc_spec.specs.OwnSteps.{Reports, SaysNothing, reported, track_of}
 use Rattle.rbc_spec.specs.ReadOff.{seen}
 use Rattle.law_network.specs.Flow.{Flow, centre_count}
@@ -67,14 +67,15 @@ module _ (line : Line) (ok : IsLine line) (w : Flow) (sound : IsFlowSound line w
       pub left : Option Mission
       pub left_is : q.state.mission t ≡ left
       pub shown_is : mid.mission t ≡ option_map (seen c) left
+      pub none_left : left ≡ None → (place : Place) → o ≡ Some place → (s : ℕ) → is_given_to t (mid.mark s) ≡ false
 
     pub report_comes : (position : Position) → Comes (place_on line m.place.track position) (report_here line c t position m k)
     report_comes position = by_place (place_on line m.place.track position)
       where
         by_place : (o : Option Place) → Comes o (option_map_or (clear line c t m) o rest k)
-        by_place None = record { mid = v; own = record { said_is = refl; new_is = refl }; shows = rest_shown; left = Some m; left_is = at; shown_is = sees.mission t c m at }
+        by_place None = record { mid = v; own = record { said_is = refl; new_is = refl }; shows = rest_shown; left = Some m; left_is = at; shown_is = sees.mission t c m at; none_left = λ gone. cc }
         by_place (Some place) = let done = clears line ok w sound v sees c t to m at place in
-            record { mid = reported line t c place v; own = record { said_is = done.tells; new_is = refl }; shows = done.shows; left = done.left; left_is = done.left_is; shown_is = done.shown_is }
+            record { mid = reported line t c place v; own = record { said_is = done.tells; new_is = refl }; shows = done.shows; left = done.left; left_is = done.left_is; shown_is = done.shown_is; none_left = λ gone x here. done.none_left gone }
 
   -- ## A train that is not
 

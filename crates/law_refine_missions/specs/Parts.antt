@@ -6,7 +6,7 @@ use Rattle.rbc_spec.specs.Place.{Position, place_on}
 use Rattle.rbc_spec.specs.Message.{TrainMessage, TrainBody, Authority}
 use Rattle.rbc_spec.specs.Centre.{Centre, Taken, Mission, is_open}
 use Rattle.rbc_spec.specs.Acts.{Act, Reply, rest, ◌>>◌, with_some, with_mission, hear, say, booked, set_mission, change_mission, return_pool}
-use Rattle.rbc_spec.specs.Rules.{report_here, take_over, cut, extension, extended_by, authority, at_border}
+use Rattle.rbc_spec.specs.Rules.{report_here, take_over, cut, extension, extended_by, authority, at_border, stand_still}
 use Rattle.rbc_spec.specs.Step.{silence, ticked, hear_and_answer}
 use Rattle.rbc_spec.specs.LineCentre.{LineState}
 use Rattle.rbc_spec.specs.OwnSteps.{Own}
@@ -21,12 +21,12 @@ use Rattle.law_network.specs.Leads.{said_by, replied, Leads, LeadsOwn}
 abbrev pub own_report : Line → ℕ → ℕ → Position → Act
 own_report line c t position k = option_map_or (λ m. report_here line c t position m k) (k.mission t) (take_over line t k)
 
--- an end of mission: a report, and then the pool goes home and the mission is ended
+-- an end of mission: a report, then what lies ahead of a train at standstill is cut off its hand, and then the pool goes home and the mission is ended
 abbrev pub ends : Line → ℕ → ℕ → Mission → Act
 ends line c t m = return_pool line c t m >> change_mission t (λ n. record n { is_ended = true; proposal = None })
 
 abbrev pub own_end : Line → ℕ → ℕ → Position → Act
-own_end line c t position = with_mission t (report_here line c t position) >> with_mission t (ends line c t)
+own_end line c t position = (with_mission t (report_here line c t position) >> with_mission t (stand_still line c t position)) >> with_mission t (ends line c t)
 
 -- a shortening that is granted: the request no longer stands, and the hand is cut, if the train has not run past the proposed end
 abbrev pub cut_in_time : Line → ℕ → ℕ → ℕ → Position → Mission → Act
@@ -74,7 +74,11 @@ abbrev pub IsOwnStep : Line → ℕ → TrainMessage → Act → Type 0
 IsOwnStep line c m own = (w : Flow) (v : LineState) (stamp : ℕ) → IsFlowSound line w → Shows line w v → is_centre line c ≡ true
     → silence line c (ticked stamp (w.at c)) m ≡ None → LeadsOwn line w c m ((hear m >> own) (ticked stamp (w.at c))) v
 
--- what it comes to is this act, and then another
+-- what it comes to is this act
+abbrev pub IsWhole : Line → ℕ → TrainMessage → Act → Type 0
+IsWhole line c m own = (k : Centre) → silence line c k m ≡ None → hear_and_answer line c m k ≡ (hear m >> own) k
+
+-- or this act, and then another
 abbrev pub IsInParts : Line → ℕ → TrainMessage → Act → Act → Type 0
 IsInParts line c m own later = (k : Centre) → silence line c k m ≡ None → hear_and_answer line c m k ≡ ((hear m >> own) >> later) k
 

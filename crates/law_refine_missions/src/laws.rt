@@ -1,12 +1,12 @@
 //! Laws of the messages that change a mission: of each, that its own part is the own step of the one line centre (`specs/Parts.antt`:
-//! `IsOwnStep`), and that what it comes to is that part and what follows it (`IsInParts`).
+//! `IsOwnStep`), and that what it comes to is that part (`IsWhole`), or that and what follows it (`IsInParts`).
 
 ghost use Rattle.std.specs.Prelude.{◌≡◌, ℕ, true, None};
 ghost use Rattle.rbc_spec.specs.Line.{Line, IsLine, is_centre};
 ghost use Rattle.rbc_spec.specs.Place.{Position};
 ghost use Rattle.rbc_spec.specs.Message.{TrainMessage};
 ghost use Rattle.rbc_spec.specs.Message.TrainBody.{Request, Report, ShorteningGranted, EndOfMission};
-ghost use Rattle.rbc_spec.specs.Acts.{Act, yield_if_due};
+ghost use Rattle.rbc_spec.specs.Acts.{Act};
 ghost use Rattle.rbc_spec.specs.Step.{silence, ticked, hear_and_answer};
 ghost use Rattle.rbc_spec.specs.LineCentre.{LineState, hears, nothing};
 ghost use Rattle.rbc_spec.specs.Run.{Steps};
@@ -14,15 +14,15 @@ ghost use Rattle.law_network.specs.Flow.{Flow};
 ghost use Rattle.law_network.specs.Sound.{IsFlowSound};
 ghost use Rattle.law_network.specs.Shows.{Shows};
 ghost use Rattle.law_network.specs.Leads.{LeadsHeard};
-ghost use Rattle.law_refine_missions.specs.Parts.{own_report, own_end, own_granted, own_request, at_border_then, of_train, IsOwnStep, IsInParts, LeadsOnward};
+ghost use Rattle.law_refine_missions.specs.Parts.{own_report, own_end, own_granted, own_request, at_border_then, of_train, IsOwnStep, IsWhole, IsInParts, LeadsOnward};
 
 /// A position report: what the train has cleared leaves its hand, and a hand that became empty closes the mission. Of a train that is not
-/// supervised here nothing changes that the one line centre shows: it listens. What follows is that the mission is yielded, if it is due.
+/// supervised here nothing changes that the one line centre shows: it listens. Nothing follows.
 pub fn a_report_is_an_own_step()
     ensures own { (line : Line) (c t_train t : ℕ) (position : Position) → IsLine line
         → IsOwnStep line c (of_train t_train t (Report position)) (own_report line c t position) }
-    ensures parts { (line : Line) (c t_train t : ℕ) (position : Position)
-        → IsInParts line c (of_train t_train t (Report position)) (own_report line c t position) (yield_if_due line c t) }
+    ensures whole { (line : Line) (c t_train t : ℕ) (position : Position)
+        → IsWhole line c (of_train t_train t (Report position)) (own_report line c t position) }
     ensures listens { (line : Line) (w : Flow) (v : LineState) (c t_train t stamp : ℕ) (position : Position) → IsLine line → IsFlowSound line w
         → Shows line w v → is_centre line c ≡ true → (w.at c).mission t ≡ None
         → silence line c (ticked stamp (w.at c)) (of_train t_train t (Report position)) ≡ None
@@ -33,8 +33,8 @@ pub fn a_report_is_an_own_step()
 pub fn an_end_of_mission_is_an_own_step()
     ensures own { (line : Line) (c t_train t : ℕ) (position : Position) → IsLine line
         → IsOwnStep line c (of_train t_train t (EndOfMission position)) (own_end line c t position) }
-    ensures parts { (line : Line) (c t_train t : ℕ) (position : Position)
-        → IsInParts line c (of_train t_train t (EndOfMission position)) (own_end line c t position) (yield_if_due line c t) }
+    ensures whole { (line : Line) (c t_train t : ℕ) (position : Position)
+        → IsWhole line c (of_train t_train t (EndOfMission position)) (own_end line c t position) }
 {}
 
 /// A shortening that is granted: the request no longer stands, and the hand is cut behind the last section kept, with its pool, if the
@@ -42,8 +42,8 @@ pub fn an_end_of_mission_is_an_own_step()
 pub fn a_granted_shortening_is_an_own_step()
     ensures own { (line : Line) (c t_train t stamp : ℕ) (position : Position) → IsLine line
         → IsOwnStep line c (of_train t_train t (ShorteningGranted stamp position)) (own_granted line c t position) }
-    ensures parts { (line : Line) (c t_train t stamp : ℕ) (position : Position)
-        → IsInParts line c (of_train t_train t (ShorteningGranted stamp position)) (own_granted line c t position) (yield_if_due line c t) }
+    ensures whole { (line : Line) (c t_train t stamp : ℕ) (position : Position)
+        → IsWhole line c (of_train t_train t (ShorteningGranted stamp position)) (own_granted line c t position) }
 {}
 
 /// A request: the hand is extended as far as it may go, by open sections of this centre and by those of the pool, and the authority for it is

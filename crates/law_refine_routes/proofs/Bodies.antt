@@ -22,7 +22,6 @@ use Rattle.law_network.specs.Keeping.{came_with, IsFairAct}
 use Rattle.law_network.specs.Sound.{IsCentreSound, IsFlowSound}
 use Rattle.law_network.specs.Shows.{Shows}
 use Rattle.law_network.specs.Leads.{said_by, replied, Leads}
-use Rattle.law_network.proofs.Neighbours.{neighbours}
 use Rattle.law_abstraction.specs.After.{IsUnseen}
 use Rattle.law_abstraction.proofs.Acts.{at_head}
 use Rattle.law_abstraction.proofs.Shows.{part_stays, unseen_shown}
@@ -33,7 +32,6 @@ use Rattle.law_no_copy.proofs.Ready.{Ready, ready_again}
 use Rattle.law_no_copy.proofs.Rights.{rights_tally, rights_counted, rights_ready}
 use Rattle.law_no_copy.proofs.Tokens.{tokens_tally, tokens_counted, tokens_ready}
 use Rattle.law_no_copy.proofs.Frames.{fair_received}
-use Rattle.law_no_copy_lent.proofs.Lent.{lent_tally, lent_counted, lent_ready}
 use Rattle.law_handover.specs.Orderly.{IsTakenWith}
 use Rattle.law_handover.proofs.Orderly.{still}
 use Rattle.law_handover.proofs.Frames.{Fits, passes, goes_received}
@@ -79,7 +77,7 @@ module _ (line : Line) (ok : IsLine line) (w : Flow) (sound : IsFlowSound line w
   k = took_frame a number (w.at c)
 
   pub sound_here : IsCentreSound line c (took_frame a number (w.at c))
-  sound_here = free_sound line c (w.at c) (sound.centres c to) (took_frame a number (w.at c)) refl refl refl refl (λ u is. is) (omega arith)
+  sound_here = free_sound line c (w.at c) (sound.centres c to) (took_frame a number (w.at c)) refl refl refl refl (λ u is. is) (omega arith) (sound.centres c to).asks
 
   -- of whatever is counted the reply makes no more than came with the frame, where losses are not counted
   abbrev pub MakesNoMore : Reply → Type 0
@@ -89,7 +87,6 @@ module _ (line : Line) (ok : IsLine line) (w : Flow) (sound : IsFlowSound line w
   made_fair q makes = record {
     rights = λ t. counted (rights_tally line c t) (rights_counted line c t) (rights_ready line c t (w.at c)) (λ so. cc);
     tokens = λ t s. counted (tokens_tally line c t s) (tokens_counted line (is_ordered line ok) c t s) (tokens_ready line (is_ordered line ok) c t s (w.at c)) (λ so. cc);
-    lent = λ t s d. counted (lent_tally line c t s d) (lent_counted line (is_ordered line ok) c t s d) (lent_ready line (is_ordered line ok) c t s d (neighbours line ok) (w.at c) (sound.centres c to)) (λ so. cc);
   }
     where
       counted : (y : Tally) → IsTally line c y → Ready line c y (w.at c) → (y.exact ≡ true → ⊥) → IsFair y.res (centre_count line) c (w.at c) (y.res.inside a c f) q.state q.frames
@@ -112,7 +109,7 @@ module _ (line : Line) (ok : IsLine line) (w : Flow) (sound : IsFlowSound line w
       taken : IsTakenWith a f (w.at c) (received line c a f (took_frame a number (w.at c))).state (received line c a f (took_frame a number (w.at c))).frames
       taken = let comes = goes_received line c a f (took_frame a number (w.at c)) fits in record {
         y = comes.y;
-        taking = record { leads = comes.taking.leads; expected = comes.taking.expected; waits = comes.taking.waits; announced = comes.taking.announced; number = comes.taking.number; claimed = comes.taking.claimed; handing = comes.taking.handing };
+        taking = record { leads = comes.taking.leads; expected = comes.taking.expected; waits = comes.taking.waits; announced = comes.taking.announced; number = comes.taking.number; handing = comes.taking.handing };
         behind = comes.behind;
       }
 

@@ -37,7 +37,7 @@ use Rattle.law_abstraction.proofs.Marks.{in_use, in_no_hand, kept_mark_of, is_gi
 use Rattle.law_abstraction.proofs.Shows.{part_stays, shows_after}
 use Rattle.law_centre_sound.proofs.Again.{book_sound}
 use Rattle.law_centre_sound.proofs.Handovers.{out_untaken}
-use Rattle.law_centre_sound.proofs.Held.{given_out, given_unused, away}
+use Rattle.law_centre_sound.proofs.Held.{given_unused, away}
 use Rattle.law_centre_sound.proofs.Sends.{leaves, none_sent}
 use Rattle.law_no_copy.proofs.Comes.{used_out}
 use Rattle.law_no_copy.proofs.Routes.{home_law}
@@ -60,16 +60,16 @@ module _ (line : Line) (ok : IsLine line) (w : Flow) (sound : IsFlowSound line w
   module _ (known : all_of (λ s. is_some (section line s)) r ≡ true) where
     -- the sections that come home here
     abbrev is_back : ℕ → Bool
-    is_back s = (within r s && is_home line c s) && is_out_for t a ((w.at c).book s)
+    is_back s = (within r s && is_home line c s) && is_out_for t ((w.at c).book s)
 
-    back_parts : (s : ℕ) → is_back s ≡ true → ((within r s ≡ true) × (is_home line c s ≡ true)) × (is_out_for t a ((w.at c).book s) ≡ true)
-    back_parts s is = let both = and_parts (within r s && is_home line c s) (is_out_for t a ((w.at c).book s)) is in (and_parts (within r s) (is_home line c s) both.0, both.1)
+    back_parts : (s : ℕ) → is_back s ≡ true → ((within r s ≡ true) × (is_home line c s ≡ true)) × (is_out_for t ((w.at c).book s) ≡ true)
+    back_parts s is = let both = and_parts (within r s && is_home line c s) (is_out_for t ((w.at c).book s)) is in (and_parts (within r s) (is_home line c s) both.0, both.1)
 
     homes : (s : ℕ) → is_back s ≡ true → is_home line c s ≡ true
     homes s is = (back_parts s is).0.1
 
     abbrev freeing : Reply
-    freeing = freed line c (is_out_for t a) r (took_frame a number (w.at c))
+    freeing = freed line c (is_out_for t) r (took_frame a number (w.at c))
 
     abbrev y : Centre
     y = record k { book = λ s. if is_back s then (if (w.at c).wish s then centre.Shut else centre.Open) else (w.at c).book s; wish = λ s. not (is_back s) && (w.at c).wish s }
@@ -91,17 +91,16 @@ module _ (line : Line) (ok : IsLine line) (w : Flow) (sound : IsFlowSound line w
     freeing_keeps : IsFlowSound line (acted (took w a c) c y (λ d. []))
     freeing_keeps = reply_keeps line ok w sound a c number from to (RouteReturn t r) head freeing
         (leaves line c (book_sound line c k here y.book y.wish
-        (λ s out. ap (λ b. given b (k.wish s) (k.book s)) (away (within r s) (is_home line c s) (is_out_for t a (k.book s)) out) ∙ here.foreign s out)
-        (λ s u e is. here.out_at s u e (given_out (is_back s) (k.wish s) (k.book s) u e is))
+        (λ s out. ap (λ b. given b (k.wish s) (k.book s)) (away (within r s) (is_home line c s) (is_out_for t (k.book s)) out) ∙ here.foreign s out)
         (λ s unused. given_unused (is_back s) (k.wish s) (k.book s) (here.unwished s) unused)
-        (λ s u. taken_given u (is_back s) (k.wish s) (k.book s) ∙ others_given (within r s && is_home line c s) (is_out_for t a (k.book s)) (is_taken_for u (k.book s)) (out_untaken t a u (k.book s)))) (none_sent line c))
-        (λ z is ready unlike. eased line c z (z.res.inside a c (RouteReturn t r)) 0 k freeing (omega (arith, home_law line c z is a t r k)) (λ so. absurd (unlike so)) (fair_freed line c z (is_out_for t a) r k))
+        (λ s u. taken_given u (is_back s) (k.wish s) (k.book s) ∙ others_given (within r s && is_home line c s) (is_out_for t (k.book s)) (is_taken_for u (k.book s)) (out_untaken t u (k.book s)))) (none_sent line c))
+        (λ z is ready unlike. eased line c z (z.res.inside a c (RouteReturn t r)) 0 k freeing (omega (arith, home_law line c z is a t r k)) (λ so. absurd (unlike so)) (fair_freed line c z (is_out_for t) r k))
         (passes line c a (RouteReturn t r) (w.at c) (λ u n. refl) (still (w.at c) y refl refl refl))
 
     -- ## They were kept, and no start waited for them
 
     back_kept : (s : ℕ) → is_back s ≡ true → v.mark s ≡ line_centre.Kept t
-    back_kept s is = kept_mark_of line w v t sound sees s c (homes s is) (used_out t a ((w.at c).book s) (back_parts s is).1)
+    back_kept s is = kept_mark_of line w v t sound sees s c (homes s is) (used_out t ((w.at c).book s) (back_parts s is).1)
         (in_no_hand line w c (came_with a c (RouteReturn t r)) y (λ d. []) new t s sound act (omega (arith, one_if_true ((t == t) && within r s) (and_from (t == t) (within r s) (itself t) (back_parts s is).0.0))))
 
     back_free : (s : ℕ) → is_back s ≡ true → is_waiting line v t s ≡ false
@@ -112,7 +111,7 @@ module _ (line : Line) (ok : IsLine line) (w : Flow) (sound : IsFlowSound line w
             let there : wait_has line ((w.at d).wait t) s ≡ true = ap (λ o. wait_has line o s) (sym (sees.wait t d)) ∙ waits in
             let same = one_home line d c s ((sound.centres d (lt-ltb d (length line.centres) high)).wait_home t s there) (homes s is) in
             let at_home : wait_has line ((w.at c).wait t) s ≡ true = ap (λ x. wait_has line ((w.at x).wait t) s) (sym same) ∙ there in
-            omega (arith, (sound.centres c to).claims s t (homes s is), one_if_true (wait_has line ((w.at c).wait t) s) at_home, ap one_if (out_untaken t a t ((w.at c).book s) (back_parts s is).1))
+            omega (arith, (sound.centres c to).claims s t (homes s is), one_if_true (wait_has line ((w.at c).wait t) s) at_home, ap one_if (out_untaken t t ((w.at c).book s) (back_parts s is).1))
 
     -- ## They are freed
 
@@ -145,7 +144,7 @@ module _ (line : Line) (ok : IsLine line) (w : Flow) (sound : IsFlowSound line w
         (λ s low high is. (sees.wish s c (homes s is), known_below line s (each_within (λ e. is_some (section line e)) r known s (within_from r s low high))))
         (λ s low high is. (back_kept s is, back_free s is)))
 
-    first : Leads line (took w a c) c (freed line c (is_out_for t a) r (took_frame a number (w.at c))) v
+    first : Leads line (took w a c) c (freed line c (is_out_for t) r (took_frame a number (w.at c))) v
     first = record {
       quiets = steps line t is_back (w.at c).wish r.first r.count;
       new = freed_state;
@@ -176,14 +175,14 @@ module _ (line : Line) (ok : IsLine line) (w : Flow) (sound : IsFlowSound line w
     then_told false is = leads_rest line new c y freed_state (subst (IsFlowSound line) (sym (acted_twice (took w a c) c y y (λ d. []) (λ d. []))) freeing_keeps)
         (subst (λ u. Shows line u freed_state) (sym (acted_twice (took w a c) c y y (λ d. []) (λ d. []))) shows)
 
-    back_leads : Leads line (took w a c) c (route_returned line c a t r (took_frame a number (w.at c))) v
+    back_leads : Leads line (took w a c) c (route_returned line c t r (took_frame a number (w.at c))) v
     unfolding first
-    back_leads = leads_then line (took w a c) c k v (freed line c (is_out_for t a) r) (where_so leaves_here (end_order line c t)) first (then_told (leaves_here y) refl)
+    back_leads = leads_then line (took w a c) c k v (freed line c (is_out_for t) r) (where_so leaves_here (end_order line c t)) first (then_told (leaves_here y) refl)
 
   pub home_leads : Leads line (took w a c) c (received line c a (RouteReturn t r) (took_frame a number (w.at c))) v
-  home_leads = of_train_leads line ok w sound a c number from to (RouteReturn t r) head (comes_home t r) v sees t (if all_of (λ s. is_some (section line s)) r then route_returned line c a t r else rest)
+  home_leads = of_train_leads line ok w sound a c number from to (RouteReturn t r) head (comes_home t r) v sees t (if all_of (λ s. is_some (section line s)) r then route_returned line c t r else rest)
       (λ so. by_sections (all_of (λ s. is_some (section line s)) r) refl)
     where
-      by_sections : (b : Bool) → all_of (λ s. is_some (section line s)) r ≡ b → Leads line (took w a c) c ((if b then route_returned line c a t r else rest) (took_frame a number (w.at c))) v
+      by_sections : (b : Bool) → all_of (λ s. is_some (section line s)) r ≡ b → Leads line (took w a c) c ((if b then route_returned line c t r else rest) (took_frame a number (w.at c))) v
       by_sections true known = back_leads known
       by_sections false none = rest_leads line ok w sound a c number from to (RouteReturn t r) head (comes_home t r) v sees

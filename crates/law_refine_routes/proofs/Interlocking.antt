@@ -1,20 +1,21 @@
 -- A set and an unset: the own step of the one line centre, and behind an unset of a section in use a request to shorten, or nothing.
+use Rattle.law_counting.specs.Resource.{Resource, carried}
 use Rattle.std.proofs.Common.{◌≡◌, ◌≢◌, ℕ, ◌==◌, not, Bool, true, false, if◌then◌else◌, List, [], ◌∷◌, Option, Some, None, refl, sym, ap, ◌∙◌, subst, arith, append-nil, eq-eqb, ⊎_elim}
 use Rattle.std.specs.Prelude.{MatchBool}
 use Rattle.std.specs.Option.{option_map_or}
 use Rattle.std.proofs.lemmas.Bool.{cases_eq, and_from}
 use Rattle.law_counting.specs.Network.{acted}
-use Rattle.law_counting.proofs.Resource.{carried_none}
+use Rattle.law_counting.proofs.Resource.{carried_none, carried_more}
 use Rattle.rbc_spec.specs.Maps.{has, put}
-use Rattle.rbc_spec.specs.Line.{Line, IsLine, is_centre, is_home, section}
+use Rattle.rbc_spec.specs.Line.{Line, IsLine, is_centre, is_home, section, is_linked}
 use Rattle.rbc_spec.specs.Place.{Place}
 use Rattle.rbc_spec.specs.Frame.{Body, RouteWithdraw}
 use Rattle.rbc_spec.specs.Outcome.{Done, Asked, NotHome}
 use Rattle.rbc_spec.specs.Centre as centre
 use Rattle.rbc_spec.specs.Centre.{Centre, Phase, Entry, Mission, is_unused}
-use Rattle.rbc_spec.specs.Acts.{Act, Reply, rest, become, ◌>>◌, where_so, send, may_propose, propose}
+use Rattle.rbc_spec.specs.Acts.{Act, Reply, rest, become, ◌>>◌, where_so, may_propose, propose}
 use Rattle.rbc_spec.specs.Rules.{tell}
-use Rattle.rbc_spec.specs.Step.{wished, make, set, unset}
+use Rattle.rbc_spec.specs.Step.{wished, make, set, unset, withdraw}
 use Rattle.rbc_spec.specs.LineCentre as line_centre
 use Rattle.rbc_spec.specs.LineCentre.{LineState, Mark, Said, nothing}
 use Rattle.rbc_spec.specs.OwnSteps.{Tells, is_unused_mark, set_mark, wished_back}
@@ -31,7 +32,7 @@ use Rattle.law_abstraction.specs.Acts.{IsAct, SendsNone}
 use Rattle.law_abstraction.specs.After.{MarkAfter}
 use Rattle.law_abstraction.specs.After.MissionAfter.{stays}
 use Rattle.law_abstraction.proofs.Acts.{by_itself}
-use Rattle.law_abstraction.proofs.Frames.{sends_none, sends_single}
+use Rattle.law_abstraction.proofs.Frames.{sends_none}
 use Rattle.law_abstraction.proofs.Hands.{mark_stays}
 use Rattle.law_abstraction.proofs.Entering.{opened, shut}
 use Rattle.law_abstraction.proofs.Shows.{part_stays, shows_after, unseen_shown}
@@ -52,7 +53,7 @@ same_use (centre.Taken t) given = by_given (given t)
     by_given : (b : Bool) → is_unused_mark (if b then line_centre.Given t else line_centre.Kept t) ≡ false
     by_given true = refl
     by_given false = refl
-same_use (centre.Out t d) given = by_given (given t)
+same_use (centre.Out t) given = by_given (given t)
   where
     by_given : (b : Bool) → is_unused_mark (if b then line_centre.Given t else line_centre.Kept t) ≡ false
     by_given true = refl
@@ -186,7 +187,7 @@ module _ (line : Line) (w : Flow) (sound : IsFlowSound line w) (v : LineState) (
       -- it is wished back, and all stays sound
       wishing_sound : IsFlowSound line (replied w c (record { state = wishing; frames = λ d. []; sayings = []; words = Asked s ∷ [] }))
       wishing_sound = act_sound line ok c w sound to (record { state = wishing; frames = λ d. []; sayings = []; words = Asked s ∷ [] })
-          (leaves line c (book_sound line c (w.at c) old (w.at c).book (put (w.at c).wish s true) old.foreign old.out_at
+          (leaves line c (book_sound line c (w.at c) old (w.at c).book (put (w.at c).wish s true) old.foreign
           (λ j unused. ⊎_elim
           (λ (here : j ≡ s). absurd (let wrong : false ≡ true = sym used ∙ ap (λ x. is_unused ((w.at c).book x)) (sym here) ∙ unused in cc))
           (λ (other : j ≢ s). put_other (w.at c).wish s j true other ∙ old.unwished j unused)
@@ -208,12 +209,19 @@ module _ (line : Line) (w : Flow) (sound : IsFlowSound line w) (v : LineState) (
       proposing t m b j = if b then propose line t s m j else rest j
 
       -- the own step, and then what the entry asks for
-      wished_leads : (e : Entry) → is_unused e ≡ false → FollowedBy Asking (asked_for line c s (w.at c) e) ((asks >> wished line s e) (w.at c))
+      wished_leads : (e : Entry) → is_unused e ≡ false → FollowedBy Asking (asked_for line c s (w.at c) e) ((asks >> wished line c s e) (w.at c))
       unfolding ◌>>◌
       wished_leads centre.Shut so = cc
       wished_leads centre.Open so = cc
-      wished_leads (centre.Out t d) so = asked_once ((asks >> send d (RouteWithdraw t s)) (w.at c)) refl
-          (wish_shows true (send d (RouteWithdraw t s) (w.at c)).frames (λ u. sends_single (missions u) c d (RouteWithdraw t s) refl) (λ u x. sends_single (hands u x) c d (RouteWithdraw t s) refl))
+      wished_leads (centre.Out t) so = asked_once ((asks >> withdraw line c t s) (w.at c)) refl
+          (wish_shows true (withdraw line c t s (w.at c)).frames (λ u. none_inside (missions u) (λ d. refl)) (λ u x. none_inside (hands u x) (λ d. refl)))
+        where
+          none_inside : (r : Resource Centre Body) → ((d : ℕ) → r.inside c d (RouteWithdraw t s) ≡ 0) → SendsNone r c (withdraw line c t s (w.at c)).frames
+          none_inside r nothing d = by_link (is_linked line c d)
+            where
+              by_link : (b : Bool) → carried r c d (if b then RouteWithdraw t s ∷ [] else []) ≡ 0
+              by_link true = omega (arith, carried_more r c d (RouteWithdraw t s) [], carried_none r c d, nothing d)
+              by_link false = carried_none r c d
       wished_leads (centre.Taken t) so = by_mission ((w.at c).mission t) refl
         where
           still : FollowedBy Asking [] ((asks >> rest) (w.at c))
@@ -279,7 +287,7 @@ module _ (line : Line) (w : Flow) (sound : IsFlowSound line w) (v : LineState) (
   unused_unasked centre.Shut unused = refl
   unused_unasked centre.Open unused = refl
   unused_unasked (centre.Taken t) unused = cc
-  unused_unasked (centre.Out t d) unused = cc
+  unused_unasked (centre.Out t) unused = cc
 
   pub unset_leads : IsLine line → LeadsUnset line w c s (unset line c s (w.at c)) v
   unfolding ◌>>◌
@@ -287,7 +295,7 @@ module _ (line : Line) (w : Flow) (sound : IsFlowSound line w) (v : LineState) (
     where
       by_home : (h : Bool) → is_home line c s ≡ h → (m : Bool) → is_unused_mark (v.mark s) ≡ m → (u : Bool) → is_unused ((w.at c).book s) ≡ u
           → FollowedBy (UnsetsSo h m) (if h then asked_for line c s (w.at c) ((w.at c).book s) else [])
-          (if not h then tell (NotHome s) (w.at c) else (if u then (make s centre.Shut false >> tell (Done s)) else ((become (λ j. record j { wish = put j.wish s true }) >> tell (Asked s)) >> wished line s ((w.at c).book s))) (w.at c))
+          (if not h then tell (NotHome s) (w.at c) else (if u then (make s centre.Shut false >> tell (Done s)) else ((become (λ j. record j { wish = put j.wish s true }) >> tell (Asked s)) >> wished line c s ((w.at c).book s))) (w.at c))
       by_home false away m marked u is = (from_once line w c (UnsetsSo false m) (tell (NotHome s) (w.at c)) (at_once (UnsetsSo false m) (tell (NotHome s) (w.at c)) v (record { said_is = refl; new_is = refl }) still_shows), refl)
       by_home true home true marked true unused = (
         from_once line w c (UnsetsSo true true) _ (at_once (UnsetsSo true true) _ (set_mark s line_centre.Shut v) (record { said_is = refl; new_is = refl })

@@ -97,13 +97,13 @@ open_shown : (e : Entry) (given : ℕ → Bool) → is_open e ≡ true → shown
 open_shown centre.Shut given is = cc
 open_shown centre.Open given is = refl
 open_shown (centre.Taken t) given is = cc
-open_shown (centre.Out t d) given is = cc
+open_shown (centre.Out t) given is = cc
 
 open_unused : (t : ℕ) (e : Entry) → is_open e ≡ true → is_used_for t e ≡ true → ⊥
 open_unused t centre.Shut is used = cc
 open_unused t centre.Open is used = cc
 open_unused t (centre.Taken u) is used = cc
-open_unused t (centre.Out u d) is used = cc
+open_unused t (centre.Out u) is used = cc
 
 module _ (line : Line) (ok : IsLine line) (w : Flow) (sound : IsFlowSound line w) (v : LineState) (sees : Shows line w v) (a c number : ℕ) (from : is_centre line a ≡ true) (to : is_centre line c ≡ true)
     (t first most : ℕ) (head : TakesHead w a c (RouteAsk t first most)) where
@@ -119,10 +119,10 @@ module _ (line : Line) (ok : IsLine line) (w : Flow) (sound : IsFlowSound line w
       (and_parts (is_free line c k s) _ ((longest_is (λ e. is_free line c k e && has (λ p. is_on line p.track e) (section line first)) first most).each s is)).0
 
   abbrev lending : Reply
-  lending = (booked is_open (centre.Out t a) r >> send a (RouteInfo t r)) k
+  lending = (booked is_open (centre.Out t) r >> send a (RouteInfo t r)) k
 
   abbrev y : Centre
-  y = record k { book = λ s. if within r s && is_open ((w.at c).book s) then centre.Out t a else (w.at c).book s }
+  y = record k { book = λ s. if within r s && is_open ((w.at c).book s) then centre.Out t else (w.at c).book s }
 
   abbrev frames : ℕ → List Body
   frames = (send a (RouteInfo t r) k).frames
@@ -149,9 +149,9 @@ module _ (line : Line) (ok : IsLine line) (w : Flow) (sound : IsFlowSound line w
   marks : (s d : ℕ) → is_home line d s ≡ true → (b : Bool) → within r s ≡ b → MarkAfter line w new s d (v.mark s) (if b then line_centre.Kept t else v.mark s)
   marks s d home true is = let lent = lends s is in
       is_kept t refl (ap (is_used_for t) (entry_here line w c (came_with a c (RouteAsk t first most)) y frames new s d act home lent.0
-      ∙ ap (λ b. if b then centre.Out t a else (w.at c).book s) (and_from (within r s) (is_open ((w.at c).book s)) is lent.1)) ∙ itself t) (in_no_hand s is)
+      ∙ ap (λ b. if b then centre.Out t else (w.at c).book s) (and_from (within r s) (is_open ((w.at c).book s)) is lent.1)) ∙ itself t) (in_no_hand s is)
   marks s d home false is = mark_stays line w c (came_with a c (RouteAsk t first most)) y frames new s d (v.mark s) act
-      (ap (λ b. if b && is_open ((w.at c).book s) then centre.Out t a else (w.at c).book s) is) (λ u used. omega (arith, sends_none (hands u s) (centre_count line) c frames (no_hand u s)))
+      (ap (λ b. if b && is_open ((w.at c).book s) then centre.Out t else (w.at c).book s) is) (λ u used. omega (arith, sends_none (hands u s) (centre_count line) c frames (no_hand u s)))
 
   none_there : (s : ℕ) → section line s ≡ None → within r s ≡ false
   none_there s none = false_from_ne_true (within r s) (λ is. let wrong : false ≡ true = sym (ap (has (λ p. p.home == c)) none) ∙ (lends s is).0 in cc)

@@ -7,5 +7,5 @@ use Rattle.law_centre_sound.proofs.Events.{linked_apart}
 -- both are centres of the line, and they are two
 pub ends : (line : Line) (c a : ℕ) → is_linked line c a ≡ true → ((is_centre line c ≡ true) × (is_centre line a ≡ true)) × (c ≢ a)
 ends line c a linked =
-    let both = and_parts (is_centre line c && is_centre line a) (not (c == a)) (and_parts ((is_centre line c && is_centre line a) && not (c == a)) _ linked).0 in
+    let both = and_parts (is_centre line c && is_centre line a) (not (c == a)) linked in
     (and_parts (is_centre line c) (is_centre line a) both.0, (linked_apart line c a linked).1)

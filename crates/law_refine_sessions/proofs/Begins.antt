@@ -134,7 +134,7 @@ module _ (line : Line) (w : Flow) (v : LineState) (sound : IsFlowSound line w) (
         not_open centre.Shut a b = let wrong : false ≡ true = a in cc
         not_open centre.Open a b = let wrong : false ≡ true = b in cc
         not_open (centre.Taken u) a b = let wrong : false ≡ true = a in cc
-        not_open (centre.Out u e) a b = let wrong : false ≡ true = a in cc
+        not_open (centre.Out u) a b = let wrong : false ≡ true = a in cc
 
         by_hand : (b : Bool) → is_in_hand line w s t ≡ b → is_in_hand line w s t ≡ false
         by_hand true has = absurd (not_open (k.book s) (free_is s is).1 (ap (is_used_for t) (sym same) ∙ in_use line w t s d sound has home))

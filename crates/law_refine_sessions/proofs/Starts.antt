@@ -137,7 +137,7 @@ module _ (line : Line) (w : Flow) (v : LineState) (sound : IsFlowSound line w) (
           by_hand : (b : Bool) → is_mark_open (if b then line_centre.Given u else line_centre.Kept u) ≡ false
           by_hand true = refl
           by_hand false = refl
-      open_shown (centre.Out u d) g = by_hand (g u)
+      open_shown (centre.Out u) g = by_hand (g u)
         where
           by_hand : (b : Bool) → is_mark_open (if b then line_centre.Given u else line_centre.Kept u) ≡ false
           by_hand true = refl

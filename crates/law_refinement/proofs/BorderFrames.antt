@@ -1,13 +1,12 @@
 -- No step leaves a section of the next centre in a hand without an announcement.
-use Rattle.std.proofs.Common.{◌≡◌, ℕ, ◌*◌, ◌==◌, ◌&&◌, not, Bool, true, false, if◌then◌else◌, Option, Some, None, option_map, is_none, is_some, length, max, nat_lt, nat_le, refl, sym, ap, ◌∙◌, eqb-true, eq-eqb}
+use Rattle.std.proofs.Common.{◌≡◌, ℕ, ◌*◌, ◌==◌, ◌&&◌, not, Bool, true, false, if◌then◌else◌, Option, Some, None, is_none, is_some, length, max, nat_lt, nat_le, refl, sym, ap, ◌∙◌, eqb-true, eq-eqb}
 use Rattle.std.specs.Option.{option_map_or}
 use Rattle.std.specs.List.{find, range_with_len}
-use Rattle.std.proofs.lemmas.Bool.{and_parts}
 use Rattle.law_base.proofs.Runs.{each_within}
 use Rattle.law_base.proofs.Lines.{one_home}
 use Rattle.rbc_spec.specs.Maps.{has, put}
 use Rattle.rbc_spec.specs.SectionRuns.{SectionRun, no_run, within, is_empty, part_before, part_from, all_of}
-use Rattle.rbc_spec.specs.Line.{Line, IsLine, Section, is_home, is_linked, next_centre, section, section_of_group}
+use Rattle.rbc_spec.specs.Line.{Line, IsLine, Section, is_home, next_centre, section, section_of_group}
 use Rattle.rbc_spec.specs.Place.{Place, group_start}
 use Rattle.rbc_spec.specs.Sections.{is_on, is_on_track}
 use Rattle.rbc_spec.specs.Message.{TrainMessage, TrainBody, TrainData, Request, Report, ShorteningGranted, ShorteningRejected, EndOfMission, InitiationOfSession, TerminationOfSession, StartOfMission, SessionEstablished}
@@ -17,14 +16,14 @@ use Rattle.rbc_spec.specs.Outcome as outcome
 use Rattle.rbc_spec.specs.Centre.{Centre, Entry, Shut, Open, Taken, Out, Mission, Handing, is_registrar_of, is_unused, is_open, is_out_for, uses_some, is_expected}
 use Rattle.rbc_spec.specs.Acts.{Act, become, booked, returned, send, change_mission, hear, rest, ◌>>◌, with_some, return_right, propose_if_so, end_order}
 use Rattle.rbc_spec.specs.Rules.{tell, choose, drop_wait, begin, reject, answered}
-use Rattle.rbc_spec.specs.Links.{received, of_train, is_train, lendable, expect, is_under, may_take, may_arrive, is_wanted, right_asked, right_given, right_refused, right_returned, route_asked, route_told, route_withdrawn, route_returned, announced, cancelled, claimed, taking_over, take_mission, yielded}
+use Rattle.rbc_spec.specs.Links.{received, of_train, is_train, lendable, expect, is_under, may_take, may_arrive, is_wanted, right_asked, right_given, right_refused, right_returned, route_asked, route_told, route_withdrawn, route_returned, announced, cancelled, taking_over, take_mission, yielded}
 use Rattle.rbc_spec.specs.Step as step
 use Rattle.rbc_spec.specs.Step.{Train, taken, link_answer, taken_by, effect, set, unset, wished, make, hear_and_answer}
 use Rattle.law_network.specs.Counts.{wait_has}
 use Rattle.law_network.specs.Sound.{IsCentreSound, IsHandAt}
 use Rattle.law_refinement.specs.Announced.{HasAnnounced}
 use Rattle.law_refinement.proofs.Bordering.{Good, Keeps, good_from, good_to, put_so, both, branch, when, chosen, of_some, changes, none_there, next_apart}
-use Rattle.law_refinement.proofs.BorderMessages.{return_keeps, propose_keeps, end_keeps, yield_if_keeps, drop_keeps, close_session_keeps, begun_so, start_good, report_good, end_good, granted_good, request_good}
+use Rattle.law_refinement.proofs.BorderMessages.{return_keeps, propose_keeps, end_keeps, drop_keeps, close_session_keeps, begun_so, start_good, report_good, end_good, granted_good, request_good, over_keeps}
 
 last_of : (x a e b : Bool) → (x && (a && (e && b))) ≡ true → b ≡ true
 last_of true true true b is = is
@@ -63,20 +62,20 @@ module _ (line : Line) (ok : IsLine line) (c t : ℕ) where
       → (s : ℕ) → within hand s ≡ true → is_home line d s ≡ true → ⊥
   arrived_so k a number place hand may d next s in_hand there = by_home (is_home line c s) refl arrives
     where
-      arrives : may_arrive line c k a t place.track s ≡ true
-      arrives = each_within (may_arrive line c k a t place.track) hand (last_of
+      arrives : may_arrive line c k t place.track s ≡ true
+      arrives = each_within (may_arrive line c k t place.track) hand (last_of
           (has (λ e. (e.number == number) && e.is_taking) (k.expects a t) && (is_none (k.mission t) && not (k.has_right t)))
           (is_on_track line place.track hand && has (is_on line place.track) (section_of_group line place.group))
-          (nat_le (10 * group_start line place) place.front) (all_of (may_arrive line c k a t place.track) hand) may) s in_hand
+          (nat_le (10 * group_start line place) place.front) (all_of (may_arrive line c k t place.track) hand) may) s in_hand
 
-      by_section : (o : Option Section) → has (λ p. p.home == d) o ≡ true → has (λ p. is_linked line c p.home && not (has (λ n. n == p.home) (next_centre line c place.track))) o ≡ true → ⊥
+      by_section : (o : Option Section) → has (λ p. p.home == d) o ≡ true → has (λ p. not (has (λ n. n == p.home) (next_centre line c place.track))) o ≡ true → ⊥
       by_section None home passes = cc
       by_section (Some p) home passes =
           let same : p.home ≡ d = eqb-true p.home d home in
           let found : has (λ n. n == p.home) (next_centre line c place.track) ≡ true = ap (has (λ n. n == p.home)) next ∙ eq-eqb d p.home (sym same) in
-          let wrong : false ≡ true = sym (ap not found) ∙ (and_parts (is_linked line c p.home) (not (has (λ n. n == p.home) (next_centre line c place.track))) passes).1 in cc
+          let wrong : false ≡ true = sym (ap not found) ∙ passes in cc
 
-      by_home : (b : Bool) → is_home line c s ≡ b → (if b then is_out_for t a (k.book s) else has (λ p. is_linked line c p.home && not (has (λ n. n == p.home) (next_centre line c place.track))) (section line s)) ≡ true → ⊥
+      by_home : (b : Bool) → is_home line c s ≡ b → (if b then is_out_for t (k.book s) else has (λ p. not (has (λ n. n == p.home) (next_centre line c place.track))) (section line s)) ≡ true → ⊥
       by_home true here passes = next_apart line ok c d place.track next (one_home line c d s here there)
       by_home false away passes = by_section (section line s) there passes
 
@@ -85,16 +84,12 @@ module _ (line : Line) (ok : IsLine line) (c t : ℕ) where
   unfolding ◌>>◌
   take_good k a number heard has_data is_ended place hand may good = (of_some line c (λ j. find (λ s. is_home line c s && j.wish s) (range_with_len hand.first hand.count)) (propose_if_so line t) (λ s. propose_keeps line ok c t s)).each
       (record k {
-        book = λ s. if within hand s && is_out_for t a (k.book s) then Taken t else k.book s;
+        book = λ s. if within hand s && is_out_for t (k.book s) then Taken t else k.book s;
         mission = put k.mission t (Some (record { place = place; hand = hand; pool = no_run; has_data = has_data; is_ended = is_ended; proposal = None; handing = None }));
         heard = put k.heard t (Some (option_map_or (max heard) (k.heard t) heard));
         expects = (expect a t None k).state.expects;
       })
       (put_so line c k.mission good t _ (λ d next none. none_there line ok d place.track hand (arrived_so k a number place hand may d next)))
-
-  unclaimed : (f : Handing → Handing) (o : Option Handing) → option_map f o ≡ None → o ≡ None
-  unclaimed f None is = refl
-  unclaimed f (Some h) is = cc
 
 module _ (line : Line) (ok : IsLine line) (c : ℕ) where
   yield_good : (k : Centre) (a number t heard : ℕ) (has_data is_ended : Bool) (hand : SectionRun) → Good line c k → (o : Option Place)
@@ -122,7 +117,7 @@ module _ (line : Line) (ok : IsLine line) (c : ℕ) where
       (when line c (λ j. is_some (j.wait t)) (drop_wait line c t >> reject t) (both line c _ _ (drop_keeps line ok c t) (record { each = λ j g. g })))))).each k good
   received_good d (ReturnRight t) k own good = (trains t (right_returned line c t) (when line c (λ j. is_registrar_of line c t && (not (j.has_right t) && is_none (j.mission t))) (return_right line c t) (return_keeps line ok c t))).each k good
   received_good d (RouteAsk t first most) k own good = (trains t (route_asked line c d t first most) (record {
-    each = λ j g. (when line c (λ i. is_some (section line first)) (booked is_open (Out t d) (lendable line c j first most) >> send d (RouteInfo t (lendable line c j first most)))
+    each = λ j g. (when line c (λ i. is_some (section line first)) (booked is_open (Out t) (lendable line c j first most) >> send d (RouteInfo t (lendable line c j first most)))
         (both line c _ _ (record { each = λ i h. h }) (record { each = λ i h. h }))).each j g;
   })).each k good
   received_good d (RouteInfo t r) k own good = (trains t (route_told line c d t r) (told_keeps line ok c t d r)).each k good
@@ -130,14 +125,13 @@ module _ (line : Line) (ok : IsLine line) (c : ℕ) where
       (of_some line c (λ j. j.mission t) (λ m. if within m.pool s then (returned line c t m.place.track (part_from s m.pool) >> change_mission t (λ n. record n { pool = part_before s n.pool })) else propose_if_so line t s)
       (λ m. branch line c (within m.pool s) (returned line c t m.place.track (part_from s m.pool) >> change_mission t (λ n. record n { pool = part_before s n.pool })) (propose_if_so line t s)
       (both line c _ _ (record { each = λ j g. g }) (changes line c t (λ n. record n { pool = part_before s n.pool }) (λ n so. so))) (propose_keeps line ok c t s))) (record { each = λ j g. g }))).each k good
-  received_good d (RouteReturn t r) k own good = (trains t (if all_of (λ s. is_some (section line s)) r then route_returned line c d t r else rest) (branch line c (all_of (λ s. is_some (section line s)) r) (route_returned line c d t r) rest
+  received_good d (RouteReturn t r) k own good = (trains t (if all_of (λ s. is_some (section line s)) r then route_returned line c t r else rest) (branch line c (all_of (λ s. is_some (section line s)) r) (route_returned line c t r) rest
       (both line c _ _ (record { each = λ j g. g }) (when line c (λ j. not (uses_some line c j t) && ((is_none (j.mission t) && is_none (j.wait t)) && not (is_expected line j t))) (end_order line c t) (end_keeps line ok c t)))
       (record { each = λ j g. g }))).each k good
   received_good d (Announce number t track) k own good = (trains t (if nat_lt track (length line.tracks) then announced d number t else rest) (branch line c (nat_lt track (length line.tracks)) (announced d number t) rest
       (when line c (λ j. is_none (j.expects d t)) (expect d t (Some (record { number = number; is_taking = false }))) (record { each = λ j g. g })) (record { each = λ j g. g }))).each k good
   received_good d (Cancel number t) k own good = (trains t (cancelled d number t) (when line c (λ j. is_under number (j.expects d t)) (expect d t None) (record { each = λ j g. g }))).each k good
-  received_good d (TakingOver number t) k own good = (trains t (taking_over line c d number t) (both line c _ _
-      (changes line c t (claimed d number) (λ m so e next none. so e next (unclaimed line ok c t _ m.handing none))) (yield_if_keeps line ok c t))).each k good
+  received_good d (TakingOver number t) k own good = (trains t (taking_over line c d number t) (over_keeps line ok c t d number)).each k good
   received_good d (Yield number t heard has_data is_ended place hand) k own good =
       train_good t (option_map_or (yielded line c d number t hand heard has_data is_ended) (carried_place place) rest) k good (yield_good k d number t heard has_data is_ended hand good (carried_place place)) (is_train line t)
 
@@ -153,7 +147,7 @@ module _ (line : Line) (ok : IsLine line) (c : ℕ) where
   answered_good m (Report position) j known good = report_good line ok c m.nid_engine position j good
   answered_good m (ShorteningGranted stamp position) j known good = granted_good line ok c m.nid_engine position j (λ n at. (known m.nid_engine n at).1) good
   answered_good m (ShorteningRejected stamp position) j known good = (changes line c m.nid_engine (λ n. record n { proposal = None }) (λ n so. so)).each j good
-  answered_good m (EndOfMission position) j known good = end_good line ok c m.nid_engine position j good
+  answered_good m (EndOfMission position) j known good = end_good line ok c m.nid_engine position j (λ n at. (known m.nid_engine n at).1) good
   answered_good m InitiationOfSession j known good = (both line c _ _ (both line c _ _ (close_session_keeps line ok c m.nid_engine) (record { each = λ i g. g })) (record { each = λ i g. g })).each j good
   answered_good m TerminationOfSession j known good = (both line c _ _ (close_session_keeps line ok c m.nid_engine) (record { each = λ i g. g })).each j good
   answered_good m (StartOfMission is_valid position) j known good = start_good line ok c m.nid_engine is_valid position j (λ n at. (known m.nid_engine n at).0) good
@@ -165,11 +159,11 @@ module _ (line : Line) (ok : IsLine line) (c : ℕ) where
   message_good m k known good (Some why) = good
   message_good m k known good None = answered_good m m.body (hear m k).state known good
 
-  wished_keeps : (s : ℕ) (e : Entry) → Keeps line c (wished line s e)
+  wished_keeps : (s : ℕ) (e : Entry) → Keeps line c (wished line c s e)
   wished_keeps s Shut = record { each = λ k good. good }
   wished_keeps s Open = record { each = λ k good. good }
   wished_keeps s (Taken t) = propose_keeps line ok c t s
-  wished_keeps s (Out t d) = record { each = λ k good. good }
+  wished_keeps s (Out t) = record { each = λ k good. good }
 
   set_good : (s : ℕ) (k : Centre) → Good line c k → Good line c (set line c s k).state
   set_good s k good = by_home (not (is_home line c s))
@@ -183,7 +177,7 @@ module _ (line : Line) (ok : IsLine line) (c : ℕ) where
   unset_good s k good = by_home (not (is_home line c s))
     where
       by_home : (z : Bool) → Good line c (if z then tell (NotHome s) k
-          else (if is_unused (k.book s) then (make s Shut false >> tell (Done s)) else ((become (λ j. record j { wish = put j.wish s true }) >> tell (Asked s)) >> wished line s (k.book s))) k).state
+          else (if is_unused (k.book s) then (make s Shut false >> tell (Done s)) else ((become (λ j. record j { wish = put j.wish s true }) >> tell (Asked s)) >> wished line c s (k.book s))) k).state
       by_home true = good
       by_home false = (branch line c _ _ _ (both line c _ _ (record { each = λ j g. g }) (record { each = λ j g. g })) (both line c _ _ (both line c _ _ (record { each = λ j g. g }) (record { each = λ j g. g })) (wished_keeps s (k.book s)))).each k good
 

@@ -1,10 +1,13 @@
 -- No message leaves a section of the next centre in a hand without an announcement.
-use Rattle.std.proofs.Common.{◌≡◌, ◌≢◌, ℕ, ◌+◌, ◌*◌, ◌==◌, ◌&&◌, not, Bool, true, false, if◌then◌else◌, Option, Some, None, option_map, is_none, is_some, nat_le, nat_lt, refl, sym, ap, ◌∙◌, subst, ⊎_elim}
+use Rattle.std.proofs.Common.{◌≡◌, ◌≢◌, ℕ, ◌+◌, ◌*◌, ◌==◌, ◌&&◌, not, Bool, true, false, if◌then◌else◌, Option, Some, None, option_map, is_none, is_some, nat_le, nat_lt, refl, sym, ap, ◌∙◌, subst, ⊎_elim, ◌-◌}
+use Rattle.rbc_spec.specs.Links.{taking_over}
 use Rattle.std.specs.Option.{option_map_or}
 use Rattle.std.proofs.lemmas.Bool.{and_parts, cases_eq}
 use Rattle.std.proofs.lemmas.Option.{same_Some}
 use Rattle.law_base.proofs.Puts.{put_there, put_here, put_other}
 use Rattle.law_base.proofs.Runs.{each_within, within_part_before, within_part_from}
+use Rattle.law_base.proofs.Standstill.{rests_or_cuts}
+use Rattle.law_centre.proofs.Reported.{report_leaves}
 use Rattle.rbc_spec.specs.Maps.{put}
 use Rattle.rbc_spec.specs.SectionRuns.{SectionRun, no_run, most_in_hand, within, behind, is_empty, part_before, part_from, joined, all_of}
 use Rattle.rbc_spec.specs.Line.{Line, IsLine, is_home, end, next_centre, registrar}
@@ -13,8 +16,8 @@ use Rattle.rbc_spec.specs.Place.{Place, Position, covered, fit_place, place_on}
 use Rattle.rbc_spec.specs.Message.{EndSession, Authority, unknown_group}
 use Rattle.rbc_spec.specs.Frame.{AskRight, Cancel}
 use Rattle.rbc_spec.specs.Centre.{Centre, Taken, Mission, Handing, Proposal, is_open, is_up, is_free, is_registrar_of}
-use Rattle.rbc_spec.specs.Acts.{Act, become, rest, ◌>>◌, where_so, with_mission, send, say, booked, leave, set_mission, change_mission, return_pool, cancel, close, return_right, begun, part_at, may_propose, propose, propose_if_so, announce, ask_route, end_order, yield, is_of_two, yield_if_due}
-use Rattle.rbc_spec.specs.Rules.{accept, reject, drop_wait, close_session, restart, begin, start_here, start_waiting, start_new, start_mission, extension, extended_by, authority, announce_if_due, ask_route_if_due, at_border, grant, request, clear, report_here, take_over, report, end_mission, cut, granted, answer_granted}
+use Rattle.rbc_spec.specs.Acts.{Act, become, rest, ◌>>◌, where_so, with_mission, send, say, booked, leave, set_mission, change_mission, return_pool, cancel, close, return_right, begun, part_at, may_propose, propose, propose_if_so, announce, ask_route, end_order, yield}
+use Rattle.rbc_spec.specs.Rules.{accept, reject, drop_wait, close_session, restart, begin, start_here, start_waiting, start_new, start_mission, extension, extended_by, authority, announce_if_due, ask_route_if_due, at_border, grant, request, clear, report_here, take_over, report, end_mission, cut, granted, answer_granted, stand_still}
 use Rattle.law_centre.proofs.Places.{placed_on}
 use Rattle.law_local.proofs.Ordered.{is_ordered}
 use Rattle.law_network.specs.Sound.{IsHandAt}
@@ -57,8 +60,8 @@ module _ (line : Line) (ok : IsLine line) (c t : ℕ) where
         (branch line c (is_empty (part_at line c m.place.track m.hand)) (end_order line c t) rest end_keeps (record { each = λ j g. g }))).each k good;
   }
 
-  pub yield_if_keeps : Keeps line c (yield_if_due line c t)
-  yield_if_keeps = of_some line c (λ k. k.mission t) _ (λ m. of_some line c (λ k. m.handing) _ (λ h. when line c (λ k. h.is_claimed && is_of_two line c h.to m.hand) _ (yield_keeps m h)))
+  pub over_keeps : (d number : ℕ) → Keeps line c (taking_over line c d number t)
+  over_keeps d number = of_some line c (λ k. k.mission t) _ (λ m. of_some line c (λ k. m.handing) _ (λ h. when line c (λ k. (h.number == number) && (h.to == d)) _ (yield_keeps m h)))
 
   pub drop_keeps : Keeps line c (drop_wait line c t)
   drop_keeps = of_some line c _ _ (λ place. both line c _ _ (record { each = λ k good. good }) (record { each = λ k good. good }))
@@ -145,21 +148,9 @@ module _ (line : Line) (ok : IsLine line) (c t : ℕ) where
   unfolding ◌>>◌
   report_good position k good = by_mission (k.mission t) refl
     where
-      by_mission : (o : Option Mission) → k.mission t ≡ o → Good line c (option_map_or (λ m. (report_here line c t position m >> yield_if_due line c t) k) o (take_over line t k)).state
+      by_mission : (o : Option Mission) → k.mission t ≡ o → Good line c (option_map_or (λ m. report_here line c t position m k) o (take_over line t k)).state
       by_mission None at = good
-      by_mission (Some m) at = yield_if_keeps.each (report_here line c t position m k).state (here_good position m k at good)
-
-  abbrev finishes : Act
-  finishes = with_mission t (λ m. return_pool line c t m >> change_mission t (λ n. record n { is_ended = true; proposal = None }))
-
-  finishes_keeps : Keeps line c finishes
-  finishes_keeps = of_some line c (λ k. k.mission t) (λ m. return_pool line c t m >> change_mission t (λ n. record n { is_ended = true; proposal = None }))
-      (λ m. both line c _ _ (both line c _ _ (record { each = λ j g. g }) (changes line c t (λ n. record n { pool = no_run }) (λ n so. so))) (changes line c t (λ n. record n { is_ended = true; proposal = None }) (λ n so. so)))
-
-  pub end_good : (position : Position) (k : Centre) → Good line c k → Good line c (end_mission line c t position k).state
-  unfolding ◌>>◌
-  end_good position k good = (both line c finishes (yield_if_due line c t) finishes_keeps yield_if_keeps).each
-      (with_mission t (report_here line c t position) k).state (with_here position k good (k.mission t) refl)
+      by_mission (Some m) at = here_good position m k at good
 
   -- ## Shortening
 
@@ -213,13 +204,13 @@ module _ (line : Line) (ok : IsLine line) (c t : ℕ) where
       good_j : Good line c j
       good_j = (changes line c t unasked (λ n so. so)).each k good
 
-      by_time : (m : Mission) → k.mission t ≡ Some m → (p : Proposal) (b : Bool) → Good line c (((if b then cut line c t p.last_kept m else rest) >> yield_if_due line c t) j).state
-      by_time m at p true = yield_if_keeps.each (cut line c t p.last_kept m j).state (cut_good p.last_kept m j (at_mission line c k t m at good) (to_next m at) good_j)
-      by_time m at p false = yield_if_keeps.each j good_j
+      by_time : (m : Mission) → k.mission t ≡ Some m → (p : Proposal) (b : Bool) → Good line c ((if b then cut line c t p.last_kept m else rest) j).state
+      by_time m at p true = cut_good p.last_kept m j (at_mission line c k t m at good) (to_next m at) good_j
+      by_time m at p false = good_j
 
       by_place : (m : Mission) → k.mission t ≡ Some m → (p : Proposal) (o : Option Place)
-          → Good line c ((option_map_or (λ place. if nat_le place.front (10 * end line p.last_kept) then cut line c t p.last_kept m else rest) o rest >> yield_if_due line c t) j).state
-      by_place m at p None = yield_if_keeps.each j good_j
+          → Good line c (option_map_or (λ place. if nat_le place.front (10 * end line p.last_kept) then cut line c t p.last_kept m else rest) o rest j).state
+      by_place m at p None = good_j
       by_place m at p (Some place) = by_time m at p (nat_le place.front (10 * end line p.last_kept))
 
       by_proposal : (m : Mission) → k.mission t ≡ Some m → (o : Option Proposal) → Good line c (option_map_or (λ p. granted line c t position m p k) o (rest k)).state
@@ -230,6 +221,38 @@ module _ (line : Line) (ok : IsLine line) (c t : ℕ) where
       by_mission None at = good
       by_mission (Some m) at = by_proposal m at m.proposal
 
+  -- ## End of mission
+
+  -- each handover is to the next centre of its mission's track
+  abbrev GoesOnward : Centre → Type 0
+  GoesOnward k = (m : Mission) → k.mission t ≡ Some m → (h : Handing) → m.handing ≡ Some h → next_centre line c m.place.track ≡ Some h.to
+
+  stood_good : (position : Position) (k : Centre) → GoesOnward k → Good line c k → Good line c (with_mission t (stand_still line c t position) k).state
+  stood_good position k onward good = by_mission (k.mission t) refl
+    where
+      by_mission : (o : Option Mission) → k.mission t ≡ o → Good line c (option_map_or (λ m. stand_still line c t position m k) o (rest k)).state
+      by_mission None none = good
+      by_mission (Some m) at = rests_or_cuts (λ act. Good line c (act k).state) line c t position m good (λ n some fits. cut_good (m.hand.first + n - 1) m k (at_mission line c k t m at good) (onward m at) good)
+
+  abbrev finishes : Act
+  finishes = with_mission t (λ m. return_pool line c t m >> change_mission t (λ n. record n { is_ended = true; proposal = None }))
+
+  finishes_keeps : Keeps line c finishes
+  finishes_keeps = of_some line c (λ k. k.mission t) (λ m. return_pool line c t m >> change_mission t (λ n. record n { is_ended = true; proposal = None }))
+      (λ m. both line c _ _ (both line c _ _ (record { each = λ j g. g }) (changes line c t (λ n. record n { pool = no_run }) (λ n so. so))) (changes line c t (λ n. record n { is_ended = true; proposal = None }) (λ n so. so)))
+
+  pub end_good : (position : Position) (k : Centre) → GoesOnward k → Good line c k → Good line c (end_mission line c t position k).state
+  unfolding ◌>>◌
+  end_good position k onward good = finishes_keeps.each (with_mission t (stand_still line c t position) reported).state
+      (stood_good position reported onward_still (with_here position k good (k.mission t) refl))
+    where
+      reported : Centre
+      reported = (with_mission t (report_here line c t position) k).state
+
+      onward_still : GoesOnward reported
+      onward_still n at h stands = let was = report_leaves line c t position k n at in
+          ap (next_centre line c) was.2.track ∙ onward was.0 was.1 h (sym was.2.handing ∙ stands)
+
   -- ## Requests
 
   ask_keeps : (d : ℕ) → Keeps line c (ask_route_if_due line t d)
@@ -239,7 +262,7 @@ module _ (line : Line) (ok : IsLine line) (c t : ℕ) where
       may_ask d m k = ((is_home line d (behind m.hand) && is_on line m.place.track (behind m.hand)) && nat_lt m.hand.count most_in_hand) && (is_empty m.pool && is_none (k.route_ask t))
 
   abbrev announced_as : ℕ → ℕ → Mission → Mission
-  announced_as number d q = record q { handing = Some (record { number = number; to = d; is_claimed = false }) }
+  announced_as number d q = record q { handing = Some (record { number = number; to = d }) }
 
   unfilled : (a e : Bool) → a ≡ true → (a && not e) ≡ false → e ≡ true
   unfilled true true h is = refl

@@ -1,29 +1,28 @@
 -- What the laws of each part say, in the form that is wanted of it.
-use Rattle.std.proofs.Common.{◌≡◌, ℕ, Bool, true, None, sym, subst}
+use Rattle.std.proofs.Common.{◌≡◌, ℕ, Bool, None, sym, subst}
 use Rattle.law_counting.specs.Network.{took}
-use Rattle.rbc_spec.specs.Line.{Line, IsLine, is_centre}
+use Rattle.rbc_spec.specs.Line.{Line, IsLine}
 use Rattle.rbc_spec.specs.Place.{Position}
 use Rattle.rbc_spec.specs.Message.{TrainBody, Request, Report, ShorteningGranted, EndOfMission, TrainData, ShorteningRejected, InitiationOfSession, TerminationOfSession, StartOfMission, SessionEstablished}
 use Rattle.rbc_spec.specs.Centre.{Centre}
-use Rattle.rbc_spec.specs.Acts.{Act, Reply, yield_if_due}
+use Rattle.rbc_spec.specs.Acts.{Act, Reply, hear, ◌>>◌}
 use Rattle.rbc_spec.specs.Links.{received}
 use Rattle.rbc_spec.specs.Step as step
 use Rattle.rbc_spec.specs.LineCentre.{LineState, hears}
 use Rattle.rbc_spec.specs.OwnSteps.{Own, Sets, Unsets}
 use Rattle.law_network.specs.Flow.{Flow, took_frame}
-use Rattle.law_network.specs.Leads.{Leads, LeadsHeard}
+use Rattle.law_network.specs.Leads.{Leads, LeadsHeard, LeadsOwn}
 use Rattle.rbc_spec.specs.Frame.{Body, AskRight, GiveRight, RefuseRight, ReturnRight, RouteAsk, RouteInfo, RouteWithdraw, RouteReturn, Announce, Cancel, TakingOver, Yield}
 use Rattle.law_refine_sessions.specs.Heard.{IsHeardAs, LeadsAlone}
 use Rattle.law_refine_sessions.proofs.Data.{established, data_heard, rejected}
 use Rattle.law_refine_sessions.proofs.Ends.{begins, ends}
 use Rattle.law_refine_sessions.proofs.Starts.{starts}
-use Rattle.law_refine_followups.proofs.Laying.{yields_so}
-use Rattle.law_refine_missions.specs.Parts.{IsOwnStep, IsInParts, LeadsOnward, own_report, own_end, own_granted}
-use Rattle.law_refine_missions.proofs.Asked.{report_is_own, report_in_parts, end_is_own, end_in_parts, granted_is_own, granted_in_parts, whole_is_heard}
+use Rattle.law_refine_missions.specs.Parts.{IsOwnStep, own_report, own_end, own_granted, IsWhole}
+use Rattle.law_refine_missions.proofs.Asked.{report_is_own, end_is_own, granted_is_own, report_is_whole, end_is_whole, granted_is_whole}
 use Rattle.law_refine_routes.proofs.Rights.{asked_leads, given_leads, returned_leads}
 use Rattle.law_refine_routes.proofs.Refused.{refused_leads}
 use Rattle.law_refine_handovers.proofs.Announced.{announce_leads, cancel_leads}
-use Rattle.law_refine_handovers.proofs.Claimed.{claim_body_leads}
+use Rattle.law_refine_handovers.proofs.TakenOver.{over_body_leads}
 use Rattle.law_refine_handovers.proofs.Yielded.{yield_leads}
 use Rattle.law_refine_routes.specs.Interlocking.{LeadsFrom}
 use Rattle.law_refine_routes.proofs.Interlocking.{from_once, set_leads, unset_leads}
@@ -86,33 +85,34 @@ module _ (line : Line) (ok : IsLine line) where
   shortening_rejected asked position = heard_as line ok (ShorteningRejected asked position)
       (λ line w v c t_train t stamp ok sound sees at heard. rejected line w v sound sees c t_train t stamp at asked position heard)
 
-  -- ## An own step, and what follows it
+  -- ## An own step
 
-  -- whatever leads on behind the own part
-  in_parts : (body : TrainBody) (own later : ℕ → ℕ → ℕ → Act) → ((c t_train t : ℕ) → IsOwnStep line c (message t_train t body) (own c t_train t))
-      → ((c t_train t : ℕ) → IsInParts line c (message t_train t body) (own c t_train t) (later c t_train t))
-      → ((c t_train t : ℕ) → is_centre line c ≡ true → LeadsOnward line c (later c t_train t)) → Answers line body
-  in_parts body own later is_own parts leads w c k v t_train t at_work heard =
+  -- the own part alone
+  in_whole : (body : TrainBody) (own : ℕ → ℕ → ℕ → Act) → ((c t_train t : ℕ) → IsOwnStep line c (message t_train t body) (own c t_train t))
+      → ((c t_train t : ℕ) → IsWhole line c (message t_train t body) (own c t_train t)) → Answers line body
+  in_whole body own is_own is_whole w c k v t_train t at_work heard =
       subst (λ (j : Centre). LeadsFrom line w c (Own line (hears c (message t_train t body) v) c (message t_train t body) body) (step.hear_and_answer line c (message t_train t body) j)) at_work.state
-      (of_heard line w c t_train t body (step.hear_and_answer line c (message t_train t body) (w.at c)) v
-      (whole_is_heard line c (message t_train t body) (own c t_train t) (later c t_train t) (is_own c t_train t) (parts c t_train t) (leads c t_train t at_work.to) w v (w.at c).clock
-      at_work.sound at_work.shows at_work.to (subst (λ (j : Centre). step.silence line c j (message t_train t body) ≡ None) (sym at_work.state) heard)))
+      (of_alone line w c t_train t body (step.hear_and_answer line c (message t_train t body) (w.at c)) v
+      (subst (λ (r : Reply). LeadsAlone line w c (message t_train t body) r v) (sym (is_whole c t_train t (w.at c) quiet))
+      (record { mid = one.mid; own = one.own; shows = one.shows })))
+    where
+      quiet : step.silence line c (w.at c) (message t_train t body) ≡ None
+      quiet = subst (λ (j : Centre). step.silence line c j (message t_train t body) ≡ None) (sym at_work.state) heard
 
-  -- a handover that is claimed is yielded behind it, where that is due
-  yields_behind : (c t_train t : ℕ) → is_centre line c ≡ true → LeadsOnward line c (yield_if_due line c t)
-  yields_behind c t_train t to w v k sound sees is = yields_so line w c t k v ok sound sees to is
+      one : LeadsOwn line w c (message t_train t body) ((hear (message t_train t body) >> own c t_train t) (w.at c)) v
+      one = is_own c t_train t w v (w.at c).clock at_work.sound at_work.shows at_work.to quiet
 
   pub reported : (position : Position) → Answers line (Report position)
-  reported position = in_parts (Report position) (λ c t_train t. own_report line c t position) (λ c t_train t. yield_if_due line c t)
-      (λ c t_train t. report_is_own line ok c t_train t position) (λ c t_train t. report_in_parts line c t_train t position) yields_behind
+  reported position = in_whole (Report position) (λ c t_train t. own_report line c t position)
+      (λ c t_train t. report_is_own line ok c t_train t position) (λ c t_train t. report_is_whole line c t_train t position)
 
   pub ended : (position : Position) → Answers line (EndOfMission position)
-  ended position = in_parts (EndOfMission position) (λ c t_train t. own_end line c t position) (λ c t_train t. yield_if_due line c t)
-      (λ c t_train t. end_is_own line ok c t_train t position) (λ c t_train t. end_in_parts line c t_train t position) yields_behind
+  ended position = in_whole (EndOfMission position) (λ c t_train t. own_end line c t position)
+      (λ c t_train t. end_is_own line ok c t_train t position) (λ c t_train t. end_is_whole line c t_train t position)
 
   pub shortening_granted : (stamp : ℕ) (position : Position) → Answers line (ShorteningGranted stamp position)
-  shortening_granted stamp position = in_parts (ShorteningGranted stamp position) (λ c t_train t. own_granted line c t position) (λ c t_train t. yield_if_due line c t)
-      (λ c t_train t. granted_is_own line ok c t_train t position stamp) (λ c t_train t. granted_in_parts line c t_train t position stamp) yields_behind
+  shortening_granted stamp position = in_whole (ShorteningGranted stamp position) (λ c t_train t. own_granted line c t position)
+      (λ c t_train t. granted_is_own line ok c t_train t position stamp) (λ c t_train t. granted_is_whole line c t_train t position stamp)
 
   -- where each handover is announced as soon as the border is in the hand
   pub requested : (position : Position) (w : Flow) (c : ℕ) (k : Centre) (v : LineState) (t_train t : ℕ) → IsAtWork line w c k v → HasAnnounced line c k
@@ -164,6 +164,6 @@ module _ (line : Line) (ok : IsLine line) where
   body_leads (Cancel h t) w a c number k v b = brought (Cancel h t) w a c number k v b
       (cancel_leads line w v a c h t number (w.at c).clock ok b.at_work.sound b.at_work.shows b.from b.at_work.to b.head)
   body_leads (TakingOver h t) w a c number k v b = brought (TakingOver h t) w a c number k v b
-      (claim_body_leads line w v a c h t number (w.at c).clock ok b.at_work.sound b.at_work.shows b.from b.at_work.to b.head)
+      (over_body_leads line w v a c h t number (w.at c).clock ok b.at_work.sound b.at_work.shows b.from b.at_work.to b.head)
   body_leads (Yield h t heard has_data is_ended carried hand) w a c number k v b = brought (Yield h t heard has_data is_ended carried hand) w a c number k v b
       (yield_leads line w v a c h t heard number (w.at c).clock has_data is_ended carried hand ok b.at_work.sound b.at_work.shows b.from b.at_work.to b.head)

@@ -76,7 +76,7 @@ module _ (line : Line) (w : Flow) (c : ℕ) (v : LineState) (stamp : ℕ) (at_wo
 
   begun_sound : IsFlowSound line begun
   begun_sound = aside_sound line w at_work.sound c at_work.to k
-      (record { book = refl; wish = refl; mission = refl; wait = refl; has_right = refl; expects = refl; announced = refl; heard = λ t h. h })
+      (record { book = refl; wish = refl; mission = refl; wait = refl; has_right = refl; expects = refl; announced = refl; asks = λ t first is. is; heard = λ t h. h })
 
   pub begun_shown : Shows line begun v
   begun_shown = unseen_shown line w c nothing_came k (λ d. []) begun v v.phase v.heard v.said at_work.sound at_work.shows at_work.to

@@ -1,23 +1,28 @@
 -- What a step tells the interlocking it tells by the order of sections.
-use Rattle.std.proofs.Common.{ℕ, ◌+◌, Bool, true, false, not, ◌&&◌, if◌then◌else◌, Option, Some, None, is_none, is_some, nat_lt, nat_le, length, ◌*◌, refl, sym, ap, subst, ◌∙◌, List, ◌++◌, append-nil}
+use Rattle.std.proofs.Common.{ℕ, ◌+◌, Bool, true, false, not, ◌&&◌, if◌then◌else◌, Option, Some, None, is_none, is_some, nat_lt, nat_le, length, ◌*◌, refl, sym, ap, subst, ◌∙◌, List, ◌++◌, append-nil, ◌≡◌, ◌≢◌, ◌-◌, ◌<◌, ◌≤◌, ◌==◌, [], map, arith, filter}
 use Rattle.std.specs.Option.{option_map_or}
+use Rattle.std.specs.List.{range_with_len}
+use Rattle.std.proofs.lemmas.Bool.{cond-false, ne_eqb}
+use Rattle.law_base.proofs.Standstill.{rests_or_cuts}
+use Rattle.law_centre.proofs.SentActs.{close_leaves_none}
+use Rattle.law_base.proofs.Puts.{put_there}
 use Rattle.rbc_spec.specs.Maps.{put}
-use Rattle.rbc_spec.specs.SectionRuns.{SectionRun, all_of, within, no_run, is_empty, part_before}
+use Rattle.rbc_spec.specs.SectionRuns.{SectionRun, all_of, within, no_run, is_empty, part_before, part_from, joined, behind}
 use Rattle.rbc_spec.specs.Line.{Line, section, end, is_home}
-use Rattle.rbc_spec.specs.Place.{Position, covered, place_on}
+use Rattle.rbc_spec.specs.Place.{Position, covered, place_on, Place}
 use Rattle.rbc_spec.specs.Message.{TrainMessage, TrainBody, TrainData, Request, Report, ShorteningGranted, ShorteningRejected, EndOfMission, InitiationOfSession, TerminationOfSession, StartOfMission, SessionEstablished}
 use Rattle.rbc_spec.specs.Frame.{Frame, Body, AskRight, GiveRight, RefuseRight, ReturnRight, RouteAsk, RouteInfo, RouteWithdraw, RouteReturn, Announce, Cancel, TakingOver, Yield, carried_place}
-use Rattle.rbc_spec.specs.Outcome.{Word, Reason, Done, Asked, NotHome, Next, Old, Early, NoLink}
+use Rattle.rbc_spec.specs.Outcome.{Word, Reason, Done, Asked, NotHome, Next, Old, Early, NoLink, Told}
 use Rattle.rbc_spec.specs.Outcome as outcome
 use Rattle.rbc_spec.specs.Centre.{is_taken_for, is_out_for, Centre, Entry, Shut, Open, Mission, Handing, Proposal, is_unused, uses_some, is_expected}
-use Rattle.rbc_spec.specs.Acts.{Act, become, freed, part_at, rest, ◌>>◌, leave, cancel, end_order, yield_if_due}
-use Rattle.rbc_spec.specs.Rules.{tell, drop_wait, close_session, report_here, take_over, report, end_mission, cut, granted, answered, reject}
+use Rattle.rbc_spec.specs.Acts.{Act, become, freed, part_at, rest, ◌>>◌, leave, cancel, end_order, Reply, returned, set_mission, close, with_mission}
+use Rattle.rbc_spec.specs.Rules.{tell, drop_wait, close_session, report_here, take_over, report, end_mission, cut, granted, answered, reject, stand_still, cleared, clear}
 use Rattle.rbc_spec.specs.Links.{received, of_train, is_train, expect, is_under, may_take, right_asked, right_given, right_refused, right_returned, route_asked, route_told, route_withdrawn, route_returned, announced, cancelled, taking_over, yielded}
 use Rattle.rbc_spec.specs.Step as step
 use Rattle.rbc_spec.specs.Step.{Train, taken, link_answer, taken_by, effect, set, unset, wished, make, hear_and_answer}
 use Rattle.rbc_spec.specs.Run.{TellsInOrder}
-use Rattle.law_runs.proofs.InOrder.{none_in_order, one_in_order, range_in_order}
-use Rattle.law_refinement.proofs.Words.{Tells, IsNone, IsSilent, both, branch, when, of_some, of_option, cancel_silent, close_silent, end_silent, yield_if_silent, start_silent, request_silent, given_silent, told_silent, take_silent, asked_silent, returned_silent, lent_silent, withdrawn_silent, wished_silent}
+use Rattle.law_runs.proofs.InOrder.{none_in_order, one_in_order, range_in_order, ranges_in_order}
+use Rattle.law_refinement.proofs.Words.{Tells, IsNone, IsSilent, both, branch, when, of_some, of_option, cancel_silent, close_silent, end_silent, start_silent, request_silent, given_silent, told_silent, take_silent, asked_silent, returned_silent, lent_silent, withdrawn_silent, wished_silent, over_silent}
 
 abbrev pub IsOrdered : Act → Type 0
 IsOrdered act = Tells TellsInOrder act
@@ -32,6 +37,10 @@ then_none a b first second = record { each = λ k. subst TellsInOrder (sym (ap (
 none_then : (a b : Act) → IsSilent a → IsOrdered b → IsOrdered (a >> b)
 unfolding ◌>>◌
 none_then a b first second = record { each = λ k. subst TellsInOrder (sym (ap (λ (ws : List Word). ws ++ (b (a k).state).words) (first.each k))) (second.each (a k).state) }
+
+silent_behind : (a b : Act) → IsSilent b → (k : Centre) → ((a >> b) k).words ≡ (a k).words
+unfolding ◌>>◌
+silent_behind a b second k = ap (λ (ws : List Word). (a k).words ++ ws) (second.each (a k).state) ∙ append-nil (a k).words
 
 module _ (line : Line) (c t : ℕ) where
   freed_in_order : (is_meant : Entry → Bool) (r : SectionRun) → IsOrdered (freed line c is_meant r)
@@ -54,13 +63,9 @@ module _ (line : Line) (c t : ℕ) where
   report_in_order : (position : Position) → IsOrdered (report line c t position)
   report_in_order position = record { each = λ k. by_mission k (k.mission t) }
     where
-      by_mission : (k : Centre) (o : Option Mission) → TellsInOrder (option_map_or (λ m. (report_here line c t position m >> yield_if_due line c t) k) o (take_over line t k)).words
+      by_mission : (k : Centre) (o : Option Mission) → TellsInOrder (option_map_or (λ m. report_here line c t position m k) o (take_over line t k)).words
       by_mission k None = none_in_order
-      by_mission k (Some m) = (then_none _ _ (here_in_order position m) (yield_if_silent line c t)).each k
-
-  end_in_order : (position : Position) → IsOrdered (end_mission line c t position)
-  end_in_order position = then_none _ _ (then_none _ _ (of_some TellsInOrder none_in_order _ _ (here_in_order position))
-      (of_some IsNone refl _ _ (λ m. both _ _ (both _ _ (record { each = λ k. refl }) (record { each = λ k. refl })) (record { each = λ k. refl })))) (yield_if_silent line c t)
+      by_mission k (Some m) = (here_in_order position m).each k
 
   abbrev kept_by : ℕ → Mission → Mission
   kept_by last_kept m = record m { hand = part_before (last_kept + 1) m.hand; pool = no_run; proposal = None }
@@ -74,10 +79,101 @@ module _ (line : Line) (c t : ℕ) where
       (λ h. branch IsNone refl (is_empty (part_at line h.to m.place.track (kept_by last_kept m).hand)) (cancel t (kept_by last_kept m)) rest (cancel_silent line c t (kept_by last_kept m)) (record { each = λ k. refl })) (record { each = λ k. refl }))))
 
   granted_in_order : (position : Position) (m : Mission) (p : Proposal) → IsOrdered (granted line c t position m p)
-  granted_in_order position m p = then_none _ _ (none_then _ _ (record { each = λ k. refl })
+  granted_in_order position m p = none_then _ _ (record { each = λ k. refl })
       (of_option TellsInOrder none_in_order (place_on line m.place.track position) (λ place. if nat_le place.front (10 * end line p.last_kept) then cut line c t p.last_kept m else rest) rest
       (λ place. branch TellsInOrder none_in_order (nat_le place.front (10 * end line p.last_kept)) (cut line c t p.last_kept m) rest (cut_in_order p.last_kept m) (quiet rest (record { each = λ k. refl })))
-      (quiet rest (record { each = λ k. refl })))) (yield_if_silent line c t)
+      (quiet rest (record { each = λ k. refl })))
+
+  -- ## End of mission
+
+  -- a train that stands still has told of sections of its hand, and of those behind
+  record TellsAhead (n : Mission) (words : List Word) : Type 0 where
+    test : ℕ → Bool
+    first : ℕ
+    count : ℕ
+    are : words ≡ map (λ s. Told s) (filter test (range_with_len first count))
+    ahead : n.hand.first ≤ first
+
+  cut_ahead_tells : (n : Mission) (x : ℕ) (j : Centre) → x ≢ 0 → x < n.hand.count → TellsAhead n (cut line c t (n.hand.first + x - 1) n j).words
+  cut_ahead_tells n x j some fits = record {
+    test = λ s. ((within gone s && is_home line c s) && is_taken_for t (j.book s)) && j.wish s;
+    first = gone.first;
+    count = gone.count;
+    are = silent_behind (leave line c t n.place.track gone) _
+        (branch IsNone refl _ _ _ (close_silent line c t n) (both _ _ (record { each = λ k. refl })
+        (of_option IsNone refl n.handing (cancels (kept_by last_kept n)) rest
+        (λ h. branch IsNone refl (is_empty (part_at line h.to n.place.track (kept_by last_kept n).hand)) (cancel t (kept_by last_kept n)) rest (cancel_silent line c t (kept_by last_kept n)) (record { each = λ k. refl })) (record { each = λ k. refl })))) j
+        ∙ silent_behind (freed line c (is_taken_for t) gone) (returned line c t n.place.track gone) (record { each = λ k. refl }) j;
+    ahead = let is : gone.first ≡ tail.first = ap (λ (r : SectionRun). r.first) (cond-false (is_empty tail) n.pool (record { first = tail.first; count = tail.count + n.pool.count }) (ne_eqb tail.count 0 (omega (arith, some, fits)))) in
+        omega (arith, is);
+  }
+    where
+      last_kept : ℕ
+      last_kept = n.hand.first + x - 1
+
+      tail : SectionRun
+      tail = part_from (last_kept + 1) n.hand
+
+      gone : SectionRun
+      gone = joined tail n.pool
+
+  stand_tells : (position : Position) (n : Mission) (j : Centre) → TellsAhead n (stand_still line c t position n j).words
+  stand_tells position n j = rests_or_cuts (λ act. TellsAhead n (act j).words) line c t position n
+      (record { test = λ s. false; first = n.hand.first; count = 0; are = refl; ahead = omega arith })
+      (λ x some fits. cut_ahead_tells n x j some fits)
+
+  -- what a report tells, and leaves
+  data TellsFirst (q : Reply) : Type 0 where
+    ends_so : q.state.mission t ≡ None → TellsInOrder q.words → TellsFirst q
+    goes_on : (n : Mission) → q.state.mission t ≡ Some n → (test : ℕ → Bool) (first count : ℕ) → q.words ≡ map (λ s. Told s) (filter test (range_with_len first count)) → first + count ≤ n.hand.first → TellsFirst q
+
+  clear_tells : (m : Mission) (place : Place) (k : Centre) → TellsFirst (clear line c t m place k)
+  unfolding ◌>>◌
+  clear_tells m place k = by_count ((cleared line place m).count == m.hand.count)
+    where
+      new : Mission
+      new = record m { place = place; hand = part_from (behind (cleared line place m)) m.hand }
+
+      by_count : (b : Bool) → TellsFirst ((if b then (leave line c t m.place.track (joined m.hand m.pool) >> close line c t m) else (leave line c t m.place.track (cleared line place m) >> set_mission t (Some new))) k)
+      by_count true = ends_so (close_leaves_none 0 0 line c t m (leave line c t m.place.track (joined m.hand m.pool) k).state) ((then_none _ _ (leave_in_order m.place.track (joined m.hand m.pool)) (close_silent line c t m)).each k)
+      by_count false = goes_on new (put_there (leave line c t m.place.track (cleared line place m) k).state.mission t (Some new))
+          (λ s. ((within (cleared line place m) s && is_home line c s) && is_taken_for t (k.book s)) && k.wish s) (cleared line place m).first (cleared line place m).count
+          (append-nil ((freed line c (is_taken_for t) (cleared line place m) k).words ++ []) ∙ append-nil (freed line c (is_taken_for t) (cleared line place m) k).words) (omega arith)
+
+  here_tells : (position : Position) (m : Mission) (k : Centre) → k.mission t ≡ Some m → TellsFirst (report_here line c t position m k)
+  here_tells position m k has = by_place (place_on line m.place.track position)
+    where
+      by_place : (o : Option Place) → TellsFirst (option_map_or (clear line c t m) o rest k)
+      by_place None = goes_on m has (λ s. false) 0 0 refl (omega arith)
+      by_place (Some place) = clear_tells m place k
+
+  both_tell : (position : Position) (k : Centre) → TellsInOrder ((with_mission t (report_here line c t position) >> with_mission t (stand_still line c t position)) k).words
+  unfolding ◌>>◌
+  both_tell position k = by_mission (k.mission t) refl
+    where
+      second : Centre → Reply
+      second j = with_mission t (stand_still line c t position) j
+
+      none_stands : (j : Centre) → j.mission t ≡ None → (second j).words ≡ []
+      none_stands j none = ap (λ (o : Option Mission). (option_map_or (λ n. stand_still line c t position n j) o (rest j)).words) none
+
+      some_stands : (j : Centre) (n : Mission) → j.mission t ≡ Some n → (second j).words ≡ (stand_still line c t position n j).words
+      some_stands j n has = ap (λ (o : Option Mission). (option_map_or (λ n. stand_still line c t position n j) o (rest j)).words) has
+
+      behind_first : (q : Reply) → TellsFirst q → TellsInOrder (q.words ++ (second q.state).words)
+      behind_first q (ends_so none ordered) = subst (λ ws. TellsInOrder (q.words ++ ws)) (sym (none_stands q.state none)) (subst TellsInOrder (sym (append-nil q.words)) ordered)
+      behind_first q (goes_on n has test first count are low) = let later = stand_tells position n q.state in let high = later.ahead in
+          subst (λ ws. TellsInOrder (q.words ++ ws)) (sym (some_stands q.state n has ∙ later.are))
+          (subst (λ ws. TellsInOrder (ws ++ map (λ s. Told s) (filter later.test (range_with_len later.first later.count)))) (sym are)
+          (ranges_in_order test later.test first count later.first later.count (omega (arith, low, high))))
+
+      by_mission : (o : Option Mission) → k.mission t ≡ o → TellsInOrder ((option_map_or (λ m. report_here line c t position m k) o (rest k)).words ++ (second (option_map_or (λ m. report_here line c t position m k) o (rest k)).state).words)
+      by_mission None none = behind_first (rest k) (ends_so none none_in_order)
+      by_mission (Some m) has = behind_first (report_here line c t position m k) (here_tells position m k has)
+
+  end_in_order : (position : Position) → IsOrdered (end_mission line c t position)
+  end_in_order position = then_none _ _ (record { each = λ k. both_tell position k })
+      (of_some IsNone refl _ _ (λ m. both _ _ (both _ _ (record { each = λ k. refl }) (record { each = λ k. refl })) (record { each = λ k. refl })))
 
 module _ (line : Line) (c : ℕ) where
   answered_in_order : (m : TrainMessage) (body : TrainBody) → IsOrdered (answered line c m body)
@@ -103,8 +199,8 @@ module _ (line : Line) (c : ℕ) where
   refused_in_order t = when TellsInOrder none_in_order (λ k. k.has_asked t) _ (none_then _ _ (record { each = λ k. refl })
       (when TellsInOrder none_in_order (λ k. is_some (k.wait t)) (drop_wait line c t >> reject t) (then_none _ _ (drop_in_order line c t) (record { each = λ k. refl }))))
 
-  home_in_order : (d t : ℕ) (r : SectionRun) → IsOrdered (route_returned line c d t r)
-  home_in_order d t r = then_none _ _ (freed_in_order line c t (is_out_for t d) r)
+  home_in_order : (d t : ℕ) (r : SectionRun) → IsOrdered (route_returned line c t r)
+  home_in_order d t r = then_none _ _ (freed_in_order line c t (is_out_for t) r)
       (when IsNone refl (λ k. not (uses_some line c k t) && ((is_none (k.mission t) && is_none (k.wait t)) && not (is_expected line k t))) (end_order line c t) (end_silent line c t))
 
   received_in_order : (d : ℕ) (body : Body) → IsOrdered (received line c d body)
@@ -116,13 +212,13 @@ module _ (line : Line) (c : ℕ) where
   received_in_order d (RouteInfo t r) = wordless t (route_told line c d t r) (told_silent line c t d r)
   received_in_order d (RouteWithdraw t s) = wordless t (if is_some (section line s) then route_withdrawn line c t s else rest)
       (branch IsNone refl (is_some (section line s)) (route_withdrawn line c t s) rest (withdrawn_silent line c t s) (record { each = λ k. refl }))
-  received_in_order d (RouteReturn t r) = trains t (if all_of (λ s. is_some (section line s)) r then route_returned line c d t r else rest)
-      (branch TellsInOrder none_in_order (all_of (λ s. is_some (section line s)) r) (route_returned line c d t r) rest (home_in_order d t r) (quiet rest (record { each = λ k. refl })))
+  received_in_order d (RouteReturn t r) = trains t (if all_of (λ s. is_some (section line s)) r then route_returned line c t r else rest)
+      (branch TellsInOrder none_in_order (all_of (λ s. is_some (section line s)) r) (route_returned line c t r) rest (home_in_order d t r) (quiet rest (record { each = λ k. refl })))
   received_in_order d (Announce number t track) = wordless t (if nat_lt track (length line.tracks) then announced d number t else rest)
       (branch IsNone refl (nat_lt track (length line.tracks)) (announced d number t) rest
       (when IsNone refl (λ k. is_none (k.expects d t)) (expect d t (Some (record { number = number; is_taking = false }))) (record { each = λ k. refl })) (record { each = λ k. refl }))
   received_in_order d (Cancel number t) = wordless t (cancelled d number t) (when IsNone refl (λ k. is_under number (k.expects d t)) (expect d t None) (record { each = λ k. refl }))
-  received_in_order d (TakingOver number t) = wordless t (taking_over line c d number t) (both _ _ (record { each = λ k. refl }) (yield_if_silent line c t))
+  received_in_order d (TakingOver number t) = wordless t (taking_over line c d number t) (over_silent line c t d number)
   received_in_order d (Yield number t heard has_data is_ended place hand) = wordless t (option_map_or (yielded line c d number t hand heard has_data is_ended) (carried_place place) rest)
       (of_option IsNone refl (carried_place place) (yielded line c d number t hand heard has_data is_ended) rest
       (λ at. when IsNone refl (λ k. may_take line c k d number t at hand) _ (take_silent line c t d heard _)) (record { each = λ k. refl }))
@@ -142,12 +238,12 @@ module _ (line : Line) (c : ℕ) where
   unset_in_order : (s : ℕ) → IsOrdered (unset line c s)
   unset_in_order s = record { each = λ k. by_home k (not (is_home line c s)) }
     where
-      by_use : (k : Centre) (z : Bool) → TellsInOrder ((if z then (make s Shut false >> tell (Done s)) else ((become (λ j. record j { wish = put j.wish s true }) >> tell (Asked s)) >> wished line s (k.book s))) k).words
+      by_use : (k : Centre) (z : Bool) → TellsInOrder ((if z then (make s Shut false >> tell (Done s)) else ((become (λ j. record j { wish = put j.wish s true }) >> tell (Asked s)) >> wished line c s (k.book s))) k).words
       by_use k true = (none_then _ _ (record { each = λ j. refl }) (record { each = λ j. one_in_order (Done s) })).each k
       by_use k false = (then_none _ _ (none_then _ _ (record { each = λ j. refl }) (record { each = λ j. one_in_order (Asked s) })) (wished_silent line c s (k.book s))).each k
 
       by_home : (k : Centre) (z : Bool) → TellsInOrder (if z then tell (NotHome s) k
-          else (if is_unused (k.book s) then (make s Shut false >> tell (Done s)) else ((become (λ j. record j { wish = put j.wish s true }) >> tell (Asked s)) >> wished line s (k.book s))) k).words
+          else (if is_unused (k.book s) then (make s Shut false >> tell (Done s)) else ((become (λ j. record j { wish = put j.wish s true }) >> tell (Asked s)) >> wished line c s (k.book s))) k).words
       by_home k true = one_in_order (NotHome s)
       by_home k false = by_use k (is_unused (k.book s))
 

@@ -1,4 +1,5 @@
 -- A request is met: the hand is extended, and then the centre does at the border what is due.
+use Rattle.std.proofs.lemmas.Option.{same_Some}
 use Rattle.std.proofs.Common.{◌≡◌, ℕ, true, Option, Some, None, refl, sym, ap, ◌∙◌, subst}
 use Rattle.std.specs.Option.{option_map_or}
 use Rattle.law_counting.proofs.Sums.{put_same}
@@ -77,6 +78,10 @@ module _ (line : Line) (ok : IsLine line) (w : Flow) (v : LineState) (sound : Is
   may : (d : ℕ) → next_centre line c here.place.track ≡ Some d → MayAnnounce line c t d left
   may d next = request_may_announce line ok c d k m here.m here.place is_request ((sound.centres c to).mission t here.m here.at).hand left next (unannounced d next) at_left same_phase
 
+  -- the track of the mission stays
+  on : (x : Mission) → left.mission t ≡ Some x → x.place.track ≡ here.place.track
+  on x at = ap (λ (y : Mission). y.place.track) (same_Some x (extended line c k here.place here.m) (sym at ∙ at_left))
+
   abbrev first : Act
   first = hear m >> own_request line c t position
 
@@ -88,7 +93,7 @@ module _ (line : Line) (ok : IsLine line) (w : Flow) (v : LineState) (sound : Is
   request_heard = subst (λ (r : Reply). LeadsHeard line w c m r v) (sym (request_in_parts line c t_train t position k heard))
       (heard_then line w c m k v first (at_border_then line c t position) one
       (subst (λ (r : Reply). Leads line (replied w c (first k)) c r one.mid) (sym (ap (at_border_then line c t position) first_left ∙ at_border))
-      (grants_so line (replied w c (first k)) c t here.place.track left one.mid ok one.sound one.shows to (put_same w.at c (first k).state ∙ first_left) may)))
+      (grants_so line (replied w c (first k)) c t here.place.track left one.mid ok one.sound one.shows to (put_same w.at c (first k).state ∙ first_left) on may)))
     where
       one : LeadsOwn line w c m (first k) v
       one = request_is_own line ok c t_train t position w v (w.at c).clock sound sees to heard

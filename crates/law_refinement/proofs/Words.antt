@@ -1,5 +1,5 @@
 -- What acts tell the interlocking: most tell it nothing.
-use Rattle.std.proofs.Common.{◌≡◌, ℕ, Bool, true, false, not, ◌&&◌, if◌then◌else◌, Option, Some, None, is_none, is_some, nat_lt, refl, ap, ◌∙◌, List, [], ◌++◌}
+use Rattle.std.proofs.Common.{◌≡◌, ℕ, Bool, true, false, not, ◌&&◌, if◌then◌else◌, Option, Some, None, is_none, is_some, nat_lt, refl, ap, ◌∙◌, List, [], ◌++◌, ◌==◌}
 use Rattle.std.specs.Option.{option_map_or}
 use Rattle.rbc_spec.specs.Maps.{has, put}
 use Rattle.rbc_spec.specs.SectionRuns.{SectionRun, part_from, all_of, within, most_in_hand, behind, is_empty, part_before}
@@ -10,9 +10,9 @@ use Rattle.rbc_spec.specs.Message.{unknown_group, EndSession}
 use Rattle.rbc_spec.specs.Frame.{GiveRight, RefuseRight, RouteInfo, RouteReturn}
 use Rattle.rbc_spec.specs.Outcome.{Word}
 use Rattle.rbc_spec.specs.Centre.{Centre, Entry, Shut, Open, Taken, Out, Mission, Handing, is_registrar_of, is_free, is_open, is_up}
-use Rattle.rbc_spec.specs.Acts.{Act, become, booked, returned, is_of_two, say, send, change_mission, part_at, may_propose, rest, ◌>>◌, where_so, with_some, cancel, return_right, close, propose, propose_if_so, announce, ask_route, end_order, yield, yield_if_due}
+use Rattle.rbc_spec.specs.Acts.{Act, become, booked, returned, say, send, change_mission, part_at, may_propose, rest, ◌>>◌, where_so, with_some, cancel, return_right, close, propose, propose_if_so, announce, ask_route, end_order, yield}
 use Rattle.rbc_spec.specs.Rules.{accept, choose, restart, begin, start_here, start_waiting, start_new, start_mission, announce_if_due, ask_route_if_due, at_border, grant, request, reject}
-use Rattle.rbc_spec.specs.Links.{lendable, is_wanted, right_asked, right_given, right_returned, route_asked, route_told, route_withdrawn, take_mission}
+use Rattle.rbc_spec.specs.Links.{lendable, is_wanted, right_asked, right_given, right_returned, route_asked, route_told, route_withdrawn, take_mission, taking_over}
 use Rattle.rbc_spec.specs.Step.{wished}
 
 -- each of its words, whatever the centre is in, is as P says
@@ -89,8 +89,8 @@ module _ (line : Line) (c t : ℕ) where
   pub yield_silent : (m : Mission) (h : Handing) → IsSilent (yield line c t m h)
   yield_silent m h = record { each = λ k. (both _ _ (both _ _ (both _ _ (record { each = λ k. refl }) (record { each = λ k. refl })) (both _ _ (record { each = λ k. refl }) (record { each = λ k. refl }))) (branch IsNone refl (is_empty (part_at line c m.place.track m.hand)) (end_order line c t) rest end_silent (record { each = λ k. refl }))).each k }
 
-  pub yield_if_silent : IsSilent (yield_if_due line c t)
-  yield_if_silent = of_some IsNone refl (λ k. k.mission t) _ (λ m. of_some IsNone refl (λ k. m.handing) _ (λ h. when IsNone refl (λ k. h.is_claimed && is_of_two line c h.to m.hand) _ (yield_silent m h)))
+  pub over_silent : (d number : ℕ) → IsSilent (taking_over line c d number t)
+  over_silent d number = of_some IsNone refl (λ k. k.mission t) _ (λ m. of_some IsNone refl (λ k. m.handing) _ (λ h. when IsNone refl (λ k. (h.number == number) && (h.to == d)) _ (yield_silent m h)))
 
   -- ## Messages
 
@@ -167,7 +167,7 @@ module _ (line : Line) (c : ℕ) where
   pub lent_silent : (d t first most : ℕ) → IsSilent (route_asked line c d t first most)
   lent_silent d t first most = record {
     each = λ k. (when IsNone refl (λ j. is_some (section line first))
-        (booked is_open (Out t d) (lendable line c k first most) >> send d (RouteInfo t (lendable line c k first most))) (both _ _ (record { each = λ k. refl }) (record { each = λ k. refl }))).each k;
+        (booked is_open (Out t) (lendable line c k first most) >> send d (RouteInfo t (lendable line c k first most))) (both _ _ (record { each = λ k. refl }) (record { each = λ k. refl }))).each k;
   }
 
   pub withdrawn_silent : (t s : ℕ) → IsSilent (route_withdrawn line c t s)
@@ -175,8 +175,8 @@ module _ (line : Line) (c : ℕ) where
       (λ m. branch IsNone refl (within m.pool s) (returned line c t m.place.track (part_from s m.pool) >> change_mission t (λ n. record n { pool = part_before s n.pool })) (propose_if_so line t s)
       (both _ _ (record { each = λ k. refl }) (record { each = λ k. refl })) (propose_if_silent line c t s))
 
-  pub wished_silent : (s : ℕ) (e : Entry) → IsSilent (wished line s e)
+  pub wished_silent : (s : ℕ) (e : Entry) → IsSilent (wished line c s e)
   wished_silent s Shut = record { each = λ k. refl }
   wished_silent s Open = record { each = λ k. refl }
   wished_silent s (Taken t) = propose_if_silent line c t s
-  wished_silent s (Out t d) = record { each = λ k. refl }
+  wished_silent s (Out t) = record { each = λ k. refl }

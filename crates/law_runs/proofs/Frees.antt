@@ -1,23 +1,28 @@
--- What an own step of the one line centre frees: only what a report clears, or a granted shortening cuts off.
-use Rattle.std.proofs.Common.{◌≡◌, ◌⊎◌, ℕ, ◌*◌, ◌&&◌, not, nat_le, nat_lt, Bool, true, false, Option, Some, None, refl, sym, ap, ◌∙◌, inl, inr, if◌then◌else◌, eqb-true, subst}
+-- What an own step of the one line centre frees: only what a report clears, a granted shortening cuts off, or lies ahead of a train that ends
+-- its mission at standstill.
+use Rattle.std.proofs.Common.{◌≡◌, ◌⊎◌, ℕ, ◌*◌, ◌<◌, ◌==◌, arith, ◌&&◌, not, nat_le, nat_lt, Bool, true, false, Option, Some, None, refl, sym, ap, ◌∙◌, inl, inr, if◌then◌else◌, eqb-true, subst}
 use Rattle.std.specs.Bool.{MatchBool}
 use Rattle.std.proofs.lemmas.Bool.{and_parts, or_cases, not-true}
 use Rattle.std.proofs.lemmas.Option.{same_Some}
 use Rattle.rbc_spec.specs.SectionRuns.{SectionRun, within, behind, all_of}
-use Rattle.rbc_spec.specs.Line.{Line, is_centre, is_home, end}
-use Rattle.rbc_spec.specs.Sections.{is_on}
+use Rattle.rbc_spec.specs.Line.{Line, is_centre, is_home, start, end}
+use Rattle.rbc_spec.specs.Sections.{section_count, is_on}
 use Rattle.rbc_spec.specs.Place.{Place, Position, covered, is_cleared, fit_place, place_on}
 use Rattle.rbc_spec.specs.Message.{TrainMessage, TrainBody, TrainData, Request, Report, ShorteningGranted, ShorteningRejected, EndOfMission, InitiationOfSession, TerminationOfSession, StartOfMission, SessionEstablished}
 use Rattle.rbc_spec.specs.Centre.{is_registrar_of}
 use Rattle.rbc_spec.specs.LineCentre.{LineState, Mark, Shut, Open, Kept, Given, is_given_to, is_mark_open, is_kept_for, is_waiting, supervises, release, close_if_empty, Said}
-use Rattle.rbc_spec.specs.OwnSteps.{begins, may_start, waits, Rejects, StartsHere, Restarts, StartsNew, Starts, may_be_given, Extends, is_cleared_of, is_cut_of, shortened, without_ask, track_of, last_kept_of, Reports, Ending, Own}
+use Rattle.rbc_spec.specs.OwnSteps.{begins, may_start, waits, Rejects, StartsHere, Restarts, StartsNew, Starts, may_be_given, Extends, is_cleared_of, reported, is_cut_of, has_reached, is_ahead_of, stopped, ended, shortened, without_ask, track_of, last_kept_of, Reports, Ending, Own}
+use Rattle.law_base.proofs.Lists.{any-range_some}
 use Rattle.law_base.proofs.Runs.{each_within}
 use Rattle.law_runs.proofs.Waits.{IsWaited, WaitsKeep, Leaves, IsLoose, opened, kept_for, if_not, PutAt, there, elsewhere, put_at, wait_on, waiting_at, loose_leaves, plain_leaves, end_leaves, not_waiting_kept}
 
--- why a section stops being given to train u by a message of train t: its report or end clears it, or its granted shortening cuts it off
+-- why a section stops being given to train u by a message of train t: its report or end clears it, or its granted shortening cuts it off, or
+-- it ends at standstill, where it has reached its hand, and the section lies ahead
 pub data Frees (line : Line) (v : LineState) (t u s : ℕ) : TrainBody → Type 0 where
   by_report : (position : Position) (place : Place) → t ≡ u → place_on line (track_of v t) position ≡ Some place → is_cleared line place s ≡ true → Frees line v t u s (Report position)
   by_end : (position : Position) (place : Place) → t ≡ u → place_on line (track_of v t) position ≡ Some place → is_cleared line place s ≡ true → Frees line v t u s (EndOfMission position)
+  by_standstill : (position : Position) (place : Place) (r : ℕ) → t ≡ u → place_on line (track_of v t) position ≡ Some place → (position.v_train == 0) ≡ true → r < section_count line
+      → is_given_to t (v.mark r) ≡ true → nat_lt (10 * start line r) place.front ≡ true → nat_le place.front (10 * start line s) ≡ true → Frees line v t u s (EndOfMission position)
   by_cut : (stamp : ℕ) (position : Position) (place : Place) → t ≡ u → place_on line (track_of v t) position ≡ Some place → nat_le place.front (10 * end line (last_kept_of v t)) ≡ true
       → nat_lt (last_kept_of v t) s ≡ true → Frees line v t u s (ShorteningGranted stamp position)
 
@@ -195,10 +200,62 @@ module _ (line : Line) (v : LineState) (keep : WaitsKeep line v) (c : ℕ) (at :
   report_leaves position (Some place) said new on h = release_leaves line v keep c at t (is_cleared_of line v t place) (λ s so. (cleared_given place s so).0) new (May (Report position))
       (ap (λ (x : LineState). x.mark) h.new_is ∙ closed_mark _ _ _ refl) (ap (λ (x : LineState). x.wait) h.new_is ∙ closed_wait _ _ _ refl) (λ s so. by_report position place refl on (cleared_given place s so).1)
 
-  end_leaves_all : (position : Position) (o : Option Place) (said : Said) (new : LineState) → place_on line (track_of v t) position ≡ o → Ending line t c o v said new → OwnLeaves line v new (May (EndOfMission position))
-  end_leaves_all position None said new on h = plainly (EndOfMission position) new _ h.new_is refl refl refl
-  end_leaves_all position (Some place) said new on h = release_leaves line v keep c at t (is_cleared_of line v t place) (λ s so. (cleared_given place s so).0) new (May (EndOfMission position))
+  -- behind a report
+  abbrev behind_report : Place → LineState
+  behind_report place = reported line t c place v
+
+  report_keeps : (body : TrainBody) (place : Place) → ((s : ℕ) → is_cleared line place s ≡ true → May body t s) → OwnLeaves line v (behind_report place) (May body)
+  report_keeps body place may = release_leaves line v keep c at t (is_cleared_of line v t place) (λ s so. (cleared_given place s so).0) (behind_report place) (May body)
+      (closed_mark _ _ _ refl) (closed_wait _ _ _ refl) (λ s so. may s (cleared_given place s so).1)
+
+  closed_is : (place : Place) → (behind_report place).mark ≡ (release line c t (is_cleared_of line v t place) v).mark
+  closed_is place = closed_mark _ _ _ refl
+
+  -- what is given then was given before
+  given_before : (place : Place) (s : ℕ) → is_given_to t ((behind_report place).mark s) ≡ true → is_given_to t (v.mark s) ≡ true
+  given_before place s is = by_cleared (is_cleared_of line v t place s) refl
+    where
+      by_cleared : (b : Bool) → is_cleared_of line v t place s ≡ b → is_given_to t (v.mark s) ≡ true
+      by_cleared true so = (cleared_given place s so).0
+      by_cleared false so = ap (is_given_to t) (sym (ap (λ (f : ℕ → Mark). f s) (closed_is place)
+          ∙ released_stay line v keep c at t (is_cleared_of line v t place) (λ e is. (cleared_given place e is).0) s (λ yes. let wrong : true ≡ false = sym yes ∙ so in cc))) ∙ is
+
+  ahead_given : (place : Place) (s : ℕ) → is_ahead_of line (behind_report place) t place s ≡ true → (is_given_to t ((behind_report place).mark s) ≡ true) × (nat_le place.front (10 * start line s) ≡ true)
+  ahead_given place s so = and_parts (is_given_to t ((behind_report place).mark s)) (nat_le place.front (10 * start line s)) so
+
+  -- one change and then another
+  both_leave : (body : TrainBody) (mid new : LineState) → OwnLeaves line v mid (May body) → OwnLeaves line mid new (May body) → OwnLeaves line v new (May body)
+  both_leave body mid new one two = record {
+    given = λ u s is. elim (one.given u s is) [ inl stays ↦ two.given u s stays | inr may ↦ inr may ];
+    waits = two.waits;
+  }
+
+  standstill_leaves : (position : Position) (place : Place) (new : LineState) → place_on line (track_of v t) position ≡ Some place → (position.v_train == 0) ≡ true
+      → new ≡ ended t (stopped line t c place (behind_report place)) → OwnLeaves line v new (May (EndOfMission position))
+  standstill_leaves position place new on still is = by_reached (has_reached line (behind_report place) t place) refl is
+    where
+      one : OwnLeaves line v (behind_report place) (May (EndOfMission position))
+      one = report_keeps (EndOfMission position) place (λ s so. by_end position place refl on so)
+
+      by_reached : (b : Bool) → has_reached line (behind_report place) t place ≡ b
+          → new ≡ ended t (if b then release line c t (is_ahead_of line (behind_report place) t place) (behind_report place) else behind_report place) → OwnLeaves line v new (May (EndOfMission position))
+      by_reached false not is = both_leave (EndOfMission position) (behind_report place) new one
+          (of_leaves line (behind_report place) new _ (subst (Leaves line (behind_report place)) (sym is) (plain_leaves line (behind_report place) one.waits (ended t (behind_report place)) refl refl refl)))
+      by_reached true so is =
+          let r = any-range_some (λ s. is_given_to t ((behind_report place).mark s) && nat_lt (10 * start line s) place.front) 0 (section_count line) so in
+          let below = r.2 in
+          let parts = and_parts (is_given_to t ((behind_report place).mark r.0)) (nat_lt (10 * start line r.0) place.front) r.3 in
+          both_leave (EndOfMission position) (behind_report place) new one
+          (release_leaves line (behind_report place) one.waits c at t (is_ahead_of line (behind_report place) t place) (λ s so. (ahead_given place s so).0) new (May (EndOfMission position))
+          (ap (λ (x : LineState). x.mark) is) (ap (λ (x : LineState). x.wait) is)
+          (λ s so. by_standstill position place r.0 refl on still (omega (arith, below)) (given_before place r.0 parts.0) parts.1 (ahead_given place s so).1))
+
+  end_leaves_all : (position : Position) (still : Bool) (o : Option Place) (said : Said) (new : LineState) → (position.v_train == 0) ≡ still → place_on line (track_of v t) position ≡ o → Ending line t c still o v said new
+      → OwnLeaves line v new (May (EndOfMission position))
+  end_leaves_all position still None said new runs on h = plainly (EndOfMission position) new _ h.new_is refl refl refl
+  end_leaves_all position false (Some place) said new runs on h = release_leaves line v keep c at t (is_cleared_of line v t place) (λ s so. (cleared_given place s so).0) new (May (EndOfMission position))
       (ap (λ (x : LineState). x.mark) h.new_is ∙ closed_mark _ _ _ refl) (ap (λ (x : LineState). x.wait) h.new_is ∙ closed_wait _ _ _ refl) (λ s so. by_end position place refl on (cleared_given place s so).1)
+  end_leaves_all position true (Some place) said new runs on h = standstill_leaves position place new on runs h.new_is
 
   cut_leaves : (stamp : ℕ) (position : Position) (o : Option Place) (new : LineState) → place_on line (track_of v t) position ≡ o → new ≡ shortened line t c o (last_kept_of v t) (without_ask t v)
       → OwnLeaves line v new (May (ShorteningGranted stamp position))
@@ -222,4 +279,4 @@ module _ (line : Line) (v : LineState) (keep : WaitsKeep line v) (c : ℕ) (at :
   own_leaves (Report position) said new h = by_test (supervises v c t) _ _ (λ _ r. report_leaves position (place_on line (track_of v t) position) said new refl r) (λ _ n. plainly (Report position) new v n.new_is refl refl refl) h
   own_leaves (ShorteningGranted stamp position) said new h = cut_leaves stamp position (place_on line (track_of v t) position) new refl h.new_is
   own_leaves (ShorteningRejected stamp position) said new h = plainly (ShorteningRejected stamp position) new _ h.new_is refl refl refl
-  own_leaves (EndOfMission position) said new h = end_leaves_all position (place_on line (track_of v t) position) said new refl h
+  own_leaves (EndOfMission position) said new h = end_leaves_all position (position.v_train == 0) (place_on line (track_of v t) position) said new refl refl h

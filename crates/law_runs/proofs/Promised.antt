@@ -1,10 +1,12 @@
 -- Each event keeps its promises, whatever state the one line centre goes on from.
-use Rattle.std.proofs.Common.{◌≡◌, ◌⊎◌, ℕ, ◌*◌, ◌==◌, ◌&&◌, Bool, true, false, Option, Some, None, refl, sym, ap, ◌∙◌, inl, inr, List, [], ◌∷◌, ◌++◌, Ok, Err, if◌then◌else◌, eqb-true, eq-eqb, leb-true, ltb-true, nat_le, nat_lt, subst}
+use Rattle.std.proofs.Common.{◌≡◌, ◌⊎◌, ℕ, ◌*◌, ◌<◌, ◌==◌, arith, ◌&&◌, Bool, true, false, Option, Some, None, refl, sym, ap, ◌∙◌, inl, inr, List, [], ◌∷◌, ◌++◌, Ok, Err, if◌then◌else◌, eqb-true, eq-eqb, leb-true, ltb-true, nat_le, nat_lt, subst}
 use Rattle.std.specs.Option.{option_map_or}
 use Rattle.std.specs.List.{All}
 use Rattle.std.proofs.lemmas.List.Elements.{All-append, All-contains, All-cons}
 use Rattle.std.proofs.lemmas.Bool.{and_parts, not-false}
-use Rattle.rbc_spec.specs.Line.{Line, Section, section, is_centre, is_home, end}
+use Rattle.std.proofs.lemmas.Option.{slice_get_cases}
+use Rattle.rbc_spec.specs.Line.{Line, Section, section, is_centre, is_home, start, end}
+use Rattle.rbc_spec.specs.Sections.{section_count}
 use Rattle.rbc_spec.specs.Place.{place_on}
 use Rattle.rbc_spec.specs.Message.{TrainMessage, TrainBody, TrainData, Request, Report, ShorteningGranted, ShorteningRejected, EndOfMission, InitiationOfSession, TerminationOfSession, StartOfMission, SessionEstablished}
 use Rattle.rbc_spec.specs.Outcome.{Outcome, Word, Told, Done, Asked, NotHome, Reason, NotSupervised, Unasked, reasons_of}
@@ -16,11 +18,11 @@ use Rattle.rbc_spec.specs.World.{World, Event, Bytes, Set, Unset, Delivery, Answ
 use Rattle.rbc_spec.specs.Run as run
 use Rattle.rbc_spec.specs.Run.{Piece, Goes, Steps, silent, heard, listened, OwnStep, has_here, answers_it}
 use Rattle.rbc_spec.specs.ReadOff.{StandsFor, HasMark, IsGiven, IsMissionOf, supervised, parted, seen, read_off}
-use Rattle.rbc_spec.specs.Promises.{MayFree, cleared, shortened, KeepsPromises}
+use Rattle.rbc_spec.specs.Promises.{MayFree, cleared, shortened, stopped, KeepsPromises}
 use Rattle.law_base.proofs.Lists.{none_passes}
 use Rattle.law_base.proofs.Puts.{put_there}
 use Rattle.law_runs.proofs.Waits.{WaitsKeep, Leaves, if_not, wait_on, plain_leaves, quiets_leave}
-use Rattle.law_runs.proofs.Frees.{Frees, by_report, by_end, by_cut, OwnLeaves, of_leaves, by_test, own_leaves}
+use Rattle.law_runs.proofs.Frees.{Frees, by_report, by_end, by_standstill, by_cut, OwnLeaves, of_leaves, by_test, own_leaves}
 use Rattle.law_runs.proofs.Words.{IsShut, Fits, no_words, fits_on, quiets_fit, own_fits}
 
 given_is : (t : ℕ) (m : Mark) → is_given_to t m ≡ true → m ≡ Given t
@@ -37,6 +39,13 @@ given_home line w t s = by_section (section line s) _
     by_section : (o : Option Section) (mark : Section → Mark) → option_map_or mark o Shut ≡ Given t → (c : ℕ) × (option_map_or (λ p. p.home == c) o false ≡ true)
     by_section None mark h = cc
     by_section (Some p) mark h = (p.home, eq-eqb p.home p.home refl)
+
+-- a section of the line has a home
+home_below : (line : Line) (s : ℕ) → s < section_count line → (c : ℕ) × (is_home line c s ≡ true)
+home_below line s below = elim (slice_get_cases line.sections s).1 [
+  | inl at ↦ (at.0.home, ap (λ (o : Option Section). option_map_or (λ p. p.home == at.0.home) o false) at.2 ∙ eq-eqb at.0.home at.0.home refl)
+  | inr past ↦ let far = past.0 in absurd (let no : ⊥ = omega (arith, far, below) in no)
+]
 
 -- ## The supervisor of a train
 
@@ -84,6 +93,14 @@ module _ (line : Line) (w : World) (v : LineState) (stands : StandsFor line w v)
         let h = here_is c t (λ n. true) (not-false (has_here v c t (λ n. true)) (none_passes (run.holds line v c (message (EndOfMission position)) (EndOfMission position)) (reasons_of (EndOfMission position)) 4 NotSupervised fair refl)) in
         cleared c (message (EndOfMission position)) position h.0.mission place train (same (EndOfMission position) fair) (subst (λ (x : ℕ). (w.at c).mission x ≡ Some h.0.mission) train h.0.has) (inr refl)
         (subst (λ (o : Option LineMission). place_on line (option_map_or (λ n. n.place.track) o 0) position ≡ Some place) h.0.is_seen on) is
+    frees_is (EndOfMission position) fair u s (by_standstill _ place r train on still on_line reached near ahead) =
+        let h = here_is c t (λ n. true) (not-false (has_here v c t (λ n. true)) (none_passes (run.holds line v c (message (EndOfMission position)) (EndOfMission position)) (reasons_of (EndOfMission position)) 4 NotSupervised fair refl)) in
+        let home = home_below line r on_line in
+        stopped c (message (EndOfMission position)) position h.0.mission place r train (same (EndOfMission position) fair) (subst (λ (x : ℕ). (w.at c).mission x ≡ Some h.0.mission) train h.0.has) refl
+        (eqb-true position.v_train 0 still)
+        (subst (λ (o : Option LineMission). place_on line (option_map_or (λ n. n.place.track) o 0) position ≡ Some place) h.0.is_seen on)
+        (subst (λ (x : ℕ). IsGiven w x r) train ((stands.mark r home.0 home.1).only_given t (given_is t (v.mark r) reached)))
+        (ltb-true (10 * start line r) place.front near) (leb-true place.front (10 * start line s) ahead)
     frees_is (ShorteningGranted stamp position) fair u s (by_cut _ _ place train on time past) =
         let h = here_is c t (answers_it stamp) (not-false (has_here v c t (answers_it stamp)) (none_passes (run.holds line v c (message (ShorteningGranted stamp position)) (ShorteningGranted stamp position)) (reasons_of (ShorteningGranted stamp position)) 5 Unasked fair refl)) in
         let p = asked_is stamp (seen c h.0.mission) h.1 in
@@ -256,7 +273,7 @@ shut_at new s c mark has is = by_entry ((new.at c).book s) refl
     by_entry centre.Shut at = at
     by_entry centre.Open at = absurd (let wrong : Shut ≡ Open = sym is ∙ has.opened at in cc)
     by_entry (centre.Taken t) at = absurd (used t (ap (centre.is_used_for t) at ∙ eq-eqb t t refl))
-    by_entry (centre.Out t d) at = absurd (used t (ap (centre.is_used_for t) at ∙ eq-eqb t t refl))
+    by_entry (centre.Out t) at = absurd (used t (ap (centre.is_used_for t) at ∙ eq-eqb t t refl))
 
 -- each event of worlds that states stand for keeps its promises, where starts that wait keep their sections and the reasons of silence agree
 pub keeps_promises : (line : Line) (w new : World) (event : Event) (answer : Answer) → WaitsKeep line (read_off line w)

@@ -1,9 +1,9 @@
 -- What the one line centre tells the interlocking is so behind the piece.
-use Rattle.std.proofs.Common.{◌≡◌, ℕ, zero, suc, ◌+◌, ◌*◌, ◌==◌, ◌&&◌, not, nat_le, Bool, true, false, cond, Option, Some, None, refl, sym, ap, ◌∙◌, inl, inr, List, [], ◌∷◌, map, if◌then◌else◌, subst}
+use Rattle.std.proofs.Common.{◌≡◌, ℕ, zero, suc, ◌+◌, ◌*◌, ◌==◌, ◌&&◌, not, nat_le, Bool, true, false, cond, Option, Some, None, refl, sym, ap, ◌∙◌, inl, inr, List, [], ◌∷◌, ◌++◌, map, if◌then◌else◌, subst}
 use Rattle.std.specs.List.{All, filter, range_with_len}
 use Rattle.std.proofs.lemmas.List.Elements.{All-nil, All-cons, All-append, All-weaker}
 use Rattle.std.proofs.lemmas.Bool.{and_parts}
-use Rattle.rbc_spec.specs.Line.{Line, is_home, end}
+use Rattle.rbc_spec.specs.Line.{Line, is_home, start, end}
 use Rattle.rbc_spec.specs.SectionRuns.{all_of}
 use Rattle.rbc_spec.specs.Sections.{section_count}
 use Rattle.rbc_spec.specs.Place.{Place, covered, fit_place, place_on}
@@ -11,7 +11,7 @@ use Rattle.rbc_spec.specs.Message.{TrainMessage, TrainBody, TrainData, Request, 
 use Rattle.rbc_spec.specs.Outcome.{Word, Told, Done, Asked, NotHome}
 use Rattle.rbc_spec.specs.Centre.{is_registrar_of}
 use Rattle.rbc_spec.specs.LineCentre.{LineState, Mark, Shut, Kept, mark_all, is_given_to, is_waiting_at, supervises, free, told, release, close_if_empty, Said}
-use Rattle.rbc_spec.specs.OwnSteps.{may_start, StartsHere, Rejects, Starts, is_cleared_of, is_cut_of, shortened, shortening_words, without_ask, track_of, last_kept_of, Reports, Ending, Own, release_words}
+use Rattle.rbc_spec.specs.OwnSteps.{may_start, StartsHere, Rejects, Starts, is_cleared_of, reported, is_cut_of, has_reached, is_ahead_of, stopped, stopping_words, ended, shortened, shortening_words, without_ask, track_of, last_kept_of, Reports, Ending, Own, release_words}
 use Rattle.rbc_spec.specs.Quiet.{Quiet, Keep, Unkeep, Admit, Dismiss, LayDown, TakeUp, Propose, Order, EndOrder, TakesQuiet, TakesAll}
 use Rattle.rbc_spec.specs.World.{Event, Unset}
 use Rattle.law_runs.proofs.Waits.{WaitsKeep, Leaves, quiet_leaves, quiets_leave}
@@ -90,6 +90,43 @@ module _ (line : Line) (event : Event) where
 
   -- ## Own steps
 
+  -- sections of the hand are released, from a state with the same wishes
+  let_go : (v base new : LineState) (c t : ℕ) (f : ℕ → Bool) → base.wish ≡ v.wish → new.mark ≡ (release line c t f base).mark → new.wish ≡ (release line c t f base).wish
+      → All (Fits line event new) (release_words line c f v)
+  let_go v base new c t f same marks wishes = told_fits v (mark_all (λ s. f s && not (is_home line c s)) (Kept t) base) new (λ s. f s && is_home line c s) marks wishes same
+
+  -- and then others: what is shut stays so
+  shut_still : (v new : LineState) (c t : ℕ) (f : ℕ → Bool) → ((s : ℕ) → f s ≡ true → is_given_to t (v.mark s) ≡ true) → new.mark ≡ (release line c t f v).mark → new.wish ≡ (release line c t f v).wish
+      → (s : ℕ) → IsShut v s → IsShut new s
+  shut_still v new c t f of_hand marks wishes s is = by_released (f s) refl
+    where
+      by_released : (b : Bool) → f s ≡ b → IsShut new s
+      by_released true so = absurd (let wrong : true ≡ false = sym (of_hand s so) ∙ ap (is_given_to t) is.0 in cc)
+      by_released false so =
+          let mark : (release line c t f v).mark s ≡ v.mark s = rw (so) refl in
+          let wish : (release line c t f v).wish s ≡ v.wish s = rw (so) refl in
+          (ap (λ (g : ℕ → Mark). g s) marks ∙ mark ∙ is.0, ap (λ (g : ℕ → Bool). g s) wishes ∙ wish ∙ is.1)
+
+  reported_fits : (v : LineState) (c t : ℕ) (place : Place) → All (Fits line event (reported line t c place v)) (release_words line c (is_cleared_of line v t place) v)
+  reported_fits v c t place = let_go v v (reported line t c place v) c t (is_cleared_of line v t place) refl (closed_mark _ _ _ refl) (closed_wish _ _ _ refl)
+
+  stopped_fits : (v : LineState) (c : ℕ) (new : LineState) (t : ℕ) (place : Place) → new ≡ ended t (stopped line t c place (reported line t c place v))
+      → All (Fits line event new) (release_words line c (is_cleared_of line v t place) v ++ stopping_words line t c place (reported line t c place v))
+  stopped_fits v c new t place is = by_reached (has_reached line there t place) is
+    where
+      there : LineState
+      there = reported line t c place v
+
+      by_reached : (b : Bool) → new ≡ ended t (if b then release line c t (is_ahead_of line there t place) there else there)
+          → All (Fits line event new) (release_words line c (is_cleared_of line v t place) v ++ (if b then release_words line c (is_ahead_of line there t place) there else []))
+      by_reached false is = All-append (Fits line event new) _ []
+          (All-weaker (Fits line event there) (Fits line event new) (fits_still line event there new (λ s so. (ap (λ (x : LineState). x.mark s) is ∙ so.0, ap (λ (x : LineState). x.wish s) is ∙ so.1))) _ (reported_fits v c t place)) (no_words new)
+      by_reached true is = All-append (Fits line event new) _ _
+          (All-weaker (Fits line event there) (Fits line event new) (fits_still line event there new
+          (shut_still there new c t (is_ahead_of line there t place) (λ s so. (and_parts (is_given_to t (there.mark s)) (nat_le place.front (10 * start line s)) so).0)
+          (ap (λ (x : LineState). x.mark) is) (ap (λ (x : LineState). x.wish) is))) _ (reported_fits v c t place))
+          (let_go there there new c t (is_ahead_of line there t place) refl (ap (λ (x : LineState). x.mark) is) (ap (λ (x : LineState). x.wish) is))
+
   module _ (v : LineState) (c : ℕ) (said : Said) (new : LineState) where
     reject_fits : (t : ℕ) → Rejects t c v said new → All (Fits line event new) said.words
     reject_fits t h = fits_said new said _ h.said_is (no_words new)
@@ -105,19 +142,19 @@ module _ (line : Line) (event : Event) where
         (λ _ n. by_test (may_start line v c place) _ _
         (λ _ m. by_test (is_registrar_of line c t) _ _ (λ _ a. here_fits t place a) (λ _ a. fits_said new said _ a.said_is (no_words new)) m) (λ _ a. reject_fits t a) n) h
 
-    -- sections of the hand are released, from a state with the same wishes
     release_fits : (t : ℕ) (f : ℕ → Bool) (base : LineState) → base.wish ≡ v.wish → new.mark ≡ (release line c t f base).mark → new.wish ≡ (release line c t f base).wish → All (Fits line event new) (release_words line c f v)
-    release_fits t f base same marks wishes = told_fits v (mark_all (λ s. f s && not (is_home line c s)) (Kept t) base) new (λ s. f s && is_home line c s) marks wishes same
+    release_fits t f base = let_go v base new c t f
 
     reports_fit : (t : ℕ) (o : Option Place) → Reports line t c o v said new → All (Fits line event new) said.words
     reports_fit t None h = fits_said new said _ h.said_is (no_words new)
     reports_fit t (Some place) h = fits_said new said _ h.said_is (release_fits t (is_cleared_of line v t place) v refl
         (ap (λ (x : LineState). x.mark) h.new_is ∙ closed_mark _ _ _ refl) (ap (λ (x : LineState). x.wish) h.new_is ∙ closed_wish _ _ _ refl))
 
-    ending_fits : (t : ℕ) (o : Option Place) → Ending line t c o v said new → All (Fits line event new) said.words
-    ending_fits t None h = fits_said new said _ h.said_is (no_words new)
-    ending_fits t (Some place) h = fits_said new said _ h.said_is (release_fits t (is_cleared_of line v t place) v refl
+    ending_fits : (t : ℕ) (still : Bool) (o : Option Place) → Ending line t c still o v said new → All (Fits line event new) said.words
+    ending_fits t still None h = fits_said new said _ h.said_is (no_words new)
+    ending_fits t false (Some place) h = fits_said new said _ h.said_is (release_fits t (is_cleared_of line v t place) v refl
         (ap (λ (x : LineState). x.mark) h.new_is ∙ closed_mark _ _ _ refl) (ap (λ (x : LineState). x.wish) h.new_is ∙ closed_wish _ _ _ refl))
+    ending_fits t true (Some place) h = fits_said new said _ h.said_is (stopped_fits v c new t place h.new_is)
 
     cut_fits : (t last_kept : ℕ) (o : Option Place) → new ≡ shortened line t c o last_kept (without_ask t v) → All (Fits line event new) (shortening_words line t c o last_kept v)
     cut_fits t last_kept None h = no_words new
@@ -139,4 +176,4 @@ module _ (line : Line) (event : Event) where
     own_fits m (Report position) h = by_test (supervises v c m.nid_engine) _ _ (λ _ r. reports_fit m.nid_engine (place_on line (track_of v m.nid_engine) position) r) (λ _ n. fits_said new said _ n.said_is (no_words new)) h
     own_fits m (ShorteningGranted stamp position) h = fits_said new said _ h.said_is (cut_fits m.nid_engine (last_kept_of v m.nid_engine) (place_on line (track_of v m.nid_engine) position) h.new_is)
     own_fits m (ShorteningRejected stamp position) h = fits_said new said _ h.said_is (no_words new)
-    own_fits m (EndOfMission position) h = ending_fits m.nid_engine (place_on line (track_of v m.nid_engine) position) h
+    own_fits m (EndOfMission position) h = ending_fits m.nid_engine (position.v_train == 0) (place_on line (track_of v m.nid_engine) position) h

@@ -1,5 +1,5 @@
 -- What marks say of a run of sections.
-use Rattle.std.proofs.Common.{◌≡◌, ℕ, zero, suc, ◌&&◌, Bool, ◌+◌, ◌-◌, ◌*◌, ◌/◌, ◌%◌, ◌^◌, ◌<◌, true, false, cond, eqb, List, [], ◌∷◌, ◌++◌, refl, sym, ap, ◌∙◌, arith}
+use Rattle.std.proofs.Common.{◌≡◌, ℕ, zero, suc, ◌&&◌, Bool, ◌+◌, ◌-◌, ◌*◌, ◌/◌, ◌%◌, ◌^◌, ◌<◌, true, false, cond, eqb, List, [], ◌∷◌, ◌++◌, refl, sym, ap, ◌∙◌, arith, ◌≤◌, append_assoc}
 use Rattle.std.specs.List.{filter, range_with_len}
 use Rattle.std.proofs.lemmas.List.{append-nil}
 use Rattle.std.proofs.lemmas.List.Elements.{filter-append}
@@ -81,3 +81,41 @@ marks_more t first n marks mark book b lt e test so_far =
     let before = wished t (record { first = first; count = n }) book in
     marked-more first n marks mark lt ∙ ap (λ x. marked first n marks ++ cond x (s ∷ []) []) e ∙ ap (λ xs. xs ++ cond b (s ∷ []) []) so_far
     ∙ sym (wished_more t first n s book refl ∙ ap (λ x. before ++ cond x (s ∷ []) []) test)
+
+-- ---- marks behind others
+
+-- no section is looked at yet
+pub marks_begun : (t first from old : ℕ) (book : Pages) → marked first from old ≡ marked first from old ++ wished t (record { first = first + from; count = from - from }) book
+marks_begun t first from old book =
+    let none : from - from ≡ 0 = omega arith in
+    sym (append-nil (marked first from old)) ∙ ap (λ n. marked first from old ++ wished t (record { first = first + from; count = n }) book) (sym none)
+
+-- one section more is marked behind them, or not
+pub marks_further : (t first from k old marks mark : ℕ) (book : Pages) (b : Bool) → from ≤ k → mark < 2 → eqb mark 1 ≡ b → (is_taken_for t (entry_at book (first + k)) && wish_at book (first + k)) ≡ b
+    → marked first k marks ≡ marked first from old ++ wished t (record { first = first + from; count = k - from }) book
+    → marked first (k + 1) (marks * 2 + mark) ≡ marked first from old ++ wished t (record { first = first + from; count = k + 1 - from }) book
+marks_further t first from k old marks mark book b begun lt e test so_far =
+    let s = first + k in
+    let before = wished t (record { first = first + from; count = k - from }) book in
+    let more : k + 1 - from ≡ k - from + 1 = omega (arith, begun) in
+    marked-more first k marks mark lt ∙ ap (λ x. marked first k marks ++ cond x (s ∷ []) []) e ∙ ap (λ xs. xs ++ cond b (s ∷ []) []) so_far
+    ∙ append_assoc (marked first from old) before (cond b (s ∷ []) [])
+    ∙ ap (λ xs. marked first from old ++ xs)
+    (sym (ap (λ n. wished t (record { first = first + from; count = n }) book) more ∙ wished_more t (first + from) (k - from) s book (omega (arith, begun)) ∙ ap (λ x. before ++ cond x (s ∷ []) []) test))
+
+-- one section more is not marked
+pub no_mark : (first k marks : ℕ) → marked first (k + 1) (marks * 2) ≡ marked first k marks
+no_mark first k marks =
+    let same : marks * 2 ≡ marks * 2 + 0 = omega arith in
+    ap (marked first (k + 1)) same ∙ marked-more first k marks 0 (omega arith) ∙ append-nil (marked first k marks)
+
+-- the marks of the first sections, of none, and of those behind
+pub around_is : (t first cleared keep count front kept marks : ℕ) (book : Pages) (told : List ℕ) → told ≡ marked first count marks
+    → marked first cleared front ≡ marked first 0 0 ++ wished t (record { first = first + 0; count = cleared - 0 }) book → marked first keep kept ≡ marked first cleared front
+    → marked first count marks ≡ marked first keep kept ++ wished t (record { first = first + keep; count = count - keep }) book
+    → told ≡ wished t (record { first = first; count = cleared }) book ++ wished t (record { first = first + keep; count = count - keep }) book
+around_is t first cleared keep count front kept marks book told is one two three =
+    let at : first + 0 ≡ first = omega arith in
+    let all : cleared - 0 ≡ cleared = omega arith in
+    is ∙ three ∙ ap (λ xs. xs ++ wished t (record { first = first + keep; count = count - keep }) book)
+    (two ∙ one ∙ ap (λ xs. xs ++ wished t (record { first = first + 0; count = cleared - 0 }) book) (marked-none first 0) ∙ (λ i. wished t (record { first = at i; count = all i }) book))

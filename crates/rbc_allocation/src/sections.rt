@@ -1,11 +1,12 @@
-ghost use Rattle.std.specs.Prelude.{◌≡◌, ◌+◌, ◌-◌, ◌++◌, ◌≤◌, ◌<◌, ◌&&◌, ℕ, length, replicate, true, false, if◌then◌else◌};
+ghost use Rattle.std.specs.Prelude.{◌≡◌, ◌+◌, ◌-◌, ◌++◌, ◌≤◌, ◌<◌, ◌&&◌, ℕ, length, replicate, true, false, if◌then◌else◌, ◌^◌};
 ghost use Rattle.rbc_spec.specs.SectionRuns.{within, behind, is_empty, joined};
 ghost use Rattle.rbc_spec.specs.Centre.{is_open, is_taken_for};
 ghost use Rattle.rbc_book.specs.Book.{is_own, entry_at, wish_at};
 ghost use Rattle.rbc_hand.specs.SectionRuns.{run_of};
 ghost use Rattle.rbc_hand.specs.Tokens.{Held, Own, token_of};
 ghost use Rattle.rbc_hand.specs.Hands.{run, one, takes, extended};
-ghost use Rattle.rbc_allocation.specs.Sections.{TakesRun, FreesRun, wished, hand_rest, hand_front, is_held_as, IsHeldBy};
+ghost use Rattle.rbc_allocation.specs.Marks.{marked};
+ghost use Rattle.rbc_allocation.specs.Sections.{TakesRun, FreesRun, front_of, rest_of, wished, hand_rest, hand_front, is_held_as, IsHeldBy};
 
 use crate::told::Told;
 use rbc_book::Book;
@@ -169,6 +170,63 @@ pub fn cut(hand: &mut Hand, keep: u16, nid_engine: u32, book: &mut Book) -> Told
     let told = wished(SectionRun { first, count }, nid_engine, book);
     free_back(hand, count, nid_engine, book);
     told
+}
+
+// Behind the marks of so many sections from the first on, those of the sections up to others.
+fn marks_on(first: u16, from: u16, upto: u16, old: u64, nid_engine: u32, book: &Book) -> u64
+    requires order { from ≤ upto }
+    requires room { upto ≤ 32 }
+    requires numbers { first + upto ≤ 65535 }
+    requires fits { old < 2 ^ from }
+    ensures value { marked first upto result ≡ marked first from old ++ wished nid_engine (record { first = first + from; count = upto - from }) book.now }
+    ensures fits { result < 2 ^ upto }
+{
+    let mut marks = old;
+    for k in from..upto {
+        let mark = if is_wished(first + k, nid_engine, book) {
+            1
+        } else {
+            0
+        };
+        marks = marks * 2 + mark;
+    }
+    marks
+}
+
+// Behind the marks of so many sections from the first on, none up to others.
+fn no_marks_on(first: u16, from: u16, upto: u16, old: u64) -> u64
+    requires order { from ≤ upto }
+    requires room { upto ≤ 32 }
+    requires fits { old < 2 ^ from }
+    ensures value { marked first upto result ≡ marked first from old }
+    ensures fits { result < 2 ^ upto }
+{
+    let mut marks = old;
+    for k in from..upto {
+        marks *= 2;
+    }
+    marks
+}
+
+/// Those of so many of the first sections, and of those behind so many, that are in use for the train and wished back, in rising order.
+pub fn wished_around(
+    sections: SectionRun,
+    cleared: u16,
+    keep: u16,
+    nid_engine: u32,
+    book: &Book,
+) -> Told
+    requires room { sections.count ≤ 32 }
+    requires numbers { sections.first + sections.count ≤ 65535 }
+    requires some { cleared ≤ keep }
+    requires keep { keep ≤ sections.count }
+    ensures { result ≡ wished nid_engine (front_of cleared (run_of sections)) book.now ++ wished nid_engine (rest_of keep (run_of sections)) book.now }
+{
+    let (first, count) = (sections.first, sections.count);
+    let front = marks_on(first, 0, cleared, 0, nid_engine, book);
+    let kept = no_marks_on(first, cleared, keep, front);
+    let marks = marks_on(first, keep, count, kept, nid_engine, book);
+    Told::of(first, count, marks)
 }
 
 /// Gives all sections of the hand back, and ends it.

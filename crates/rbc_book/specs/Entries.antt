@@ -8,4 +8,4 @@ abbrev pub entry_of : EntryCode → Entry
 entry_of code.Shut = Shut
 entry_of code.Open = Open
 entry_of (code.Taken t) = Taken t
-entry_of (code.Out t d) = Out t d
+entry_of (code.Out t) = Out t

@@ -177,11 +177,11 @@ impl Book {
 
     /// Lends a section to another centre, where its train runs on. A claim whose section this book does not have as taken
     /// for its train changes nothing.
-    pub fn lend(&mut self, claim: Claim, to: u8)
+    pub fn lend(&mut self, claim: Claim)
         ensures homes { (k : ℕ) → is_own self.new k ≡ is_own self.old k }
         ensures entry { (k : ℕ) → entry_at self.new k
             ≡ (if is_taken_by self.old claim && (k == section_of claim)
-            then spec.Out (train_of claim) to else entry_at self.old k) }
+            then spec.Out (train_of claim) else entry_at self.old k) }
         ensures wish { (k : ℕ) → wish_at self.new k ≡ wish_at self.old k }
     {
         let Claim {
@@ -190,25 +190,21 @@ impl Book {
         } = claim;
         let page = self.page(section);
         if page.entry.is_taken_for(nid_engine) {
-            let entry = Entry::Out {
-                nid_engine,
-                centre: to,
-            };
-            self.write(section, entry, page.is_wished);
+            self.write(section, Entry::Out { nid_engine }, page.is_wished);
         }
     }
 
-    /// Takes a section of a train back from another centre. None exactly where it is not out so.
-    pub fn reclaim(&mut self, s: u16, nid_engine: u32, from: u8) -> Option<Claim>
-        ensures claim { result ≡ claim_if (is_out_for nid_engine from (entry_at self.old s)) s nid_engine }
+    /// Takes a section of a train back from another centre. None exactly where it is not out for it.
+    pub fn reclaim(&mut self, s: u16, nid_engine: u32) -> Option<Claim>
+        ensures claim { result ≡ claim_if (is_out_for nid_engine (entry_at self.old s)) s nid_engine }
         ensures homes { (k : ℕ) → is_own self.new k ≡ is_own self.old k }
         ensures entry { (k : ℕ) → entry_at self.new k
-            ≡ (if is_out_for nid_engine from (entry_at self.old s) && (k == s)
+            ≡ (if is_out_for nid_engine (entry_at self.old s) && (k == s)
             then spec.Taken nid_engine else entry_at self.old k) }
         ensures wish { (k : ℕ) → wish_at self.new k ≡ wish_at self.old k }
     {
         let page = self.page(s);
-        if !page.entry.is_out_for(nid_engine, from) {
+        if !page.entry.is_out_for(nid_engine) {
             return None;
         }
         self.write(s, Entry::Taken { nid_engine }, page.is_wished);

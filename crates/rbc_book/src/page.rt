@@ -10,7 +10,7 @@ pub enum Entry {
     /// In use for a train, with its claim at this centre.
     Taken { nid_engine: u32 },
     /// In use for a train at another centre.
-    Out { nid_engine: u32, centre: u8 },
+    Out { nid_engine: u32 },
 }
 
 impl Entry {
@@ -41,12 +41,12 @@ impl Entry {
         }
     }
 
-    /// Whether the section is in use for this train at that centre.
-    pub fn is_out_for(self, train: u32, to: u8) -> bool
-        ensures { result ≡ is_out_for train to (entry_of self) }
+    /// Whether the section is in use for this train at another centre.
+    pub fn is_out_for(self, train: u32) -> bool
+        ensures { result ≡ is_out_for train (entry_of self) }
     {
         match self {
-            Entry::Out { nid_engine, centre } => nid_engine == train && centre == to,
+            Entry::Out { nid_engine } => nid_engine == train,
             _ => false,
         }
     }

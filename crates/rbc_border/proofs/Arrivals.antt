@@ -1,10 +1,10 @@
 -- Sections that come with a train.
-use Rattle.std.proofs.Common.{◌≡◌, ℕ, ◌+◌, ◌<◌, ◌≤◌, ◌==◌, ◌&&◌, if◌then◌else◌, inl, inr, Bool, false, cond, not, Option, Some, sym, ap, ◌∙◌}
+use Rattle.std.proofs.Common.{◌≡◌, ℕ, ◌+◌, ◌<◌, ◌≤◌, ◌==◌, if◌then◌else◌, inl, inr, Bool, false, cond, not, Option, Some, sym, ap, ◌∙◌}
 use Rattle.std.specs.Option.{option_map_or}
 use Rattle.std.proofs.lemmas.Bool.{cases_Bool, false≢true}
 use Rattle.rbc_spec.specs.Maps.{has}
 use Rattle.rbc_spec.specs.SectionRuns.{SectionRun, all_of}
-use Rattle.rbc_spec.specs.Line.{Line, Section, section, is_linked, next_centre}
+use Rattle.rbc_spec.specs.Line.{Line, Section, section, next_centre}
 use Rattle.rbc_spec.specs.Centre.{Centre, is_out_for}
 use Rattle.rbc_spec.specs.Links.{may_arrive}
 use Rattle.law_base.proofs.Lists.{each_of}
@@ -16,14 +16,14 @@ one_fails test r s low high fails = elim (cases_Bool (all_of test r)) [
   | inr fail ↦ fail
 ]
 
--- a section of another centre comes from a linked one, and not from the next
-module _ (line : Line) (c d t track s : ℕ) (k : Centre) where
+-- a section of another centre is not of the next
+module _ (line : Line) (c t track s : ℕ) (k : Centre) where
   abbrev by_section : Option Section → Bool
-  by_section o = if option_map_or (λ p. p.home == c) o false then is_out_for t d (k.book s)
-      else has (λ p. is_linked line c p.home && not (has (λ n. n == p.home) (next_centre line c track))) o
+  by_section o = if option_map_or (λ p. p.home == c) o false then is_out_for t (k.book s)
+      else has (λ p. not (has (λ n. n == p.home) (next_centre line c track))) o
 
   pub elsewhere : (p : Section) (home : ℕ) → section line s ≡ Some p → p.home ≡ home → (home == c) ≡ false
-      → may_arrive line c k d t track s ≡ (is_linked line c home && not (has (λ n. n == home) (next_centre line c track)))
+      → may_arrive line c k t track s ≡ not (has (λ n. n == home) (next_centre line c track))
   elsewhere p home is of other = ap by_section is
-      ∙ ap (λ h. cond (h == c) (is_out_for t d (k.book s)) (is_linked line c h && not (has (λ n. n == h) (next_centre line c track)))) of
-      ∙ ap (λ b. cond b (is_out_for t d (k.book s)) (is_linked line c home && not (has (λ n. n == home) (next_centre line c track)))) other
+      ∙ ap (λ h. cond (h == c) (is_out_for t (k.book s)) (not (has (λ n. n == h) (next_centre line c track)))) of
+      ∙ ap (λ b. cond b (is_out_for t (k.book s)) (not (has (λ n. n == home) (next_centre line c track)))) other

@@ -33,30 +33,30 @@ pub record Writes (s : ℕ) (test : Bool) (now : Entry) (a b : Pages) : Type 0 w
 
 -- ## One section
 
-pub lends_some : (t d s : ℕ) (o : Option Claim) (claim : Claim) (a m b : Pages) → o ≡ claim_if (is_open (entry_at a s)) s t → o ≡ Some claim
-    → Writes s (is_open (entry_at a s)) (Taken t) a m → Writes (section_of claim) (is_taken_by m claim) (Out (train_of claim) d) m b → LendsRun t d (one s) a b
-lends_some t d s o claim a m b is some takes lends =
+pub lends_some : (t s : ℕ) (o : Option Claim) (claim : Claim) (a m b : Pages) → o ≡ claim_if (is_open (entry_at a s)) s t → o ≡ Some claim
+    → Writes s (is_open (entry_at a s)) (Taken t) a m → Writes (section_of claim) (is_taken_by m claim) (Out (train_of claim)) m b → LendsRun t (one s) a b
+lends_some t s o claim a m b is some takes lends =
     let h = cond_some (is_open (entry_at a s)) (claim_on s t) claim (sym is ∙ some) in
     let taken : is_taken_for t (entry_at m s) ≡ true = ap (is_taken_for t) (takes.entry s) ∙ (rw (h.0, itself s) (itself t)) in
     record {
       homes = λ k. lends.homes k ∙ takes.homes k;
       entry = λ k. lends.entry k
-          ∙ ap (λ (x : Claim). cond (is_taken_by m x && (k == section_of x)) (Out (train_of x) d) (entry_at m k)) (sym h.1)
-          ∙ ap (λ x. cond (x && (k == s)) (Out t d) (entry_at m k)) taken
-          ∙ (elim (eqb_tells k s) as (λ _. cond (k == s) (Out t d) (entry_at m k) ≡ cond (within (one s) k && is_open (entry_at a k)) (Out t d) (entry_at a k)) [
+          ∙ ap (λ (x : Claim). cond (is_taken_by m x && (k == section_of x)) (Out (train_of x)) (entry_at m k)) (sym h.1)
+          ∙ ap (λ x. cond (x && (k == s)) (Out t) (entry_at m k)) taken
+          ∙ (elim (eqb_tells k s) as (λ _. cond (k == s) (Out t) (entry_at m k) ≡ cond (within (one s) k && is_open (entry_at a k)) (Out t) (entry_at a k)) [
             | inl e ↦ rw (within_one s k, e.0, e.1, h.0) refl
             | inr e ↦ rw (within_one s k, e.0) (takes.entry k ∙ ap (λ x. cond (x && (k == s)) (Taken t) (entry_at a k)) h.0 ∙ ap (λ x. cond x (Taken t) (entry_at a k)) e.0)
           ]);
       wish = λ k. lends.wish k ∙ takes.wish k;
     }
 
-pub lends_no : (t d s : ℕ) (o : Option Claim) (a m : Pages) → o ≡ claim_if (is_open (entry_at a s)) s t → o ≡ None → Writes s (is_open (entry_at a s)) (Taken t) a m → LendsRun t d (one s) a m
-lends_no t d s o a m is none takes =
+pub lends_no : (t s : ℕ) (o : Option Claim) (a m : Pages) → o ≡ claim_if (is_open (entry_at a s)) s t → o ≡ None → Writes s (is_open (entry_at a s)) (Taken t) a m → LendsRun t (one s) a m
+lends_no t s o a m is none takes =
     let shut : is_open (entry_at a s) ≡ false = none_chosen (is_open (entry_at a s)) (claim_on s t) (sym is ∙ none) in
     record {
       homes = takes.homes;
       entry = λ k. takes.entry k ∙ ap (λ x. cond (x && (k == s)) (Taken t) (entry_at a k)) shut
-          ∙ (elim (eqb_tells k s) as (λ _. entry_at a k ≡ cond (within (one s) k && is_open (entry_at a k)) (Out t d) (entry_at a k)) [
+          ∙ (elim (eqb_tells k s) as (λ _. entry_at a k ≡ cond (within (one s) k && is_open (entry_at a k)) (Out t) (entry_at a k)) [
             | inl e ↦ rw (within_one s k, e.0, e.1, shut) refl
             | inr e ↦ rw (within_one s k, e.0) refl
           ]);
@@ -65,24 +65,24 @@ lends_no t d s o a m is none takes =
 
 -- ## One section after another
 
-pub lends_none : (t d from : ℕ) (book : Pages) → LendsRun t d (record { first = from; count = 0 }) book book
-lends_none t d from book = record { homes = λ s. refl; entry = λ s. rw (within_none from s) refl; wish = λ s. refl }
+pub lends_none : (t from : ℕ) (book : Pages) → LendsRun t (record { first = from; count = 0 }) book book
+lends_none t from book = record { homes = λ s. refl; entry = λ s. rw (within_none from s) refl; wish = λ s. refl }
 
-lent_twice : (t d : ℕ) (e : Entry) (x y : Bool) → cond (y && is_open (cond (x && is_open e) (Out t d) e)) (Out t d) (cond (x && is_open e) (Out t d) e) ≡ cond ((x || y) && is_open e) (Out t d) e
-lent_twice t d e true true = elim (cases_Bool (is_open e)) [ inl h ↦ rw h refl | inr h ↦ rw (h, h) refl ]
-lent_twice t d e true false = refl
-lent_twice t d e false true = refl
-lent_twice t d e false false = refl
+lent_twice : (t : ℕ) (e : Entry) (x y : Bool) → cond (y && is_open (cond (x && is_open e) (Out t) e)) (Out t) (cond (x && is_open e) (Out t) e) ≡ cond ((x || y) && is_open e) (Out t) e
+lent_twice t e true true = elim (cases_Bool (is_open e)) [ inl h ↦ rw h refl | inr h ↦ rw (h, h) refl ]
+lent_twice t e true false = refl
+lent_twice t e false true = refl
+lent_twice t e false false = refl
 
-pub lends_more : (t d from k s : ℕ) (a b c : Pages) → s ≡ from + k → LendsRun t d (record { first = from; count = k }) a b → LendsRun t d (one s) b c → LendsRun t d (record { first = from; count = k + 1 }) a c
-lends_more t d from k s a b c is so_far next =
+pub lends_more : (t from k s : ℕ) (a b c : Pages) → s ≡ from + k → LendsRun t (record { first = from; count = k }) a b → LendsRun t (one s) b c → LendsRun t (record { first = from; count = k + 1 }) a c
+lends_more t from k s a b c is so_far next =
     let both : (j : ℕ) → within (record { first = from; count = k + 1 }) j ≡ (within (record { first = from; count = k }) j || within (one s) j)
     = λ j. within_more from k j ∙ ap (λ x. within (record { first = from; count = k }) j || within (one x) j) (sym is) in
     record {
       homes = λ j. next.homes j ∙ so_far.homes j;
-      entry = λ j. next.entry j ∙ ap (λ e. cond (within (one s) j && is_open e) (Out t d) e) (so_far.entry j)
-          ∙ lent_twice t d (entry_at a j) (within (record { first = from; count = k }) j) (within (one s) j)
-          ∙ ap (λ x. cond (x && is_open (entry_at a j)) (Out t d) (entry_at a j)) (sym (both j));
+      entry = λ j. next.entry j ∙ ap (λ e. cond (within (one s) j && is_open e) (Out t) e) (so_far.entry j)
+          ∙ lent_twice t (entry_at a j) (within (record { first = from; count = k }) j) (within (one s) j)
+          ∙ ap (λ x. cond (x && is_open (entry_at a j)) (Out t) (entry_at a j)) (sym (both j));
       wish = λ j. next.wish j ∙ so_far.wish j;
     }
 
@@ -106,15 +106,15 @@ count_is line c from most k book p has at =
     turned false free on = refl
 
 lent_is : (line : Line) (c d t from most n : ℕ) (k : Centre) (book book' : Pages) (p : Section) → HasBook line c k book → section line from ≡ Some p → n ≡ lent_count line c book p.track from most
-    → LendsRun t d (record { first = from; count = n }) book book' → route_asked line c d t from most k ≡ send d (RouteInfo t (record { first = from; count = n })) (with_book book' k)
+    → LendsRun t (record { first = from; count = n }) book book' → route_asked line c d t from most k ≡ send d (RouteInfo t (record { first = from; count = n })) (with_book book' k)
 unfolding ◌>>◌
 lent_is line c d t from most n k book book' p has at long lends =
     let r : SectionRun = record { first = from; count = n } in
-    ap (λ (o : Option Section). cond (is_some o) ((booked is_open (Out t d) (lendable line c k from most) >> send d (RouteInfo t (lendable line c k from most))) k) (rest k)) at
-    ∙ ap (λ (m : ℕ). (booked is_open (Out t d) (record { first = from; count = m }) >> send d (RouteInfo t (record { first = from; count = m }))) k) (count_is line c from most k book p has at ∙ sym long)
+    ap (λ (o : Option Section). cond (is_some o) ((booked is_open (Out t) (lendable line c k from most) >> send d (RouteInfo t (lendable line c k from most))) k) (rest k)) at
+    ∙ ap (λ (m : ℕ). (booked is_open (Out t) (record { first = from; count = m }) >> send d (RouteInfo t (record { first = from; count = m }))) k) (count_is line c from most k book p has at ∙ sym long)
     ∙ (λ i. record {
       state = record k {
-        book = λ s. (ap (λ e. cond (within r s && is_open e) (Out t d) e) (has.has_book s) ∙ sym (lends.entry s)) i;
+        book = λ s. (ap (λ e. cond (within r s && is_open e) (Out t) e) (has.has_book s) ∙ sym (lends.entry s)) i;
         wish = λ s. (has.has_wish s ∙ sym (lends.wish s)) i;
       };
       frames = λ e. if e == d then RouteInfo t r ∷ [] else [];
@@ -153,7 +153,7 @@ module _ (line : Line) (c from most : ℕ) (book : Pages) (row : SectionRow) (on
     last = omega (arith, few, stretch_below);
   }
 
-  pub asked_some : (d t : ℕ) (k : Centre) (book' : Pages) → HasBook line c k book → LendsRun t d (record { first = from; count = count }) book book'
+  pub asked_some : (d t : ℕ) (k : Centre) (book' : Pages) → HasBook line c k book → LendsRun t (record { first = from; count = count }) book book'
       → route_asked line c d t from most k ≡ send d (RouteInfo t (record { first = from; count = count })) (with_book book' k)
   asked_some d t k book' has lends =
       lent_is line c d t from most count k book book' lending.first.there has lending.first.at

@@ -12,25 +12,25 @@ use Rattle.rbc_book.specs.Book.{Pages, is_own, entry_at, wish_at}
 
 -- ## In the book
 
--- the open sections of the run are in use for the train at centre d, and nothing else changed
-pub record LendsRun (t d : ℕ) (r : SectionRun) (old new : Pages) : Type 0 where
+-- the open sections of the run are in use for the train at another centre, and nothing else changed
+pub record LendsRun (t : ℕ) (r : SectionRun) (old new : Pages) : Type 0 where
   pub homes : (s : ℕ) → is_own new s ≡ is_own old s
-  pub entry : (s : ℕ) → entry_at new s ≡ (if within r s && is_open (entry_at old s) then Out t d else entry_at old s)
+  pub entry : (s : ℕ) → entry_at new s ≡ (if within r s && is_open (entry_at old s) then Out t else entry_at old s)
   pub wish : (s : ℕ) → wish_at new s ≡ wish_at old s
 
--- the section is of the run, and in use for the train at centre d
-abbrev pub is_lent : ℕ → ℕ → SectionRun → Pages → ℕ → Bool
-is_lent t d r book s = within r s && is_out_for t d (entry_at book s)
+-- the section is of the run, and in use for the train at another centre
+abbrev pub is_lent : ℕ → SectionRun → Pages → ℕ → Bool
+is_lent t r book s = within r s && is_out_for t (entry_at book s)
 
--- the sections of the run that were in use for the train at centre d are open, or shut where they were wished back; nothing else changed
-pub record BringsBack (t d : ℕ) (r : SectionRun) (old new : Pages) : Type 0 where
+-- the sections of the run that were in use for the train at another centre are open, or shut where they were wished back; nothing else changed
+pub record BringsBack (t : ℕ) (r : SectionRun) (old new : Pages) : Type 0 where
   pub homes : (s : ℕ) → is_own new s ≡ is_own old s
-  pub entry : (s : ℕ) → entry_at new s ≡ (if is_lent t d r old s then (if wish_at old s then Shut else Open) else entry_at old s)
-  pub wish : (s : ℕ) → wish_at new s ≡ (not (is_lent t d r old s) && wish_at old s)
+  pub entry : (s : ℕ) → entry_at new s ≡ (if is_lent t r old s then (if wish_at old s then Shut else Open) else entry_at old s)
+  pub wish : (s : ℕ) → wish_at new s ≡ (not (is_lent t r old s) && wish_at old s)
 
--- those of the run that are in use for the train at centre d and wished back, rising
-abbrev pub told_back : ℕ → ℕ → SectionRun → Pages → List ℕ
-told_back t d r book = filter (λ s. is_out_for t d (entry_at book s) && wish_at book s) (range_with_len r.first r.count)
+-- those of the run that are in use for the train at another centre and wished back, rising
+abbrev pub told_back : ℕ → SectionRun → Pages → List ℕ
+told_back t r book = filter (λ s. is_out_for t (entry_at book s) && wish_at book s) (range_with_len r.first r.count)
 
 -- ## At a centre
 

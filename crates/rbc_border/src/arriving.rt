@@ -15,16 +15,14 @@ use rbc_line::Line;
 #[derive(Clone, Copy, Debug, PartialEq, Eq)]
 pub struct Arrival {
     pub nid_engine: u32,
-    /// The centre that hands it over.
-    pub from: u8,
     /// Number of the train's track in the line file, from 0.
     pub track: u8,
 }
 
 /// Whether each section of a hand may come to this centre with a train that another centre hands over to it (3.15.1): one of its home
-/// is in use for the train at that centre; any other is of a centre that it has a link with, and not of the next one on the track.
+/// is in use for the train elsewhere; any other is not of the next centre on the track.
 pub fn may_arrive(line: &Line, centre: u8, book: &Book, train: Arrival, hand: SectionRun) -> bool
-    ensures { (k : Centre) → HasBook line.now centre k book.now → result ≡ all_of (links.may_arrive line.now centre k train.from train.nid_engine train.track) (run_of hand) }
+    ensures { (k : Centre) → HasBook line.now centre k book.now → result ≡ all_of (links.may_arrive line.now centre k train.nid_engine train.track) (run_of hand) }
 {
     for k in 0..hand.count {
         let s = u32::from(hand.first) + u32::from(k);
@@ -37,7 +35,7 @@ pub fn may_arrive(line: &Line, centre: u8, book: &Book, train: Arrival, hand: Se
 
 // Whether the section may come so.
 fn arrives(line: &Line, centre: u8, book: &Book, train: Arrival, s: u32) -> bool
-    ensures { (k : Centre) → HasBook line.now centre k book.now → result ≡ links.may_arrive line.now centre k train.from train.nid_engine train.track s }
+    ensures { (k : Centre) → HasBook line.now centre k book.now → result ≡ links.may_arrive line.now centre k train.nid_engine train.track s }
 {
     if s >= u32::from(line.section_count()) {
         return false;
@@ -45,12 +43,9 @@ fn arrives(line: &Line, centre: u8, book: &Book, train: Arrival, s: u32) -> bool
     match line.section(s as u16) {
         Some(section) => {
             if section.home == centre {
-                book.page(s as u16)
-                    .entry
-                    .is_out_for(train.nid_engine, train.from)
+                book.page(s as u16).entry.is_out_for(train.nid_engine)
             } else {
-                line.linked(centre, section.home)
-                    && !is_next(line, centre, train.track, section.home)
+                !is_next(line, centre, train.track, section.home)
             }
         }
         None => false,

@@ -1,4 +1,4 @@
-ghost use Rattle.std.specs.Prelude.{◌≡◌, ◌+◌, ◌≤◌, None, option_map, IfSome};
+ghost use Rattle.std.specs.Prelude.{ℕ, ◌≡◌, ◌+◌, ◌≤◌, None, option_map, IfSome};
 ghost use Rattle.rbc_spec.specs.SectionRuns.{longest};
 ghost use Rattle.rbc_spec.specs.Centre.{Centre, is_open};
 ghost use Rattle.rbc_spec.specs.Frame.{RouteInfo, HasRunRange};
@@ -27,21 +27,21 @@ fn open_run(book: &Book, first: u16, most: u16) -> u16
 }
 
 // Lends a section, where it is open.
-fn lend_one(book: &mut Book, nid_engine: u32, s: u16, to: u8)
-    ensures { LendsRun nid_engine to (one s) book.old book.new }
+fn lend_one(book: &mut Book, nid_engine: u32, s: u16)
+    ensures { LendsRun nid_engine (one s) book.old book.new }
 {
     if let Some(claim) = book.take(s, nid_engine) {
-        book.lend(claim, to);
+        book.lend(claim);
     }
 }
 
 // Lends those of the sections that are open.
-fn lend_run(book: &mut Book, nid_engine: u32, run: SectionRun, to: u8)
+fn lend_run(book: &mut Book, nid_engine: u32, run: SectionRun)
     requires { run.first + run.count ≤ 65535 }
-    ensures { LendsRun nid_engine to (run_of run) book.old book.new }
+    ensures { LendsRun nid_engine (run_of run) book.old book.new }
 {
     for k in 0..run.count {
-        lend_one(book, nid_engine, run.first + k, to);
+        lend_one(book, nid_engine, run.first + k);
     }
 }
 
@@ -55,18 +55,17 @@ pub fn lend(
     nid_engine: u32,
     first: u16,
     most: u16,
-    to: u8,
 ) -> Option<SectionRun>
-    ensures book { IfSome result (λ run. LendsRun nid_engine to (run_of run) book.old book.new) }
+    ensures book { IfSome result (λ run. LendsRun nid_engine (run_of run) book.old book.new) }
     ensures none { result ≡ None → book.new ≡ book.old }
     ensures range { IfSome result (λ run. HasRunRange 0 most (run_of run)) }
-    ensures exact { (k : Centre) → HasBook line.now centre k book.old → route_asked line.now centre to nid_engine first most k
+    ensures exact { (to : ℕ) (k : Centre) → HasBook line.now centre k book.old → route_asked line.now centre to nid_engine first most k
         ≡ sending to (option_map (λ run. RouteInfo nid_engine (run_of run)) result) (with_book book.new k) }
 {
     let section = line.section(first)?;
     let on_track = stretch(line, centre, section.track, first, most);
     let count = open_run(book, first, on_track);
     let run = SectionRun { first, count };
-    lend_run(book, nid_engine, run, to);
+    lend_run(book, nid_engine, run);
     Some(run)
 }

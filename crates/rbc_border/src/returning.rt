@@ -11,30 +11,30 @@ use rbc_allocation::Told;
 use rbc_book::{Back, Book};
 use rbc_hand::SectionRun;
 
-// Brings a section back, where it is out so. Whether the interlocking is to be told.
-fn bring_one(book: &mut Book, nid_engine: u32, from: u8, s: u16) -> bool
-    ensures told { result ≡ (is_out_for nid_engine from (entry_at book.old s) && wish_at book.old s) }
-    ensures book { BringsBack nid_engine from (one s) book.old book.new }
+// Brings a section back, where it is out for the train. Whether the interlocking is to be told.
+fn bring_one(book: &mut Book, nid_engine: u32, s: u16) -> bool
+    ensures told { result ≡ (is_out_for nid_engine (entry_at book.old s) && wish_at book.old s) }
+    ensures book { BringsBack nid_engine (one s) book.old book.new }
 {
-    match book.reclaim(s, nid_engine, from) {
+    match book.reclaim(s, nid_engine) {
         Some(claim) => matches!(book.give_back(claim), Back::Told),
         None => false,
     }
 }
 
-/// Sections come home that were in use for the train at another centre (profile): each of them that is out so is given back. Those that were
+/// Sections come home that were in use for the train at another centre (profile): each of them that is out for it is given back. Those that were
 /// wished back, of which the interlocking is to be told, in rising order.
-pub fn bring_back(book: &mut Book, nid_engine: u32, from: u8, run: SectionRun) -> Told
+pub fn bring_back(book: &mut Book, nid_engine: u32, run: SectionRun) -> Told
     requires most { run.count ≤ 64 }
     requires numbers { run.first + run.count ≤ 65535 }
-    ensures told { result ≡ told_back nid_engine from (run_of run) book.old }
-    ensures book { BringsBack nid_engine from (run_of run) book.old book.new }
+    ensures told { result ≡ told_back nid_engine (run_of run) book.old }
+    ensures book { BringsBack nid_engine (run_of run) book.old book.new }
     ensures exact { (line : LineData) (c : ℕ) (k : Centre) → HasBook line c k book.old
-        → freed line c (is_out_for nid_engine from) (run_of run) k ≡ telling result (with_book book.new k) }
+        → freed line c (is_out_for nid_engine) (run_of run) k ≡ telling result (with_book book.new k) }
 {
     let mut marks = 0;
     for k in 0..run.count {
-        let mark = if bring_one(book, nid_engine, from, run.first + k) {
+        let mark = if bring_one(book, nid_engine, run.first + k) {
             1
         } else {
             0

@@ -25,10 +25,7 @@ fn is_used_for(book: &Book, nid_engine: u32, s: u16) -> bool
 {
     match book.page(s).entry {
         Entry::Taken { nid_engine: user } => user == nid_engine,
-        Entry::Out {
-            nid_engine: user,
-            ..
-        } => user == nid_engine,
+        Entry::Out { nid_engine: user } => user == nid_engine,
         Entry::Shut | Entry::Open => false,
     }
 }

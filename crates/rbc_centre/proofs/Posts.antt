@@ -44,14 +44,11 @@ use Rattle.rbc_centre.proofs.Rows.{all_first, all_rest, frames_more}
 -- a link is to a centre of the line
 pub linked_below : (line : Line) (c d : ℕ) → is_linked line c d ≡ true → d < length line.centres
 linked_below line c d linked =
-    let apart = (and_parts ((is_centre line c && is_centre line d) && not (c == d)) _ linked).0 in
-    let both = (and_parts (is_centre line c && is_centre line d) (not (c == d)) apart).0 in
+    let both = (and_parts (is_centre line c && is_centre line d) (not (c == d)) linked).0 in
     ltb-true d (length line.centres) (and_parts (is_centre line c) (is_centre line d) both).1
 
 pub linked_centre : (line : Line) (c d : ℕ) → is_linked line c d ≡ true → is_centre line d ≡ true
-linked_centre line c d linked =
-    let apart = (and_parts ((is_centre line c && is_centre line d) && not (c == d)) _ linked).0 in
-    (and_parts (is_centre line c) (is_centre line d) (and_parts (is_centre line c && is_centre line d) (not (c == d)) apart).0).1
+linked_centre line c d linked = (and_parts (is_centre line c) (is_centre line d) (and_parts (is_centre line c && is_centre line d) (not (c == d)) linked).0).1
 
 -- where no link is full there are numbers left on each
 has_numbers : (line : Line) (c d : ℕ) (k : centre.Centre) → is_linked line c d ≡ true → has_full_link line c k ≡ false → length (k.sent d) ≤ 65532

@@ -32,27 +32,28 @@ use Rattle.law_base.proofs.Puts.{put_same}
 use Rattle.rbc_handover.specs.Expectations.{expected_from}
 use Rattle.rbc_centre.specs.declared.centre.Centre.{Centre as CentreCode}
 use Rattle.rbc_centre.proofs.States.{of_trains-set, part_of_train, part_of_foreign, number_within}
+use Rattle.rbc_centre.specs.Posts.{to_others}
 use Rattle.rbc_centre.proofs.Steps.{replied}
 
 -- a section that is out is withdrawn
-withdrawn : (line : Line) (c s t d : ℕ) (k : centre.Centre) → is_home line c s ≡ true → k.book s ≡ Out t d
-    → step.unset line c s k ≡ replied (wishing s k) (λ e. if e == d then RouteWithdraw t s ∷ [] else []) [] (Asked s ∷ [])
+withdrawn : (line : Line) (c s t : ℕ) (k : centre.Centre) → is_home line c s ≡ true → k.book s ≡ Out t
+    → step.unset line c s k ≡ replied (wishing s k) (to_others line c (RouteWithdraw t s)) [] (Asked s ∷ [])
 unfolding ◌>>◌
-withdrawn line c s t d k home out = rw (home, out) refl
+withdrawn line c s t k home out = rw (home, out) refl
 
 -- and is of the home
-pub out_at_home : (pages : Pages) (s t d : ℕ) → entry_at pages s ≡ Out t d → is_own pages s ≡ true
-out_at_home pages s t d out = elim (cases_Bool (is_own pages s)) [
+pub out_at_home : (pages : Pages) (s t : ℕ) → entry_at pages s ≡ Out t → is_own pages s ≡ true
+out_at_home pages s t out = elim (cases_Bool (is_own pages s)) [
   | inl own ↦ own
-  | inr foreign ↦ let no : Shut ≡ Out t d = sym (foreign_is_shut pages s foreign) ∙ out in cc
+  | inr foreign ↦ let no : Shut ≡ Out t = sym (foreign_is_shut pages s foreign) ∙ out in cc
 ]
 
 -- what the page of a section shows of it
-pub shown_out : (e : EntryCode) → ((t d : ℕ) → e ≡ entries.Out t d → ⊥) → (t d : ℕ) → entry_of e ≡ Out t d → ⊥
-shown_out entries.Shut apart t d is = cc
-shown_out entries.Open apart t d is = cc
-shown_out (entries.Taken u) apart t d is = cc
-shown_out (entries.Out u e) apart t d is = apart u e refl
+pub shown_out : (e : EntryCode) → ((t : ℕ) → e ≡ entries.Out t → ⊥) → (t : ℕ) → entry_of e ≡ Out t → ⊥
+shown_out entries.Shut apart t is = cc
+shown_out entries.Open apart t is = cc
+shown_out (entries.Taken u) apart t is = cc
+shown_out (entries.Out u) apart t is = apart u refl
 
 module _ (line : Line) (c clock : ℕ) (old new : Pages) (desk : Desk) (links : List (Link Body)) (states : List TrainState) (s : ℕ) (home : is_own old s ≡ is_home line c s) where
   abbrev k : centre.Centre
@@ -98,15 +99,15 @@ module _ (line : Line) (c clock : ℕ) (old new : Pages) (desk : Desk) (links : 
         ∙ sym (left_at_unset line c s k (sym home ∙ own))
 
     -- a section that is out
-    pub out_turns : (t d : ℕ) → is_own old s ≡ true → entry_at old s ≡ Out t d
-        → replied left (λ e. if e == d then RouteWithdraw t s ∷ [] else []) [] (Asked s ∷ []) ≡ step.unset line c s k
+    pub out_turns : (t : ℕ) → is_own old s ≡ true → entry_at old s ≡ Out t
+        → replied left (to_others line c (RouteWithdraw t s)) [] (Asked s ∷ []) ≡ step.unset line c s k
     unfolding stands_for
-    out_turns t d own out =
+    out_turns t own out =
         let used : is_unused (entry_at old s) ≡ false = ap is_unused out in
         let entries : (n : ℕ) → entry_at new n ≡ entry_at old n = λ n. rw (own, used) at (entry n) in
         let wishes : (n : ℕ) → wish_at new n ≡ put (wish_at old) s true n = λ n. rw (own, used) at (wish n) in
-        (λ j. replied (record k { book = λ n. entries n j; wish = λ n. wishes n j }) (λ e. if e == d then RouteWithdraw t s ∷ [] else []) [] (Asked s ∷ []))
-        ∙ sym (withdrawn line c s t d k (sym home ∙ own) out)
+        (λ j. replied (record k { book = λ n. entries n j; wish = λ n. wishes n j }) (to_others line c (RouteWithdraw t s)) [] (Asked s ∷ []))
+        ∙ sym (withdrawn line c s t k (sym home ∙ own) out)
 
     -- a section that is in use for a train
     module _ (t i : ℕ) (before after : TrainState) (sayings : List Saying) (own : is_own old s ≡ true) (taken : entry_at old s ≡ Taken t)
@@ -162,11 +163,11 @@ module _ (line : Line) (c clock : ℕ) (old new : Pages) (desk : Desk) (links : 
   ]
 
 -- a section that is in use and not out is so for a train
-pub user_stands : (e : Entry) → ((t d : ℕ) → e ≡ Out t d → ⊥) → is_unused e ≡ false → (t : ℕ) × (e ≡ Taken t)
+pub user_stands : (e : Entry) → ((t : ℕ) → e ≡ Out t → ⊥) → is_unused e ≡ false → (t : ℕ) × (e ≡ Taken t)
 user_stands Shut here used = cc
 user_stands Open here used = cc
 user_stands (Taken t) here used = (t, refl)
-user_stands (Out t d) here used = absurd (here t d refl)
+user_stands (Out t) here used = absurd (here t refl)
 
 -- what a book answers to an unset says whether the section is in use
 pub done_unused : (e : Entry) → Unset.Done ≡ unset_answer e → is_unused e ≡ true
@@ -191,10 +192,10 @@ pub record IsUser (k : CentreCode) (s i : ℕ) (before : TrainState) (t : ℕ) :
   pub at : slice_get k.trains.items i ≡ Some before
   pub engine : before.supervision.engine ≡ t
 
-pub user_of : (k : CentreCode) (s : ℕ) → ((t d : ℕ) → entry_at k.book s ≡ Out t d → ⊥) → Unset.Asked ≡ unset_answer (entry_at k.book s) → (t : ℕ) × (entry_at k.book s ≡ Taken t)
+pub user_of : (k : CentreCode) (s : ℕ) → ((t : ℕ) → entry_at k.book s ≡ Out t → ⊥) → Unset.Asked ≡ unset_answer (entry_at k.book s) → (t : ℕ) × (entry_at k.book s ≡ Taken t)
 user_of k s here asked = user_stands (entry_at k.book s) here (asked_used (entry_at k.book s) asked)
 
-pub user_at : (k : CentreCode) (s i : ℕ) (before : TrainState) (here : (t d : ℕ) → entry_at k.book s ≡ Out t d → ⊥) (asked : Unset.Asked ≡ unset_answer (entry_at k.book s)) → ((t : ℕ) → entry_at k.book s ≡ Taken t → train_number k.line t ≡ Some i)
+pub user_at : (k : CentreCode) (s i : ℕ) (before : TrainState) (here : (t : ℕ) → entry_at k.book s ≡ Out t → ⊥) (asked : Unset.Asked ≡ unset_answer (entry_at k.book s)) → ((t : ℕ) → entry_at k.book s ≡ Taken t → train_number k.line t ≡ Some i)
     → (i < length k.trains.items → slice_get k.trains.items i ≡ Some before) → IsUser k s i before (user_of k s here asked).0
 user_at k s i before here asked found read =
     let u = user_of k s here asked in
@@ -202,7 +203,7 @@ user_at k s i before here asked found read =
     let within = number_within k.line k.trains.items u.0 i number k.train_count in
     record { taken = u.1; number = number; within = within; at = read within; engine = (k.each_train u.0 i before number (read within)).engine }
 
-pub no_user : (k : CentreCode) (s : ℕ) (here : (t d : ℕ) → entry_at k.book s ≡ Out t d → ⊥) (asked : Unset.Asked ≡ unset_answer (entry_at k.book s)) → ((t : ℕ) → entry_at k.book s ≡ Taken t → train_number k.line t ≡ None) → ⊥
+pub no_user : (k : CentreCode) (s : ℕ) (here : (t : ℕ) → entry_at k.book s ≡ Out t → ⊥) (asked : Unset.Asked ≡ unset_answer (entry_at k.book s)) → ((t : ℕ) → entry_at k.book s ≡ Taken t → train_number k.line t ≡ None) → ⊥
 no_user k s here asked none =
     let u = user_of k s here asked in
     user_number k.line k.number k.clock k.book k.book k.desk k.links k.trains.items s (k.own_sections s) k.sound u.0 u.1 (none u.0 u.1)

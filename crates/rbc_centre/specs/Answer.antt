@@ -28,7 +28,7 @@ Steps view (Err fault) r = IsRefusal fault r
 -- told something
 abbrev pub TakesMemory : Centre → step.Event → Type 0
 TakesMemory k (step.Train m) = (m.body ≡ InitiationOfSession) ⊎ (tells_others m.body ≡ true)
-TakesMemory k (step.Unset s) = (t : ℕ) × (d : ℕ) × (k.book s ≡ Out t d)
+TakesMemory k (step.Unset s) = (t : ℕ) × (k.book s ≡ Out t)
 TakesMemory k (step.Deliver from frame) = Unit {0}
 TakesMemory k event = ⊥
 

@@ -1,6 +1,7 @@
 -- What a step sends: bodies that go on the links, and the frames of them.
 use Rattle.std.specs.Prelude.{◌≡◌, ℕ, ◌+◌, ◌≤◌, ◌==◌, if◌then◌else◌, true, List, [], ◌∷◌, ◌++◌, length, All}
 use Rattle.rbc_spec.specs.SectionRuns.{SectionRun, is_empty}
+use Rattle.rbc_spec.specs.Line.{Line, is_linked}
 use Rattle.rbc_spec.specs.Frame as spec
 use Rattle.rbc_spec.specs.Frame.{RouteReturn, HasBodyRange}
 use Rattle.rbc_spec.specs.Step.{numbered}
@@ -19,6 +20,10 @@ run_home t r = if is_empty r then [] else RouteReturn t r ∷ []
 -- these bodies to one centre
 abbrev pub only : ℕ → List spec.Body → ℕ → List spec.Body
 only to bodies d = if d == to then bodies else []
+
+-- this to each other centre of the line
+abbrev pub to_others : Line → ℕ → spec.Body → ℕ → List spec.Body
+to_others line c body d = if is_linked line c d then body ∷ [] else []
 
 -- there is a link to go on, and the body has a spelling
 pub record IsFit (links : List (Link Body)) (d : ℕ) (b : spec.Body) : Type 0 where

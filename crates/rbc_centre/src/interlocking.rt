@@ -15,10 +15,9 @@ ghost use Rattle.rbc_centre.specs.Views.{outcome_of};
 use crate::centre::Centre;
 use crate::fault::StepFault;
 use crate::outcome::{Outcome, Word};
-use crate::posted::post_letter;
+use crate::posted::post_to_others;
 use rbc_book::{Entry, NotHome, Unset};
 use rbc_linkmsg::Body;
-use rbc_train::Letter;
 use std::alloc::AllocError;
 
 impl Centre {
@@ -66,8 +65,8 @@ impl Centre {
         }
     }
 
-    /// The interlocking takes a section back. A train that has it in its movement authority is asked for it, and the centre that it is
-    /// lent to. Room for the frame is made first.
+    /// The interlocking takes a section back. A train that has it in its movement authority is asked for it, and where it is
+    /// lent each other centre. Room for the frames is made first.
     pub(crate) fn unset(&mut self, s: u16) -> Result<Outcome, AllocError>
         requires time { self.old.clock < 1073741823 }
         requires numbers { has_full_link (line_of self.old) (number_of self.old) (state_of self.old) ≡ false }
@@ -78,18 +77,18 @@ impl Centre {
         ensures memory { OnErr result (TakesMemory (state_of self.old) (step.Unset s)) }
         ensures err { OnErr result (state_of self.new ≡ state_of self.old) }
     {
-        let Entry::Out { nid_engine, centre } = self.book.page(s).entry else {
+        let Entry::Out { nid_engine } = self.book.page(s).entry else {
             return Ok(self.unset_here(s));
         };
         self.reserve_frames()?;
-        Ok(self.withdraw(s, nid_engine, centre))
+        Ok(self.withdraw(s, nid_engine))
     }
 
-    // A section is taken back that is out at this centre, which is asked for it.
-    fn withdraw(&mut self, s: u16, nid_engine: u32, to: u8) -> Outcome
+    // A section is taken back that is out for this train: each other centre is asked for it, as it is not known here which has it.
+    fn withdraw(&mut self, s: u16, nid_engine: u32) -> Outcome
         requires time { self.old.clock < 1073741823 }
         requires numbers { has_full_link (line_of self.old) (number_of self.old) (state_of self.old) ≡ false }
-        requires out { entry_at self.old.book s ≡ spec.Out nid_engine to }
+        requires out { entry_at self.old.book s ≡ spec.Out nid_engine }
         requires frames { links.HasRoom self.old.links 4 }
         requires room { HasFrameRoom self.old.room }
         ensures line { line_of self.new ≡ line_of self.old }
@@ -103,15 +102,21 @@ impl Centre {
             engine: nid_engine,
             section: s,
         };
-        let letter = Letter { to, body };
-        let frames = post_letter(&mut self.links, &mut self.room, self.clock, letter);
+        let frames = post_to_others(
+            &mut self.links,
+            &mut self.room,
+            &self.line,
+            self.number,
+            self.clock,
+            body,
+        );
         Outcome::sent(self.clock, Word::Asked(s), frames)
     }
 
     // A section is taken back that is not out.
     fn unset_here(&mut self, s: u16) -> Outcome
         requires time { self.old.clock < 1073741823 }
-        requires here { (t d : ℕ) → entry_at self.old.book s ≡ spec.Out t d → ⊥ }
+        requires here { (t : ℕ) → entry_at self.old.book s ≡ spec.Out t → ⊥ }
         requires numbers { has_full_link (line_of self.old) (number_of self.old) (state_of self.old) ≡ false }
         ensures line { line_of self.new ≡ line_of self.old }
         ensures number { number_of self.new ≡ number_of self.old }

@@ -11,7 +11,7 @@ ghost use Rattle.rbc_handover.specs.Expectations.{expected_from};
 ghost use Rattle.rbc_spec.specs.Centre.{Expectation};
 ghost use Rattle.rbc_linkmsg.specs.declared.body.Body.{Body as BodyCode};
 ghost use Rattle.rbc_train.specs.Letters.{bodies_in, letters, notices, mail_to};
-ghost use Rattle.rbc_centre.specs.Posts.{MayPost, HasSent, only};
+ghost use Rattle.rbc_centre.specs.Posts.{MayPost, HasSent, only, to_others};
 ghost use Rattle.rbc_centre.specs.Rooms.{HasFrameRoom};
 ghost use Rattle.rbc_centre.specs.Sent.{frames_to};
 
@@ -208,23 +208,39 @@ fn has_no_letter(letter: Option<Letter>, to: u8) -> bool
     }
 }
 
-/// Sends one letter in a step with this stamp.
-pub(crate) fn post_letter(
+/// Tells each other centre of the line this, in a step with this stamp.
+pub(crate) fn post_to_others(
     links: &mut Links<Body>,
     room: &mut FrameRoom,
+    line: &Line,
+    centre: u8,
     stamp: u32,
-    letter: Letter,
+    body: Body,
 ) -> Frames
     requires stamp { (1 ≤ stamp) × (stamp ≤ 1073741823) }
-    requires near { letter.to < 8 }
-    requires may { (d : ℕ) → MayPost links.old d (letters (Some letter) d) }
+    requires linked { (d : ℕ) → has_link links.old d ≡ is_linked line.now centre d }
+    requires may { (d : ℕ) → MayPost links.old d (to_others line.now centre (body_of body) d) }
     requires room { HasFrameRoom room.old }
-    ensures posted { HasPosted body_of stamp (letters (Some letter)) links.old links.new }
-    ensures frames { (d : ℕ) → frames_to result d ≡ numbered stamp (length (sent_to links.old d)) (letters (Some letter) d) }
+    ensures posted { HasPosted body_of stamp (to_others line.now centre (body_of body)) links.old links.new }
+    ensures frames { (d : ℕ) → frames_to result d ≡ numbered stamp (length (sent_to links.old d)) (to_others line.now centre (body_of body) d) }
 {
     let mut list = room.take();
-    post_one(links, &mut list, stamp, letter.to, Some(letter.body));
+    for to in 0..line.centre_count() {
+        let told = body_to(line, centre, to, body);
+        post_one(links, &mut list, stamp, to, told);
+    }
     Frames { list: Some(list) }
+}
+
+// What one centre is told, where it is another of the line.
+fn body_to(line: &Line, centre: u8, to: u8, body: Body) -> Option<Body>
+    ensures { bodies_in result ≡ to_others line.now centre (body_of body) to }
+{
+    if line.linked(centre, to) {
+        Some(body)
+    } else {
+        None
+    }
 }
 
 // Sends a centre this body, where there is one, as the next frame of its link.

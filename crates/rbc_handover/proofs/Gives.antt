@@ -1,28 +1,25 @@
 -- The handover of a train that a centre supervises, by the acts of the rules.
-use Rattle.std.proofs.Common.{◌≡◌, ℕ, ◌+◌, ◌<◌, ◌≤◌, ◌==◌, ◌&&◌, inl, inr, Bool, true, false, cond, not, if◌then◌else◌, List, [], ◌∷◌, ◌++◌, Option, Some, None, is_none, is_some, option_map, refl, sym, ap, ◌∙◌}
+use Rattle.std.proofs.Common.{◌≡◌, ℕ, ◌+◌, ◌==◌, ◌&&◌, true, false, cond, not, if◌then◌else◌, List, [], ◌∷◌, ◌++◌, Option, Some, None, is_none, is_some, option_map, refl, sym, ap, ◌∙◌}
 use Rattle.std.specs.Option.{option_map_or, option_and_then}
-use Rattle.std.specs.List.{list_all, range_with_len}
-use Rattle.std.proofs.lemmas.Bool.{cases_Bool, false≢true}
-use Rattle.law_base.proofs.Lists.{each_of}
+use Rattle.std.proofs.lemmas.Bool.{false≢true}
 use Rattle.std.proofs.lemmas.List.{append-nil}
-use Rattle.rbc_spec.specs.Maps.{has, put}
+use Rattle.rbc_spec.specs.Maps.{has}
 use Rattle.rbc_spec.specs.SectionRuns.{is_empty}
 use Rattle.rbc_spec.specs.Line.{Line}
 use Rattle.rbc_spec.specs.Frame.{Body, Announce, Cancel}
 use Rattle.rbc_spec.specs.Centre.{Centre, Mission, Handing}
-use Rattle.rbc_spec.specs.Acts.{Reply, rest, send, part_at, announce, cancel, change_mission, ◌>>◌}
+use Rattle.rbc_spec.specs.Acts.{Reply, rest, send, part_at, announce, cancel, change_mission, yield, ◌>>◌}
 use Rattle.rbc_spec.specs.Rules.{announce_if_due}
-use Rattle.rbc_spec.specs.Links.{claimed}
+use Rattle.rbc_spec.specs.Links.{taking_over}
 use Rattle.law_base.proofs.Puts.{put_same}
 use Rattle.rbc_handover.specs.declared.handing.HandoverName.{HandoverName}
 use Rattle.rbc_handover.specs.declared.handing.Handing.{Handing as HandingCode}
-use Rattle.rbc_handover.specs.declared.handing.Claimed.{Claimed as ClaimedCode}
-use Rattle.rbc_handover.specs.Handings.{handover_name}
-use Rattle.rbc_handover.specs.Giving.{begun, claimed_by, HasHandover, HasMission, with_handover, with_count, announcing, cancelling}
+use Rattle.rbc_handover.specs.Handings.{kept_as, handover_name}
+use Rattle.rbc_handover.specs.Giving.{begun, is_due, HasMission, with_handover, with_count, announcing, cancelling}
 
 -- a centre that has a handover is the same with it
-pub same_handover : (t : ℕ) (k : Centre) (h : Option Handing) → HasHandover t k h → with_handover t h k ≡ k
-same_handover t k h has = λ i. record k { mission = λ u. put_same t (option_map (λ (m : Mission). record m { handing = h }) (k.mission t)) k.mission (kept (k.mission t) has.has) u i }
+pub same_handover : (t : ℕ) (k : Centre) (h : Option Handing) → option_and_then (λ (m : Mission). m.handing) (k.mission t) ≡ h → with_handover t h k ≡ k
+same_handover t k h has = λ i. record k { mission = λ u. put_same t (option_map (λ (m : Mission). record m { handing = h }) (k.mission t)) k.mission (kept (k.mission t) has) u i }
   where
     kept : (o : Option Mission) → option_and_then (λ (m : Mission). m.handing) o ≡ h → o ≡ option_map (λ (m : Mission). record m { handing = h }) o
     kept None is = refl
@@ -63,7 +60,7 @@ module _ (line : Line) (t d : ℕ) (m : Mission) (k : Centre) where
   announces_no_more (Some h) n stands is counted =
       stands_already h is
       ∙ ap rest ((λ i. record k { announced = counted i })
-      ∙ sym (same_handover t (with_count n k) (Some h) (record { has = ap (option_and_then (λ (x : Mission). x.handing)) is.mission ∙ is.handing })))
+      ∙ sym (same_handover t (with_count n k) (Some h) (ap (option_and_then (λ (x : Mission). x.handing)) is.mission ∙ is.handing)))
 
   -- where none stands, the next number is announced
   pub announces_next : (h now : Option Handing) (n number count : ℕ) → is_some h ≡ false → HasMission t k m h → k.announced ≡ n
@@ -75,24 +72,27 @@ module _ (line : Line) (t d : ℕ) (m : Mission) (k : Centre) where
       announces is some
       ∙ (λ i. announcing line t d m (Some ((next ∙ sym numbered) i)) (with_handover t ((ap (λ x. Some (begun d x)) next ∙ sym begins) i) (with_count ((next ∙ sym counts) i) k)))
 
--- ## Claimed
-
-pub claims : (t d number : ℕ) (k : Centre) (old new : Option Handing) → HasHandover t k old → new ≡ option_map (claimed_by d number) old
-    → change_mission t (claimed d number) k ≡ rest (with_handover t new k)
-claims t d number k old new has is = λ i. rest (record k { mission = put k.mission t (by (k.mission t) has.has i) })
-  where
-    by : (o : Option Mission) → option_and_then (λ (m : Mission). m.handing) o ≡ old → option_map (claimed d number) o ≡ option_map (λ (m : Mission). record m { handing = new }) o
-    by None at = refl
-    by (Some m) at = λ i. Some (record m { handing = (ap (option_map (claimed_by d number)) at ∙ sym is) i })
-
 -- ## Yielded
 
--- one section that fails a test is enough
-pub one_fails : (test : ℕ → Bool) (first count s : ℕ) → first ≤ s → s < first + count → test s ≡ false → list_all test (range_with_len first count) ≡ false
-one_fails test first count s low high fails = elim (cases_Bool (list_all test (range_with_len first count))) [
-  | inl all ↦ absurd (false≢true (sym fails ∙ each_of test first count all s low high))
-  | inr fail ↦ fail
-]
+pub claims : (line : Line) (c d number t : ℕ) (m : Mission) (k : Centre) (old : Option Handing) (result : Option HandingCode)
+    → HasMission t k m old → option_map kept_as result ≡ (if has (is_due d number) old then old else None)
+    → taking_over line c d number t k ≡ option_map_or (λ handing. yield line c t m (kept_as handing) k) result (rest k)
+claims line c d number t m k old result is due =
+    ap (λ o. option_map_or (λ n. option_map_or (λ h. cond (is_due d number h) (yield line c t n h k) (rest k)) n.handing (rest k)) o (rest k)) is.mission
+    ∙ (λ i. option_map_or (λ h. cond (is_due d number h) (yield line c t m h k) (rest k)) (is.handing i) (rest k))
+    ∙ same old
+    ∙ ap (λ o. option_map_or (λ h. yield line c t m h k) o (rest k)) (sym due)
+    ∙ of_code result
+  where
+    same : (o : Option Handing) → option_map_or (λ h. cond (is_due d number h) (yield line c t m h k) (rest k)) o (rest k)
+        ≡ option_map_or (λ h. yield line c t m h k) (cond (has (is_due d number) o) o None) (rest k)
+    same None = refl
+    same (Some h) = elim (is_due d number h) as (λ b. cond b (yield line c t m h k) (rest k) ≡ option_map_or (λ h. yield line c t m h k) (cond b (Some h) None) (rest k)) [ true ↦ refl | false ↦ refl ]
+
+    of_code : (o : Option HandingCode) → option_map_or (λ h. yield line c t m h k) (option_map kept_as o) (rest k)
+        ≡ option_map_or (λ handing. yield line c t m (kept_as handing) k) o (rest k)
+    of_code None = refl
+    of_code (Some handing) = refl
 
 -- ## Cancelled
 

@@ -1,33 +1,24 @@
 -- What the centre that hands over does with the handover of a train.
-use Rattle.std.specs.Prelude.{◌≡◌, ℕ, ◌-◌, ◌==◌, Bool, true, false, ◌&&◌, if◌then◌else◌, [], ◌∷◌, Option, Some, None, option_map, option_and_then}
+use Rattle.std.specs.Prelude.{◌≡◌, ℕ, ◌-◌, ◌==◌, Bool, ◌&&◌, if◌then◌else◌, [], ◌∷◌, Option, Some, None, option_map}
 use Rattle.rbc_spec.specs.Maps.{put}
-use Rattle.rbc_spec.specs.SectionRuns.{SectionRun}
 use Rattle.rbc_spec.specs.Line.{Line, start}
 use Rattle.rbc_spec.specs.Sections.{nid_rbc}
 use Rattle.rbc_spec.specs.Place.{group_start}
 use Rattle.rbc_spec.specs.Message.{Transition}
 use Rattle.rbc_spec.specs.Frame.{Announce, Cancel}
 use Rattle.rbc_spec.specs.Centre.{Centre, Mission, Handing}
-use Rattle.rbc_spec.specs.Acts.{Reply, rest, say, part_at, is_of_two}
+use Rattle.rbc_spec.specs.Acts.{Reply, rest, say, part_at}
 use Rattle.rbc_handover.specs.declared.handing.HandoverName.{HandoverName}
 
 -- the handover to centre d that is announced under this number
 abbrev pub begun : ℕ → ℕ → Handing
-begun d number = record { number = number; to = d; is_claimed = false }
+begun d number = record { number = number; to = d }
 
--- the handover with this number to centre d is claimed; another stays as it is
-abbrev pub claimed_by : ℕ → ℕ → Handing → Handing
-claimed_by d number h = if (h.number == number) && (h.to == d) then record h { is_claimed = true } else h
-
--- it is claimed, and each section of the hand is of home c or of the accepting centre
-abbrev pub is_due : Line → ℕ → SectionRun → Handing → Bool
-is_due line c hand h = h.is_claimed && is_of_two line c h.to hand
+-- the handover stands under this number to centre d, which claims it
+abbrev pub is_due : ℕ → ℕ → Handing → Bool
+is_due d number h = (h.number == number) && (h.to == d)
 
 -- ## A centre that has it
-
--- the centre has this handover of the train; of a train without a mission it has none
-pub record HasHandover (t : ℕ) (k : Centre) (h : Option Handing) : Type 0 where
-  pub has : option_and_then (λ (m : Mission). m.handing) (k.mission t) ≡ h
 
 -- the centre has this mission of the train, with this handover
 pub record HasMission (t : ℕ) (k : Centre) (m : Mission) (h : Option Handing) : Type 0 where

@@ -1,30 +1,29 @@
--- The handover of a train that a centre supervises, as it stands in memory: what its type says, and what it goes by.
-use Rattle.std.specs.Prelude.{ℕ, Bool, true, false, Option, Some, None}
+-- The handover of a train that a centre supervises, as it stands in memory: what it goes by.
+use Rattle.std.specs.Prelude.{ℕ, Option, Some, None}
 use Rattle.rbc_spec.specs.Centre.{Handing}
 use Rattle.rbc_handover.specs.declared.handing.HandoverName.{HandoverName}
 use Rattle.rbc_handover.specs.declared.handing.Handing.{Handing as HandingCode}
 use Rattle.rbc_handover.specs.declared.handover.Handover.{Handover}
 use Rattle.rbc_handover.specs.declared.handover.Handover.TheVariants as handover
 
-abbrev pub number_of : {S : Type 0} → HandingCode S → ℕ
+abbrev pub number_of : HandingCode → ℕ
 number_of handing = handing.number
 
 -- the accepting centre
-abbrev pub centre_of : {S : Type 0} → HandingCode S → ℕ
+abbrev pub centre_of : HandingCode → ℕ
 centre_of handing = handing.to
 
-abbrev pub name_of : {S : Type 0} → HandingCode S → HandoverName
+abbrev pub name_of : HandingCode → HandoverName
 name_of handing = record { number = handing.number; to = handing.to }
 
--- as a mission keeps it, claimed or not
-abbrev pub kept_as : {S : Type 0} → Bool → HandingCode S → Handing
-kept_as is_claimed handing = record { number = handing.number; to = handing.to; is_claimed = is_claimed }
+-- as a mission keeps it
+abbrev pub kept_as : HandingCode → Handing
+kept_as handing = record { number = handing.number; to = handing.to }
 
 -- what a mission keeps
 abbrev pub handing_of : Handover → Option Handing
 handing_of handover.None = None
-handing_of (handover.Announced handing) = Some (kept_as false handing)
-handing_of (handover.Claimed handing) = Some (kept_as true handing)
+handing_of (handover.Announced handing) = Some (kept_as handing)
 
 -- what a handover that is kept goes by
 abbrev pub handover_name : Handing → HandoverName

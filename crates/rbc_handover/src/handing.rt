@@ -1,14 +1,6 @@
 ghost use Rattle.std.specs.Prelude.{◌≡◌};
 ghost use Rattle.rbc_handover.specs.Handings.{number_of, centre_of, name_of};
 
-/// The handover was announced, and the accepting centre has not claimed it.
-#[derive(Clone, Copy, Debug, PartialEq, Eq)]
-pub struct Announced;
-
-/// The accepting centre has claimed the handover: the train has reported there.
-#[derive(Clone, Copy, Debug, PartialEq, Eq)]
-pub struct Claimed;
-
 /// What a handover goes by in the frames to the accepting centre.
 #[derive(Clone, Copy, Debug, PartialEq, Eq)]
 pub struct HandoverName {
@@ -19,16 +11,23 @@ pub struct HandoverName {
 }
 
 /// A handover of a train that its centre has announced, which one holder has. It can't be copied, and not be dropped: it is
-/// yielded or cancelled, the latter also where its centre is dropped. Its phase is `Announced` or `Claimed`.
+/// yielded or cancelled, the latter also where its centre is dropped.
 #[must_use]
 #[derive(Debug)]
-pub struct Handing<S> {
+pub struct Handing {
     number: u32,
     to: u8,
-    phase: S,
 }
 
-impl<S> Handing<S> {
+impl Handing {
+    // The handover that is announced under this number to this centre.
+    pub(crate) fn begin(number: u32, to: u8) -> Handing
+        ensures number { number_of result ≡ number }
+        ensures centre { centre_of result ≡ to }
+    {
+        Handing { number, to }
+    }
+
     /// Its number at the centre that announced it, from 1.
     pub fn number(&self) -> u32
         ensures { result ≡ number_of self.now }
@@ -52,63 +51,21 @@ impl<S> Handing<S> {
             to: self.to,
         }
     }
-}
 
-impl<S: Drop> Handing<S> {
     /// Ends it, where it is cancelled: what it went by, for the frame that tells the accepting centre.
     pub fn cancel(self) -> HandoverName
         ensures { result ≡ name_of self }
     {
-        let Handing {
-            number,
-            to,
-            phase: _,
-        } = self;
+        let Handing { number, to } = self;
         HandoverName { number, to }
     }
-}
 
-impl Handing<Announced> {
-    // The handover that is announced under this number to this centre.
-    pub(crate) fn begin(number: u32, to: u8) -> Handing<Announced>
-        ensures number { number_of result ≡ number }
-        ensures centre { centre_of result ≡ to }
-    {
-        Handing {
-            number,
-            to,
-            phase: Announced,
-        }
-    }
-
-    // The accepting centre has claimed it.
-    pub(crate) fn claim(self) -> Handing<Claimed>
-        ensures { name_of result ≡ name_of self }
-    {
-        let Handing {
-            number,
-            to,
-            phase: Announced,
-        } = self;
-        Handing {
-            number,
-            to,
-            phase: Claimed,
-        }
-    }
-}
-
-impl Handing<Claimed> {
     /// Ends it, where the supervision is yielded: what it went by, for the frame that carries the mission to the accepting centre.
     pub fn yield_to(self) -> HandoverName
         ensures { result ≡ name_of self }
     {
         let name = self.name();
-        let Handing {
-            number: _,
-            to: _,
-            phase: Claimed,
-        } = self;
+        let Handing { number: _, to: _ } = self;
         name
     }
 }

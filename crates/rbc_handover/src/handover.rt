@@ -1,4 +1,4 @@
-ghost use Rattle.std.specs.Prelude.{◌≡◌, ℕ, ◌+◌, ◌<◌, ◌||◌, true, false, if◌then◌else◌, Some, None, is_some, option_map};
+ghost use Rattle.std.specs.Prelude.{◌≡◌, ℕ, ◌+◌, ◌<◌, false, if◌then◌else◌, Some, None, is_some, option_map};
 ghost use Rattle.std.specs.Option.{option_map_or};
 ghost use Rattle.rbc_spec.specs.Maps.{has};
 ghost use Rattle.rbc_spec.specs.SectionRuns.{is_empty};
@@ -7,12 +7,9 @@ ghost use Rattle.rbc_spec.specs.Centre as spec;
 ghost use Rattle.rbc_spec.specs.Acts as acts;
 ghost use Rattle.rbc_spec.specs.Rules as rules;
 ghost use Rattle.rbc_spec.specs.Links as links;
-ghost use Rattle.rbc_hand.specs.SectionRuns.{run_of};
 
 use crate::count::HandoverCount;
-use crate::handing::{Announced, Claimed, Handing, HandoverName};
-use rbc_hand::SectionRun;
-use rbc_line::Line;
+use crate::handing::{Handing, HandoverName};
 use std::mem;
 
 /// What a centre has of the handover of a train that it supervises. It can't be copied, and not be dropped.
@@ -21,15 +18,13 @@ use std::mem;
 pub enum Handover {
     /// None was announced, or it was cancelled.
     None,
-    /// It was announced, and the accepting centre has not claimed it.
-    Announced(Handing<Announced>),
-    /// The accepting centre has claimed it.
-    Claimed(Handing<Claimed>),
+    /// It was announced.
+    Announced(Handing),
 }
 
 impl Handover {
     ghost use Rattle.rbc_handover.specs.Handings.{handing_of, handover_name, kept_as};
-    ghost use Rattle.rbc_handover.specs.Giving.{begun, claimed_by, is_due, HasHandover, HasMission, with_handover, with_count, announcing, cancelling};
+    ghost use Rattle.rbc_handover.specs.Giving.{begun, is_due, HasMission, with_handover, with_count, announcing, cancelling};
 
     /// What the handover that stands goes by. None exactly where none stands.
     pub fn name(&self) -> Option<HandoverName>
@@ -38,7 +33,6 @@ impl Handover {
         match self {
             Handover::None => None,
             Handover::Announced(handing) => Some(handing.name()),
-            Handover::Claimed(handing) => Some(handing.name()),
         }
     }
 
@@ -72,78 +66,25 @@ impl Handover {
         Some(number)
     }
 
-    /// The centre says that it is taking over under this number: the handover is claimed, if it stands under this number to that
-    /// centre. Nothing changes else.
-    pub fn claim(&mut self, from: u8, number: u32)
-        ensures handover { handing_of self.new ≡ option_map (claimed_by from number) (handing_of self.old) }
-        ensures exact { (t : ℕ) (k : spec.Centre) → HasHandover t k (handing_of self.old)
-            → acts.change_mission t (links.claimed from number) k ≡ acts.rest (with_handover t (handing_of self.new) k) }
+    /// The centre says that it is taking over under this number: takes the handover out, if it stands under this number to that centre, so
+    /// that the supervision is yielded (3.15.1). None exactly where it does not, and then nothing changes.
+    pub fn claim(&mut self, from: u8, number: u32) -> Option<Handing>
+        ensures due { option_map kept_as result ≡ (if has (is_due from number) (handing_of self.old) then handing_of self.old else None) }
+        ensures handover { handing_of self.new ≡ (if is_some result then None else handing_of self.old) }
+        ensures exact { (line : track.Line) (c t : ℕ) (m : spec.Mission) (k : spec.Centre) → HasMission t k m (handing_of self.old)
+            → links.taking_over line c from number t k
+            ≡ option_map_or (λ handing. acts.yield line c t m (kept_as handing) k) result (acts.rest k) }
     {
-        let before = mem::replace(self, Handover::None);
-        hold(self, before.claimed(from, number));
-    }
-
-    // The handover after the centre has claimed one under this number.
-    fn claimed(self, from: u8, number: u32) -> Handover
-        ensures { handing_of result ≡ option_map (claimed_by from number) (handing_of self) }
-    {
-        match self {
+        match mem::replace(self, Handover::None) {
             Handover::Announced(handing) => {
                 if handing.number() == number && handing.to() == from {
-                    Handover::Claimed(handing.claim())
+                    Some(handing)
                 } else {
-                    Handover::Announced(handing)
+                    hold(self, Handover::Announced(handing));
+                    None
                 }
             }
-            Handover::Claimed(handing) => Handover::Claimed(handing),
-            Handover::None => Handover::None,
-        }
-    }
-
-    /// Whether it is to be yielded now by this centre: it is claimed, and each section of the hand has this centre or the accepting one as
-    /// its home.
-    pub fn is_due(&self, line: &Line, centre: u8, hand: SectionRun) -> bool
-        ensures { result ≡ has (is_due line.now centre (run_of hand)) (handing_of self.now) }
-    {
-        match self {
-            Handover::Claimed(handing) => is_of_two(line, centre, handing.to(), hand),
-            Handover::Announced(_) => false,
-            Handover::None => false,
-        }
-    }
-
-    /// Takes the handover out where the supervision is to be yielded now (3.15.1). None exactly where it is not, and then nothing changes.
-    pub fn take_due(
-        &mut self,
-        line: &Line,
-        centre: u8,
-        hand: SectionRun,
-    ) -> Option<Handing<Claimed>>
-        ensures due { option_map (kept_as true) result
-            ≡ (if has (is_due line.now centre (run_of hand)) (handing_of self.old) then handing_of self.old else None) }
-        ensures handover { handing_of self.new ≡ (if is_some result then None else handing_of self.old) }
-        ensures exact { (t : ℕ) (m : spec.Mission) (k : spec.Centre)
-            → HasMission t k m (handing_of self.old) → m.hand ≡ run_of hand
-            → acts.yield_if_due line.now centre t k
-            ≡ option_map_or (λ handing. acts.yield line.now centre t m (kept_as true handing) k) result (acts.rest k) }
-    {
-        if !self.is_due(line, centre, hand) {
-            return None;
-        }
-        mem::replace(self, Handover::None).into_claimed()
-    }
-
-    // The handover, if it is claimed. Another ends.
-    fn into_claimed(self) -> Option<Handing<Claimed>>
-        ensures { (h : spec.Handing) → handing_of self ≡ Some h → h.is_claimed ≡ true
-            → option_map (kept_as true) result ≡ Some h }
-    {
-        match self {
-            Handover::Claimed(handing) => Some(handing),
-            other => {
-                other.end();
-                None
-            }
+            Handover::None => None,
         }
     }
 
@@ -157,7 +98,6 @@ impl Handover {
         match mem::replace(self, Handover::None) {
             Handover::None => None,
             Handover::Announced(handing) => Some(handing.cancel()),
-            Handover::Claimed(handing) => Some(handing.cancel()),
         }
     }
 
@@ -166,9 +106,6 @@ impl Handover {
         match self {
             Handover::None => {}
             Handover::Announced(handing) => {
-                handing.cancel();
-            }
-            Handover::Claimed(handing) => {
                 handing.cancel();
             }
         }
@@ -181,27 +118,4 @@ fn hold(held: &mut Handover, handover: Handover)
 {
     let before = mem::replace(held, handover);
     before.end();
-}
-
-// Whether the section is of the line, and has one of these centres as its home.
-fn is_of_either(line: &Line, a: u8, b: u8, s: u32) -> bool
-    ensures { result ≡ (track.is_home line.now a s || track.is_home line.now b s) }
-{
-    if s >= u32::from(line.section_count()) {
-        return false;
-    }
-    line.is_home(a, s as u16) || line.is_home(b, s as u16)
-}
-
-// Whether each of these sections has one of these centres as its home.
-fn is_of_two(line: &Line, a: u8, b: u8, hand: SectionRun) -> bool
-    ensures { result ≡ acts.is_of_two line.now a b (run_of hand) }
-{
-    for k in 0..hand.count {
-        let s = u32::from(hand.first) + u32::from(k);
-        if !is_of_either(line, a, b, s) {
-            return false;
-        }
-    }
-    true
 }

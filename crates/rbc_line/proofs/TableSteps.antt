@@ -1,17 +1,17 @@
 -- The look-up tables, one entry at a time.
 use Rattle.std.proofs.Common.{◌≡◌, ℕ, suc, inl, inr, ◌+◌, ◌%◌, ◌<◌, ◌==◌, ◌≢◌, true, not, cond, ◌&&◌, nat_eq, List, length, get_or, set, take, drop, Option, Some, None, option_map, refl, ap, sym, ◌∙◌, arith, length-set, get_or-set_other, get_or-set_same}
-use Rattle.std.specs.List.{position, find, list_any, slice_get, zip}
+use Rattle.std.specs.List.{position, find, slice_get, zip}
 use Rattle.std.specs.HashMap.{get, Updates}
 use Rattle.std.proofs.lemmas.Bool.{cases_Bool}
 use Rattle.std.proofs.lemmas.Bool.Decides.{nat_tests}
 use Rattle.std.proofs.lemmas.List.{drop-map}
 use Rattle.std.proofs.lemmas.Option.{slice_get-get_or, same_Some}
-use Rattle.rbc_spec.specs.Line.{AreDistinct, Section, is_border, is_registrar, next_centre}
+use Rattle.rbc_spec.specs.Line.{AreDistinct, Section, next_centre}
 use Rattle.rbc_line.specs.declared.parts.Rows.{Rows}
 use Rattle.rbc_line.specs.declared.parts.Section.{Section as SectionRow}
 use Rattle.rbc_line.specs.Tables.{Numbers, HasGuessesOf}
-use Rattle.rbc_line.specs.Views.{section_of, train_of, line_of_rows}
-use Rattle.rbc_line.proofs.Lists.{slice_get_take, position_at, position_more, position_none, zip-map, list_any-map, find-map}
+use Rattle.rbc_line.specs.Views.{section_of, line_of_rows}
+use Rattle.rbc_line.proofs.Lists.{slice_get_take, position_at, position_more, position_none, zip-map, find-map}
 
 -- the elements before a place have other keys
 none_before : {X : Type 0} (key : X → ℕ) (xs : List X) (i : ℕ) (x : X) (q : ℕ) → AreDistinct key xs → slice_get xs i ≡ Some x → (key x == q) ≡ true → position (λ p. key p == q) (take i xs) ≡ None
@@ -75,16 +75,7 @@ home_of_next : (o : Option (SectionRow × SectionRow)) → option_map (λ seam. 
 home_of_next None = refl
 home_of_next (Some seam) = refl
 
--- borders between rows in memory
-pub border_of_rows : (rows : Rows) (a b : ℕ)
-    → list_any (λ seam. ((seam.0.track == seam.1.track) && (seam.0.home == a)) && (seam.1.home == b)) (zip rows.sections.items (drop 1 rows.sections.items)) ≡ is_border (line_of_rows rows) a b
-border_of_rows rows a b =
-    sym (rw (drop-map section_of 1 rows.sections.items, zip-map section_of rows.sections.items (drop 1 rows.sections.items))
-    (list_any-map (λ seam. ((seam.0.track == seam.1.track) && (seam.0.home == a)) && (seam.1.home == b)) pair_of (zip rows.sections.items (drop 1 rows.sections.items))))
-
-pub registrar_of_rows : (rows : Rows) (c : ℕ) → list_any (λ p. p.registrar == c) rows.trains.items ≡ is_registrar (line_of_rows rows) c
-registrar_of_rows rows c = sym (list_any-map (λ p. p.registrar == c) train_of rows.trains.items)
-
+-- the next centre by rows in memory
 pub next_centre_of_rows : (rows : Rows) (c k : ℕ)
     → option_map (λ seam. seam.1.home) (find (λ seam. (((seam.0.track == seam.1.track) && (seam.0.track == k)) && (seam.0.home == c)) && not (seam.1.home == c)) (zip rows.sections.items (drop 1 rows.sections.items)))
     ≡ next_centre (line_of_rows rows) c k

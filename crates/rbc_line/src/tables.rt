@@ -2,7 +2,7 @@
 ghost use Rattle.std.specs.Prelude.{◌≡◌, ℕ, ◌+◌, ◌*◌, ◌<◌, ◌≤◌, ◌==◌, ◌&&◌, length, position, find, Some, IfOk, nat_eq};
 ghost use Rattle.std.specs.List.{zip, All};
 ghost use Rattle.std.specs.HashMap.{get};
-ghost use Rattle.rbc_spec.specs.Line.{AreDistinct, is_border, is_registrar, is_linked, next_centre};
+ghost use Rattle.rbc_spec.specs.Line.{AreDistinct, is_linked, next_centre};
 ghost use Rattle.rbc_line.specs.Tables.{HasGuessesOf, HasLinks, HasNextCentres};
 ghost use Rattle.rbc_line.specs.Views.{line_of_rows};
 
@@ -63,24 +63,6 @@ pub(crate) fn engine_guesses_of(alloc: Global, trains: &[Train]) -> Result<Guess
     Ok(guesses)
 }
 
-/// Whether a section of home b follows one of home a on a track.
-fn is_border(rows: &Rows, a: u8, b: u8) -> bool
-    ensures { result ≡ is_border (line_of_rows rows.now) a b }
-{
-    let sections = rows.sections.as_slice();
-    sections
-        .iter()
-        .zip(sections.iter().skip(1))
-        .any(|(p, q)| p.track == q.track && p.home == a && q.home == b)
-}
-
-/// Whether the supervision right of some train is registered at the centre.
-fn is_registrar(rows: &Rows, c: u8) -> bool
-    ensures { result ≡ is_registrar (line_of_rows rows.now) c }
-{
-    rows.trains.iter().any(|train| train.registrar == c)
-}
-
 /// The centre that follows this one on a track.
 fn next_centre(rows: &Rows, c: u8, track: u8) -> Option<u8>
     ensures { result ≡ next_centre (line_of_rows rows.now) c track }
@@ -95,16 +77,12 @@ fn next_centre(rows: &Rows, c: u8, track: u8) -> Option<u8>
     }
 }
 
-/// Whether two centres are linked.
+/// Whether two centres are linked: any two of the line are.
 fn is_link(rows: &Rows, a: u8, b: u8) -> bool
     ensures { result ≡ is_linked (line_of_rows rows.now) a b }
 {
     let count = rows.centres.len();
-    if a as usize >= count || b as usize >= count || a == b {
-        return false;
-    }
-    let borders = is_border(rows, a, b) || is_border(rows, b, a);
-    borders || is_registrar(rows, a) || is_registrar(rows, b)
+    (a as usize) < count && (b as usize) < count && a != b
 }
 
 /// For each pair of centres whether they are linked.

@@ -66,9 +66,9 @@ HasLinks-more line c n links more link pushed linked taken sent so_far = record 
   sent = λ d. rw pushed (sent_more links link d ∙ put_is (sent_to links) (length links) link.outbox.frames [] d sent (so_far.sent d));
 }
 
-no_and : (a x y : Bool) → ((a && false) && x) && y ≡ false
-no_and true x y = refl
-no_and false x y = refl
+no_and : (a x : Bool) → (a && false) && x ≡ false
+no_and true x = refl
+no_and false x = refl
 
 past_none : {B : Type 0} (links : List (Link B)) (d : ℕ) → length links ≤ d → has_link links d ≡ false
 unfolding has_link
@@ -89,7 +89,7 @@ all_linked line c n links all whole d =
       | inl within ↦ whole.linked d within
       | inr past ↦
           let none : is_centre line d ≡ false = le-ltb d (length line.centres) (omega (arith, all)) in
-          past_none links d (omega (arith, whole.count)) ∙ sym (rw none (no_and (is_centre line c) _ _))
+          past_none links d (omega (arith, whole.count)) ∙ sym (rw none (no_and (is_centre line c) _))
     ]
 
 pub none_linked : {B : Type 0} (line : Line) (c : ℕ) (links : List (Link B)) → links ≡ [] → HasLinks line c 0 links

@@ -65,17 +65,17 @@ module _ (is_meant : Entry → Bool) (entry : Entry) where
 -- ## A token passes
 
 -- the section of a claim
-pub passes_one : (t s to : ℕ) (claim : Claim) (a b : Pages) → claim ≡ claim_on s t → ((k : ℕ) → is_own b k ≡ is_own a k)
-    → ((k : ℕ) → entry_at b k ≡ cond (is_taken_by a claim && (k == section_of claim)) (Out (train_of claim) to) (entry_at a k))
-    → ((k : ℕ) → wish_at b k ≡ wish_at a k) → IsBooked (is_taken_for t) (Out t to) (one s) a b
-passes_one t s to claim a b is homes entry wish = booked_one (is_taken_for t) (Out t to) s a b homes
-    (λ k. entry k ∙ ap (λ (x : Claim). cond (is_taken_by a x && (k == section_of x)) (Out (train_of x) to) (entry_at a k)) is) wish
+pub passes_one : (t s : ℕ) (claim : Claim) (a b : Pages) → claim ≡ claim_on s t → ((k : ℕ) → is_own b k ≡ is_own a k)
+    → ((k : ℕ) → entry_at b k ≡ cond (is_taken_by a claim && (k == section_of claim)) (Out (train_of claim)) (entry_at a k))
+    → ((k : ℕ) → wish_at b k ≡ wish_at a k) → IsBooked (is_taken_for t) (Out t) (one s) a b
+passes_one t s claim a b is homes entry wish = booked_one (is_taken_for t) (Out t) s a b homes
+    (λ k. entry k ∙ ap (λ (x : Claim). cond (is_taken_by a x && (k == section_of x)) (Out (train_of x)) (entry_at a k)) is) wish
 
 -- the name of a section
-pub passes_name : (t s to : ℕ) (held : Held) (token : Token) (lent : Lent) (book : Pages) → token ≡ code.Name lent → token ≡ token_of s held → is_held_as t (is_own book s) held ≡ true
-    → IsBooked (is_taken_for t) (Out t to) (one s) book book
-passes_name t s to (Own u) token lent book name is so = let no : ⊥ = cc in absurd no
-passes_name t s to (Name u home) token lent book name is so = booked_idle (is_taken_for t) (Out t to) s book (ap (is_taken_for t) (foreign_is_shut book s (elim (cases_Bool (is_own book s)) as (λ _. is_own book s ≡ false) [
+pub passes_name : (t s : ℕ) (held : Held) (token : Token) (lent : Lent) (book : Pages) → token ≡ code.Name lent → token ≡ token_of s held → is_held_as t (is_own book s) held ≡ true
+    → IsBooked (is_taken_for t) (Out t) (one s) book book
+passes_name t s (Own u) token lent book name is so = let no : ⊥ = cc in absurd no
+passes_name t s (Name u home) token lent book name is so = booked_idle (is_taken_for t) (Out t) s book (ap (is_taken_for t) (foreign_is_shut book s (elim (cases_Bool (is_own book s)) as (λ _. is_own book s ≡ false) [
   | inl own ↦ absurd (false≢true (sym (ap not own) ∙ so))
   | inr foreign ↦ foreign
 ])))
@@ -94,13 +94,13 @@ front_is h token o is some = by (slice_get h.holds 0) refl (sym is ∙ some)
     by (Some x) at e = record { held = x; at = at; is = sym (same_Some (token_of (h.first + 0) x) token e) }
 
 -- what passes a token that is held so, passes the first section
-pub passes_front : (t to : ℕ) (h : Holding) (token : Token) (o : Option Token) (a b : Pages) → o ≡ token_at h 0 → o ≡ Some token → IsHeldBy t h a
-    → ((s t : ℕ) (held : Held) → token ≡ token_of s held → is_held_as t (is_own a s) held ≡ true → IsBooked (is_taken_for t) (Out t to) (one s) a b)
-    → IsBooked (is_taken_for t) (Out t to) (one h.first) a b
-passes_front t to h token o a b is some so passes =
+pub passes_front : (t : ℕ) (h : Holding) (token : Token) (o : Option Token) (a b : Pages) → o ≡ token_at h 0 → o ≡ Some token → IsHeldBy t h a
+    → ((s t : ℕ) (held : Held) → token ≡ token_of s held → is_held_as t (is_own a s) held ≡ true → IsBooked (is_taken_for t) (Out t) (one s) a b)
+    → IsBooked (is_taken_for t) (Out t) (one h.first) a b
+passes_front t h token o a b is some so passes =
     let found = front_is h token o is some in
     let there : h.first + 0 ≡ h.first = omega arith in
-    subst (λ n. IsBooked (is_taken_for t) (Out t to) (one n) a b) there (passes (h.first + 0) t found.held found.is (so 0 found.held found.at))
+    subst (λ n. IsBooked (is_taken_for t) (Out t) (one n) a b) there (passes (h.first + 0) t found.held found.is (so 0 found.held found.at))
 
 -- ## So many pass
 
@@ -108,38 +108,38 @@ hand_by : (h : Holding) (first : ℕ) (holds : List Held) → h.first ≡ first 
 hand_by h first holds a b i = record { first = a i; holds = b i }
 
 -- so many sections at the front of the hand have passed
-pub record HasPassed (t to k : ℕ) (before now : Holding) (old new : Pages) : Type 0 where
+pub record HasPassed (t k : ℕ) (before now : Holding) (old new : Pages) : Type 0 where
   pub hand : now ≡ hand_rest k before
-  pub book : IsBooked (is_taken_for t) (Out t to) (record { first = before.first; count = k }) old new
+  pub book : IsBooked (is_taken_for t) (Out t) (record { first = before.first; count = k }) old new
 
-pub none_passed : (t to : ℕ) (hand : Holding) (book : Pages) → HasPassed t to 0 hand hand book book
-none_passed t to hand book = record { hand = hand_by hand (hand.first + 0) hand.holds (omega arith) refl; book = booked_none (is_taken_for t) (Out t to) hand.first book }
+pub none_passed : (t : ℕ) (hand : Holding) (book : Pages) → HasPassed t 0 hand hand book book
+none_passed t hand book = record { hand = hand_by hand (hand.first + 0) hand.holds (omega arith) refl; book = booked_none (is_taken_for t) (Out t) hand.first book }
 
-pub more_passed : (t to k : ℕ) (first now next : Holding) (a b c : Pages) → HasPassed t to k first now a b → next ≡ hand_rest 1 now → IsBooked (is_taken_for t) (Out t to) (one now.first) b c → HasPassed t to (k + 1) first next a c
-more_passed t to k first now next a b c so_far cut passes =
+pub more_passed : (t k : ℕ) (first now next : Holding) (a b c : Pages) → HasPassed t k first now a b → next ≡ hand_rest 1 now → IsBooked (is_taken_for t) (Out t) (one now.first) b c → HasPassed t (k + 1) first next a c
+more_passed t k first now next a b c so_far cut passes =
     let begins : now.first ≡ first.first + k = ap (λ (h : Holding). h.first) so_far.hand in
     record {
       hand = cut ∙ ap (hand_rest 1) so_far.hand ∙ hand_by (hand_rest 1 (hand_rest k first)) (first.first + (k + 1)) (drop (k + 1) first.holds) (omega arith) (drop-drop 1 k first.holds);
-      book = booked_then (is_taken_for t) (Out t to) _ (one now.first) _ a b c (λ j. within_more first.first k j ∙ ap (λ x. within (record { first = first.first; count = k }) j || within (one x) j) (sym begins)) so_far.book passes;
+      book = booked_then (is_taken_for t) (Out t) _ (one now.first) _ a b c (λ j. within_more first.first k j ∙ ap (λ x. within (record { first = first.first; count = k }) j || within (one x) j) (sym begins)) so_far.book passes;
     }
 
 -- ## So many come
 
 -- so many sections from a first are in the hand
-pub record HasCome (t from first k : ℕ) (hand : Holding) (old new : Pages) : Type 0 where
+pub record HasCome (t first k : ℕ) (hand : Holding) (old new : Pages) : Type 0 where
   pub count : length hand.holds ≡ k
   pub begins : 0 < k → hand.first ≡ first
   pub held : IsHeldAt t (is_own old) hand
-  pub book : IsBooked (is_out_for t from) (Taken t) (record { first = first; count = k }) old new
+  pub book : IsBooked (is_out_for t) (Taken t) (record { first = first; count = k }) old new
 
-pub none_come : (t from first : ℕ) (hand : Holding) (book : Pages) → is_empty (run hand) ≡ true → HasCome t from first 0 hand book book
-none_come t from first hand book empty =
+pub none_come : (t first : ℕ) (hand : Holding) (book : Pages) → is_empty (run hand) ≡ true → HasCome t first 0 hand book book
+none_come t first hand book empty =
     let none : length hand.holds ≡ 0 = eqb-true (length hand.holds) 0 empty in
     record {
       count = none;
       begins = λ some. absurd (let no : ⊥ = omega (arith, some) in no);
       held = λ i held at. absurd (let inside : i < length hand.holds = slice_get_within hand.holds i held at in let no : ⊥ = omega (arith, inside, none) in no);
-      book = booked_none (is_out_for t from) (Taken t) first book;
+      book = booked_none (is_out_for t) (Taken t) first book;
     }
 
 last_or_before : (xs : List Held) (x : Held) (i : ℕ) (held : Held) → slice_get (xs ++ x ∷ []) i ≡ Some held → (slice_get xs i ≡ Some held) ⊎ ((i ≡ length xs) × (x ≡ held))
@@ -148,13 +148,13 @@ last_or_before [] x (suc i) held at = absurd (none-some held at)
 last_or_before (y ∷ ys) x zero held at = inl at
 last_or_before (y ∷ ys) x (suc i) held at = elim (last_or_before ys x i held at) [ inl e ↦ inl e | inr e ↦ inr (ap suc e.0, e.1) ]
 
-pub more_come : (t from first k s : ℕ) (x : Held) (hand more : Holding) (a b c : Pages) → s ≡ first + k → HasCome t from first k hand a b → more ≡ extended hand s x → is_held_as t (is_own b s) x ≡ true
-    → IsBooked (is_out_for t from) (Taken t) (one s) b c → HasCome t from first (k + 1) more a c
-more_come t from first k s x hand more a b c is before longer so next = record {
+pub more_come : (t first k s : ℕ) (x : Held) (hand more : Holding) (a b c : Pages) → s ≡ first + k → HasCome t first k hand a b → more ≡ extended hand s x → is_held_as t (is_own b s) x ≡ true
+    → IsBooked (is_out_for t) (Taken t) (one s) b c → HasCome t first (k + 1) more a c
+more_come t first k s x hand more a b c is before longer so next = record {
   count = let counted : length more.holds ≡ suc k = ap (λ (h : Holding). length h.holds) longer ∙ long hand.holds ∙ ap suc before.count in omega (arith, counted);
   begins = λ _. ap (λ (h : Holding). h.first) longer ∙ start k refl;
   held = λ i held at. by i held (last_or_before hand.holds x i held (sym (ap (λ (h : Holding). slice_get h.holds i) longer) ∙ at));
-  book = booked_then (is_out_for t from) (Taken t) _ (one s) _ a b c (λ j. within_more first k j ∙ ap (λ n. within (record { first = first; count = k }) j || within (one n) j) (sym is)) before.book next;
+  book = booked_then (is_out_for t) (Taken t) _ (one s) _ a b c (λ j. within_more first k j ∙ ap (λ n. within (record { first = first; count = k }) j || within (one n) j) (sym is)) before.book next;
 }
   where
     long : (xs : List Held) → length (xs ++ x ∷ []) ≡ suc (length xs)
@@ -189,15 +189,15 @@ next_without : (first k : ℕ) → within (record { first = first; count = k }) 
 unfolding within
 next_without first k = grind (nat_tests, arith)
 
-pub next_is_out : (t from first k count : ℕ) (hand : Holding) (a b : Pages) → k < count → HasCome t from first k hand a b
-    → ((s : ℕ) → within (record { first = first; count = count }) s ≡ true → is_own a s ≡ true → is_out_for t from (entry_at a s) ≡ true)
-    → is_own b (first + k) ≡ true → is_out_for t from (entry_at b (first + k)) ≡ true
-next_is_out t from first k count hand a b lt before out own =
-    ap (is_out_for t from) (before.book.entries (first + k) ∙ ap (λ x. cond (x && is_out_for t from (entry_at a (first + k))) (Taken t) (entry_at a (first + k))) (next_without first k))
+pub next_is_out : (t first k count : ℕ) (hand : Holding) (a b : Pages) → k < count → HasCome t first k hand a b
+    → ((s : ℕ) → within (record { first = first; count = count }) s ≡ true → is_own a s ≡ true → is_out_for t (entry_at a s) ≡ true)
+    → is_own b (first + k) ≡ true → is_out_for t (entry_at b (first + k)) ≡ true
+next_is_out t first k count hand a b lt before out own =
+    ap (is_out_for t) (before.book.entries (first + k) ∙ ap (λ x. cond (x && is_out_for t (entry_at a (first + k))) (Taken t) (entry_at a (first + k))) (next_without first k))
     ∙ out (first + k) (next_within first k count lt) (sym (before.book.homes (first + k)) ∙ own)
 
-pub held_by : (t from : ℕ) (r : SectionRun) (hand : Holding) (a b : Pages) → IsBooked (is_out_for t from) (Taken t) r a b → IsHeldAt t (is_own a) hand → IsHeldBy t hand b
-held_by t from r hand a b booked held i x at = ap (λ own. is_held_as t own x) (booked.homes (hand.first + i)) ∙ held i x at
+pub held_by : (t : ℕ) (r : SectionRun) (hand : Holding) (a b : Pages) → IsBooked (is_out_for t) (Taken t) r a b → IsHeldAt t (is_own a) hand → IsHeldBy t hand b
+held_by t r hand a b booked held i x at = ap (λ own. is_held_as t own x) (booked.homes (hand.first + i)) ∙ held i x at
 
 inside : (first k count j : ℕ) → j ≡ first + k → k < count → within (record { first = first; count = count }) j ≡ true
 unfolding within
@@ -205,7 +205,7 @@ inside first k count j e lt = grind (arith, nat_tests)
 
 -- ## What is held of a section that comes
 
-pub held_claim : (t from s : ℕ) (b : Bool) (own : Bool) (claim : Claim) (o : Option Claim) → o ≡ claim_if b s t → o ≡ Some claim → (section_of claim ≡ s) × (is_held_as t own (Own (train_of claim)) ≡ true)
-held_claim t from s b own claim o is some =
+pub held_claim : (t s : ℕ) (b : Bool) (own : Bool) (claim : Claim) (o : Option Claim) → o ≡ claim_if b s t → o ≡ Some claim → (section_of claim ≡ s) × (is_held_as t own (Own (train_of claim)) ≡ true)
+held_claim t s b own claim o is some =
     let on : claim_on s t ≡ claim = (cond_some b (claim_on s t) claim (sym is ∙ some)).1 in
     (ap section_of (sym on), ap (λ (x : Claim). train_of x == t) (sym on) ∙ (elim (eqb_tells t t) as (λ _. (t == t) ≡ true) [ inl e ↦ e.0 | inr e ↦ absurd (e.1 refl) ]))

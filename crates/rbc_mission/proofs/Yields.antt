@@ -46,12 +46,12 @@ none_where (Some x) false e = refl
 -- what is yielded goes off, and no mission stands then
 pub goes_off : (line : Line) (c t number : ℕ) (y : Yielded) (g : Option Handing) (h : Handing) (k : Centre) (hand : Holding) (asked : Option ℕ) (book book' : Pages)
     → h.number ≡ y.handover.number → h.to ≡ y.handover.to → y.is_gone ≡ is_empty (part_at line c y.mission.place.track (run_of y.hand))
-    → HasBook line c k book → IsBooked (is_taken_for t) (Out t y.handover.to) (run_of y.hand) book book' → k.route_ask t ≡ asked
+    → HasBook line c k book → IsBooked (is_taken_for t) (Out t) (run_of y.hand) book book' → k.route_ask t ≡ asked
     → yield line c t (mission_of (run_of y.hand) (run_of y.pool) g y.mission) h k
     ≡ sends_off line c t y (with_supervision (record { number = number; engine = t; mission = None; hand = hand; asked = asked }) (with_book book' k))
 unfolding ◌>>◌
 goes_off line c t number y g h k hand asked book book' numbered to gone has passed question =
-    ap (λ (x : Handing). yield line c t (mission_of (run_of y.hand) (run_of y.pool) g y.mission) x k) (λ i. record { number = numbered i; to = to i; is_claimed = h.is_claimed })
+    ap (λ (x : Handing). yield line c t (mission_of (run_of y.hand) (run_of y.pool) g y.mission) x k) (λ i. record { number = numbered i; to = to i })
     ∙ (λ i. let last = cond (sym gone i) (end_order line c t) rest (state i) in record {
       state = last.state;
       frames = λ d. (append-nil (home d) i ++ off d) ++ last.frames d;
@@ -65,10 +65,10 @@ goes_off line c t number y g h k hand asked book book' numbered to gone has pass
     off : ℕ → List Body
     off d = if d == y.handover.to then Yield y.handover.number t (option_map_or (λ n. n) (k.heard t) 0) y.mission.has_data y.mission.is_ended (yielded_place (place_of y.mission.place)) (run_of y.hand) ∷ [] else []
 
-    state : record k { book = λ s. cond (within (run_of y.hand) s && is_taken_for t (k.book s)) (Out t y.handover.to) (k.book s); mission = put k.mission t None }
+    state : record k { book = λ s. cond (within (run_of y.hand) s && is_taken_for t (k.book s)) (Out t) (k.book s); mission = put k.mission t None }
         ≡ with_supervision (record { number = number; engine = t; mission = None; hand = hand; asked = asked }) (with_book book' k)
     state i = record k {
-      book = λ s. (ap (λ e. cond (within (run_of y.hand) s && is_taken_for t e) (Out t y.handover.to) e) (has.has_book s) ∙ sym (passed.entries s)) i;
+      book = λ s. (ap (λ e. cond (within (run_of y.hand) s && is_taken_for t e) (Out t) e) (has.has_book s) ∙ sym (passed.entries s)) i;
       wish = λ s. (has.has_wish s ∙ sym (passed.wish s)) i;
       mission = put k.mission t None;
       route_ask = λ u. sym (put_same t asked k.route_ask question u) i;

@@ -81,19 +81,17 @@ impl Supervision {
         })
     }
 
-    /// The accepting centre says that it is taking over under this number: the handover is claimed, if it stands under this number to that
-    /// centre. Nothing changes else.
-    pub fn claim(&mut self, from: u8, number: u32)
-        ensures { self.new ≡ record self.old { mission = option_map (links.claimed from number) self.old.mission } }
-    {
-        self.handover.claim(from, number);
-    }
-
-    /// The mission is yielded, where that is due: its handover is claimed, and each section of its hand is of this centre's home or of the accepting
-    /// one's. Then no mission stands here: sections of this home are out for the train at the accepting centre, the names of the others
-    /// and the right go there, and the pool has to be returned. None exactly where it is not due, and then nothing changes.
-    #[inline(always)]
-    pub fn yield_if_due(&mut self, line: &Line, centre: u8, book: &mut Book) -> Option<Yielded>
+    /// The accepting centre says that it is taking over under this number: the mission is yielded, if its handover stands under this number to
+    /// that centre. Then no mission stands here: sections of this home are out for the train, the names of the others and the right go
+    /// there, and the pool has to be returned. None exactly where none stands so, and then nothing changes.
+    pub fn yield_to(
+        &mut self,
+        line: &Line,
+        centre: u8,
+        book: &mut Book,
+        from: u8,
+        number: u32,
+    ) -> Option<Yielded>
         requires held { IsHeldBy self.old.engine self.old.hand book.old }
         ensures none { result ≡ None → (self.new ≡ self.old) × (book.new ≡ book.old) }
         ensures gone { IfSome result (λ y. self.new ≡ record self.old { mission = None; hand = self.new.hand }) }
@@ -101,34 +99,15 @@ impl Supervision {
         ensures held { IsHeldBy self.old.engine self.new.hand book.new }
         ensures homes { (s : ℕ) → is_own book.new s ≡ is_own book.old s }
         ensures exact { (k : spec.Centre) → HasSupervision k self.old → HasBook line.now centre k book.old
-            → acts.yield_if_due line.now centre self.old.engine k
-            ≡ option_map_or (sends_off line.now centre self.old.engine) result acts.rest (with_supervision self.new (with_book book.new k)) }
-    {
-        if !self.handover.stands() {
-            return None;
-        }
-        self.yield_claimed(line, centre, book)
-    }
-
-    // The mission is yielded where that is due, as a handover may stand.
-    #[inline(never)]
-    fn yield_claimed(&mut self, line: &Line, centre: u8, book: &mut Book) -> Option<Yielded>
-        requires held { IsHeldBy self.old.engine self.old.hand book.old }
-        ensures none { result ≡ None → (self.new ≡ self.old) × (book.new ≡ book.old) }
-        ensures gone { IfSome result (λ y. self.new ≡ record self.old { mission = None; hand = self.new.hand }) }
-        ensures was { IfSome result (WasHandedOver self.old) }
-        ensures held { IsHeldBy self.old.engine self.new.hand book.new }
-        ensures homes { (s : ℕ) → is_own book.new s ≡ is_own book.old s }
-        ensures exact { (k : spec.Centre) → HasSupervision k self.old → HasBook line.now centre k book.old
-            → acts.yield_if_due line.now centre self.old.engine k
+            → links.taking_over line.now centre from number self.old.engine k
             ≡ option_map_or (sends_off line.now centre self.old.engine) result acts.rest (with_supervision self.new (with_book book.new k)) }
     {
         let mission = self.mission?;
         let hand = self.hand.run();
-        let handing = self.handover.take_due(line, centre, hand)?;
+        let handing = self.handover.claim(from, number)?;
         let handover = handing.yield_to();
         let pool = self.border.return_all();
-        pass_all(&mut self.hand, self.nid_engine, handover.to, book);
+        pass_all(&mut self.hand, self.nid_engine, book);
         self.mission = None;
         held::let_go(&mut self.right, false).end();
         Some(Yielded {
@@ -141,11 +120,10 @@ impl Supervision {
     }
 
     /// A mission that another centre has yielded goes on here, with these sections and with the right to supervise the train: sections of
-    /// this home, which are out for the train there, are in use for it here again.
+    /// this home, which are out for the train, are in use for it here again.
     pub fn take_up(
         &mut self,
         line: &Line,
-        from: u8,
         mission: MissionFacts,
         sections: SectionRun,
         book: &mut Book,
@@ -156,13 +134,13 @@ impl Supervision {
         requires most { sections.count ≤ 32 }
         requires numbers { sections.first + sections.count ≤ 65535 }
         requires line { sections.first + sections.count ≤ length line.now.sections }
-        requires own { (s : ℕ) → within (run_of sections) s ≡ true → is_own book.old s ≡ true → is_out_for self.old.engine from (entry_at book.old s) ≡ true }
+        requires own { (s : ℕ) → within (run_of sections) s ≡ true → is_own book.old s ≡ true → is_out_for self.old.engine (entry_at book.old s) ≡ true }
         requires right { right ≡ right_of self.old.number }
         ensures supervision { self.new ≡ record self.old { mission = Some (mission_of (run_of sections) no_run None mission); hand = self.new.hand } }
         ensures held { IsHeldBy self.old.engine self.new.hand book.new }
-        ensures book { IsBooked (is_out_for self.old.engine from) (Taken self.old.engine) (run_of sections) book.old book.new }
+        ensures book { IsBooked (is_out_for self.old.engine) (Taken self.old.engine) (run_of sections) book.old book.new }
     {
-        come_all(&mut self.hand, line, sections, self.nid_engine, from, book);
+        come_all(&mut self.hand, line, sections, self.nid_engine, book);
         held::hold(&mut self.right, right);
         self.mission = Some(mission);
     }

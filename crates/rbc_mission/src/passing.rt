@@ -14,13 +14,13 @@ use rbc_book::Book;
 use rbc_hand::{Hand, Lent, SectionRun, Token};
 use rbc_line::Line;
 
-// A token passes to another centre: a section of the book's home is out there from now on, and a name ends.
-fn pass_token(token: Token, to: u8, book: &mut Book)
+// A token passes to another centre: a section of the book's home is out from now on, and a name ends.
+fn pass_token(token: Token, book: &mut Book)
     ensures { (s t : ℕ) (held : Held) → token ≡ token_of s held → is_held_as t (is_own book.old s) held ≡ true
-        → IsBooked (is_taken_for t) (Out t to) (one s) book.old book.new }
+        → IsBooked (is_taken_for t) (Out t) (one s) book.old book.new }
 {
     match token {
-        Token::Own(claim) => book.lend(claim, to),
+        Token::Own(claim) => book.lend(claim),
         Token::Name(lent) => {
             lent.send();
         }
@@ -28,25 +28,25 @@ fn pass_token(token: Token, to: u8, book: &mut Book)
 }
 
 // The first section of the hand passes.
-fn pass_first(hand: &mut Hand, nid_engine: u32, to: u8, book: &mut Book)
+fn pass_first(hand: &mut Hand, nid_engine: u32, book: &mut Book)
     requires held { IsHeldBy nid_engine hand.old book.old }
     requires some { is_empty (run hand.old) ≡ false }
     ensures hand { hand.new ≡ hand_rest 1 hand.old }
-    ensures book { IsBooked (is_taken_for nid_engine) (Out nid_engine to) (one hand.old.first) book.old book.new }
+    ensures book { IsBooked (is_taken_for nid_engine) (Out nid_engine) (one hand.old.first) book.old book.new }
 {
     if let Some(token) = hand.cut_front() {
-        pass_token(token, to, book);
+        pass_token(token, book);
     }
 }
 
-/// All sections of a hand pass to another centre: those of the book's home are out there for the train, and the names of the others end.
-pub(crate) fn pass_all(hand: &mut Hand, nid_engine: u32, to: u8, book: &mut Book)
+/// All sections of a hand pass to another centre: those of the book's home are out for the train, and the names of the others end.
+pub(crate) fn pass_all(hand: &mut Hand, nid_engine: u32, book: &mut Book)
     requires held { IsHeldBy nid_engine hand.old book.old }
     ensures hand { hand.new ≡ hand_rest (length hand.old.holds) hand.old }
-    ensures book { IsBooked (is_taken_for nid_engine) (Out nid_engine to) (run hand.old) book.old book.new }
+    ensures book { IsBooked (is_taken_for nid_engine) (Out nid_engine) (run hand.old) book.old book.new }
 {
     for _ in 0..hand.len() {
-        pass_first(hand, nid_engine, to, book);
+        pass_first(hand, nid_engine, book);
     }
 }
 
@@ -60,16 +60,16 @@ fn home_of(line: &Line, s: u16) -> u8
     }
 }
 
-// What is held of a section that comes with a train from another centre: its claim, where it is of the book's home and was out there,
-// and else its name.
-fn token_from(line: &Line, s: u16, nid_engine: u32, from: u8, book: &mut Book) -> Token
+// What is held of a section that comes with a train from another centre: its claim, where it is of the book's home and was out for
+// the train, and else its name.
+fn token_from(line: &Line, s: u16, nid_engine: u32, book: &mut Book) -> Token
     requires line { s < length line.now.sections }
-    requires own { is_own book.old s ≡ true → is_out_for nid_engine from (entry_at book.old s) ≡ true }
+    requires own { is_own book.old s ≡ true → is_out_for nid_engine (entry_at book.old s) ≡ true }
     ensures section { section_of result ≡ s }
     ensures held { is_held_as nid_engine (is_own book.old s) (held_of result) ≡ true }
-    ensures book { IsBooked (is_out_for nid_engine from) (Taken nid_engine) (one s) book.old book.new }
+    ensures book { IsBooked (is_out_for nid_engine) (Taken nid_engine) (one s) book.old book.new }
 {
-    match book.reclaim(s, nid_engine, from) {
+    match book.reclaim(s, nid_engine) {
         Some(claim) => Token::Own(claim),
         None => Token::Name(Lent::arrive(s, nid_engine, home_of(line, s))),
     }
@@ -99,14 +99,13 @@ fn end_token(token: Token, book: &mut Book) {
     }
 }
 
-/// Sections that come with a train from another centre are in an empty hand: those of the book's home, which were out there for the train,
+/// Sections that come with a train from another centre are in an empty hand: those of the book's home, which were out for the train,
 /// by their claims, and the others by their names.
 pub(crate) fn come_all(
     hand: &mut Hand,
     line: &Line,
     sections: SectionRun,
     nid_engine: u32,
-    from: u8,
     book: &mut Book,
 )
     requires empty { is_empty (run hand.old) ≡ true }
@@ -114,13 +113,13 @@ pub(crate) fn come_all(
     requires most { sections.count ≤ 32 }
     requires numbers { sections.first + sections.count ≤ 65535 }
     requires line { sections.first + sections.count ≤ length line.now.sections }
-    requires own { (s : ℕ) → within (run_of sections) s ≡ true → is_own book.old s ≡ true → is_out_for nid_engine from (entry_at book.old s) ≡ true }
+    requires own { (s : ℕ) → within (run_of sections) s ≡ true → is_own book.old s ≡ true → is_out_for nid_engine (entry_at book.old s) ≡ true }
     ensures run { run hand.new ≡ run_of sections }
     ensures held { IsHeldBy nid_engine hand.new book.new }
-    ensures book { IsBooked (is_out_for nid_engine from) (Taken nid_engine) (run_of sections) book.old book.new }
+    ensures book { IsBooked (is_out_for nid_engine) (Taken nid_engine) (run_of sections) book.old book.new }
 {
     for k in 0..sections.count {
-        let token = token_from(line, sections.first + k, nid_engine, from, book);
+        let token = token_from(line, sections.first + k, nid_engine, book);
         add(hand, token, book);
     }
 }

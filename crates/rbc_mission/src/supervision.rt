@@ -1,4 +1,4 @@
-ghost use Rattle.std.specs.Prelude.{◌≡◌, ◌≤◌, Some, None, option_map, IfOk};
+ghost use Rattle.std.specs.Prelude.{◌≡◌, ◌≤◌, ◌+◌, Some, None, option_map, IfOk};
 ghost use Rattle.rbc_spec.specs.Centre as spec;
 ghost use Rattle.rbc_hand.specs.SectionRuns.{run_of};
 
@@ -89,7 +89,9 @@ impl Supervision {
 
     /// The sections of the movement authority; none where no mission stands.
     pub fn hand(&self) -> SectionRun
-        ensures { run_of result ≡ hand_of self.now }
+        ensures value { run_of result ≡ hand_of self.now }
+        ensures most { result.count ≤ 32 }
+        ensures numbers { result.first + result.count ≤ 65535 }
     {
         if self.mission.is_none() {
             return SectionRun { first: 0, count: 0 };

@@ -1,3 +1,4 @@
 pub mod Facts
 pub mod Requests
 pub mod Answers
+pub mod Standstill

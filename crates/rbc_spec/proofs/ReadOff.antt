@@ -22,7 +22,7 @@ marks_agree w s c a b one two = by_entry ((w.at c).book s) refl
     by_entry centre.Shut is = one.shut is ∙ sym (two.shut is)
     by_entry centre.Open is = one.opened is ∙ sym (two.opened is)
     by_entry (centre.Taken t) is = by_user t (ap (centre.is_used_for t) is ∙ eq-eqb t t refl)
-    by_entry (centre.Out t d) is = by_user t (ap (centre.is_used_for t) is ∙ eq-eqb t t refl)
+    by_entry (centre.Out t) is = by_user t (ap (centre.is_used_for t) is ∙ eq-eqb t t refl)
 
 same_option : {X : Type 0} (a b : Option X) → ((x : X) → a ≡ Some x → b ≡ Some x) → ((x : X) → b ≡ Some x → a ≡ Some x) → a ≡ b
 same_option (Some x) b one two = sym (one x refl)

@@ -1,7 +1,7 @@
 -- The acts that a centre's steps are made of, in the order in which what they say and send comes out.
 use Rattle.std.specs.Prelude.{ℕ, ◌+◌, ◌-◌, ◌*◌, ◌==◌, Bool, true, false, ◌&&◌, ◌||◌, not, if◌then◌else◌, List, [], ◌∷◌, ◌++◌, map, min, Option, Some, None, option_map, is_none, nat_le}
 use Rattle.std.specs.Option.{option_map_or}
-use Rattle.std.specs.List.{filter, list_all, range_with_len}
+use Rattle.std.specs.List.{filter, range_with_len}
 use Rattle.rbc_spec.specs.Maps.{put}
 use Rattle.rbc_spec.specs.SectionRuns.{SectionRun, no_run, most_in_hand, within, behind, is_empty, shared}
 use Rattle.rbc_spec.specs.Line.{Line, is_home, start, registrar}
@@ -174,7 +174,7 @@ announce line t group d m k =
     let border = (part_at line d m.place.track m.hand).first in
     ((send d (Announce number t m.place.track)
     >> become (λ j. record j { announced = number }))
-    >> change_mission t (λ n. record n { handing = Some (record { number = number; to = d; is_claimed = false }) }))
+    >> change_mission t (λ n. record n { handing = Some (record { number = number; to = d }) }))
     >> say t group (Transition (start line border - group_start line m.place) line.nid_c (nid_rbc line d))
     $ k
 
@@ -191,16 +191,7 @@ end_order line c t = where_so (λ k. is_up (k.phase t)) (say t unknown_group (En
 -- the supervision is yielded: the pool goes home, own sections of the hand are lent, and the mission goes in one frame
 abbrev pub yield : Line → ℕ → ℕ → Mission → Handing → Act
 yield line c t m h k =
-    ((returned line c t m.place.track m.pool >> booked (is_taken_for t) (Out t h.to) m.hand)
+    ((returned line c t m.place.track m.pool >> booked (is_taken_for t) (Out t) m.hand)
     >> (set_mission t None >> send h.to (Yield h.number t (option_map_or (λ n. n) (k.heard t) 0) m.has_data m.is_ended (yielded_place m.place) m.hand)))
     >> (if is_empty (part_at line c m.place.track m.hand) then end_order line c t else rest)
     $ k
-
--- each section of the hand is of home c or of the accepting centre
-abbrev pub is_of_two : Line → ℕ → ℕ → SectionRun → Bool
-is_of_two line c d hand = list_all (λ s. is_home line c s || is_home line d s) (range_with_len hand.first hand.count)
-
--- a handover that is claimed is yielded as soon as no third centre's section is in the hand
-abbrev pub yield_if_due : Line → ℕ → ℕ → Act
-yield_if_due line c t = with_mission t (λ m. with_some (λ k. m.handing) (λ h.
-    where_so (λ k. h.is_claimed && is_of_two line c h.to m.hand) (yield line c t m h)))

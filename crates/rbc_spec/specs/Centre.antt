@@ -9,12 +9,12 @@ use Rattle.rbc_spec.specs.Place.{Place}
 use Rattle.rbc_spec.specs.Frame.{Frame}
 
 -- what a home section is used for: not released by the interlocking, released, in use for a train with its claim
--- here, or in use for a train at another centre (profile)
+-- here, or in use for a train elsewhere (profile)
 pub data Entry : Type 0 where
   Shut : Entry
   Open : Entry
   Taken : (t : ℕ) → Entry
-  Out : (t d : ℕ) → Entry
+  Out : (t : ℕ) → Entry
 
 -- how far the communication session with a train has come (3.5.3)
 pub data Phase : Type 0 where
@@ -27,11 +27,10 @@ pub record Proposal : Type 0 where
   pub stamp : ℕ
   pub last_kept : ℕ
 
--- a handover that was announced: its number, the accepting centre, and whether that has claimed it
+-- a handover that was announced: its number, and the accepting centre
 pub record Handing : Type 0 where
   pub number : ℕ
   pub to : ℕ
-  pub is_claimed : Bool
 
 -- a mission that is supervised here: its last place, the hand (the sections of its authority), the pool (lent sections
 -- that follow the hand at once), whether train data are known and the mission is ended, and what stands
@@ -117,14 +116,14 @@ abbrev pub is_taken_for : ℕ → Entry → Bool
 is_taken_for t (Taken u) = u == t
 is_taken_for t e = false
 
-abbrev pub is_out_for : ℕ → ℕ → Entry → Bool
-is_out_for t d (Out u e) = (u == t) && (e == d)
-is_out_for t d e = false
+abbrev pub is_out_for : ℕ → Entry → Bool
+is_out_for t (Out u) = u == t
+is_out_for t e = false
 
--- in use for the train, here or at another centre
+-- in use for the train, here or elsewhere
 abbrev pub is_used_for : ℕ → Entry → Bool
 is_used_for t (Taken u) = u == t
-is_used_for t (Out u d) = u == t
+is_used_for t (Out u) = u == t
 is_used_for t e = false
 
 -- the section is released and of home c

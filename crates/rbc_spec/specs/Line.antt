@@ -1,8 +1,8 @@
 -- The line that the centres supervise: tracks of sections run in one direction, the centre that is home to each
 -- section, the balise group at its start, and the centre where each train's supervision right is registered.
 -- Centres, tracks and sections are numbered from 0, sections over all tracks. A train goes by its NID_ENGINE.
-use Rattle.std.specs.Prelude.{◌≡◌, ℕ, ◌+◌, ◌*◌, ◌<◌, ◌≤◌, ◌==◌, Bool, ◌&&◌, ◌||◌, not, List, length, take, drop, Option, Some, option_map, nat_lt, slice_get, IsTrue}
-use Rattle.std.specs.List.{list_any, zip, find, filter, sum_by, position, All}
+use Rattle.std.specs.Prelude.{◌≡◌, ℕ, ◌+◌, ◌*◌, ◌<◌, ◌≤◌, ◌==◌, Bool, ◌&&◌, not, List, length, take, drop, Option, Some, option_map, nat_lt, slice_get, IsTrue}
+use Rattle.std.specs.List.{zip, find, filter, sum_by, position, All}
 use Rattle.std.specs.Option.{option_map_or}
 use Rattle.std.specs.Char.{is_ascii_alphanumeric}
 use Rattle.rbc_spec.specs.Maps.{has}
@@ -80,19 +80,9 @@ seams line = zip line.sections (drop 1 line.sections)
 abbrev pub is_joint : Section × Section → Bool
 is_joint seam = seam.0.track == seam.1.track
 
--- a section of home b follows one of home a on a track
-abbrev pub is_border : Line → ℕ → ℕ → Bool
-is_border line a b = list_any (λ seam. (is_joint seam && (seam.0.home == a)) && (seam.1.home == b)) (seams line)
-
--- the supervision right of some train is registered at c
-abbrev pub is_registrar : Line → ℕ → Bool
-is_registrar line c = list_any (λ p. p.registrar == c) line.trains
-
--- two centres that exchange frames: homes of neighbouring sections of a track, or one of them a registrar (profile)
+-- two centres that exchange frames: any two (profile)
 abbrev pub is_linked : Line → ℕ → ℕ → Bool
-is_linked line a b =
-    ((is_centre line a && is_centre line b) && not (a == b))
-    && ((is_border line a b || is_border line b a) || (is_registrar line a || is_registrar line b))
+is_linked line a b = (is_centre line a && is_centre line b) && not (a == b)
 
 -- the centre that follows c on a track
 abbrev pub next_centre : Line → ℕ → ℕ → Option ℕ

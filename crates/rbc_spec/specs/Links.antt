@@ -1,17 +1,17 @@
 -- What a centre does with a frame that is the next of its link. A body that names an engine, section, track or group that is
 -- not of the line has no effect, and so has one that no rule below gives one.
-use Rattle.std.specs.Prelude.{ℕ, ◌*◌, ◌==◌, Bool, true, false, ◌&&◌, not, if◌then◌else◌, length, max, Option, Some, None, is_some, is_none, nat_lt, nat_le, option_map}
+use Rattle.std.specs.Prelude.{ℕ, ◌*◌, ◌==◌, Bool, false, ◌&&◌, not, if◌then◌else◌, length, max, Option, Some, None, is_some, is_none, nat_lt, nat_le}
 use Rattle.std.specs.Option.{option_map_or}
 use Rattle.std.specs.List.{find, range_with_len}
 use Rattle.rbc_spec.specs.Maps.{has, put}
 use Rattle.rbc_spec.specs.Maps.{put_pair}
 use Rattle.rbc_spec.specs.SectionRuns.{SectionRun, no_run, within, behind, is_empty, part_before, part_from, longest, all_of}
-use Rattle.rbc_spec.specs.Line.{Line, is_home, is_linked, section, next_centre, train_number, section_of_group}
+use Rattle.rbc_spec.specs.Line.{Line, is_home, section, next_centre, train_number, section_of_group}
 use Rattle.rbc_spec.specs.Sections.{is_on, is_on_track}
 use Rattle.rbc_spec.specs.Place.{Place, group_start}
 use Rattle.rbc_spec.specs.Frame.{Body, AskRight, GiveRight, RefuseRight, ReturnRight, RouteAsk, RouteInfo, RouteWithdraw, RouteReturn, Announce, Cancel, TakingOver, Yield, carried_place}
 use Rattle.rbc_spec.specs.Centre.{Centre, Taken, Out, Mission, Expectation, is_out_for, is_free, is_open, uses_some, is_expected, is_registrar_of}
-use Rattle.rbc_spec.specs.Acts.{Act, become, rest, ◌>>◌, where_so, with_some, with_mission, send, booked, freed, returned, set_mission, change_mission, return_right, propose_if_so, end_order, yield_if_due}
+use Rattle.rbc_spec.specs.Acts.{Act, become, rest, ◌>>◌, where_so, with_some, with_mission, send, booked, freed, returned, set_mission, change_mission, return_right, propose_if_so, end_order, yield}
 use Rattle.rbc_spec.specs.Rules.{choose, drop_wait, begin, reject}
 
 -- the sections of the run are of the line, all of one track
@@ -55,7 +55,7 @@ lendable line c k first most =
 abbrev pub route_asked : Line → ℕ → ℕ → ℕ → ℕ → ℕ → Act
 route_asked line c d t first most k =
     let r = lendable line c k first most in
-    (where_so (λ j. is_some (section line first)) (booked is_open (Out t d) r >> send d (RouteInfo t r))) k
+    (where_so (λ j. is_some (section line first)) (booked is_open (Out t) r >> send d (RouteInfo t r))) k
 
 -- the lent sections follow the hand of a mission that goes on, whose pool is empty
 abbrev pub is_wanted : Line → SectionRun → Mission → Bool
@@ -78,9 +78,9 @@ route_withdrawn line c t s = with_mission t (λ m.
     else propose_if_so line t s)
 
 -- lent sections come home and are given back; a train that is no more to come here is told to end the session
-abbrev pub route_returned : Line → ℕ → ℕ → ℕ → SectionRun → Act
-route_returned line c d t r =
-    freed line c (is_out_for t d) r
+abbrev pub route_returned : Line → ℕ → ℕ → SectionRun → Act
+route_returned line c t r =
+    freed line c (is_out_for t) r
     >> where_so (λ k. not (uses_some line c k t) && ((is_none (k.mission t) && is_none (k.wait t)) && not (is_expected line k t))) (end_order line c t)
 
 -- ## Handover
@@ -97,18 +97,16 @@ is_under number e = has (λ x. x.number == number) e
 abbrev pub cancelled : ℕ → ℕ → ℕ → Act
 cancelled d number t = where_so (λ k. is_under number (k.expects d t)) (expect d t None)
 
--- the handover with this number to that centre is claimed
-abbrev pub claimed : ℕ → ℕ → Mission → Mission
-claimed d number m = record m { handing = option_map (λ h. if (h.number == number) && (h.to == d) then record h { is_claimed = true } else h) m.handing }
-
+-- the handover with this number to that centre is yielded
 abbrev pub taking_over : Line → ℕ → ℕ → ℕ → ℕ → Act
-taking_over line c d number t = change_mission t (claimed d number) >> yield_if_due line c t
+taking_over line c d number t = with_mission t (λ m. with_some (λ k. m.handing) (λ h.
+    where_so (λ k. (h.number == number) && (h.to == d)) (yield line c t m h)))
 
--- a section of a yielded hand: an own one is out for the train at the sender; another is of a linked centre, and not of the next
-abbrev pub may_arrive : Line → ℕ → Centre → ℕ → ℕ → ℕ → ℕ → Bool
-may_arrive line c k d t track s =
-    if is_home line c s then is_out_for t d (k.book s)
-    else has (λ p. is_linked line c p.home && not (has (λ n. n == p.home) (next_centre line c track))) (section line s)
+-- a section of a yielded hand: an own one is out for the train; another is not of the next centre
+abbrev pub may_arrive : Line → ℕ → Centre → ℕ → ℕ → ℕ → Bool
+may_arrive line c k t track s =
+    if is_home line c s then is_out_for t (k.book s)
+    else has (λ p. not (has (λ n. n == p.home) (next_centre line c track))) (section line s)
 
 -- a handover is taken under the number that was announced, after this centre said that it takes over, where neither mission
 -- nor right are here, the hand is a run of the place's track, and the place's group is of that track and not behind its front
@@ -116,13 +114,13 @@ abbrev pub may_take : Line → ℕ → Centre → ℕ → ℕ → ℕ → Place 
 may_take line c k d number t place hand =
     (has (λ e. (e.number == number) && e.is_taking) (k.expects d t) && (is_none (k.mission t) && not (k.has_right t)))
     && ((is_on_track line place.track hand && has (is_on line place.track) (section_of_group line place.group))
-    && (nat_le (10 * group_start line place) place.front && all_of (may_arrive line c k d t place.track) hand))
+    && (nat_le (10 * group_start line place) place.front && all_of (may_arrive line c k t place.track) hand))
 
 -- own sections become claims, the mission goes on here, the later of both stamps is kept, and the expectation ends; then the
 -- first own section of the hand that is wished back is proposed to be cut off
 abbrev pub take_mission : Line → ℕ → ℕ → ℕ → ℕ → Mission → Act
 take_mission line c d t heard m =
-    ((booked (is_out_for t d) (Taken t) m.hand >> set_mission t (Some m))
+    ((booked (is_out_for t) (Taken t) m.hand >> set_mission t (Some m))
     >> (become (λ k. record k { heard = put k.heard t (Some (option_map_or (max heard) (k.heard t) heard)) }) >> expect d t None))
     >> with_some (λ k. find (λ s. is_home line c s && k.wish s) (range_with_len m.hand.first m.hand.count)) (propose_if_so line t)
 
@@ -147,7 +145,7 @@ received line c d (ReturnRight t) = of_train line t (right_returned line c t)
 received line c d (RouteAsk t first most) = of_train line t (route_asked line c d t first most)
 received line c d (RouteInfo t r) = of_train line t (route_told line c d t r)
 received line c d (RouteWithdraw t s) = of_train line t (if is_some (section line s) then route_withdrawn line c t s else rest)
-received line c d (RouteReturn t r) = of_train line t (if all_of (λ s. is_some (section line s)) r then route_returned line c d t r else rest)
+received line c d (RouteReturn t r) = of_train line t (if all_of (λ s. is_some (section line s)) r then route_returned line c t r else rest)
 received line c d (Announce number t track) = of_train line t (if nat_lt track (length line.tracks) then announced d number t else rest)
 received line c d (Cancel number t) = of_train line t (cancelled d number t)
 received line c d (TakingOver number t) = of_train line t (taking_over line c d number t)

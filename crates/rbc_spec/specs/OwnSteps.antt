@@ -1,11 +1,12 @@
 -- The own steps of the one line centre: a train's message that is answered, a set and an unset. Each is a relation, since
 -- the line centre may choose where the rules leave it open.
-use Rattle.std.specs.Prelude.{◌≡◌, ◌+◌, ◌-◌, ◌*◌, ◌≤◌, ◌⊎◌, ℕ, List, [], ◌∷◌, Bool, true, false, ◌&&◌, ◌||◌, not, if◌then◌else◌, Option, Some, None, option_map, nat_le, nat_lt, MatchBool}
+use Rattle.std.specs.Prelude.{◌≡◌, ◌+◌, ◌-◌, ◌*◌, ◌≤◌, ◌⊎◌, ℕ, ◌==◌, List, [], ◌∷◌, ◌++◌, Bool, true, false, ◌&&◌, ◌||◌, not, if◌then◌else◌, Option, Some, None, option_map, nat_le, nat_lt, MatchBool}
 use Rattle.std.specs.Option.{option_map_or}
+use Rattle.std.specs.List.{list_any, range_with_len}
 use Rattle.rbc_spec.specs.Maps.{put, put_pair}
 use Rattle.rbc_spec.specs.SectionRuns.{SectionRun, most_in_hand, within, behind, all_of}
-use Rattle.rbc_spec.specs.Line.{Line, is_home, end}
-use Rattle.rbc_spec.specs.Sections.{is_on}
+use Rattle.rbc_spec.specs.Line.{Line, is_home, start, end}
+use Rattle.rbc_spec.specs.Sections.{section_count, is_on}
 use Rattle.rbc_spec.specs.Place.{Place, covered, is_cleared, group_start, farthest, has_room, fit_place, place_on}
 use Rattle.rbc_spec.specs.Message.{TrainMessage, TrainBody, TrainData, Request, Report, ShorteningGranted, ShorteningRejected, EndOfMission, InitiationOfSession, TerminationOfSession, StartOfMission, SessionEstablished, TrackBody, Authority, DataAcknowledged, SystemVersion, TerminationAcknowledged, TrainRejected, TrainAccepted, unknown_group}
 use Rattle.rbc_spec.specs.Outcome.{Word, Done, Asked, NotHome}
@@ -133,6 +134,22 @@ reported line t c place v =
 abbrev pub release_words : Line → ℕ → (ℕ → Bool) → LineState → List Word
 release_words line c is_released v = told line (λ s. is_released s && is_home line c s) v
 
+-- the train has reached its hand: a section of it begins before the front
+abbrev pub has_reached : Line → LineState → ℕ → Place → Bool
+has_reached line v t place =
+    list_any (λ s. is_given_to t (v.mark s) && nat_lt (10 * start line s) place.front) (range_with_len 0 (section_count line))
+
+-- the sections of the hand ahead of the train: those that begin at the front or past it
+abbrev pub is_ahead_of : Line → LineState → ℕ → Place → ℕ → Bool
+is_ahead_of line v t place s = is_given_to t (v.mark s) && nat_le place.front (10 * start line s)
+
+-- where the train has reached its hand, what lies ahead stops being given
+abbrev pub stopped : Line → ℕ → ℕ → Place → LineState → LineState
+stopped line t c place v = if has_reached line v t place then release line c t (is_ahead_of line v t place) v else v
+
+abbrev pub stopping_words : Line → ℕ → ℕ → Place → LineState → List Word
+stopping_words line t c place v = if has_reached line v t place then release_words line c (is_ahead_of line v t place) v else []
+
 abbrev pub ended : ℕ → LineState → LineState
 ended t v = change_mission t (λ m. record m { is_ended = true; proposal = None }) v
 
@@ -171,9 +188,13 @@ abbrev pub Reports : Line → ℕ → ℕ → Option Place → LineState → Sai
 Reports line t c None v said new = SaysNothing v said new
 Reports line t c (Some place) v said new = Tells (release_words line c (is_cleared_of line v t place) v) (reported line t c place v) said new
 
-abbrev pub Ending : Line → ℕ → ℕ → Option Place → LineState → Said → LineState → Type 0
-Ending line t c None v said new = SaysNothing (ended t v) said new
-Ending line t c (Some place) v said new = Tells (release_words line c (is_cleared_of line v t place) v) (ended t (reported line t c place v)) said new
+-- a report, and at standstill what lies ahead stops being given too; then the mission is ended
+abbrev pub Ending : Line → ℕ → ℕ → Bool → Option Place → LineState → Said → LineState → Type 0
+Ending line t c is_still None v said new = SaysNothing (ended t v) said new
+Ending line t c false (Some place) v said new = Tells (release_words line c (is_cleared_of line v t place) v) (ended t (reported line t c place v)) said new
+Ending line t c true (Some place) v said new =
+    let there = reported line t c place v in
+    Tells (release_words line c (is_cleared_of line v t place) v ++ stopping_words line t c place there) (ended t (stopped line t c place there)) said new
 
 abbrev pub Own : Line → LineState → ℕ → TrainMessage → TrainBody → Said → LineState → Type 0
 Own line v c m InitiationOfSession said new =
@@ -191,7 +212,7 @@ Own line v c m (ShorteningGranted stamp position) said new =
     Tells (shortening_words line m.nid_engine c (place_on line (track_of v m.nid_engine) position) (last_kept_of v m.nid_engine) v)
     (shortened line m.nid_engine c (place_on line (track_of v m.nid_engine) position) (last_kept_of v m.nid_engine) (without_ask m.nid_engine v)) said new
 Own line v c m (ShorteningRejected stamp position) said new = SaysNothing (without_ask m.nid_engine v) said new
-Own line v c m (EndOfMission position) said new = Ending line m.nid_engine c (place_on line (track_of v m.nid_engine) position) v said new
+Own line v c m (EndOfMission position) said new = Ending line m.nid_engine c (position.v_train == 0) (place_on line (track_of v m.nid_engine) position) v said new
 
 -- ## Set and unset
 

@@ -3,7 +3,7 @@ use Rattle.std.specs.Prelude.{◌≡◌, ◌⊎◌, ◌≤◌, ◌<◌, ◌*◌,
 use Rattle.std.specs.List.{Contains, flat_map, count_by}
 use Rattle.std.specs.Option.{option_map_or}
 use Rattle.rbc_spec.specs.SectionRuns.{SectionRun, within}
-use Rattle.rbc_spec.specs.Line.{Line, is_home, end, registrar}
+use Rattle.rbc_spec.specs.Line.{Line, is_home, start, end, registrar}
 use Rattle.rbc_spec.specs.Place.{Place, Position, covered, is_cleared, place_on}
 use Rattle.rbc_spec.specs.Message.{TrainMessage, Report, EndOfMission, ShorteningGranted}
 use Rattle.rbc_spec.specs.Outcome.{Outcome, Told, Done}
@@ -51,7 +51,7 @@ holders line w s =
 -- the train that a section is in use for, as its home has it
 abbrev pub user : centre.Entry → List ℕ
 user (centre.Taken t) = t ∷ []
-user (centre.Out t d) = t ∷ []
+user (centre.Out t) = t ∷ []
 user e = []
 
 -- the frame carries the train's right, alone or with its mission
@@ -78,7 +78,8 @@ pub record IsSound (line : Line) (w : World) : Type 0 where
 -- ## One event
 
 -- the event may free a section of train t: a message of the train is heard at its supervisor, and its report or end of mission clears the
--- section, or it grants the request that stands to keep no section so far, and has not run past what it keeps
+-- section, or it grants the request that stands to keep no section so far, and has not run past what it keeps, or it ends its mission at
+-- standstill, where it has reached its hand, and the section begins at its front or past it
 pub data MayFree (line : Line) (w : World) (t s : ℕ) : Event → Type 0 where
   cleared : (c : ℕ) (m : TrainMessage) (position : Position) (n : centre.Mission) (place : Place)
       → m.nid_engine ≡ t → step.silence line c (w.at c) m ≡ None → (w.at c).mission t ≡ Some n → (m.body ≡ Report position) ⊎ (m.body ≡ EndOfMission position)
@@ -87,6 +88,10 @@ pub data MayFree (line : Line) (w : World) (t s : ℕ) : Event → Type 0 where
       → m.nid_engine ≡ t → step.silence line c (w.at c) m ≡ None → (w.at c).mission t ≡ Some n → n.proposal ≡ Some p
       → m.body ≡ ShorteningGranted p.stamp position → place_on line n.place.track position ≡ Some place
       → place.front ≤ 10 * end line p.last_kept → p.last_kept < s → MayFree line w t s (Bytes c (Ok m))
+  stopped : (c : ℕ) (m : TrainMessage) (position : Position) (n : centre.Mission) (place : Place) (r : ℕ)
+      → m.nid_engine ≡ t → step.silence line c (w.at c) m ≡ None → (w.at c).mission t ≡ Some n → m.body ≡ EndOfMission position → position.v_train ≡ 0
+      → place_on line n.place.track position ≡ Some place → IsGiven w t r → 10 * start line r < place.front → place.front ≤ 10 * start line s
+      → MayFree line w t s (Bytes c (Ok m))
 
 -- what an event did to sections in hands, and what it told the interlocking
 pub record KeepsPromises (line : Line) (w : World) (event : Event) (answer : Answer) (new : World) : Type 0 where

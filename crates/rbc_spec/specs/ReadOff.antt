@@ -119,7 +119,7 @@ mark_of (Some t) entry = Given t
 mark_of None centre.Shut = Shut
 mark_of None centre.Open = Open
 mark_of None (centre.Taken t) = Kept t
-mark_of None (centre.Out t d) = Kept t
+mark_of None (centre.Out t) = Kept t
 
 -- the state that is read off a world: a number of no section is shut
 unfoldable pub read_off : Line → World → LineState

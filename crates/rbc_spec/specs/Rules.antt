@@ -3,14 +3,14 @@ use Rattle.std.specs.Prelude.{ℕ, ◌+◌, ◌-◌, ◌*◌, ◌==◌, Bool, tr
 use Rattle.std.specs.Option.{option_map_or}
 use Rattle.rbc_spec.specs.Maps.{has, put}
 use Rattle.rbc_spec.specs.SectionRuns.{SectionRun, no_run, most_in_hand, within, behind, is_empty, part_before, part_from, joined, longest, passing, all_of}
-use Rattle.rbc_spec.specs.Line.{Line, is_centre, is_home, end, next_centre, registrar}
+use Rattle.rbc_spec.specs.Line.{Line, is_centre, is_home, start, end, next_centre, registrar}
 use Rattle.rbc_spec.specs.Sections.{is_on}
 use Rattle.rbc_spec.specs.Place.{Place, Position, covered, is_cleared, group_start, has_room, place_on, fit_place}
 use Rattle.rbc_spec.specs.Message.{TrainMessage, TrainBody, TrainData, Request, Report, ShorteningGranted, ShorteningRejected, EndOfMission, InitiationOfSession, TerminationOfSession, StartOfMission, SessionEstablished, Authority, DataAcknowledged, SystemVersion, TerminationAcknowledged, TrainRejected, TrainAccepted, unknown_group}
 use Rattle.rbc_spec.specs.Frame.{AskRight, TakingOver}
 use Rattle.rbc_spec.specs.Outcome.{Word}
 use Rattle.rbc_spec.specs.Centre.{Centre, Taken, Phase, Closed, Opened, Up, Mission, Proposal, Expectation, is_open, is_taken_for, is_free, is_registrar_of}
-use Rattle.rbc_spec.specs.Acts.{Act, become, rest, ◌>>◌, where_so, with_some, with_mission, send, say, booked, freed, leave, set_mission, change_mission, return_pool, cancel, close, begun, part_at, announce, ask_route, yield_if_due}
+use Rattle.rbc_spec.specs.Acts.{Act, become, rest, ◌>>◌, where_so, with_some, with_mission, send, say, booked, freed, leave, set_mission, change_mission, return_pool, cancel, close, begun, part_at, announce, ask_route}
 
 -- a word to the interlocking
 abbrev pub tell : Word → Act
@@ -159,15 +159,7 @@ take_over line t k =
 
 abbrev pub report : Line → ℕ → ℕ → Position → Act
 report line c t position k =
-    option_map_or (λ m. (report_here line c t position m >> yield_if_due line c t) k) (k.mission t) (take_over line t k)
-
--- ## End of mission (5.5)
-
-abbrev pub end_mission : Line → ℕ → ℕ → Position → Act
-end_mission line c t position =
-    (with_mission t (report_here line c t position)
-    >> with_mission t (λ m. return_pool line c t m >> change_mission t (λ n. record n { is_ended = true; proposal = None })))
-    >> yield_if_due line c t
+    option_map_or (λ m. report_here line c t position m k) (k.mission t) (take_over line t k)
 
 -- ## Shortening (3.8.6)
 
@@ -188,10 +180,32 @@ granted line c t position m p =
     >> option_map_or
     (λ place. if nat_le place.front (10 * end line p.last_kept) then cut line c t p.last_kept m else rest)
     (place_on line m.place.track position) rest
-    >> yield_if_due line c t
 
 abbrev pub answer_granted : Line → ℕ → ℕ → Position → Act
 answer_granted line c t position = with_mission t (λ m. with_some (λ k. m.proposal) (granted line c t position m))
+
+-- ## End of mission (5.5)
+
+-- how many of the first sections of the hand begin before the front
+abbrev pub reached : Line → Place → Mission → ℕ
+reached line place m = passing (λ s. nat_lt (10 * start line s) place.front) m.hand
+
+-- where the train has reached its hand, what lies ahead of it is cut: the sections that begin at the front or past it
+abbrev pub cut_ahead : Line → ℕ → ℕ → Mission → Place → Act
+cut_ahead line c t m place =
+    let n = reached line place m in
+    if (n == 0) || (n == m.hand.count) then rest else cut line c t (m.hand.first + n - 1) m
+
+-- a train that ends its mission at standstill will not run into what lies ahead
+abbrev pub stand_still : Line → ℕ → ℕ → Position → Mission → Act
+stand_still line c t position m =
+    if position.v_train == 0 then option_map_or (cut_ahead line c t m) (place_on line m.place.track position) rest else rest
+
+abbrev pub end_mission : Line → ℕ → ℕ → Position → Act
+end_mission line c t position =
+    (with_mission t (report_here line c t position)
+    >> with_mission t (stand_still line c t position))
+    >> with_mission t (λ m. return_pool line c t m >> change_mission t (λ n. record n { is_ended = true; proposal = None }))
 
 -- ## A train's message
 

@@ -11,7 +11,7 @@ use Rattle.rbc_spec.specs.Message.{TrainMessage, TrainBody, Request, Report, Sho
 use Rattle.rbc_spec.specs.Frame.{Frame, Body, RouteWithdraw}
 use Rattle.rbc_spec.specs.Outcome.{Reason, reasons_of, StaleStamp, NoSession, ForeignEngine, NoPlace, NotSupervised, NoTrainData, ProposalPending, Unasked, MissionEnded, WrongPhase, Outcome, Done, Asked, NotHome, Taken as LinkAnswer, Next, Old, Early, NoLink}
 use Rattle.rbc_spec.specs.Centre.{Centre, Entry, Shut, Open, Taken, Out, Mission, is_closed, is_up, is_unused, is_expected}
-use Rattle.rbc_spec.specs.Acts.{Act, Reply, become, rest, ◌>>◌, send, hear, propose_if_so}
+use Rattle.rbc_spec.specs.Acts.{Act, Reply, become, rest, ◌>>◌, hear, propose_if_so}
 use Rattle.rbc_spec.specs.Rules.{tell, answered}
 use Rattle.rbc_spec.specs.Links.{received}
 
@@ -79,11 +79,16 @@ silence line c k m = find (holds line c k m) (reasons_of m.body)
 
 -- ## The interlocking
 
+-- each other centre is told that a section that is out is wished back: which of them has it is not known here
+abbrev pub withdraw : Line → ℕ → ℕ → ℕ → Act
+withdraw line c t s k =
+    record { state = k; frames = λ d. if is_linked line c d then RouteWithdraw t s ∷ [] else []; sayings = []; words = [] }
+
 -- a section that is in use is wished back: its hand is proposed to be cut, or it is withdrawn from where it is out
-abbrev pub wished : Line → ℕ → Entry → Act
-wished line s (Taken t) = propose_if_so line t s
-wished line s (Out t d) = send d (RouteWithdraw t s)
-wished line s e = rest
+abbrev pub wished : Line → ℕ → ℕ → Entry → Act
+wished line c s (Taken t) = propose_if_so line t s
+wished line c s (Out t) = withdraw line c t s
+wished line c s e = rest
 
 abbrev pub make : ℕ → Entry → Bool → Act
 make s entry wish = become (λ k. record k { book = put k.book s entry; wish = put k.wish s wish })
@@ -97,7 +102,7 @@ abbrev pub unset : Line → ℕ → ℕ → Act
 unset line c s k =
     if not (is_home line c s) then tell (NotHome s) k
     else (if is_unused (k.book s) then (make s Shut false >> tell (Done s))
-    else ((become (λ j. record j { wish = put j.wish s true }) >> tell (Asked s)) >> wished line s (k.book s))) k
+    else ((become (λ j. record j { wish = put j.wish s true }) >> tell (Asked s)) >> wished line c s (k.book s))) k
 
 -- ## Links
 

@@ -60,15 +60,15 @@ run_of_line line track r a b some is =
       | inr past ↦ absurd (false≢true (sym (ap (λ o. has (λ (q : Section). q.track == track) o) (slice_get_past line.sections last past)) ∙ here))
     ]
 
--- an own section of a run that may arrive is out for the train at the sender
-pub own_out : (line : Line) (c d t track : ℕ) (book : Pages) (r : SectionRun) → ((s : ℕ) → is_own book s ≡ is_home line c s) → all_of (may_arrive line c (with_book book (beginning line c)) d t track) r ≡ true
-    → (s : ℕ) → within r s ≡ true → is_own book s ≡ true → is_out_for t d (entry_at book s) ≡ true
+-- an own section of a run that may arrive is out for the train
+pub own_out : (line : Line) (c t track : ℕ) (book : Pages) (r : SectionRun) → ((s : ℕ) → is_own book s ≡ is_home line c s) → all_of (may_arrive line c (with_book book (beginning line c)) t track) r ≡ true
+    → (s : ℕ) → within r s ≡ true → is_own book s ≡ true → is_out_for t (entry_at book s) ≡ true
 unfolding within
-own_out line c d t track book r homes all s here own =
+own_out line c t track book r homes all s here own =
     let low : r.first ≤ s = grind (arith, nat_tests) in
     let high : s < r.first + r.count = grind (arith, nat_tests) in
-    let arrives : may_arrive line c (with_book book (beginning line c)) d t track s ≡ true = each_of (may_arrive line c (with_book book (beginning line c)) d t track) r.first r.count all s low high in
-    sym (cond-true (is_home line c s) (is_out_for t d (entry_at book s)) _ (sym (homes s) ∙ own)) ∙ arrives
+    let arrives : may_arrive line c (with_book book (beginning line c)) t track s ≡ true = each_of (may_arrive line c (with_book book (beginning line c)) t track) r.first r.count all s low high in
+    sym (cond-true (is_home line c s) (is_out_for t (entry_at book s)) _ (sym (homes s) ∙ own)) ∙ arrives
 
 module _ (line : Line) (c : ℕ) (k : Centre) (p : TrainState) (book : Pages) (rights : Rights) (has_it : HasParts line c k p book rights) (d number : ℕ) (place : Place) (hand : SectionRun) where
   abbrev t : ℕ
@@ -76,13 +76,13 @@ module _ (line : Line) (c : ℕ) (k : Centre) (p : TrainState) (book : Pages) (r
 
   -- whether it may be taken, part by part
   pub may_be_taken : ((is_taking_under number (expected_from p.expectations d) && (is_none p.supervision.mission && not (is_here rights p.supervision.number)))
-      && (((is_on_track line place.track hand && has (is_on line place.track) (section_of_group line place.group)) && nat_le (10 * group_start line place) place.front) && all_of (may_arrive line c k d t place.track) hand))
+      && (((is_on_track line place.track hand && has (is_on line place.track) (section_of_group line place.group)) && nat_le (10 * group_start line place) place.front) && all_of (may_arrive line c k t place.track) hand))
       ≡ may_take line c k d number t place hand
   may_be_taken =
       and_three (is_taking_under number (expected_from p.expectations d) && (is_none p.supervision.mission && not (is_here rights p.supervision.number)))
-      (is_on_track line place.track hand && has (is_on line place.track) (section_of_group line place.group)) (nat_le (10 * group_start line place) place.front) (all_of (may_arrive line c k d t place.track) hand)
+      (is_on_track line place.track hand && has (is_on line place.track) (section_of_group line place.group)) (nat_le (10 * group_start line place) place.front) (all_of (may_arrive line c k t place.track) hand)
       ∙ (λ i. (is_taking_under number (sym (has_it.has_expects d) i) && (is_none (sym has_it.has_mission i) && not (sym has_it.has_right i)))
-      && ((is_on_track line place.track hand && has (is_on line place.track) (section_of_group line place.group)) && (nat_le (10 * group_start line place) place.front && all_of (may_arrive line c k d t place.track) hand)))
+      && ((is_on_track line place.track hand && has (is_on line place.track) (section_of_group line place.group)) && (nat_le (10 * group_start line place) place.front && all_of (may_arrive line c k t place.track) hand)))
 
 -- nothing is within no run
 nothing_within : (s : ℕ) → within no_run s ≡ false
@@ -92,7 +92,7 @@ nothing_within s = grind (arith, nat_tests)
 -- ## It is taken
 
 module _ (line : Line) (c : ℕ) (k : Centre) (p : TrainState) (book : Pages) (rights : Rights) (has_it : HasParts line c k p book rights) (y : Coming) (place : Place) (hand : Holding) (e : List (Option Expectation)) (book' : Pages)
-    (books : IsBooked (is_out_for p.supervision.engine y.from) (Taken p.supervision.engine) (run_of y.hand) book book')
+    (books : IsBooked (is_out_for p.supervision.engine) (Taken p.supervision.engine) (run_of y.hand) book book')
     (ends : (d : ℕ) → expected_from e d ≡ put (expected_from p.expectations) y.from None d) where
   abbrev u : ℕ
   u = p.supervision.engine
@@ -107,11 +107,11 @@ module _ (line : Line) (c : ℕ) (k : Centre) (p : TrainState) (book : Pages) (r
   at = with_parts mid book' rights k
 
   abbrev coming : Act
-  coming = (booked (is_out_for u y.from) (Taken u) m.hand >> set_mission u (Some m))
+  coming = (booked (is_out_for u) (Taken u) m.hand >> set_mission u (Some m))
       >> (become (λ j. record j { heard = put j.heard u (Some (option_map_or (max y.heard) (j.heard u) y.heard)) }) >> expect y.from u None)
 
   comes : coming k ≡ replied (record k {
-    book = λ s. if within m.hand s && is_out_for u y.from (k.book s) then Taken u else k.book s;
+    book = λ s. if within m.hand s && is_out_for u (k.book s) then Taken u else k.book s;
     mission = put k.mission u (Some m);
     heard = put k.heard u (Some (option_map_or (max y.heard) (k.heard u) y.heard));
     expects = put_pair k.expects y.from u None;
@@ -126,7 +126,7 @@ module _ (line : Line) (c : ℕ) (k : Centre) (p : TrainState) (book : Pages) (r
   comes_so =
       comes
       ∙ (λ i. replied (record k {
-        book = λ s. if within m.hand s && is_out_for u y.from (has_it.has_book s i) then Taken u else has_it.has_book s i;
+        book = λ s. if within m.hand s && is_out_for u (has_it.has_book s i) then Taken u else has_it.has_book s i;
         mission = put k.mission u (Some m);
         heard = put k.heard u (Some (option_map_or (max y.heard) (has_it.has_heard i) y.heard));
         expects = expects_are i;

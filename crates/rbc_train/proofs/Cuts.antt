@@ -1,4 +1,4 @@
--- A train grants a request to shorten its authority: the cut is what its definition says.
+-- A hand is cut, as a train has granted or at standstill: the cut is what its definition says.
 use Rattle.std.proofs.Common.{◌≡◌, ℕ, ◌+◌, ◌-◌, ◌<◌, ◌≤◌, ◌==◌, if◌then◌else◌, Bool, true, false, List, [], ◌∷◌, length, max, option_map, option_and_then, is_some, Option, Some, None, refl, sym, ap, ◌∙◌, subst, arith, eqb-true, eq-eqb}
 use Rattle.std.specs.Option.{option_map_or}
 use Rattle.std.proofs.lemmas.Bool.{cond-true, eqb-false}
@@ -7,7 +7,7 @@ use Rattle.rbc_spec.specs.Maps.{put}
 use Rattle.rbc_spec.specs.SectionRuns.{SectionRun, no_run, within, behind, is_empty, part_before, part_from, joined}
 use Rattle.rbc_spec.specs.Line.{Line}
 use Rattle.rbc_spec.specs.Frame.{Cancel}
-use Rattle.rbc_spec.specs.Centre.{Centre, Mission, Handing, Expectation}
+use Rattle.rbc_spec.specs.Centre.{Centre, Mission, Proposal, Handing, Expectation}
 use Rattle.rbc_spec.specs.Acts.{Act, rest, ◌>>◌, leave, set_mission, cancel, close, part_at}
 use Rattle.rbc_spec.specs.Rules.{cut}
 use Rattle.law_base.proofs.Puts.{put_there, put_over}
@@ -67,9 +67,6 @@ module _ (last : ℕ) (hand : SectionRun) where
 
 -- ## The cut
 
-abbrev unasked : Mission → Mission
-unasked m = record m { proposal = None }
-
 -- a mission goes on with this hand: its handover is cancelled, where no section of the accepting centre is left
 module _ (line : Line) (t : ℕ) (e : ℕ → Option Expectation) (k : Centre) where
   abbrev pub goes_on : Mission → Act
@@ -102,7 +99,7 @@ module _ (line : Line) (t : ℕ) (e : ℕ → Option Expectation) (k : Centre) w
   pub cuts_off : (m : Mission) → GoesOn m
   cuts_off m = by_handing m m.handing
 
-module _ (line : Line) (c : ℕ) (k : Centre) (old : TrainState) (book : Pages) (rights : Rights) (has : HasParts line c k old book rights) (n : Mission) (last : ℕ) (there : old.supervision.mission ≡ Some (unasked n))
+module _ (line : Line) (c : ℕ) (k : Centre) (old : TrainState) (book : Pages) (rights : Rights) (has : HasParts line c k old book rights) (n : Mission) (asked : Option Proposal) (last : ℕ) (there : old.supervision.mission ≡ Some (record n { proposal = asked }))
     (few : old.supervision.number < length rights) (e : ℕ → Option Expectation) (left : SupervisionState) (hand : Holding) (book' : Pages) (rights' : Rights) (told : List ℕ) (cancelled : Option HandoverName) (letter : Option Letter) (sections : SectionRunCode)
     (is : left ≡ record old.supervision { mission = with_front line (kept_of last n.hand) n; hand = hand }) (cancels : cancelled ≡ handover_left old.supervision left)
     (frees : FreesRun old.supervision.engine (rest_of (kept_of last n.hand) n.hand) book book') (is_told : told ≡ wished old.supervision.engine (rest_of (kept_of last n.hand) n.hand) book)
@@ -119,14 +116,18 @@ module _ (line : Line) (c : ℕ) (k : Centre) (old : TrainState) (book : Pages) 
   abbrev kept : Mission
   kept = record n { hand = part_before (last + 1) n.hand; pool = no_run; proposal = None }
 
-  form : HasRouteForm (unasked n)
-  form = has.kept.form (unasked n) there
+  -- whichever request stands, if one does
+  abbrev standing : Mission
+  standing = record n { proposal = asked }
+
+  form : HasRouteForm standing
+  form = has.kept.form standing there
 
   away : (s : ℕ) → within n.pool s ≡ true → is_own book s ≡ false
-  away s here = has.homes s ∙ has.kept.pool.away (unasked n) there s here
+  away s here = has.homes s ∙ has.kept.pool.away standing there s here
 
   follows : is_empty n.pool ≡ false → n.pool.first ≡ behind still
-  follows some = has.kept.pool.follows (unasked n) there some ∙ sym (ends_alike last n.hand)
+  follows some = has.kept.pool.follows standing there some ∙ sym (ends_alike last n.hand)
 
   run : run_of sections ≡ joined rear n.pool
   run = goes ∙ same_joined last n.hand n.pool
@@ -148,12 +149,12 @@ module _ (line : Line) (c : ℕ) (k : Centre) (old : TrainState) (book : Pages) 
   by_rest : (b : Bool) → (kept_of last n.hand == 0) ≡ b → cut line c t last n k ≡ posted (mail_to line c t e (mail_home n.place.track sections (cancel_of cancelled) letter)) (replied (with_parts (record old { supervision = left }) book' rights' k) [] told)
   by_rest true none =
       rw (none_kept last n.hand form.some ∙ none) (ap (λ r. (leave line c t n.place.track r >> close line c t n) k) (sym run)
-      ∙ whole_leaves line c k old book rights has (unasked n) there few e left (with_front line (kept_of last n.hand) n) hand book' rights' told letter sections is frees_all tells_all home
+      ∙ whole_leaves line c k old book rights has standing there few e left (with_front line (kept_of last n.hand) n) hand book' rights' told letter sections is frees_all tells_all home
       n.place.track n (rw none refl)
       ∙ ap (λ o. posted (mail_to line c t e (mail_home n.place.track sections (cancel_of o) letter)) (replied (with_parts (record old { supervision = left }) book' rights' k) [] told)) (sym (name_left None (rw none refl))))
   by_rest false some =
       rw (none_kept last n.hand form.some ∙ some) (ap (λ r. (leave line c t n.place.track r >> goes_on line t e k kept) k) (sym run)
-      ∙ part_leaves line c k old book rights has (unasked n) there few e left (with_front line (kept_of last n.hand) n) hand book' rights' told letter sections is frees_all tells_all home
+      ∙ part_leaves line c k old book rights has standing there few e left (with_front line (kept_of last n.hand) n) hand book' rights' told letter sections is frees_all tells_all home
       n.place.track (record kept { handing = still_stands }) (cancel_of (if is_some still_stands then None else option_map handover_name n.handing)) (goes_on line t e k kept) (rw some refl)
       (cuts_off line t e (record k { book = entry_at book'; wish = wish_at book' }) kept)
       ∙ ap (λ o. posted (mail_to line c t e (mail_home n.place.track sections (cancel_of o) letter)) (replied (with_parts (record old { supervision = left }) book' rights' k) [] told))

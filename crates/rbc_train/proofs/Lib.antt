@@ -22,6 +22,7 @@ pub mod Clears
 pub mod Reports
 pub mod Ends
 pub mod Requests
+pub mod Standstill
 pub mod Starts
 pub mod Cuts
 pub mod Shortened

@@ -48,10 +48,10 @@ module _ (line : Line) (c d t : ℕ) (k : Centre) (body : Body) (reply : Reply) 
   takes_withdrawal u s same is =
       taken_as (RouteWithdraw u s) same (of_this (λ v. if is_some (section line s) then route_withdrawn line c v s else rest) u (ap (λ (x : Body). engine_in (body_of x)) (sym same) ∙ of) is)
 
-  pub takes_return : (u : ℕ) (run : SectionRunCode) → body ≡ RouteReturn u run → (if all_of (λ s. is_some (section line s)) (run_of run) then route_returned line c d t (run_of run) else rest) k ≡ reply
+  pub takes_return : (u : ℕ) (run : SectionRunCode) → body ≡ RouteReturn u run → (if all_of (λ s. is_some (section line s)) (run_of run) then route_returned line c t (run_of run) else rest) k ≡ reply
       → received line c d (body_of body) k ≡ reply
   takes_return u run same is =
-      taken_as (RouteReturn u run) same (of_this (λ v. if all_of (λ s. is_some (section line s)) (run_of run) then route_returned line c d v (run_of run) else rest) u (ap (λ (x : Body). engine_in (body_of x)) (sym same) ∙ of) is)
+      taken_as (RouteReturn u run) same (of_this (λ v. if all_of (λ s. is_some (section line s)) (run_of run) then route_returned line c v (run_of run) else rest) u (ap (λ (x : Body). engine_in (body_of x)) (sym same) ∙ of) is)
 
   pub takes_announcement : (number u track : ℕ) → body ≡ Announce number u track → (if nat_lt track (length line.tracks) then announced d number t else rest) k ≡ reply → received line c d (body_of body) k ≡ reply
   takes_announcement number u track same is =

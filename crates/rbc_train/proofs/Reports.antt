@@ -4,29 +4,27 @@ use Rattle.std.specs.Option.{option_map_or}
 use Rattle.std.proofs.lemmas.List.{append-nil}
 use Rattle.std.proofs.lemmas.Option.{same_Some}
 use Rattle.rbc_spec.specs.Maps.{put}
-use Rattle.rbc_spec.specs.Line.{Line, is_home}
+use Rattle.rbc_spec.specs.Line.{Line}
 use Rattle.rbc_spec.specs.Place.{Place, Position, extent, place_on}
 use Rattle.rbc_spec.specs.Message.{TrainMessage, Report}
 use Rattle.rbc_spec.specs.Outcome.{NotSupervised}
 use Rattle.rbc_spec.specs.Centre.{Centre, Up, Mission, Expectation}
-use Rattle.rbc_spec.specs.Acts.{Reply, yield_if_due}
+use Rattle.rbc_spec.specs.Acts.{Reply}
 use Rattle.rbc_spec.specs.Rules.{clear, report_here, take_over}
 use Rattle.rbc_spec.specs.Step.{Train, effect, is_awaited}
 use Rattle.law_base.proofs.Puts.{put_there}
-use Rattle.rbc_book.specs.Book.{Pages, is_own}
-use Rattle.rbc_border.specs.Lending.{HasBook}
+use Rattle.rbc_book.specs.Book.{Pages}
 use Rattle.rbc_handover.specs.Expectations.{expected_from, claims, telling, HasExpectations, with_expectations}
 use Rattle.rbc_handover.specs.declared.announcers.Announcers.{Announcers}
 use Rattle.rbc_right.specs.Rights.{Rights}
 use Rattle.rbc_session.specs.SessionStates.{session_phase}
 use Rattle.rbc_train.specs.Letters.{mail_home, no_sections}
 use Rattle.rbc_train.specs.declared.mail.Notice.TheVariants as notice
-use Rattle.rbc_train.specs.Desk.{HearsTrain, HasTurn, with_parts, with_turn, followed, posted, replied, reply_left, Does}
+use Rattle.rbc_train.specs.Desk.{HearsTrain, with_parts, posted, replied, reply_left, Does}
 use Rattle.rbc_train.specs.declared.heard.Heard.{Heard}
 use Rattle.rbc_train.specs.declared.train.TrainState.{TrainState}
 use Rattle.rbc_train.proofs.Desk.{by_reply, silent_effect, answered_effect, same_parts, has_expectations, expects_left}
 use Rattle.rbc_train.proofs.Turns.{heard_at, parts_heard, left_heard}
-use Rattle.rbc_train.proofs.Yields.{then_yields}
 
 module _ (line : Line) (c : ℕ) (k : Centre) (stamp : ℕ) (old : TrainState) (book : Pages) (rights : Rights) (position : Position) (h : HearsTrain line c k stamp old book rights) where
   abbrev t : ℕ
@@ -60,20 +58,17 @@ module _ (line : Line) (c : ℕ) (k : Centre) (stamp : ℕ) (old : TrainState) (
       ∙ (λ i. posted (λ d. claims t told (λ b. sym (put_there (k.expects b) t (expected_from e b)) i) d) (replied (with_parts new book rights k) [] []))
       ∙ (λ i. posted (λ d. sym (append-nil (claims t told (λ b. put (k.expects b) t (expected_from e b) t) d)) i) (replied (with_parts new book rights k) [] [])))
 
-  -- what the train has cleared leaves its hand, and then its handover may be yielded
-  pub reports : (n : Mission) (place : Place) (mid new : TrainState) (book' book'' : Pages) (rights' : Rights) (first heard : Heard) → session_phase old.session_state ≡ Up → old.supervision.mission ≡ Some n
-      → place_on line n.place.track position ≡ Some place → mid.supervision.engine ≡ t → ((s : ℕ) → is_own book' s ≡ is_home line c s)
-      → Does line c (clear line c t n place) (record old { heard = Some stamp }) book rights mid book' rights' first
-      → ((j : Centre) → HasTurn j mid → HasBook line c j book'
-      → followed (reply_left line c mid.supervision.engine j first) (yield_if_due line c mid.supervision.engine) ≡ reply_left line c mid.supervision.engine (with_turn new book'' j) heard)
-      → new ≡ record mid { said = new.said; supervision = record mid.supervision { mission = new.supervision.mission; hand = new.supervision.hand } }
-      → effect line c k (Train m) ≡ by_reply (reply_left line c t (with_parts new book'' rights' k) heard)
-  reports n place mid new book' book'' rights' first heard up there on engine homes does yields is =
+  -- what the train has cleared leaves its hand
+  pub reports : (n : Mission) (place : Place) (new : TrainState) (book' : Pages) (rights' : Rights) (heard : Heard) → session_phase old.session_state ≡ Up → old.supervision.mission ≡ Some n
+      → place_on line n.place.track position ≡ Some place → new.supervision.engine ≡ t
+      → Does line c (clear line c t n place) (record old { heard = Some stamp }) book rights new book' rights' heard
+      → effect line c k (Train m) ≡ by_reply (reply_left line c t (with_parts new book' rights' k) heard)
+  reports n place new book' rights' heard up there on engine does =
       let at = heard_at line c k stamp old book rights h.parts in
       let stands : k.mission t ≡ Some n = h.parts.has_mission ∙ there in
+      let comes : report_here line c t position n at ≡ reply_left line c t (with_parts new book' rights' at) heard = rw on (does at (parts_heard line c k stamp old book rights h.parts)) in
       answered_effect line c k m _ (rw (h.known, h.parts.has_heard, h.timely, h.parts.has_phase, up, stands, on) refl)
-      (rw stands (then_yields line c t (report_here line c t position n) at mid new book' book'' rights' first heard engine homes (rw on (does at (parts_heard line c k stamp old book rights h.parts))) yields is
-      ∙ ap (λ (x : Centre). reply_left line c t x heard) (left_heard line c k stamp old book rights h.parts new book'' rights' (ap (λ (p : TrainState). p.supervision.engine) is ∙ engine))))
+      (rw stands (comes ∙ ap (λ (x : Centre). reply_left line c t x heard) (left_heard line c k stamp old book rights h.parts new book' rights' engine)))
 
 -- a place on a track is of that track
 pub on_track : (line : Line) (track : ℕ) (position : Position) (p : Place) → place_on line track position ≡ Some p → p.track ≡ track

@@ -121,13 +121,13 @@ module _ (line : Line) (c : ℕ) (k : Centre) (p : TrainState) (book : Pages) (r
 
   -- ## Sections come home
 
-  pub comes_home : (d u : ℕ) (r : SectionRun) (book' : Pages) (told : List ℕ) (after : Act) (q : TrainState) (sayings : List Saying) → u ≡ t → freed line c (is_out_for u d) r k ≡ telling told (with_book book' k)
+  pub comes_home : (u : ℕ) (r : SectionRun) (book' : Pages) (told : List ℕ) (after : Act) (q : TrainState) (sayings : List Saying) → u ≡ t → freed line c (is_out_for u) r k ≡ telling told (with_book book' k)
       → ((s : ℕ) → is_own book' s ≡ is_own book s) → q.supervision.engine ≡ t
       → ((j : Centre) → HasParts line c j p book' rights → after j ≡ replied (with_parts q book' rights j) sayings [])
-      → (freed line c (is_out_for t d) r >> after) k ≡ replied (with_parts q book' rights k) sayings told
-  comes_home d u r book' told after q sayings same frees homes engine next =
+      → (freed line c (is_out_for t) r >> after) k ≡ replied (with_parts q book' rights k) sayings told
+  comes_home u r book' told after q sayings same frees homes engine next =
       let j : Centre = with_parts p book' rights k in
-      in_turn (freed line c (is_out_for t d) r) after k (replied j [] told) (replied (with_parts q book' rights j) sayings [])
-      (ap (λ (e : ℕ). freed line c (is_out_for e d) r k) (sym same) ∙ frees ∙ ap (λ (x : Centre). replied x [] told) (book_left line c k p book rights has book'))
+      in_turn (freed line c (is_out_for t) r) after k (replied j [] told) (replied (with_parts q book' rights j) sayings [])
+      (ap (λ (e : ℕ). freed line c (is_out_for e) r k) (sym same) ∙ frees ∙ ap (λ (x : Centre). replied x [] told) (book_left line c k p book rights has book'))
       (next j (has_left line c k p p book book' rights rights has homes has.kept))
       ∙ (λ i. record { state = parts_over p q book' book' rights rights k engine i; frames = λ d. []; sayings = sayings; words = append-nil (map (λ s. Told s) told) i })

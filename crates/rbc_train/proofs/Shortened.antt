@@ -5,11 +5,10 @@ use Rattle.rbc_spec.specs.Line.{Line, end}
 use Rattle.rbc_spec.specs.Place.{Position}
 use Rattle.rbc_spec.specs.Message.{TrainMessage, ShorteningGranted}
 use Rattle.rbc_spec.specs.Centre.{Centre, Up, Mission, Proposal, Expectation}
-use Rattle.rbc_spec.specs.Acts.{Act, rest, ◌>>◌, change_mission, yield_if_due}
+use Rattle.rbc_spec.specs.Acts.{Act, rest, ◌>>◌, change_mission}
 use Rattle.rbc_spec.specs.Step.{Train, effect, is_unasked}
 use Rattle.law_base.proofs.Acts.{then_rest}
-use Rattle.rbc_book.specs.Book.{Pages, is_own}
-use Rattle.rbc_border.specs.Lending.{HasBook}
+use Rattle.rbc_book.specs.Book.{Pages}
 use Rattle.rbc_handover.specs.Handings.{handover_name}
 use Rattle.rbc_handover.specs.declared.handing.HandoverName.{HandoverName}
 use Rattle.rbc_right.specs.Rights.{Rights, right_of}
@@ -26,19 +25,17 @@ use Rattle.rbc_allocation.specs.Sections.{FreesRun, rest_of, wished}
 use Rattle.rbc_mission.specs.Supervisions.{SupervisionState, hand_of, handing_in, with_front, cut_run, right_left, handover_left}
 use Rattle.rbc_mission.specs.declared.held.HeldRight.{HeldRight}
 use Rattle.rbc_mission.specs.declared.held.HeldRight.TheVariants.{Nothing as Nothing_held, Held}
-use Rattle.rbc_train.specs.Desk.{HasParts, HasTurn, HearsTrain, IsKeptAt, with_parts, with_turn, followed, replied, reply_left}
+use Rattle.rbc_train.specs.Desk.{HasParts, HearsTrain, IsKeptAt, with_parts, replied, reply_left}
 use Rattle.rbc_train.specs.Homes.{GoesHome}
-use Rattle.rbc_train.specs.Letters.{cancel_of, mail_home, mail_to, no_sections}
+use Rattle.rbc_train.specs.Letters.{cancel_of, mail_home, mail_of, mail_to}
 use Rattle.rbc_train.specs.declared.heard.Heard.{Heard}
 use Rattle.rbc_train.specs.declared.letter.Letter.{Letter}
-use Rattle.rbc_train.specs.declared.mail.Notice.TheVariants as notice
 use Rattle.rbc_train.specs.declared.train.TrainState.{TrainState}
 use Rattle.rbc_train.proofs.Cuts.{kept_of, cuts}
 use Rattle.rbc_train.proofs.Requests.{some_mapped}
 use Rattle.rbc_train.proofs.Desk.{by_reply, answered_effect, with_mission, mission_changed}
 use Rattle.rbc_train.proofs.Turns.{heard_at, parts_heard, left_heard, does_then, has_left}
 use Rattle.rbc_train.proofs.Kept.{kept_changed}
-use Rattle.rbc_train.proofs.Yields.{then_yields}
 
 -- the request that stands, where the answer is to it
 pub asked_is : (f : ProposalCode → Cut) (o : Option ProposalCode) (stamp : ℕ) (x : Cut) → on_asked f o stamp ≡ Ok x → (p : ProposalCode) × (o ≡ Some p) × (f p ≡ x)
@@ -95,28 +92,21 @@ module _ (line : Line) (c : ℕ) (k : Centre) (stamp : ℕ) (old : TrainState) (
   mid_has : HasParts line c (with_parts mid book rights at) mid book rights
   mid_has = has_left line c at (record old { heard = Some stamp }) mid book book rights rights has (λ s. refl) mid_kept
 
-  -- what an answer comes to, and then a yield
-  answers : (act : Act) (left new : TrainState) (book' book'' : Pages) (rights' : Rights) (first last : Heard) → freeing line c t position n p ≡ act → left.supervision.engine ≡ t → ((s : ℕ) → is_own book' s ≡ is_own book s)
-      → (change_mission t unasked >> act) at ≡ reply_left line c t (with_parts left book' rights' at) first
-      → ((j : Centre) → HasTurn j left → HasBook line c j book'
-      → followed (reply_left line c left.supervision.engine j first) (yield_if_due line c left.supervision.engine) ≡ reply_left line c left.supervision.engine (with_turn new book'' j) last)
-      → new ≡ record left { said = new.said; supervision = record left.supervision { mission = new.supervision.mission; hand = new.supervision.hand } }
-      → effect line c k (Train m) ≡ by_reply (reply_left line c t (with_parts new book'' rights' k) last)
-  answers act left new book' book'' rights' first last frees engine homes both yields is =
+  -- what an answer comes to
+  answers : (act : Act) (left : TrainState) (book' : Pages) (rights' : Rights) (heard : Heard) → freeing line c t position n p ≡ act → left.supervision.engine ≡ t
+      → (change_mission t unasked >> act) at ≡ reply_left line c t (with_parts left book' rights' at) heard
+      → effect line c k (Train m) ≡ by_reply (reply_left line c t (with_parts left book' rights' k) heard)
+  answers act left book' rights' heard frees engine both =
       let stands : k.mission t ≡ Some n = h.parts.has_mission ∙ there in
       answered_effect line c k m _ (rw (h.known, h.parts.has_heard, h.timely, h.parts.has_phase, up, stands, asked) refl)
-      (rw (stands, standing) (ap (λ (a : Act). ((change_mission t unasked >> a) >> yield_if_due line c t) at) frees
-      ∙ then_yields line c t (change_mission t unasked >> act) at left new book' book'' rights' first last engine (λ s. homes s ∙ h.parts.homes s) both yields is
-      ∙ ap (λ (x : Centre). reply_left line c t x last) (left_heard line c k stamp old book rights h.parts new book'' rights' (ap (λ (q : TrainState). q.supervision.engine) is ∙ engine))))
+      (rw (stands, standing) (ap (λ (a : Act). (change_mission t unasked >> a) at) frees ∙ both
+      ∙ ap (λ (x : Centre). reply_left line c t x heard) (left_heard line c k stamp old book rights h.parts left book' rights' engine)))
 
   -- a train that has run past the proposed end keeps its hand
-  pub keeps_all : freeing line c t position n p ≡ rest → (new : TrainState) (book'' : Pages) (first last : Heard) → first ≡ record { saying = None; order = None; mail = mail_home n.place.track no_sections notice.Nothing None; told = [] }
-      → ((j : Centre) → HasTurn j mid → HasBook line c j book → followed (reply_left line c t j first) (yield_if_due line c t) ≡ reply_left line c t (with_turn new book'' j) last)
-      → new ≡ record mid { said = new.said; supervision = record mid.supervision { mission = new.supervision.mission; hand = new.supervision.hand } }
-      → effect line c k (Train m) ≡ by_reply (reply_left line c t (with_parts new book'' rights k) last)
-  keeps_all frees new book'' first last nothing yields is =
-      answers rest mid new book book'' rights first last frees refl (λ s. refl)
-      (then_rest (change_mission t unasked) at ∙ dropped ∙ ap (reply_left line c t (with_parts mid book rights at)) (sym nothing)) yields is
+  pub keeps_all : freeing line c t position n p ≡ rest
+      → effect line c k (Train m) ≡ by_reply (reply_left line c t (with_parts mid book rights k) (record { saying = None; order = None; mail = mail_of None; told = [] }))
+  keeps_all frees =
+      answers rest mid book rights (record { saying = None; order = None; mail = mail_of None; told = [] }) frees refl (then_rest (change_mission t unasked) at ∙ dropped)
 
   -- another gives back what is behind it
   pub gives_back : (keep : ℕ) (left : SupervisionState) (hand : Holding) (book' : Pages) (rights' : Rights) (told : List ℕ) (cancelled : Option HandoverName) (letter : Option Letter) (sections : SectionRunCode)
@@ -124,12 +114,9 @@ module _ (line : Line) (c : ℕ) (k : Centre) (stamp : ℕ) (old : TrainState) (
       → keep ≡ kept_of p.last_kept n.hand → old.supervision.number < length rights → left ≡ record old.supervision { mission = option_and_then (with_front line keep) old.supervision.mission; hand = hand }
       → FreesRun t (rest_of keep (hand_of old.supervision)) book book' → told ≡ wished t (rest_of keep (hand_of old.supervision)) book → run_of sections ≡ cut_run keep old.supervision
       → cancelled ≡ handover_left old.supervision left → GoesHome line c t (right_left old.supervision left) letter rights rights'
-      → (new : TrainState) (book'' : Pages) (first last : Heard) → first ≡ record { saying = None; order = None; mail = mail_home n.place.track sections (cancel_of cancelled) letter; told = told }
-      → ((j : Centre) → HasTurn j (record old { heard = Some stamp; supervision = left }) → HasBook line c j book'
-      → followed (reply_left line c left.engine j first) (yield_if_due line c left.engine) ≡ reply_left line c left.engine (with_turn new book'' j) last)
-      → new ≡ record (record old { heard = Some stamp; supervision = left }) { said = new.said; supervision = record left { mission = new.supervision.mission; hand = new.supervision.hand } }
-      → effect line c k (Train m) ≡ by_reply (reply_left line c t (with_parts new book'' rights' k) last)
-  gives_back keep left hand book' rights' told cancelled letter sections frees counts few is freed is_told goes cancels home new book'' first last first_is yields new_is =
+      → (heard : Heard) → heard ≡ record { saying = None; order = None; mail = mail_home n.place.track sections (cancel_of cancelled) letter; told = told }
+      → effect line c k (Train m) ≡ by_reply (reply_left line c t (with_parts (record old { heard = Some stamp; supervision = left }) book' rights' k) heard)
+  gives_back keep left hand book' rights' told cancelled letter sections frees counts few is freed is_told goes cancels home heard heard_is =
       let run_is : rest_of keep (hand_of old.supervision) ≡ rest_of (kept_of p.last_kept n.hand) n.hand = λ i. rest_of (counts i) (hand_of (record old.supervision { mission = there i })) in
       let goes_is : run_of sections ≡ joined (rest_of (kept_of p.last_kept n.hand) n.hand) n.pool = goes ∙ (λ i. cut_run (counts i) (record old.supervision { mission = there i })) in
       let left_is : left ≡ record old.supervision { mission = with_front line (kept_of p.last_kept n.hand) n; hand = hand } = is ∙ (λ i. record old.supervision { mission = option_and_then (with_front line (counts i)) (there i); hand = hand }) in
@@ -138,8 +125,8 @@ module _ (line : Line) (c : ℕ) (k : Centre) (stamp : ℕ) (old : TrainState) (
       let cancels_mid : cancelled ≡ handover_left mid.supervision left = cancels ∙ (λ i. if is_some (handing_in left) then None else option_map handover_name (sym (handing_unasked old.supervision.mission) i)) in
       let left_train : TrainState = record old { heard = Some stamp; supervision = left } in
       let x : ℕ → Option Expectation = λ d. (with_parts left_train book' rights' at).expects d t in
-      answers (act_of line c t n p (Keep keep)) left_train new book' book'' rights' first last frees (ap (λ (y : SupervisionState). y.engine) left_is) freed.homes
+      answers (act_of line c t n p (Keep keep)) left_train book' rights' heard frees (ap (λ (y : SupervisionState). y.engine) left_is)
       (does_then (change_mission t unasked) (act_of line c t n p (Keep keep)) at mid left_train book book' rights rights' [] told (mail_to line c t x (mail_home n.place.track sections (cancel_of cancelled) letter)) (ap (λ (y : SupervisionState). y.engine) left_is) dropped
-      (cuts line c (with_parts mid book rights at) mid book rights mid_has n p.last_kept (ap (option_map unasked) there) few x left hand book' rights' told cancelled letter sections left_is cancels_mid
+      (cuts line c (with_parts mid book rights at) mid book rights mid_has n None p.last_kept (ap (option_map unasked) there) few x left hand book' rights' told cancelled letter sections left_is cancels_mid
       (subst (λ (r : SectionRun). FreesRun t r book book') run_is freed) (is_told ∙ ap (λ r. wished t r book) run_is) goes_is goes_home)
-      ∙ ap (reply_left line c t (with_parts left_train book' rights' at)) (sym first_is)) yields new_is
+      ∙ ap (reply_left line c t (with_parts left_train book' rights' at)) (sym heard_is))

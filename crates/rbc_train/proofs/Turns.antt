@@ -1,7 +1,7 @@
 -- One act and then another at a centre, by the parts of its state that they change.
 use Rattle.std.proofs.Common.{◌≡◌, ℕ, List, [], ◌∷◌, ◌++◌, Some, refl, sym, ap, subst, ◌∙◌, ◌+◌}
 use Rattle.rbc_spec.specs.Maps.{put}
-use Rattle.rbc_spec.specs.Line.{Line, is_home}
+use Rattle.rbc_spec.specs.Line.{Line}
 use Rattle.rbc_spec.specs.Message.{TrackBody}
 use Rattle.rbc_spec.specs.Frame.{Body}
 use Rattle.rbc_spec.specs.Outcome.{Saying}
@@ -12,8 +12,7 @@ use Rattle.rbc_book.specs.Book.{Pages, is_own, entry_at, wish_at}
 use Rattle.rbc_right.specs.Rights.{Rights, is_here}
 use Rattle.rbc_handover.specs.Expectations.{expected_from}
 use Rattle.rbc_session.specs.SessionStates.{session_phase}
-use Rattle.rbc_border.specs.Lending.{HasBook}
-use Rattle.rbc_train.specs.Desk.{HasParts, HasTurn, IsKeptAt, with_parts, with_turn, replied, posted}
+use Rattle.rbc_train.specs.Desk.{HasParts, IsKeptAt, with_parts, replied, posted}
 use Rattle.rbc_train.specs.declared.train.TrainState.{TrainState}
 use Rattle.rbc_train.proofs.Desk.{same_state}
 
@@ -102,33 +101,3 @@ says t group body p book rights k engine =
     λ i. replied (record (with_parts p book rights k) {
       said = λ u. ((λ l. put (put k.said e p.said) (sym engine l) (count l + 1) u) ∙ put_over e (p.said + 1) p.said k.said u) i;
     }) (record { nid_engine = t; message = record { t_train = count i + 1; nid_lrbg = group; body = body } } ∷ []) []
-
--- ## What follows in a step
-
--- a centre with parts that were left: what an act that follows goes by
-pub has_turn_left : (mid : TrainState) (book : Pages) (rights : Rights) (k : Centre) → HasTurn (with_parts mid book rights k) mid
-has_turn_left mid book rights k = record {
-  supervision = record { has_mission = put_there k.mission mid.supervision.engine mid.supervision.mission; has_question = put_there k.route_ask mid.supervision.engine mid.supervision.asked };
-  phase = put_there k.phase mid.supervision.engine (session_phase mid.session_state);
-  heard = put_there k.heard mid.supervision.engine mid.heard;
-  said = put_there k.said mid.supervision.engine mid.said;
-}
-
--- the book that was left is that of the centre
-pub has_book_left : (line : Line) (c : ℕ) (mid : TrainState) (book : Pages) (rights : Rights) (k : Centre) → ((s : ℕ) → is_own book s ≡ is_home line c s) → HasBook line c (with_parts mid book rights k) book
-has_book_left line c mid book rights k homes = record { homes = homes; has_book = λ s. refl; has_wish = λ s. refl }
-
--- what an act leaves that follows, over what was left: the mission and the count of messages have changed, and the book
-pub turn_over : (mid new : TrainState) (book book' : Pages) (rights : Rights) (k : Centre)
-    → new ≡ record mid { said = new.said; supervision = record mid.supervision { mission = new.supervision.mission; hand = new.supervision.hand } }
-    → with_turn new book' (with_parts mid book rights k) ≡ with_parts new book' rights k
-turn_over mid new book book' rights k is =
-    let e = mid.supervision.engine in
-    let left : TrainState = record mid { said = new.said; supervision = record mid.supervision { mission = new.supervision.mission; hand = new.supervision.hand } } in
-    (λ i. with_turn (is i) book' (with_parts mid book rights k))
-    ∙ (λ i. record (with_parts left book' rights k) {
-      said = λ u. put_over e new.said mid.said k.said u i;
-      mission = λ u. put_over e new.supervision.mission mid.supervision.mission k.mission u i;
-      route_ask = λ u. put_over e mid.supervision.asked mid.supervision.asked k.route_ask u i;
-    })
-    ∙ (λ i. with_parts (sym is i) book' rights k)

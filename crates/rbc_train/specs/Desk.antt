@@ -89,25 +89,6 @@ with_parts p book rights k = record k {
   expects = λ d. put (k.expects d) p.supervision.engine (expected_from p.expectations d);
 }
 
--- ## What an act goes by that follows in a step
-
--- centre k has this of the train: its mission, its session, the last T_TRAIN heard, and how many messages were said to it
-pub record HasTurn (k : Centre) (p : TrainState) : Type 0 where
-  pub supervision : HasSupervision k p.supervision
-  pub phase : k.phase p.supervision.engine ≡ session_phase p.session_state
-  pub heard : k.heard p.supervision.engine ≡ p.heard
-  pub said : k.said p.supervision.engine ≡ p.said
-
--- the centre with this mission of the train, so many messages said to it, and this book
-abbrev pub with_turn : TrainState → Pages → Centre → Centre
-with_turn p book k = record k {
-  book = entry_at book;
-  wish = wish_at book;
-  said = put k.said p.supervision.engine p.said;
-  mission = put k.mission p.supervision.engine p.supervision.mission;
-  route_ask = put k.route_ask p.supervision.engine p.supervision.asked;
-}
-
 -- the centre that has said so many messages to the train
 abbrev pub counted_to : ℕ → ℕ → Centre → Centre
 counted_to t said k = record k { said = put k.said t said }
@@ -139,24 +120,6 @@ Does line c act old book rights new book' rights' h =
 abbrev pub effect_left : Line → ℕ → ℕ → Centre → Result Heard Reason → Effect
 effect_left line c t k (Ok h) = record { reply = reply_left line c t k h; link = None; silence = None }
 effect_left line c t k (Err why) = record { reply = replied k [] []; link = None; silence = Some (reason_of why) }
-
--- an act behind a reply
-abbrev pub followed : Reply → Act → Reply
-followed r act =
-    let b = act r.state in
-    record { state = b.state; frames = λ d. r.frames d ++ b.frames d; sayings = r.sayings ++ b.sayings; words = r.words ++ b.words }
-
--- what was left may be followed by a yield, if a handover of the mission stands: the train got no order, and no centre a notice or a letter; and
--- sections that go home are of the mission's track, with those of its pool at most once
-pub record MayFollow (m : Mission) (h : Heard) : Type 0 where
-  pub order : h.order ≡ None
-  pub notice : h.mail.notice ≡ notice.Nothing
-  pub letter : h.mail.letter ≡ None
-  pub on : h.mail.track ≡ m.place.track
-  pub once : (is_empty (run_of h.mail.second) ≡ true) ⊎ (is_empty m.pool ≡ true)
-
-abbrev pub MayYield : SupervisionState → Heard → Type 0
-MayYield c h = (m : Mission) → c.mission ≡ Some m → is_some m.handing ≡ true → MayFollow m h
 
 -- ## What stays
 

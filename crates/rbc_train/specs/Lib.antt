@@ -9,5 +9,6 @@ pub mod Trains
 pub mod Desk
 pub mod Bordering
 pub mod Arriving
+pub mod Standstill
 pub mod Starts
 pub mod Homes

@@ -8,14 +8,12 @@ ghost use Rattle.rbc_spec.specs.Acts as acts;
 ghost use Rattle.rbc_spec.specs.Links as links;
 ghost use Rattle.rbc_book.specs.Book.{is_own};
 ghost use Rattle.rbc_right.specs.Rights.{Rights};
-ghost use Rattle.rbc_border.specs.Lending as lending;
-ghost use Rattle.rbc_allocation.specs.Sections.{IsHeldBy};
 ghost use Rattle.rbc_hand.specs.SectionRuns.{run_of};
 ghost use Rattle.rbc_linkmsg.specs.Bodies.{body_of};
 ghost use Rattle.rbc_linkmsg.specs.Bodies as bodies;
 ghost use Rattle.rbc_place.specs.Places.{place_of};
 ghost use Rattle.rbc_session.specs.SessionStates.{session_phase};
-ghost use Rattle.rbc_train.specs.Desk.{HasParts, HasTurn, IsHeld, KeepsTrain, MayYield, with_parts, with_turn, counted_to, followed, replied, reply_left};
+ghost use Rattle.rbc_train.specs.Desk.{HasParts, IsHeld, KeepsTrain, with_parts, counted_to, replied, reply_left};
 ghost use Rattle.rbc_train.specs.Desks.{IsBookOf};
 ghost use Rattle.rbc_train.specs.Sayings.{sayings_of};
 
@@ -26,7 +24,6 @@ use crate::routes::session_order;
 use crate::saying::Saying;
 use crate::train::TrainState;
 use rbc_book::Book;
-use rbc_hand::SectionRun;
 use rbc_line::Line;
 use rbc_linkmsg::{Body, YieldedPlace};
 use rbc_mission::Yielded;
@@ -34,7 +31,8 @@ use rbc_msgs::{NID_LRBG_UNKNOWN, TrackBody};
 use rbc_place::Place;
 
 impl TrainState {
-    /// TakingOver of a centre: the handover is claimed, if it stands under this number to that centre. Then it is yielded, where that is due.
+    /// TakingOver of a centre: the mission is yielded, if its handover stands under this number to that centre. Its pool goes home, the mission
+    /// goes in one frame, and a train that is no more to come here is ordered to end its session.
     pub(crate) fn taking_over(
         &mut self,
         line: &Line,
@@ -55,51 +53,13 @@ impl TrainState {
         ensures expectations { self.new.expectations ≡ self.old.expectations }
         ensures homes { (s : ℕ) → is_own book.new s ≡ is_own book.old s }
     {
-        self.supervision.claim(from, number);
-        let none = SectionRun { first: 0, count: 0 };
-        let mut claimed = Heard::returned(self.track(), none);
-        self.yield_if_due(line, centre, book, &mut claimed);
-        claimed
-    }
-
-    // The track of its mission; the first, where none stands.
-    fn track(&self) -> u8
-        ensures { (m : spec.Mission) → self.now.supervision.mission ≡ Some m → result ≡ m.place.track }
-    {
-        match self.supervision.mission() {
-            Some(mission) => mission.place.track,
-            None => 0,
-        }
-    }
-
-    /// Behind what a step has come to so far, the mission is yielded where that is due: its pool goes home, the mission goes in one frame, and
-    /// a train that is no more to come here is ordered to end its session.
-    #[inline(always)]
-    pub(crate) fn yield_if_due(
-        &mut self,
-        line: &Line,
-        centre: u8,
-        book: &mut Book,
-        heard: &mut Heard,
-    )
-        requires count { self.old.said < 4294967294 }
-        requires held { IsHeldBy self.old.supervision.engine self.old.supervision.hand book.old }
-        requires may { MayYield self.old.supervision heard.old }
-        ensures exact { (k : spec.Centre) → HasTurn k self.old → lending.HasBook line.now centre k book.old
-            → followed (reply_left line.now centre self.old.supervision.engine k heard.old) (acts.yield_if_due line.now centre self.old.supervision.engine)
-            ≡ reply_left line.now centre self.old.supervision.engine (with_turn self.new book.new k) heard.new }
-        ensures left { self.new ≡ record self.old { said = self.new.said; supervision = record self.old.supervision { mission = self.new.supervision.mission; hand = self.new.supervision.hand } } }
-        ensures counted { (self.old.said ≤ self.new.said) × (self.new.said ≤ self.old.said + 1) }
-        ensures held { IsHeldBy self.old.supervision.engine self.new.supervision.hand book.new }
-        ensures homes { (s : ℕ) → is_own book.new s ≡ is_own book.old s }
-    {
         let nid_engine = self.nid_engine();
-        let Some(yielded) = self.supervision.yield_if_due(line, centre, book) else {
-            return;
+        let Some(yielded) = self.supervision.yield_to(line, centre, book, from, number) else {
+            return Heard::nothing();
         };
         let letter = yield_letter(nid_engine, self.heard, yielded);
         let order = self.order_if_gone(line, centre, yielded.is_gone);
-        heard.and_yields(yielded.pool, letter, order);
+        Heard::yielded(yielded.mission.place.track, yielded.pool, letter, order)
     }
 
     // The order to end its session, for a train that is no more to come here.

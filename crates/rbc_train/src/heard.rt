@@ -92,20 +92,47 @@ impl Heard {
         }
     }
 
-    /// Then the mission is yielded: this pool goes home too, behind the others of the track, the letter takes the mission, and the train is
-    /// ordered this or nothing.
+    /// Behind that, what is told of is this, and what another message came to goes to other centres too: its sections go home behind the
+    /// others of the track, with its notice.
     #[inline(always)]
-    pub(crate) fn and_yields(&mut self, pool: SectionRun, letter: Letter, order: Option<Saying>)
-        ensures { self.new ≡ record self.old {
-          order = order;
-          mail = record self.old.mail { second = (if is_empty (run_of pool) then self.old.mail.second else pool); letter = Some letter };
-        } }
+    pub(crate) fn and_ahead(self, told: Told, ahead: Heard) -> Heard
+        ensures { result ≡ record self { mail = record self.mail { second = ahead.mail.first; notice = ahead.mail.notice }; told = told } }
     {
-        if !pool.is_empty() {
-            self.mail.second = pool;
+        let Heard {
+            saying,
+            order,
+            mail,
+            told: _,
+        } = self;
+        let mail = Mail {
+            second: ahead.mail.first,
+            notice: ahead.mail.notice,
+            ..mail
+        };
+        Heard {
+            saying,
+            order,
+            mail,
+            told,
         }
-        self.mail.letter = Some(letter);
-        self.order = order;
+    }
+
+    /// A mission is yielded: these sections of this track, its pool, go home, the letter takes the mission, and the train is ordered this or
+    /// nothing.
+    #[inline(always)]
+    pub(crate) fn yielded(
+        track: u8,
+        pool: SectionRun,
+        letter: Letter,
+        order: Option<Saying>,
+    ) -> Heard
+        ensures { result ≡ record { saying = None; order = order; mail = mail_home track pool Notice.Nothing (Some letter); told = [] } }
+    {
+        Heard {
+            order,
+            mail: Mail::home(track, pool, Notice::Nothing, Some(letter)),
+            ..Heard::nothing()
+        }
     }
 
     /// Sections of this track go home.

@@ -57,7 +57,7 @@ impl TrainState {
             }
             Body::RouteInfo { run, .. } => self.route_told(line, from, run),
             Body::RouteWithdraw { section, .. } => self.route_withdrawn(line, section),
-            Body::RouteReturn { run, .. } => self.route_returned(line, centre, book, from, run),
+            Body::RouteReturn { run, .. } => self.route_returned(line, centre, book, run),
             Body::Announce {
                 handover,
                 track,

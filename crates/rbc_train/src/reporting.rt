@@ -1,6 +1,8 @@
-//! A train position report (3.6.5) and the end of mission (5.5): what the train has cleared leaves its hand, and then a handover may be due.
+//! A train position report (3.6.5) and the end of mission (5.5): what the train has cleared leaves its hand.
 
-ghost use Rattle.std.specs.Prelude.{◌≡◌, ◌<◌, length, Some, None, is_some, true};
+ghost use Rattle.std.specs.Prelude.{◌≡◌, ◌<◌, ◌≤◌, ◌+◌, ◌-◌, length, Some, None, is_some, true, IfSome};
+ghost use Rattle.rbc_spec.specs.SectionRuns.{no_run};
+ghost use Rattle.rbc_spec.specs.Place as spec_place;
 ghost use Rattle.rbc_spec.specs.Centre as spec;
 ghost use Rattle.rbc_spec.specs.Message.{Report, EndOfMission};
 ghost use Rattle.rbc_spec.specs.Step as step;
@@ -10,22 +12,36 @@ ghost use Rattle.rbc_spec.specs.Rules as rules;
 ghost use Rattle.rbc_train.specs.Desks.{IsBookOf};
 ghost use Rattle.rbc_train.specs.Letters.{mail_home};
 ghost use Rattle.rbc_place.specs.Places.{place_of};
+ghost use Rattle.rbc_allocation.specs.Sections.{wished, rest_of};
+ghost use Rattle.rbc_shorten.specs.declared.answer.Cut.TheVariants.{Nothing};
+ghost use Rattle.rbc_mission.specs.Supervisions.{hand_of, pool_of};
+ghost use Rattle.rbc_train.specs.Standstill.{IsAhead, LeavesFront, left_ahead};
 
 use crate::heard::Heard;
 use crate::mail::Notice;
 use crate::reason::Reason;
 use crate::train::TrainState;
 use rbc_book::Book;
+use rbc_allocation::wished_around;
 use rbc_hand::SectionRun;
 use rbc_line::Line;
+use rbc_mission::Told;
 use rbc_packets::Position;
 use rbc_place::{Place, cleared, place_on};
 use rbc_right::Registrar;
 use rbc_session::Phase;
+use rbc_shorten::{Cut, cut_at_standstill};
+
+// What lies ahead of a train at standstill: how many of the first sections that are left of its hand are kept; and those that were wished back
+// of all that leaves the hand, in rising order.
+struct Ahead {
+    keep: u16,
+    told: Told,
+}
 
 impl TrainState {
-    /// Message 136: the sections of the hand that the train has cleared are given back, and a mission without a section closes; then it is
-    /// yielded, where that is due. Of a train that another centre hands over to this one, its announcers are told that this one takes over.
+    /// Message 136: the sections of the hand that the train has cleared are given back, and a mission without a section closes. Of a train that
+    /// another centre hands over to this one, its announcers are told that this one takes over.
     #[inline(never)]
     pub(crate) fn report(
         &mut self,
@@ -63,13 +79,11 @@ impl TrainState {
             return Err(Reason::NoPlace);
         };
         self.heard = Some(t_train);
-        let mut heard = self.clear(line, centre, book, registrar, place);
-        self.yield_if_due(line, centre, book, &mut heard);
-        Ok(heard)
+        Ok(self.clear(line, centre, book, registrar, place))
     }
 
-    /// Message 150: what the train has cleared is given back, where its report has a place; then its mission is ended, and its pool goes
-    /// home; then it is yielded, where that is due.
+    /// Message 150: what the train has cleared is given back, where its report has a place; at standstill what lies ahead is too; then its
+    /// mission is ended, and its pool goes home.
     #[inline(never)]
     pub(crate) fn end_of_mission(
         &mut self,
@@ -108,12 +122,76 @@ impl TrainState {
         }
         self.heard = Some(t_train);
         let track = mission.place.track;
+        let ahead = self.ahead(line, book, track, position);
         let heard = self.report_here(line, centre, book, registrar, track, position);
-        let pool = self.supervision.return_pool();
-        self.supervision.end_mission();
-        let mut heard = heard.with_second(pool);
-        self.yield_if_due(line, centre, book, &mut heard);
-        Ok(heard)
+        match ahead {
+            Some(Ahead { keep, told }) => {
+                let left = self.leave_ahead(line, centre, book, registrar, track, keep);
+                self.supervision.end_mission();
+                Ok(heard.and_ahead(told, left))
+            }
+            None => {
+                let pool = self.supervision.return_pool();
+                self.supervision.end_mission();
+                Ok(heard.with_second(pool))
+            }
+        }
+    }
+
+    // What lies ahead of a train that stands still at a place of this track, when what it has cleared there has left its hand.
+    fn ahead(&self, line: &Line, book: &Book, track: u8, position: &Position) -> Option<Ahead>
+        ensures none { result ≡ None → left_ahead line.now track (position_of position.now) (hand_of self.now.supervision) ≡ Nothing }
+        ensures some { IfSome result (λ a. IsAhead line.now self.now.supervision.engine track (position_of position.now) (hand_of self.now.supervision) book.now a.keep a.told) }
+    {
+        if position.v_train.value() != 0 {
+            return None;
+        }
+        let place = place_on(line, track, position)?;
+        let hand = self.hand();
+        let cleared = cleared(line, hand, &place);
+        let left = SectionRun {
+            first: hand.first + cleared,
+            count: hand.count - cleared,
+        };
+        match cut_at_standstill(line, left, place.front) {
+            Cut::Nothing => None,
+            Cut::Keep(keep) => {
+                let told = wished_around(hand, cleared, cleared + keep, self.nid_engine(), book);
+                Some(Ahead { keep, told })
+            }
+        }
+    }
+
+    // All but so many of the first sections leave the hand, and the pool goes home with them.
+    fn leave_ahead(
+        &mut self,
+        line: &Line,
+        centre: u8,
+        book: &mut Book,
+        registrar: &mut Registrar,
+        track: u8,
+        keep: u16,
+    ) -> Heard
+        requires number { self.old.supervision.number < length registrar.old }
+        requires book { IsBookOf line.now centre book.old }
+        requires held { IsHeld line.now centre self.old }
+        requires some { 1 ≤ keep }
+        requires keep { keep ≤ (hand_of self.old.supervision).count }
+        ensures exact { (m : spec.Mission) → self.old.supervision.mission ≡ Some m → m.place.track ≡ track
+            → Does line.now centre (rules.cut line.now centre self.old.supervision.engine (m.hand.first + keep - 1) m) self.old book.old registrar.old self.new book.new registrar.new result }
+        ensures stays { IsKeptAt line.now centre self.old → IsKeptAt line.now centre self.new }
+        ensures saying { result.saying ≡ None }
+        ensures order { result.order ≡ None }
+        ensures told { result.told ≡ wished self.old.supervision.engine (rest_of keep (hand_of self.old.supervision)) book.old }
+        ensures mail { result.mail ≡ mail_home track result.mail.first result.mail.notice None }
+        ensures pool { pool_of self.new.supervision ≡ no_run }
+        ensures left { self.new ≡ record self.old { supervision = self.new.supervision } }
+        ensures kept { KeepsTrain self.old self.new }
+        ensures held { IsHeld line.now centre self.new }
+        ensures desk { KeepsDesk self.old.supervision.number book.old book.new registrar.old registrar.new }
+    {
+        let released = self.supervision.shorten(line, keep, book);
+        self.released(line, centre, registrar, track, released)
     }
 
     // What the train has cleared leaves its hand, where the report has a place on this track.
@@ -137,6 +215,7 @@ impl TrainState {
         ensures mail { result.mail ≡ mail_home track result.mail.first result.mail.notice result.mail.letter }
         ensures track { (m n : spec.Mission) → self.old.supervision.mission ≡ Some m → m.place.track ≡ track → self.new.supervision.mission ≡ Some n → n.place.track ≡ track }
         ensures letter { is_some self.new.supervision.mission ≡ true → (result.mail.letter ≡ None) × (result.mail.notice ≡ Notice.Nothing) }
+        ensures front { (p : spec_place.Place) → spec_place.place_on line.now track (position_of position.now) ≡ Some p → LeavesFront line.now p self.old.supervision self.new.supervision result.told book.old book.new }
         ensures left { self.new ≡ record self.old { supervision = self.new.supervision } }
         ensures kept { KeepsTrain self.old self.new }
         ensures held { IsHeld line.now centre self.new }
@@ -170,6 +249,7 @@ impl TrainState {
         ensures mail { result.mail ≡ mail_home place.track result.mail.first result.mail.notice result.mail.letter }
         ensures track { (m : spec.Mission) → self.new.supervision.mission ≡ Some m → m.place.track ≡ place.track }
         ensures letter { is_some self.new.supervision.mission ≡ true → (result.mail.letter ≡ None) × (result.mail.notice ≡ Notice.Nothing) }
+        ensures front { LeavesFront line.now (place_of place) self.old.supervision self.new.supervision result.told book.old book.new }
         ensures left { self.new ≡ record self.old { supervision = self.new.supervision } }
         ensures kept { KeepsTrain self.old self.new }
         ensures held { IsHeld line.now centre self.new }

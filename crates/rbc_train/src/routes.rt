@@ -47,7 +47,7 @@ impl TrainState {
         ensures homes { (s : ℕ) → is_own book.new s ≡ is_own book.old s }
     {
         let engine = self.nid_engine();
-        match lend(line, centre, book, engine, first, most, from) {
+        match lend(line, centre, book, engine, first, most) {
             Some(run) => Heard::told(Letter {
                 to: from,
                 body: Body::RouteInfo { engine, run },
@@ -102,14 +102,13 @@ impl TrainState {
         }
     }
 
-    /// RouteReturn of a centre: the sections that are out for the train there are given back. A train that is no more to come here is told to
+    /// RouteReturn of a centre: the sections that are out for the train are given back. A train that is no more to come here is told to
     /// end its session (3.5.5).
     pub(crate) fn route_returned(
         &mut self,
         line: &Line,
         centre: u8,
         book: &mut Book,
-        from: u8,
         sections: SectionRun,
     ) -> Heard
         requires count { self.old.said < 4294967294 }
@@ -117,7 +116,7 @@ impl TrainState {
         requires most { sections.count ≤ 63 }
         requires last { sections.first + sections.count ≤ 512 }
         ensures exact { (rights : Rights) (k : spec.Centre) → HasParts line.now centre k self.old book.old rights
-            → (if all_of (λ s. is_some (section line.now s)) (run_of sections) then links.route_returned line.now centre from self.old.supervision.engine (run_of sections) else rest) k
+            → (if all_of (λ s. is_some (section line.now s)) (run_of sections) then links.route_returned line.now centre self.old.supervision.engine (run_of sections) else rest) k
             ≡ reply_left line.now centre self.old.supervision.engine (with_parts self.new book.new rights k) result }
         ensures kept { KeepsTrain self.old self.new }
         ensures expectations { self.new.expectations ≡ self.old.expectations }
@@ -129,7 +128,7 @@ impl TrainState {
         if sections.behind() > u32::from(line.section_count()) {
             return Heard::nothing();
         }
-        let told = bring_back(book, self.nid_engine(), from, sections);
+        let told = bring_back(book, self.nid_engine(), sections);
         let saying = self.end_order(line, centre, book);
         Heard {
             told,

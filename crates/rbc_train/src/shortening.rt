@@ -16,7 +16,6 @@ use crate::heard::Heard;
 use crate::reason::Reason;
 use crate::train::TrainState;
 use rbc_book::Book;
-use rbc_hand::SectionRun;
 use rbc_line::Line;
 use rbc_packets::Position;
 use rbc_place::place_on;
@@ -27,7 +26,7 @@ use rbc_vars::TTrain;
 
 impl TrainState {
     /// Message 137: the request that is answered stands no more. A train that has not run past the proposed end gives back what
-    /// is behind it, and a mission without a section closes; then it is yielded, where that is due.
+    /// is behind it, and a mission without a section closes.
     #[inline(never)]
     pub(crate) fn shortening_granted(
         &mut self,
@@ -74,17 +73,12 @@ impl TrainState {
                 self.heard = Some(t_train);
                 let released = self.supervision.shorten(line, keep, book);
                 let track = mission.place.track;
-                let mut heard = self.released(line, centre, registrar, track, released);
-                self.yield_if_due(line, centre, book, &mut heard);
-                Ok(heard)
+                Ok(self.released(line, centre, registrar, track, released))
             }
             Ok(Cut::Nothing) => {
                 self.heard = Some(t_train);
                 self.supervision.forget_proposal();
-                let none = SectionRun { first: 0, count: 0 };
-                let mut heard = Heard::returned(mission.place.track, none);
-                self.yield_if_due(line, centre, book, &mut heard);
-                Ok(heard)
+                Ok(Heard::nothing())
             }
             Err(_) => Err(Reason::Unasked),
         }

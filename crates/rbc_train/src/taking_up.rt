@@ -112,7 +112,7 @@ impl TrainState {
         ensures none { result ≡ true → self.now.supervision.mission ≡ None }
         ensures line { result ≡ true → coming.now.hand.first + coming.now.hand.count ≤ length line.now.sections }
         ensures own { result ≡ true → (s : ℕ) → within (run_of coming.now.hand) s ≡ true → is_own book.now s ≡ true
-            → spec.is_out_for self.now.supervision.engine coming.now.from (entry_at book.now s) ≡ true }
+            → spec.is_out_for self.now.supervision.engine (entry_at book.now s) ≡ true }
     {
         if !self.awaits(registrar, coming.from, coming.number) {
             return false;
@@ -122,7 +122,6 @@ impl TrainState {
         }
         let train = Arrival {
             nid_engine: self.nid_engine(),
-            from: coming.from,
             track: place.track,
         };
         may_arrive(line, centre, book, train, coming.hand)
@@ -142,12 +141,12 @@ impl TrainState {
         requires none { self.old.supervision.mission ≡ None }
         requires hand { HasRunRange 1 32 (run_of coming.hand) }
         requires line { coming.hand.first + coming.hand.count ≤ length line.now.sections }
-        requires own { (s : ℕ) → within (run_of coming.hand) s ≡ true → is_own book.old s ≡ true → spec.is_out_for self.old.supervision.engine coming.from (entry_at book.old s) ≡ true }
+        requires own { (s : ℕ) → within (run_of coming.hand) s ≡ true → is_own book.old s ≡ true → spec.is_out_for self.old.supervision.engine (entry_at book.old s) ≡ true }
         ensures left { self.new ≡ taken_up coming (place_of place) self.new.supervision.hand self.new.expectations self.old }
         ensures expected { (d : ℕ) → expected_from self.new.expectations d ≡ put (expected_from self.old.expectations) coming.from None d }
         ensures count { length self.new.expectations ≡ length self.old.expectations }
         ensures held { IsHeldBy self.old.supervision.engine self.new.supervision.hand book.new }
-        ensures book { IsBooked (spec.is_out_for self.old.supervision.engine coming.from) (spec.Taken self.old.supervision.engine) (run_of coming.hand) book.old book.new }
+        ensures book { IsBooked (spec.is_out_for self.old.supervision.engine) (spec.Taken self.old.supervision.engine) (run_of coming.hand) book.old book.new }
     {
         let mission = MissionFacts {
             has_data: coming.has_data,
@@ -156,7 +155,7 @@ impl TrainState {
         };
         let right = Right::arrive(self.supervision.number());
         self.supervision
-            .take_up(line, coming.from, mission, coming.hand, book, right);
+            .take_up(line, mission, coming.hand, book, right);
         self.heard = Some(later(self.heard, coming.heard));
         self.expectations.taken(coming.from);
     }

@@ -105,7 +105,9 @@ impl TrainState {
 
     /// The sections of its movement authority; none where no mission stands.
     pub(crate) fn hand(&self) -> SectionRun
-        ensures { run_of result ≡ hand_of self.now.supervision }
+        ensures value { run_of result ≡ hand_of self.now.supervision }
+        ensures most { result.count ≤ 32 }
+        ensures numbers { result.first + result.count ≤ 65535 }
     {
         self.supervision.hand()
     }

@@ -24,7 +24,7 @@ fault_wants X Y k event LinkFull h = tt
 fault_wants X Y k event ClockEnd h = tt
 
 -- a section that is taken back
-pub unset_wants : (k : centre.Centre) (s : ℕ) (result : Result Answer StepFault) → IsWantedBy k (step.Unset s) result → IfWanted result ((t : ℕ) × (d : ℕ) × (k.book s ≡ centre.Out t d))
+pub unset_wants : (k : centre.Centre) (s : ℕ) (result : Result Answer StepFault) → IsWantedBy k (step.Unset s) result → IfWanted result ((t : ℕ) × (k.book s ≡ centre.Out t))
 unset_wants k s (Ok a) h = tt
 unset_wants k s (Err Memory) h = h
 unset_wants k s (Err LinkFull) h = tt

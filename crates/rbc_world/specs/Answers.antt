@@ -42,7 +42,7 @@ BytesTakeMemory line trains (Err fault) = IsBehindPackets fault
 abbrev pub TakesMemory : Line → World → WorldEvent → Type 0
 TakesMemory line w (event.Train c bytes) = (is_centre line c ≡ true) × BytesTakeMemory line w.trains (read_train bytes.items)
 TakesMemory line w (event.Deliver from to number) = is_some (frame_sent w from to number) ≡ true
-TakesMemory line w (event.Unset c s) = (t : ℕ) × (d : ℕ) × ((w.at c).book s ≡ Out t d)
+TakesMemory line w (event.Unset c s) = (t : ℕ) × ((w.at c).book s ≡ Out t)
 TakesMemory line w other = ⊥
 
 -- where memory was wanted, this holds

@@ -177,7 +177,7 @@ impl World {
         match entry {
             Entry::Shut => Mark::Shut,
             Entry::Open => Mark::Open,
-            Entry::Taken { nid_engine } | Entry::Out { nid_engine, .. } => {
+            Entry::Taken { nid_engine } | Entry::Out { nid_engine } => {
                 if self.is_given(s, nid_engine, trains) {
                     Mark::Given { nid_engine }
                 } else {

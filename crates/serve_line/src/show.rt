@@ -130,7 +130,7 @@ impl Sight {
         match entry {
             Entry::Shut => Mark::Shut,
             Entry::Open => Mark::Open,
-            Entry::Taken { nid_engine } | Entry::Out { nid_engine, .. } => {
+            Entry::Taken { nid_engine } | Entry::Out { nid_engine } => {
                 if self.is_given(line, s, nid_engine) {
                     Mark::Given { nid_engine }
                 } else {

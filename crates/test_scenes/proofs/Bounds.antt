@@ -12,7 +12,7 @@ use Rattle.rbc_spec.specs.Sections.{section_count, is_on}
 use Rattle.rbc_spec.specs.SectionRuns.{SectionRun, within, behind, run_of}
 use Rattle.rbc_spec.specs.Place.{Place, covers, covered}
 use Rattle.rbc_spec.specs.LineCentre.{LineState, Mark, Shut, Open, Kept, Given, is_given_to, free, mark_all, release, close_if_empty}
-use Rattle.rbc_spec.specs.OwnSteps.{shortened, is_cut_of, reported, is_cleared_of}
+use Rattle.rbc_spec.specs.OwnSteps.{shortened, is_cut_of, reported, is_cleared_of, stopped, has_reached, is_ahead_of}
 use Rattle.rbc_spec.specs.Maps.{put}
 
 pub record IsWithinLine (line : Line) (mark : ℕ → Mark) : Type 0 where
@@ -112,3 +112,6 @@ within_shortened line t c (Some place) last_kept v was = within_one line _ _ v
 
 pub within_reported : (line : Line) (t c : ℕ) (place : Place) (v : LineState) → IsWithinLine line v.mark → IsWithinLine line (reported line t c place v).mark
 within_reported line t c place v was = within_close line t _ (within_release line c t (is_cleared_of line v t place) v was)
+
+pub within_stopped : (line : Line) (t c : ℕ) (place : Place) (v : LineState) → IsWithinLine line v.mark → IsWithinLine line (stopped line t c place v).mark
+within_stopped line t c place v was = within_one line (has_reached line v t place) _ v (within_release line c t (is_ahead_of line v t place) v was) was

@@ -10,12 +10,12 @@ use Rattle.rbc_spec.specs.Step.{step}
 use Rattle.rbc_spec.specs.World.{new_world, world_step, world_run}
 use Rattle.test_scenes.specs.Scene.{line, line_of_three}
 use Rattle.test_scenes.specs.Starts.{right_comes, right_goes_back, right_serves_a_later_start, ask_delivered_twice, right_is_refused, hand_outlives_the_session, start_after_the_end_of_mission, unset_of_the_first_section}
-use Rattle.test_scenes.specs.Requests.{request_asks_over_the_border, asks_again_each_round, report_clears, no_integrity_frees_nothing, request_extends_over_the_border, early_frame, end_of_mission}
+use Rattle.test_scenes.specs.Requests.{request_asks_over_the_border, asks_again_each_round, report_clears, no_integrity_frees_nothing, request_extends_over_the_border, early_frame, end_of_mission, end_at_standstill, end_at_standstill_with_a_wish}
 use Rattle.test_scenes.specs.Shortening.{unset_in_a_hand, shortening_and_a_late_route, answer_to_another_proposal, granted_past_the_proposed_end, another_answer_at_the_border, asking_again_tries_again}
 use Rattle.test_scenes.specs.Handover.{handover, return_after_handover, yield_carries_the_last_stamp_heard, cancelled_before_taking_over}
 use Rattle.test_scenes.specs.Races.{withdrawn_from_the_pool, first_of_the_pool_withdrawn, last_of_the_pool_withdrawn, route_for_an_ended_mission, end_of_mission_with_a_pool, awaited, route_after_the_yield, wish_at_the_yield, cleared_elsewhere, cleared_with_a_pool, cleared_over_the_border, whole_hand_is_cut, session_opens_over_a_waiting_start}
 use Rattle.test_scenes.specs.Conditions.{yield_with_a_pool, cut_with_a_pool, cut_behind_the_border, request_again_over_the_border, request_while_asked, proposal_ends_with_the_mission}
-use Rattle.test_scenes.specs.ThreeCentres.{border_of_the_first, second_takes_over, third_home_holds_the_yield_back, withdraw_goes_to_one_centre, yields_once_cleared, end_of_mission_yields}
+use Rattle.test_scenes.specs.ThreeCentres.{border_of_the_first, second_takes_over, yield_with_a_third_home, wish_at_a_third_centre, each_home_gets_its_section_back, ended_mission_is_yielded, stands_still_before_the_third}
 use Rattle.test_scenes.specs.NotAllowed.{one_yield, two_yields}
 use Rattle.test_scenes.specs.OnePlaces.{has_one_place, keeps_one_place, keeps_from}
 
@@ -23,7 +23,7 @@ pub starts_keep : list_all (keeps_one_place line) (right_comes ∷ right_goes_ba
 unfolding within longest line_start end extent beginning ◌>>◌ step new_world world_step keeps_one_place keeps_from
 starts_keep = refl
 
-pub requests_keep : list_all (keeps_one_place line) (request_asks_over_the_border ∷ asks_again_each_round ∷ report_clears ∷ no_integrity_frees_nothing ∷ request_extends_over_the_border ∷ early_frame ∷ end_of_mission ∷ []) ≡ true
+pub requests_keep : list_all (keeps_one_place line) (request_asks_over_the_border ∷ asks_again_each_round ∷ report_clears ∷ no_integrity_frees_nothing ∷ request_extends_over_the_border ∷ early_frame ∷ end_of_mission ∷ end_at_standstill ∷ end_at_standstill_with_a_wish ∷ []) ≡ true
 unfolding within longest line_start end extent beginning ◌>>◌ step new_world world_step keeps_one_place keeps_from
 requests_keep = refl
 
@@ -43,7 +43,7 @@ pub conditions_keep : list_all (keeps_one_place line) (yield_with_a_pool ∷ cut
 unfolding within longest line_start end extent beginning ◌>>◌ step new_world world_step keeps_one_place keeps_from
 conditions_keep = refl
 
-pub three_centres_keep : list_all (keeps_one_place (line_of_three 0)) (border_of_the_first ∷ second_takes_over ∷ third_home_holds_the_yield_back ∷ withdraw_goes_to_one_centre ∷ yields_once_cleared ∷ end_of_mission_yields ∷ []) ≡ true
+pub three_centres_keep : list_all (keeps_one_place (line_of_three 0)) (border_of_the_first ∷ second_takes_over ∷ yield_with_a_third_home ∷ wish_at_a_third_centre ∷ each_home_gets_its_section_back ∷ ended_mission_is_yielded ∷ stands_still_before_the_third ∷ []) ≡ true
 unfolding within longest line_start end extent beginning ◌>>◌ step new_world world_step keeps_one_place keeps_from
 three_centres_keep = refl
 

@@ -1,5 +1,5 @@
 -- What comes of an event in Moves is an own step of the one line centre.
-use Rattle.std.proofs.Common.{◌≡◌, inl, inr, ℕ, ◌+◌, ◌-◌, ◌==◌, ◌≤◌, ◌<◌, true, false, ◌&&◌, ◌||◌, not, nat_le, nat_lt, Option, Some, None, Ok, Err, refl, sym, ap, ◌∙◌, arith, ⊎_elim}
+use Rattle.std.proofs.Common.{◌≡◌, inl, inr, ℕ, ◌+◌, ◌-◌, ◌==◌, ◌≤◌, ◌<◌, true, false, ◌&&◌, ◌||◌, not, nat_le, nat_lt, Option, Some, None, Ok, Err, refl, sym, ap, ◌∙◌, arith, ⊎_elim, Bool}
 use Rattle.std.proofs.lemmas.Bool.{and_parts, leb-true, ltb-true, cases_Bool, cases_lt, eqb-true, or_cases, not-true}
 use Rattle.rbc_spec.specs.SectionRuns.{SectionRun, within, behind, all_of}
 use Rattle.rbc_spec.specs.Line.{Line, is_centre, is_home, end}
@@ -9,13 +9,13 @@ use Rattle.rbc_spec.specs.Message.{TrainMessage, TrainBody, TrainData, Request, 
 use Rattle.rbc_spec.specs.Outcome.{Reason}
 use Rattle.rbc_spec.specs.Centre.{is_registrar_of}
 use Rattle.rbc_spec.specs.LineCentre.{LineState, Open, Shut, is_given_to, is_mark_open, IsHand, supervises, is_waiting_at, hears, Said}
-use Rattle.rbc_spec.specs.OwnSteps.{Own, Starts, StartsHere, StartsNew, Restarts, Extends, Ends, Reports, Ending, Sets, Unsets, may_start, begins, track_of, is_unused_mark, set_mark, wished_back, without_ask, last_kept_of, may_be_given}
+use Rattle.rbc_spec.specs.OwnSteps.{Own, Starts, StartsHere, StartsNew, Restarts, Extends, Ends, Reports, Ending, Sets, Unsets, may_start, begins, track_of, is_unused_mark, set_mark, wished_back, without_ask, last_kept_of, may_be_given, reported}
 use Rattle.rbc_spec.specs.Run.{OwnStep, Steps, silence, may_listen}
 use Rattle.rbc_spec.specs.World.{Event, Bytes, Set, Unset, Delivery}
 use Rattle.law_base.proofs.Lists.{none_is, each_of}
 use Rattle.test_scenes.specs.Turns.{Choice, Rejecting, Listening, Extending, Turn, hand_of, is_hand, is_end, extend, start_here, restart, start_new, start_at, request_at, report_at, end_at, own_turn, set_turn, unset_turn, Step, message_step, own_step}
 use Rattle.test_scenes.proofs.Valid.{Valid, valid_allowed, valid_then, valid_map, valid_when, valid_if, same}
-use Rattle.test_scenes.proofs.Bounds.{IsWithinLine, on_within, covered_within, within_free, within_kept, within_given, within_put, within_one, within_shortened, within_reported}
+use Rattle.test_scenes.proofs.Bounds.{IsWithinLine, on_within, covered_within, within_free, within_kept, within_given, within_put, within_one, within_shortened, within_reported, within_stopped}
 
 -- the relation holds of what a turn says and leaves, where only sections are given
 abbrev pub Does : Line → (Said → LineState → Type 0) → Turn → Type 0
@@ -139,10 +139,12 @@ report_is : (line : Line) (t c : ℕ) (place : Option Place) (v : LineState) →
 report_is line t c None v bound = (record { said_is = refl; new_is = refl }, bound)
 report_is line t c (Some place) v bound = (record { said_is = refl; new_is = refl }, within_reported line t c place v bound)
 
-end_of_mission_is : (line : Line) (t c : ℕ) (place : Option Place) (v : LineState) → IsWithinLine line v.mark
-    → Does line (Ending line t c place v) (end_at line t c place v)
-end_of_mission_is line t c None v bound = (record { said_is = refl; new_is = refl }, bound)
-end_of_mission_is line t c (Some place) v bound = (record { said_is = refl; new_is = refl }, within_reported line t c place v bound)
+end_of_mission_is : (line : Line) (t c : ℕ) (is_still : Bool) (place : Option Place) (v : LineState) → IsWithinLine line v.mark
+    → Does line (Ending line t c is_still place v) (end_at line t c is_still place v)
+end_of_mission_is line t c is_still None v bound = (record { said_is = refl; new_is = refl }, bound)
+end_of_mission_is line t c false (Some place) v bound = (record { said_is = refl; new_is = refl }, within_reported line t c place v bound)
+end_of_mission_is line t c true (Some place) v bound =
+    (record { said_is = refl; new_is = refl }, within_stopped line t c place (reported line t c place v) (within_reported line t c place v bound))
 
 own_is : (line : Line) (c : ℕ) (m : TrainMessage) (body : TrainBody) (v : LineState) (choice : Choice) → IsWithinLine line v.mark
     → Valid (Does line (Own line v c m body)) (own_turn line c m body v choice)
@@ -163,7 +165,7 @@ own_is line c m (ShorteningGranted stamp position) v choice bound = (
   within_shortened line m.nid_engine c (place_on line (track_of v m.nid_engine) position) (last_kept_of v m.nid_engine) (without_ask m.nid_engine v) bound,
 )
 own_is line c m (ShorteningRejected stamp position) v choice bound = (record { said_is = refl; new_is = refl }, bound)
-own_is line c m (EndOfMission position) v choice bound = end_of_mission_is line m.nid_engine c (place_on line (track_of v m.nid_engine) position) v bound
+own_is line c m (EndOfMission position) v choice bound = end_of_mission_is line m.nid_engine c (position.v_train == 0) (place_on line (track_of v m.nid_engine) position) v bound
 
 -- ## Set and unset
 

@@ -8,7 +8,7 @@ use Rattle.rbc_spec.specs.Acts.{◌>>◌}
 use Rattle.rbc_spec.specs.Step.{step}
 use Rattle.rbc_spec.specs.World.{new_world, world_step}
 use Rattle.test_scenes.specs.Scene.{line, line_of_32_km, line_of_one, line_of_two_tracks, seen, seen_from}
-use Rattle.test_scenes.specs.Requests.{request_asks_over_the_border, request_asks_over_the_border_shows, asks_again_each_round, asks_again_each_round_shows, end_of_the_track, end_of_the_track_shows, report_clears, report_clears_shows, no_integrity_frees_nothing, no_integrity_frees_nothing_shows, request_extends_over_the_border, request_extends_over_the_border_shows, early_frame, early_frame_shows, hand_of_32_sections, hand_of_32_sections_shows, end_within_reach_of_the_message, end_within_reach_of_the_message_shows, longest_authority, longest_authority_shows, one_metre_too_far, one_metre_too_far_shows, end_of_mission, end_of_mission_shows}
+use Rattle.test_scenes.specs.Requests.{request_asks_over_the_border, request_asks_over_the_border_shows, asks_again_each_round, asks_again_each_round_shows, end_of_the_track, end_of_the_track_shows, report_clears, report_clears_shows, no_integrity_frees_nothing, no_integrity_frees_nothing_shows, request_extends_over_the_border, request_extends_over_the_border_shows, early_frame, early_frame_shows, hand_of_32_sections, hand_of_32_sections_shows, end_within_reach_of_the_message, end_within_reach_of_the_message_shows, longest_authority, longest_authority_shows, one_metre_too_far, one_metre_too_far_shows, end_of_mission, end_of_mission_shows, end_at_standstill, end_at_standstill_shows, end_at_standstill_with_a_wish, end_at_standstill_with_a_wish_shows, end_before_the_hand, end_before_the_hand_shows, end_at_the_end_of_the_hand, end_at_the_end_of_the_hand_shows}
 
 pub request_asks_over_the_border_comes_out : seen line request_asks_over_the_border ≡ request_asks_over_the_border_shows
 unfolding within longest line_start end extent beginning ◌>>◌ step new_world world_step seen seen_from
@@ -57,3 +57,19 @@ one_metre_too_far_comes_out = refl
 pub end_of_mission_comes_out : seen line end_of_mission ≡ end_of_mission_shows
 unfolding within longest line_start end extent beginning ◌>>◌ step new_world world_step seen seen_from
 end_of_mission_comes_out = refl
+
+pub end_at_standstill_comes_out : seen line end_at_standstill ≡ end_at_standstill_shows
+unfolding within longest line_start end extent beginning ◌>>◌ step new_world world_step seen seen_from
+end_at_standstill_comes_out = refl
+
+pub end_at_standstill_with_a_wish_comes_out : seen line end_at_standstill_with_a_wish ≡ end_at_standstill_with_a_wish_shows
+unfolding within longest line_start end extent beginning ◌>>◌ step new_world world_step seen seen_from
+end_at_standstill_with_a_wish_comes_out = refl
+
+pub end_before_the_hand_comes_out : seen line end_before_the_hand ≡ end_before_the_hand_shows
+unfolding within longest line_start end extent beginning ◌>>◌ step new_world world_step seen seen_from
+end_before_the_hand_comes_out = refl
+
+pub end_at_the_end_of_the_hand_comes_out : seen line end_at_the_end_of_the_hand ≡ end_at_the_end_of_the_hand_shows
+unfolding within longest line_start end extent beginning ◌>>◌ step new_world world_step seen seen_from
+end_at_the_end_of_the_hand_comes_out = refl

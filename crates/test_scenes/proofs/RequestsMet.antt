@@ -13,8 +13,8 @@ use Rattle.test_scenes.specs.Turns.{quiet_turns}
 use Rattle.test_scenes.specs.Moves.{play}
 use Rattle.test_scenes.specs.Pieces.{centres_show, line_shows, IsMetByRun}
 use Rattle.test_scenes.specs.Scene.{line, line_of_32_km, line_of_one, line_of_two_tracks}
-use Rattle.test_scenes.specs.Requests.{request_asks_over_the_border, asks_again_each_round, end_of_the_track, report_clears, no_integrity_frees_nothing, request_extends_over_the_border, early_frame, hand_of_32_sections, end_within_reach_of_the_message, longest_authority, one_metre_too_far, end_of_mission}
-use Rattle.test_scenes.specs.SceneMoves.{to_the_border_moves, asks_again_each_round_moves, end_of_the_track_moves, report_clears_moves, no_integrity_moves, over_the_border_moves, early_frame_moves, hand_of_32_sections_moves, end_within_reach_of_the_message_moves, longest_authority_moves, one_metre_too_far_moves, end_of_mission_moves}
+use Rattle.test_scenes.specs.Requests.{request_asks_over_the_border, asks_again_each_round, end_of_the_track, report_clears, no_integrity_frees_nothing, request_extends_over_the_border, early_frame, hand_of_32_sections, end_within_reach_of_the_message, longest_authority, one_metre_too_far, end_of_mission, end_at_standstill, end_at_standstill_with_a_wish, end_before_the_hand, end_at_the_end_of_the_hand}
+use Rattle.test_scenes.specs.SceneMoves.{to_the_border_moves, asks_again_each_round_moves, end_of_the_track_moves, report_clears_moves, no_integrity_moves, over_the_border_moves, early_frame_moves, hand_of_32_sections_moves, end_within_reach_of_the_message_moves, longest_authority_moves, one_metre_too_far_moves, end_of_mission_moves, end_at_standstill_moves, end_at_standstill_with_a_wish_moves, end_before_the_hand_moves, end_at_the_end_of_the_hand_moves}
 use Rattle.test_scenes.proofs.Pieces.{met_by_run}
 
 pub request_asks_over_the_border_is_met : IsMetByRun line request_asks_over_the_border to_the_border_moves
@@ -64,3 +64,19 @@ one_metre_too_far_is_met = met_by_run (line_of_32_km 768) one_metre_too_far one_
 pub end_of_mission_is_met : IsMetByRun line end_of_mission end_of_mission_moves
 unfolding within longest line_start end extent beginning ◌>>◌ step new_world world_step line_beginning read_off quiet_turns play centres_show line_shows
 end_of_mission_is_met = met_by_run line end_of_mission end_of_mission_moves refl refl refl
+
+pub end_at_standstill_is_met : IsMetByRun line end_at_standstill end_at_standstill_moves
+unfolding within longest line_start end extent beginning ◌>>◌ step new_world world_step line_beginning read_off quiet_turns play centres_show line_shows
+end_at_standstill_is_met = met_by_run line end_at_standstill end_at_standstill_moves refl refl refl
+
+pub end_at_standstill_with_a_wish_is_met : IsMetByRun line end_at_standstill_with_a_wish end_at_standstill_with_a_wish_moves
+unfolding within longest line_start end extent beginning ◌>>◌ step new_world world_step line_beginning read_off quiet_turns play centres_show line_shows
+end_at_standstill_with_a_wish_is_met = met_by_run line end_at_standstill_with_a_wish end_at_standstill_with_a_wish_moves refl refl refl
+
+pub end_before_the_hand_is_met : IsMetByRun line end_before_the_hand end_before_the_hand_moves
+unfolding within longest line_start end extent beginning ◌>>◌ step new_world world_step line_beginning read_off quiet_turns play centres_show line_shows
+end_before_the_hand_is_met = met_by_run line end_before_the_hand end_before_the_hand_moves refl refl refl
+
+pub end_at_the_end_of_the_hand_is_met : IsMetByRun line end_at_the_end_of_the_hand end_at_the_end_of_the_hand_moves
+unfolding within longest line_start end extent beginning ◌>>◌ step new_world world_step line_beginning read_off quiet_turns play centres_show line_shows
+end_at_the_end_of_the_hand_is_met = met_by_run line end_at_the_end_of_the_hand end_at_the_end_of_the_hand_moves refl refl refl

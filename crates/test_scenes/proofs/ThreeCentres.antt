@@ -8,7 +8,7 @@ use Rattle.rbc_spec.specs.Acts.{◌>>◌}
 use Rattle.rbc_spec.specs.Step.{step}
 use Rattle.rbc_spec.specs.World.{new_world, world_step}
 use Rattle.test_scenes.specs.Scene.{line_of_three, seen, seen_from}
-use Rattle.test_scenes.specs.ThreeCentres.{border_of_the_first, border_of_the_first_shows, second_takes_over, second_takes_over_shows, third_home_holds_the_yield_back, third_home_holds_the_yield_back_shows, withdraw_goes_to_one_centre, withdraw_goes_to_one_centre_shows, first_and_third_not_linked, first_and_third_not_linked_shows, yields_once_cleared, yields_once_cleared_shows, end_of_mission_yields, end_of_mission_yields_shows}
+use Rattle.test_scenes.specs.ThreeCentres.{border_of_the_first, border_of_the_first_shows, second_takes_over, second_takes_over_shows, yield_with_a_third_home, yield_with_a_third_home_shows, wish_at_a_third_centre, wish_at_a_third_centre_shows, any_two_are_linked, any_two_are_linked_shows, each_home_gets_its_section_back, each_home_gets_its_section_back_shows, ended_mission_is_yielded, ended_mission_is_yielded_shows, stands_still_before_the_third, stands_still_before_the_third_shows}
 
 pub border_of_the_first_comes_out : seen (line_of_three 0) border_of_the_first ≡ border_of_the_first_shows
 unfolding within longest line_start end extent beginning ◌>>◌ step new_world world_step seen seen_from
@@ -18,22 +18,26 @@ pub second_takes_over_comes_out : seen (line_of_three 0) second_takes_over ≡ s
 unfolding within longest line_start end extent beginning ◌>>◌ step new_world world_step seen seen_from
 second_takes_over_comes_out = refl
 
-pub third_home_holds_the_yield_back_comes_out : seen (line_of_three 0) third_home_holds_the_yield_back ≡ third_home_holds_the_yield_back_shows
+pub yield_with_a_third_home_comes_out : seen (line_of_three 0) yield_with_a_third_home ≡ yield_with_a_third_home_shows
 unfolding within longest line_start end extent beginning ◌>>◌ step new_world world_step seen seen_from
-third_home_holds_the_yield_back_comes_out = refl
+yield_with_a_third_home_comes_out = refl
 
-pub withdraw_goes_to_one_centre_comes_out : seen (line_of_three 0) withdraw_goes_to_one_centre ≡ withdraw_goes_to_one_centre_shows
+pub wish_at_a_third_centre_comes_out : seen (line_of_three 0) wish_at_a_third_centre ≡ wish_at_a_third_centre_shows
 unfolding within longest line_start end extent beginning ◌>>◌ step new_world world_step seen seen_from
-withdraw_goes_to_one_centre_comes_out = refl
+wish_at_a_third_centre_comes_out = refl
 
-pub first_and_third_not_linked_comes_out : seen (line_of_three 1) first_and_third_not_linked ≡ first_and_third_not_linked_shows
+pub any_two_are_linked_comes_out : seen (line_of_three 1) any_two_are_linked ≡ any_two_are_linked_shows
 unfolding within longest line_start end extent beginning ◌>>◌ step new_world world_step seen seen_from
-first_and_third_not_linked_comes_out = refl
+any_two_are_linked_comes_out = refl
 
-pub yields_once_cleared_comes_out : seen (line_of_three 0) yields_once_cleared ≡ yields_once_cleared_shows
+pub each_home_gets_its_section_back_comes_out : seen (line_of_three 0) each_home_gets_its_section_back ≡ each_home_gets_its_section_back_shows
 unfolding within longest line_start end extent beginning ◌>>◌ step new_world world_step seen seen_from
-yields_once_cleared_comes_out = refl
+each_home_gets_its_section_back_comes_out = refl
 
-pub end_of_mission_yields_comes_out : seen (line_of_three 0) end_of_mission_yields ≡ end_of_mission_yields_shows
+pub ended_mission_is_yielded_comes_out : seen (line_of_three 0) ended_mission_is_yielded ≡ ended_mission_is_yielded_shows
 unfolding within longest line_start end extent beginning ◌>>◌ step new_world world_step seen seen_from
-end_of_mission_yields_comes_out = refl
+ended_mission_is_yielded_comes_out = refl
+
+pub stands_still_before_the_third_comes_out : seen (line_of_three 0) stands_still_before_the_third ≡ stands_still_before_the_third_shows
+unfolding within longest line_start end extent beginning ◌>>◌ step new_world world_step seen seen_from
+stands_still_before_the_third_comes_out = refl

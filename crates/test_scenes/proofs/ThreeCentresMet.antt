@@ -13,8 +13,8 @@ use Rattle.test_scenes.specs.Turns.{quiet_turns}
 use Rattle.test_scenes.specs.Moves.{play}
 use Rattle.test_scenes.specs.Pieces.{centres_show, line_shows, IsMetByRun}
 use Rattle.test_scenes.specs.Scene.{line_of_three}
-use Rattle.test_scenes.specs.ThreeCentres.{border_of_the_first, second_takes_over, third_home_holds_the_yield_back, withdraw_goes_to_one_centre, first_and_third_not_linked, yields_once_cleared, end_of_mission_yields}
-use Rattle.test_scenes.specs.LateMoves.{from_the_first_moves, from_the_second_moves, third_home_holds_the_yield_back_moves, withdraw_goes_to_one_centre_moves, first_and_third_not_linked_moves, yields_once_cleared_moves, end_of_mission_yields_moves}
+use Rattle.test_scenes.specs.ThreeCentres.{border_of_the_first, second_takes_over, yield_with_a_third_home, wish_at_a_third_centre, any_two_are_linked, each_home_gets_its_section_back, ended_mission_is_yielded, stands_still_before_the_third}
+use Rattle.test_scenes.specs.LateMoves.{from_the_first_moves, from_the_second_moves, yield_with_a_third_home_moves, wish_at_a_third_centre_moves, any_two_are_linked_moves, each_home_gets_its_section_back_moves, ended_mission_is_yielded_moves, stands_still_before_the_third_moves}
 use Rattle.test_scenes.proofs.Pieces.{met_by_run}
 
 pub border_of_the_first_is_met : IsMetByRun (line_of_three 0) border_of_the_first from_the_first_moves
@@ -25,22 +25,26 @@ pub second_takes_over_is_met : IsMetByRun (line_of_three 0) second_takes_over fr
 unfolding within longest line_start end extent beginning ◌>>◌ step new_world world_step line_beginning read_off quiet_turns play centres_show line_shows
 second_takes_over_is_met = met_by_run (line_of_three 0) second_takes_over from_the_second_moves refl refl refl
 
-pub third_home_holds_the_yield_back_is_met : IsMetByRun (line_of_three 0) third_home_holds_the_yield_back third_home_holds_the_yield_back_moves
+pub yield_with_a_third_home_is_met : IsMetByRun (line_of_three 0) yield_with_a_third_home yield_with_a_third_home_moves
 unfolding within longest line_start end extent beginning ◌>>◌ step new_world world_step line_beginning read_off quiet_turns play centres_show line_shows
-third_home_holds_the_yield_back_is_met = met_by_run (line_of_three 0) third_home_holds_the_yield_back third_home_holds_the_yield_back_moves refl refl refl
+yield_with_a_third_home_is_met = met_by_run (line_of_three 0) yield_with_a_third_home yield_with_a_third_home_moves refl refl refl
 
-pub withdraw_goes_to_one_centre_is_met : IsMetByRun (line_of_three 0) withdraw_goes_to_one_centre withdraw_goes_to_one_centre_moves
+pub wish_at_a_third_centre_is_met : IsMetByRun (line_of_three 0) wish_at_a_third_centre wish_at_a_third_centre_moves
 unfolding within longest line_start end extent beginning ◌>>◌ step new_world world_step line_beginning read_off quiet_turns play centres_show line_shows
-withdraw_goes_to_one_centre_is_met = met_by_run (line_of_three 0) withdraw_goes_to_one_centre withdraw_goes_to_one_centre_moves refl refl refl
+wish_at_a_third_centre_is_met = met_by_run (line_of_three 0) wish_at_a_third_centre wish_at_a_third_centre_moves refl refl refl
 
-pub first_and_third_not_linked_is_met : IsMetByRun (line_of_three 1) first_and_third_not_linked first_and_third_not_linked_moves
+pub any_two_are_linked_is_met : IsMetByRun (line_of_three 1) any_two_are_linked any_two_are_linked_moves
 unfolding within longest line_start end extent beginning ◌>>◌ step new_world world_step line_beginning read_off quiet_turns play centres_show line_shows
-first_and_third_not_linked_is_met = met_by_run (line_of_three 1) first_and_third_not_linked first_and_third_not_linked_moves refl refl refl
+any_two_are_linked_is_met = met_by_run (line_of_three 1) any_two_are_linked any_two_are_linked_moves refl refl refl
 
-pub yields_once_cleared_is_met : IsMetByRun (line_of_three 0) yields_once_cleared yields_once_cleared_moves
+pub each_home_gets_its_section_back_is_met : IsMetByRun (line_of_three 0) each_home_gets_its_section_back each_home_gets_its_section_back_moves
 unfolding within longest line_start end extent beginning ◌>>◌ step new_world world_step line_beginning read_off quiet_turns play centres_show line_shows
-yields_once_cleared_is_met = met_by_run (line_of_three 0) yields_once_cleared yields_once_cleared_moves refl refl refl
+each_home_gets_its_section_back_is_met = met_by_run (line_of_three 0) each_home_gets_its_section_back each_home_gets_its_section_back_moves refl refl refl
 
-pub end_of_mission_yields_is_met : IsMetByRun (line_of_three 0) end_of_mission_yields end_of_mission_yields_moves
+pub ended_mission_is_yielded_is_met : IsMetByRun (line_of_three 0) ended_mission_is_yielded ended_mission_is_yielded_moves
 unfolding within longest line_start end extent beginning ◌>>◌ step new_world world_step line_beginning read_off quiet_turns play centres_show line_shows
-end_of_mission_yields_is_met = met_by_run (line_of_three 0) end_of_mission_yields end_of_mission_yields_moves refl refl refl
+ended_mission_is_yielded_is_met = met_by_run (line_of_three 0) ended_mission_is_yielded ended_mission_is_yielded_moves refl refl refl
+
+pub stands_still_before_the_third_is_met : IsMetByRun (line_of_three 0) stands_still_before_the_third stands_still_before_the_third_moves
+unfolding within longest line_start end extent beginning ◌>>◌ step new_world world_step line_beginning read_off quiet_turns play centres_show line_shows
+stands_still_before_the_third_is_met = met_by_run (line_of_three 0) stands_still_before_the_third stands_still_before_the_third_moves refl refl refl

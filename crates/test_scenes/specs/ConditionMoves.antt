@@ -5,7 +5,7 @@ use Rattle.rbc_spec.specs.Message.{ShorteningGranted, InitiationOfSession, Sessi
 use Rattle.rbc_spec.specs.Quiet.{Keep, Unkeep, LayDown, TakeUp, Propose, Order}
 use Rattle.rbc_spec.specs.World.{Set, Unset, Delivery}
 use Rattle.test_scenes.specs.Moves.{Move}
-use Rattle.test_scenes.specs.Scene.{Happens, train, session, sets, at, in_section_1}
+use Rattle.test_scenes.specs.Scene.{Happens, train, session, sets, at, in_section_1, moving}
 use Rattle.test_scenes.specs.Conditions.{two_sections}
 use Rattle.test_scenes.specs.SceneMoves.{plain, followed, extends, first_authority, to_the_border_moves, route_moves, over_the_border_moves, announced_moves, reports_to_b, asks_before_3}
 
@@ -89,4 +89,4 @@ abbrev pub proposal_ends_with_the_mission_moves : List Move
 proposal_ends_with_the_mission_moves =
     plain two_sections
     ++ asks_before_2
-    ++ plain (train 1 0 5 (EndOfMission in_section_1) ∷ train 1 0 6 (ShorteningGranted 3 in_section_1) ∷ [])
+    ++ plain (train 1 0 5 (EndOfMission (moving in_section_1)) ∷ train 1 0 6 (ShorteningGranted 3 in_section_1) ∷ [])

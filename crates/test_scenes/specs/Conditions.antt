@@ -4,7 +4,7 @@ use Rattle.rbc_spec.specs.Message.{InitiationOfSession, SessionEstablished, Term
 use Rattle.rbc_spec.specs.Frame.{RouteAsk, Announce, RouteInfo, RouteReturn, RouteWithdraw, TakingOver}
 use Rattle.rbc_spec.specs.Outcome.{Asked, Told, Unasked, Next}
 use Rattle.rbc_spec.specs.World.{Set, Unset, Delivery}
-use Rattle.test_scenes.specs.Scene.{Scene, Happens, Look, Item, Says, Sends, Tells, Link, IsShut, IsOpen, Given, train, session, sets, at, in_section_1, group_1, nothing, done, all_done, times, shows}
+use Rattle.test_scenes.specs.Scene.{Scene, Happens, Look, Item, Says, Sends, Tells, Link, IsShut, IsOpen, Given, train, session, sets, at, in_section_1, group_1, nothing, done, all_done, times, shows, moving}
 use Rattle.test_scenes.specs.Starts.{opened, silent}
 use Rattle.test_scenes.specs.Requests.{asks_for_more, start_and_request, start_and_request_shows, request_to_the_border, request_to_the_border_shows, route_on_the_way, route_on_the_way_shows, over_the_border, over_the_border_shows}
 use Rattle.test_scenes.specs.Handover.{announced, announced_shows, the_yield}
@@ -39,7 +39,7 @@ unset_without_a_session_shows =
 
 -- not when its mission is ended
 abbrev pub unset_after_the_end : List Scene
-unset_after_the_end = two_sections ++ train 1 0 5 (EndOfMission in_section_1) ∷ Happens (Unset 0 2) ∷ Look ∷ []
+unset_after_the_end = two_sections ++ train 1 0 5 (EndOfMission (moving in_section_1)) ∷ Happens (Unset 0 2) ∷ Look ∷ []
 
 abbrev pub unset_after_the_end_shows : List (List Item)
 unset_after_the_end_shows =
@@ -96,7 +96,7 @@ proposal_ends_with_the_session_shows =
 -- or with the mission
 abbrev pub proposal_ends_with_the_mission : List Scene
 proposal_ends_with_the_mission =
-    two_sections ++ Happens (Unset 0 2) ∷ train 1 0 5 (EndOfMission in_section_1) ∷ train 1 0 6 (ShorteningGranted 3 in_section_1) ∷ []
+    two_sections ++ Happens (Unset 0 2) ∷ train 1 0 5 (EndOfMission (moving in_section_1)) ∷ train 1 0 6 (ShorteningGranted 3 in_section_1) ∷ []
 
 abbrev pub proposal_ends_with_the_mission_shows : List (List Item)
 proposal_ends_with_the_mission_shows =

@@ -4,9 +4,9 @@ use Rattle.rbc_spec.specs.Message.{StartOfMission, TrainData, Request, Report, S
 use Rattle.rbc_spec.specs.Quiet.{Keep, Unkeep, Admit, LayDown, TakeUp, Propose, Order, EndOrder}
 use Rattle.rbc_spec.specs.World.{Set, Unset, Delivery}
 use Rattle.test_scenes.specs.Moves.{Move}
-use Rattle.test_scenes.specs.Scene.{Happens, train, session, at, in_section_1}
-use Rattle.test_scenes.specs.ThreeCentres.{in_section_2}
-use Rattle.test_scenes.specs.SceneMoves.{plain, followed, extends, heard, rejected, unanswered, right_comes_moves, first_authority, to_the_border_moves, route_moves, over_the_border_moves, announced_moves, reports_to_b, asks_before_3}
+use Rattle.test_scenes.specs.Scene.{Happens, train, session, at, in_section_1, moving}
+use Rattle.test_scenes.specs.ThreeCentres.{in_section_2, in_section_3}
+use Rattle.test_scenes.specs.SceneMoves.{plain, followed, extends, heard, rejected, right_comes_moves, first_authority, to_the_border_moves, route_moves, over_the_border_moves, announced_moves, reports_to_b, asks_before_3}
 
 -- ## Late frames
 
@@ -34,11 +34,11 @@ last_of_the_pool_withdrawn_moves =
 abbrev pub route_for_an_ended_mission_moves : List Move
 route_for_an_ended_mission_moves =
     route_moves
-    ++ plain (train 1 0 6 (EndOfMission in_section_1) ∷ Happens (Delivery 1 0 1) ∷ [])
+    ++ plain (train 1 0 6 (EndOfMission (moving in_section_1)) ∷ Happens (Delivery 1 0 1) ∷ [])
     ++ followed (Happens (Delivery 0 1 2)) (Unkeep 1 4 ∷ Unkeep 1 5 ∷ Unkeep 1 6 ∷ [])
 
 abbrev pub end_of_mission_with_a_pool_moves : List Move
-end_of_mission_with_a_pool_moves = route_moves ++ plain (Happens (Delivery 1 0 1) ∷ train 1 0 6 (EndOfMission in_section_1) ∷ [])
+end_of_mission_with_a_pool_moves = route_moves ++ plain (Happens (Delivery 1 0 1) ∷ train 1 0 6 (EndOfMission (moving in_section_1)) ∷ [])
 
 abbrev pub awaited_moves : List Move
 awaited_moves =
@@ -120,23 +120,51 @@ from_the_second_moves =
     ++ plain (Happens (Delivery 2 1 1) ∷ [])
     ++ extends 1 (train 1 1 11 (Request in_section_2)) (Order 1 1 ∷ [])
 
--- C takes over, and B does not lay down yet
-abbrev pub held_back_moves : List Move
-held_back_moves =
+-- C has heard of the train, and takes over
+abbrev pub to_the_third_moves : List Move
+to_the_third_moves =
     from_the_second_moves
     ++ plain (Happens (Delivery 1 2 2) ∷ Happens (Delivery 1 2 3) ∷ session 1 2 12)
     ++ heard (train 1 2 14 (Report (at 103 50 (Some 200))))
-    ++ plain (Happens (Delivery 2 1 2) ∷ Happens (Delivery 2 1 3) ∷ [])
 
-abbrev pub third_home_holds_the_yield_back_moves : List Move
-third_home_holds_the_yield_back_moves = held_back_moves ++ unanswered (Happens (Delivery 1 2 4))
+-- B lays down
+abbrev pub yielded_on_moves : List Move
+yielded_on_moves = to_the_third_moves ++ plain (Happens (Delivery 2 1 2) ∷ []) ++ followed (Happens (Delivery 2 1 3)) (LayDown 1 1 ∷ [])
 
-abbrev pub withdraw_goes_to_one_centre_moves : List Move
-withdraw_goes_to_one_centre_moves =
-    held_back_moves ++ plain (Happens (Unset 0 1) ∷ Happens (Delivery 0 1 4) ∷ []) ++ unanswered (Happens (Delivery 0 2 1))
+-- and C takes up
+abbrev pub yield_with_a_third_home_moves : List Move
+yield_with_a_third_home_moves = yielded_on_moves ++ followed (Happens (Delivery 1 2 4)) (TakeUp 1 2 ∷ [])
 
-abbrev pub first_and_third_not_linked_moves : List Move
-first_and_third_not_linked_moves =
+abbrev pub each_home_gets_its_section_back_moves : List Move
+each_home_gets_its_section_back_moves =
+    yield_with_a_third_home_moves
+    ++ plain (train 1 2 15 (Report in_section_3) ∷ [])
+    ++ followed (Happens (Delivery 2 0 1)) (Unkeep 1 1 ∷ EndOrder 1 0 ∷ [])
+    ++ followed (Happens (Delivery 2 1 4)) (Unkeep 1 2 ∷ EndOrder 1 1 ∷ [])
+
+abbrev pub wish_at_a_third_centre_moves : List Move
+wish_at_a_third_centre_moves =
+    yield_with_a_third_home_moves
+    ++ plain (Happens (Unset 0 1) ∷ Happens (Delivery 0 1 4) ∷ Happens (Delivery 0 2 1) ∷ train 1 2 15 (Report in_section_3) ∷ [])
+    ++ followed (Happens (Delivery 2 0 1)) (Unkeep 1 1 ∷ EndOrder 1 0 ∷ [])
+
+abbrev pub ended_mission_is_yielded_moves : List Move
+ended_mission_is_yielded_moves =
+    to_the_third_moves
+    ++ plain (train 1 1 15 (EndOfMission (at 103 210 (Some 200))) ∷ Happens (Delivery 2 1 2) ∷ [])
+    ++ followed (Happens (Delivery 2 1 3)) (LayDown 1 1 ∷ EndOrder 1 1 ∷ [])
+    ++ followed (Happens (Delivery 1 2 4)) (TakeUp 1 2 ∷ [])
+    ++ plain (train 1 2 15 (Request (at 103 210 (Some 200))) ∷ train 1 2 16 (Request (at 103 210 (Some 200))) ∷ [])
+
+abbrev pub stands_still_before_the_third_moves : List Move
+stands_still_before_the_third_moves =
+    to_the_third_moves
+    ++ plain (train 1 1 15 (EndOfMission in_section_2) ∷ Happens (Delivery 2 1 2) ∷ Happens (Delivery 2 1 3) ∷ [])
+    ++ followed (Happens (Delivery 1 2 4)) (Unkeep 1 3 ∷ [])
+    ++ plain (Happens (Delivery 1 2 5) ∷ [])
+
+abbrev pub any_two_are_linked_moves : List Move
+any_two_are_linked_moves =
     plain (Happens (Set 0 1) ∷ Happens (Set 1 2) ∷ (session 1 0 1 ++ train 1 0 3 (StartOfMission true in_section_1) ∷ Happens (Delivery 0 1 1) ∷ []))
     ++ followed (Happens (Delivery 1 0 1)) (Admit 1 0 ∷ [])
     ++ plain (train 1 0 4 (TrainData in_section_1) ∷ [])
@@ -147,20 +175,4 @@ first_and_third_not_linked_moves =
     ++ plain (Happens (Delivery 0 1 3) ∷ session 1 1 7)
     ++ heard (train 1 1 9 (Report in_section_2))
     ++ followed (Happens (Delivery 1 0 3)) (LayDown 1 0 ∷ [])
-    ++ plain (Happens (Unset 0 1) ∷ [])
-    ++ unanswered (Happens (Delivery 0 2 1))
-
--- B lays down as soon as section 1 is cleared, and C takes up; A's section comes home
-abbrev pub yields_once_cleared_moves : List Move
-yields_once_cleared_moves =
-    held_back_moves
-    ++ followed (train 1 1 15 (Report (at 103 50 (Some 200)))) (LayDown 1 1 ∷ [])
-    ++ followed (Happens (Delivery 1 2 4)) (TakeUp 1 2 ∷ [])
-    ++ followed (Happens (Delivery 1 0 3)) (Unkeep 1 1 ∷ EndOrder 1 0 ∷ [])
-
-abbrev pub end_of_mission_yields_moves : List Move
-end_of_mission_yields_moves =
-    held_back_moves
-    ++ followed (train 1 1 15 (EndOfMission (at 103 210 (Some 200)))) (LayDown 1 1 ∷ EndOrder 1 1 ∷ [])
-    ++ followed (Happens (Delivery 1 2 4)) (TakeUp 1 2 ∷ [])
-    ++ plain (train 1 2 15 (Request (at 103 210 (Some 200))) ∷ train 1 2 16 (Request (at 103 210 (Some 200))) ∷ [])
+    ++ plain (Happens (Unset 0 1) ∷ Happens (Delivery 0 2 1) ∷ [])

@@ -44,9 +44,9 @@ stamp_past_the_last = Deliver 1 (frame 9 1073741823) ∷ Set 0 ∷ []
 abbrev pub stamp_past_the_last_shows : List Stamped
 stamp_past_the_last_shows = Err ClockEnd ∷ Ok (1, None) ∷ []
 
--- the first and the third centre have no link, nor has the line a centre 7
+-- a centre has no link to itself, nor has the line a centre 7
 abbrev pub frame_without_a_link : List Event
-frame_without_a_link = Deliver 2 (frame 1 4) ∷ Deliver 7 (frame 1 2) ∷ Set 0 ∷ []
+frame_without_a_link = Deliver 0 (frame 1 4) ∷ Deliver 7 (frame 1 2) ∷ Set 0 ∷ []
 
 abbrev pub frame_without_a_link_shows : List Stamped
 frame_without_a_link_shows = Ok (5, Some NoLink) ∷ Ok (6, Some NoLink) ∷ Ok (7, None) ∷ []

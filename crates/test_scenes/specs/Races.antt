@@ -4,7 +4,7 @@ use Rattle.rbc_spec.specs.Message.{InitiationOfSession, StartOfMission, Request,
 use Rattle.rbc_spec.specs.Frame.{RouteAsk, RouteInfo, RouteReturn, RouteWithdraw, ReturnRight, Announce, Cancel, TakingOver}
 use Rattle.rbc_spec.specs.Outcome.{Asked, Told, StaleStamp, NotSupervised, WrongPhase, Next}
 use Rattle.rbc_spec.specs.World.{Set, Unset, Delivery}
-use Rattle.test_scenes.specs.Scene.{Scene, Happens, Look, Item, Says, Sends, Tells, Link, Mark, IsShut, IsOpen, Given, Kept, train, session, at, in_section_1, group_1, nothing, done, times, shows}
+use Rattle.test_scenes.specs.Scene.{Scene, Happens, Look, Item, Says, Sends, Tells, Link, Mark, IsShut, IsOpen, Given, Kept, train, session, at, in_section_1, group_1, nothing, done, times, shows, moving}
 use Rattle.test_scenes.specs.Starts.{opened, silent, start_elsewhere, start_elsewhere_shows, right_comes, right_comes_shows, shows_section_1}
 use Rattle.test_scenes.specs.Requests.{request_to_the_border, request_to_the_border_shows, route_on_the_way, route_on_the_way_shows, over_the_border, over_the_border_shows}
 use Rattle.test_scenes.specs.Shortening.{asks_to_shorten}
@@ -72,7 +72,7 @@ last_of_the_pool_withdrawn_shows =
 -- the mission is ended before the route comes: it goes home
 abbrev pub route_for_an_ended_mission : List Scene
 route_for_an_ended_mission =
-    route_on_the_way ++ train 1 0 6 (EndOfMission in_section_1) ∷ Happens (Delivery 1 0 1) ∷ Happens (Delivery 0 1 2) ∷ Look ∷ []
+    route_on_the_way ++ train 1 0 6 (EndOfMission (moving in_section_1)) ∷ Happens (Delivery 1 0 1) ∷ Happens (Delivery 0 1 2) ∷ Look ∷ []
 
 abbrev pub route_for_an_ended_mission_shows : List (List Item)
 route_for_an_ended_mission_shows =
@@ -82,7 +82,7 @@ route_for_an_ended_mission_shows =
 
 -- the mission is ended with a pool: that goes home
 abbrev pub end_of_mission_with_a_pool : List Scene
-end_of_mission_with_a_pool = route_on_the_way ++ Happens (Delivery 1 0 1) ∷ train 1 0 6 (EndOfMission in_section_1) ∷ Look ∷ []
+end_of_mission_with_a_pool = route_on_the_way ++ Happens (Delivery 1 0 1) ∷ train 1 0 6 (EndOfMission (moving in_section_1)) ∷ Look ∷ []
 
 abbrev pub end_of_mission_with_a_pool_shows : List (List Item)
 end_of_mission_with_a_pool_shows =

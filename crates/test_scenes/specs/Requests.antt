@@ -1,12 +1,12 @@
 -- Requests and reports: a hand is extended up to the border and over it, and cleared behind the train.
 use Rattle.std.specs.Prelude.{ℕ, ◌+◌, true, List, [], ◌∷◌, ◌++◌, Some, None}
 use Rattle.rbc_spec.specs.Message.{StartOfMission, TrainData, Request, Report, EndOfMission, TrainAccepted, DataAcknowledged, Authority, Transition, unknown_group}
-use Rattle.rbc_spec.specs.Frame.{RouteAsk, RouteInfo, Announce}
-use Rattle.rbc_spec.specs.Outcome.{Next, Old, Early}
+use Rattle.rbc_spec.specs.Frame.{RouteAsk, RouteInfo, RouteWithdraw, RouteReturn, Announce, Cancel}
+use Rattle.rbc_spec.specs.Outcome.{Next, Old, Early, Told, Asked, NotSupervised}
 use Rattle.rbc_spec.specs.Place.{Position}
-use Rattle.rbc_spec.specs.World.{Delivery}
-use Rattle.test_scenes.specs.Scene.{Scene, Happens, Look, LookAtClock, Item, Says, Sends, Link, NeverSent, ShowsClock, IsShut, IsOpen, Given, Kept, train, session, sets, at, in_section_1, group_1, nothing, all_done, times, shows}
-use Rattle.test_scenes.specs.Starts.{opened}
+use Rattle.rbc_spec.specs.World.{Unset, Delivery}
+use Rattle.test_scenes.specs.Scene.{Scene, Happens, Look, LookAtClock, Item, Says, Sends, Tells, Link, NeverSent, Mark, ShowsClock, IsShut, IsOpen, Given, Kept, train, session, sets, at, moving, in_section_1, group_1, nothing, all_done, times, shows}
+use Rattle.test_scenes.specs.Starts.{opened, silent}
 
 -- ## Up to the border
 
@@ -182,10 +182,61 @@ one_metre_too_far_shows =
 
 -- ## End of mission
 
--- the mission ends in section 2: what is behind is cleared, what is ahead stays, and the handover stands
+-- the mission ends under way in section 2: what is behind is cleared, what is ahead stays, and the handover stands
 abbrev pub end_of_mission : List Scene
-end_of_mission = over_the_border ++ train 1 0 7 (EndOfMission (at 102 210 (Some 200))) ∷ Look ∷ []
+end_of_mission = over_the_border ++ train 1 0 7 (EndOfMission (moving (at 102 210 (Some 200)))) ∷ Look ∷ []
 
 abbrev pub end_of_mission_shows : List (List Item)
 end_of_mission_shows =
     over_the_border_shows ++ nothing ∷ shows (IsShut ∷ IsOpen ∷ times 5 (Given 1) ++ IsShut ∷ []) [] ((0 ∷ []) ∷ [] ∷ []) ∷ []
+
+-- behind sections 1 and 3, which are A's, section 2 is left of the hand, and these are the marks of B's sections 4 to 6
+abbrev pub shows_section_2 : (marks : List Mark) (wished : List ℕ) → List Item
+shows_section_2 marks wished = shows (IsShut ∷ IsOpen ∷ Given 1 ∷ IsOpen ∷ marks ++ IsShut ∷ []) wished ((0 ∷ []) ∷ [] ∷ [])
+
+-- it ends at standstill: what lies ahead leaves the hand too, what B lent goes home, and the handover is cancelled, so the train is not
+-- expected at B any more
+abbrev pub end_at_standstill : List Scene
+end_at_standstill =
+    over_the_border
+    ++ train 1 0 7 (EndOfMission (at 102 210 (Some 200))) ∷ Look
+    ∷ Happens (Delivery 0 1 2) ∷ Happens (Delivery 0 1 3) ∷ Happens (Delivery 0 1 4) ∷ Look ∷ Happens (Delivery 0 1 5)
+    ∷ (session 1 1 8 ++ train 1 1 10 (Report (at 104 100 (Some 200))) ∷ [])
+
+abbrev pub end_at_standstill_shows : List (List Item)
+end_at_standstill_shows =
+    over_the_border_shows
+    ++ (Sends 1 4 (RouteReturn 1 (record { first = 4; count = 3 })) ∷ Sends 1 5 (Cancel 1 1) ∷ [])
+    ∷ shows_section_2 (times 3 (Kept 1)) []
+    ∷ (Link Next ∷ []) ∷ (Link Next ∷ Sends 0 2 (RouteInfo 1 (record { first = 7; count = 0 })) ∷ []) ∷ (Link Next ∷ [])
+    ∷ shows_section_2 (times 3 IsOpen) [] ∷ (Link Next ∷ [])
+    ∷ (opened 1 ++ silent NotSupervised ∷ [])
+
+-- section 5 was wished back: as it comes home, it is shut and told
+abbrev pub end_at_standstill_with_a_wish : List Scene
+end_at_standstill_with_a_wish =
+    over_the_border
+    ++ Happens (Unset 1 5) ∷ train 1 0 7 (EndOfMission (at 102 210 (Some 200))) ∷ Look
+    ∷ Happens (Delivery 0 1 2) ∷ Happens (Delivery 0 1 3) ∷ Happens (Delivery 0 1 4) ∷ Look ∷ []
+
+abbrev pub end_at_standstill_with_a_wish_shows : List (List Item)
+end_at_standstill_with_a_wish_shows =
+    over_the_border_shows
+    ++ (Sends 0 2 (RouteWithdraw 1 5) ∷ Tells (Asked 5) ∷ [])
+    ∷ (Sends 1 4 (RouteReturn 1 (record { first = 4; count = 3 })) ∷ Sends 1 5 (Cancel 1 1) ∷ [])
+    ∷ shows_section_2 (times 3 (Kept 1)) (5 ∷ [])
+    ∷ (Link Next ∷ []) ∷ (Link Next ∷ Sends 0 3 (RouteInfo 1 (record { first = 7; count = 0 })) ∷ []) ∷ (Link Next ∷ Tells (Told 5) ∷ [])
+    ∷ shows_section_2 (IsOpen ∷ IsShut ∷ IsOpen ∷ []) [] ∷ []
+
+-- it ends at standstill, with the front still before the hand, or in its last section: nothing lies ahead
+abbrev pub end_before_the_hand : List Scene
+end_before_the_hand = over_the_border ++ train 1 0 7 (EndOfMission (at 100 600 (Some 200))) ∷ Look ∷ []
+
+abbrev pub end_before_the_hand_shows : List (List Item)
+end_before_the_hand_shows = over_the_border_shows ++ nothing ∷ shows_six_given (0 ∷ []) ∷ []
+
+abbrev pub end_at_the_end_of_the_hand : List Scene
+end_at_the_end_of_the_hand = over_the_border ++ train 1 0 7 (EndOfMission (at 106 600 None)) ∷ Look ∷ []
+
+abbrev pub end_at_the_end_of_the_hand_shows : List (List Item)
+end_at_the_end_of_the_hand_shows = over_the_border_shows ++ nothing ∷ shows_six_given (0 ∷ []) ∷ []

@@ -84,6 +84,10 @@ at balise d_lrbg length = record {
   is_level_2 = true;
 }
 
+-- the same, under way
+abbrev pub moving : Position → Position
+moving p = record p { v_train = 1 }
+
 -- in section 1, with the front at 1 620 m and the rear at 1 390 m
 abbrev pub in_section_1 : Position
 in_section_1 = at 101 600 (Some 200)
@@ -186,7 +190,7 @@ abbrev pub mark_of : Entry → Mark
 mark_of Shut = IsShut
 mark_of Open = IsOpen
 mark_of (Taken t) = Kept t
-mark_of (Out t d) = Kept t
+mark_of (Out t) = Kept t
 
 -- the mark of a section with this entry at its home
 abbrev pub mark : Line → World → ℕ → Entry → Mark

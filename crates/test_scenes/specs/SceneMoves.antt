@@ -8,7 +8,7 @@ use Rattle.rbc_spec.specs.Quiet.{Quiet, Keep, Unkeep, Admit, Dismiss, LayDown, T
 use Rattle.rbc_spec.specs.World.{Bytes, Set, Unset, Delivery}
 use Rattle.test_scenes.specs.Turns.{Choice, Plainly, Rejecting, Listening, Extending, Unanswered}
 use Rattle.test_scenes.specs.Moves.{Move}
-use Rattle.test_scenes.specs.Scene.{Scene, Happens, train, session, sets, at, in_section_1}
+use Rattle.test_scenes.specs.Scene.{Scene, Happens, train, session, sets, at, in_section_1, moving}
 use Rattle.test_scenes.specs.Starts.{start, start_elsewhere}
 
 -- the events of a scene, taken this way and followed by these quiet steps
@@ -131,7 +131,28 @@ abbrev pub one_metre_too_far_moves : List Move
 one_metre_too_far_moves = plain (sets 0 0 17) ++ first_authority (at 100 600 (Some 200)) 15
 
 abbrev pub end_of_mission_moves : List Move
-end_of_mission_moves = over_the_border_moves ++ plain (train 1 0 7 (EndOfMission (at 102 210 (Some 200))) ∷ [])
+end_of_mission_moves = over_the_border_moves ++ plain (train 1 0 7 (EndOfMission (moving (at 102 210 (Some 200)))) ∷ [])
+
+-- what B lent comes home
+abbrev pub lent_come_home : List Move
+lent_come_home = followed (Happens (Delivery 0 1 4)) (Unkeep 1 4 ∷ Unkeep 1 5 ∷ Unkeep 1 6 ∷ [])
+
+abbrev pub ends_at_standstill : List Move
+ends_at_standstill = plain (train 1 0 7 (EndOfMission (at 102 210 (Some 200))) ∷ Happens (Delivery 0 1 2) ∷ Happens (Delivery 0 1 3) ∷ []) ++ lent_come_home
+
+abbrev pub end_at_standstill_moves : List Move
+end_at_standstill_moves =
+    over_the_border_moves ++ ends_at_standstill
+    ++ plain (Happens (Delivery 0 1 5) ∷ (session 1 1 8 ++ train 1 1 10 (Report (at 104 100 (Some 200))) ∷ []))
+
+abbrev pub end_at_standstill_with_a_wish_moves : List Move
+end_at_standstill_with_a_wish_moves = over_the_border_moves ++ plain (Happens (Unset 1 5) ∷ []) ++ ends_at_standstill
+
+abbrev pub end_before_the_hand_moves : List Move
+end_before_the_hand_moves = over_the_border_moves ++ plain (train 1 0 7 (EndOfMission (at 100 600 (Some 200))) ∷ [])
+
+abbrev pub end_at_the_end_of_the_hand_moves : List Move
+end_at_the_end_of_the_hand_moves = over_the_border_moves ++ plain (train 1 0 7 (EndOfMission (at 106 600 None)) ∷ [])
 
 -- ## Shortening
 

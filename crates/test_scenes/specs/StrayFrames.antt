@@ -155,7 +155,7 @@ calm_at_a m heard said route_ask count = record {
 -- at B: sections 4 to 6 are out, train 1 has this session and expectation, and train 2's right is here
 abbrev pub calm_at_b : Phase → Option ℕ → (said : ℕ) → Expectation → Effect
 calm_at_b phase heard said e = record {
-  book = Shut ∷ Shut ∷ Shut ∷ Shut ∷ Out 1 0 ∷ Out 1 0 ∷ Out 1 0 ∷ Shut ∷ [];
+  book = Shut ∷ Shut ∷ Shut ∷ Shut ∷ Out 1 ∷ Out 1 ∷ Out 1 ∷ Shut ∷ [];
   wished = [];
   trains = record {
     phase = phase;
@@ -250,7 +250,7 @@ calm_asking = calm_at_a (mission_at_a (record { first = 1; count = 3 }) no_run N
 -- its hand of six is announced to B
 abbrev pub calm_announcing : Effect
 calm_announcing =
-    calm_at_a (mission_at_a one_to_six (record { first = 7; count = 0 }) (Some (record { number = 1; to = 1; is_claimed = false }))) 6 6 (Some 7) 1
+    calm_at_a (mission_at_a one_to_six (record { first = 7; count = 0 }) (Some (record { number = 1; to = 1 }))) 6 6 (Some 7) 1
 
 abbrev pub calm_expecting : Effect
 calm_expecting = calm_at_b Closed None 0 (record { number = 1; is_taking = false })

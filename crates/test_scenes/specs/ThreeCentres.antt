@@ -1,11 +1,11 @@
 -- A train goes over three centres, the second of which has one short section.
 use Rattle.std.specs.Prelude.{ℕ, true, false, List, [], ◌∷◌, ◌++◌, Some, pos}
 use Rattle.rbc_spec.specs.Message.{StartOfMission, TrainData, Request, Report, EndOfMission, TrainAccepted, DataAcknowledged, Authority, Transition, EndSession, unknown_group}
-use Rattle.rbc_spec.specs.Frame.{AskRight, GiveRight, RouteAsk, RouteInfo, RouteReturn, RouteWithdraw, Announce, TakingOver, Yield, YieldedPlace}
-use Rattle.rbc_spec.specs.Outcome.{Asked, StaleStamp, MissionEnded, Next}
+use Rattle.rbc_spec.specs.Frame.{AskRight, GiveRight, RouteAsk, RouteInfo, RouteReturn, RouteWithdraw, Announce, Cancel, TakingOver, Yield, YieldedPlace}
+use Rattle.rbc_spec.specs.Outcome.{Asked, Told, StaleStamp, MissionEnded, Next}
 use Rattle.rbc_spec.specs.Place.{Position}
 use Rattle.rbc_spec.specs.World.{Set, Unset, Delivery}
-use Rattle.test_scenes.specs.Scene.{Scene, Happens, Look, Item, Says, Sends, Tells, Silence, Link, NeverSent, IsShut, IsOpen, Given, Kept, train, session, at, in_section_1, group_1, done, times, shows}
+use Rattle.test_scenes.specs.Scene.{Scene, Happens, Look, Item, Says, Sends, Tells, Silence, Link, IsShut, IsOpen, Given, Kept, train, session, at, in_section_1, group_1, done, times, shows}
 use Rattle.test_scenes.specs.Starts.{opened}
 use Rattle.test_scenes.specs.Requests.{start_and_request, start_and_request_shows}
 
@@ -76,39 +76,120 @@ second_takes_over_shows = from_the_second_shows ++ shows_three_given [] ∷ []
 
 -- ## From B to C
 
--- C takes over while a section of A is in the hand, so B does not yield yet
-abbrev pub held_back : List Scene
-held_back =
+-- C has heard of the train, and takes over
+abbrev pub to_the_third : List Scene
+to_the_third =
     from_the_second
     ++ Happens (Delivery 1 2 2) ∷ Happens (Delivery 1 2 3)
-    ∷ (session 1 2 12
-    ++ train 1 2 14 (Report (at 103 50 (Some 200))) ∷ Happens (Delivery 2 1 2) ∷ Happens (Delivery 2 1 3) ∷ [])
+    ∷ (session 1 2 12 ++ train 1 2 14 (Report (at 103 50 (Some 200))) ∷ [])
 
-abbrev pub held_back_shows : List (List Item)
-held_back_shows =
+abbrev pub to_the_third_shows : List (List Item)
+to_the_third_shows =
     from_the_second_shows
     ++ (Link Next ∷ []) ∷ (Link Next ∷ Sends 1 2 (RouteInfo 1 (record { first = 4; count = 0 })) ∷ [])
-    ∷ (opened 1 ++ (Sends 1 3 (TakingOver 1 1) ∷ []) ∷ (Link Next ∷ []) ∷ (Link Next ∷ []) ∷ [])
+    ∷ (opened 1 ++ (Sends 1 3 (TakingOver 1 1) ∷ []) ∷ [])
 
-abbrev pub third_home_holds_the_yield_back : List Scene
-third_home_holds_the_yield_back = held_back ++ Happens (Delivery 1 2 4) ∷ Look ∷ []
+-- the last place that B heard of
+abbrev pub last_at_b : YieldedPlace
+last_at_b = record { track = 0; group = 82022; front = pos 21200; rear = Some (pos 18400) }
 
-abbrev pub third_home_holds_the_yield_back_shows : List (List Item)
-third_home_holds_the_yield_back_shows = held_back_shows ++ (NeverSent ∷ []) ∷ shows_three_given [] ∷ []
+-- B yields the whole hand, of which the first section is of A
+abbrev pub yielded_on : List Scene
+yielded_on = to_the_third ++ Happens (Delivery 2 1 2) ∷ Happens (Delivery 2 1 3) ∷ []
 
--- a wish of A goes to B alone, which can't have the first section of the hand back
-abbrev pub withdraw_goes_to_one_centre : List Scene
-withdraw_goes_to_one_centre = held_back ++ Happens (Unset 0 1) ∷ Happens (Delivery 0 1 4) ∷ Happens (Delivery 0 2 1) ∷ Look ∷ []
+abbrev pub yielded_on_shows : List (List Item)
+yielded_on_shows =
+    to_the_third_shows
+    ++ (Link Next ∷ []) ∷ (Link Next ∷ Sends 2 4 (Yield 1 1 11 true false last_at_b (record { first = 1; count = 3 })) ∷ []) ∷ []
 
-abbrev pub withdraw_goes_to_one_centre_shows : List (List Item)
-withdraw_goes_to_one_centre_shows =
-    held_back_shows ++ (Sends 1 4 (RouteWithdraw 1 1) ∷ Tells (Asked 1) ∷ []) ∷ (Link Next ∷ []) ∷ (NeverSent ∷ []) ∷ shows_three_given (1 ∷ []) ∷ []
+abbrev pub yield_with_a_third_home : List Scene
+yield_with_a_third_home = yielded_on ++ Look ∷ Happens (Delivery 1 2 4) ∷ Look ∷ []
+
+-- sections 1 to 3 are given to train 1, which C supervises
+abbrev pub shows_at_the_third : List ℕ → List Item
+shows_at_the_third wished = shows (IsShut ∷ times 3 (Given 1) ++ IsShut ∷ []) wished ((2 ∷ []) ∷ [] ∷ [])
+
+abbrev pub yield_with_a_third_home_shows : List (List Item)
+yield_with_a_third_home_shows =
+    yielded_on_shows
+    ++ shows (IsShut ∷ times 3 (Given 1) ++ IsShut ∷ []) [] ([] ∷ [] ∷ []) ∷ (Link Next ∷ []) ∷ shows_at_the_third [] ∷ []
+
+-- in section 3, with sections 1 and 2 behind the rear
+abbrev pub in_section_3 : Position
+in_section_3 = at 103 300 (Some 200)
+
+-- C sends both cleared sections home, each to its centre, which ends its session as it has nothing of the train any more
+abbrev pub each_home_gets_its_section_back : List Scene
+each_home_gets_its_section_back =
+    yielded_on
+    ++ Happens (Delivery 1 2 4) ∷ train 1 2 15 (Report in_section_3) ∷ Look ∷ Happens (Delivery 2 0 1) ∷ Look ∷ Happens (Delivery 2 1 4) ∷ Look ∷ []
+
+abbrev pub each_home_gets_its_section_back_shows : List (List Item)
+each_home_gets_its_section_back_shows =
+    yielded_on_shows
+    ++ (Link Next ∷ [])
+    ∷ (Sends 0 1 (RouteReturn 1 (record { first = 1; count = 1 })) ∷ Sends 1 4 (RouteReturn 1 (record { first = 2; count = 1 })) ∷ [])
+    ∷ shows (IsShut ∷ Kept 1 ∷ Kept 1 ∷ Given 1 ∷ IsShut ∷ []) [] ((2 ∷ []) ∷ [] ∷ [])
+    ∷ (Link Next ∷ Says 1 7 unknown_group (EndSession 5 1) ∷ [])
+    ∷ shows (IsShut ∷ IsOpen ∷ Kept 1 ∷ Given 1 ∷ IsShut ∷ []) [] ((2 ∷ []) ∷ [] ∷ [])
+    ∷ (Link Next ∷ Says 1 5 unknown_group (EndSession 5 2) ∷ [])
+    ∷ shows (IsShut ∷ IsOpen ∷ IsOpen ∷ Given 1 ∷ IsShut ∷ []) [] ((2 ∷ []) ∷ [] ∷ []) ∷ []
+
+-- a wish of A for its section goes to each other centre, and is met as C sends the section home
+abbrev pub wish_at_a_third_centre : List Scene
+wish_at_a_third_centre =
+    yielded_on
+    ++ Happens (Delivery 1 2 4) ∷ Happens (Unset 0 1) ∷ Happens (Delivery 0 1 4) ∷ Happens (Delivery 0 2 1) ∷ Look
+    ∷ train 1 2 15 (Report in_section_3) ∷ Look ∷ Happens (Delivery 2 0 1) ∷ Look ∷ []
+
+abbrev pub wish_at_a_third_centre_shows : List (List Item)
+wish_at_a_third_centre_shows =
+    yielded_on_shows
+    ++ (Link Next ∷ [])
+    ∷ (Sends 1 4 (RouteWithdraw 1 1) ∷ Sends 2 1 (RouteWithdraw 1 1) ∷ Tells (Asked 1) ∷ []) ∷ (Link Next ∷ []) ∷ (Link Next ∷ [])
+    ∷ shows_at_the_third (1 ∷ [])
+    ∷ (Sends 0 1 (RouteReturn 1 (record { first = 1; count = 1 })) ∷ Sends 1 4 (RouteReturn 1 (record { first = 2; count = 1 })) ∷ [])
+    ∷ shows (IsShut ∷ Kept 1 ∷ Kept 1 ∷ Given 1 ∷ IsShut ∷ []) (1 ∷ []) ((2 ∷ []) ∷ [] ∷ [])
+    ∷ (Link Next ∷ Says 1 7 unknown_group (EndSession 5 1) ∷ Tells (Told 1) ∷ [])
+    ∷ shows (IsShut ∷ IsShut ∷ Kept 1 ∷ Given 1 ∷ IsShut ∷ []) [] ((2 ∷ []) ∷ [] ∷ []) ∷ []
+
+-- a mission that ended at B is yielded as that; both other sections are cleared, so B ends its session with the yield
+abbrev pub ended_mission_is_yielded : List Scene
+ended_mission_is_yielded =
+    to_the_third
+    ++ train 1 1 15 (EndOfMission (at 103 210 (Some 200))) ∷ Happens (Delivery 2 1 2) ∷ Happens (Delivery 2 1 3) ∷ Look ∷ Happens (Delivery 1 2 4)
+    ∷ train 1 2 15 (Request (at 103 210 (Some 200))) ∷ train 1 2 16 (Request (at 103 210 (Some 200))) ∷ Look ∷ []
+
+abbrev pub ended_mission_is_yielded_shows : List (List Item)
+ended_mission_is_yielded_shows =
+    to_the_third_shows
+    ++ (Sends 0 3 (RouteReturn 1 (record { first = 1; count = 1 })) ∷ []) ∷ (Link Next ∷ [])
+    ∷ (Link Next ∷ Says 1 5 unknown_group (EndSession 5 2)
+    ∷ Sends 2 4 (Yield 1 1 15 true true (record { track = 0; group = 82023; front = pos 24300; rear = Some (pos 22000) }) (record { first = 3; count = 1 })) ∷ [])
+    ∷ shows (IsShut ∷ Kept 1 ∷ IsOpen ∷ Given 1 ∷ IsShut ∷ []) [] ([] ∷ [] ∷ [])
+    ∷ (Link Next ∷ []) ∷ (Silence StaleStamp ∷ []) ∷ (Silence MissionEnded ∷ [])
+    ∷ shows (IsShut ∷ Kept 1 ∷ IsOpen ∷ Given 1 ∷ IsShut ∷ []) [] ((2 ∷ []) ∷ [] ∷ []) ∷ []
+
+-- a mission that ends at B at standstill, in B's section, gives C's section back, so its handover is cancelled; A's section is behind the train and
+-- stays. C has said that it takes over, and does not get the mission
+abbrev pub stands_still_before_the_third : List Scene
+stands_still_before_the_third =
+    to_the_third
+    ++ train 1 1 15 (EndOfMission in_section_2) ∷ Look ∷ Happens (Delivery 2 1 2) ∷ Happens (Delivery 2 1 3) ∷ Happens (Delivery 1 2 4) ∷ Happens (Delivery 1 2 5) ∷ Look ∷ []
+
+abbrev pub stands_still_before_the_third_shows : List (List Item)
+stands_still_before_the_third_shows =
+    to_the_third_shows
+    ++ (Sends 2 4 (RouteReturn 1 (record { first = 3; count = 1 })) ∷ Sends 2 5 (Cancel 1 1) ∷ [])
+    ∷ shows (IsShut ∷ Given 1 ∷ Given 1 ∷ Kept 1 ∷ IsShut ∷ []) [] ((1 ∷ []) ∷ [] ∷ [])
+    ∷ (Link Next ∷ []) ∷ (Link Next ∷ []) ∷ (Link Next ∷ []) ∷ (Link Next ∷ [])
+    ∷ shows (IsShut ∷ Given 1 ∷ Given 1 ∷ IsOpen ∷ IsShut ∷ []) [] ((1 ∷ []) ∷ [] ∷ []) ∷ []
 
 -- ## With the registrar at B
 
--- A and C are not linked then: the wish for a section that was yielded goes to B alone
-abbrev pub first_and_third_not_linked : List Scene
-first_and_third_not_linked =
+-- A and C are linked, though no track of the line has a border of theirs and neither is the registrar
+abbrev pub any_two_are_linked : List Scene
+any_two_are_linked =
     Happens (Set 0 1) ∷ Happens (Set 1 2)
     ∷ (session 1 0 1
     ++ train 1 0 3 (StartOfMission true in_section_1) ∷ Happens (Delivery 0 1 1) ∷ Happens (Delivery 1 0 1)
@@ -117,8 +198,8 @@ first_and_third_not_linked =
     ∷ (session 1 1 7
     ++ train 1 1 9 (Report in_section_2) ∷ Happens (Delivery 1 0 3) ∷ Happens (Unset 0 1) ∷ Happens (Delivery 0 2 1) ∷ Look ∷ []))
 
-abbrev pub first_and_third_not_linked_shows : List (List Item)
-first_and_third_not_linked_shows =
+abbrev pub any_two_are_linked_shows : List (List Item)
+any_two_are_linked_shows =
     done 1 ∷ done 2
     ∷ (opened 1
     ++ (Sends 1 1 (AskRight 1) ∷ []) ∷ (Link Next ∷ Sends 0 1 (GiveRight 1) ∷ []) ∷ (Link Next ∷ Says 1 2 unknown_group TrainAccepted ∷ [])
@@ -128,42 +209,5 @@ first_and_third_not_linked_shows =
     ∷ (opened 1
     ++ (Sends 0 3 (TakingOver 1 1) ∷ [])
     ∷ (Link Next ∷ Sends 1 4 (Yield 1 1 6 true false last_at_a (record { first = 1; count = 2 })) ∷ [])
-    ∷ (Sends 1 5 (RouteWithdraw 1 1) ∷ Tells (Asked 1) ∷ []) ∷ (NeverSent ∷ [])
+    ∷ (Sends 1 5 (RouteWithdraw 1 1) ∷ Sends 2 1 (RouteWithdraw 1 1) ∷ Tells (Asked 1) ∷ []) ∷ (Link Next ∷ [])
     ∷ shows (IsShut ∷ Given 1 ∷ Given 1 ∷ IsShut ∷ IsShut ∷ []) (1 ∷ []) ([] ∷ [] ∷ []) ∷ []))
-
--- ## The yield that was held back
-
--- section 1 is cleared, and so the supervision is yielded in that step; A's section goes home
-abbrev pub yields_once_cleared : List Scene
-yields_once_cleared =
-    held_back
-    ++ train 1 1 15 (Report (at 103 50 (Some 200))) ∷ Look ∷ Happens (Delivery 1 2 4) ∷ Look ∷ Happens (Delivery 1 0 3) ∷ Look ∷ []
-
--- the last place that B heard of
-abbrev pub last_at_b : YieldedPlace
-last_at_b = record { track = 0; group = 82023; front = pos 22700; rear = Some (pos 20400) }
-
-abbrev pub yields_once_cleared_shows : List (List Item)
-yields_once_cleared_shows =
-    held_back_shows
-    ++ (Sends 0 3 (RouteReturn 1 (record { first = 1; count = 1 }))
-    ∷ Sends 2 4 (Yield 1 1 15 true false last_at_b (record { first = 2; count = 2 })) ∷ [])
-    ∷ shows (IsShut ∷ Kept 1 ∷ Given 1 ∷ Given 1 ∷ IsShut ∷ []) [] ([] ∷ [] ∷ [])
-    ∷ (Link Next ∷ []) ∷ shows (IsShut ∷ Kept 1 ∷ Given 1 ∷ Given 1 ∷ IsShut ∷ []) [] ((2 ∷ []) ∷ [] ∷ [])
-    ∷ (Link Next ∷ Says 1 7 unknown_group (EndSession 5 1) ∷ [])
-    ∷ shows (IsShut ∷ IsOpen ∷ Given 1 ∷ Given 1 ∷ IsShut ∷ []) [] ((2 ∷ []) ∷ [] ∷ []) ∷ []
-
--- the same with the end of the mission, which goes with the yield; both other sections are cleared, so B ends its session
-abbrev pub end_of_mission_yields : List Scene
-end_of_mission_yields =
-    held_back ++ train 1 1 15 (EndOfMission (at 103 210 (Some 200))) ∷ Look ∷ Happens (Delivery 1 2 4) ∷ train 1 2 15 (Request (at 103 210 (Some 200))) ∷ train 1 2 16 (Request (at 103 210 (Some 200))) ∷ Look ∷ []
-
-abbrev pub end_of_mission_yields_shows : List (List Item)
-end_of_mission_yields_shows =
-    held_back_shows
-    ++ (Says 1 5 unknown_group (EndSession 5 2)
-    ∷ Sends 0 3 (RouteReturn 1 (record { first = 1; count = 1 }))
-    ∷ Sends 2 4 (Yield 1 1 15 true true (record { track = 0; group = 82023; front = pos 24300; rear = Some (pos 22000) }) (record { first = 3; count = 1 })) ∷ [])
-    ∷ shows (IsShut ∷ Kept 1 ∷ IsOpen ∷ Given 1 ∷ IsShut ∷ []) [] ([] ∷ [] ∷ [])
-    ∷ (Link Next ∷ []) ∷ (Silence StaleStamp ∷ []) ∷ (Silence MissionEnded ∷ [])
-    ∷ shows (IsShut ∷ Kept 1 ∷ IsOpen ∷ Given 1 ∷ IsShut ∷ []) [] ((2 ∷ []) ∷ [] ∷ []) ∷ []

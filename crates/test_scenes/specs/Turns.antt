@@ -1,6 +1,6 @@
 -- The one line centre, played by hand: what is said at an event or by quiet steps, and the state then, where the rules allow it. It is
 -- computed; that it is so by the relations of the one line centre is proved once.
-use Rattle.std.specs.Prelude.{ℕ, ◌+◌, ◌-◌, ◌*◌, ◌==◌, Bool, true, false, ◌&&◌, ◌||◌, not, if◌then◌else◌, List, [], ◌∷◌, max, Option, Some, None, is_none, nat_lt, nat_le, Ok}
+use Rattle.std.specs.Prelude.{ℕ, ◌+◌, ◌-◌, ◌*◌, ◌==◌, Bool, true, false, ◌&&◌, ◌||◌, not, if◌then◌else◌, List, [], ◌∷◌, max, Option, Some, None, is_none, nat_lt, nat_le, Ok, ◌++◌}
 use Rattle.std.specs.List.{find, list_all, range_with_len}
 use Rattle.std.specs.Option.{option_map_or}
 use Rattle.rbc_spec.specs.Maps.{put, put_pair}
@@ -12,7 +12,7 @@ use Rattle.rbc_spec.specs.Message.{TrainMessage, TrainBody, TrainData, Request, 
 use Rattle.rbc_spec.specs.Outcome.{Word, Done, Asked, NotHome, Reason}
 use Rattle.rbc_spec.specs.Centre.{Opened, Up, Closed, is_up, is_registrar_of}
 use Rattle.rbc_spec.specs.LineCentre.{LineState, Open, Shut, Kept, Given, LineMission, Supervisor, At, Parted, is_given_to, is_kept_for, is_mark_open, is_at, supervises, is_waiting_at, is_waiting, free, told, mark_all, set_mission, change_mission, hears, says, Said}
-use Rattle.rbc_spec.specs.OwnSteps.{one_message, session_ends, with_phase, may_start, begins, restarted, waits, may_be_given, is_cleared_of, reported, release_words, ended, without_ask, shortened, shortening_words, track_of, last_kept_of, is_unused_mark, set_mark, wished_back}
+use Rattle.rbc_spec.specs.OwnSteps.{one_message, session_ends, with_phase, may_start, begins, restarted, waits, may_be_given, is_cleared_of, reported, release_words, ended, without_ask, shortened, shortening_words, track_of, last_kept_of, is_unused_mark, set_mark, wished_back, stopped, stopping_words}
 use Rattle.rbc_spec.specs.Quiet.{Quiet, Keep, Unkeep, Admit, Dismiss, LayDown, TakeUp, Propose, Order, EndOrder, both}
 use Rattle.rbc_spec.specs.Run.{silence, may_listen}
 use Rattle.rbc_spec.specs.World.{Event, Bytes, Set, Unset, Delivery}
@@ -117,9 +117,12 @@ abbrev pub report_at : Line → (t c : ℕ) → Option Place → LineState → T
 report_at line t c None v = quietly v
 report_at line t c (Some place) v = telling (release_words line c (is_cleared_of line v t place) v) (reported line t c place v)
 
-abbrev pub end_at : Line → (t c : ℕ) → Option Place → LineState → Turn
-end_at line t c None v = quietly (ended t v)
-end_at line t c (Some place) v = telling (release_words line c (is_cleared_of line v t place) v) (ended t (reported line t c place v))
+abbrev pub end_at : Line → (t c : ℕ) → Bool → Option Place → LineState → Turn
+end_at line t c is_still None v = quietly (ended t v)
+end_at line t c false (Some place) v = telling (release_words line c (is_cleared_of line v t place) v) (ended t (reported line t c place v))
+end_at line t c true (Some place) v =
+    let there = reported line t c place v in
+    telling (release_words line c (is_cleared_of line v t place) v ++ stopping_words line t c place there) (ended t (stopped line t c place there))
 
 -- a session with these sections' waiting start ends
 abbrev pub session_turn : Line → (t c : ℕ) → TrackBody → LineState → LineState → Turn
@@ -152,7 +155,7 @@ own_turn line c m (Report position) v choice =
 own_turn line c m (ShorteningGranted stamp position) v choice =
     Some (shortening line m.nid_engine c (placed line m.nid_engine (ShorteningGranted stamp position) v) v)
 own_turn line c m (ShorteningRejected stamp position) v choice = Some (quietly (without_ask m.nid_engine v))
-own_turn line c m (EndOfMission position) v choice = Some (end_at line m.nid_engine c (placed line m.nid_engine (EndOfMission position) v) v)
+own_turn line c m (EndOfMission position) v choice = Some (end_at line m.nid_engine c (position.v_train == 0) (placed line m.nid_engine (EndOfMission position) v) v)
 
 abbrev pub set_turn : Line → (c s : ℕ) → LineState → Option Turn
 set_turn line c s v =

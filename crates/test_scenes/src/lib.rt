@@ -19,13 +19,13 @@ ghost use Rattle.rbc_spec.specs.Step.{LinkFull};
 ghost use Rattle.rbc_spec.specs.Step.Event.{Set};
 ghost use Rattle.test_scenes.specs.Scene.{line, times, line_of_a_and_b, line_of_32_km, line_of_one, line_of_three, line_of_two_tracks, seen};
 ghost use Rattle.test_scenes.specs.Starts.{nothing_happens, nothing_happens_shows, set_and_unset, set_and_unset_shows, session_opens, session_opens_shows, session_opens_again, session_opens_again_shows, trains_are_named, trains_are_named_show, session_opens_over_a_session, session_opens_over_a_session_shows, session_ends, session_ends_shows, messages_without_a_session, messages_without_a_session_show, messages_before_the_session_is_up, messages_before_the_session_is_up_show, messages_without_a_mission, messages_without_a_mission_show, first_reason, first_reason_shows, start_at_the_registrar, start_at_the_registrar_shows, start_at_a_shut_section, start_at_a_shut_section_shows, request_without_train_data, request_without_train_data_shows, hand_outlives_the_session, hand_outlives_the_session_shows, start_after_the_end_of_mission, start_after_the_end_of_mission_shows, unset_of_the_first_section, unset_of_the_first_section_shows, right_comes, right_comes_shows, right_goes_back, right_goes_back_shows, right_serves_a_later_start, right_serves_a_later_start_shows, ask_delivered_twice, ask_delivered_twice_shows, right_is_refused, right_is_refused_shows};
-ghost use Rattle.test_scenes.specs.Requests.{request_asks_over_the_border, request_asks_over_the_border_shows, asks_again_each_round, asks_again_each_round_shows, end_of_the_track, end_of_the_track_shows, report_clears, report_clears_shows, no_integrity_frees_nothing, no_integrity_frees_nothing_shows, request_extends_over_the_border, request_extends_over_the_border_shows, early_frame, early_frame_shows, hand_of_32_sections, hand_of_32_sections_shows, end_within_reach_of_the_message, end_within_reach_of_the_message_shows, longest_authority, longest_authority_shows, one_metre_too_far, one_metre_too_far_shows, end_of_mission, end_of_mission_shows};
+ghost use Rattle.test_scenes.specs.Requests.{request_asks_over_the_border, request_asks_over_the_border_shows, asks_again_each_round, asks_again_each_round_shows, end_of_the_track, end_of_the_track_shows, report_clears, report_clears_shows, no_integrity_frees_nothing, no_integrity_frees_nothing_shows, request_extends_over_the_border, request_extends_over_the_border_shows, early_frame, early_frame_shows, hand_of_32_sections, hand_of_32_sections_shows, end_within_reach_of_the_message, end_within_reach_of_the_message_shows, longest_authority, longest_authority_shows, one_metre_too_far, one_metre_too_far_shows, end_of_mission, end_of_mission_shows, end_at_standstill, end_at_standstill_shows, end_at_standstill_with_a_wish, end_at_standstill_with_a_wish_shows, end_before_the_hand, end_before_the_hand_shows, end_at_the_end_of_the_hand, end_at_the_end_of_the_hand_shows};
 ghost use Rattle.test_scenes.specs.Shortening.{unset_in_a_hand, unset_in_a_hand_shows, start_drops_the_proposal, start_drops_the_proposal_shows, shortening_in_one_centre, shortening_in_one_centre_shows, shortening_and_a_late_route, shortening_and_a_late_route_shows, answer_to_another_proposal, answer_to_another_proposal_shows, granted_past_the_proposed_end, granted_past_the_proposed_end_shows, another_answer_at_the_border, another_answer_at_the_border_shows, asking_again_tries_again, asking_again_tries_again_shows};
 ghost use Rattle.test_scenes.specs.Handover.{handover, handover_shows, return_after_handover, return_after_handover_shows, yield_carries_the_last_stamp_heard, yield_carries_the_last_stamp_heard_shows, cancelled_before_taking_over, cancelled_before_taking_over_shows};
-ghost use Rattle.test_scenes.specs.ThreeCentres.{border_of_the_first, border_of_the_first_shows, second_takes_over, second_takes_over_shows, third_home_holds_the_yield_back, third_home_holds_the_yield_back_shows, withdraw_goes_to_one_centre, withdraw_goes_to_one_centre_shows, first_and_third_not_linked, first_and_third_not_linked_shows, yields_once_cleared, yields_once_cleared_shows, end_of_mission_yields, end_of_mission_yields_shows};
+ghost use Rattle.test_scenes.specs.ThreeCentres.{border_of_the_first, border_of_the_first_shows, second_takes_over, second_takes_over_shows, yield_with_a_third_home, yield_with_a_third_home_shows, wish_at_a_third_centre, wish_at_a_third_centre_shows, any_two_are_linked, any_two_are_linked_shows, each_home_gets_its_section_back, each_home_gets_its_section_back_shows, ended_mission_is_yielded, ended_mission_is_yielded_shows, stands_still_before_the_third, stands_still_before_the_third_shows};
 ghost use Rattle.test_scenes.specs.Pieces.{IsMetByRun, IsMetByForcedRun, IsLineRunOf};
-ghost use Rattle.test_scenes.specs.SceneMoves.{another_answer_at_the_border_moves, answer_to_another_proposal_moves, ask_delivered_twice_moves, asking_again_tries_again_moves, asks_again_each_round_moves, cancelled_moves, early_frame_moves, end_of_mission_moves, end_of_the_track_moves, end_within_reach_of_the_message_moves, granted_past_the_proposed_end_moves, hand_of_32_sections_moves, handed_over_moves, last_stamp_heard_moves, late_route_moves, longest_authority_moves, no_integrity_moves, one_metre_too_far_moves, over_the_border_moves, plain, report_clears_moves, return_moves, right_comes_moves, right_is_refused_moves, right_serves_a_later_start_moves, shortening_in_one_centre_moves, start_drops_the_proposal_moves, start_moves, to_the_border_moves, trains_are_named_moves, unset_in_a_hand_moves};
-ghost use Rattle.test_scenes.specs.LateMoves.{end_of_mission_yields_moves, first_and_third_not_linked_moves, from_the_first_moves, from_the_second_moves, third_home_holds_the_yield_back_moves, withdraw_goes_to_one_centre_moves, yields_once_cleared_moves};
+ghost use Rattle.test_scenes.specs.SceneMoves.{another_answer_at_the_border_moves, answer_to_another_proposal_moves, ask_delivered_twice_moves, asking_again_tries_again_moves, asks_again_each_round_moves, cancelled_moves, early_frame_moves, end_of_mission_moves, end_at_standstill_moves, end_at_standstill_with_a_wish_moves, end_before_the_hand_moves, end_at_the_end_of_the_hand_moves, end_of_the_track_moves, end_within_reach_of_the_message_moves, granted_past_the_proposed_end_moves, hand_of_32_sections_moves, handed_over_moves, last_stamp_heard_moves, late_route_moves, longest_authority_moves, no_integrity_moves, one_metre_too_far_moves, over_the_border_moves, plain, report_clears_moves, return_moves, right_comes_moves, right_is_refused_moves, right_serves_a_later_start_moves, shortening_in_one_centre_moves, start_drops_the_proposal_moves, start_moves, to_the_border_moves, trains_are_named_moves, unset_in_a_hand_moves};
+ghost use Rattle.test_scenes.specs.LateMoves.{from_the_first_moves, from_the_second_moves, ended_mission_is_yielded_moves, stands_still_before_the_third_moves, any_two_are_linked_moves, yield_with_a_third_home_moves, wish_at_a_third_centre_moves, each_home_gets_its_section_back_moves};
 ghost use Rattle.test_scenes.specs.Conditions.{unset_without_a_session, unset_without_a_session_shows, unset_after_the_end, unset_after_the_end_shows, unset_again, unset_again_shows, front_before_the_hand, front_before_the_hand_shows, front_in_the_section, front_in_the_section_shows, section_out_of_reach, section_out_of_reach_shows, yield_with_a_pool, yield_with_a_pool_shows, cut_with_a_pool, cut_with_a_pool_shows, cut_behind_the_border, cut_behind_the_border_shows, proposal_ends_with_the_session, proposal_ends_with_the_session_shows, start_outside_the_hand, start_outside_the_hand_shows, request_again_over_the_border, request_again_over_the_border_shows, request_while_asked, request_while_asked_shows, full_hand_at_the_border, full_hand_at_the_border_shows, pool_out_of_reach, pool_out_of_reach_shows, proposal_ends_with_the_mission, proposal_ends_with_the_mission_shows};
 ghost use Rattle.test_scenes.specs.ConditionMoves.{unset_without_a_session_moves, unset_again_moves, front_before_the_hand_moves, front_in_the_section_moves, section_out_of_reach_moves, yield_with_a_pool_moves, cut_with_a_pool_moves, cut_behind_the_border_moves, proposal_ends_with_the_session_moves, request_again_over_the_border_moves, request_while_asked_moves, full_hand_at_the_border_moves, pool_out_of_reach_moves, proposal_ends_with_the_mission_moves};
 ghost use Rattle.test_scenes.specs.StrayFrames.{asking, announcing, expecting, taking_over, effects, deliveries, strays_to_a, strays_from_c, strays_to_the_announcing, strays_to_the_expecting, strays_to_the_taking, fronts_before_the_track, taken_without_effect, calm_asking, calm_announcing, calm_expecting, calm_taking, missions_taken, mission_at};
@@ -79,6 +79,10 @@ pub fn requests_and_reports()
     ensures longest_authority { seen (line_of_32_km 767) longest_authority ≡ longest_authority_shows }
     ensures one_metre_too_far { seen (line_of_32_km 768) one_metre_too_far ≡ one_metre_too_far_shows }
     ensures end_of_mission { seen line end_of_mission ≡ end_of_mission_shows }
+    ensures end_at_standstill { seen line end_at_standstill ≡ end_at_standstill_shows }
+    ensures end_at_standstill_with_a_wish { seen line end_at_standstill_with_a_wish ≡ end_at_standstill_with_a_wish_shows }
+    ensures end_before_the_hand { seen line end_before_the_hand ≡ end_before_the_hand_shows }
+    ensures end_at_the_end_of_the_hand { seen line end_at_the_end_of_the_hand ≡ end_at_the_end_of_the_hand_shows }
 {}
 
 /// How a section of a hand is wished back, and what the train answers.
@@ -105,11 +109,12 @@ pub fn trains_handed_over()
 pub fn over_three_centres()
     ensures border_of_the_first { seen (line_of_three 0) border_of_the_first ≡ border_of_the_first_shows }
     ensures second_takes_over { seen (line_of_three 0) second_takes_over ≡ second_takes_over_shows }
-    ensures third_home_holds_the_yield_back { seen (line_of_three 0) third_home_holds_the_yield_back ≡ third_home_holds_the_yield_back_shows }
-    ensures withdraw_goes_to_one_centre { seen (line_of_three 0) withdraw_goes_to_one_centre ≡ withdraw_goes_to_one_centre_shows }
-    ensures first_and_third_not_linked { seen (line_of_three 1) first_and_third_not_linked ≡ first_and_third_not_linked_shows }
-    ensures yields_once_cleared { seen (line_of_three 0) yields_once_cleared ≡ yields_once_cleared_shows }
-    ensures end_of_mission_yields { seen (line_of_three 0) end_of_mission_yields ≡ end_of_mission_yields_shows }
+    ensures yield_with_a_third_home { seen (line_of_three 0) yield_with_a_third_home ≡ yield_with_a_third_home_shows }
+    ensures wish_at_a_third_centre { seen (line_of_three 0) wish_at_a_third_centre ≡ wish_at_a_third_centre_shows }
+    ensures any_two_are_linked { seen (line_of_three 1) any_two_are_linked ≡ any_two_are_linked_shows }
+    ensures each_home_gets_its_section_back { seen (line_of_three 0) each_home_gets_its_section_back ≡ each_home_gets_its_section_back_shows }
+    ensures ended_mission_is_yielded { seen (line_of_three 0) ended_mission_is_yielded ≡ ended_mission_is_yielded_shows }
+    ensures stands_still_before_the_third { seen (line_of_three 0) stands_still_before_the_third ≡ stands_still_before_the_third_shows }
 {}
 
 /// When a step is refused, what is answered to a frame of a centre without a link, that no section past the 512th is asked for, and
@@ -166,6 +171,10 @@ pub fn requests_met()
     ensures longest_authority { IsMetByRun (line_of_32_km 767) longest_authority longest_authority_moves }
     ensures one_metre_too_far { IsMetByRun (line_of_32_km 768) one_metre_too_far one_metre_too_far_moves }
     ensures end_of_mission { IsMetByRun line end_of_mission end_of_mission_moves }
+    ensures end_at_standstill { IsMetByRun line end_at_standstill end_at_standstill_moves }
+    ensures end_at_standstill_with_a_wish { IsMetByRun line end_at_standstill_with_a_wish end_at_standstill_with_a_wish_moves }
+    ensures end_before_the_hand { IsMetByRun line end_before_the_hand end_before_the_hand_moves }
+    ensures end_at_the_end_of_the_hand { IsMetByRun line end_at_the_end_of_the_hand end_at_the_end_of_the_hand_moves }
 {}
 
 /// The scenes of requests to shorten, met.
@@ -192,11 +201,12 @@ pub fn handovers_met()
 pub fn three_centres_met()
     ensures border_of_the_first { IsMetByRun (line_of_three 0) border_of_the_first from_the_first_moves }
     ensures second_takes_over { IsMetByRun (line_of_three 0) second_takes_over from_the_second_moves }
-    ensures third_home_holds_the_yield_back { IsMetByRun (line_of_three 0) third_home_holds_the_yield_back third_home_holds_the_yield_back_moves }
-    ensures withdraw_goes_to_one_centre { IsMetByRun (line_of_three 0) withdraw_goes_to_one_centre withdraw_goes_to_one_centre_moves }
-    ensures first_and_third_not_linked { IsMetByRun (line_of_three 1) first_and_third_not_linked first_and_third_not_linked_moves }
-    ensures yields_once_cleared { IsMetByRun (line_of_three 0) yields_once_cleared yields_once_cleared_moves }
-    ensures end_of_mission_yields { IsMetByRun (line_of_three 0) end_of_mission_yields end_of_mission_yields_moves }
+    ensures yield_with_a_third_home { IsMetByRun (line_of_three 0) yield_with_a_third_home yield_with_a_third_home_moves }
+    ensures wish_at_a_third_centre { IsMetByRun (line_of_three 0) wish_at_a_third_centre wish_at_a_third_centre_moves }
+    ensures any_two_are_linked { IsMetByRun (line_of_three 1) any_two_are_linked any_two_are_linked_moves }
+    ensures each_home_gets_its_section_back { IsMetByRun (line_of_three 0) each_home_gets_its_section_back each_home_gets_its_section_back_moves }
+    ensures ended_mission_is_yielded { IsMetByRun (line_of_three 0) ended_mission_is_yielded ended_mission_is_yielded_moves }
+    ensures stands_still_before_the_third { IsMetByRun (line_of_three 0) stands_still_before_the_third stands_still_before_the_third_moves }
 {}
 
 /// What a single condition decides.

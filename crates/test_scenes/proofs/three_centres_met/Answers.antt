@@ -1,4 +1,4 @@
-use Rattle.test_scenes.proofs.ThreeCentresMet.{border_of_the_first_is_met, second_takes_over_is_met, third_home_holds_the_yield_back_is_met, withdraw_goes_to_one_centre_is_met, first_and_third_not_linked_is_met, yields_once_cleared_is_met, end_of_mission_yields_is_met}
+use Rattle.test_scenes.proofs.ThreeCentresMet.{border_of_the_first_is_met, second_takes_over_is_met, yield_with_a_third_home_is_met, wish_at_a_third_centre_is_met, any_two_are_linked_is_met, each_home_gets_its_section_back_is_met, ended_mission_is_yielded_is_met, stands_still_before_the_third_is_met}
 use Rattle.test_scenes.proofs.three_centres_met.Goals as goal
 
 pub returns-clause-border_of_the_first : goal.returns-clause-border_of_the_first
@@ -7,17 +7,20 @@ returns-clause-border_of_the_first c = border_of_the_first_is_met
 pub returns-clause-second_takes_over : goal.returns-clause-second_takes_over
 returns-clause-second_takes_over c = second_takes_over_is_met
 
-pub returns-clause-third_home_holds_the_yield_back : goal.returns-clause-third_home_holds_the_yield_back
-returns-clause-third_home_holds_the_yield_back c = third_home_holds_the_yield_back_is_met
+pub returns-clause-yield_with_a_third_home : goal.returns-clause-yield_with_a_third_home
+returns-clause-yield_with_a_third_home c = yield_with_a_third_home_is_met
 
-pub returns-clause-withdraw_goes_to_one_centre : goal.returns-clause-withdraw_goes_to_one_centre
-returns-clause-withdraw_goes_to_one_centre c = withdraw_goes_to_one_centre_is_met
+pub returns-clause-wish_at_a_third_centre : goal.returns-clause-wish_at_a_third_centre
+returns-clause-wish_at_a_third_centre c = wish_at_a_third_centre_is_met
 
-pub returns-clause-first_and_third_not_linked : goal.returns-clause-first_and_third_not_linked
-returns-clause-first_and_third_not_linked c = first_and_third_not_linked_is_met
+pub returns-clause-any_two_are_linked : goal.returns-clause-any_two_are_linked
+returns-clause-any_two_are_linked c = any_two_are_linked_is_met
 
-pub returns-clause-yields_once_cleared : goal.returns-clause-yields_once_cleared
-returns-clause-yields_once_cleared c = yields_once_cleared_is_met
+pub returns-clause-each_home_gets_its_section_back : goal.returns-clause-each_home_gets_its_section_back
+returns-clause-each_home_gets_its_section_back c = each_home_gets_its_section_back_is_met
 
-pub returns-clause-end_of_mission_yields : goal.returns-clause-end_of_mission_yields
-returns-clause-end_of_mission_yields c = end_of_mission_yields_is_met
+pub returns-clause-ended_mission_is_yielded : goal.returns-clause-ended_mission_is_yielded
+returns-clause-ended_mission_is_yielded c = ended_mission_is_yielded_is_met
+
+pub returns-clause-stands_still_before_the_third : goal.returns-clause-stands_still_before_the_third
+returns-clause-stands_still_before_the_third c = stands_still_before_the_third_is_met

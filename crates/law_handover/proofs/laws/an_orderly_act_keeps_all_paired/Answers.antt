@@ -1,8 +1,13 @@
+use Rattle.law_handover.proofs.Steps.{none_is_allowed}
+use Rattle.law_handover.specs.Orderly.{none_allowed}
 use Rattle.law_handover.proofs.Kept.{orderly_pairs, taking_pairs}
 use Rattle.law_handover.proofs.laws.an_orderly_act_keeps_all_paired.Goals as goal
 
 pub returns-clause-acts : goal.returns-clause-acts
-returns-clause-acts o w c i j t y frames counted is = orderly_pairs w counted c y frames is i j t
+returns-clause-acts o w c i j t y frames counted is = orderly_pairs w counted c y frames none_allowed is (λ d u x so. absurd (none_is_allowed so)) i j t
+
+pub returns-clause-yields : goal.returns-clause-yields
+returns-clause-yields o w c i j t y frames allow counted is may = orderly_pairs w counted c y frames allow is may i j t
 
 pub returns-clause-takes : goal.returns-clause-takes
 returns-clause-takes o w a c i j t f y head is = taking_pairs w a c f head y is i j t

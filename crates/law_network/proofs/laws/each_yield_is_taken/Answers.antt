@@ -1,15 +1,13 @@
 use Rattle.std.proofs.lemmas.Bool.{ltb-true}
 use Rattle.law_network.specs.Flow.{centre_count}
-use Rattle.law_network.proofs.Neighbours.{neighbours}
 use Rattle.law_network.proofs.Taken.{place, is_carried, is_taken}
 use Rattle.law_network.proofs.laws.each_yield_is_taken.Goals as goal
 
 pub returns : goal.returns
 returns ctx line w a c number t heard has_data is_ended carried hand ok sound from to takes =
     let small = ltb-true a (centre_count line) from in
-    let below = ltb-true c (centre_count line) to in
-    let near = neighbours line ok in (
-      place line near w sound a c number t heard has_data is_ended carried hand from to small below takes,
-      is_carried line near w sound a c number t heard has_data is_ended carried hand from to small below takes,
-      is_taken line near w sound a c number t heard has_data is_ended carried hand from to small below takes,
+    let below = ltb-true c (centre_count line) to in (
+      place line w sound a c number t heard has_data is_ended carried hand from to small below takes,
+      is_carried line w sound a c number t heard has_data is_ended carried hand from to small below takes,
+      is_taken line w sound a c number t heard has_data is_ended carried hand from to small below takes,
     )

@@ -39,4 +39,4 @@ pub returns-clause-range : goal.returns-clause-range
 returns-clause-range c = lent_range _ _ _ _ _ _ _ _ (lends c)
 
 pub returns-clause-exact : goal.returns-clause-exact
-returns-clause-exact c k has = asked_some _ _ _ _ _ _ _ _ (lends c) c.args.to c.args.nid_engine k c.lend_run.new.book has c.lend_run.ensures
+returns-clause-exact c d k has = asked_some _ _ _ _ _ _ _ _ (lends c) d c.args.nid_engine k c.lend_run.new.book has c.lend_run.ensures

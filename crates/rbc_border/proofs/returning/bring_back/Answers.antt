@@ -11,7 +11,7 @@ pub loop-k-init : goal.loop-k-init
 loop-k-init c = record {
   marks = marked-none c.args.run.first 0;
   fits = omega arith;
-  book = brings_none c.args.nid_engine c.args.from c.args.run.first c.args.book.now;
+  book = brings_none c.args.nid_engine c.args.run.first c.args.book.now;
 }
 
 pub loop-k-preserved : goal.loop-k-preserved
@@ -19,16 +19,16 @@ loop-k-preserved c =
     let t = c.args.nid_engine in
     let first = c.args.run.first in
     let k = c.loop-k.k in
-    let book = brings_more t c.args.from first k (first + k) c.args.book.now c.loop-k.book refl c.loop-k.invariant.book c.bring_one.new.book c.bring_one.ensures.book in
-    let before = sym (next_as_before t c.args.from first k (first + k) c.args.book.now c.loop-k.book refl c.loop-k.invariant.book) ∙ sym c.bring_one.ensures.told in
+    let book = brings_more t first k (first + k) c.args.book.now c.loop-k.book refl c.loop-k.invariant.book c.bring_one.new.book c.bring_one.ensures.book in
+    let before = sym (next_as_before t first k (first + k) c.args.book.now c.loop-k.book refl c.loop-k.invariant.book) ∙ sym c.bring_one.ensures.told in
     elim c.if-bring_one.branch [
       | then-bring_one w ↦ record {
-        marks = marks_more t c.args.from first k c.loop-k.marks c.if-bring_one.mark c.args.book.now true (omega (arith, w.mark-is)) (ap (λ m. eqb m 1) w.mark-is) (before ∙ w.if-bring_one.true) c.loop-k.invariant.marks;
+        marks = marks_more t first k c.loop-k.marks c.if-bring_one.mark c.args.book.now true (omega (arith, w.mark-is)) (ap (λ m. eqb m 1) w.mark-is) (before ∙ w.if-bring_one.true) c.loop-k.invariant.marks;
         fits = mark_fits k c.loop-k.marks c.if-bring_one.mark (omega (arith, w.mark-is)) c.loop-k.invariant.fits;
         book = book;
       }
       | else-bring_one w ↦ record {
-        marks = marks_more t c.args.from first k c.loop-k.marks c.if-bring_one.mark c.args.book.now false (omega (arith, w.mark-is)) (ap (λ m. eqb m 1) w.mark-is) (before ∙ w.if-bring_one.false) c.loop-k.invariant.marks;
+        marks = marks_more t first k c.loop-k.marks c.if-bring_one.mark c.args.book.now false (omega (arith, w.mark-is)) (ap (λ m. eqb m 1) w.mark-is) (before ∙ w.if-bring_one.false) c.loop-k.invariant.marks;
         fits = mark_fits k c.loop-k.marks c.if-bring_one.mark (omega (arith, w.mark-is)) c.loop-k.invariant.fits;
         book = book;
       }
@@ -39,6 +39,6 @@ returns-clause-exact c line centre k has =
     let t = c.args.nid_engine in
     let first = c.args.run.first in
     let all : c.loop-k.k ≡ c.args.run.count = omega arith in
-    freed_is line centre t c.args.from (run_of c.args.run) k c.args.book.now has c.loop-k.book c.of.result
-    (subst (λ n. BringsBack t c.args.from (record { first = first; count = n }) c.args.book.now c.loop-k.book) all c.loop-k.invariant.book)
-    (c.of.ensures ∙ ap (λ n. marked first n c.loop-k.marks) (sym all) ∙ c.loop-k.invariant.marks ∙ ap (λ n. told_back t c.args.from (record { first = first; count = n }) c.args.book.now) all)
+    freed_is line centre t (run_of c.args.run) k c.args.book.now has c.loop-k.book c.of.result
+    (subst (λ n. BringsBack t (record { first = first; count = n }) c.args.book.now c.loop-k.book) all c.loop-k.invariant.book)
+    (c.of.ensures ∙ ap (λ n. marked first n c.loop-k.marks) (sym all) ∙ c.loop-k.invariant.marks ∙ ap (λ n. told_back t (record { first = first; count = n }) c.args.book.now) all)

@@ -7,7 +7,7 @@ use Rattle.rbc_mission.proofs.Passes.{none_passed, more_passed}
 use Rattle.rbc_mission.proofs.passing.pass_all.Goals as goal
 
 pub loop-init : goal.loop-init
-loop-init c = none_passed c.args.nid_engine c.args.to c.args.hand.now c.args.book.now
+loop-init c = none_passed c.args.nid_engine c.args.hand.now c.args.book.now
 
 pub pass_first-requires-clause-held : goal.pass_first-requires-clause-held
 pass_first-requires-clause-held c =
@@ -19,4 +19,4 @@ pass_first-requires-clause-some c = front_left c.loop.counter c.args.hand.now c.
 
 pub loop-preserved : goal.loop-preserved
 loop-preserved c =
-    more_passed c.args.nid_engine c.args.to c.loop.counter c.args.hand.now c.loop.hand c.pass_first.new.hand c.args.book.now c.loop.book c.pass_first.new.book c.loop.invariant c.pass_first.ensures.hand c.pass_first.ensures.book
+    more_passed c.args.nid_engine c.loop.counter c.args.hand.now c.loop.hand c.pass_first.new.hand c.args.book.now c.loop.book c.pass_first.new.book c.loop.invariant c.pass_first.ensures.hand c.pass_first.ensures.book

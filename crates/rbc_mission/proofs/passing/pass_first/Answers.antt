@@ -9,5 +9,5 @@ returns-in-Some-clause-hand c = c.cut_front.ensures.hand ∙ cond-false _ c.args
 
 pub returns-in-Some-clause-book : goal.returns-in-Some-clause-book
 returns-in-Some-clause-book c =
-    passes_front c.args.nid_engine c.args.to c.args.hand.now c.in-Some.token c.cut_front.result c.args.book.now c.pass_token.new.book
+    passes_front c.args.nid_engine c.args.hand.now c.in-Some.token c.cut_front.result c.args.book.now c.pass_token.new.book
     c.cut_front.ensures.token c.in-Some.is c.requires.held c.pass_token.ensures

@@ -5,13 +5,13 @@ use Rattle.rbc_mission.proofs.passing.token_from.Goals as goal
 
 pub returns-in-Some : goal.returns-in-Some
 returns-in-Some c =
-    let held = held_claim c.args.nid_engine c.args.from c.args.s (is_out_for c.args.nid_engine c.args.from (entry_at c.args.book.now c.args.s)) (is_own c.args.book.now c.args.s) c.in-Some.claim c.reclaim.result c.reclaim.ensures.claim c.in-Some.is in
+    let held = held_claim c.args.nid_engine c.args.s (is_out_for c.args.nid_engine (entry_at c.args.book.now c.args.s)) (is_own c.args.book.now c.args.s) c.in-Some.claim c.reclaim.result c.reclaim.ensures.claim c.in-Some.is in
     record {
       section = held.0;
       held = held.1;
-      book = booked_one (is_out_for c.args.nid_engine c.args.from) (Taken c.args.nid_engine) c.args.s c.args.book.now c.reclaim.new.self c.reclaim.ensures.homes c.reclaim.ensures.entry c.reclaim.ensures.wish;
+      book = booked_one (is_out_for c.args.nid_engine) (Taken c.args.nid_engine) c.args.s c.args.book.now c.reclaim.new.self c.reclaim.ensures.homes c.reclaim.ensures.entry c.reclaim.ensures.wish;
     }
 
 pub returns-in-None-clause-book : goal.returns-in-None-clause-book
 returns-in-None-clause-book c =
-    booked_one (is_out_for c.args.nid_engine c.args.from) (Taken c.args.nid_engine) c.args.s c.args.book.now c.reclaim.new.self c.reclaim.ensures.homes c.reclaim.ensures.entry c.reclaim.ensures.wish
+    booked_one (is_out_for c.args.nid_engine) (Taken c.args.nid_engine) c.args.s c.args.book.now c.reclaim.new.self c.reclaim.ensures.homes c.reclaim.ensures.entry c.reclaim.ensures.wish

@@ -1,43 +1,32 @@
-use Rattle.std.proofs.Common.{ℕ, ◌∙◌, ◌+◌, [], ◌∷◌, ap, refl, Some, None, arith}
+use Rattle.std.proofs.Common.{ℕ, ◌∙◌, ◌+◌, [], ◌∷◌, ap, refl, None, arith}
+use Rattle.rbc_spec.specs.Frame.{RouteWithdraw}
 use Rattle.rbc_spec.specs.Outcome.{Outcome, Asked}
 use Rattle.rbc_spec.specs.Step.{Unset}
-use Rattle.rbc_linkmsg.specs.declared.body.Body.TheVariants.{RouteWithdraw}
-use Rattle.rbc_train.specs.Letters.{letters}
-use Rattle.rbc_train.specs.declared.letter.Letter.{Letter}
+use Rattle.rbc_centre.specs.Posts.{to_others}
 use Rattle.rbc_centre.specs.Sent.{frames_to}
 use Rattle.rbc_centre.specs.State.{stands_for}
-use Rattle.rbc_centre.proofs.Kept.{few_centres}
 use Rattle.rbc_centre.proofs.States.{counted_later}
 use Rattle.rbc_centre.proofs.Turns.{turns, stays, unset_allowed, unset_stamp}
-use Rattle.rbc_centre.proofs.Withdrawn.{withdraws, may_withdraw, is_near}
+use Rattle.rbc_centre.proofs.Withdrawn.{withdraws, may_withdraw}
 use Rattle.rbc_centre.proofs.centre.Centre.withdraw.Goals as goal
 
--- what the centre that has the section is asked
-abbrev letter_of : ℕ → ℕ → ℕ → Letter
-letter_of s t to = record { to = to; body = RouteWithdraw t s }
-
-pub post_letter-frames-requires-clause-near : goal.post_letter-frames-requires-clause-near
-post_letter-frames-requires-clause-near c =
-    let k = c.args.self.now in
-    let near = is_near k c.args.s c.args.nid_engine c.args.to c.unset-asked.new.self (letter_of c.args.s c.args.nid_engine c.args.to) c.requires.out c.unset-asked.ensures.entry c.unset-asked.ensures.wish refl
-    c.requires.time c.requires.numbers c.requires.frames in
-    let most = few_centres k.line k.line_rules in
-    omega (arith, near, most)
-
-pub post_letter-frames-requires-clause-may : goal.post_letter-frames-requires-clause-may
-post_letter-frames-requires-clause-may c =
-    may_withdraw c.args.self.now c.args.s c.args.nid_engine c.args.to c.unset-asked.new.self (letter_of c.args.s c.args.nid_engine c.args.to) c.requires.out c.unset-asked.ensures.entry c.unset-asked.ensures.wish refl
+pub post_to_others-frames-requires-clause-may : goal.post_to_others-frames-requires-clause-may
+post_to_others-frames-requires-clause-may c =
+    may_withdraw c.args.self.now c.args.s c.args.nid_engine c.unset-asked.new.self c.requires.out c.unset-asked.ensures.entry c.unset-asked.ensures.wish
     c.requires.time c.requires.numbers c.requires.frames
+
+pub post_to_others-frames-requires-clause-linked : goal.post_to_others-frames-requires-clause-linked
+post_to_others-frames-requires-clause-linked c = c.args.self.now.each_link
 
 pub invariant_of-self : goal.invariant_of-self
 invariant_of-self c =
     let k = c.args.self.now in
-    let s = stays k (Unset c.args.s) (k.clock + 1) k.links c.post_letter-frames.new.links c.unset-asked.new.self k.desk k.trains.items (letters (Some (letter_of c.args.s c.args.nid_engine c.args.to))) [] (Asked c.args.s ∷ []) None None
-    (unset_stamp k c.args.s) (λ d. refl) c.post_letter-frames.ensures.posted
-    (withdraws k c.args.s c.args.nid_engine c.args.to c.unset-asked.new.self (letter_of c.args.s c.args.nid_engine c.args.to) c.requires.out c.unset-asked.ensures.entry c.unset-asked.ensures.wish refl)
-    (frames_to c.post_letter-frames.result) c.post_letter-frames.ensures.frames
+    let s = stays k (Unset c.args.s) (k.clock + 1) k.links c.post_to_others-frames.new.links c.unset-asked.new.self k.desk k.trains.items (to_others k.line k.number (RouteWithdraw c.args.nid_engine c.args.s)) [] (Asked c.args.s ∷ []) None None
+    (unset_stamp k c.args.s) (λ d. refl) c.post_to_others-frames.ensures.posted
+    (withdraws k c.args.s c.args.nid_engine c.unset-asked.new.self c.requires.out c.unset-asked.ensures.entry c.unset-asked.ensures.wish)
+    (frames_to c.post_to_others-frames.result) c.post_to_others-frames.ensures.frames
     (omega arith) (omega (arith, c.requires.time)) tt (unset_allowed k c.requires.time c.requires.numbers c.args.s) tt
-    (may_withdraw k c.args.s c.args.nid_engine c.args.to c.unset-asked.new.self (letter_of c.args.s c.args.nid_engine c.args.to) c.requires.out c.unset-asked.ensures.entry c.unset-asked.ensures.wish refl
+    (may_withdraw k c.args.s c.args.nid_engine c.unset-asked.new.self c.requires.out c.unset-asked.ensures.entry c.unset-asked.ensures.wish
     c.requires.time c.requires.numbers c.requires.frames) c.unset-asked.ensures.homes refl refl refl (λ d. refl) in
     record {
       line_rules = k.line_rules;
@@ -59,9 +48,9 @@ invariant_of-self c =
 pub returns-clause-exact : goal.returns-clause-exact
 returns-clause-exact c =
     let k = c.args.self.now in
-    let left = stands_for k.line k.number (k.clock + 1) c.unset-asked.new.self k.desk c.post_letter-frames.new.links k.trains.items in
+    let left = stands_for k.line k.number (k.clock + 1) c.unset-asked.new.self k.desk c.post_to_others-frames.new.links k.trains.items in
     ap (λ (o : Outcome). (o, left)) c.sent.ensures
-    ∙ turns k (Unset c.args.s) (k.clock + 1) k.links c.post_letter-frames.new.links c.unset-asked.new.self k.desk k.trains.items (letters (Some (letter_of c.args.s c.args.nid_engine c.args.to))) [] (Asked c.args.s ∷ []) None None
-    (unset_stamp k c.args.s) (λ d. refl) c.post_letter-frames.ensures.posted
-    (withdraws k c.args.s c.args.nid_engine c.args.to c.unset-asked.new.self (letter_of c.args.s c.args.nid_engine c.args.to) c.requires.out c.unset-asked.ensures.entry c.unset-asked.ensures.wish refl)
-    (frames_to c.post_letter-frames.result) c.post_letter-frames.ensures.frames
+    ∙ turns k (Unset c.args.s) (k.clock + 1) k.links c.post_to_others-frames.new.links c.unset-asked.new.self k.desk k.trains.items (to_others k.line k.number (RouteWithdraw c.args.nid_engine c.args.s)) [] (Asked c.args.s ∷ []) None None
+    (unset_stamp k c.args.s) (λ d. refl) c.post_to_others-frames.ensures.posted
+    (withdraws k c.args.s c.args.nid_engine c.unset-asked.new.self c.requires.out c.unset-asked.ensures.entry c.unset-asked.ensures.wish)
+    (frames_to c.post_to_others-frames.result) c.post_to_others-frames.ensures.frames

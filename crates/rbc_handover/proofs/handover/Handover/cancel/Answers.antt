@@ -8,8 +8,3 @@ pub returns-in-Announced-clause-exact : goal.returns-in-Announced-clause-exact
 returns-in-Announced-clause-exact c t m k is =
     cancels t m k (handing_of c.args.self.now) (Some c.cancel.result) is
     (ap (λ n. Some n) c.cancel.ensures ∙ ap (λ h. option_map handover_name (handing_of h)) (sym c.in-Announced.is ∙ c.replace.ensures.value))
-
-pub returns-in-Claimed-clause-exact : goal.returns-in-Claimed-clause-exact
-returns-in-Claimed-clause-exact c t m k is =
-    cancels t m k (handing_of c.args.self.now) (Some c.cancel-in-Claimed.result) is
-    (ap (λ n. Some n) c.cancel-in-Claimed.ensures ∙ ap (λ h. option_map handover_name (handing_of h)) (sym c.in-Claimed.is ∙ c.replace.ensures.value))

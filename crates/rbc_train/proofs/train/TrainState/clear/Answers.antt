@@ -1,13 +1,14 @@
-use Rattle.std.proofs.Common.{◌≤◌, ◌∙◌, is_some, option_and_then, ap, sym, refl, subst}
+use Rattle.std.proofs.Common.{◌≡◌, ℕ, ◌≤◌, ◌∙◌, is_some, option_and_then, ap, sym, refl, subst}
 use Rattle.rbc_spec.specs.SectionRuns.{SectionRun, passing}
 use Rattle.rbc_spec.specs.Line.{is_home}
 use Rattle.rbc_spec.specs.Place.{is_cleared}
 use Rattle.rbc_spec.specs.Centre.{Mission}
 use Rattle.rbc_book.specs.Book.{is_own}
 use Rattle.rbc_place.specs.Places.{place_of}
-use Rattle.rbc_allocation.specs.Sections.{hand_rest}
-use Rattle.rbc_mission.specs.Supervisions.{SupervisionState, hand_of, right_left}
+use Rattle.rbc_allocation.specs.Sections.{FreesRun, front_of, hand_rest, wished}
+use Rattle.rbc_mission.specs.Supervisions.{SupervisionState, hand_of, right_left, without_front}
 use Rattle.rbc_train.specs.Desk.{with_parts}
+use Rattle.rbc_train.specs.Standstill.{cleared_count}
 use Rattle.rbc_train.specs.Letters.{cancel_of, mail_home}
 use Rattle.rbc_train.specs.declared.mail.Mail.{Mail}
 use Rattle.rbc_train.proofs.Clears.{clears}
@@ -17,7 +18,7 @@ use Rattle.rbc_train.proofs.RightFrames.{released_as}
 use Rattle.rbc_train.proofs.train.TrainState.clear.Goals as goal
 
 pub clear_front-released-requires-clause-some : goal.clear_front-released-requires-clause-some
-clear_front-released-requires-clause-some c = subst (λ (r : SectionRun). c.cleared-count.result ≤ r.count) c.hand.ensures c.cleared-count.ensures.bound
+clear_front-released-requires-clause-some c = subst (λ (r : SectionRun). c.cleared-count.result ≤ r.count) c.hand.ensures.value c.cleared-count.ensures.bound
 
 pub clear_front-released-requires-clause-held : goal.clear_front-released-requires-clause-held
 clear_front-released-requires-clause-held c =
@@ -35,7 +36,7 @@ returns-clause-exact c = λ m there on k has.
     let notice = cancel_of c.clear_front-released.result.cancelled in
     clears line c.args.centre k old c.args.book.now c.args.registrar.now has m there place c.requires.number (λ d. (with_parts (record old { supervision = left }) c.clear_front-released.new.book c.released.new.registrar k).expects d old.supervision.engine) left (hand_rest c.cleared-count.result old.supervision.hand) c.clear_front-released.new.book c.released.new.registrar c.clear_front-released.result.told c.clear_front-released.result.cancelled letter
     c.cleared-count.result
-    (c.cleared-count.ensures.value ∙ ap (passing (is_cleared line place)) c.hand.ensures ∙ ap (λ (x : SupervisionState). passing (is_cleared line place) (hand_of x)) (λ i. record old.supervision { mission = there i }))
+    (c.cleared-count.ensures.value ∙ ap (passing (is_cleared line place)) c.hand.ensures.value ∙ ap (λ (x : SupervisionState). passing (is_cleared line place) (hand_of x)) (λ i. record old.supervision { mission = there i }))
     c.clear_front-released.ensures.supervision c.clear_front-released.ensures.book c.clear_front-released.ensures.told sections c.clear_front-released.ensures.returned c.clear_front-released.ensures.cancelled
     (goes_as line c.args.centre old.supervision.engine left.engine c.clear_front-released.result.right (right_left old.supervision left) letter c.args.registrar.now c.released.new.registrar
     (ap (λ (x : SupervisionState). x.engine) c.clear_front-released.ensures.supervision) c.clear_front-released.ensures.right c.released.ensures.right)
@@ -45,7 +46,7 @@ returns-clause-exact c = λ m there on k has.
 pub returns-clause-stays : goal.returns-clause-stays
 returns-clause-stays c = λ kept.
     kept_cleared c.args.line.now c.args.centre c.args.self.now c.clear_front-released.new.self (hand_rest c.cleared-count.result c.args.self.now.supervision.hand) (place_of c.args.place) c.cleared-count.result
-    (subst (λ (r : SectionRun). c.cleared-count.result ≤ r.count) c.hand.ensures c.cleared-count.ensures.bound) c.clear_front-released.ensures.supervision kept
+    (subst (λ (r : SectionRun). c.cleared-count.result ≤ r.count) c.hand.ensures.value c.cleared-count.ensures.bound) c.clear_front-released.ensures.supervision kept
 
 pub returns-clause-track : goal.returns-clause-track
 returns-clause-track c = λ m there.
@@ -72,3 +73,14 @@ returns-clause-held c =
     let left = c.clear_front-released.new.self in
     held_as old.supervision.engine left.engine (is_own c.clear_front-released.new.book) (is_home c.args.line.now c.args.centre) left.hand (sym (ap (λ (x : SupervisionState). x.engine) c.clear_front-released.ensures.supervision))
     (λ s. sym (c.clear_front-released.ensures.book.homes s ∙ c.requires.book s)) c.clear_front-released.ensures.held
+
+pub returns-clause-front : goal.returns-clause-front
+returns-clause-front c =
+    let old = c.args.self.now.supervision in
+    let place = place_of c.args.place in
+    let counts : c.cleared-count.result ≡ cleared_count c.args.line.now place (hand_of old) = c.cleared-count.ensures.value ∙ ap (passing (is_cleared c.args.line.now place)) c.hand.ensures.value in
+    record {
+      supervision = c.clear_front-released.ensures.supervision ∙ (λ i. record old { mission = option_and_then (without_front place (counts i)) old.mission; hand = hand_rest (counts i) old.hand });
+      told = c.released.ensures.told ∙ c.clear_front-released.ensures.told ∙ ap (λ (n : ℕ). wished old.engine (front_of n (hand_of old)) c.args.book.now) counts;
+      book = subst (λ (n : ℕ). FreesRun old.engine (front_of n (hand_of old)) c.args.book.now c.clear_front-released.new.book) counts c.clear_front-released.ensures.book;
+    }

@@ -21,7 +21,7 @@ returns-then-not-awaits-clause-exact c = λ k there.
     let place = place_of c.args.place.now in
     let hand = run_of c.args.coming.now.hand in
     (λ i. sym (sym c.awaits.ensures ∙ c.if-not-awaits.true) i
-    && (((is_on_track line place.track hand && has (is_on line place.track) (section_of_group line place.group)) && nat_le (10 * group_start line place) place.front) && all_of (may_arrive line c.args.centre k c.args.coming.now.from c.args.self.now.supervision.engine place.track) hand))
+    && (((is_on_track line place.track hand && has (is_on line place.track) (section_of_group line place.group)) && nat_le (10 * group_start line place) place.front) && all_of (may_arrive line c.args.centre k c.args.self.now.supervision.engine place.track) hand))
     ∙ may_be_taken line c.args.centre k c.args.self.now c.args.book.now c.args.registrar.now there c.args.coming.now.from c.args.coming.now.number place hand
 
 pub returns-then-not-is_placed-clause-exact : goal.returns-then-not-is_placed-clause-exact
@@ -30,7 +30,7 @@ returns-then-not-is_placed-clause-exact c = λ k there.
     let place = place_of c.args.place.now in
     let hand = run_of c.args.coming.now.hand in
     (λ i. sym (sym c.awaits.ensures ∙ c.if-not-awaits.false) i
-    && (sym (sym c.is_placed.ensures ∙ c.if-not-is_placed.true) i && all_of (may_arrive line c.args.centre k c.args.coming.now.from c.args.self.now.supervision.engine place.track) hand))
+    && (sym (sym c.is_placed.ensures ∙ c.if-not-is_placed.true) i && all_of (may_arrive line c.args.centre k c.args.self.now.supervision.engine place.track) hand))
     ∙ may_be_taken line c.args.centre k c.args.self.now c.args.book.now c.args.registrar.now there c.args.coming.now.from c.args.coming.now.number place hand
 
 pub returns-clause-exact : goal.returns-clause-exact
@@ -40,7 +40,7 @@ returns-clause-exact c = λ k there.
     let hand = run_of c.args.coming.now.hand in
     c.may_arrive.ensures k (has_pages line c.args.centre k c.args.self.now c.args.book.now c.args.registrar.now there)
     ∙ (λ i. sym (sym c.awaits.ensures ∙ c.if-not-awaits.false) i
-    && (sym (sym c.is_placed.ensures ∙ c.if-not-is_placed.false) i && all_of (may_arrive line c.args.centre k c.args.coming.now.from (c.nid_engine.ensures i) place.track) hand))
+    && (sym (sym c.is_placed.ensures ∙ c.if-not-is_placed.false) i && all_of (may_arrive line c.args.centre k (c.nid_engine.ensures i) place.track) hand))
     ∙ may_be_taken line c.args.centre k c.args.self.now c.args.book.now c.args.registrar.now there c.args.coming.now.from c.args.coming.now.number place hand
 
 pub returns-clause-none : goal.returns-clause-none
@@ -56,6 +56,6 @@ pub returns-clause-own : goal.returns-clause-own
 returns-clause-own c = λ yes s here own.
     let line = c.args.line.now in
     let book = c.args.book.now in
-    own_out line c.args.centre c.args.coming.now.from c.args.self.now.supervision.engine c.args.place.now.track book (run_of c.args.coming.now.hand) c.requires.book
-    ((λ i. all_of (may_arrive line c.args.centre (with_book book (beginning line c.args.centre)) c.args.coming.now.from (sym c.nid_engine.ensures i) c.args.place.now.track) (run_of c.args.coming.now.hand))
+    own_out line c.args.centre c.args.self.now.supervision.engine c.args.place.now.track book (run_of c.args.coming.now.hand) c.requires.book
+    ((λ i. all_of (may_arrive line c.args.centre (with_book book (beginning line c.args.centre)) (sym c.nid_engine.ensures i) c.args.place.now.track) (run_of c.args.coming.now.hand))
     ∙ sym (c.may_arrive.ensures (with_book book (beginning line c.args.centre)) (record { homes = c.requires.book; has_book = λ e. refl; has_wish = λ e. refl })) ∙ yes) s here own

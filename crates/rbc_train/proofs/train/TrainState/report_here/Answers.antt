@@ -1,8 +1,10 @@
-use Rattle.std.proofs.Common.{◌≡◌, ◌∙◌, ap, sym, Some, ℕ, option_map}
-use Rattle.rbc_spec.specs.Place.{place_on}
+use Rattle.std.proofs.Common.{◌≡◌, ◌∙◌, ap, sym, subst, Some, None, ℕ, option_map}
+use Rattle.std.proofs.lemmas.Option.{same_Some}
+use Rattle.rbc_spec.specs.Place.{Place, place_on}
 use Rattle.rbc_msgs.specs.StepMessage.{position_of}
 use Rattle.rbc_place.specs.Places.{place_of}
 use Rattle.rbc_train.specs.Letters.{mail_home}
+use Rattle.rbc_train.specs.Standstill.{LeavesFront}
 use Rattle.rbc_train.proofs.Reports.{on_track}
 use Rattle.rbc_train.proofs.train.TrainState.report_here.Goals as goal
 
@@ -21,3 +23,11 @@ pub returns-in-Some-clause-track : goal.returns-in-Some-clause-track
 returns-in-Some-clause-track c = λ m n there is stands.
     c.clear.ensures.track n stands
     ∙ on_track c.args.line.now c.args.track (position_of c.args.position.now) (place_of c.in-Some.place) (sym c.place_on.ensures.value ∙ ap (option_map place_of) c.in-Some.is)
+
+pub returns-in-Some-clause-front : goal.returns-in-Some-clause-front
+returns-in-Some-clause-front c = λ p is.
+    let same : place_of c.in-Some.place ≡ p = same_Some (place_of c.in-Some.place) p (sym (sym c.place_on.ensures.value ∙ ap (option_map place_of) c.in-Some.is) ∙ is) in
+    subst (λ (q : Place). LeavesFront c.args.line.now q c.args.self.now.supervision c.clear.new.self.supervision c.clear.result.told c.args.book.now c.clear.new.book) same c.clear.ensures.front
+
+pub returns-in-None-clause-front : goal.returns-in-None-clause-front
+returns-in-None-clause-front c = λ p is. let none : None ≡ Some p = sym (sym c.place_on.ensures.value ∙ ap (option_map place_of) c.in-None.is) ∙ is in cc

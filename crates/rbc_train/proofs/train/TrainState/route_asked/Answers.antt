@@ -14,7 +14,7 @@ returns-in-Some-clause-exact c = λ rights k has.
     let t = p.supervision.engine in
     let left = with_parts p c.lend.new.book rights k in
     lends line c.args.centre k p c.args.book.now rights has c.args.from c.nid_engine-engine.result c.args.first c.args.most c.lend.result c.lend.new.book c.nid_engine-engine.ensures
-    (c.lend.ensures.exact k (has_pages line c.args.centre k p c.args.book.now rights has))
+    (c.lend.ensures.exact c.args.from k (has_pages line c.args.centre k p c.args.book.now rights has))
     ∙ ap (λ o. sending c.args.from (option_map (λ run. RouteInfo t (run_of run)) o) left) c.in-Some.is
     ∙ told_as line c.args.centre t c.args.from c.nid_engine-engine.result (λ (e : ℕ). code.RouteInfo e c.in-Some.run') left c.told.result c.nid_engine-engine.ensures c.told.ensures
 
@@ -25,6 +25,6 @@ returns-in-None-clause-exact c = λ rights k has.
     let t = p.supervision.engine in
     let left = with_parts p c.lend.new.book rights k in
     lends line c.args.centre k p c.args.book.now rights has c.args.from c.nid_engine-engine.result c.args.first c.args.most c.lend.result c.lend.new.book c.nid_engine-engine.ensures
-    (c.lend.ensures.exact k (has_pages line c.args.centre k p c.args.book.now rights has))
+    (c.lend.ensures.exact c.args.from k (has_pages line c.args.centre k p c.args.book.now rights has))
     ∙ ap (λ o. sending c.args.from (option_map (λ run. RouteInfo t (run_of run)) o) left) c.in-None.is
     ∙ ap (reply_left line c.args.centre t left) (sym c.nothing.ensures)

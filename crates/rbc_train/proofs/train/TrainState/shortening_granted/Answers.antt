@@ -11,17 +11,15 @@ use Rattle.rbc_shorten.specs.Answers.{cut_of, act_of}
 use Rattle.rbc_allocation.specs.Sections.{hand_front}
 use Rattle.rbc_mission.specs.Supervisions.{SupervisionState, mission_of, right_left, handing_in}
 use Rattle.rbc_train.specs.Desks.{mission_by}
-use Rattle.rbc_train.specs.Desk.{MayYield}
+use Rattle.rbc_train.specs.Desk.{with_parts, reply_left}
 use Rattle.rbc_train.specs.Letters.{cancel_of, mail_home}
-use Rattle.rbc_train.specs.declared.heard.Heard.{Heard}
 use Rattle.rbc_train.specs.declared.train.TrainState.{TrainState}
-use Rattle.rbc_train.proofs.Desk.{with_mission}
-use Rattle.rbc_train.proofs.Kept.{held_as, held_hand, held_again, none_left}
-use Rattle.rbc_train.proofs.Yields.{may_cut, may_keep, yields_so}
+use Rattle.rbc_train.proofs.Desk.{by_reply}
+use Rattle.rbc_train.proofs.Kept.{held_as, still_held}
 use Rattle.rbc_train.proofs.Letters.{goes_as}
-use Rattle.rbc_train.proofs.Shortened.{unasked, asked_is, kept_is, keeps_all, gives_back}
+use Rattle.rbc_train.proofs.Shortened.{asked_is, kept_is, keeps_all, gives_back}
 use Rattle.rbc_train.proofs.train.TrainState.shortening_granted.Goals as goal
-use Rattle.rbc_train.proofs.train.TrainState.shortening_granted.Goals.{After-front_on-front, After-released-heard}
+use Rattle.rbc_train.proofs.train.TrainState.shortening_granted.Goals.{After-front_on-front, After-released}
 
 -- the mission of the train
 there : (c : After-front_on-front) → c.args.self.now.supervision.mission ≡ Some (mission_of (run_of c.known-known.result.hand) (run_of c.known-known.result.pool) (handing_in c.args.self.now.supervision) c.in-Some.mission)
@@ -33,35 +31,19 @@ shorten-released-requires-clause-held c =
     held_as old.supervision.engine old.supervision.engine (is_home c.args.line.now c.args.centre) (is_own c.args.book.now) old.supervision.hand refl c.requires.book c.requires.held
 
 -- what was released
-first_is : (c : After-released-heard) → c.released-heard.result
+heard_is : (c : After-released) → c.released.result
     ≡ record {
       saying = None;
       order = None;
-      mail = mail_home c.in-Some.mission.place.track c.shorten-released.result.returned (cancel_of c.shorten-released.result.cancelled) c.released-heard.result.mail.letter;
+      mail = mail_home c.in-Some.mission.place.track c.shorten-released.result.returned (cancel_of c.shorten-released.result.cancelled) c.released.result.mail.letter;
       told = c.shorten-released.result.told;
     }
-first_is c = λ i. record {
-  saying = c.released-heard.ensures.saying i;
-  order = c.released-heard.ensures.order i;
-  mail = c.released-heard.ensures.mail i;
-  told = c.released-heard.ensures.told i;
+heard_is c = λ i. record {
+  saying = c.released.ensures.saying i;
+  order = c.released.ensures.order i;
+  mail = c.released.ensures.mail i;
+  told = c.released.ensures.told i;
 }
-
-pub yield_if_due-requires-clause-held : goal.yield_if_due-requires-clause-held
-yield_if_due-requires-clause-held c =
-    let left = c.shorten-released.new.self in
-    held_as c.args.self.now.supervision.engine left.engine (is_own c.shorten-released.new.book) (is_own c.shorten-released.new.book) left.hand (sym (ap (λ (x : SupervisionState). x.engine) c.shorten-released.ensures.supervision))
-    (λ s. refl) c.shorten-released.ensures.held
-
-pub yield_if_due-requires-clause-may : goal.yield_if_due-requires-clause-may
-yield_if_due-requires-clause-may c =
-    let old = c.args.self.now in
-    let m = mission_of (run_of c.known-known.result.hand) (run_of c.known-known.result.pool) (handing_in old.supervision) c.in-Some.mission in
-    let left = c.shorten-released.new.self in
-    subst (λ (h : Heard). MayYield left h) (sym (first_is (goal.at.yield_if_due-requires-clause-may c).After-released-heard))
-    (may_cut c.args.line.now c.in-Ok-Keep.keep old.supervision left (hand_front c.in-Ok-Keep.keep old.supervision.hand) m c.shorten-released.result.returned c.shorten-released.result.cancelled c.released-heard.result.mail.letter c.shorten-released.result.told
-    (there (goal.at.yield_if_due-requires-clause-may c).After-front_on-front) c.shorten-released.ensures.supervision c.shorten-released.ensures.cancelled
-    (λ stands. (c.released-heard.ensures.right.nothing (c.shorten-released.ensures.right ∙ none_left old.supervision left stands)).0))
 
 pub returns-in-Ok-Keep-clause-exact : goal.returns-in-Ok-Keep-clause-exact
 returns-in-Ok-Keep-clause-exact c = λ k h.
@@ -79,24 +61,14 @@ returns-in-Ok-Keep-clause-exact c = λ k h.
     gives_back line c.args.centre k c.args.t_train old c.args.book.now c.args.registrar.now c.args.request position h m p
     (sym c.known-known.ensures.phase ∙ ap phase_of c.in-Up.is) (there (goal.at.returns-in-Ok-Keep-clause-exact c).After-front_on-front) standing
     (ap (λ (s : ℕ). is_unasked (Some m) (ShorteningGranted s position)) (sym c.value.ensures.value) ∙ sym (c.in-Ok-Keep.ensures.reason m position refl))
-    c.in-Ok-Keep.keep left (hand_front c.in-Ok-Keep.keep old.supervision.hand) c.shorten-released.new.book c.released-heard.new.registrar c.shorten-released.result.told c.shorten-released.result.cancelled c.released-heard.result.mail.letter c.shorten-released.result.returned
+    c.in-Ok-Keep.keep left (hand_front c.in-Ok-Keep.keep old.supervision.hand) c.shorten-released.new.book c.released.new.registrar c.shorten-released.result.told c.shorten-released.result.cancelled c.released.result.mail.letter c.shorten-released.result.returned
     (c.in-Ok-Keep.ensures.rules c.args.centre old.supervision.engine position m p (record { proposal = standing; place = c.front_on-front.ensures })
     ∙ ap (act_of line c.args.centre old.supervision.engine m p) c.in-Ok-Keep.field-0-is)
     (kept_is line (run_of hand) front asked.0 c.in-Ok-Keep.keep (asked.2 ∙ c.in-Ok-Keep.field-0-is)) c.requires.number
     c.shorten-released.ensures.supervision c.shorten-released.ensures.book c.shorten-released.ensures.told c.shorten-released.ensures.returned c.shorten-released.ensures.cancelled
-    (goes_as line c.args.centre old.supervision.engine left.engine c.shorten-released.result.right (right_left old.supervision left) c.released-heard.result.mail.letter c.args.registrar.now c.released-heard.new.registrar
-    (ap (λ (x : SupervisionState). x.engine) c.shorten-released.ensures.supervision) c.shorten-released.ensures.right c.released-heard.ensures.right)
-    c.yield_if_due.new.self c.yield_if_due.new.book c.released-heard.result c.yield_if_due.new.heard (first_is (goal.at.returns-in-Ok-Keep-clause-exact c).After-released-heard) c.yield_if_due.ensures.exact c.yield_if_due.ensures.left
-
-pub yield_if_due-requires-in-Ok-Nothing-clause-held : goal.yield_if_due-requires-in-Ok-Nothing-clause-held
-yield_if_due-requires-in-Ok-Nothing-clause-held c =
-    let old = c.args.self.now in
-    held_hand c.args.line.now c.args.centre old c.forget_proposal.new.self c.args.book.now (ap (λ (x : SupervisionState). x.engine) c.forget_proposal.ensures) (ap (λ (x : SupervisionState). x.hand) c.forget_proposal.ensures) c.requires.book c.requires.held
-
-pub yield_if_due-requires-in-Ok-Nothing-clause-may : goal.yield_if_due-requires-in-Ok-Nothing-clause-may
-yield_if_due-requires-in-Ok-Nothing-clause-may c =
-    subst (λ (h : Heard). MayYield c.forget_proposal.new.self h) (sym c.returned-heard.ensures)
-    (may_keep c.args.self.now.supervision c.forget_proposal.new.self (mission_of (run_of c.known-known.result.hand) (run_of c.known-known.result.pool) (handing_in c.args.self.now.supervision) c.in-Some.mission) (there (goal.at.yield_if_due-requires-in-Ok-Nothing-clause-may c).After-front_on-front) c.forget_proposal.ensures)
+    (goes_as line c.args.centre old.supervision.engine left.engine c.shorten-released.result.right (right_left old.supervision left) c.released.result.mail.letter c.args.registrar.now c.released.new.registrar
+    (ap (λ (x : SupervisionState). x.engine) c.shorten-released.ensures.supervision) c.shorten-released.ensures.right c.released.ensures.right)
+    c.released.result (heard_is (goal.at.returns-in-Ok-Keep-clause-exact c).After-released)
 
 pub returns-in-Ok-Nothing-clause-exact : goal.returns-in-Ok-Nothing-clause-exact
 returns-in-Ok-Nothing-clause-exact c = λ k h.
@@ -110,25 +82,22 @@ returns-in-Ok-Nothing-clause-exact c = λ k h.
     let p = proposal_of asked.0 in
     let standing = ap (option_map proposal_of) asked.1 in
     let heard : TrainState = record old { heard = Some c.args.t_train } in
-    let mid = with_mission heard (option_map unasked old.supervision.mission) in
-    let last = c.yield_if_due-in-Ok-Nothing in
     keeps_all line c.args.centre k c.args.t_train old c.args.book.now c.args.registrar.now c.args.request position h m p
     (sym c.known-known.ensures.phase ∙ ap phase_of c.in-Up.is) (there (goal.at.returns-in-Ok-Nothing-clause-exact c).After-front_on-front) standing
     (ap (λ (s : ℕ). is_unasked (Some m) (ShorteningGranted s position)) (sym c.value.ensures.value) ∙ sym (c.in-Ok-Nothing.ensures.reason m position refl))
     (c.in-Ok-Nothing.ensures.rules c.args.centre old.supervision.engine position m p (record { proposal = standing; place = c.front_on-front.ensures })
     ∙ ap (act_of line c.args.centre old.supervision.engine m p) c.in-Ok-Nothing.field-0-is)
-    last.new.self last.new.book c.returned-heard.result last.new.heard c.returned-heard.ensures
-    (yields_so line c.args.centre (record heard { supervision = c.forget_proposal.new.self }) mid last.new.self c.args.book.now last.new.book c.returned-heard.result c.returned-heard.result last.new.heard
-    (λ i. record heard { supervision = c.forget_proposal.ensures i }) refl last.ensures.exact)
-    (last.ensures.left ∙ (λ i. record heard { said = last.new.self.said; supervision = record (c.forget_proposal.ensures i) { mission = last.new.self.supervision.mission; hand = last.new.self.supervision.hand } }))
+    ∙ (λ i. by_reply (reply_left line c.args.centre old.supervision.engine (with_parts (record heard { supervision = sym c.forget_proposal.ensures i }) c.args.book.now c.args.registrar.now k) (sym c.nothing.ensures i)))
 
 pub returns-in-Ok-Keep-clause-held : goal.returns-in-Ok-Keep-clause-held
 returns-in-Ok-Keep-clause-held c =
-    held_again c.args.line.now c.args.centre c.shorten-released.new.self.engine c.yield_if_due.new.self c.yield_if_due.new.book (sym (ap (λ (p : TrainState). p.supervision.engine) c.yield_if_due.ensures.left))
-    (λ s. c.yield_if_due.ensures.homes s ∙ c.shorten-released.ensures.book.homes s ∙ c.requires.book s) c.yield_if_due.ensures.held
+    let old = c.args.self.now in
+    let left = c.shorten-released.new.self in
+    held_as old.supervision.engine left.engine (is_own c.shorten-released.new.book) (is_home c.args.line.now c.args.centre) left.hand (sym (ap (λ (x : SupervisionState). x.engine) c.shorten-released.ensures.supervision))
+    (λ s. sym (c.shorten-released.ensures.book.homes s ∙ c.requires.book s)) c.shorten-released.ensures.held
 
 pub returns-in-Ok-Nothing-clause-held : goal.returns-in-Ok-Nothing-clause-held
 returns-in-Ok-Nothing-clause-held c =
-    let last = c.yield_if_due-in-Ok-Nothing in
-    held_again c.args.line.now c.args.centre c.forget_proposal.new.self.engine last.new.self last.new.book (sym (ap (λ (p : TrainState). p.supervision.engine) last.ensures.left))
-    (λ s. last.ensures.homes s ∙ c.requires.book s) last.ensures.held
+    let old = c.args.self.now in
+    still_held c.args.line.now c.args.centre old (record old { heard = Some c.args.t_train; supervision = c.forget_proposal.new.self })
+    (ap (λ (x : SupervisionState). x.engine) c.forget_proposal.ensures) (ap (λ (x : SupervisionState). x.hand) c.forget_proposal.ensures) c.requires.held

@@ -27,7 +27,7 @@ returns-then-is_some-clause-exact c = λ k has.
     let hand : hand_of old.supervision ≡ m.0.hand = ap (λ o. option_map_or (λ (x : Mission). x.hand) o no_run) m.1 in
     goes_on_again line c.args.centre k old c.args.book.now c.args.registrar.now has (is_valid c.args.q_status) (position_of c.args.position.now) place m.0
     (sym c.place_of_start.ensures.value ∙ ap (option_map place_of) c.in-Some.is) m.1
-    ((λ i. all_of (within (sym (c.hand.ensures ∙ hand) i)) (sym c.covered-run.ensures.value i)) ∙ sym c.has_all.ensures ∙ c.if-not-has_all.false)
+    ((λ i. all_of (within (sym (c.hand.ensures.value ∙ hand) i)) (sym c.covered-run.ensures.value i)) ∙ sym c.has_all.ensures ∙ c.if-not-has_all.false)
     ∙ ap (λ (x : SupervisionState). say old.supervision.engine unknown_group TrainAccepted (with_parts (record old { supervision = x }) c.args.book.now c.args.registrar.now k)) (sym c.begin_again.ensures)
 
 pub returns-then-not-has_all-clause-exact : goal.returns-then-not-has_all-clause-exact
@@ -39,7 +39,7 @@ returns-then-not-has_all-clause-exact c = λ k has.
     let hand : hand_of old.supervision ≡ m.0.hand = ap (λ o. option_map_or (λ (x : Mission). x.hand) o no_run) m.1 in
     past_the_hand line c.args.centre k old c.args.book.now c.args.registrar.now has (is_valid c.args.q_status) (position_of c.args.position.now) place m.0
     (sym c.place_of_start.ensures.value ∙ ap (option_map place_of) c.in-Some.is) m.1
-    ((λ i. all_of (within (sym (c.hand.ensures ∙ hand) i)) (sym c.covered-run.ensures.value i)) ∙ sym c.has_all.ensures ∙ c.if-not-has_all.true)
+    ((λ i. all_of (within (sym (c.hand.ensures.value ∙ hand) i)) (sym c.covered-run.ensures.value i)) ∙ sym c.has_all.ensures ∙ c.if-not-has_all.true)
 
 pub start_here-requires-clause-some : goal.start_here-requires-clause-some
 start_here-requires-clause-some c =

@@ -1,34 +1,57 @@
-use Rattle.std.proofs.Common.{◌∙◌, ap, sym, inl, []}
-use Rattle.rbc_spec.specs.SectionRuns.{is_empty}
+use Rattle.std.proofs.Common.{◌≡◌, ℕ, ◌∙◌, [], if◌then◌else◌, None, ap, sym, refl, subst}
+use Rattle.std.specs.Option.{option_map_or}
+use Rattle.rbc_spec.specs.Frame.{Yield, yielded_place}
+use Rattle.rbc_spec.specs.Line.{is_home}
 use Rattle.rbc_spec.specs.Centre.{Centre}
-use Rattle.rbc_spec.specs.Acts.{change_mission}
-use Rattle.rbc_spec.specs.Links.{claimed}
+use Rattle.rbc_spec.specs.Acts.{rest, end_order}
+use Rattle.rbc_book.specs.Book.{is_own}
+use Rattle.rbc_hand.specs.Hands.{Holding}
 use Rattle.rbc_hand.specs.SectionRuns.{run_of}
-use Rattle.rbc_mission.specs.Supervisions.{SupervisionState}
-use Rattle.rbc_train.specs.Desk.{with_parts, replied, reply_left}
-use Rattle.rbc_train.specs.declared.heard.Heard.{Heard}
+use Rattle.rbc_allocation.specs.Sections.{IsHeldBy}
+use Rattle.rbc_border.specs.Lending.{with_book}
+use Rattle.rbc_place.specs.Places.{place_of}
+use Rattle.rbc_session.specs.SessionStates.{session_phase}
+use Rattle.rbc_mission.specs.Supervisions.{SupervisionState, with_supervision}
+use Rattle.rbc_mission.specs.Handovers.{sends_off}
+use Rattle.rbc_train.specs.Desk.{with_parts, counted_to, replied, reply_left}
+use Rattle.rbc_train.specs.Sayings.{sayings_of}
+use Rattle.rbc_train.proofs.Desk.{has_supervision}
+use Rattle.rbc_train.proofs.Kept.{held_as, held_again, still_held}
+use Rattle.rbc_train.proofs.RouteFrames.{has_pages}
+use Rattle.rbc_train.proofs.Yields.{stays, goes}
 use Rattle.rbc_train.specs.declared.train.TrainState.{TrainState}
-use Rattle.rbc_train.proofs.Desk.{mission_changed}
-use Rattle.rbc_train.proofs.Kept.{held_hand, held_again}
-use Rattle.rbc_train.proofs.Yields.{then_yields}
 use Rattle.rbc_train.proofs.train.TrainState.taking_over.Goals as goal
+use Rattle.rbc_train.proofs.train.TrainState.taking_over.Goals.{After-order_if_gone-order}
 
-pub yield_if_due-requires-clause-held : goal.yield_if_due-requires-clause-held
-yield_if_due-requires-clause-held c =
+pub yield_to-requires : goal.yield_to-requires
+yield_to-requires c =
     let old = c.args.self.now in
-    let left = c.claim.new.self in
-    held_hand c.args.line.now c.args.centre old left c.args.book.now (ap (λ (x : SupervisionState). x.engine) c.claim.ensures) (ap (λ (x : SupervisionState). x.hand) c.claim.ensures) c.requires.book c.requires.held
+    record { held = held_as old.supervision.engine old.supervision.engine (is_home c.args.line.now c.args.centre) (is_own c.args.book.now) old.supervision.hand refl c.requires.book c.requires.held }
 
-pub yield_if_due-requires-clause-may : goal.yield_if_due-requires-clause-may
-yield_if_due-requires-clause-may c = λ m there handing.
-    let is = c.returned-claimed.ensures in
-    record {
-      order = ap (λ (h : Heard). h.order) is;
-      notice = ap (λ (h : Heard). h.mail.notice) is;
-      letter = ap (λ (h : Heard). h.mail.letter) is;
-      on = ap (λ (h : Heard). h.mail.track) is ∙ c.track.ensures m there;
-      once = inl (ap (λ (h : Heard). is_empty (run_of h.mail.second)) is);
-    }
+-- no handover stands so
+pub returns-in_default-clause-exact : goal.returns-in_default-clause-exact
+returns-in_default-clause-exact c = λ rights k has.
+    let line = c.args.line.now in
+    let n = c.args.centre in
+    let old = c.args.self.now in
+    let t = old.supervision.engine in
+    let left = c.yield_to.new.self in
+    let book' = c.yield_to.new.book in
+    let same = c.yield_to.ensures.none c.in_default.is in
+    stays line n c.args.from c.args.number k old c.args.book.now rights has left book' same.0 same.1
+    (c.yield_to.ensures.exact k (has_supervision line n k old c.args.book.now rights has) (has_pages line n k old c.args.book.now rights has)
+    ∙ ap (λ o. option_map_or (sends_off line n t) o rest (with_supervision left (with_book book' k))) c.in_default.is)
+    ∙ ap (reply_left line n t (with_parts (record old { supervision = left }) book' rights k)) (sym c.nothing.ensures)
+
+pub returns-in_default-clause-held : goal.returns-in_default-clause-held
+returns-in_default-clause-held c =
+    let same = c.yield_to.ensures.none c.in_default.is in
+    still_held c.args.line.now c.args.centre c.args.self.now (record c.args.self.now { supervision = c.yield_to.new.self }) (ap (λ (x : SupervisionState). x.engine) same.0) (ap (λ (x : SupervisionState). x.hand) same.0) c.requires.held
+
+-- the mission has gone, and the train may have been told so
+turned : (c : After-order_if_gone-order) → c.order_if_gone-order.new.self
+    ≡ record c.args.self.now { said = c.order_if_gone-order.new.self.said; supervision = record c.args.self.now.supervision { mission = None; hand = c.yield_to.new.self.hand } }
+turned c = c.order_if_gone-order.ensures.said ∙ (λ i. record c.args.self.now { said = c.order_if_gone-order.new.self.said; supervision = c.in-Some.ensures.gone i })
 
 pub returns-clause-exact : goal.returns-clause-exact
 returns-clause-exact c = λ rights k has.
@@ -36,15 +59,30 @@ returns-clause-exact c = λ rights k has.
     let n = c.args.centre in
     let old = c.args.self.now in
     let t = old.supervision.engine in
-    let mid : TrainState = record old { supervision = c.claim.new.self } in
-    then_yields line n t (change_mission t (claimed c.args.from c.args.number)) k mid c.yield_if_due.new.self c.args.book.now c.yield_if_due.new.book rights c.returned-claimed.result c.yield_if_due.new.heard
-    (ap (λ (x : SupervisionState). x.engine) c.claim.ensures) c.requires.book
-    (ap (λ (x : Centre). replied x [] []) (mission_changed line n k old c.args.book.now rights has (claimed c.args.from c.args.number))
-    ∙ (λ i. replied (with_parts (record old { supervision = sym c.claim.ensures i }) c.args.book.now rights k) [] [])
-    ∙ ap (reply_left line n t (with_parts mid c.args.book.now rights k)) (sym c.returned-claimed.ensures))
-    c.yield_if_due.ensures.exact c.yield_if_due.ensures.left
+    let left = c.yield_to.new.self in
+    let book' = c.yield_to.new.book in
+    let y = c.in-Some.yielded in
+    let gone = c.in-Some.ensures.gone in
+    let new = c.order_if_gone-order.new.self in
+    let order = c.order_if_gone-order.result in
+    let at = with_supervision (record old.supervision { mission = None; hand = left.hand }) (with_book book' k) in
+    goes line n c.args.from c.args.number k old c.args.book.now rights has y c.yield_letter-letter.result order new left.hand book'
+    c.yield_letter-letter.ensures.to
+    (c.yield_letter-letter.ensures.body
+    ∙ ap (λ (u : ℕ). Yield y.handover.number u (option_map_or (λ n. n) old.heard 0) y.mission.has_data y.mission.is_ended (yielded_place (place_of y.mission.place)) (run_of y.hand)) c.nid_engine-nid_engine.ensures)
+    (turned (goal.at.returns-clause-exact c).After-order_if_gone-order)
+    (c.yield_to.ensures.exact k (has_supervision line n k old c.args.book.now rights has) (has_pages line n k old c.args.book.now rights has)
+    ∙ ap (λ o. option_map_or (sends_off line n t) o rest (with_supervision left (with_book book' k))) c.in-Some.is
+    ∙ (λ i. sends_off line n t y (with_supervision (gone i) (with_book book' k))))
+    (subst (λ (u : ℕ). (j : Centre) → j.phase u ≡ session_phase old.session_state → j.said u ≡ old.said → (if y.is_gone then end_order line n u else rest) j ≡ replied (counted_to u new.said j) (sayings_of order) [])
+    (ap (λ (x : SupervisionState). x.engine) gone) c.order_if_gone-order.ensures.exact at has.has_phase has.has_said)
+    ∙ ap (reply_left line n t (with_parts new book' rights k)) (sym c.yielded.ensures)
 
 pub returns-clause-held : goal.returns-clause-held
 returns-clause-held c =
-    held_again c.args.line.now c.args.centre c.claim.new.self.engine c.yield_if_due.new.self c.yield_if_due.new.book (sym (ap (λ (p : TrainState). p.supervision.engine) c.yield_if_due.ensures.left))
-    (λ s. c.yield_if_due.ensures.homes s ∙ c.requires.book s) c.yield_if_due.ensures.held
+    let line = c.args.line.now in
+    let t = c.args.self.now.supervision.engine in
+    let new = c.order_if_gone-order.new.self in
+    let is = turned (goal.at.returns-clause-held c).After-order_if_gone-order in
+    held_again line c.args.centre t new c.yield_to.new.book (sym (ap (λ (p : TrainState). p.supervision.engine) is)) (λ s. c.yield_to.ensures.homes s ∙ c.requires.book s)
+    (subst (λ (hand : Holding). IsHeldBy t hand c.yield_to.new.book) (sym (ap (λ (p : TrainState). p.supervision.hand) is)) c.yield_to.ensures.held)
