@@ -17,7 +17,8 @@ use Rattle.law_no_stray.proofs.Worlds.{IsReachedSo, each_reached, step_reached}
 use Rattle.law_quiescence.specs.Rest.{work, IsDelivery}
 use Rattle.law_quiescence.proofs.Delivers.{IsHead, some_head, less_work}
 use Rattle.law_quiescence.proofs.Rest.{work_is, no_way, at_rest}
-use Rattle.law_fair.specs.Schedule.{behind, world_after, next_number, IsFair, EndsInDeliveries, IsSameButClocks, RestsFrom, IsStoppedAt}
+use Rattle.law_fair.specs.Schedule.{behind, world_after, next_number, IsFair, EndsInDeliveries, IsSameButClocks, RestsFrom, StopsFrom}
+use Rattle.law_fair.proofs.Stops.{IsRefused, refused_step, is_refused, stays_refused}
 use Rattle.law_fair.proofs.Idle.{IsNext, same_itself, same_on, same_work, stays_next, IsIdle, idle_or_next}
 
 -- ## The next of a link
@@ -77,9 +78,17 @@ module _ (line : Line) (ok : IsLine line) (schedule : ℕ → Event) (ranges : (
 
   -- ## What a delivery comes to
 
+  -- the next frame of a link is refused
+  record IsStopped (n : ℕ) : Type 0 where
+    a : ℕ
+    b : ℕ
+    number : ℕ
+    is_next : IsNext line (At n) a b number
+    refused : IsRefused line (At n) a b number is_next.frame
+
   -- a refusal, or less work
   abbrev Works : ℕ → Type 0
-  Works n = IsStoppedAt line schedule n ⊎ (work line (At (suc n)) + 1 ≤ work line (At n))
+  Works n = IsStopped n ⊎ (work line (At (suc n)) + 1 ≤ work line (At n))
 
   data Meets (n : ℕ) : Type 0 where
     idle : IsIdle (At n) (Step n) → Meets n
@@ -92,10 +101,9 @@ module _ (line : Line) (ok : IsLine line) (schedule : ℕ → Event) (ranges : (
       by_step (Err why) is = inl (record {
         a = a;
         b = b;
-        on_way = on_way line (At n) (known n) a b number is_next;
-        delivery = at ∙ ap (Delivery a b) (number_is line (At n) (known n) a b number is_next);
-        why = why;
-        refused = is;
+        number = number;
+        is_next = is_next;
+        refused = is_refused line (At n) a b number is_next.frame why is_next.sent (sym (ap (world_step line (At n)) at) ∙ is);
       })
       by_step (Ok (answer, new)) is = inr (subst (λ (v : World). work line v + 1 ≤ work line (At n)) (sym (one_on n ∙ ap (behind (At n)) is))
           (omega (
@@ -130,7 +138,7 @@ module _ (line : Line) (ok : IsLine line) (schedule : ℕ → Event) (ranges : (
     record Found (n : ℕ) : Type 0 where
       at : ℕ
       later : n ≤ at
-      is : IsStoppedAt line schedule at ⊎ (work line (At at) + 1 ≤ work line (At n))
+      is : IsStopped at ⊎ (work line (At at) + 1 ≤ work line (At n))
 
     found_here : (n : ℕ) → Works n → Found n
     found_here n (inl stops) = record { at = n; later = omega arith; is = inl stops }
@@ -142,8 +150,8 @@ module _ (line : Line) (ok : IsLine line) (schedule : ℕ → Event) (ranges : (
     found_on : (n : ℕ) → IsSameButClocks (At n) (At (suc n)) → Found (suc n) → Found n
     found_on n same it = record { at = it.at; later = omega (arith, it.later); is = by_end it.is }
       where
-        by_end : IsStoppedAt line schedule it.at ⊎ (work line (At it.at) + 1 ≤ work line (At (suc n))) → IsStoppedAt line schedule it.at ⊎ (work line (At it.at) + 1 ≤ work line (At n))
-        by_end (inl stops) = inl stops
+        by_end : IsStopped it.at ⊎ (work line (At it.at) + 1 ≤ work line (At (suc n))) → IsStopped it.at ⊎ (work line (At it.at) + 1 ≤ work line (At n))
+        by_end (inl is) = inl is
         by_end (inr works) = inr (omega (arith, works, same_work line (At n) (At (suc n)) same))
 
     found : (a b number d n : ℕ) → from ≤ n → IsNext line (At n) a b number → IsDeliveredAt a b (n + d) → Found n
@@ -190,11 +198,41 @@ module _ (line : Line) (ok : IsLine line) (schedule : ℕ → Event) (ranges : (
       same = λ m later. (done_at n m late none later).same;
     }
 
+    -- ## A refusal is for good
+
+    module _ (a b number : ℕ) (f : Frame) where
+      refused_once_more : (m : ℕ) → from ≤ m → IsRefused line (At m) a b number f → IsRefused line (At (suc m)) a b number f
+      refused_once_more m late it = subst (λ v. IsRefused line v a b number f) (sym (one_on m)) (by_step (Step m) refl)
+        where
+          by_step : (r : Result (Answer × World) Refusal) → Step m ≡ r → IsRefused line (behind (At m) r) a b number f
+          by_step (Err why) is = it
+          by_step (Ok (answer, new)) is = stays_refused line (At m) a b number f it (schedule m) (are_deliveries m late) answer new is
+
+      refused_on : (n d : ℕ) → from ≤ n → IsRefused line (At n) a b number f → IsRefused line (At (d + n)) a b number f
+      refused_on n zero late it = let here : n ≡ 0 + n = omega arith in subst (λ m. IsRefused line (At m) a b number f) here it
+      refused_on n (suc d) late it = let there : suc (d + n) ≡ suc d + n = omega arith in
+          subst (λ m. IsRefused line (At m) a b number f) there (refused_once_more (d + n) (omega (arith, late)) (refused_on n d late it))
+
+      refused_at : (n m : ℕ) → from ≤ n → n ≤ m → IsRefused line (At n) a b number f → IsRefused line (At m) a b number f
+      refused_at n m late later it = let there : (m - n) + n ≡ m = omega (arith, later) in subst (λ m. IsRefused line (At m) a b number f) there (refused_on n (m - n) late it)
+
+    stops : (n : ℕ) → from ≤ n → IsStopped n → StopsFrom line schedule n
+    stops n late it = record {
+      a = it.a;
+      b = it.b;
+      on_way = on_way line (At n) (known n) it.a it.b it.number it.is_next;
+      refused = λ m later. let then = refused_at it.a it.b it.number it.is_next.frame n m late later it.refused in (
+        then.why,
+        ap (λ x. world_step line (At m) (Delivery it.a it.b x)) (sym (number_is line (At n) (known n) it.a it.b it.number it.is_next))
+            ∙ refused_step line (At m) it.a it.b it.number it.is_next.frame then,
+      );
+    }
+
     -- ## All together
 
     module _ (fair : IsFair line schedule) where
       abbrev Ends : Type 0
-      Ends = (n : ℕ) × (RestsFrom line schedule n ⊎ IsStoppedAt line schedule n)
+      Ends = (n : ℕ) × (RestsFrom line schedule n ⊎ StopsFrom line schedule n)
 
       none_or_some : (n : ℕ) → (n ≡ 0) ⊎ (0 < n)
       none_or_some zero = inl refl
@@ -215,13 +253,13 @@ module _ (line : Line) (ok : IsLine line) (schedule : ℕ → Event) (ranges : (
       ends_from zero n late few = (n, inl (rests n late (omega (arith, few))))
       ends_from (suc most) n late few = by_work (λ m later less_left. ends_from most m later less_left) (none_or_some (work line (At n)))
         where
-          by_found : ((m : ℕ) → from ≤ m → work line (At m) ≤ most → Ends) → (it : Found n) → IsStoppedAt line schedule it.at ⊎ (work line (At it.at) + 1 ≤ work line (At n)) → Ends
-          by_found on it (inl stops) = (it.at, inr stops)
+          by_found : ((m : ℕ) → from ≤ m → work line (At m) ≤ most → Ends) → (it : Found n) → IsStopped it.at ⊎ (work line (At it.at) + 1 ≤ work line (At n)) → Ends
+          by_found on it (inl is) = (it.at, inr (stops it.at (omega (arith, late, it.later)) is))
           by_found on it (inr works) = on it.at (omega (arith, late, it.later)) (omega (arith, works, few))
 
           by_work : ((m : ℕ) → from ≤ m → work line (At m) ≤ most → Ends) → (work line (At n) ≡ 0) ⊎ (0 < work line (At n)) → Ends
           by_work on (inl none) = (n, inl (rests n late none))
           by_work on (inr some) = let it = some_found n late some in by_found on it it.is
 
-  pub comes_to_rest : IsFair line schedule → EndsInDeliveries schedule → (n : ℕ) × (RestsFrom line schedule n ⊎ IsStoppedAt line schedule n)
+  pub comes_to_rest : IsFair line schedule → EndsInDeliveries schedule → (n : ℕ) × (RestsFrom line schedule n ⊎ StopsFrom line schedule n)
   comes_to_rest fair ends = ends_from ends.from ends.are_deliveries fair (work line (At ends.from)) ends.from (omega arith) (omega arith)

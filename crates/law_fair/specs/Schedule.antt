@@ -59,11 +59,11 @@ pub record RestsFrom (line : Line) (schedule : ℕ → Event) (n : ℕ) : Type 0
   pub silent : (m : ℕ) → n ≤ m → IsSilent (world_step line (world_after line schedule m) (schedule m))
   pub same : (m : ℕ) → n ≤ m → IsSameButClocks (world_after line schedule n) (world_after line schedule m)
 
--- at position n, where a frame from a to b is on the way, the delivery of the next of that link is refused: a step clock is at its end, or a link is full
-pub record IsStoppedAt (line : Line) (schedule : ℕ → Event) (n : ℕ) : Type 0 where
+-- at position n a frame from a to b is on the way, and each delivery of the next of that link is refused then and ever after: a step clock is at its end,
+-- or a link is full
+pub record StopsFrom (line : Line) (schedule : ℕ → Event) (n : ℕ) : Type 0 where
   pub a : ℕ
   pub b : ℕ
   pub on_way : way (world_after line schedule n) a b ≢ []
-  pub delivery : schedule n ≡ Delivery a b (next_number (world_after line schedule n) a b)
-  pub why : Refusal
-  pub refused : world_step line (world_after line schedule n) (schedule n) ≡ Err why
+  pub refused : (m : ℕ) → n ≤ m
+      → (why : Refusal) × (world_step line (world_after line schedule m) (Delivery a b (next_number (world_after line schedule n) a b)) ≡ Err why)
