@@ -1,0 +1,56 @@
+-- What the contract of a world's step says, as a relation of what is seen, and the bytes in which an outcome leaves.
+use Rattle.std.specs.Prelude.{◌≡◌, ℕ, List, [], ◌∷◌, Result, Ok, Err, OnErr}
+use Rattle.rbc_spec.specs.Line.{Line}
+use Rattle.rbc_spec.specs.Frame.{Frame}
+use Rattle.rbc_spec.specs.Outcome.{Outcome, Saying}
+use Rattle.rbc_spec.specs.Step.{Refusal}
+use Rattle.rbc_spec.specs.World.{World, Event, Answer, world_step}
+use Rattle.rbc_msgs.specs.Layout.{IsBytes}
+use Rattle.rbc_msgs.specs.TrackSpelling.{SpellsTrack}
+use Rattle.rbc_linkmsg.specs.Spelling.{Spells}
+
+-- ## Steps
+
+-- why a program refuses a step: memory ran out, or as the definition of a step refuses it
+pub data Fault : Type 0 where
+  Memory : Fault
+  Refused : (why : Refusal) → Fault
+
+-- what is returned and the world that is left are what the definition gives; but of want of memory nothing is said
+abbrev pub IsGiven : Result Answer Fault → World → Result (Answer × World) Refusal → Type 0
+IsGiven (Ok answer) new step = step ≡ Ok (answer, new)
+IsGiven (Err Memory) new step = Unit {0}
+IsGiven (Err (Refused why)) new step = step ≡ Err why
+
+-- the clauses `line`, `exact` and `err` of World::step, of what its memory stands for: the line and world before it, the event, what is returned as it is
+-- seen, and the line and world behind it
+pub record IsStep (line : Line) (w : World) (event : Event) (result : Result Answer Fault) (left : Line) (new : World) : Type 0 where
+  pub same_line : left ≡ line
+  pub exact : IsGiven result new (world_step line w event)
+  pub err : OnErr result (new ≡ w)
+
+-- such steps one after another, each with what it returns, lead from w to new
+abbrev pub AreSteps : Line → World → List Event → List (Result Answer Fault) → World → Type 0
+AreSteps line w [] [] new = new ≡ w
+AreSteps line w (event ∷ events) (result ∷ results) new = (mid : World) × IsStep line w event result line mid × AreSteps line mid events results new
+AreSteps line w events results new = ⊥
+
+-- ## Bytes
+
+-- the messages to trains as bytes, each behind its NID_ENGINE, in order
+abbrev pub AreMessagesWritten : List Saying → List (ℕ × List ℕ) → Type 0
+AreMessagesWritten [] [] = Unit {0}
+AreMessagesWritten (s ∷ sayings) (m ∷ messages) =
+    (m.0 ≡ s.nid_engine) × IsBytes m.1 × SpellsTrack m.1 s.message × AreMessagesWritten sayings messages
+AreMessagesWritten sayings messages = ⊥
+
+-- frames as bytes, in order
+abbrev pub AreFramesWritten : List Frame → List (List ℕ) → Type 0
+AreFramesWritten [] [] = Unit {0}
+AreFramesWritten (f ∷ frames) (bytes ∷ others) = Spells bytes f × AreFramesWritten frames others
+AreFramesWritten frames others = ⊥
+
+-- an outcome leaves in these bytes: to trains, and to each centre
+pub record IsWrittenAs (o : Outcome) (messages : List (ℕ × List ℕ)) (frames : ℕ → List (List ℕ)) : Type 0 where
+  pub to_trains : AreMessagesWritten o.sayings messages
+  pub to_centres : (d : ℕ) → AreFramesWritten (o.frames d) (frames d)

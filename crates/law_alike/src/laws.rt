@@ -1,0 +1,29 @@
+//! Laws of what a world's step promises.
+
+ghost use Rattle.std.specs.Prelude.{◌≡◌, ◌≢◌, ℕ, List, All, Result, Err};
+ghost use Rattle.rbc_spec.specs.Line.{Line};
+ghost use Rattle.rbc_spec.specs.Outcome.{Outcome};
+ghost use Rattle.rbc_spec.specs.World.{World, Event, Answer};
+ghost use Rattle.law_alike.specs.Alike.{Fault, Memory, IsStep, AreSteps, IsWrittenAs};
+
+/// Two steps that keep the clauses, of whatever programs: from the same world, by the same event, each with memory at hand, they return the same
+/// answer or refusal, as it is seen, and leave the same line and world.
+pub fn a_step_has_one_result()
+    ensures { (line left others_left : Line) (w new others_new : World) (event : Event) (result other : Result Answer Fault)
+        → IsStep line w event result left new → IsStep line w event other others_left others_new → result ≢ Err Memory → other ≢ Err Memory
+        → (result ≡ other) × (left ≡ others_left) × (new ≡ others_new) }
+{}
+
+/// So do two programs over a whole list of events, one step after another: they return the same for each event, and leave the same world.
+pub fn a_list_of_events_has_one_end()
+    ensures { (line : Line) (w new others_new : World) (events : List Event) (results others : List (Result Answer Fault))
+        → AreSteps line w events results new → AreSteps line w events others others_new
+        → All (λ r. r ≢ Err Memory) results → All (λ r. r ≢ Err Memory) others → (results ≡ others) × (new ≡ others_new) }
+{}
+
+/// What is seen of an outcome has one spelling: the bytes of its messages to trains and of its frames to centres are the same, whoever writes them.
+pub fn an_outcome_has_one_spelling()
+    ensures { (o : Outcome) (messages others : List (ℕ × List ℕ)) (frames other_frames : ℕ → List (List ℕ))
+        → IsWrittenAs o messages frames → IsWrittenAs o others other_frames
+        → (messages ≡ others) × ((d : ℕ) → frames d ≡ other_frames d) }
+{}

@@ -1,0 +1,4 @@
+pub mod Idle
+pub mod Stops
+pub mod Fair
+pub mod InTurn
