@@ -5,7 +5,7 @@ mod bits;
 mod border;
 mod centre;
 pub mod draw;
-mod frames;
+pub mod frames;
 pub mod line;
 mod message;
 mod rules;

@@ -47,6 +47,11 @@ fn obey<'a, S: AsStr, F: Files, O: Write>(
         Request::Audit { file, printed } => audit_printed(alloc, file, printed, files, out),
         Request::Message { digits } => show_message(alloc, digits, out),
         Request::Printed { file, printed } => tell_printed(alloc, file, printed, files, out),
-        Request::Picture { file, printed } => draw_printed(alloc, file, printed, files, out),
+        Request::Picture {
+            file,
+            printed,
+            cut,
+            is_html,
+        } => draw_printed(alloc, file, printed, cut, is_html, files, out),
     }
 }

@@ -2,16 +2,19 @@
 
 use crate::files::Files;
 use crate::run::line_in;
-use cli_picture::picture;
+use cli_picture::{Cut, picture, picture_page};
 use cli_status::Fault;
 use std::alloc::Global;
 use std::io::Write;
 
-/// Draws the time-distance diagram of what `run` has printed for a line, as an SVG document.
+/// Draws the time-distance diagram of what `run` or `serve` has printed for a line, as far as the cut says, as an SVG document
+/// or in an HTML page.
 pub fn draw_printed<'a, F: Files, O: Write>(
     alloc: Global,
     file: &'a str,
     printed: &'a str,
+    cut: Cut,
+    is_html: bool,
     files: &F,
     out: &mut O,
 ) -> Result<(), Fault<'a>> {
@@ -19,8 +22,12 @@ pub fn draw_printed<'a, F: Files, O: Write>(
     let Some(text) = files.text(printed) else {
         return Err(Fault::CannotRead(printed));
     };
-    let svg = picture(alloc, &line, text.as_str())?;
-    out.write_all(svg.as_bytes())?;
+    let drawn = if is_html {
+        picture_page(alloc, &line, text.as_str(), cut)?
+    } else {
+        picture(alloc, &line, text.as_str(), cut)?
+    };
+    out.write_all(drawn.as_bytes())?;
     out.flush()?;
     Ok(())
 }

@@ -106,10 +106,33 @@ fn command_of<'a>(alloc: Global, form: &Form) -> Result<Command<'a>, AllocError>
     if let Some(option) = option_of(alloc, form.name) {
         command = command.arg(option)?;
     }
+    if form.name == "picture" {
+        for (name, value, help) in &CUT {
+            command = command.arg(part(alloc, name, value, help))?;
+        }
+    }
     for (name, help) in form.words {
         command = command.arg(Arg::new(alloc, name).required(true).help(help))?;
     }
     Ok(command)
+}
+
+// What `picture` takes besides its words: the part of the run that is drawn.
+const CUT: [(&str, &str, &str); 3] = [
+    ("from", "N", "The first event that is drawn, from 1"),
+    ("to", "N", "The last event that is drawn"),
+    (
+        "train",
+        "ENGINE",
+        "The one train that is drawn, by its NID_ENGINE",
+    ),
+];
+
+fn part<'a>(alloc: Global, name: &'static str, value: &'static str, help: &'static str) -> Arg<'a> {
+    Arg::new(alloc, name)
+        .long(name)
+        .value_name(value)
+        .help(help)
 }
 
 // What a command takes besides its words.
@@ -117,6 +140,7 @@ fn option_of<'a>(alloc: Global, command: &str) -> Option<Arg<'a>> {
     match command {
         "serve" => Some(quiet(alloc)),
         "words" => Some(message(alloc)),
+        "picture" => Some(html(alloc)),
         _ => None,
     }
 }
@@ -126,6 +150,13 @@ fn quiet<'a>(alloc: Global) -> Arg<'a> {
         .long("quiet")
         .action(ArgAction::SetTrue)
         .help("Says nothing on standard error while the centres run")
+}
+
+fn html<'a>(alloc: Global) -> Arg<'a> {
+    Arg::new(alloc, "html")
+        .long("html")
+        .action(ArgAction::SetTrue)
+        .help("Draws it in an HTML page with a slider over the events")
 }
 
 fn message<'a>(alloc: Global) -> Arg<'a> {

@@ -1,6 +1,7 @@
 use crate::forms::rbcline;
 use clap::error::ErrorKind;
 use clap::{ArgMatches, Error};
+use cli_picture::Cut;
 use cli_status::Fault;
 use std::alloc::{AllocError, Global};
 use std::convert::AsStr;
@@ -52,10 +53,12 @@ pub enum Request<'a> {
         file: &'a str,
         printed: &'a str,
     },
-    /// Draw what `run` printed.
+    /// Draw this part of what `run` printed.
     Picture {
         file: &'a str,
         printed: &'a str,
+        cut: Cut,
+        is_html: bool,
     },
 }
 
@@ -105,7 +108,12 @@ fn named_of_print<'a>(command: &str, file: &'a str, words: &ArgMatches<'a>) -> O
     let printed = words.get_str("PRINTED")?;
     match command {
         "audit" => Some(Request::Audit { file, printed }),
-        "picture" => Some(Request::Picture { file, printed }),
+        "picture" => Some(Request::Picture {
+            file,
+            printed,
+            cut: cut_of(words)?,
+            is_html: words.get_flag("html"),
+        }),
         _ => None,
     }
 }
@@ -131,6 +139,24 @@ fn named_drive<'a>(words: &ArgMatches<'a>) -> Option<Request<'a>> {
     let port = port_of(words.get_str("PORT")?)?;
     let file = words.get_str("FILE")?;
     Some(Request::Drive { port, file })
+}
+
+// The part of a run that `picture` draws.
+fn cut_of(words: &ArgMatches<'_>) -> Option<Cut> {
+    Some(Cut {
+        from: named_number(words, "from")?,
+        to: named_number(words, "to")?,
+        train: named_number(words, "train")?,
+    })
+}
+
+// The number that an option names, where it is there. None where it names no number that 32 bits hold, or one with a sign.
+fn named_number(words: &ArgMatches<'_>, option: &str) -> Option<Option<u32>> {
+    match words.get_str(option) {
+        Some(word) if word.starts_with('+') => None,
+        Some(word) => Some(Some(word.parse().ok()?)),
+        None => Some(None),
+    }
 }
 
 // A port: a number from 1 to 65 535, without a sign.

@@ -1,117 +1,128 @@
-//! The authorities of trains, and the fronts that they reported.
+//! The sections that trains have, and the trains' numbers where their missions begin.
 
-use crate::chart::{Bar, Chart, Front};
-use crate::legend::nid_engine_of;
+use crate::run::{Run, nid_engine_of, track_of};
 use crate::scale::Scale;
+use crate::stretch::{Stretch, stretches_of};
 use crate::style::{colour_of, dashes_of};
 use rbc_place::{section_end, section_start};
-use std::alloc::AllocError;
+use rbc_world::Mark;
+use std::alloc::{AllocError, Global};
 
-pub fn draw_bars(svg: &mut String, scale: &Scale<'_>, chart: &Chart) -> Result<(), AllocError> {
-    for bar in &chart.bars {
-        draw_bar(svg, scale, bar)?;
+pub fn draw_bars(
+    alloc: Global,
+    svg: &mut String,
+    scale: &Scale<'_>,
+    run: &Run<'_>,
+) -> Result<(), AllocError> {
+    for section in 0..run.line.section_count() {
+        for stretch in stretches_of(alloc, &run.views, section)? {
+            draw_stretch(svg, scale, run, section, &stretch)?;
+        }
     }
-    for bar in &chart.bars {
-        if bar.is_first {
-            draw_name(svg, scale, bar)?;
+    for train in 0..run.line.train_count() {
+        if run.wants(train) {
+            draw_names(svg, scale, run, train)?;
         }
     }
     Ok(())
 }
 
-fn draw_bar(svg: &mut String, scale: &Scale<'_>, bar: &Bar) -> Result<(), AllocError> {
-    let colour = colour_of(bar.train);
-    let dashes = dashes_of(bar.train);
-    let section = bar.section;
-    let track = track_of(scale, section);
+/// How a use of a section looks, what it is called, and whose it is. None where it is in no use.
+fn use_of(mark: Mark) -> Option<(&'static str, &'static str, u32)> {
+    match mark {
+        Mark::Given { nid_engine } => Some(("", "", nid_engine)),
+        Mark::Kept { nid_engine } => Some((" kept", "kept for ", nid_engine)),
+        Mark::Shut | Mark::Open => None,
+    }
+}
+
+fn draw_stretch(
+    svg: &mut String,
+    scale: &Scale<'_>,
+    run: &Run<'_>,
+    section: u16,
+    stretch: &Stretch,
+) -> Result<(), AllocError> {
+    let Some((look, words, nid_engine)) = use_of(stretch.seen.mark) else {
+        return Ok(());
+    };
+    match run.line.train_number(nid_engine) {
+        Some(train) if run.wants(train) => {
+            let wish = if stretch.seen.is_wished {
+                " wished"
+            } else {
+                ""
+            };
+            let colour = colour_of(train);
+            let dashes = dashes_of(train);
+            write!(svg, "<rect class=\"bar{look}{wish} c{colour} d{dashes}\"")?;
+            draw_box(svg, scale, section, stretch)?;
+            write!(svg, "<title>{words}train {nid_engine}, section {section}")?;
+            draw_events(svg, run, stretch)?;
+            writeln!(svg, "</title></rect>")
+        }
+        _ => Ok(()),
+    }
+}
+
+fn draw_box(
+    svg: &mut String,
+    scale: &Scale<'_>,
+    section: u16,
+    stretch: &Stretch,
+) -> Result<(), AllocError> {
+    let track = track_of(scale.line, section);
     let x = scale.x(track, section_start(scale.line, section));
     let right = scale.x(track, section_end(scale.line, section.into()));
     let width = right.saturating_sub(x).saturating_sub(1).max(1);
-    let y = scale.y(bar.since);
-    let bottom = match bar.until {
-        Some(until) => scale.y(until),
-        None => scale.bottom(),
-    };
-    let height = bottom.saturating_sub(y).max(1);
+    let y = scale.y(stretch.since);
+    let height = scale.until(stretch.until).saturating_sub(y).max(1);
     write!(
         svg,
-        "<rect class=\"bar c{colour} d{dashes}\" x=\"{x}\" y=\"{y}\" width=\"{width}\" height=\"{height}\">"
-    )?;
-    draw_words(svg, scale, bar)?;
-    writeln!(svg, "</rect>")
-}
-
-/// What is shown where a reader points at a bar.
-fn draw_words(svg: &mut String, scale: &Scale<'_>, bar: &Bar) -> Result<(), AllocError> {
-    let nid_engine = nid_engine_of(scale.line, bar.train);
-    let section = bar.section;
-    let since = bar.since.saturating_add(1);
-    write!(
-        svg,
-        "<title>train {nid_engine}, section {section}, from event {since}"
-    )?;
-    if let Some(until) = bar.until {
-        let until = until.saturating_add(1);
-        write!(svg, " to {until}")?;
-    }
-    write!(svg, "</title>")
-}
-
-/// The train's number where its authority begins.
-fn draw_name(svg: &mut String, scale: &Scale<'_>, bar: &Bar) -> Result<(), AllocError> {
-    let colour = colour_of(bar.train);
-    let nid_engine = nid_engine_of(scale.line, bar.train);
-    let track = track_of(scale, bar.section);
-    let x = scale
-        .x(track, section_start(scale.line, bar.section))
-        .saturating_add(4);
-    let y = scale.y(bar.since).saturating_add(13);
-    writeln!(
-        svg,
-        "<text class=\"name c{colour}\" x=\"{x}\" y=\"{y}\">{nid_engine}</text>"
+        " x=\"{x}\" y=\"{y}\" width=\"{width}\" height=\"{height}\">"
     )
 }
 
-/// The fronts of each train as one path, which begins anew at each mission.
-pub fn draw_fronts(svg: &mut String, scale: &Scale<'_>, chart: &Chart) -> Result<(), AllocError> {
-    for train in 0..scale.line.train_count() {
-        if chart.fronts.iter().any(|front| front.train == train) {
-            let colour = colour_of(train);
-            let dashes = dashes_of(train);
-            write!(svg, "<path class=\"front c{colour} d{dashes}\" d=\"")?;
-            draw_path(svg, scale, train, &chart.fronts)?;
-            writeln!(svg, "\"/>")?;
-        }
+/// The events in which a stretch begins and ends.
+fn draw_events(svg: &mut String, run: &Run<'_>, stretch: &Stretch) -> Result<(), AllocError> {
+    if stretch.seen.is_wished {
+        svg.push_str(", wished back")?;
+    }
+    let since = run.number(stretch.since);
+    write!(svg, ", from event {since}")?;
+    if stretch.until < run.events.len() {
+        let until = run.number(stretch.until);
+        write!(svg, " to {until}")?;
     }
     Ok(())
 }
 
-fn draw_path(
+/// The number of a train at the start of its authority, where a mission of it begins, or goes on in the first event
+/// that is drawn.
+fn draw_names(
     svg: &mut String,
     scale: &Scale<'_>,
+    run: &Run<'_>,
     train: u8,
-    fronts: &[Front],
 ) -> Result<(), AllocError> {
-    let mut track = None;
-    for front in fronts {
-        if front.train == train {
-            let step = if front.is_start || track != Some(front.track) {
-                "M"
-            } else {
-                "L"
-            };
-            let x = scale.x(front.track, front.metres);
-            let y = scale.y(front.event);
-            write!(svg, "{step}{x} {y}")?;
-            track = Some(front.track);
+    let colour = colour_of(train);
+    let nid_engine = nid_engine_of(run.line, train);
+    for e in 0..run.events.len() {
+        let (before, after) = run.missions(e, train);
+        if let Some(mission) = after {
+            if e == 0 || before.is_none() {
+                let first = mission.hand.first;
+                let track = track_of(run.line, first);
+                let x = scale
+                    .x(track, section_start(run.line, first))
+                    .saturating_add(4);
+                let y = scale.y(e).saturating_add(13);
+                writeln!(
+                    svg,
+                    "<text class=\"name c{colour}\" x=\"{x}\" y=\"{y}\">{nid_engine}</text>"
+                )?;
+            }
         }
     }
     Ok(())
-}
-
-fn track_of(scale: &Scale<'_>, section: u16) -> u8 {
-    match scale.line.section(section) {
-        Some(section) => section.track,
-        None => 0,
-    }
 }

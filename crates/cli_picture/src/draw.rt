@@ -1,14 +1,15 @@
 //! The page: its layers one above another, and where each part of it lies.
 
-use crate::bars::{draw_bars, draw_fronts};
-use crate::chart::Chart;
+use crate::bars::draw_bars;
 use crate::events::draw_events;
+use crate::fronts::draw_fronts;
 use crate::grid::{draw_grid, draw_homes};
 use crate::legend::{draw_legend, legend_rows};
 use crate::marks::draw_marks;
+use crate::run::Run;
 use crate::scale::{Scale, WIDTH};
+use crate::seats::draw_seats;
 use crate::style::STYLE;
-use rbc_line::Line;
 use std::alloc::{AllocError, Global};
 
 // The upper edge of the legend, the height of a row of it, and of what stands between it and the events.
@@ -18,36 +19,37 @@ const ROW: u64 = 18;
 
 const AXIS: u64 = 76;
 
-/// Draws a chart.
-pub fn draw(alloc: Global, line: &Line, chart: &Chart) -> Result<String, AllocError> {
-    let axis = LEGEND.saturating_add(ROW.saturating_mul(legend_rows(line, chart)));
+/// Draws what is to be drawn of a run.
+pub fn draw(alloc: Global, run: &Run<'_>) -> Result<String, AllocError> {
+    let axis = LEGEND.saturating_add(ROW.saturating_mul(legend_rows(run)));
     let scale = Scale {
-        line,
+        line: run.line,
         top: axis.saturating_add(AXIS),
-        event_count: chart.events.len(),
+        event_count: run.events.len(),
     };
     let mut svg = String::new(alloc);
-    draw_head(&mut svg, &scale, chart)?;
+    begin(&mut svg, &scale)?;
+    draw_title(&mut svg, run)?;
+    draw_legend(&mut svg, run, LEGEND, ROW)?;
     draw_homes(&mut svg, &scale, axis)?;
-    draw_events(&mut svg, &scale, &chart.events)?;
+    draw_events(&mut svg, &scale, run)?;
     draw_grid(&mut svg, &scale, axis)?;
-    draw_trains(&mut svg, &scale, chart)?;
+    draw_trains(alloc, &mut svg, &scale, run)?;
     svg.push_str("</svg>\n")?;
     Ok(svg)
 }
 
-/// What stands above the line and the events.
-fn draw_head(svg: &mut String, scale: &Scale<'_>, chart: &Chart) -> Result<(), AllocError> {
-    begin(svg, scale)?;
-    draw_title(svg, scale.line, chart)?;
-    draw_legend(svg, scale.line, chart, LEGEND, ROW)
-}
-
 /// What the trains did.
-fn draw_trains(svg: &mut String, scale: &Scale<'_>, chart: &Chart) -> Result<(), AllocError> {
-    draw_bars(svg, scale, chart)?;
-    draw_fronts(svg, scale, chart)?;
-    draw_marks(svg, scale, &chart.marks)
+fn draw_trains(
+    alloc: Global,
+    svg: &mut String,
+    scale: &Scale<'_>,
+    run: &Run<'_>,
+) -> Result<(), AllocError> {
+    draw_bars(alloc, svg, scale, run)?;
+    draw_fronts(alloc, svg, scale, run)?;
+    draw_seats(svg, scale, run)?;
+    draw_marks(svg, scale, run)
 }
 
 fn begin(svg: &mut String, scale: &Scale<'_>) -> Result<(), AllocError> {
@@ -62,20 +64,22 @@ fn begin(svg: &mut String, scale: &Scale<'_>) -> Result<(), AllocError> {
     )
 }
 
-fn draw_title(svg: &mut String, line: &Line, chart: &Chart) -> Result<(), AllocError> {
-    let nid_c = line.nid_c();
-    let events = chart.events.len();
-    writeln!(
-        svg,
-        "<text x=\"20\" y=\"28\" font-size=\"18\" font-weight=\"bold\">Run on the line of NID_C {nid_c}: {events} events</text>"
-    )?;
-    let skipped = chart.skipped;
+fn draw_title(svg: &mut String, run: &Run<'_>) -> Result<(), AllocError> {
+    let nid_c = run.line.nid_c();
     write!(
         svg,
-        "<text x=\"20\" y=\"48\" class=\"small\">Distance to the right, events downward"
+        "<text x=\"20\" y=\"28\" font-size=\"18\" font-weight=\"bold\">Run on the line of NID_C {nid_c}: "
     )?;
-    if skipped != 0 {
-        write!(svg, "; lines left out, which no run prints: {skipped}")?;
+    let drawn = run.events.len();
+    if drawn < run.event_count {
+        let first = run.number(0);
+        let last = run.skipped.saturating_add(drawn);
+        write!(svg, "events {first} to {last} of {}", run.event_count)?;
+    } else {
+        write!(svg, "{drawn} events")?;
     }
-    writeln!(svg, "</text>")
+    writeln!(
+        svg,
+        "</text>\n<text x=\"20\" y=\"48\" class=\"small\">Distance to the right, events downward</text>"
+    )
 }

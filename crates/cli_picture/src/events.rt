@@ -1,22 +1,16 @@
-//! The events, with their numbers and, where there is room, what they are.
+//! The events, with their numbers and what they are, as far as there is room.
 
-use crate::chart::{Event, Kind};
-use crate::scale::{RIGHT, Scale};
+use crate::run::{Event, Kind, Run};
+use crate::scale::{LEFT, RIGHT, Scale};
 use cli_words::name_of_number;
 use std::alloc::AllocError;
 
-pub fn draw_events(
-    svg: &mut String,
-    scale: &Scale<'_>,
-    events: &[Event],
-) -> Result<(), AllocError> {
+pub fn draw_events(svg: &mut String, scale: &Scale<'_>, run: &Run<'_>) -> Result<(), AllocError> {
     let stride = scale.stride();
-    for (e, event) in events.iter().enumerate() {
-        let number = e.saturating_add(1);
+    for (e, event) in run.events.iter().enumerate() {
+        let number = run.number(e);
         if number.checked_rem(stride) == Some(0) {
-            draw_number(svg, scale, e)?;
-        }
-        if scale.has_room() {
+            draw_number(svg, scale, e, number)?;
             draw_words(svg, scale, e, event)?;
         }
     }
@@ -24,12 +18,14 @@ pub fn draw_events(
 }
 
 /// The number of an event, from 1, and a line through all tracks.
-fn draw_number(svg: &mut String, scale: &Scale<'_>, e: usize) -> Result<(), AllocError> {
-    let number = e.saturating_add(1);
+fn draw_number(
+    svg: &mut String,
+    scale: &Scale<'_>,
+    e: usize,
+    number: usize,
+) -> Result<(), AllocError> {
     let y = scale.y(e);
-    let left = scale.left();
-    let right = RIGHT;
-    writeln!(svg, "<path class=\"event\" d=\"M{left} {y}H{right}\"/>")?;
+    writeln!(svg, "<path class=\"event\" d=\"M{LEFT} {y}H{RIGHT}\"/>")?;
     let y = y.saturating_add(4);
     writeln!(
         svg,

@@ -80,7 +80,8 @@ fn stretch_of(line: &Line, track: u8, home: u8) -> Option<(u32, u32)> {
     stretch
 }
 
-/// The sections of each track: lines where they start, their numbers, and metres, as far as there is room; and the borders.
+/// The sections of each track: lines where they start, their numbers, and metres, as far as there is room; and the
+/// borders.
 pub fn draw_grid(svg: &mut String, scale: &Scale<'_>, axis: u64) -> Result<(), AllocError> {
     draw_units(svg, axis)?;
     for track in 0..scale.line.track_count() {

@@ -1,93 +1,118 @@
-//! What a train said, as far as a diagram needs it.
+//! What an event is, and what is heard of trains and told to them in it.
 
-use crate::chart::Kind;
+use crate::run::{Border, Event, Kind, Report, track_of};
 use cli_words::number_of_train;
-use hex::FromHexError;
+use rbc_centre::{Outcome, Saying};
 use rbc_line::Line;
-use rbc_msgs::{MsgFault, TrainBody, TrainMsg, decode_train};
+use rbc_msgs::{MsgFault, TrackBody, TrainBody, TrainMsg, decode_train};
 use rbc_packets::Position;
-use rbc_place::{Place, extent};
+use rbc_place::{extent, section_start};
+use rbc_world::{Answer, WorldEvent};
 use std::alloc::{AllocError, Global};
 
-/// What a train's message does to its authority.
-#[derive(Clone, Copy, PartialEq, Eq)]
-pub enum Said {
-    /// A mission starts, if it is accepted.
-    Start,
-    /// It tells a place, and clears nothing.
-    Place,
-    /// It tells a place, and clears what lies behind it.
-    Report,
-    /// The same, and its mission ends.
-    End,
-    /// It grants the request to shorten.
-    Granted,
-    Rejected,
-    /// It says nothing of a place.
-    Nothing,
+/// An event of a run, by what is answered to it.
+pub fn event_of(
+    alloc: Global,
+    line: &Line,
+    event: &WorldEvent,
+    answer: &Answer,
+) -> Result<Event, AllocError> {
+    let (kind, report) = kind_of(alloc, line, event)?;
+    let is_silent = is_silent(answer);
+    Ok(Event {
+        kind,
+        is_silent,
+        report: if is_silent { None } else { report },
+        border: border_in(line, answer),
+    })
 }
 
-/// A message of a train of the line.
-#[derive(Clone, Copy)]
-pub struct Heard {
-    pub train: u8,
-    pub said: Said,
-    /// Where its report puts it.
-    pub place: Option<Place>,
+fn kind_of(
+    alloc: Global,
+    line: &Line,
+    event: &WorldEvent,
+) -> Result<(Kind, Option<Report>), AllocError> {
+    match event {
+        WorldEvent::Train { bytes, .. } => heard_in(alloc, line, bytes),
+        WorldEvent::Set { section, .. } => Ok((Kind::Set { section: *section }, None)),
+        WorldEvent::Unset { section, .. } => Ok((Kind::Unset { section: *section }, None)),
+        WorldEvent::Deliver { number, .. } => Ok((Kind::Delivery { number: *number }, None)),
+    }
 }
 
-/// The event that these bytes of a train are, and its message where its train is of the line.
-pub fn heard_of(
+fn heard_in(
     alloc: Global,
     line: &Line,
     bytes: &[u8],
-) -> Result<(Kind, Option<Heard>), AllocError> {
+) -> Result<(Kind, Option<Report>), AllocError> {
     match decode_train(alloc, bytes) {
-        Ok(message) => Ok((kind_of(&message), message_of(line, &message))),
+        Ok(message) => Ok((kind_of_message(&message), report_in(line, &message))),
         Err(MsgFault::Memory) => Err(AllocError),
         Err(_) => Ok((Kind::NoMessage, None)),
     }
 }
 
-/// The bytes that hexadecimal digits stand for. None where they are no such digits.
-pub fn bytes_of(alloc: Global, digits: &str) -> Result<Option<Vec<u8>>, AllocError> {
-    match hex::decode(alloc, digits) {
-        Ok(bytes) => Ok(Some(bytes)),
-        Err(FromHexError::OutOfMemory) => Err(AllocError),
-        Err(_) => Ok(None),
-    }
-}
-
-fn kind_of(message: &TrainMsg) -> Kind {
+fn kind_of_message(message: &TrainMsg) -> Kind {
     Kind::Message {
         number: number_of_train(message.body()),
         nid_engine: message.nid_engine(),
     }
 }
 
-fn message_of(line: &Line, message: &TrainMsg) -> Option<Heard> {
+fn report_in(line: &Line, message: &TrainMsg) -> Option<Report> {
     let train = line.train_number(message.nid_engine())?;
-    let (said, position) = said_in(message.body());
-    let place = extent_of(line, position);
-    Some(Heard { train, said, place })
+    let place = extent(line, position_in(message.body())?)?;
+    Some(Report { train, place })
 }
 
-fn extent_of(line: &Line, position: Option<&Position>) -> Option<Place> {
-    extent(line, position?)
-}
-
-fn said_in(body: &TrainBody) -> (Said, Option<&Position>) {
+// Where a train says that it is. A start of mission counts by what the line has then, since it may be rejected.
+fn position_in(body: &TrainBody) -> Option<&Position> {
     match body {
-        TrainBody::StartOfMission { position, .. } => (Said::Start, Some(position)),
-        TrainBody::TrainData { position, .. } | TrainBody::Request { position, .. } => {
-            (Said::Place, Some(position))
-        }
-        TrainBody::Report { position } => (Said::Report, Some(position)),
-        TrainBody::EndOfMission { position } => (Said::End, Some(position)),
-        TrainBody::ShorteningGranted { position, .. } => (Said::Granted, Some(position)),
-        TrainBody::ShorteningRejected { position, .. } => (Said::Rejected, Some(position)),
-        TrainBody::InitiationOfSession
+        TrainBody::TrainData { position, .. }
+        | TrainBody::Request { position, .. }
+        | TrainBody::Report { position }
+        | TrainBody::EndOfMission { position }
+        | TrainBody::ShorteningGranted { position, .. }
+        | TrainBody::ShorteningRejected { position, .. } => Some(position),
+        TrainBody::StartOfMission { .. }
+        | TrainBody::InitiationOfSession
         | TrainBody::TerminationOfSession
-        | TrainBody::SessionEstablished => (Said::Nothing, None),
+        | TrainBody::SessionEstablished => None,
     }
+}
+
+fn is_silent(answer: &Answer) -> bool {
+    match answer {
+        Answer::Outcome(outcome) => outcome.silence.is_some(),
+        Answer::NoCentre | Answer::NotSent | Answer::Fault(_) => true,
+    }
+}
+
+fn border_in(line: &Line, answer: &Answer) -> Option<Border> {
+    match answer {
+        Answer::Outcome(outcome) => border_told(line, outcome),
+        _ => None,
+    }
+}
+
+fn border_told(line: &Line, outcome: &Outcome) -> Option<Border> {
+    let mut border = None;
+    for saying in outcome.sayings.as_slice() {
+        border = border.or(border_of(line, saying));
+    }
+    border
+}
+
+// The border that a message names, past the balise group in its header.
+fn border_of(line: &Line, saying: &Saying) -> Option<Border> {
+    let TrackBody::Transition(order) = saying.message.body() else {
+        return None;
+    };
+    let group = line.section_of_group(saying.message.nid_lrbg())?;
+    let metres = u32::try_from(order.d_rbctr.value()).unwrap_or(0);
+    Some(Border {
+        train: line.train_number(saying.nid_engine)?,
+        track: track_of(line, group),
+        metres: section_start(line, group).saturating_add(metres),
+    })
 }

@@ -1,18 +1,27 @@
 //! What the colours and signs mean.
 
-use crate::chart::{Chart, Sign};
-use crate::marks::shape_of;
+use crate::marks::{Sign, shape_of};
+use crate::run::{Run, mission_in, nid_engine_of};
 use crate::style::{colour_of, dashes_of};
 use rbc_line::Line;
+use rbc_world::{LineView, Mark};
 use std::alloc::AllocError;
 
 // The signs, each with where it lies and what it means.
 const SIGNS: [(Sign, u64, &str); 5] = [
     (Sign::Asked, 338, "9: asked to end earlier"),
     (Sign::Granted, 492, "137: does so"),
-    (Sign::Rejected, 592, "138, or too late: does not"),
+    (Sign::Dropped, 592, "the request ends so"),
     (Sign::Handover, 762, "24: handover ordered"),
-    (Sign::Ended, 912, "150: mission ends"),
+    (Sign::Ended, 912, "mission ends"),
+];
+
+// What has a box of its own look, each with where it lies and what it means.
+const LOOKS: [(&str, u64, &str); 4] = [
+    ("bar kept", 20, "kept for it"),
+    ("bar wished", 130, "wished back"),
+    ("wait", 238, "start that waits"),
+    ("way", 370, "on the way: nobody supervises it"),
 ];
 
 // How far entries lie apart, and how many stand in a row.
@@ -20,36 +29,64 @@ const STEP: u64 = 145;
 
 const IN_ROW: u64 = 8;
 
-/// How many rows the legend has: one of signs, and those of the trains that are shown.
-pub fn legend_rows(line: &Line, chart: &Chart) -> u64 {
+// The rows of signs.
+const SIGN_ROWS: u64 = 2;
+
+/// How many rows the legend has: those of signs, and of the trains of which something is drawn.
+pub fn legend_rows(run: &Run<'_>) -> u64 {
     let mut count: u64 = 0;
-    for train in 0..line.train_count() {
-        if chart.shows(train) {
+    for train in 0..run.line.train_count() {
+        if shows(run, train) {
             count = count.saturating_add(1);
         }
     }
-    count.div_ceil(IN_ROW).saturating_add(1)
+    count.div_ceil(IN_ROW).saturating_add(SIGN_ROWS)
 }
 
-pub fn draw_legend(
-    svg: &mut String,
-    line: &Line,
-    chart: &Chart,
-    top: u64,
-    row: u64,
-) -> Result<(), AllocError> {
+pub fn draw_legend(svg: &mut String, run: &Run<'_>, top: u64, row: u64) -> Result<(), AllocError> {
     draw_signs(svg, top)?;
+    draw_looks(svg, top.saturating_add(row))?;
     let mut place: u64 = 0;
-    for train in 0..line.train_count() {
-        if chart.shows(train) {
+    for train in 0..run.line.train_count() {
+        if shows(run, train) {
             let x = (place % IN_ROW).saturating_mul(STEP).saturating_add(20);
-            let rows = (place / IN_ROW).saturating_add(1);
+            let rows = (place / IN_ROW).saturating_add(SIGN_ROWS);
             let y = rows.saturating_mul(row).saturating_add(top);
-            draw_train(svg, line, train, x, y)?;
+            draw_train(svg, run.line, train, x, y)?;
             place = place.saturating_add(1);
         }
     }
     Ok(())
+}
+
+/// Whether something is drawn of a train.
+fn shows(run: &Run<'_>, train: u8) -> bool {
+    if !run.wants(train) {
+        return false;
+    }
+    let nid_engine = nid_engine_of(run.line, train);
+    for (e, view) in run.views.iter().enumerate() {
+        if run.report(e, train).is_some()
+            || mission_in(view, train).is_some()
+            || names(view, nid_engine)
+        {
+            return true;
+        }
+    }
+    false
+}
+
+/// Whether a section is in use for a train.
+fn names(view: &LineView, train: u32) -> bool {
+    for section in &view.sections {
+        match section.mark {
+            Mark::Kept { nid_engine } | Mark::Given { nid_engine } if nid_engine == train => {
+                return true;
+            }
+            _ => {}
+        }
+    }
+    false
 }
 
 /// A train's number, beside a bar and a front in its colour.
@@ -86,20 +123,31 @@ fn draw_signs(svg: &mut String, y: u64) -> Result<(), AllocError> {
     )
 }
 
+/// How sections look that are kept or wished back, starts that wait, and who supervises a train.
+fn draw_looks(svg: &mut String, y: u64) -> Result<(), AllocError> {
+    for (class, x, words) in &LOOKS {
+        write!(
+            svg,
+            "<rect class=\"{class}\" x=\"{x}\" y=\"{y}\" width=\"22\" height=\"10\" transform=\"translate(0 -9)\"/>"
+        )?;
+        draw_words(svg, x.saturating_add(28), y, words)?;
+    }
+    write!(
+        svg,
+        "<g class=\"seat\"><circle cx=\"604\" cy=\"{y}\" r=\"4\"/><text x=\"604\" y=\"{y}\" dx=\"7\" dy=\"4\">A</text></g>"
+    )?;
+    draw_words(svg, 630, y, "A supervises it from here on")
+}
+
 fn draw_sign(svg: &mut String, sign: Sign, x: u64, y: u64, words: &str) -> Result<(), AllocError> {
     let (class, path) = shape_of(sign);
     write!(svg, "<path class=\"{class}\" d=\"M{x} {y}m0 -3{path}\"/>")?;
-    let x = x.saturating_add(14);
+    draw_words(svg, x.saturating_add(14), y, words)
+}
+
+fn draw_words(svg: &mut String, x: u64, y: u64, words: &str) -> Result<(), AllocError> {
     writeln!(
         svg,
         "<text x=\"{x}\" y=\"{y}\" class=\"small\">{words}</text>"
     )
-}
-
-/// The NID_ENGINE of a train by its place in the line file.
-pub fn nid_engine_of(line: &Line, train: u8) -> u32 {
-    match line.train(train) {
-        Some(train) => train.nid_engine,
-        None => 0,
-    }
 }

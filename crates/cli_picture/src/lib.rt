@@ -1,36 +1,55 @@
-//! The time-distance diagram of a run, as railways draw it: the line from left to right, the events downward, and of
-//! each train its authority section by section, the fronts that it reported, and what was asked of it. Any text is
-//! taken.
+//! The time-distance diagram of a run, as railways draw it: the line from left to right, the events downward. The
+//! events of a print are played again on the line's centres, and what is drawn behind each is what the line has then:
+//! sections in authorities and kept ones, fronts, who supervises each train, and what was asked of it.
 //!
 //! Bodies are free. What is printed, and each exit status, is fixed by docs/FORMATS.md.
 #![tactic(auto)]
 
 mod bars;
-mod chart;
-mod diary;
+mod cut;
 mod draw;
 mod events;
+mod fronts;
 mod grid;
 mod heard;
-mod holds;
 mod legend;
 mod marks;
-mod reader;
+mod page;
+mod played;
+mod run;
 mod scale;
+mod seats;
+mod stretch;
 mod style;
 
 use crate::draw::draw;
-use crate::reader::Reader;
+use crate::page::draw_page;
+use crate::played::played;
+use cli_status::Fault;
+pub use cut::Cut;
 use rbc_line::Line;
-use std::alloc::{AllocError, Global};
+use std::alloc::Global;
 
-/// The diagram, as an SVG document, of a text that `run` printed for this line. A line of the text that `run` does not
-/// print is counted and left out. An error comes for want of memory alone.
-pub fn picture(alloc: Global, line: &Line, printed: &str) -> Result<String, AllocError> {
-    let mut reader = Reader::new(alloc, line)?;
-    for row in printed.lines() {
-        reader.read(alloc, row)?;
-    }
-    let chart = reader.finish()?;
-    draw(alloc, line, &chart)
+/// The diagram, as an SVG document, of the events of a print, as far as the cut says. Only the lines that begin with
+/// `> ` are read. Errors:
+/// the cut names a train that is not of the line, or no event; a line has no form of a script; a step is refused.
+pub fn picture(
+    alloc: Global,
+    line: &Line,
+    printed: &str,
+    cut: Cut,
+) -> Result<String, Fault<'static>> {
+    let run = played(alloc, line, printed, cut)?;
+    Ok(draw(alloc, &run)?)
+}
+
+/// The same diagram in an HTML page, with a slider over its events. Errors as those of `picture`.
+pub fn picture_page(
+    alloc: Global,
+    line: &Line,
+    printed: &str,
+    cut: Cut,
+) -> Result<String, Fault<'static>> {
+    let run = played(alloc, line, printed, cut)?;
+    Ok(draw_page(alloc, &run)?)
 }

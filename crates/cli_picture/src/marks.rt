@@ -1,41 +1,193 @@
-//! What was asked of a train, and what it answered, as signs.
+//! What was asked of a train, and what became of it, as signs.
 
-use crate::chart::{Mark, Sign};
+use crate::run::{Run, track_of};
 use crate::scale::Scale;
 use crate::style::colour_of;
+use rbc_place::{Place, section_end};
+use rbc_world::MissionView;
 use std::alloc::AllocError;
+
+#[derive(Clone, Copy)]
+pub enum Sign {
+    /// Message 9: the train is asked to end its authority earlier.
+    Asked,
+    /// Message 137: it does so.
+    Granted,
+    /// The request ends without that.
+    Dropped,
+    /// Message 24 with packet 131: the train is ordered to change to the next centre.
+    Handover,
+    /// Its mission ends.
+    Ended,
+}
 
 /// The class of a sign, and its path from the point that it marks.
 pub fn shape_of(sign: Sign) -> (&'static str, &'static str) {
     match sign {
         Sign::Asked => ("sign hollow", "l-6 -10h12z"),
         Sign::Granted => ("sign", "l-6 -10h12z"),
-        Sign::Rejected => ("sign hollow", "m-5 -5l10 10m0 -10l-10 10"),
+        Sign::Dropped => ("sign hollow", "m-5 -5l10 10m0 -10l-10 10"),
         Sign::Handover => ("sign hollow", "m0 -7l7 7l-7 7l-7 -7z"),
         Sign::Ended => ("sign", "m-4 -4h8v8h-8z"),
     }
 }
 
-pub fn draw_marks(svg: &mut String, scale: &Scale<'_>, marks: &[Mark]) -> Result<(), AllocError> {
-    for mark in marks {
-        draw_mark(svg, scale, mark)?;
+/// A point of a track, in metres from its start, and the event that something is drawn at.
+#[derive(Clone, Copy)]
+struct Point {
+    train: u8,
+    event: usize,
+    track: u8,
+    metres: u32,
+}
+
+pub fn draw_marks(svg: &mut String, scale: &Scale<'_>, run: &Run<'_>) -> Result<(), AllocError> {
+    for (event, what) in run.events.iter().enumerate() {
+        for train in 0..run.line.train_count() {
+            if run.wants(train) {
+                draw_requests(svg, scale, run, event, train)?;
+                draw_end(svg, scale, run, event, train)?;
+            }
+        }
+        if let Some(border) = what.border {
+            if run.wants(border.train) {
+                let point = Point {
+                    train: border.train,
+                    event,
+                    track: border.track,
+                    metres: border.metres,
+                };
+                draw_sign(svg, scale, Sign::Handover, point)?;
+            }
+        }
     }
     Ok(())
 }
 
-/// A sign, and where an authority is shortened a line from its end to the sign.
-fn draw_mark(svg: &mut String, scale: &Scale<'_>, mark: &Mark) -> Result<(), AllocError> {
-    let colour = colour_of(mark.train);
-    let x = scale.x(mark.track, mark.metres);
-    let y = scale.y(mark.event);
-    if matches!(mark.sign, Sign::Asked | Sign::Granted) {
-        let reach = scale.x(mark.track, mark.reach);
+/// The request to shorten that ends in an event, and the one that is made in it.
+fn draw_requests(
+    svg: &mut String,
+    scale: &Scale<'_>,
+    run: &Run<'_>,
+    event: usize,
+    train: u8,
+) -> Result<(), AllocError> {
+    let (before, after) = run.missions(event, train);
+    let was = last_kept_in(before);
+    let is = last_kept_in(after);
+    if was == is {
+        return Ok(());
+    }
+    let end = end_of(before);
+    if let Some((_, last_kept)) = was {
+        let sign = if end_of(after) < end {
+            Sign::Granted
+        } else {
+            Sign::Dropped
+        };
+        draw_request(svg, scale, sign, last_kept, end, (train, event))?;
+    }
+    if let Some((_, last_kept)) = is {
+        draw_request(
+            svg,
+            scale,
+            Sign::Asked,
+            last_kept,
+            end_of(after),
+            (train, event),
+        )?;
+    }
+    Ok(())
+}
+
+/// The request that stands: its stamp, and the last section that is to be kept.
+fn last_kept_in(mission: Option<MissionView>) -> Option<(u32, u16)> {
+    let proposal = mission?.facts.proposal?;
+    Some((proposal.stamp, proposal.last_kept))
+}
+
+/// The number of the section behind a hand: the end of a train's authority. A train without a mission has no end that
+/// counts.
+fn end_of(mission: Option<MissionView>) -> u32 {
+    match mission {
+        Some(mission) => mission.hand.behind(),
+        None => u32::MAX,
+    }
+}
+
+/// A sign at the end that is proposed, and where the authority is shortened a line from its end to the sign.
+fn draw_request(
+    svg: &mut String,
+    scale: &Scale<'_>,
+    sign: Sign,
+    last_kept: u16,
+    end: u32,
+    (train, event): (u8, usize),
+) -> Result<(), AllocError> {
+    let track = track_of(scale.line, last_kept);
+    let point = Point {
+        train,
+        event,
+        track,
+        metres: section_end(scale.line, last_kept.into()),
+    };
+    if !matches!(sign, Sign::Dropped) {
+        let colour = colour_of(train);
+        let x = scale.x(track, point.metres);
+        let y = scale.y(event);
+        let reach = scale.x(track, section_end(scale.line, end.saturating_sub(1)));
         writeln!(
             svg,
             "<path class=\"cut c{colour}\" d=\"M{reach} {y}H{x}\"/>"
         )?;
     }
-    let (class, path) = shape_of(mark.sign);
+    draw_sign(svg, scale, sign, point)
+}
+
+/// A square where a train ends its mission, or its last section leaves.
+fn draw_end(
+    svg: &mut String,
+    scale: &Scale<'_>,
+    run: &Run<'_>,
+    event: usize,
+    train: u8,
+) -> Result<(), AllocError> {
+    let (before, after) = run.missions(event, train);
+    match before {
+        Some(mission) if !mission.facts.is_ended && !goes_on(after) => {
+            let place = run.report(event, train).unwrap_or(mission.facts.place);
+            draw_sign(svg, scale, Sign::Ended, point_of(train, event, &place))
+        }
+        _ => Ok(()),
+    }
+}
+
+fn goes_on(mission: Option<MissionView>) -> bool {
+    match mission {
+        Some(mission) => !mission.facts.is_ended,
+        None => false,
+    }
+}
+
+fn point_of(train: u8, event: usize, place: &Place) -> Point {
+    Point {
+        train,
+        event,
+        track: place.track,
+        metres: place.front / 10,
+    }
+}
+
+fn draw_sign(
+    svg: &mut String,
+    scale: &Scale<'_>,
+    sign: Sign,
+    point: Point,
+) -> Result<(), AllocError> {
+    let colour = colour_of(point.train);
+    let x = scale.x(point.track, point.metres);
+    let y = scale.y(point.event);
+    let (class, path) = shape_of(sign);
     writeln!(
         svg,
         "<path class=\"{class} c{colour}\" d=\"M{x} {y}{path}\"/>"

@@ -3,16 +3,14 @@
 ghost use Rattle.std.specs.Prelude.{◌≤◌};
 
 use rbc_line::Line;
-use rbc_place::track_end;
+use rbc_place::{Place, track_end};
 
 /// The width of the page.
 pub const WIDTH: u64 = 1200;
 /// Where the line ends on it.
 pub const RIGHT: u64 = 1180;
-/// Where the line begins, with words beside the events and without.
-const LEFT_OF_WORDS: u64 = 180;
-
-const LEFT: u64 = 70;
+/// Where the line begins, right of the words beside the events.
+pub const LEFT: u64 = 180;
 /// The space between two tracks.
 pub const GAP: u64 = 30;
 /// The height of an event where there are few, and of all events where there are many.
@@ -30,28 +28,34 @@ pub struct Scale<'a> {
 }
 
 impl<'a> Scale<'a> {
-    /// The place of a point of a track, in metres from the start of the track. What lies past the track's end is shown there.
+    /// The place of a point of a track, in metres from the start of the track. What lies past the track's end is
+    /// shown there.
     pub fn x(&self, track: u8, metres: u32) -> u64
         ensures { result ≤ 1180 }
     {
         let tracks = u64::from(self.line.track_count()).saturating_sub(1);
         let room = RIGHT
-            .saturating_sub(self.left())
+            .saturating_sub(LEFT)
             .saturating_sub(tracks.saturating_mul(GAP));
         let metres = u64::from(metres.min(track_end(self.line, track)));
         let before = self.metres_before(track).saturating_add(metres);
         let whole = self.metres_before(self.line.track_count());
         let gaps = u64::from(track).saturating_mul(GAP);
         let place = share(room, before, whole);
-        self.left()
-            .saturating_add(gaps)
-            .saturating_add(place)
-            .min(RIGHT)
+        LEFT.saturating_add(gaps).saturating_add(place).min(RIGHT)
     }
 
-    /// Where the line begins.
-    pub fn left(&self) -> u64 {
-        if self.has_room() { LEFT_OF_WORDS } else { LEFT }
+    /// The place of a train's safe front end.
+    pub fn front(&self, place: &Place) -> u64 {
+        self.x(place.track, place.front / 10)
+    }
+
+    /// The place of its safe rear end, or of its front where that is not known.
+    pub fn rear(&self, place: &Place) -> u64 {
+        match place.rear {
+            Some(rear) => self.x(place.track, u32::try_from(rear / 10).unwrap_or(0)),
+            None => self.front(place),
+        }
     }
 
     /// How long the tracks in front of this one are, in metres.
@@ -84,7 +88,16 @@ impl<'a> Scale<'a> {
         self.top.saturating_add(place)
     }
 
-    /// Each which event has its number written, so that there is room for it: 1, 2, 5, 10 and so on.
+    /// Where something ends: in an event, or behind the last at the lower edge.
+    pub fn until(&self, event: usize) -> u64 {
+        if event < self.event_count {
+            self.y(event)
+        } else {
+            self.bottom()
+        }
+    }
+
+    /// Each which event has its number and words written, so that there is room for it: 1, 2, 5, 10 and so on.
     pub fn stride(&self) -> usize {
         let mut stride: usize = 1;
         for factor in [2, 5, 10, 20, 50, 100, 200, 500, 1000, 2000, 5000, 10_000] {
@@ -95,11 +108,6 @@ impl<'a> Scale<'a> {
             stride = factor;
         }
         stride
-    }
-
-    /// Whether each event has room for its own words.
-    pub fn has_room(&self) -> bool {
-        self.stride() == 1
     }
 }
 

@@ -4,6 +4,12 @@ ghost use Rattle.std.specs.Prelude.{◌≡◌, ◌%◌, ◌/◌};
 
 /// The style sheet.
 pub const STYLE: &str = ".bar{fill:currentColor;fill-opacity:.3;stroke:currentColor}
+.kept{fill-opacity:.07;stroke-dasharray:2 3}
+.wished{stroke:#111;stroke-width:2}
+.wait{fill:none;stroke:currentColor;stroke-width:2;stroke-dasharray:2 2}
+.way{fill:#111;fill-opacity:.5;stroke:#111;stroke-width:3;stroke-dasharray:3 2}
+.seat circle{fill:#fff;stroke:currentColor;stroke-width:2}
+.seat text,.name{font-size:11px;font-weight:bold;fill:currentColor;stroke:#fff;stroke-width:3px;paint-order:stroke}
 .front{fill:none;stroke:currentColor;stroke-width:2;stroke-linejoin:round}
 .sign{fill:currentColor;stroke:currentColor;stroke-width:1.5}
 .hollow{fill:#fff}
@@ -16,7 +22,6 @@ pub const STYLE: &str = ".bar{fill:currentColor;fill-opacity:.3;stroke:currentCo
 text{fill:#222}
 .small{font-size:11px;fill:#555}
 .silent{fill:#aaa;font-style:italic}
-.name{font-size:11px;font-weight:bold;fill:currentColor;stroke:#fff;stroke-width:3px;paint-order:stroke}
 .c0{color:#1f6fb4}.c1{color:#d96b00}.c2{color:#2a9134}.c3{color:#c8282d}
 .c4{color:#7d4fb3}.c5{color:#8a5a3c}.c6{color:#d0468f}.c7{color:#0b8f99}
 .d1{stroke-dasharray:8 3}.d2{stroke-dasharray:3 3}.d3{stroke-dasharray:10 3 2 3}.d4{stroke-dasharray:1 3}

@@ -1,0 +1,79 @@
+//! The safe fronts that trains reported.
+
+use crate::run::Run;
+use crate::scale::Scale;
+use crate::style::{colour_of, dashes_of};
+use rbc_place::Place;
+use std::alloc::{AllocError, Global};
+
+/// Where the front of a train is in an event, and whether a mission begins there.
+#[derive(Clone, Copy)]
+struct Front {
+    place: Place,
+    event: usize,
+    is_start: bool,
+}
+
+/// The fronts of each train as one path, which begins anew at each mission.
+pub fn draw_fronts(
+    alloc: Global,
+    svg: &mut String,
+    scale: &Scale<'_>,
+    run: &Run<'_>,
+) -> Result<(), AllocError> {
+    for train in 0..run.line.train_count() {
+        let fronts = fronts_of(alloc, run, train)?;
+        if run.wants(train) && !fronts.is_empty() {
+            let colour = colour_of(train);
+            let dashes = dashes_of(train);
+            write!(svg, "<path class=\"front c{colour} d{dashes}\" d=\"")?;
+            draw_path(svg, scale, &fronts)?;
+            writeln!(svg, "\"/>")?;
+        }
+    }
+    Ok(())
+}
+
+fn fronts_of(alloc: Global, run: &Run<'_>, train: u8) -> Result<Vec<Front>, AllocError> {
+    let mut fronts = Vec::new(alloc);
+    for event in 0..run.events.len() {
+        if let Some(front) = front_in(run, event, train) {
+            fronts.push(front)?;
+        }
+    }
+    Ok(fronts)
+}
+
+/// What a train reports, or else where the line has it from now on.
+fn front_in(run: &Run<'_>, event: usize, train: u8) -> Option<Front> {
+    let (before, after) = run.missions(event, train);
+    let place = match run.report(event, train) {
+        Some(place) => place,
+        None => {
+            let place = after?.facts.place;
+            match before {
+                Some(mission) if mission.facts.place == place => return None,
+                _ => place,
+            }
+        }
+    };
+    let is_start = before.is_none() && after.is_some();
+    Some(Front {
+        place,
+        event,
+        is_start,
+    })
+}
+
+fn draw_path(svg: &mut String, scale: &Scale<'_>, fronts: &[Front]) -> Result<(), AllocError> {
+    let mut track = None;
+    for front in fronts {
+        let is_new = front.is_start || track != Some(front.place.track);
+        let step = if is_new { "M" } else { "L" };
+        let x = scale.front(&front.place);
+        let y = scale.y(front.event);
+        write!(svg, "{step}{x} {y}")?;
+        track = Some(front.place.track);
+    }
+    Ok(())
+}
