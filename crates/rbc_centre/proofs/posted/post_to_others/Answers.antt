@@ -38,7 +38,7 @@ loop-to-preserved c =
     let to = c.loop-to.to in
     record {
       sent = one_more c.args.stamp told to c.args.links.now c.loop-to.links c.post_one.new.links _ _ _ c.loop-to.invariant.sent
-          (subst (λ (xs : List Body). HasSent c.args.stamp (only to xs) c.loop-to.links c.post_one.new.links _ _) c.body_to-told.ensures c.post_one.ensures.sent);
+          (subst (λ (xs : List Body). HasSent c.args.stamp (only to xs) c.loop-to.links c.post_one.new.links c.loop-to.list.items c.post_one.new.list.items) c.body_to-told.ensures c.post_one.ensures.sent);
       count = let was = c.loop-to.invariant.count in omega (arith, was, c.post_one.ensures.count);
       room = let was = c.loop-to.invariant.room in omega (arith, was, c.post_one.ensures.capacity);
     }
