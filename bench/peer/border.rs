@@ -20,7 +20,7 @@ impl Centre {
             Body::RouteAsk(run) => self.route_asked(line, i, from, run, &mut said),
             Body::RouteInfo(run) => self.route_told(line, i, run, &mut said),
             Body::RouteWithdraw(s) => self.route_withdrawn(line, i, s, &mut said),
-            Body::RouteReturn(run) => self.route_returned(line, i, from, run, &mut said),
+            Body::RouteReturn(run) => self.route_returned(line, i, run, &mut said),
             Body::Announce { number, .. } => {
                 self.trains[i].expected[from as usize].get_or_insert(Expectation { number, is_taking: false });
             }
@@ -69,7 +69,7 @@ impl Centre {
         let count = asked.numbers().take_while(is_lent).count() as u16;
         let lent = Run { count, ..asked };
         for s in lent.numbers() {
-            self.book[s as usize].entry = Entry::Out(i as u8, from);
+            self.book[s as usize].entry = Entry::Out(i as u8);
         }
         self.trains[i].used += count;
         said.send(from, Body::RouteInfo(lent));
@@ -99,9 +99,9 @@ impl Centre {
         }
     }
 
-    fn route_returned(&mut self, line: &Line, i: usize, from: u8, run: Run, said: &mut Said) {
+    fn route_returned(&mut self, line: &Line, i: usize, run: Run, said: &mut Said) {
         for s in run.numbers() {
-            if self.book[s as usize].entry == Entry::Out(i as u8, from) {
+            if self.book[s as usize].entry == Entry::Out(i as u8) {
                 self.free(i, s, said);
             }
         }
@@ -128,7 +128,7 @@ impl Centre {
         let border = hand.numbers().find(|s| line.is_home(next, *s)).filter(|_| mission.handing.is_none());
         if let Some(border) = border {
             self.announced += 1;
-            mission.handing = Some(Handing { number: self.announced, to: next, is_claimed: false });
+            mission.handing = Some(Handing { number: self.announced, to: next });
             let distance = line.sections[border as usize].start.saturating_sub(place.group_start);
             let order = Reply::Transition { distance, nid_c: line.nid_c, nid_rbc: u32::from(next) + 1 };
             said.reply_at(order, place.group);
@@ -147,7 +147,7 @@ impl Centre {
     pub fn close(&mut self, line: &Line, i: usize, said: &mut Said) {
         let Some(mission) = self.trains[i].mission.take() else { return };
         self.give_up(line, i, mission.pool, said);
-        if let Some(Handing { number, to, .. }) = mission.handing {
+        if let Some(Handing { number, to }) = mission.handing {
             said.send(to, Body::Cancel(number));
         }
         let registrar = line.trains[i].registrar;
@@ -177,27 +177,15 @@ impl Centre {
         Ok(said)
     }
 
+    /// The mission goes to the centre that takes over, if its handover stands under this number to that centre.
     fn taking_over(&mut self, line: &Line, i: usize, from: u8, number: u32, said: &mut Said) {
-        let handing = self.trains[i].mission.as_mut().and_then(|mission| mission.handing.as_mut());
-        if let Some(handing) = handing.filter(|it| it.number == number && it.to == from) {
-            handing.is_claimed = true;
-            self.yield_if_due(line, i, said);
-        }
-    }
-
-    /// The mission goes to the centre that has claimed it, once each section of its hand is of one of the two homes.
-    pub fn yield_if_due(&mut self, line: &Line, i: usize, said: &mut Said) {
         let Some(mission) = self.trains[i].mission else { return };
-        let Some(Handing { number, to, is_claimed: true }) = mission.handing else { return };
+        let Some(Handing { to, .. }) = mission.handing.filter(|it| it.number == number && it.to == from) else { return };
         let own = part_of(line, self.number, mission.hand).unwrap_or(Run { count: 0, ..mission.hand });
-        let theirs = mission.hand.numbers().filter(|s| line.is_home(to, *s)).count() as u16;
-        if own.count + theirs != mission.hand.count {
-            return;
-        }
         self.trains[i].mission = None;
         self.give_up(line, i, mission.pool, said);
         for s in own.numbers() {
-            self.book[s as usize].entry = Entry::Out(i as u8, to);
+            self.book[s as usize].entry = Entry::Out(i as u8);
         }
         let Mission { place, hand, has_data, is_ended, .. } = mission;
         let heard = self.trains[i].heard.unwrap_or(0);

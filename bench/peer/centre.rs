@@ -103,8 +103,10 @@ impl Centre {
                 return Ok(self.told(Word::Done(s)));
             }
             Entry::Taken(t) => t as usize,
-            Entry::Out(t, at) => {
-                said.send(at, Sent::RouteWithdraw(s));
+            Entry::Out(t) => {
+                for to in (0..line.centres).filter(|to| *to != self.number) {
+                    said.send(to, Sent::RouteWithdraw(s));
+                }
                 t as usize
             }
         };

@@ -24,6 +24,8 @@ pub struct Position {
     pub doubt_over: u32,
     pub doubt_under: u32,
     pub length: Option<u32>,
+    /// V_TRAIN is 0.
+    pub is_still: bool,
     pub is_level_2: bool,
 }
 
@@ -181,6 +183,7 @@ fn position_in(word: u128, n: usize) -> Result<Position, Fault> {
         doubt_over: at(45, 15),
         doubt_under: at(60, 15),
         length,
+        is_still: at(behind, 7) == 0,
         is_level_2: level == 3,
     })
 }
@@ -201,7 +204,8 @@ fn position_far(mut p: Reader) -> Result<Position, Fault> {
         1 | 2 => Some(take(15)?),
         _ => None,
     };
-    take(7 + 2 + 4)?;
+    let is_still = take(7)? == 0;
+    take(2 + 4)?;
     let level = take(3)?;
     if level == 1 {
         take(8)?;
@@ -211,7 +215,7 @@ fn position_far(mut p: Reader) -> Result<Position, Fault> {
     }
     let is_nominal = direction == 1 && side == 1;
     let is_level_2 = level == 3;
-    Ok(Position { scale, group, distance, is_nominal, doubt_over, doubt_under, length, is_level_2 })
+    Ok(Position { scale, group, distance, is_nominal, doubt_over, doubt_under, length, is_still, is_level_2 })
 }
 
 /// What a centre says to a train.

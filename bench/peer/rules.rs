@@ -192,7 +192,6 @@ impl Centre {
         let place = line.place_on(mission.place.track, position).ok_or(Silence::NoPlace)?;
         let mut said = Said::default();
         self.clear(line, i, mission, place, &mut said);
-        self.yield_if_due(line, i, &mut said);
         Ok(said)
     }
 
@@ -204,6 +203,9 @@ impl Centre {
         let mut said = Said::default();
         if let Some(place) = line.place_on(mission.place.track, position) {
             self.clear(line, i, mission, place, &mut said);
+            if position.is_still {
+                self.stand_still(line, i, place.front, &mut said);
+            }
         }
         if let Some(mission) = &mut self.trains[i].mission {
             mission.is_ended = true;
@@ -212,8 +214,16 @@ impl Centre {
             mission.pool.count = 0;
             self.give_up(line, i, pool, &mut said);
         }
-        self.yield_if_due(line, i, &mut said);
         Ok(said)
+    }
+
+    /// What begins at the front or past it leaves the hand, where another section of it begins before.
+    fn stand_still(&mut self, line: &Line, i: usize, front: u32, said: &mut Said) {
+        let Some(Mission { hand, .. }) = self.trains[i].mission else { return };
+        let reached = hand.numbers().take_while(|s| 10 * line.sections[*s as usize].start < front).count() as u16;
+        if 0 < reached && reached < hand.count {
+            self.cut(line, i, reached, said);
+        }
     }
 
     fn clear(&mut self, line: &Line, i: usize, mission: Mission, place: Place, said: &mut Said) {
@@ -250,7 +260,6 @@ impl Centre {
         if may_cut {
             self.cut(line, i, (proposal.last_kept + 1).saturating_sub(mission.hand.first), &mut said);
         }
-        self.yield_if_due(line, i, &mut said);
         Ok(said)
     }
 
@@ -267,7 +276,7 @@ impl Centre {
         if count == 0 {
             return self.close(line, i, said);
         }
-        let Some(Handing { number, to, .. }) = handing else { return };
+        let Some(Handing { number, to }) = handing else { return };
         if !kept.numbers().any(|s| line.is_home(to, s)) {
             mission.handing = None;
             said.send(to, Sent::Cancel(number));

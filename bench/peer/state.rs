@@ -65,7 +65,7 @@ pub enum Entry {
     Open,
     Taken(u8),
     /// In use for a train at another centre.
-    Out(u8, u8),
+    Out(u8),
 }
 
 #[derive(Clone, Copy)]
@@ -93,7 +93,6 @@ pub struct Proposal {
 pub struct Handing {
     pub number: u32,
     pub to: u8,
-    pub is_claimed: bool,
 }
 
 #[derive(Clone, Copy)]

@@ -39,7 +39,7 @@ fn state_of(world: &World) -> Vec<String> {
     let mut words = Vec::new();
     for (s, section) in world.line.sections.iter().enumerate() {
         let page = world.centres[section.home as usize].book[s];
-        let (Entry::Taken(train) | Entry::Out(train, _)) = page.entry else { continue };
+        let (Entry::Taken(train) | Entry::Out(train)) = page.entry else { continue };
         let is_given = hands.iter().any(|(t, hand, _)| *t == train && hand.has(s as u16));
         let look = if is_given { "given" } else { "kept" };
         let wish = if page.is_wished { ":wished" } else { "" };
