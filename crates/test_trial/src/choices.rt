@@ -1,5 +1,6 @@
 //! What a train of the trial says next: it begins missions, runs, asks for more, answers, and speaks to the next centre where its front is there.
 
+use crate::line::home_of;
 use crate::traveller::{Traveller, Words};
 use rbc_centre::Phase;
 use rbc_line::Line;
@@ -20,13 +21,6 @@ pub fn some_centre(line: &Line, chance: &mut Chance, section: u16, turns: u16) -
 
 fn any_centre(chance: &mut Chance) -> u8 {
     (chance.below(3) % 3) as u8
-}
-
-fn home_of(line: &Line, section: u16) -> u8 {
-    match line.section(section) {
-        Some(section) => section.home,
-        None => 0,
-    }
 }
 
 /// What a train says next, and to which centre.
@@ -100,7 +94,9 @@ fn words_of_mission(
     }
     match chance.below(32) {
         0..=11 => Words::Request,
-        12 => Words::End,
+        12 => Words::End {
+            is_still: chance.once_in(2),
+        },
         13 => Words::Close,
         14 => answer(chance, 1),
         _ => {

@@ -37,7 +37,7 @@ section = [
   { length = 1000, home = \"C\", balise = 112 },
   { length = 1000, home = \"C\", balise = 113 },
   { length = 1000, home = \"A\", balise = 114 },
-  { length = 1000, home = \"A\", balise = 115 },
+  { length = 1000, home = \"B\", balise = 115 },
   { length = 1000, home = \"B\", balise = 116 },
   { length = 1000, home = \"B\", balise = 117 },
 ]
@@ -80,9 +80,17 @@ pub fn group_of(section: u16) -> u32
     5 * 16_384 + 100 + u32::from(section)
 }
 
-/// Twelve sections of a kilometre over the centres A, B and C, six over C, A and B, and ten trains.
+/// Twelve sections of a kilometre over the centres A, B and C, six over C, A and B, of which A has one, and ten trains.
 pub fn three_centres(alloc: Global) -> Result<Line, &'static str> {
     Line::from_toml(alloc, THREE_CENTRES)
         .ok()
         .ok_or("the line file is accepted")
+}
+
+/// The home of a section.
+pub fn home_of(line: &Line, section: u16) -> u8 {
+    match line.section(section) {
+        Some(section) => section.home,
+        None => 0,
+    }
 }

@@ -2,9 +2,9 @@
 
 use crate::traveller::Words;
 use crate::trial::centre_of;
-use rbc_centre::{LinkAnswer, Outcome, Word};
+use rbc_centre::{LinkAnswer, Outcome, SectionRun, Word};
 use rbc_msgs::TrackBody;
-use rbc_world::{Answer, LineView, Mark, WorldEvent};
+use rbc_world::{Answer, LineView, Mark, TrainView, WorldEvent};
 
 /// An event, and what a train says in it.
 #[derive(Drop)]
@@ -25,6 +25,9 @@ pub fn is_kept(
     }
     if !authorities_stay(before, step.speaker, after) {
         return Some("a section leaves an authority by no word of its train");
+    }
+    if !ends_stay(before, step.speaker, after) {
+        return Some("what lies ahead leaves an authority by no word that gives it up");
     }
     let Answer::Outcome(outcome) = answer else {
         return changed(before, after).then_some("what is not taken changes the line");
@@ -84,7 +87,35 @@ fn authorities_stay(before: &LineView, speaker: Option<(u32, Words)>, after: &Li
 
 fn frees(speaker: Option<(u32, Words)>, nid_engine: u32) -> bool {
     match speaker {
-        Some((speaker, Words::Report | Words::End | Words::Granted { .. })) => {
+        Some((speaker, Words::Report | Words::End { .. } | Words::Granted { .. })) => {
+            speaker == nid_engine
+        }
+        _ => false,
+    }
+}
+
+// An authority ends earlier only where its train has granted a request to shorten, or ended its mission at standstill.
+fn ends_stay(before: &LineView, speaker: Option<(u32, Words)>, after: &LineView) -> bool {
+    before.trains.iter().zip(after.trains.iter()).all(|(old, new)| !is_cut(old, new)
+        || gives_up(speaker, new.nid_engine))
+}
+
+/// The train's mission goes on, and its authority ends earlier than before.
+pub fn is_cut(old: &TrainView, new: &TrainView) -> bool {
+    match (&old.mission, &new.mission) {
+        (Some(old), Some(new)) => new.hand.count > 0 && end_of(new.hand) < end_of(old.hand),
+        _ => false,
+    }
+}
+
+// The section behind the last of a run.
+fn end_of(run: SectionRun) -> u16 {
+    run.first.saturating_add(run.count)
+}
+
+fn gives_up(speaker: Option<(u32, Words)>, nid_engine: u32) -> bool {
+    match speaker {
+        Some((speaker, Words::End { is_still: true } | Words::Granted { .. })) => {
             speaker == nid_engine
         }
         _ => false,

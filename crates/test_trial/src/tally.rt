@@ -1,6 +1,9 @@
 //! What a trial has to come to, so that its promises say something.
 
+use crate::line::home_of;
+use crate::promises::is_cut;
 use rbc_centre::{Body, LinkAnswer, Outcome};
+use rbc_line::Line;
 use rbc_msgs::TrackBody;
 use rbc_world::{LineView, Supervisor, TrainView};
 
@@ -18,6 +21,10 @@ pub struct Tally {
     parted: u32,
     /// How often the next centre took it up.
     taken_up: u32,
+    /// How often an end of mission at standstill gave back what lay ahead.
+    stopped: u32,
+    /// How often an authority came to lie over the sections of three centres.
+    spread: u32,
 }
 
 impl Tally {
@@ -32,13 +39,16 @@ impl Tally {
             old: 0,
             parted: 0,
             taken_up: 0,
+            stopped: 0,
+            spread: 0,
         }
     }
 
     /// Counts what a step came to.
-    pub fn add(&mut self, before: &LineView, outcome: &Outcome, after: &LineView) {
+    pub fn add(&mut self, line: &Line, before: &LineView, outcome: &Outcome, after: &LineView) {
         self.add_sayings(outcome);
         self.add_trains(before, after);
+        self.add_hands(line, before, after);
         if !outcome.told.sections().is_empty() {
             count(&mut self.told);
         }
@@ -73,6 +83,17 @@ impl Tally {
         }
     }
 
+    fn add_hands(&mut self, line: &Line, before: &LineView, after: &LineView) {
+        for (old, new) in before.trains.iter().zip(after.trains.iter()) {
+            if is_cut(old, new) && !is_ended(old) && is_ended(new) {
+                count(&mut self.stopped);
+            }
+            if !is_spread(line, old) && is_spread(line, new) {
+                count(&mut self.spread);
+            }
+        }
+    }
+
     /// What never happened.
     pub fn lacks(&self) -> Option<&'static str> {
         let counts = [
@@ -83,6 +104,8 @@ impl Tally {
             (self.lent, "sections are lent"),
             (self.parted, "a train is handed over"),
             (self.taken_up, "a train that is handed over is taken up"),
+            (self.stopped, "what lies ahead is given back at standstill"),
+            (self.spread, "an authority lies over three centres"),
             (self.early, "a frame comes out of turn"),
             (self.old, "a frame comes again"),
         ];
@@ -118,4 +141,26 @@ fn is_parted(train: &TrainView) -> bool {
         Some(mission) => matches!(mission.supervisor, Supervisor::Parted { .. }),
         None => false,
     }
+}
+
+fn is_ended(train: &TrainView) -> bool {
+    match train.mission {
+        Some(mission) => mission.facts.is_ended,
+        None => false,
+    }
+}
+
+// Its authority has a section of a third home between its first and its last.
+fn is_spread(line: &Line, train: &TrainView) -> bool {
+    let Some(mission) = train.mission else {
+        return false;
+    };
+    let hand = mission.hand;
+    let last = hand.first.saturating_add(hand.count).saturating_sub(1);
+    let (rear, front) = (home_of(line, hand.first), home_of(line, last));
+    rear != front
+        && (hand.first..last).any(|section| {
+            let home = home_of(line, section);
+            home != rear && home != front
+        })
 }

@@ -30,10 +30,16 @@ pub enum Words {
     Report,
     Granted { stamp: u32 },
     Rejected { stamp: u32 },
-    End,
+    /// The end of its mission, at standstill or not.
+    End { is_still: bool },
 }
 
-/// A train: its front is so many metres behind the start of a section, and it is 100 metres long.
+/// How long a train is, in metres, and how long one that lies over two sections.
+const LENGTH_METRES: u16 = 100;
+
+const LONG_METRES: u16 = 1100;
+
+/// A train: its front is so many metres behind the start of a section.
 #[derive(Clone, Copy, Debug)]
 pub struct Traveller {
     pub nid_engine: u32,
@@ -41,18 +47,20 @@ pub struct Traveller {
     clock: u32,
     pub section: u16,
     metres: u16,
+    length_metres: u16,
     /// The centre that has ordered the end of its session.
     ended: Option<u8>,
 }
 
 impl Traveller {
-    /// A train that stands in a section.
-    pub fn new(nid_engine: u32, section: u16) -> Traveller {
+    /// A train that stands in a section, which is a long one or not.
+    pub fn new(nid_engine: u32, section: u16, is_long: bool) -> Traveller {
         Traveller {
             nid_engine,
             clock: 0,
             section,
             metres: 300,
+            length_metres: if is_long { LONG_METRES } else { LENGTH_METRES },
             ended: None,
         }
     }
@@ -89,7 +97,7 @@ impl Traveller {
     /// It has run so far that it stands behind its authority.
     pub fn leaves(&mut self, hand: SectionRun) {
         self.section = hand.first.saturating_add(hand.count).saturating_sub(1);
-        self.metres = SECTION_METRES + 100;
+        self.metres = SECTION_METRES.saturating_add(self.length_metres);
     }
 
     /// The bytes of its next message, of which the clock has moved on or not.
@@ -110,7 +118,7 @@ impl Traveller {
     fn body(&self, alloc: Global, words: Words) -> Result<TrainBody, Fail>
         ensures { IfOk result HasItsPackets }
     {
-        let position = self.position();
+        let position = self.position(v_train(words));
         Ok(match words {
             Words::Open => TrainBody::InitiationOfSession,
             Words::Established => TrainBody::SessionEstablished,
@@ -136,28 +144,38 @@ impl Traveller {
                 request: TTrain::new(u64::from(stamp)),
                 position,
             },
-            Words::End => TrainBody::EndOfMission { position },
+            Words::End { .. } => TrainBody::EndOfMission { position },
         })
     }
 
     // In level 2, with its integrity confirmed, and without doubts.
-    fn position(&self) -> Position {
+    fn position(&self, v_train: VTrain) -> Position {
         Position {
             location: Location {
                 q_scale: QScale::Metre,
                 nid_lrbg: NidLrbg::new(u64::from(group_of(self.section))),
-                d_lrbg: DLrbg::new(u64::from(self.metres % 2000)),
+                d_lrbg: DLrbg::new(u64::from(self.metres % 8000)),
                 q_dirlrbg: Direction::Nominal,
                 q_dlrbg: Direction::Nominal,
                 l_doubtover: LDoubtover::new(0),
                 l_doubtunder: LDoubtunder::new(0),
             },
-            train_length: TrainLength::ConfirmedByDevice(LTrainint::new(100)),
-            v_train: VTrain::new(20),
+            train_length: TrainLength::ConfirmedByDevice(LTrainint::new(u64::from(
+                self.length_metres % 8000,
+            ))),
+            v_train,
             q_dirtrain: Direction::Nominal,
             m_mode: MMode::new(0),
             level: Level::Level2,
         }
+    }
+}
+
+// 100 km/h in steps of 5 km/h, or none at standstill.
+fn v_train(words: Words) -> VTrain {
+    match words {
+        Words::End { is_still: true } => VTrain::new(0),
+        _ => VTrain::new(20),
     }
 }
 

@@ -27,8 +27,9 @@ fn ten_trains_run_over_borders_by_chance(rt: HostRuntime) -> Result<(), Fail> {
         let wrong = play.turn(alloc, &line)?;
         assert!(rt; wrong == None, "at turn {turn}: {wrong:?}");
     }
-    let lacking = play.tally.lacks();
-    assert!(rt; lacking == None, "never: {lacking:?}");
+    let tally = &play.tally;
+    let lacking = tally.lacks();
+    assert!(rt; lacking == None, "never: {lacking:?} {tally:?}");
     Ok(())
 }
 
@@ -71,7 +72,8 @@ impl Play {
         let view = world.view(alloc)?;
         let mut travellers = Vec::new(alloc);
         for number in 1..=TRAINS {
-            travellers.push(Traveller::new(u32::from(number), number))?;
+            let is_long = number % 3 == 0;
+            travellers.push(Traveller::new(u32::from(number), number, is_long))?;
         }
         Ok(Play {
             chance: Chance { seed: 20 },
@@ -96,7 +98,7 @@ impl Play {
         if let Answer::Outcome(outcome) = &answer {
             self.note(&step.event, outcome);
             self.hear(centre_of(&step.event), outcome);
-            self.tally.add(&self.view, outcome, &view);
+            self.tally.add(line, &self.view, outcome, &view);
         }
         self.view = view;
         Ok(wrong)
