@@ -48,7 +48,9 @@ pub fn encode(time: u32, engine: u32, said: Said) -> Vec<u8> {
         w.put(value, n);
     }
     if let Some(report) = report {
-        put_report(&mut w, report);
+        // each second end of mission is at standstill
+        let v_train = if number == 150 && time % 2 == 0 { 0 } else { 20 };
+        put_report(&mut w, report, v_train);
     }
     if number == 129 {
         w.put_all(&[(11, 8), (21 + 24, 13), (0x0C_5A_96, 24)]);
@@ -56,7 +58,7 @@ pub fn encode(time: u32, engine: u32, said: Said) -> Vec<u8> {
     w.message()
 }
 
-fn put_report(w: &mut Writer, report: Report) {
+fn put_report(w: &mut Writer, report: Report, v_train: u32) {
     let Report { group, metres, length, direction, level } = report;
     let is_ntc = level == 1;
     let l_packet = 114 + if length.is_some() { 15 } else { 0 } + if is_ntc { 8 } else { 0 };
@@ -66,7 +68,7 @@ fn put_report(w: &mut Writer, report: Report) {
         Some(length) => w.put_all(&[(1, 2), (length, 15)]),
         None => w.put(0, 2),
     }
-    w.put_all(&[(20, 7), (1, 2), (0, 4), (level, 3)]);
+    w.put_all(&[(v_train, 7), (1, 2), (0, 4), (level, 3)]);
     if is_ntc {
         w.put(7, 8);
     }
