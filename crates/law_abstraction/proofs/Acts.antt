@@ -14,7 +14,7 @@ use Rattle.rbc_spec.specs.Frame.{Body}
 use Rattle.rbc_spec.specs.Centre.{Centre}
 use Rattle.law_network.specs.Flow.{Flow, centre_count}
 use Rattle.law_network.specs.Keeping.{nothing_came, came_with}
-use Rattle.law_network.proofs.Lists.{contains_more}
+use Rattle.rbc_spec.proofs.Held.{contains_more}
 use Rattle.law_abstraction.specs.Acts.{IsAct}
 
 -- what is on the way behind an act was on the way, or the act sent it

@@ -21,7 +21,7 @@ use Rattle.law_network.specs.Flow.{Flow, centre_count}
 use Rattle.law_network.specs.Counts.{hands, missions}
 use Rattle.law_network.specs.Shows.{parted}
 use Rattle.law_network.proofs.Basics.{itself, carried_contains}
-use Rattle.law_network.proofs.Lists.{contains_head}
+use Rattle.rbc_spec.proofs.Held.{contains_head}
 use Rattle.law_abstraction.specs.Acts.{SendsNone}
 use Rattle.law_abstraction.specs.After.{MissionAfter, handed_over}
 

@@ -1,5 +1,5 @@
 -- The one line centre has a centre's reasons of silence, in each world that a state of it stands for.
-use Rattle.std.proofs.Common.{◌≡◌, ◌⊎◌, inl, inr, ℕ, ◌+◌, ◌-◌, ◌*◌, ◌<◌, ◌==◌, ◌&&◌, not, if◌then◌else◌, Bool, true, false, nat_le, Option, Some, None, is_none, is_some, refl, sym, ap, ◌∙◌, subst, arith, ⊎_elim, eqb-true, eq-eqb}
+use Rattle.std.proofs.Common.{◌≡◌, ◌⊎◌, inl, inr, ℕ, ◌+◌, ◌-◌, ◌*◌, ◌<◌, ◌==◌, ◌&&◌, not, if◌then◌else◌, Bool, true, false, nat_le, Option, Some, None, is_none, is_some, refl, sym, ap, ◌∙◌, subst, arith, ⊎_elim, eq-eqb}
 use Rattle.std.specs.Option.{option_map_or}
 use Rattle.std.specs.List.{find}
 use Rattle.std.proofs.lemmas.Bool.{cases_Bool, and_left, and_parts}
@@ -16,7 +16,8 @@ use Rattle.rbc_spec.specs.LineCentre.{LineState, is_at, is_given_to}
 use Rattle.rbc_spec.specs.Step as step
 use Rattle.rbc_spec.specs.World.{World}
 use Rattle.rbc_spec.specs.Run as run
-use Rattle.rbc_spec.specs.ReadOff.{StandsFor, IsMissionOf, supervised, parted, at_centre, seen}
+use Rattle.rbc_spec.specs.ReadOff.{StandsFor, seen}
+use Rattle.rbc_spec.proofs.Held.{held_as, is_seen, is_there, is_the_centres, held_first}
 use Rattle.law_base.proofs.Lists.{find-range}
 use Rattle.law_centre.specs.Silences.{EndsOnLine, HasEndIfAsked}
 use Rattle.law_base.proofs.Runs.{within_true, within_from, within_behind}
@@ -32,27 +33,19 @@ module _ (line : Line) (w : World) (v : LineState) (stands : StandsFor line w v)
   abbrev mission : Option centre.Mission
   mission = k.mission t
 
-  -- a mission that the centre does not have is at another centre, or parted
-  away : (m : line_centre.LineMission) → IsMissionOf w t m → mission ≡ None → is_at c m.supervisor ≡ false
-  away m (supervised d n has) none = ⊎_elim
-      (λ (here : (d == c) ≡ true). absurd (two (sym (ap (λ e. (w.at e).mission t) (eqb-true d c here)) ∙ has.at_centre)))
-      (λ (apart : (d == c) ≡ false). apart)
-      (cases_Bool (d == c))
-    where
-      two : mission ≡ Some n → ⊥
-      two some = let wrong : None ≡ Some n = sym none ∙ some in cc
-  away m (parted a b f heard has_data is_ended place hand on carries) none = refl
-
   here_at : (test : line_centre.LineMission → Bool) (n : centre.Mission) → mission ≡ Some n → run.has_here v c t test ≡ test (seen c n)
   here_at test n has =
-      ap (λ (o : Option line_centre.LineMission). option_map_or (λ m. is_at c m.supervisor && test m) o false) (stands.each_mission t (seen c n) (supervised c n (record { at_centre = has })))
-      ∙ true_and (c == c) (test (seen c n)) (eq-eqb c c refl)
+      ap (λ (o : Option line_centre.LineMission). option_map_or (λ m. is_at c m.supervisor && test m) o false) (is_seen line w v stands t c n has) ∙ true_and (c == c) (test (seen c n)) (eq-eqb c c refl)
 
   not_here : (test : line_centre.LineMission → Bool) → mission ≡ None → run.has_here v c t test ≡ false
   not_here test none = by_mission (v.mission t) refl
     where
+      away : (m : line_centre.LineMission) → v.mission t ≡ Some m → (b : Bool) → is_at c m.supervisor ≡ b → is_at c m.supervisor ≡ false
+      away m is false at = at
+      away m is true at = absurd (let theirs = is_the_centres line w v stands t c m is at in let wrong : None ≡ Some theirs.0 = sym none ∙ theirs.1 in cc)
+
       by_mission : (o : Option line_centre.LineMission) → v.mission t ≡ o → option_map_or (λ m. is_at c m.supervisor && test m) o false ≡ false
-      by_mission (Some m) is = and_left (is_at c m.supervisor) (test m) (away m (stands.mission t m is) none)
+      by_mission (Some m) is = and_left (is_at c m.supervisor) (test m) (away m is (is_at c m.supervisor) refl)
       by_mission None is = refl
 
   -- the centre's mission passes one test exactly where the line's passes the other
@@ -74,7 +67,7 @@ module _ (line : Line) (w : World) (v : LineState) (stands : StandsFor line w v)
       (λ e low high. before e high)
     where
       given : (s : ℕ) → is_given_to t (v.mark s) ≡ within n.hand s
-      given = (stands.hands t n.hand (at_centre c n (record { at_centre = has }) refl)).each
+      given = (stands.hands t (held_as (seen c n) n.hand) (held_first line w v stands t (held_as (seen c n) n.hand) (is_there line w v stands t c n has))).each
 
       before : (e : ℕ) → e < behind n.hand - 1 → (is_given_to t (v.mark e) && not (is_given_to t (v.mark (e + 1)))) ≡ false
       before e high = ⊎_elim

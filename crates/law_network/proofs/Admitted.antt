@@ -20,7 +20,7 @@ use Rattle.rbc_spec.specs.Acts.{begun}
 use Rattle.rbc_spec.specs.Links.{received}
 use Rattle.rbc_spec.specs.LineCentre as line_centre
 use Rattle.rbc_spec.specs.LineCentre.{LineState, Said, says, nothing}
-use Rattle.rbc_spec.specs.OwnSteps.{begins, begun_at, one_message}
+use Rattle.rbc_spec.specs.OwnSteps.{begins, begun_at}
 use Rattle.rbc_spec.specs.Quiet.{Admit, TakesAll}
 use Rattle.rbc_spec.specs.ReadOff.{seen}
 use Rattle.law_local.specs.Local.{hand_has}
@@ -28,9 +28,9 @@ use Rattle.law_network.specs.Flow.{Flow, centre_count}
 use Rattle.law_network.specs.Counts.{hands, missions, yield_inside}
 use Rattle.law_network.specs.Sound.{IsFlowSound}
 use Rattle.law_network.specs.Shows.{Shows, shown, is_in_hand}
-use Rattle.law_network.specs.Leads.{Leads}
+use Rattle.law_network.specs.Leads.{one_message, Leads}
 use Rattle.law_network.proofs.Basics.{one_home, taken_is, pair_put, carried_contains}
-use Rattle.law_network.proofs.Lists.{contains_more}
+use Rattle.rbc_spec.proofs.Held.{contains_more}
 use Rattle.law_network.proofs.Frames.{nothing_sent}
 use Rattle.law_network.proofs.Given.{given_is}
 use Rattle.law_network.proofs.AdmittedSound as kept

@@ -10,9 +10,10 @@ pub mod Kept
 pub mod Homes
 pub mod Neighbours
 pub mod Taken
+pub mod Trains
+pub mod Heard
 pub mod Seats
 pub mod Stands
-pub mod Trains
 pub mod OnePlace
 pub mod Given
 pub mod AdmittedSound

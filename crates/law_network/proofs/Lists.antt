@@ -1,50 +1,17 @@
 -- Lists made of ranges: what they contain, and how long they are.
-use Rattle.std.proofs.Common.{◌≡◌, ℕ, zero, suc, ◌+◌, ◌<◌, ◌≤◌, ◌≢◌, List, [], ◌∷◌, ◌++◌, length, length-append, Option, Some, None, is_some, refl, sym, ap, ◌∙◌, arith, ⊎_elim, subst}
+use Rattle.std.proofs.Common.{◌≡◌, ℕ, zero, suc, ◌+◌, List, [], ◌∷◌, ◌++◌, length, length-append, Option, Some, None, is_some, refl, sym, ap, ◌∙◌, arith, subst}
 use Rattle.std.specs.Prelude.{Contains}
 use Rattle.std.specs.List.{filter_map, flat_map, range_with_len}
 use Rattle.std.proofs.lemmas.List.Elements.{Contains-append_left, Contains-append_right, filter_map-append}
-use Rattle.std.proofs.lemmas.Bool.{cases_eq}
 use Rattle.law_counting.specs.Sums.{sum_below, one_if}
 use Rattle.law_counting.proofs.Sums.{sum_more, sum_none}
 
 -- ## What they contain
 
-pub contains_head : {X : Type 0} (x : X) (xs : List X) → Contains (x ∷ xs) x
-contains_head x xs = (zero, omega arith, refl)
-
--- what is behind the head of a list is in the list
-pub contains_more : {X : Type 0} (y x : X) (xs : List X) → Contains xs x → Contains (y ∷ xs) x
-contains_more y x xs is = (suc is.0, omega (arith, is.1), is.2)
-
-pub contains_range : (a n i : ℕ) → a ≤ i → i < a + n → Contains (range_with_len a n) i
-contains_range a zero i low high = absurd (let no : ⊥ = omega (arith, low, high) in no)
-contains_range a (suc n) i low high = ⊎_elim
-    (λ (same : a ≡ i). subst (Contains (range_with_len a (suc n))) same (contains_head a (range_with_len (a + 1) n)))
-    (λ (other : a ≢ i). contains_more a i (range_with_len (a + 1) n) (contains_range (a + 1) n i (omega (arith, low, other)) (omega (arith, high))))
-    (cases_eq a i)
-
-pub contains_filter_map : {X Y : Type 0} (f : X → Option Y) (xs : List X) (x : X) (y : Y) → Contains xs x → f x ≡ Some y → Contains (filter_map f xs) y
-contains_filter_map f [] x y is gives = absurd (let no : ⊥ = omega (arith, is.1) in no)
-contains_filter_map f (z ∷ zs) x y (zero, low, is) gives =
-    rw (ap f is ∙ gives) (contains_head y (filter_map f zs))
-contains_filter_map f (z ∷ zs) x y (suc k, low, is) gives = by_head (f z) refl (contains_filter_map f zs x y (k, omega (arith, low), is) gives)
-  where
-    by_head : (o : Option _) → f z ≡ o → Contains (filter_map f zs) y → Contains (filter_map f (z ∷ zs)) y
-    by_head None e more = rw e more
-    by_head (Some v) e more = rw e (contains_more v y (filter_map f zs) more)
-
 pub contains_flat_map : {X Y : Type 0} (f : X → List Y) (xs : List X) (x : X) (y : Y) → Contains xs x → Contains (f x) y → Contains (flat_map f xs) y
 contains_flat_map f [] x y is has = absurd (let no : ⊥ = omega (arith, is.1) in no)
 contains_flat_map f (z ∷ zs) x y (zero, low, is) has = Contains-append_left (f z) (flat_map f zs) y (subst (λ v. Contains (f v) y) (sym is) has)
 contains_flat_map f (z ∷ zs) x y (suc k, low, is) has = Contains-append_right (f z) (flat_map f zs) y (contains_flat_map f zs x y (k, omega (arith, low), is) has)
-
--- two of a list that has one at most are the same
-pub only_one : {X : Type 0} (xs : List X) (x y : X) → length xs ≤ 1 → Contains xs x → Contains xs y → x ≡ y
-only_one [] x y few one two = absurd (let no : ⊥ = omega (arith, one.1) in no)
-only_one (z ∷ []) x y few (zero, low, is) (zero, less, also) = sym is ∙ also
-only_one (z ∷ []) x y few (suc k, low, is) two = absurd (let no : ⊥ = omega (arith, low) in no)
-only_one (z ∷ []) x y few one (suc k, low, is) = absurd (let no : ⊥ = omega (arith, low) in no)
-only_one (z ∷ v ∷ vs) x y few one two = absurd (let no : ⊥ = omega (arith, few) in no)
 
 -- ## What is counted over them
 

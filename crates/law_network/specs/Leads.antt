@@ -1,17 +1,24 @@
 -- What an act of a centre comes to for the one line centre: quiet steps that say the same.
-use Rattle.std.specs.Prelude.{◌≡◌, ℕ, true, List}
+use Rattle.std.specs.Prelude.{◌≡◌, ℕ, true, List, [], ◌∷◌, Option, Some, None}
+use Rattle.std.specs.Bool.{MatchBool}
 use Rattle.std.specs.List.{list_all}
 use Rattle.law_counting.specs.Network.{acted}
 use Rattle.rbc_spec.specs.Line.{Line}
 use Rattle.rbc_spec.specs.Centre.{Centre}
 use Rattle.rbc_spec.specs.Acts.{Act, ◌>>◌, Reply}
-use Rattle.rbc_spec.specs.Message.{TrainMessage}
-use Rattle.rbc_spec.specs.LineCentre.{LineState, Said, hears}
-use Rattle.rbc_spec.specs.OwnSteps.{Own}
+use Rattle.rbc_spec.specs.Place.{Place, place_on}
+use Rattle.rbc_spec.specs.Message.{TrainMessage, TrainBody, Report, TrackBody}
+use Rattle.rbc_spec.specs.Outcome.{Word}
+use Rattle.rbc_spec.specs.LineCentre.{LineState, Said, saying_of, hears, supervises}
+use Rattle.rbc_spec.specs.OwnSteps.{Own, SaysNothing, Tells, release_words, is_cleared_of, reported, track_of}
 use Rattle.rbc_spec.specs.Quiet.{Quiet, is_of_centre, TakesAll, both}
 use Rattle.law_network.specs.Flow.{Flow}
 use Rattle.law_network.specs.Sound.{IsFlowSound}
 use Rattle.law_network.specs.Shows.{Shows}
+
+-- centre c says one message, and these words come out
+abbrev pub one_message : ℕ → ℕ → ℕ → TrackBody → List Word → LineState → Said
+one_message t c group body words v = record { sayings = saying_of t c group body v ∷ []; words = words }
 
 abbrev pub said_by : Reply → Said
 said_by r = record { sayings = r.sayings; words = r.words }
@@ -36,10 +43,21 @@ LeadsOn line w c k v first second =
 
 -- ## Of a message that is heard
 
+-- what a report says of a place on its mission's track, if it has one
+abbrev pub Reports : Line → ℕ → ℕ → Option Place → LineState → Said → LineState → Type 0
+Reports line t c None v said new = SaysNothing v said new
+Reports line t c (Some place) v said new = Tells (release_words line c (is_cleared_of line v t place) v) (reported line t c place v) said new
+
+-- the own step of a message; and of a report to a centre that does not supervise the train, or of no place, nothing is said
+abbrev pub HeardAs : Line → LineState → ℕ → TrainMessage → TrainBody → Said → LineState → Type 0
+HeardAs line v c m (Report position) said new =
+    MatchBool (supervises v c m.nid_engine) (Reports line m.nid_engine c (place_on line (track_of v m.nid_engine) position) v said new) (SaysNothing v said new)
+HeardAs line v c m body said new = Own line v c m body said new
+
 -- the part of the answer that is the own step of the one line centre, which showed v
 pub record LeadsOwn (line : Line) (w : Flow) (c : ℕ) (m : TrainMessage) (r : Reply) (v : LineState) : Type 0 where
   pub mid : LineState
-  pub own : Own line (hears c m v) c m m.body (said_by r) mid
+  pub own : HeardAs line (hears c m v) c m m.body (said_by r) mid
   pub shows : Shows line (replied w c r) mid
   pub sound : IsFlowSound line (replied w c r)
 
@@ -47,7 +65,7 @@ pub record LeadsOwn (line : Line) (w : Flow) (c : ℕ) (m : TrainMessage) (r : R
 pub record LeadsHeard (line : Line) (w : Flow) (c : ℕ) (m : TrainMessage) (r : Reply) (v : LineState) : Type 0 where
   pub said : Said
   pub mid : LineState
-  pub own : Own line (hears c m v) c m m.body said mid
+  pub own : HeardAs line (hears c m v) c m m.body said mid
   pub quiets : List Quiet
   pub later : Said
   pub new : LineState

@@ -1,5 +1,5 @@
 -- A message at a centre of a one-centre line leaves no choice: it is silent for its reason, or the own step alone answers it.
-use Rattle.std.proofs.Common.{◌≡◌, ℕ, true, List, [], Option, Some, None, Ok, refl, sym, ap, ◌∙◌, inl, append-nil, ⊎_elim}
+use Rattle.std.proofs.Common.{◌≡◌, ℕ, true, List, [], Option, Some, None, Ok, refl, sym, ◌∙◌, inl, append-nil, ⊎_elim}
 use Rattle.std.specs.Option.{option_map_or}
 use Rattle.rbc_spec.specs.Line.{Line, IsLine, is_centre}
 use Rattle.rbc_spec.specs.Message.{TrainMessage}
@@ -11,12 +11,13 @@ use Rattle.rbc_spec.specs.Step as step
 use Rattle.rbc_spec.specs.Step.{Effect, effect, outcome_of, state_after}
 use Rattle.rbc_spec.specs.World.{World, Event, Bytes}
 use Rattle.rbc_spec.specs.Run as run
-use Rattle.rbc_spec.specs.Run.{Piece, Spoken, Steps, silent, heard, listened, TellsInOrder}
+use Rattle.rbc_spec.specs.Run.{Piece, Steps, silent, heard, listened, TellsInOrder}
 use Rattle.rbc_spec.specs.Theorems.{IsOneCentreLine, ForcedPiece}
 use Rattle.law_local.specs.Local.{IsLocal}
 use Rattle.law_network.specs.Flow.{flow_of, in_world}
 use Rattle.law_network.specs.Shows.{Shows}
 use Rattle.law_network.specs.Leads.{said_by}
+use Rattle.law_network.proofs.Heard.{own_of}
 use Rattle.law_network.proofs.Takes.{train_keeps}
 use Rattle.law_refinement.specs.Meets.{Meets}
 use Rattle.law_refinement.proofs.InOrder.{effect_in_order}
@@ -36,14 +37,13 @@ reason_is line v c m said new why reason is (listened may none says stays) = abs
 silent_forced : (line : Line) (v : LineState) (c : ℕ) (m : TrainMessage) (outcome : Outcome) (new : LineState) (reason : Reason) → outcome.silence ≡ Some reason
     → Piece line v (Bytes c (Ok m)) outcome new → ForcedPiece line v (Bytes c (Ok m)) outcome new
 silent_forced line v c m outcome new reason is p =
-    let why : p.why ≡ Some reason = sym (ap (λ (s : Spoken). s.silence) p.says) ∙ is in
     record {
       piece = p;
       own_step = record {
-        silent = reason_is line v c m p.own p.mid p.why reason why p.own_step.1;
-        starts = λ none. absurd (let wrong : None ≡ Some reason = sym none ∙ why in cc);
+        silent = reason_is line v c m p.own p.mid outcome.silence reason is p.own_step.1;
+        starts = λ none. absurd (let wrong : None ≡ Some reason = sym none ∙ is in cc);
       };
-      quiet_steps = ⊎_elim (λ (none : p.why ≡ None). absurd (let wrong : None ≡ Some reason = sym none ∙ why in cc)) (λ (none : p.quiets ≡ []). none) p.none_if_silent;
+      quiet_steps = ⊎_elim (λ (none : outcome.silence ≡ None). absurd (let wrong : None ≡ Some reason = sym none ∙ is in cc)) (λ (none : p.quiets ≡ []). none) p.none_if_silent;
     }
 
 module _ (line : Line) (ok : IsLine line) (d : ℕ) (one : IsOneCentreLine line d) (w : World) (v : LineState) (meets : Meets line w v) (local : IsLocal line w) (c : ℕ) (to : is_centre line c ≡ true)
@@ -72,15 +72,14 @@ module _ (line : Line) (ok : IsLine line) (d : ℕ) (one : IsOneCentreLine line 
           piece = record {
             own = said;
             mid = a.mid;
-            why = None;
             quiets = [];
             later = nothing;
-            own_step = (to, heard hears refl (record { own = a.own }));
+            own_step = (to, heard hears refl (own_of line v c m.t_train m.nid_engine said a.mid m.body hears a.own));
             quiet_steps = (refl, refl);
             own_centre = refl;
             none_if_silent = inl refl;
             in_order = order;
-            says = λ i. record { said = record { sayings = sym (append-nil said.sayings) i; words = sym (append-nil said.words) i }; silence = None };
+            says = λ i. record { sayings = sym (append-nil said.sayings) i; words = sym (append-nil said.words) i };
           };
           own_step = record { silent = sym hears; starts = λ none. accepted line ok d one w v meets local c to stamp m.t_train m.nid_engine m.body a };
           quiet_steps = refl;

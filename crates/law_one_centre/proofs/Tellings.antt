@@ -74,7 +74,6 @@ module _ (line : Line) (ok : IsLine line) (d : ℕ) (one : IsOneCentreLine line 
           piece = record {
             own = said;
             mid = once.mid;
-            why = None;
             quiets = [];
             later = nothing;
             own_step = (to, once.own, refl);
@@ -82,7 +81,7 @@ module _ (line : Line) (ok : IsLine line) (d : ℕ) (one : IsOneCentreLine line 
             own_centre = refl;
             none_if_silent = inl refl;
             in_order = effect_in_order line c k (step.Set s);
-            says = λ i. record { said = record { sayings = sym (append-nil said.sayings) i; words = sym (append-nil said.words) i }; silence = None };
+            says = λ i. record { sayings = sym (append-nil said.sayings) i; words = sym (append-nil said.words) i };
           };
           own_step = tt;
           quiet_steps = refl;
@@ -152,7 +151,6 @@ module _ (line : Line) (ok : IsLine line) (d : ℕ) (one : IsOneCentreLine line 
           piece = record {
             own = h.said;
             mid = h.mid;
-            why = None;
             quiets = h.quiets;
             later = h.later;
             own_step = (to, h.own, refl);
@@ -160,7 +158,7 @@ module _ (line : Line) (ok : IsLine line) (d : ℕ) (one : IsOneCentreLine line 
             own_centre = h.own_centre;
             none_if_silent = inl refl;
             in_order = effect_in_order line c k (step.Unset s);
-            says = λ i. record { said = h.says i; silence = None };
+            says = h.says;
           };
           own_step = tt;
           quiet_steps = unset_asks h quiets;

@@ -12,7 +12,7 @@ use Rattle.rbc_spec.specs.Place.{Place, Position, has_place, place_behind, cover
 use Rattle.rbc_spec.specs.Message.{TrainMessage, TrainBody, TrainData, Request, Report, ShorteningGranted, ShorteningRejected, EndOfMission, InitiationOfSession, TerminationOfSession, StartOfMission, SessionEstablished}
 use Rattle.rbc_spec.specs.Centre.{Proposal, is_registrar_of}
 use Rattle.rbc_spec.specs.LineCentre.{LineState, LineMission, Mark, Shut, Open, Kept, Given, Supervisor, At, Parted, is_given_to, is_kept_for, is_mark_open, is_at, supervises, is_waiting_at, is_waiting, release, set_mission, change_mission, close_if_empty, Said}
-use Rattle.rbc_spec.specs.OwnSteps.{without_proposal, session_ends, begins, may_start, waits, restarted, Rejects, Accepts, StartsHere, Restarts, StartsNew, Starts, may_be_given, Extends, is_cleared_of, is_cut_of, reported, shortened, without_ask, ended, has_reached, is_ahead_of, stopped, track_of, last_kept_of, Reports, Ending, Own}
+use Rattle.rbc_spec.specs.OwnSteps.{without_proposal, session_ends, begins, may_start, waits, restarted, Rejects, Accepts, StartsHere, Restarts, StartsNew, Starts, may_be_given, Extends, is_cleared_of, is_cut_of, reported, shortened, without_ask, ended, has_reached, is_ahead_of, stopped, track_of, last_kept_of, Ending, Own, Tells, release_words}
 use Rattle.rbc_spec.specs.Run.{may_request_at, last_of_hand, answers_it}
 use Rattle.rbc_spec.proofs.Places.{ends_rise}
 use Rattle.law_base.proofs.Lines.{on_line}
@@ -718,6 +718,7 @@ module _ (line : Line) (ok : IsLine line) (v : LineState) (x : View) (old : Foll
   Fair (StartOfMission is_valid position) = v.wait t c ≡ None
   Fair (Request position) = (h : Supervised v c t) × (may_request_at line v t h.m position ≡ true)
   Fair (ShorteningGranted stamp position) = (h : Supervised v c t) × (answers_it stamp h.m ≡ true)
+  Fair (Report position) = Supervised v c t
   Fair (EndOfMission position) = Supervised v c t
   Fair body = Unit {0}
 
@@ -728,12 +729,9 @@ module _ (line : Line) (ok : IsLine line) (v : LineState) (x : View) (old : Foll
       by_proposal None h = cc
       by_proposal (Some p) h = (p, refl, eqb-true p.stamp stamp h)
 
-  reports_follow : (position : Position) (o : Option Place) (n : LineMission) (said : Said) (new : LineState) → v.mission t ≡ Some n → place_on line (track_of v t) position ≡ o → WaitsKeep line new → Reports line t c o v said new
-      → Follows line new (all_told line c said.sayings (change_stretch t (reports line position) x))
-  reports_follow position None n said new is on keep h =
-      silently said new (change_stretch t (reports line position) x) (ap (λ (p : Said). p.sayings) h.said_is)
-      (listens_follow position new keep (ap (λ (w : LineState). w.mark) h.new_is) (ap (λ (w : LineState). w.wait) h.new_is) (ap (λ (w : LineState). w.mission) h.new_is))
-  reports_follow position (Some place) n said new is on keep h =
+  reports_follow : (position : Position) (place : Place) (n : LineMission) (said : Said) (new : LineState) → v.mission t ≡ Some n → place_on line (track_of v t) position ≡ Some place → WaitsKeep line new
+      → Tells (release_words line c (is_cleared_of line v t place) v) (reported line t c place v) said new → Follows line new (all_told line c said.sayings (change_stretch t (reports line position) x))
+  reports_follow position place n said new is on keep h =
       silently said new (change_stretch t (reports line position) x) (ap (λ (p : Said). p.sayings) h.said_is)
       (reported_follow position n is place (sym (ap (λ (k : ℕ). place_on line k position) (track_is n is)) ∙ on) new keep h.new_is)
 
@@ -774,10 +772,7 @@ module _ (line : Line) (ok : IsLine line) (v : LineState) (x : View) (old : Foll
   own_follows (Request position) said new fair h =
       let on = sym (ap (λ (k : ℕ). place_on line k position) (track_is fair.0.m fair.0.of_train)) ∙ h.1 in
       extends_follow fair.0.m position h.0 said new fair.0.of_train on (within_is fair.0.m position h.0 fair.1 on) (keep_of (Request position) said new h) h.2
-  own_follows (Report position) said new fair h = by_test (supervises v c t) _ _
-      (λ here r. let sup = supervised_is v c t here in reports_follow position (place_on line (track_of v t) position) sup.m said new sup.of_train refl (keep_of (Report position) said new h) r)
-      (λ _ n. silently said new (change_stretch t (reports line position) x) (ap (λ (p : Said). p.sayings) n.said_is)
-      (listens_follow position new (keep_of (Report position) said new h) (ap (λ (w : LineState). w.mark) n.new_is) (ap (λ (w : LineState). w.wait) n.new_is) (ap (λ (w : LineState). w.mission) n.new_is))) h
+  own_follows (Report position) said new fair h = reports_follow position h.0 fair.m said new fair.of_train h.1 (keep_of (Report position) said new h) h.2
   own_follows (ShorteningGranted stamp position) said new fair h =
       let sup = fair.0 in
       let p = answer_is stamp sup.m fair.1 in
@@ -800,10 +795,6 @@ module _ (line : Line) (ok : IsLine line) (v : LineState) (x : View) (old : Foll
       ap (λ (f : ℕ → Mark). f s) (closed_mark (list_any (λ s. is_given_to t ((release line c t (is_cleared_of line v t place) v).mark s)) (range_with_len 0 (section_count line)))
       (change_mission t (λ k. record k { place = place }) (release line c t (is_cleared_of line v t place) v)) (set_mission t None (change_mission t (λ k. record k { place = place }) (release line c t (is_cleared_of line v t place) v))) refl)
       ∙ (released_moves line c t (is_cleared_of line v t place) v (λ s so. (and_parts (is_given_to t (v.mark s)) (is_cleared line place s) so).0)).shut s shut
-
-  reports_shut : (o : Option Place) (said : Said) (new : LineState) → Reports line t c o v said new → (s : ℕ) → v.mark s ≡ Shut → new.mark s ≡ Shut
-  reports_shut None said new h s shut = ap (λ (w : LineState). w.mark s) h.new_is ∙ shut
-  reports_shut (Some place) said new h s shut = ap (λ (w : LineState). w.mark s) h.new_is ∙ reported_shut place s shut
 
   stopped_shut : (place : Place) (s : ℕ) → v.mark s ≡ Shut → (stopped line t c place (reported line t c place v)).mark s ≡ Shut
   stopped_shut place s shut = by_reached (has_reached line (reported line t c place v) t place)
@@ -864,7 +855,7 @@ module _ (line : Line) (ok : IsLine line) (v : LineState) (x : View) (old : Foll
   own_shut (Request position) said new h s shut = ap (λ (w : LineState). w.mark s) h.2.says_it.new_is
       ∙ (given_moves v.mark t (within (record { first = behind h.2.hand; count = h.2.count }))
       (λ e so. open_or_kept e (and_parts (may_be_given line v c t e) (is_on line h.0.track e) (each_within (λ k. may_be_given line v c t k && is_on line h.0.track k) (record { first = behind h.2.hand; count = h.2.count }) h.2.each e so)).0)).shut s shut
-  own_shut (Report position) said new h s shut = by_test (supervises v c t) _ _ (λ _ r. reports_shut (place_on line (track_of v t) position) said new r s shut) (λ _ n. ap (λ (w : LineState). w.mark s) n.new_is ∙ shut) h
+  own_shut (Report position) said new h s shut = ap (λ (w : LineState). w.mark s) h.2.new_is ∙ reported_shut h.0 s shut
   own_shut (ShorteningGranted stamp position) said new h s shut = shortened_shut (place_on line (track_of v t) position) (last_kept_of v t) new h.new_is s shut
   own_shut (ShorteningRejected stamp position) said new h s shut = ap (λ (w : LineState). w.mark s) h.new_is ∙ shut
   own_shut (EndOfMission position) said new h s shut = ending_shut (position.v_train == 0) (place_on line (track_of v t) position) said new h s shut

@@ -14,7 +14,7 @@ use Rattle.rbc_spec.specs.LineCentre.{LineState, LineMission, Mark, Shut, Open, 
 use Rattle.rbc_spec.specs.OwnSteps.{Sets, Unsets, is_unused_mark, set_mark, wished_back}
 use Rattle.rbc_spec.specs.Quiet.{Quiet, TakesAll, is_of_centre, both}
 use Rattle.rbc_spec.specs.World.{Event, Bytes, Set, Unset, Delivery, centre_of, Answer, Answered, NoCentre, NotSent, Fault}
-use Rattle.rbc_spec.specs.Run.{Piece, Goes, Run, Steps, silent, heard, listened, OwnStep, Spoken, silence, holds, has_here, may_request_at, answers_it, may_listen}
+use Rattle.rbc_spec.specs.Run.{Piece, Goes, Run, Steps, silent, heard, listened, OwnStep, silence, holds, has_here, may_request_at, answers_it, may_listen}
 use Rattle.law_base.proofs.Lists.{none_passes}
 use Rattle.law_base.proofs.Puts.{itself, put_here, put_other}
 use Rattle.law_runs.proofs.Waits.{wait_on}
@@ -216,7 +216,9 @@ module _ (line : Line) (ok : IsLine line) where
           and_not_false (is_at c h.0.m.supervisor) (may_request_at line v t h.0.m position) (at_there h.0.m h.0.at)
               (subst (λ (o : Option LineMission). option_map_or (λ n. is_at c n.supervisor && not (may_request_at line v t n position)) o false ≡ false) h.0.of_train placed),
         )
-    fair_is (Report position) is = tt
+    fair_is (Report position) is =
+        let h = here_is (after_hearing (Report position)) c t (λ n. true) (not-false (has_here v c t (λ n. true)) (none_passes (holds line v c (message (Report position)) (Report position)) (reasons_of (Report position)) 4 NotSupervised is refl)) in
+        h.0
     fair_is (ShorteningGranted stamp position) is =
         here_is (after_hearing (ShorteningGranted stamp position)) c t (answers_it stamp)
         (not-false (has_here v c t (answers_it stamp)) (none_passes (holds line v c (message (ShorteningGranted stamp position)) (ShorteningGranted stamp position)) (reasons_of (ShorteningGranted stamp position)) 5 Unasked is refl))
@@ -247,7 +249,7 @@ module _ (line : Line) (ok : IsLine line) where
         (subst (λ (p : Said). Follows line mid (all_told line c p.sayings x)) (sym none) (subst (λ (w : LineState). Follows line w x) (sym new) old))
     steps_follow body said mid why (heard is so hearing) =
         subst (λ (o : Option Reason). Follows line mid (all_told line c said.sayings (spoken body o))) (sym so)
-        (own_follows line ok (after_hearing body) x (hears_follow c (message body) v x old) c at_centre (message body) body said mid (fair_is body is) hearing.own)
+        (own_follows line ok (after_hearing body) x (hears_follow c (message body) v x old) c at_centre (message body) body said mid (fair_is body is) hearing)
     steps_follow body said mid why (listened may so none new) =
         subst (λ (o : Option Reason). Follows line mid (all_told line c said.sayings (spoken body o))) (sym so)
         (subst (λ (p : Said). Follows line mid (all_told line c p.sayings (spoken body None))) (sym none) (subst (λ (w : LineState). Follows line w (spoken body None)) (sym new) (listen_follows body (silence line v c (message body)) may)))
@@ -259,8 +261,8 @@ module _ (line : Line) (ok : IsLine line) where
     steps_released body said mid why event z (silent reason is so none new) good = released_on line event v mid said.words z (λ s shut. ap (λ (w : LineState). w.mark s) new ∙ shut) (no_words_fit mid said none) good
     steps_released body said mid why event z (listened may so none new) good = released_on line event v mid said.words z (λ s shut. ap (λ (w : LineState). w.mark s) new ∙ shut) (no_words_fit mid said none) good
     steps_released body said mid why event z (heard is so hearing) good =
-        released_on line event v mid said.words z (own_shut line ok (after_hearing body) x (hears_follow c (message body) v x old) c at_centre (message body) body said mid hearing.own)
-        (λ e. own_fits line e (after_hearing body) c said mid (message body) body hearing.own) good
+        released_on line event v mid said.words z (own_shut line ok (after_hearing body) x (hears_follow c (message body) v x old) c at_centre (message body) body said mid hearing)
+        (λ e. own_fits line e (after_hearing body) c said mid (message body) body hearing) good
 
   -- ## Set and unset
 
@@ -388,7 +390,7 @@ module _ (line : Line) (ok : IsLine line) where
           (subst (Released new) (sym (heard_both event h.own.words h.later.words told))
           (released_on line event h.mid new h.later.words (all_heard event h.own.words told) (quiets_shut c h.quiets h.mid between h.later new h.own_centre h.quiet_steps mid_follows)
           (λ e. quiets_fit line e h.mid mid_follows.keep h.quiets h.later new h.quiet_steps)
-          (own_released event h.own h.mid h.why told h.own_step (record { each = λ s opened. ap (λ (f : ℕ → Bool). f s) (all_released line c o.sayings start ∙ said_released event o) ∙ good.each s opened }))));
+          (own_released event h.own h.mid o.silence told h.own_step (record { each = λ s opened. ap (λ (f : ℕ → Bool). f s) (all_released line c o.sayings start ∙ said_released event o) ∙ good.each s opened }))));
     }
       where
         c : ℕ
@@ -404,13 +406,13 @@ module _ (line : Line) (ok : IsLine line) where
         between = all_told line c h.own.sayings start
 
         sayings : o.sayings ≡ h.own.sayings ++ h.later.sayings
-        sayings = ap (λ (p : Spoken). p.said.sayings) h.says
+        sayings = ap (λ (p : Said). p.sayings) h.says
 
         words : o.words ≡ h.own.words ++ h.later.words
-        words = ap (λ (p : Spoken). p.said.words) h.says
+        words = ap (λ (p : Said). p.words) h.says
 
         mid_follows : Follows line h.mid between
-        mid_follows = own_follow event o h.own h.mid h.why (ap (λ (p : Spoken). p.silence) h.says) h.own_step
+        mid_follows = own_follow event o h.own h.mid o.silence refl h.own_step
 
     same_both : (new : LineState) → new ≡ v → Both new x
     same_both new is = subst (λ (w : LineState). Both w x) (sym is) (record { follows = old; released = good })

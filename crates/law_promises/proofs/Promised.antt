@@ -1,38 +1,23 @@
 -- What is promised of one event is promised of whole lists of them.
-use Rattle.std.proofs.Common.{◌==◌, ◌≡◌, ℕ, Bool, true, false, List, [], ◌∷◌, ◌++◌, Option, Some, None, Result, Ok, refl, sym, ap, ◌∙◌, subst, eq-eqb, eqb-true}
+use Rattle.std.proofs.Common.{◌==◌, ◌≡◌, ℕ, Bool, true, false, List, [], ◌∷◌, ◌++◌, Option, Some, None, Result, Ok, refl, sym, ap, ◌∙◌, subst, eqb-true}
 use Rattle.std.specs.Prelude.{Contains}
-use Rattle.std.specs.Option.{option_map_or}
 use Rattle.rbc_spec.specs.Maps.{has}
 use Rattle.rbc_spec.specs.Line.{Line, IsLine, Section, section, is_home, is_centre}
 use Rattle.rbc_spec.specs.Step.{Refusal}
 use Rattle.rbc_spec.specs.Outcome.{Outcome, Told, Done}
 use Rattle.rbc_spec.specs.Centre as centre
-use Rattle.rbc_spec.specs.LineCentre.{Mark, Shut, Open, Kept, Given, is_given_to}
+use Rattle.rbc_spec.specs.LineCentre.{Shut, Given, is_given_to}
 use Rattle.rbc_spec.specs.World.{World, Event, Unset, Answer, Answered, new_world, world_step, world_run}
-use Rattle.rbc_spec.specs.ReadOff.{read_off}
-use Rattle.rbc_spec.specs.Promises.{MayFree, KeepsPromises, IsSound, user}
-use Rattle.law_base.proofs.Puts.{itself}
+use Rattle.rbc_spec.specs.ReadOff.{holder, mark_of, read_off}
+use Rattle.rbc_spec.proofs.Safe.{given_mark}
+use Rattle.rbc_spec.specs.Promises.{is_given, MayFree, KeepsPromises, IsSound, user}
 use Rattle.law_local.proofs.Worlds.{bind_ok}
 use Rattle.law_network.proofs.Neighbours.{home_below}
 use Rattle.law_handover.proofs.Worlds.{world_begins, world_run_sound, world_step_sound}
 use Rattle.law_runs.proofs.Runs.{run_of_none, whole_run}
+use Rattle.law_runs.proofs.Promised.{given_is, given_home, given_held}
 use Rattle.law_refinement.proofs.Promises.{promises, sound_behind, run_sound}
 use Rattle.law_promises.specs.Promised.{IsFreedWithin, IsTakenBack}
-
--- a section that is given in a state that is read off has a home
-given_home : (line : Line) (w : World) (t s : ℕ) → (read_off line w).mark s ≡ Given t → (c : ℕ) × (is_home line c s ≡ true)
-unfolding read_off
-given_home line w t s = by_section (section line s) _
-  where
-    by_section : (o : Option Section) (mark : Section → Mark) → option_map_or mark o Shut ≡ Given t → (c : ℕ) × (option_map_or (λ p. p.home == c) o false ≡ true)
-    by_section None mark h = cc
-    by_section (Some p) mark h = (p.home, eq-eqb p.home p.home refl)
-
-given_is : (t : ℕ) (m : Mark) → is_given_to t m ≡ true → m ≡ Given t
-given_is t Shut h = cc
-given_is t Open h = cc
-given_is t (Kept u) h = cc
-given_is t (Given u) h = ap (λ (x : ℕ). Given x) (eqb-true u t h)
 
 -- ## One event
 
@@ -41,8 +26,11 @@ module _ (line : Line) (ok : IsLine line) (w new : World) (events : List Event) 
   pub leaves_so : (t s : ℕ) → (read_off line w).mark s ≡ Given t → is_given_to t ((read_off line new).mark s) ≡ false → MayFree line w t s event
   leaves_so t s given not_given =
       let home = given_home line w t s given in
-      (promises line ok w new events answers event answer before is).freed t s (((run_sound line ok events answers w before).stands.mark s home.0 home.1).only_given t given)
-      (λ still. let wrong : true ≡ false = sym (ap (is_given_to t) (((sound_behind line ok w new events answers event answer before is).stands.mark s home.0 home.1).given t still).0 ∙ itself t) ∙ not_given in cc)
+      (promises line ok w new events answers event answer before is).freed t s (given_held line w (read_off line w) (run_sound line ok events answers w before).stands t s home.0 home.1 given) (gone (is_given line new t s) refl)
+    where
+      gone : (b : Bool) → is_given line new t s ≡ b → is_given line new t s ≡ false
+      gone false so = so
+      gone true so = absurd (let wrong : true ≡ false = sym (given_mark line new (read_off line new) (sound_behind line ok w new events answers event answer before is).stands t s so) ∙ not_given in cc)
 
 -- ## Told back
 
@@ -67,8 +55,12 @@ module _ (line : Line) (ok : IsLine line) (w new : World) (events : List Event) 
     not_wished = ((world_step_sound line ok w (world_run_sound line ok events (new_world line) (world_begins line) answers w before) event (Answered o) new is).flow.centres c
         (home_is_centre line ok s c home)).unwished s (ap centre.is_unused shut);
     held_by_none = sound.one_place.sections s c home ∙ ap user shut;
-    marked = (sound.stands.mark s c home).shut shut;
+    marked = by_holder (holder line new s) refl;
   }
+    where
+      by_holder : (h : Option ℕ) → holder line new s ≡ h → (read_off line new).mark s ≡ Shut
+      by_holder None none = sound.stands.mark s c home ∙ ap (λ (h : Option ℕ). mark_of h ((new.at c).book s)) none ∙ ap (mark_of None) shut
+      by_holder (Some t) some = absurd (let wrong : false ≡ true = sym (ap (centre.is_used_for t) shut) ∙ sound.stands.in_use s c t home some in cc)
 
   pub told_back : Contains o.words (Told s) → IsTakenBack line c s new
   told_back tells = taken_back (kept.told o s c refl home tells).0

@@ -2,13 +2,12 @@
 use Rattle.std.specs.Prelude.{◌≡◌, ℕ, Bool, true, false, length, slice_get, Option, Some, None, option_map, is_some}
 use Rattle.std.specs.List.{find, filter_map, range_with_len}
 use Rattle.std.specs.Option.{option_map_or}
-use Rattle.rbc_spec.specs.Maps.{has}
-use Rattle.rbc_spec.specs.SectionRuns.{within}
 use Rattle.rbc_spec.specs.Line.{Line, is_home, section, train_number}
 use Rattle.rbc_spec.specs.Centre.{Mission}
 use Rattle.rbc_spec.specs.LineCentre.{Shut, IsHand}
 use Rattle.rbc_spec.specs.World.{World}
 use Rattle.rbc_spec.specs.ReadOff.{Held, held, held_at, handed_over, frames_on_way, read_off}
+use Rattle.rbc_spec.specs.Promises.{is_given}
 use Rattle.law_network.specs.Shows.{shown}
 
 -- the first centre of the line that has a mission of the train
@@ -21,7 +20,7 @@ yielded_on_way line w t = slice_get (filter_map (λ f. handed_over t f.body) (fr
 
 -- the hand of the train's mission, wherever that is, has the section
 abbrev pub is_in_its_hand : Line → World → ℕ → ℕ → Bool
-is_in_its_hand line w s t = has (λ h. within h.hand s) (held line w t)
+is_in_its_hand line w s t = is_given line w t s
 
 -- each train's mission is as the centre has it that has one, and else as a Yield on the way carries it; no other centre has one, its train
 -- is of the line, and its hand is all that is given to the train

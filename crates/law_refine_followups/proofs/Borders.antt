@@ -1,15 +1,16 @@
 -- What follows an extension at the border: the train is told where it is, by a quiet step, and more sections are asked for, which is not seen.
-use Rattle.std.proofs.Common.{◌≡◌, ◌≢◌, ℕ, ◌+◌, ◌-◌, ◌<◌, ◌==◌, ◌&&◌, not, nat_lt, min, Bool, true, false, if◌then◌else◌, [], ◌∷◌, ◌++◌, Some, None, is_none, refl, sym, ap, ◌∙◌, subst, arith}
+use Rattle.std.proofs.Common.{◌≡◌, ◌≢◌, ℕ, ◌+◌, ◌-◌, ◌<◌, ◌==◌, ◌&&◌, not, nat_lt, min, Bool, true, false, if◌then◌else◌, [], ◌∷◌, ◌++◌, Option, Some, None, is_none, refl, sym, ap, ◌∙◌, subst, arith}
 use Rattle.std.specs.Option.{option_map_or}
 use Rattle.std.proofs.lemmas.Bool.{and_parts, and_from, eqb-false}
 use Rattle.law_counting.specs.Resource.{Resource}
 use Rattle.law_counting.proofs.Resource.{carried_none}
 use Rattle.law_base.proofs.Puts.{itself, put_there}
-use Rattle.law_base.proofs.Lists.{none_is}
+use Rattle.law_base.proofs.Lists.{none_is, find-range}
+use Rattle.std.proofs.lemmas.Option.{slice_get_within}
 use Rattle.law_base.proofs.Runs.{within_true, within_from, within_shared}
 use Rattle.rbc_spec.specs.SectionRuns.{SectionRun, most_in_hand, within, behind, is_empty}
-use Rattle.rbc_spec.specs.Line.{Line, IsLine, is_centre, is_home, start, next_centre}
-use Rattle.rbc_spec.specs.Sections.{nid_rbc, is_on, home_run}
+use Rattle.rbc_spec.specs.Line.{Line, IsLine, Section, section, is_centre, is_home, start, next_centre}
+use Rattle.rbc_spec.specs.Sections.{nid_rbc, is_on, home_run, section_count}
 use Rattle.rbc_spec.specs.Place.{group_start}
 use Rattle.rbc_spec.specs.Message.{Transition}
 use Rattle.rbc_spec.specs.Frame.{Body, Announce, RouteAsk}
@@ -47,6 +48,14 @@ none_or false never = refl
 some_of : (b : Bool) → not b ≡ true → b ≡ false
 some_of true is = cc
 some_of false is = refl
+
+-- a section with a home is one of the line's
+home_below : (line : Line) (d s : ℕ) → is_home line d s ≡ true → s < section_count line
+home_below line d s is = by_section (section line s) refl is
+  where
+    by_section : (o : Option Section) → section line s ≡ o → option_map_or (λ p. p.home == d) o false ≡ true → s < section_count line
+    by_section None at home = cc
+    by_section (Some p) at home = slice_get_within line.sections s p at
 
 module _ (line : Line) (ok : IsLine line) (w : Flow) (sound : IsFlowSound line w) (v : LineState) (sees : Shows line w v) (c : ℕ) (to : is_centre line c ≡ true) (t d : ℕ) where
   -- ## Nothing
@@ -131,8 +140,8 @@ module _ (line : Line) (ok : IsLine line) (w : Flow) (sound : IsFlowSound line w
       supervises = refl;
       is_up = sees.phase t c ∙ may.is_up;
       next_is = may.next_is;
-      at_border = and_from (is_given_to t (v.mark part.first)) (is_home line d part.first) (given part.first ∙ first_in.0) first_in.1;
-      first_there = none_before;
+      at_border = find-range (λ s. is_given_to t (v.mark s) && is_home line d s) 0 (section_count line) part.first (omega arith) (omega (arith, home_below line d part.first first_in.1))
+          (and_from (is_given_to t (v.mark part.first)) (is_home line d part.first) (given part.first ∙ first_in.0) first_in.1) (λ s low before. none_before s before);
       ahead = may.ahead;
       within_reach = may.within_reach;
       says = record {

@@ -13,14 +13,13 @@ use Rattle.rbc_spec.specs.Centre.{Centre, Phase, Closed, Opened, Up, is_up, Miss
 use Rattle.rbc_spec.specs.Acts.{rest, ◌>>◌, may_propose, propose, propose_if_so}
 use Rattle.rbc_spec.specs.LineCentre as line_centre
 use Rattle.rbc_spec.specs.LineCentre.{LineState, LineMission, says}
-use Rattle.rbc_spec.specs.OwnSteps.{one_message}
 use Rattle.rbc_spec.specs.Quiet.{Propose, Proposes, TakesAll}
 use Rattle.rbc_spec.specs.ReadOff.{seen}
 use Rattle.law_network.specs.Flow.{Flow}
 use Rattle.law_network.specs.Counts.{hands, missions}
 use Rattle.law_network.specs.Sound.{IsFlowSound}
 use Rattle.law_network.specs.Shows.{Shows}
-use Rattle.law_network.specs.Leads.{said_by, replied, Leads}
+use Rattle.law_network.specs.Leads.{one_message, said_by, replied, Leads}
 use Rattle.law_abstraction.proofs.Marks.{hand_at_centre}
 use Rattle.law_abstraction.proofs.Shows.{part_changes}
 use Rattle.law_centre_sound.proofs.Interlocking.{propose_sound}

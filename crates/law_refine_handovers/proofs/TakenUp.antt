@@ -25,7 +25,7 @@ use Rattle.law_network.specs.Counts.{hands, missions}
 use Rattle.law_network.specs.Keeping.{came_with}
 use Rattle.law_network.specs.Sound.{IsFlowSound}
 use Rattle.law_network.specs.Shows.{Shows, parted}
-use Rattle.law_network.proofs.Lists.{contains_head}
+use Rattle.rbc_spec.proofs.Held.{contains_head}
 use Rattle.law_abstraction.specs.Acts.{IsAct, IsMissionHere}
 use Rattle.law_abstraction.specs.After.{MarkAfter, MissionAfter}
 use Rattle.law_abstraction.specs.After.MissionAfter.{stays, is_here}

@@ -15,13 +15,13 @@ use Rattle.rbc_spec.specs.Centre.{Centre, Mission}
 use Rattle.rbc_spec.specs.Acts.{Act, Reply, rest, ◌>>◌, with_mission, returned, change_mission, return_pool}
 use Rattle.rbc_spec.specs.Rules.{report_here, stand_still}
 use Rattle.rbc_spec.specs.LineCentre.{LineState, LineMission, is_given_to, release, Said, nothing, set_mission}
-use Rattle.rbc_spec.specs.OwnSteps.{Reports, Ending, is_cleared_of, is_ahead_of, release_words, stopped, stopping_words, ended}
+use Rattle.rbc_spec.specs.OwnSteps.{Ending, is_cleared_of, is_ahead_of, release_words, stopped, stopping_words, ended}
 use Rattle.rbc_spec.specs.Quiet.{both}
 use Rattle.rbc_spec.specs.ReadOff.{seen}
 use Rattle.law_network.specs.Flow.{Flow}
 use Rattle.law_network.specs.Sound.{IsFlowSound}
 use Rattle.law_network.specs.Shows.{Shows}
-use Rattle.law_network.specs.Leads.{said_by, replied}
+use Rattle.law_network.specs.Leads.{Reports, said_by, replied}
 use Rattle.law_centre_sound.proofs.Sends.{Sound, then_sound}
 use Rattle.law_centre_sound.proofs.Again.{changed_sound}
 use Rattle.law_centre_sound.proofs.Reports.{pool_returned, other_words}

@@ -21,14 +21,14 @@ use Rattle.rbc_spec.specs.Centre.{Centre, Mission, Expectation}
 use Rattle.rbc_spec.specs.Acts.{Reply, rest}
 use Rattle.rbc_spec.specs.Rules.{clear, report_here, take_over}
 use Rattle.rbc_spec.specs.LineCentre.{LineState, LineMission, nothing, supervises, is_at, is_given_to}
-use Rattle.rbc_spec.specs.OwnSteps.{Reports, SaysNothing, reported, track_of}
+use Rattle.rbc_spec.specs.OwnSteps.{SaysNothing, reported, track_of}
 use Rattle.rbc_spec.specs.ReadOff.{seen}
 use Rattle.law_network.specs.Flow.{Flow, centre_count}
 use Rattle.law_network.specs.Counts.{hands, missions, yield_inside}
 use Rattle.law_network.specs.Keeping.{nothing_came}
 use Rattle.law_network.specs.Sound.{IsFlowSound, IsBodySound, IsYieldSound}
 use Rattle.law_network.specs.Shows.{Shows, parted}
-use Rattle.law_network.specs.Leads.{said_by, replied}
+use Rattle.law_network.specs.Leads.{Reports, said_by, replied}
 use Rattle.law_network.proofs.Frames.{carried_some}
 use Rattle.law_abstraction.proofs.Acts.{by_itself}
 use Rattle.law_abstraction.proofs.Shows.{part_stays, unseen_shown}

@@ -1,5 +1,5 @@
 -- An end of mission at standstill: what lies ahead is cut off the hand of a train that has reached it.
-use Rattle.std.proofs.Common.{◌≡◌, ◌≢◌, ◌⊎◌, ℕ, ◌+◌, ◌-◌, ◌*◌, ◌<◌, ◌≤◌, ◌==◌, ◌&&◌, ◌||◌, not, nat_lt, nat_le, if◌then◌else◌, Bool, true, false, [], map, Option, Some, None, option_map, refl, sym, ap, ◌∙◌, arith, ⊎_elim, eqb-true, le-leb, ltb-true, List}
+use Rattle.std.proofs.Common.{◌≡◌, ◌≢◌, ℕ, ◌+◌, ◌-◌, ◌*◌, ◌<◌, ◌≤◌, ◌==◌, ◌&&◌, ◌||◌, not, nat_lt, nat_le, if◌then◌else◌, Bool, true, false, [], map, Option, Some, None, option_map, refl, sym, ap, ◌∙◌, arith, ⊎_elim, eqb-true, le-leb, ltb-true, List}
 use Rattle.std.specs.Option.{option_map_or}
 use Rattle.std.proofs.lemmas.Bool.{and_from, cases_lt, eqb-false, or_cases, or_parts, ltb-false, lt-leb, le-ltb, lt-ltb}
 use Rattle.law_base.specs.Runs.{IsLongest}

@@ -9,11 +9,10 @@ use Rattle.rbc_spec.specs.Acts.{Act, Reply, rest, ◌>>◌, with_some, with_miss
 use Rattle.rbc_spec.specs.Rules.{report_here, take_over, cut, extension, extended_by, authority, at_border, stand_still}
 use Rattle.rbc_spec.specs.Step.{silence, ticked, hear_and_answer}
 use Rattle.rbc_spec.specs.LineCentre.{LineState}
-use Rattle.rbc_spec.specs.OwnSteps.{Own}
 use Rattle.law_network.specs.Flow.{Flow}
 use Rattle.law_network.specs.Sound.{IsFlowSound}
 use Rattle.law_network.specs.Shows.{Shows}
-use Rattle.law_network.specs.Leads.{said_by, replied, Leads, LeadsOwn}
+use Rattle.law_network.specs.Leads.{HeardAs, said_by, replied, Leads, LeadsOwn}
 
 -- ## Own parts
 
@@ -60,7 +59,7 @@ at_border_then line c t position = with_mission t (λ m. option_map_or (λ place
 -- an act of centre c, where the one line centre has heard the message and showed v, is its own step
 pub record Answers (line : Line) (w : Flow) (c : ℕ) (m : TrainMessage) (r : Reply) (v : LineState) : Type 0 where
   pub mid : LineState
-  pub own : Own line v c m m.body (said_by r) mid
+  pub own : HeardAs line v c m m.body (said_by r) mid
   pub shows : Shows line (replied w c r) mid
   pub sound : IsFlowSound line (replied w c r)
 

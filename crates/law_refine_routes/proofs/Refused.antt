@@ -19,7 +19,6 @@ use Rattle.rbc_spec.specs.Acts.{Reply, rest, become, ◌>>◌, freed}
 use Rattle.rbc_spec.specs.Rules.{drop_wait, reject}
 use Rattle.rbc_spec.specs.Links.{right_refused, received}
 use Rattle.rbc_spec.specs.LineCentre.{LineState, nothing, free, told, is_waiting_at, says}
-use Rattle.rbc_spec.specs.OwnSteps.{one_message}
 use Rattle.rbc_spec.specs.Quiet.{Dismiss, Dismisses}
 use Rattle.law_base.proofs.Acts.{alike_then}
 use Rattle.law_base.proofs.Puts.{itself}
@@ -28,7 +27,7 @@ use Rattle.law_network.specs.Counts.{hands, missions, wait_has}
 use Rattle.law_network.specs.Keeping.{came_with}
 use Rattle.law_network.specs.Sound.{IsFlowSound}
 use Rattle.law_network.specs.Shows.{Shows}
-use Rattle.law_network.specs.Leads.{said_by, replied, Leads}
+use Rattle.law_network.specs.Leads.{one_message, said_by, replied, Leads}
 use Rattle.law_abstraction.specs.Acts.{IsAct}
 use Rattle.law_abstraction.specs.After.MissionAfter.{stays}
 use Rattle.law_abstraction.proofs.Acts.{at_head}

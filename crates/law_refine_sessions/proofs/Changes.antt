@@ -16,7 +16,6 @@ use Rattle.rbc_spec.specs.Centre.{Centre, Phase}
 use Rattle.rbc_spec.specs.Acts.{Reply}
 use Rattle.rbc_spec.specs.SectionRuns.{SectionRun, within}
 use Rattle.rbc_spec.specs.LineCentre.{LineState, LineMission, Mark, hears}
-use Rattle.rbc_spec.specs.OwnSteps.{Own, one_message}
 use Rattle.rbc_spec.specs.ReadOff.{seen}
 use Rattle.law_local.specs.Local.{hand_has}
 use Rattle.law_network.specs.Flow.{Flow, centre_count}
@@ -24,7 +23,7 @@ use Rattle.law_network.specs.Counts.{hands, missions}
 use Rattle.law_network.specs.Keeping.{nothing_came}
 use Rattle.law_network.specs.Sound.{IsFlowSound}
 use Rattle.law_network.specs.Shows.{Shows}
-use Rattle.law_network.specs.Leads.{said_by, replied}
+use Rattle.law_network.specs.Leads.{one_message, HeardAs, said_by, replied}
 use Rattle.law_abstraction.specs.Acts.{IsAct, SendsNone}
 use Rattle.law_abstraction.specs.After.{PartAfter, MarkAfter, MissionAfter}
 use Rattle.law_abstraction.specs.After.MissionAfter.{stays, is_here}
@@ -36,7 +35,7 @@ use Rattle.law_abstraction.proofs.Shows.{part_stays, shows_after, unseen_shown}
 use Rattle.law_refine_sessions.specs.Heard.{LeadsAlone}
 
 -- the own step is all that a message comes to
-pub heard_alone : (line : Line) (w : Flow) (c : ℕ) (m : TrainMessage) (v : LineState) (r : Reply) (mid : LineState) → Own line (hears c m v) c m m.body (said_by r) mid
+pub heard_alone : (line : Line) (w : Flow) (c : ℕ) (m : TrainMessage) (v : LineState) (r : Reply) (mid : LineState) → HeardAs line (hears c m v) c m m.body (said_by r) mid
     → Shows line (replied w c r) mid → LeadsAlone line w c m r v
 heard_alone line w c m v r mid own shows = record { mid = mid; own = own; shows = shows }
 

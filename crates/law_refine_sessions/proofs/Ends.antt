@@ -22,14 +22,14 @@ use Rattle.rbc_spec.specs.Acts.{◌>>◌, Reply}
 use Rattle.rbc_spec.specs.Step.{hear_and_answer, ticked}
 use Rattle.rbc_spec.specs.LineCentre as line_centre
 use Rattle.rbc_spec.specs.LineCentre.{LineState, LineMission, hears, says, told, is_waiting_at}
-use Rattle.rbc_spec.specs.OwnSteps.{with_phase, session_ends, without_proposal, one_message, Says}
+use Rattle.rbc_spec.specs.OwnSteps.{with_phase, session_ends, without_proposal, Says}
 use Rattle.rbc_spec.specs.ReadOff.{seen}
 use Rattle.law_network.specs.Flow.{Flow}
 use Rattle.law_network.specs.Counts.{wait_has}
 use Rattle.law_network.specs.Keeping.{nothing_came}
 use Rattle.law_network.specs.Sound.{IsFlowSound}
 use Rattle.law_network.specs.Shows.{Shows}
-use Rattle.law_network.specs.Leads.{said_by}
+use Rattle.law_network.specs.Leads.{one_message, said_by}
 use Rattle.law_abstraction.specs.After.{MarkAfter, MissionAfter}
 use Rattle.law_abstraction.proofs.Entering.{opened, shut}
 use Rattle.law_abstraction.proofs.Shows.{part_changes, shows_after}

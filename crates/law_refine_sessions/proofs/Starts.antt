@@ -15,13 +15,13 @@ use Rattle.rbc_spec.specs.Acts.{◌>>◌, Reply, begun}
 use Rattle.rbc_spec.specs.Step.{silence, hear_and_answer, ticked}
 use Rattle.rbc_spec.specs.LineCentre as line_centre
 use Rattle.rbc_spec.specs.LineCentre.{LineState, Said, nothing, hears, says, supervises, is_given_to, is_mark_open}
-use Rattle.rbc_spec.specs.OwnSteps.{Starts, Rejects, may_start, waits, begins, restarted, one_message}
+use Rattle.rbc_spec.specs.OwnSteps.{Starts, Rejects, may_start, waits, begins, restarted}
 use Rattle.law_network.specs.Flow.{Flow}
 use Rattle.law_network.specs.Counts.{hands, missions}
 use Rattle.law_network.specs.Keeping.{nothing_came}
 use Rattle.law_network.specs.Sound.{IsFlowSound}
 use Rattle.law_network.specs.Shows.{Shows, shown, is_in_hand}
-use Rattle.law_network.specs.Leads.{said_by}
+use Rattle.law_network.specs.Leads.{one_message, said_by}
 use Rattle.law_abstraction.proofs.Frames.{sends_single, sends_both}
 use Rattle.law_abstraction.proofs.Marks.{hand_at_centre}
 use Rattle.law_abstraction.proofs.Missions.{none_here}

@@ -4,12 +4,11 @@ use Rattle.rbc_spec.specs.Line.{Line, IsLine, is_centre}
 use Rattle.rbc_spec.specs.Message.{TrainMessage, TrainBody}
 use Rattle.rbc_spec.specs.Acts.{Reply}
 use Rattle.rbc_spec.specs.LineCentre.{LineState, hears}
-use Rattle.rbc_spec.specs.OwnSteps.{Own}
 use Rattle.rbc_spec.specs.Step.{silence, hear_and_answer, ticked}
 use Rattle.law_network.specs.Flow.{Flow}
 use Rattle.law_network.specs.Sound.{IsFlowSound}
 use Rattle.law_network.specs.Shows.{Shows}
-use Rattle.law_network.specs.Leads.{said_by, replied}
+use Rattle.law_network.specs.Leads.{HeardAs, said_by, replied}
 
 abbrev pub message : ℕ → ℕ → TrainBody → TrainMessage
 message t_train t body = record { t_train = t_train; nid_engine = t; body = body }
@@ -17,7 +16,7 @@ message t_train t body = record { t_train = t_train; nid_engine = t; body = body
 -- the whole answer is the own step of the one line centre, which showed v: it says all that the centre says, and no quiet step follows
 pub record LeadsAlone (line : Line) (w : Flow) (c : ℕ) (m : TrainMessage) (r : Reply) (v : LineState) : Type 0 where
   pub mid : LineState
-  pub own : Own line (hears c m v) c m m.body (said_by r) mid
+  pub own : HeardAs line (hears c m v) c m m.body (said_by r) mid
   pub shows : Shows line (replied w c r) mid
 
 -- a message with this body that is not silent, from train t to centre c: the one line centre, which shows a sound flow, takes its own step of it,

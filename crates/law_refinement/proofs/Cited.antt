@@ -9,9 +9,9 @@ use Rattle.rbc_spec.specs.Acts.{Act, Reply, hear, ◌>>◌}
 use Rattle.rbc_spec.specs.Links.{received}
 use Rattle.rbc_spec.specs.Step as step
 use Rattle.rbc_spec.specs.LineCentre.{LineState, hears}
-use Rattle.rbc_spec.specs.OwnSteps.{Own, Sets, Unsets}
+use Rattle.rbc_spec.specs.OwnSteps.{Sets, Unsets}
 use Rattle.law_network.specs.Flow.{Flow, took_frame}
-use Rattle.law_network.specs.Leads.{Leads, LeadsHeard, LeadsOwn}
+use Rattle.law_network.specs.Leads.{HeardAs, Leads, LeadsHeard, LeadsOwn}
 use Rattle.rbc_spec.specs.Frame.{Body, AskRight, GiveRight, RefuseRight, ReturnRight, RouteAsk, RouteInfo, RouteWithdraw, RouteReturn, Announce, Cancel, TakingOver, Yield}
 use Rattle.law_refine_sessions.specs.Heard.{IsHeardAs, LeadsAlone}
 use Rattle.law_refine_sessions.proofs.Data.{established, data_heard, rejected}
@@ -36,7 +36,7 @@ use Rattle.law_refinement.proofs.Requests.{request_heard}
 
 -- what a message that is heard leads to
 pub of_heard : (line : Line) (w : Flow) (c t_train t : ℕ) (body : TrainBody) (r : Reply) (v : LineState) → LeadsHeard line w c (message t_train t body) r v
-    → LeadsFrom line w c (Own line (hears c (message t_train t body) v) c (message t_train t body) body) r
+    → LeadsFrom line w c (HeardAs line (hears c (message t_train t body) v) c (message t_train t body) body) r
 of_heard line w c t_train t body r v leads = record {
   said = leads.said;
   mid = leads.mid;
@@ -52,14 +52,14 @@ of_heard line w c t_train t body r v leads = record {
 
 -- where it is the own step alone
 of_alone : (line : Line) (w : Flow) (c t_train t : ℕ) (body : TrainBody) (r : Reply) (v : LineState) → LeadsAlone line w c (message t_train t body) r v
-    → LeadsFrom line w c (Own line (hears c (message t_train t body) v) c (message t_train t body) body) r
-of_alone line w c t_train t body r v alone = from_once line w c (Own line (hears c (message t_train t body) v) c (message t_train t body) body) r
+    → LeadsFrom line w c (HeardAs line (hears c (message t_train t body) v) c (message t_train t body) body) r
+of_alone line w c t_train t body r v alone = from_once line w c (HeardAs line (hears c (message t_train t body) v) c (message t_train t body) body) r
     (record { mid = alone.mid; own = alone.own; shows = alone.shows })
 
 -- whatever the clock of the centre shows
 heard_as : (line : Line) → IsLine line → (body : TrainBody) → IsHeardAs body → Answers line body
 heard_as line ok body is_heard w c k v t_train t at_work heard =
-    subst (λ (j : Centre). LeadsFrom line w c (Own line (hears c (message t_train t body) v) c (message t_train t body) body) (step.hear_and_answer line c (message t_train t body) j)) at_work.state
+    subst (λ (j : Centre). LeadsFrom line w c (HeardAs line (hears c (message t_train t body) v) c (message t_train t body) body) (step.hear_and_answer line c (message t_train t body) j)) at_work.state
     (of_alone line w c t_train t body (step.hear_and_answer line c (message t_train t body) (w.at c)) v
     (is_heard line w v c t_train t (w.at c).clock ok at_work.sound at_work.shows at_work.to
     (subst (λ (j : Centre). step.silence line c j (message t_train t body) ≡ None) (sym at_work.state) heard)))
@@ -91,7 +91,7 @@ module _ (line : Line) (ok : IsLine line) where
   in_whole : (body : TrainBody) (own : ℕ → ℕ → ℕ → Act) → ((c t_train t : ℕ) → IsOwnStep line c (message t_train t body) (own c t_train t))
       → ((c t_train t : ℕ) → IsWhole line c (message t_train t body) (own c t_train t)) → Answers line body
   in_whole body own is_own is_whole w c k v t_train t at_work heard =
-      subst (λ (j : Centre). LeadsFrom line w c (Own line (hears c (message t_train t body) v) c (message t_train t body) body) (step.hear_and_answer line c (message t_train t body) j)) at_work.state
+      subst (λ (j : Centre). LeadsFrom line w c (HeardAs line (hears c (message t_train t body) v) c (message t_train t body) body) (step.hear_and_answer line c (message t_train t body) j)) at_work.state
       (of_alone line w c t_train t body (step.hear_and_answer line c (message t_train t body) (w.at c)) v
       (subst (λ (r : Reply). LeadsAlone line w c (message t_train t body) r v) (sym (is_whole c t_train t (w.at c) quiet))
       (record { mid = one.mid; own = one.own; shows = one.shows })))
@@ -117,10 +117,10 @@ module _ (line : Line) (ok : IsLine line) where
   -- where each handover is announced as soon as the border is in the hand
   pub requested : (position : Position) (w : Flow) (c : ℕ) (k : Centre) (v : LineState) (t_train t : ℕ) → IsAtWork line w c k v → HasAnnounced line c k
       → step.silence line c k (message t_train t (Request position)) ≡ None
-      → LeadsFrom line w c (Own line (hears c (message t_train t (Request position)) v) c (message t_train t (Request position)) (Request position))
+      → LeadsFrom line w c (HeardAs line (hears c (message t_train t (Request position)) v) c (message t_train t (Request position)) (Request position))
       (step.hear_and_answer line c (message t_train t (Request position)) k)
   requested position w c k v t_train t at_work announced heard =
-      subst (λ (j : Centre). LeadsFrom line w c (Own line (hears c (message t_train t (Request position)) v) c (message t_train t (Request position)) (Request position))
+      subst (λ (j : Centre). LeadsFrom line w c (HeardAs line (hears c (message t_train t (Request position)) v) c (message t_train t (Request position)) (Request position))
       (step.hear_and_answer line c (message t_train t (Request position)) j)) at_work.state
       (of_heard line w c t_train t (Request position) (step.hear_and_answer line c (message t_train t (Request position)) (w.at c)) v
       (request_heard line ok w v at_work.sound at_work.shows c t_train t at_work.to position (subst (λ (j : Centre). HasAnnounced line c j) (sym at_work.state) announced)

@@ -15,7 +15,7 @@ use Rattle.rbc_spec.specs.Outcome as outcome
 use Rattle.rbc_spec.specs.Centre.{Centre}
 use Rattle.rbc_spec.specs.Acts.{rest, ◌>>◌}
 use Rattle.rbc_spec.specs.LineCentre.{LineState, LineMission, Said, nothing, hears, is_at, supervises}
-use Rattle.rbc_spec.specs.OwnSteps.{Own, Sets, Unsets, SaysNothing, Reports, track_of}
+use Rattle.rbc_spec.specs.OwnSteps.{Sets, Unsets, SaysNothing, track_of}
 use Rattle.rbc_spec.specs.Quiet.{is_of_centre}
 use Rattle.rbc_spec.specs.Links.{received}
 use Rattle.rbc_spec.specs.Step as step
@@ -26,7 +26,8 @@ use Rattle.rbc_spec.specs.Run.{Piece, OwnStep, Steps, heard, listened, TellsInOr
 use Rattle.law_network.specs.Flow.{Flow, flow_of, took_frame}
 use Rattle.law_network.specs.Numbers.{taken_after}
 use Rattle.law_network.specs.Shows.{Shows}
-use Rattle.law_network.specs.Leads.{said_by, Leads}
+use Rattle.law_network.proofs.Heard.{own_of}
+use Rattle.law_network.specs.Leads.{Reports, HeardAs, said_by, Leads}
 use Rattle.law_network.proofs.Numbers.{is_next}
 use Rattle.law_network.proofs.Steps.{at_head}
 use Rattle.law_network.proofs.Takes.{train_keeps, set_keeps, unset_keeps, deliver_taken}
@@ -66,7 +67,7 @@ found test why (x ∷ xs) is = by_test (λ e. found test why xs e) (test x) refl
 module _ (line : Line) (v : LineState) (c t_train t : ℕ) (said : Said) (mid : LineState) where
   -- its report is heard, and nothing else
   listens : (body : TrainBody) → may_listen line c body (run.silence line v c (message t_train t body)) ≡ true
-      → Own line (hears c (message t_train t body) v) c (message t_train t body) body said mid → (said ≡ nothing) × (mid ≡ hears c (message t_train t body) v)
+      → HeardAs line (hears c (message t_train t body) v) c (message t_train t body) body said mid → (said ≡ nothing) × (mid ≡ hears c (message t_train t body) v)
   listens (Report position) may own = let says = subst
       (λ (b : Bool). MatchBool b (Reports line t c (place_on line (track_of heard_by t) position) heard_by said mid) (SaysNothing heard_by said mid)) elsewhere own
       in (says.said_is, says.new_is)
@@ -111,15 +112,14 @@ module _ (line : Line) (ok : IsLine line) (w : World) (v : LineState) (meets : M
     record {
       own = h.said;
       mid = h.mid;
-      why = None;
       quiets = h.quiets;
       later = h.later;
-      own_step = own h.said h.mid h.own;
+      own_step = subst (OwnStep line v event h.said h.mid) (sym answered) (own h.said h.mid h.own);
       quiet_steps = h.takes;
       own_centre = subst (λ d. list_all (is_of_centre line d) h.quiets ≡ true) (sym here) h.own_centre;
-      none_if_silent = inl refl;
+      none_if_silent = inl answered;
       in_order = order;
-      says = λ i. record { said = h.says i; silence = answered i };
+      says = h.says;
     },
     shown_behind line w v meets c to stamp trains e h.new still (subst (λ (f : Flow). Shows line f h.new) (begun_replied line (flow_of w) c v stamp work e.reply) h.shows),
   )
@@ -130,7 +130,7 @@ module _ (line : Line) (ok : IsLine line) (w : World) (v : LineState) (meets : M
   of_silence m o = option_map_or {U = Effect} (λ why. record { reply = rest k; link = None; silence = Some why }) o (record { reply = step.hear_and_answer line c m k; link = None; silence = None })
 
   answers : (t_train t : ℕ) (body : TrainBody) → step.silence line c k (message t_train t body) ≡ None
-      → LeadsFrom line ticking c (Own line (hears c (message t_train t body) v) c (message t_train t body) body) (step.hear_and_answer line c (message t_train t body) k)
+      → LeadsFrom line ticking c (HeardAs line (hears c (message t_train t body) v) c (message t_train t body) body) (step.hear_and_answer line c (message t_train t body) k)
   answers t_train t InitiationOfSession = initiated line ok ticking c k v t_train t (begun_at_work line (flow_of w) c v stamp work)
   answers t_train t TerminationOfSession = terminated line ok ticking c k v t_train t (begun_at_work line (flow_of w) c v stamp work)
   answers t_train t SessionEstablished = session_established line ok ticking c k v t_train t (begun_at_work line (flow_of w) c v stamp work)
@@ -143,9 +143,9 @@ module _ (line : Line) (ok : IsLine line) (w : World) (v : LineState) (meets : M
   answers t_train t (EndOfMission position) = ended line ok position ticking c k v t_train t (begun_at_work line (flow_of w) c v stamp work)
 
   -- the own step of a message that a centre answers
-  hears_or_listens : (m : TrainMessage) → step.silence line c k m ≡ None → (said : Said) (mid : LineState) → Own line (hears c m v) c m m.body said mid → Steps line v c m said mid None
+  hears_or_listens : (m : TrainMessage) → step.silence line c k m ≡ None → (said : Said) (mid : LineState) → HeardAs line (hears c m v) c m m.body said mid → Steps line v c m said mid None
   hears_or_listens m is said mid own = ⊎_elim
-      (λ (none : run.silence line v c m ≡ None). heard none refl (record { own = own }))
+      (λ (none : run.silence line v c m ≡ None). heard none refl (own_of line v c m.t_train m.nid_engine said mid m.body none own))
       (λ (may : may_listen line c m.body (run.silence line v c m) ≡ true). let only = listens line v c m.t_train m.nid_engine said mid m.body may own in listened may refl only.0 only.1)
       (silence.heard line w v meets.sound.flow meets.shows c m (sym (silence.silent_by_clock line c stamp (w.at c) m) ∙ is))
 
@@ -153,7 +153,7 @@ module _ (line : Line) (ok : IsLine line) (w : World) (v : LineState) (meets : M
       → MetSo (Bytes c (Ok m)) (of_silence m o)
   by_silence m (Some why) is still order = let stays = silent_met line w v meets c to stamp trains m why is in (v, stays.0, stays.1)
   by_silence m None is still order =
-      own_met (Bytes c (Ok m)) (of_silence m None) (Own line (hears c m v) c m m.body) (λ said mid own. (to, hears_or_listens m is said mid own)) refl refl still order (answers m.t_train m.nid_engine m.body is)
+      own_met (Bytes c (Ok m)) (of_silence m None) (HeardAs line (hears c m v) c m m.body) (λ said mid own. (to, hears_or_listens m is said mid own)) refl refl still order (answers m.t_train m.nid_engine m.body is)
 
   pub message_met : (m : TrainMessage) → MetSo (Bytes c (Ok m)) (effect line c k (step.Train m))
   message_met m = by_silence m (step.silence line c k m) refl (train_keeps line c m k) (effect_in_order line c k (step.Train m))
@@ -189,7 +189,6 @@ module _ (line : Line) (ok : IsLine line) (w : World) (v : LineState) (meets : M
     frame_piece o h order = record {
       own = nothing;
       mid = v;
-      why = None;
       quiets = h.quiets;
       later = said_by (taken_by line c a f o k);
       own_step = (refl, refl, refl);

@@ -55,7 +55,6 @@ module _ (line : Line) (w : World) (v : LineState) (meets : Meets line w v) (c :
     record {
       own = nothing;
       mid = v;
-      why = Some why;
       quiets = [];
       later = nothing;
       own_step = (to, silent why (silence.silent line w v meets.sound.flow meets.shows c m why (sym (silence.silent_by_clock line c stamp (w.at c) m) ∙ is)) refl refl refl);
@@ -74,7 +73,6 @@ module _ (line : Line) (w : World) (v : LineState) (meets : Meets line w v) (c :
     record {
       own = nothing;
       mid = v;
-      why = None;
       quiets = [];
       later = nothing;
       own_step = (refl, refl, refl);
@@ -82,7 +80,7 @@ module _ (line : Line) (w : World) (v : LineState) (meets : Meets line w v) (c :
       own_centre = refl;
       none_if_silent = inl refl;
       in_order = subst (λ (r : _). TellsInOrder r.words) (sym is) none_in_order;
-      says = λ i. record { said = said_by (is i); silence = None };
+      says = λ i. said_by (is i);
     },
     nothing_shown (record { reply = taken_by line c a f o k; link = Some o; silence = None }) is,
   )

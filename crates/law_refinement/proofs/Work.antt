@@ -8,11 +8,10 @@ use Rattle.rbc_spec.specs.Centre.{Centre}
 use Rattle.rbc_spec.specs.Links.{received}
 use Rattle.rbc_spec.specs.Step as step
 use Rattle.rbc_spec.specs.LineCentre.{LineState, hears}
-use Rattle.rbc_spec.specs.OwnSteps.{Own}
 use Rattle.law_network.specs.Flow.{Flow, took_frame}
 use Rattle.law_network.specs.Sound.{IsFlowSound}
 use Rattle.law_network.specs.Shows.{Shows}
-use Rattle.law_network.specs.Leads.{Leads}
+use Rattle.law_network.specs.Leads.{HeardAs, Leads}
 use Rattle.law_refine_routes.specs.Interlocking.{LeadsFrom}
 
 -- centre c, which is k, acts in a sound flow that v shows
@@ -36,7 +35,7 @@ message t_train t body = record { t_train = t_train; nid_engine = t; body = body
 abbrev pub Answers : Line → TrainBody → Type 0
 Answers line body = (w : Flow) (c : ℕ) (k : Centre) (v : LineState) (t_train t : ℕ) → IsAtWork line w c k v
     → step.silence line c k (message t_train t body) ≡ None
-    → LeadsFrom line w c (Own line (hears c (message t_train t body) v) c (message t_train t body) body) (step.hear_and_answer line c (message t_train t body) k)
+    → LeadsFrom line w c (HeardAs line (hears c (message t_train t body) v) c (message t_train t body) body) (step.hear_and_answer line c (message t_train t body) k)
 
 -- what the next frame of a link leads to
 abbrev pub Brings : Line → Body → Type 0

@@ -11,7 +11,7 @@ use Rattle.rbc_spec.specs.Place.{Place, Position, covered, is_cleared, fit_place
 use Rattle.rbc_spec.specs.Message.{TrainMessage, TrainBody, TrainData, Request, Report, ShorteningGranted, ShorteningRejected, EndOfMission, InitiationOfSession, TerminationOfSession, StartOfMission, SessionEstablished}
 use Rattle.rbc_spec.specs.Centre.{is_registrar_of}
 use Rattle.rbc_spec.specs.LineCentre.{LineState, Mark, Shut, Open, Kept, Given, is_given_to, is_mark_open, is_kept_for, is_waiting, supervises, release, close_if_empty, Said}
-use Rattle.rbc_spec.specs.OwnSteps.{begins, may_start, waits, Rejects, StartsHere, Restarts, StartsNew, Starts, may_be_given, Extends, is_cleared_of, reported, is_cut_of, has_reached, is_ahead_of, stopped, ended, shortened, without_ask, track_of, last_kept_of, Reports, Ending, Own}
+use Rattle.rbc_spec.specs.OwnSteps.{begins, may_start, waits, Rejects, StartsHere, Restarts, StartsNew, Starts, may_be_given, Extends, is_cleared_of, reported, is_cut_of, has_reached, is_ahead_of, stopped, ended, shortened, without_ask, track_of, last_kept_of, Ending, Own, Tells, release_words}
 use Rattle.law_base.proofs.Lists.{any-range_some}
 use Rattle.law_base.proofs.Runs.{each_within}
 use Rattle.law_runs.proofs.Waits.{IsWaited, WaitsKeep, Leaves, IsLoose, opened, kept_for, if_not, PutAt, there, elsewhere, put_at, wait_on, waiting_at, loose_leaves, plain_leaves, end_leaves, not_waiting_kept}
@@ -195,9 +195,9 @@ module _ (line : Line) (v : LineState) (keep : WaitsKeep line v) (c : ℕ) (at :
   cut_given : (last_kept s : ℕ) → is_cut_of v t last_kept s ≡ true → (is_given_to t (v.mark s) ≡ true) × (nat_lt last_kept s ≡ true)
   cut_given last_kept s so = and_parts (is_given_to t (v.mark s)) (nat_lt last_kept s) so
 
-  report_leaves : (position : Position) (o : Option Place) (said : Said) (new : LineState) → place_on line (track_of v t) position ≡ o → Reports line t c o v said new → OwnLeaves line v new (May (Report position))
-  report_leaves position None said new on h = plainly (Report position) new v h.new_is refl refl refl
-  report_leaves position (Some place) said new on h = release_leaves line v keep c at t (is_cleared_of line v t place) (λ s so. (cleared_given place s so).0) new (May (Report position))
+  report_leaves : (position : Position) (place : Place) (said : Said) (new : LineState) → place_on line (track_of v t) position ≡ Some place
+      → Tells (release_words line c (is_cleared_of line v t place) v) (reported line t c place v) said new → OwnLeaves line v new (May (Report position))
+  report_leaves position place said new on h = release_leaves line v keep c at t (is_cleared_of line v t place) (λ s so. (cleared_given place s so).0) new (May (Report position))
       (ap (λ (x : LineState). x.mark) h.new_is ∙ closed_mark _ _ _ refl) (ap (λ (x : LineState). x.wait) h.new_is ∙ closed_wait _ _ _ refl) (λ s so. by_report position place refl on (cleared_given place s so).1)
 
   -- behind a report
@@ -276,7 +276,7 @@ module _ (line : Line) (v : LineState) (keep : WaitsKeep line v) (c : ℕ) (at :
   own_leaves (StartOfMission is_valid position) said new h = of_leaves line v new _ (starts_leave line v keep c at t (fit_place line is_valid position) said new h)
   own_leaves (TrainData position) said new h = plainly (TrainData position) new _ h.new_is refl refl refl
   own_leaves (Request position) said new h = of_leaves line v new _ (extends_leave line v keep c at t h.0 said new h.2)
-  own_leaves (Report position) said new h = by_test (supervises v c t) _ _ (λ _ r. report_leaves position (place_on line (track_of v t) position) said new refl r) (λ _ n. plainly (Report position) new v n.new_is refl refl refl) h
+  own_leaves (Report position) said new h = report_leaves position h.0 said new h.1 h.2
   own_leaves (ShorteningGranted stamp position) said new h = cut_leaves stamp position (place_on line (track_of v t) position) new refl h.new_is
   own_leaves (ShorteningRejected stamp position) said new h = plainly (ShorteningRejected stamp position) new _ h.new_is refl refl refl
   own_leaves (EndOfMission position) said new h = end_leaves_all position (position.v_train == 0) (place_on line (track_of v t) position) said new refl refl h

@@ -1,5 +1,5 @@
 -- Each event keeps its promises, whatever state the one line centre goes on from.
-use Rattle.std.proofs.Common.{◌≡◌, ◌⊎◌, ℕ, ◌*◌, ◌<◌, ◌==◌, arith, ◌&&◌, Bool, true, false, Option, Some, None, refl, sym, ap, ◌∙◌, inl, inr, List, [], ◌∷◌, ◌++◌, Ok, Err, if◌then◌else◌, eqb-true, eq-eqb, leb-true, ltb-true, nat_le, nat_lt, subst}
+use Rattle.std.proofs.Common.{◌≡◌, ◌⊎◌, ℕ, ◌*◌, ◌<◌, ◌==◌, arith, ◌&&◌, Bool, true, false, Option, Some, None, refl, sym, ap, ◌∙◌, inl, inr, List, [], ◌∷◌, ◌++◌, map, Ok, Err, if◌then◌else◌, eqb-true, eq-eqb, leb-true, ltb-true, nat_le, nat_lt, subst}
 use Rattle.std.specs.Option.{option_map_or}
 use Rattle.std.specs.List.{All}
 use Rattle.std.proofs.lemmas.List.Elements.{All-append, All-contains, All-cons}
@@ -17,28 +17,46 @@ use Rattle.rbc_spec.specs.OwnSteps.{Sets, Unsets, is_unused_mark, set_mark, wish
 use Rattle.rbc_spec.specs.World.{World, Event, Bytes, Set, Unset, Delivery, Answer, Answered, NoCentre, NotSent, Fault}
 use Rattle.rbc_spec.specs.Run as run
 use Rattle.rbc_spec.specs.Run.{Piece, Goes, Steps, silent, heard, listened, OwnStep, has_here, answers_it}
-use Rattle.rbc_spec.specs.ReadOff.{StandsFor, HasMark, IsGiven, IsMissionOf, supervised, parted, seen, read_off}
-use Rattle.rbc_spec.specs.Promises.{MayFree, cleared, shortened, stopped, KeepsPromises}
+use Rattle.rbc_spec.specs.ReadOff.{StandsFor, seen, holder, mark_of, read_off}
+use Rattle.rbc_spec.proofs.Held.{is_the_centres, found_passes}
+use Rattle.rbc_spec.proofs.Safe.{given_mark}
+use Rattle.rbc_spec.specs.Promises.{is_given, MayFree, cleared, shortened, stopped, KeepsPromises}
 use Rattle.law_base.proofs.Lists.{none_passes}
 use Rattle.law_base.proofs.Puts.{put_there}
 use Rattle.law_runs.proofs.Waits.{WaitsKeep, Leaves, if_not, wait_on, plain_leaves, quiets_leave}
 use Rattle.law_runs.proofs.Frees.{Frees, by_report, by_end, by_standstill, by_cut, OwnLeaves, of_leaves, by_test, own_leaves}
 use Rattle.law_runs.proofs.Words.{IsShut, Fits, no_words, fits_on, quiets_fit, own_fits}
 
-given_is : (t : ℕ) (m : Mark) → is_given_to t m ≡ true → m ≡ Given t
+pub given_is : (t : ℕ) (m : Mark) → is_given_to t m ≡ true → m ≡ Given t
 given_is t Shut h = cc
 given_is t Open h = cc
 given_is t (Kept u) h = cc
 given_is t (Given u) h = ap (λ (x : ℕ). Given x) (eqb-true u t h)
 
 -- a section that is given in a state that is read off has a home
-given_home : (line : Line) (w : World) (t s : ℕ) → (read_off line w).mark s ≡ Given t → (c : ℕ) × (is_home line c s ≡ true)
+pub given_home : (line : Line) (w : World) (t s : ℕ) → (read_off line w).mark s ≡ Given t → (c : ℕ) × (is_home line c s ≡ true)
 unfolding read_off
 given_home line w t s = by_section (section line s) _
   where
     by_section : (o : Option Section) (mark : Section → Mark) → option_map_or mark o Shut ≡ Given t → (c : ℕ) × (option_map_or (λ p. p.home == c) o false ≡ true)
     by_section None mark h = cc
     by_section (Some p) mark h = (p.home, eq-eqb p.home p.home refl)
+
+-- a section that is given is in the hand of its train
+pub given_held : (line : Line) (w : World) (v : LineState) → StandsFor line w v → (t s c : ℕ) → is_home line c s ≡ true → v.mark s ≡ Given t → is_given line w t s ≡ true
+given_held line w v stands t s c home is = by_holder (holder line w s) refl (sym (stands.mark s c home) ∙ is)
+  where
+    by_entry : (entry : centre.Entry) → mark_of None entry ≡ Given t → ⊥
+    by_entry centre.Shut is = cc
+    by_entry centre.Open is = cc
+    by_entry (centre.Taken u) is = cc
+    by_entry (centre.Out u) is = cc
+
+    by_holder : (o : Option ℕ) → holder line w s ≡ o → mark_of o ((w.at c).book s) ≡ Given t → is_given line w t s ≡ true
+    by_holder None none given = absurd (by_entry ((w.at c).book s) given)
+    by_holder (Some u) some given =
+        let same : u ≡ t = cc in
+        subst (λ (x : ℕ). is_given line w x s ≡ true) same (found_passes (λ x. is_given line w x s) (map (λ p. p.nid_engine) line.trains) u some)
 
 -- a section of the line has a home
 home_below : (line : Line) (s : ℕ) → s < section_count line → (c : ℕ) × (is_home line c s ≡ true)
@@ -59,17 +77,12 @@ module _ (line : Line) (w : World) (v : LineState) (stands : StandsFor line w v)
   here_is : (c t : ℕ) (test : LineMission → Bool) → has_here v c t test ≡ true → (h : IsSupervisor w c t v) × (test (seen c h.mission) ≡ true)
   here_is c t test = by_mission (v.mission t) refl
     where
-      by_place : (m : LineMission) → v.mission t ≡ Some m → IsMissionOf w t m → (is_at c m.supervisor ≡ true) → test m ≡ true → (h : IsSupervisor w c t v) × (test (seen c h.mission) ≡ true)
-      by_place _ is (supervised d n has) at so =
-          let same : d ≡ c = eqb-true d c at in (
-            record { mission = n; has = subst (λ (x : ℕ). (w.at x).mission t ≡ Some n) same has.at_centre; is_seen = subst (λ (x : ℕ). v.mission t ≡ Some (seen x n)) same is },
-            subst (λ (x : ℕ). test (seen x n) ≡ true) same so,
-          )
-      by_place _ is (parted a b f stamp d e p hand on carries) at so = cc
-
       by_mission : (o : Option LineMission) → v.mission t ≡ o → option_map_or (λ m. is_at c m.supervisor && test m) o false ≡ true → (h : IsSupervisor w c t v) × (test (seen c h.mission) ≡ true)
       by_mission None is h = cc
-      by_mission (Some m) is h = let parts = and_parts (is_at c m.supervisor) (test m) h in by_place m is (stands.mission t m is) parts.0 parts.1
+      by_mission (Some m) is h =
+          let parts = and_parts (is_at c m.supervisor) (test m) h in
+          let theirs = is_the_centres line w v stands t c m is parts.0 in
+          (record { mission = theirs.0; has = theirs.1; is_seen = is ∙ ap (λ x. Some x) theirs.2 }, sym (ap test theirs.2) ∙ parts.1)
 
   -- the request that is answered stands
   asked_is : (stamp : ℕ) (n : LineMission) → answers_it stamp n ≡ true → (p : centre.Proposal) × (n.proposal ≡ Some p) × (stamp ≡ p.stamp)
@@ -99,7 +112,7 @@ module _ (line : Line) (w : World) (v : LineState) (stands : StandsFor line w v)
         stopped c (message (EndOfMission position)) position h.0.mission place r train (same (EndOfMission position) fair) (subst (λ (x : ℕ). (w.at c).mission x ≡ Some h.0.mission) train h.0.has) refl
         (eqb-true position.v_train 0 still)
         (subst (λ (o : Option LineMission). place_on line (option_map_or (λ n. n.place.track) o 0) position ≡ Some place) h.0.is_seen on)
-        (subst (λ (x : ℕ). IsGiven w x r) train ((stands.mark r home.0 home.1).only_given t (given_is t (v.mark r) reached)))
+        (subst (λ (x : ℕ). is_given line w x r ≡ true) train (given_held line w v stands t r home.0 home.1 (given_is t (v.mark r) reached)))
         (ltb-true (10 * start line r) place.front near) (leb-true place.front (10 * start line s) ahead)
     frees_is (ShorteningGranted stamp position) fair u s (by_cut _ _ place train on time past) =
         let h = here_is c t (answers_it stamp) (not-false (has_here v c t (answers_it stamp)) (none_passes (run.holds line v c (message (ShorteningGranted stamp position)) (ShorteningGranted stamp position)) (reasons_of (ShorteningGranted stamp position)) 5 Unasked fair refl)) in
@@ -151,8 +164,8 @@ module _ (line : Line) (w : World) (v : LineState) (keep : WaitsKeep line v) (st
   steps_keep c m said mid why at (heard is so hearing) =
       let still = wait_on line v keep (hears c m v) refl (λ t d s waited. refl) in
       record {
-        leaves = heard_keeps c m said mid (own_leaves line (hears c m v) still c at m m.body said mid hearing.own) is;
-        fits = own_fits line (Bytes c (Ok m)) (hears c m v) c said mid m m.body hearing.own;
+        leaves = heard_keeps c m said mid (own_leaves line (hears c m v) still c at m m.body said mid hearing) is;
+        fits = own_fits line (Bytes c (Ok m)) (hears c m v) c said mid m m.body hearing;
       }
 
   -- an unused section gets another mark
@@ -221,9 +234,9 @@ module _ (line : Line) (w : World) (v : LineState) (keep : WaitsKeep line v) (st
 
   piece_ends : (event : Event) (o : Outcome) (u : LineState) → Piece line v event o u → Ends event (Answered o) u
   piece_ends event o u p =
-      let own = own_keeps event p.own p.mid p.why p.own_step in
+      let own = own_keeps event p.own p.mid o.silence p.own_step in
       let rest = quiets_leave line p.mid own.leaves.waits p.quiets p.later u p.quiet_steps in
-      let words : o.words ≡ p.own.words ++ p.later.words = ap (λ (x : run.Spoken). x.said.words) p.says in
+      let words : o.words ≡ p.own.words ++ p.later.words = ap (λ (x : Said). x.words) p.says in
       let fits : All (Fits line event u) o.words = subst (All (Fits line event u)) (sym words)
       (All-append (Fits line event u) p.own.words p.later.words (fits_on line event p.mid u p.own.words rest own.fits) (quiets_fit line event p.mid own.leaves.waits p.quiets p.later u p.quiet_steps))
       in
@@ -263,35 +276,33 @@ module _ (line : Line) (w : World) (v : LineState) (keep : WaitsKeep line v) (st
 -- ## Worlds
 
 -- a section whose mark is shut is shut at its home
-shut_at : (new : World) (s c : ℕ) (mark : Mark) → HasMark new s c mark → mark ≡ Shut → (new.at c).book s ≡ centre.Shut
-shut_at new s c mark has is = by_entry ((new.at c).book s) refl
+shut_at : (line : Line) (new : World) (v : LineState) → StandsFor line new v → (s c : ℕ) → is_home line c s ≡ true → v.mark s ≡ Shut → (new.at c).book s ≡ centre.Shut
+shut_at line new v ends s c home is = by_mark (holder line new s) ((new.at c).book s) (sym (ends.mark s c home) ∙ is)
   where
-    used : (t : ℕ) → centre.is_used_for t ((new.at c).book s) ≡ true → ⊥
-    used t so = elim (has.kept t so) [ inl given ↦ let wrong : Shut ≡ Given t = sym is ∙ given in cc | inr kept ↦ let wrong : Shut ≡ Kept t = sym is ∙ kept in cc ]
-
-    by_entry : (entry : centre.Entry) → (new.at c).book s ≡ entry → (new.at c).book s ≡ centre.Shut
-    by_entry centre.Shut at = at
-    by_entry centre.Open at = absurd (let wrong : Shut ≡ Open = sym is ∙ has.opened at in cc)
-    by_entry (centre.Taken t) at = absurd (used t (ap (centre.is_used_for t) at ∙ eq-eqb t t refl))
-    by_entry (centre.Out t) at = absurd (used t (ap (centre.is_used_for t) at ∙ eq-eqb t t refl))
+    by_mark : (o : Option ℕ) (entry : centre.Entry) → mark_of o entry ≡ Shut → entry ≡ centre.Shut
+    by_mark (Some t) entry shut = cc
+    by_mark None centre.Shut shut = refl
+    by_mark None centre.Open shut = cc
+    by_mark None (centre.Taken t) shut = cc
+    by_mark None (centre.Out t) shut = cc
 
 -- each event of worlds that states stand for keeps its promises, where starts that wait keep their sections and the reasons of silence agree
 pub keeps_promises : (line : Line) (w new : World) (event : Event) (answer : Answer) → WaitsKeep line (read_off line w)
     → ((c : ℕ) (m : TrainMessage) → run.silence line (read_off line w) c m ≡ None → step.silence line c (w.at c) m ≡ None)
     → StandsFor line w (read_off line w) → StandsFor line new (read_off line new) → Goes line (read_off line w) event answer (read_off line new) → KeepsPromises line w event answer new
 keeps_promises line w new event answer keep same stands ends goes = record {
-  freed = λ t s given never. elim (all.leaves.given t s (given_in t s given)) [ inl stays ↦ absurd (never (given_new t s stays)) | inr may ↦ may ];
+  freed = λ t s given gone. elim (all.leaves.given t s (given_in t s given)) [ inl stays ↦ absurd (let wrong : true ≡ false = sym (given_new t s stays) ∙ gone in cc) | inr may ↦ may ];
   told = λ o s c is home says. let fits = All-contains (Fits line event (read_off line new)) o.words (Told s) (all.fits o is) says in
-      (shut_at new s c ((read_off line new).mark s) (ends.mark s c home) fits.0, sym (ends.wish s c home) ∙ fits.1);
+      (shut_at line new (read_off line new) ends s c home fits.0, sym (ends.wish s c home) ∙ fits.1);
   done = λ o s c is unset says. let fits = All-contains (Fits line event (read_off line new)) o.words (Done s) (all.fits o is) says c unset in
-      shut_at new s c ((read_off line new).mark s) (ends.mark s c fits.1) fits.0.0;
+      shut_at line new (read_off line new) ends s c fits.1 fits.0.0;
 }
   where
     all : Ends line w (read_off line w) keep stands same event answer (read_off line new)
     all = event_ends line w (read_off line w) keep stands same event answer (read_off line new) goes
 
-    given_in : (t s : ℕ) → IsGiven w t s → (read_off line w).mark s ≡ Given t
-    given_in t s given = given_is t ((read_off line w).mark s) ((stands.hands t given.hand given.of_train).each s ∙ given.in_hand)
+    given_in : (t s : ℕ) → is_given line w t s ≡ true → (read_off line w).mark s ≡ Given t
+    given_in t s given = given_is t ((read_off line w).mark s) (given_mark line w (read_off line w) stands t s given)
 
-    given_new : (t s : ℕ) → (read_off line new).mark s ≡ Given t → IsGiven new t s
-    given_new t s is = let home = given_home line new t s is in (ends.mark s home.0 home.1).only_given t is
+    given_new : (t s : ℕ) → (read_off line new).mark s ≡ Given t → is_given line new t s ≡ true
+    given_new t s is = let home = given_home line new t s is in given_held line new (read_off line new) ends t s home.0 home.1 is

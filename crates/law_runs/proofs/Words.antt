@@ -11,7 +11,7 @@ use Rattle.rbc_spec.specs.Message.{TrainMessage, TrainBody, TrainData, Request, 
 use Rattle.rbc_spec.specs.Outcome.{Word, Told, Done, Asked, NotHome}
 use Rattle.rbc_spec.specs.Centre.{is_registrar_of}
 use Rattle.rbc_spec.specs.LineCentre.{LineState, Mark, Shut, Kept, mark_all, is_given_to, is_waiting_at, supervises, free, told, release, close_if_empty, Said}
-use Rattle.rbc_spec.specs.OwnSteps.{may_start, StartsHere, Rejects, Starts, is_cleared_of, reported, is_cut_of, has_reached, is_ahead_of, stopped, stopping_words, ended, shortened, shortening_words, without_ask, track_of, last_kept_of, Reports, Ending, Own, release_words}
+use Rattle.rbc_spec.specs.OwnSteps.{may_start, StartsHere, Rejects, Starts, is_cleared_of, reported, is_cut_of, has_reached, is_ahead_of, stopped, stopping_words, ended, shortened, shortening_words, without_ask, track_of, last_kept_of, Ending, Own, release_words, Tells}
 use Rattle.rbc_spec.specs.Quiet.{Quiet, Keep, Unkeep, Admit, Dismiss, LayDown, TakeUp, Propose, Order, EndOrder, TakesQuiet, TakesAll}
 use Rattle.rbc_spec.specs.World.{Event, Unset}
 use Rattle.law_runs.proofs.Waits.{WaitsKeep, Leaves, quiet_leaves, quiets_leave}
@@ -145,9 +145,8 @@ module _ (line : Line) (event : Event) where
     release_fits : (t : ℕ) (f : ℕ → Bool) (base : LineState) → base.wish ≡ v.wish → new.mark ≡ (release line c t f base).mark → new.wish ≡ (release line c t f base).wish → All (Fits line event new) (release_words line c f v)
     release_fits t f base = let_go v base new c t f
 
-    reports_fit : (t : ℕ) (o : Option Place) → Reports line t c o v said new → All (Fits line event new) said.words
-    reports_fit t None h = fits_said new said _ h.said_is (no_words new)
-    reports_fit t (Some place) h = fits_said new said _ h.said_is (release_fits t (is_cleared_of line v t place) v refl
+    reports_fit : (t : ℕ) (place : Place) → Tells (release_words line c (is_cleared_of line v t place) v) (reported line t c place v) said new → All (Fits line event new) said.words
+    reports_fit t place h = fits_said new said _ h.said_is (release_fits t (is_cleared_of line v t place) v refl
         (ap (λ (x : LineState). x.mark) h.new_is ∙ closed_mark _ _ _ refl) (ap (λ (x : LineState). x.wish) h.new_is ∙ closed_wish _ _ _ refl))
 
     ending_fits : (t : ℕ) (still : Bool) (o : Option Place) → Ending line t c still o v said new → All (Fits line event new) said.words
@@ -173,7 +172,7 @@ module _ (line : Line) (event : Event) where
     own_fits m (StartOfMission is_valid position) h = starts_fit m.nid_engine (fit_place line is_valid position) h
     own_fits m (TrainData position) h = fits_said new said _ h.said_is (no_words new)
     own_fits m (Request position) h = fits_said new said _ h.2.says_it.said_is (no_words new)
-    own_fits m (Report position) h = by_test (supervises v c m.nid_engine) _ _ (λ _ r. reports_fit m.nid_engine (place_on line (track_of v m.nid_engine) position) r) (λ _ n. fits_said new said _ n.said_is (no_words new)) h
+    own_fits m (Report position) h = reports_fit m.nid_engine h.0 h.2
     own_fits m (ShorteningGranted stamp position) h = fits_said new said _ h.said_is (cut_fits m.nid_engine (last_kept_of v m.nid_engine) (place_on line (track_of v m.nid_engine) position) h.new_is)
     own_fits m (ShorteningRejected stamp position) h = fits_said new said _ h.said_is (no_words new)
     own_fits m (EndOfMission position) h = ending_fits m.nid_engine (position.v_train == 0) (place_on line (track_of v m.nid_engine) position) h

@@ -94,13 +94,11 @@ beginning line c = record {
 -- no session stands
 abbrev pub is_closed : Phase → Bool
 is_closed Closed = true
-is_closed Opened = false
-is_closed Up = false
+is_closed phase = false
 
 abbrev pub is_up : Phase → Bool
-is_up Closed = false
-is_up Opened = false
 is_up Up = true
+is_up phase = false
 
 abbrev pub is_open : Entry → Bool
 is_open Open = true

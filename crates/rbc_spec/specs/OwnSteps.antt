@@ -1,6 +1,6 @@
 -- The own steps of the one line centre: a train's message that is answered, a set and an unset. Each is a relation, since
 -- the line centre may choose where the rules leave it open.
-use Rattle.std.specs.Prelude.{◌≡◌, ◌+◌, ◌-◌, ◌*◌, ◌≤◌, ◌⊎◌, ℕ, ◌==◌, List, [], ◌∷◌, ◌++◌, Bool, true, false, ◌&&◌, ◌||◌, not, if◌then◌else◌, Option, Some, None, option_map, nat_le, nat_lt, MatchBool}
+use Rattle.std.specs.Prelude.{◌≡◌, ◌+◌, ◌-◌, ◌*◌, ◌≤◌, ◌⊎◌, ℕ, ◌==◌, List, [], ◌∷◌, ◌++◌, Bool, true, false, ◌&&◌, ◌||◌, not, if◌then◌else◌, Option, Some, None, nat_le, nat_lt, MatchBool}
 use Rattle.std.specs.Option.{option_map_or}
 use Rattle.std.specs.List.{list_any, range_with_len}
 use Rattle.rbc_spec.specs.Maps.{put, put_pair}
@@ -11,21 +11,21 @@ use Rattle.rbc_spec.specs.Place.{Place, covered, is_cleared, group_start, farthe
 use Rattle.rbc_spec.specs.Message.{TrainMessage, TrainBody, TrainData, Request, Report, ShorteningGranted, ShorteningRejected, EndOfMission, InitiationOfSession, TerminationOfSession, StartOfMission, SessionEstablished, TrackBody, Authority, DataAcknowledged, SystemVersion, TerminationAcknowledged, TrainRejected, TrainAccepted, unknown_group}
 use Rattle.rbc_spec.specs.Outcome.{Word, Done, Asked, NotHome}
 use Rattle.rbc_spec.specs.Centre.{Phase, Closed, Opened, Up, is_registrar_of}
-use Rattle.rbc_spec.specs.LineCentre.{LineState, Mark, Shut, Open, Kept, Given, LineMission, At, is_given_to, is_kept_for, is_mark_open, IsHand, is_at, supervises, is_waiting_at, is_waiting, free, told, mark_all, release, set_mission, change_mission, close_if_empty, saying_of, says, Said, nothing}
+use Rattle.rbc_spec.specs.LineCentre.{LineState, Mark, Shut, Open, Kept, Given, LineMission, At, is_given_to, is_kept_for, is_mark_open, IsHand, is_at, supervises, is_waiting_at, is_waiting, free, told, mark_all, release, set_mission, change_mission, close_if_empty, saying_of, says, Said}
 
--- centre c says one message, and these words come out
-abbrev pub one_message : ℕ → ℕ → ℕ → TrackBody → List Word → LineState → Said
-one_message t c group body words v = record { sayings = saying_of t c group body v ∷ []; words = words }
-
--- one message is all that is said, and the state is this but for its count
+-- one message is all that is said to trains, and the state is this but for its count
 pub record Says (t c group : ℕ) (body : TrackBody) (words : List Word) (v changed : LineState) (said : Said) (new : LineState) : Type 0 where
-  pub said_is : said ≡ one_message t c group body words v
+  pub said_is : said ≡ record { sayings = saying_of t c group body v ∷ []; words = words }
   pub new_is : new ≡ says t c changed
 
--- nothing is said
-pub record SaysNothing (changed : LineState) (said : Said) (new : LineState) : Type 0 where
-  pub said_is : said ≡ nothing
+-- words alone
+pub record Tells (words : List Word) (changed : LineState) (said : Said) (new : LineState) : Type 0 where
+  pub said_is : said ≡ record { sayings = []; words = words }
   pub new_is : new ≡ changed
+
+-- nothing is said
+abbrev pub SaysNothing : LineState → Said → LineState → Type 0
+SaysNothing changed = Tells [] changed
 
 -- ## Sessions
 
@@ -36,10 +36,8 @@ without_proposal c m = if is_at c m.supervisor then record m { proposal = None }
 -- a session ends: a standing request to shorten is dropped, and a start of mission that waits here, whose sections are freed.
 -- No given section changes
 abbrev pub session_ends : Line → ℕ → ℕ → LineState → LineState
-session_ends line t c v = record (free (is_waiting_at line v t c) v) {
-  wait = put_pair v.wait t c None;
-  mission = put v.mission t (option_map (without_proposal c) (v.mission t));
-}
+session_ends line t c v =
+    change_mission t (without_proposal c) (record (free (is_waiting_at line v t c) v) { wait = put_pair v.wait t c None })
 
 abbrev pub with_phase : ℕ → ℕ → Phase → LineState → LineState
 with_phase t c phase v = record v { phase = put_pair v.phase t c phase }
@@ -127,8 +125,7 @@ is_cleared_of line v t place s = is_given_to t (v.mark s) && is_cleared line pla
 -- the place is set, and cleared sections stop being given
 abbrev pub reported : Line → ℕ → ℕ → Place → LineState → LineState
 reported line t c place v =
-    close_if_empty line t
-    (change_mission t (λ m. record m { place = place }) (release line c t (is_cleared_of line v t place) v))
+    close_if_empty line t (change_mission t (λ m. record m { place = place }) (release line c t (is_cleared_of line v t place) v))
 
 -- the words of sections that stop being given and are freed
 abbrev pub release_words : Line → ℕ → (ℕ → Bool) → LineState → List Word
@@ -179,15 +176,6 @@ track_of v t = option_map_or (λ m. m.place.track) (v.mission t) 0
 abbrev pub last_kept_of : LineState → ℕ → ℕ
 last_kept_of v t = option_map_or (λ m. option_map_or (λ p. p.last_kept) m.proposal 0) (v.mission t) 0
 
--- words alone
-pub record Tells (words : List Word) (changed : LineState) (said : Said) (new : LineState) : Type 0 where
-  pub said_is : said ≡ record { sayings = []; words = words }
-  pub new_is : new ≡ changed
-
-abbrev pub Reports : Line → ℕ → ℕ → Option Place → LineState → Said → LineState → Type 0
-Reports line t c None v said new = SaysNothing v said new
-Reports line t c (Some place) v said new = Tells (release_words line c (is_cleared_of line v t place) v) (reported line t c place v) said new
-
 -- a report, and at standstill what lies ahead stops being given too; then the mission is ended
 abbrev pub Ending : Line → ℕ → ℕ → Bool → Option Place → LineState → Said → LineState → Type 0
 Ending line t c is_still None v said new = SaysNothing (ended t v) said new
@@ -207,7 +195,8 @@ Own line v c m (TrainData position) said new =
     Says m.nid_engine c unknown_group (DataAcknowledged m.t_train) [] v (change_mission m.nid_engine (λ n. record n { has_data = true }) v) said new
 Own line v c m (Request position) said new = (place : Place) × (place_on line (track_of v m.nid_engine) position ≡ Some place) × Extends line v m.nid_engine c place said new
 Own line v c m (Report position) said new =
-    MatchBool (supervises v c m.nid_engine) (Reports line m.nid_engine c (place_on line (track_of v m.nid_engine) position) v said new) (SaysNothing v said new)
+    (place : Place) × (place_on line (track_of v m.nid_engine) position ≡ Some place)
+    × Tells (release_words line c (is_cleared_of line v m.nid_engine place) v) (reported line m.nid_engine c place v) said new
 Own line v c m (ShorteningGranted stamp position) said new =
     Tells (shortening_words line m.nid_engine c (place_on line (track_of v m.nid_engine) position) (last_kept_of v m.nid_engine) v)
     (shortened line m.nid_engine c (place_on line (track_of v m.nid_engine) position) (last_kept_of v m.nid_engine) (without_ask m.nid_engine v)) said new

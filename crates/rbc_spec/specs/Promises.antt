@@ -2,7 +2,8 @@
 use Rattle.std.specs.Prelude.{◌≡◌, ◌⊎◌, ◌≤◌, ◌<◌, ◌*◌, ◌+◌, ◌==◌, ℕ, List, [], ◌∷◌, ◌++◌, length, map, Bool, true, false, Some, None, is_some, Ok, if◌then◌else◌}
 use Rattle.std.specs.List.{Contains, flat_map, count_by}
 use Rattle.std.specs.Option.{option_map_or}
-use Rattle.rbc_spec.specs.SectionRuns.{SectionRun, within}
+use Rattle.rbc_spec.specs.Maps.{has}
+use Rattle.rbc_spec.specs.SectionRuns.{within}
 use Rattle.rbc_spec.specs.Line.{Line, is_home, start, end, registrar}
 use Rattle.rbc_spec.specs.Place.{Place, Position, covered, is_cleared, place_on}
 use Rattle.rbc_spec.specs.Message.{TrainMessage, Report, EndOfMission, ShorteningGranted}
@@ -11,17 +12,20 @@ use Rattle.rbc_spec.specs.Frame.{Frame, Body, GiveRight, ReturnRight, RouteInfo,
 use Rattle.rbc_spec.specs.Centre as centre
 use Rattle.rbc_spec.specs.Step as step
 use Rattle.rbc_spec.specs.World.{World, Event, Bytes, Unset, Answer, Answered}
-use Rattle.rbc_spec.specs.ReadOff.{IsOnTheWay, Carries, IsGiven, StandsFor, read_off, centres_of, frames_on_way, all_held}
+use Rattle.rbc_spec.specs.ReadOff.{StandsFor, read_off, centres_of, frames_on_way, handed_over, held, all_held}
 
 -- ## A world
+
+-- the section is in the train's hand
+abbrev pub is_given : Line → World → ℕ → ℕ → Bool
+is_given line w t s = has (λ h. within h.hand s) (held line w t)
 
 -- whatever state stands for the world
 pub record IsSafe (line : Line) (w : World) : Type 0 where
   pub one_supervisor : (t c d : ℕ) (m n : centre.Mission) → (w.at c).mission t ≡ Some m → (w.at d).mission t ≡ Some n → c ≡ d  -- at most one centre supervises a train
-  pub none_meanwhile : (t c a b : ℕ) (m : centre.Mission) (f : Frame) (heard : ℕ) (has_data is_ended : Bool) (place : Place) (hand : SectionRun)
-      → IsOnTheWay w a b f → Carries f t heard has_data is_ended place hand → (w.at c).mission t ≡ Some m → ⊥  -- none does while a Yield of the train is on the way
-  pub one_train : (t u s : ℕ) → IsGiven w t s → IsGiven w u s → t ≡ u  -- a section is in the hand of at most one train
-  pub in_use : (t s c : ℕ) → is_home line c s ≡ true → IsGiven w t s → centre.is_used_for t ((w.at c).book s) ≡ true  -- and then taken or out for that train at its home
+  pub none_meanwhile : (t c : ℕ) (m : centre.Mission) (f : Frame) → (w.at c).mission t ≡ Some m → Contains (frames_on_way line w) f → handed_over t f.body ≡ None  -- none does while a Yield of the train is on the way
+  pub one_train : (t u s : ℕ) → is_given line w t s ≡ true → is_given line w u s ≡ true → t ≡ u  -- a section is in the hand of at most one train
+  pub in_use : (t s c : ℕ) → is_home line c s ≡ true → is_given line w t s ≡ true → centre.is_used_for t ((w.at c).book s) ≡ true  -- and then taken or out for that train at its home
 
 -- ## One place
 
@@ -90,12 +94,12 @@ pub data MayFree (line : Line) (w : World) (t s : ℕ) : Event → Type 0 where
       → place.front ≤ 10 * end line p.last_kept → p.last_kept < s → MayFree line w t s (Bytes c (Ok m))
   stopped : (c : ℕ) (m : TrainMessage) (position : Position) (n : centre.Mission) (place : Place) (r : ℕ)
       → m.nid_engine ≡ t → step.silence line c (w.at c) m ≡ None → (w.at c).mission t ≡ Some n → m.body ≡ EndOfMission position → position.v_train ≡ 0
-      → place_on line n.place.track position ≡ Some place → IsGiven w t r → 10 * start line r < place.front → place.front ≤ 10 * start line s
+      → place_on line n.place.track position ≡ Some place → is_given line w t r ≡ true → 10 * start line r < place.front → place.front ≤ 10 * start line s
       → MayFree line w t s (Bytes c (Ok m))
 
 -- what an event did to sections in hands, and what it told the interlocking
 pub record KeepsPromises (line : Line) (w : World) (event : Event) (answer : Answer) (new : World) : Type 0 where
-  pub freed : (t s : ℕ) → IsGiven w t s → (IsGiven new t s → ⊥) → MayFree line w t s event  -- a section leaves a train's hand only by what the train said
+  pub freed : (t s : ℕ) → is_given line w t s ≡ true → is_given line new t s ≡ false → MayFree line w t s event  -- a section leaves a train's hand only by what the train said
   pub told : (o : Outcome) (s c : ℕ) → answer ≡ Answered o → is_home line c s ≡ true → Contains o.words (Told s)
       → ((new.at c).book s ≡ centre.Shut) × ((new.at c).wish s ≡ false)  -- a section that is told back is shut, and not wished back any more
   pub done : (o : Outcome) (s c : ℕ) → answer ≡ Answered o → event ≡ Unset c s → Contains o.words (Done s) → (new.at c).book s ≡ centre.Shut  -- a section that is taken back at once is shut

@@ -2,11 +2,12 @@
 -- section, and none frees a given one.
 use Rattle.std.specs.Prelude.{◌≡◌, ◌+◌, ◌-◌, ◌*◌, ◌≤◌, ◌<◌, ℕ, List, [], ◌∷◌, ◌++◌, max, Bool, true, false, ◌==◌, ◌&&◌, Some, None}
 use Rattle.std.specs.Option.{option_map_or}
+use Rattle.std.specs.List.{find, range_with_len}
 use Rattle.rbc_spec.specs.Maps.{put}
 use Rattle.rbc_spec.specs.Maps.{put_pair}
 use Rattle.rbc_spec.specs.SectionRuns.{SectionRun, within}
 use Rattle.rbc_spec.specs.Line.{Line, is_home, start, next_centre}
-use Rattle.rbc_spec.specs.Sections.{nid_rbc}
+use Rattle.rbc_spec.specs.Sections.{nid_rbc, section_count}
 use Rattle.rbc_spec.specs.Place.{Place, group_start, farthest}
 use Rattle.rbc_spec.specs.Message.{ShorteningRequest, Transition, EndSession, TrainAccepted, TrainRejected, unknown_group}
 use Rattle.rbc_spec.specs.Centre.{Up}
@@ -95,8 +96,7 @@ pub record Orders (line : Line) (v : LineState) (t c : ℕ) (said : Said) (new :
   pub supervises : mission.supervisor ≡ At c
   pub is_up : v.phase t c ≡ Up
   pub next_is : next_centre line c mission.place.track ≡ Some next
-  pub at_border : is_given_to t (v.mark border) && is_home line next border ≡ true
-  pub first_there : (s : ℕ) → s < border → (is_given_to t (v.mark s) && is_home line next s) ≡ false
+  pub at_border : find (λ s. is_given_to t (v.mark s) && is_home line next s) (range_with_len 0 (section_count line)) ≡ Some border
   pub ahead : group_start line mission.place ≤ start line border
   pub within_reach : start line border ≤ group_start line mission.place + farthest
   pub says : Says t c mission.place.group (Transition (start line border - group_start line mission.place) line.nid_c (nid_rbc line next)) [] v v said new

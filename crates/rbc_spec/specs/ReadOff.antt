@@ -1,12 +1,11 @@
 -- When a state of the one line centre stands for a world of centres.
-use Rattle.std.specs.Prelude.{◌≡◌, ◌⊎◌, ◌≤◌, ℕ, List, ◌++◌, ◌==◌, length, map, slice_get, Bool, true, Option, Some, None, option_map, if◌then◌else◌}
-use Rattle.std.specs.List.{Contains, filter_map, find, flat_map, range_with_len}
+use Rattle.std.specs.Prelude.{◌≡◌, ◌≤◌, ℕ, List, ◌++◌, ◌==◌, length, map, slice_get, true, false, Option, Some, None, option_map, if◌then◌else◌}
+use Rattle.std.specs.List.{filter_map, find, flat_map, range_with_len}
 use Rattle.std.specs.Option.{option_map_or}
 use Rattle.rbc_spec.specs.Maps.{has}
 use Rattle.rbc_spec.specs.SectionRuns.{SectionRun, within}
-use Rattle.rbc_spec.specs.Line.{Line, is_home, section}
-use Rattle.rbc_spec.specs.Place.{Place}
-use Rattle.rbc_spec.specs.Frame.{Frame, Body, Yield, yielded_place, carried_place}
+use Rattle.rbc_spec.specs.Line.{Line, is_centre, is_home, section}
+use Rattle.rbc_spec.specs.Frame.{Frame, Body, Yield, carried_place}
 use Rattle.rbc_spec.specs.Centre as centre
 use Rattle.rbc_spec.specs.LineCentre.{LineState, Mark, Shut, Open, Kept, Given, LineMission, At, Parted, IsHand, line_beginning}
 use Rattle.rbc_spec.specs.World.{World, Event, Answer, way}
@@ -14,37 +13,14 @@ use Rattle.rbc_spec.specs.Run as run
 
 -- ## Who has a train's mission
 
--- a centre has it, or a Yield on the way
-pub record HasMission (w : World) (t c : ℕ) (m : centre.Mission) : Type 0 where
-  pub at_centre : (w.at c).mission t ≡ Some m
-
-pub record IsOnTheWay (w : World) (a b : ℕ) (f : Frame) : Type 0 where
-  pub on_way : Contains (way w a b) f
-
--- what a Yield of the train carries
-pub record Carries (f : Frame) (t heard : ℕ) (has_data is_ended : Bool) (place : Place) (hand : SectionRun) : Type 0 where
-  pub number : ℕ
-  pub is_yield : f.body ≡ Yield number t heard has_data is_ended (yielded_place place) hand
-
--- a mission that a centre has, as the line sees it
-abbrev pub seen : ℕ → centre.Mission → LineMission
-seen c m = record { place = m.place; has_data = m.has_data; is_ended = m.is_ended; proposal = m.proposal; supervisor = At c }
-
--- the hand that a centre or a Yield on the way has for the train
-pub data IsHandOf (w : World) (t : ℕ) (hand : SectionRun) : Type 0 where
-  at_centre : (c : ℕ) (m : centre.Mission) → HasMission w t c m → m.hand ≡ hand → IsHandOf w t hand
-  on_the_way : (a b : ℕ) (f : Frame) (heard : ℕ) (has_data is_ended : Bool) (place : Place) → IsOnTheWay w a b f → Carries f t heard has_data is_ended place hand → IsHandOf w t hand
-
--- the train's mission is found at a centre, or in a Yield on the way
-pub data IsMissionOf (w : World) (t : ℕ) : LineMission → Type 0 where
-  supervised : (c : ℕ) (m : centre.Mission) → HasMission w t c m → IsMissionOf w t (seen c m)
-  parted : (a b : ℕ) (f : Frame) (heard : ℕ) (has_data is_ended : Bool) (place : Place) (hand : SectionRun) → IsOnTheWay w a b f → Carries f t heard has_data is_ended place hand
-      → IsMissionOf w t (record { place = place; has_data = has_data; is_ended = is_ended; proposal = None; supervisor = Parted heard })
-
 -- a mission, and its hand
 pub record Held : Type 0 where
   pub mission : LineMission
   pub hand : SectionRun
+
+-- a mission that a centre has, as the line sees it
+abbrev pub seen : ℕ → centre.Mission → LineMission
+seen c m = record { place = m.place; has_data = m.has_data; is_ended = m.is_ended; proposal = m.proposal; supervisor = At c }
 
 abbrev pub held_at : World → ℕ → ℕ → Option Held
 held_at w t c = option_map (λ m. record { mission = seen c m; hand = m.hand }) ((w.at c).mission t)
@@ -69,43 +45,6 @@ frames_on_way line w = flat_map (λ a. flat_map (λ b. way w a b) (centres_of li
 abbrev pub all_held : Line → World → ℕ → List Held
 all_held line w t = filter_map (held_at w t) (centres_of line) ++ filter_map (λ f. handed_over t f.body) (frames_on_way line w)
 
--- ## Marks
-
--- the section is in a hand of the train
-pub record IsGiven (w : World) (t s : ℕ) : Type 0 where
-  pub hand : SectionRun
-  pub of_train : IsHandOf w t hand
-  pub in_hand : within hand s ≡ true
-
--- The mark of section s with home c: given exactly where it is in a hand, and then taken or out for that train at home; else kept for the
--- train that it is taken or out for; else as the book has it
-pub record HasMark (w : World) (s c : ℕ) (mark : Mark) : Type 0 where
-  pub given : (t : ℕ) → IsGiven w t s → (mark ≡ Given t) × (centre.is_used_for t ((w.at c).book s) ≡ true)
-  pub only_given : (t : ℕ) → mark ≡ Given t → IsGiven w t s
-  pub kept : (t : ℕ) → centre.is_used_for t ((w.at c).book s) ≡ true → (mark ≡ Given t) ⊎ (mark ≡ Kept t)
-  pub opened : (w.at c).book s ≡ centre.Open → mark ≡ Open
-  pub shut : (w.at c).book s ≡ centre.Shut → mark ≡ Shut
-
--- ## The read-off
-
--- No V stands for a world that has a section in two hands, or two missions of one train: a centre's and a Yield's, or two Yields. A hand is
--- all that is given to its train
-pub record StandsFor (line : Line) (w : World) (v : LineState) : Type 0 where
-  pub phase : (t c : ℕ) → v.phase t c ≡ (w.at c).phase t
-  pub heard : (t c : ℕ) → v.heard t c ≡ (w.at c).heard t
-  pub said : (t c : ℕ) → v.said t c ≡ (w.at c).said t
-  pub wait : (t c : ℕ) → v.wait t c ≡ (w.at c).wait t
-  pub wish : (s c : ℕ) → is_home line c s ≡ true → v.wish s ≡ (w.at c).wish s
-  pub mark : (s c : ℕ) → is_home line c s ≡ true → HasMark w s c (v.mark s)
-  pub mission : (t : ℕ) (m : LineMission) → v.mission t ≡ Some m → IsMissionOf w t m
-  pub each_mission : (t : ℕ) (m : LineMission) → IsMissionOf w t m → v.mission t ≡ Some m
-  pub one_hand : (t u s : ℕ) → IsGiven w t s → IsGiven w u s → t ≡ u
-  pub one_seat : (t : ℕ) → length (all_held line w t) ≤ 1
-  pub hands : (t : ℕ) (hand : SectionRun) → IsHandOf w t hand → IsHand v t hand
-
--- ## The read-off as a function
--- For a world that some state stands for, it is that state on the line's sections, trains and centres.
-
 abbrev pub held : Line → World → ℕ → Option Held
 held line w t = slice_get (all_held line w t) 0
 
@@ -120,6 +59,23 @@ mark_of None centre.Shut = Shut
 mark_of None centre.Open = Open
 mark_of None (centre.Taken t) = Kept t
 mark_of None (centre.Out t) = Kept t
+
+-- ## The read-off
+
+-- No V stands for a world that has a section in two hands, two missions of one train, or one elsewhere than at the line's centres. A hand is all that is
+-- given to its train
+pub record StandsFor (line : Line) (w : World) (v : LineState) : Type 0 where
+  pub phase : (t c : ℕ) → v.phase t c ≡ (w.at c).phase t
+  pub heard : (t c : ℕ) → v.heard t c ≡ (w.at c).heard t
+  pub said : (t c : ℕ) → v.said t c ≡ (w.at c).said t
+  pub wait : (t c : ℕ) → v.wait t c ≡ (w.at c).wait t
+  pub wish : (s c : ℕ) → is_home line c s ≡ true → v.wish s ≡ (w.at c).wish s
+  pub mark : (s c : ℕ) → is_home line c s ≡ true → v.mark s ≡ mark_of (holder line w s) ((w.at c).book s)
+  pub in_use : (s c t : ℕ) → is_home line c s ≡ true → holder line w s ≡ Some t → centre.is_used_for t ((w.at c).book s) ≡ true
+  pub mission : (t : ℕ) → v.mission t ≡ option_map (λ h. h.mission) (held line w t)
+  pub none_else : (t c : ℕ) → is_centre line c ≡ false → (w.at c).mission t ≡ None
+  pub one_seat : (t : ℕ) → length (all_held line w t) ≤ 1
+  pub hands : (t : ℕ) (h : Held) → held line w t ≡ Some h → IsHand v t h.hand
 
 -- the state that is read off a world: a number of no section is shut
 unfoldable pub read_off : Line → World → LineState

@@ -70,22 +70,10 @@ may_listen line c body reason = false
 
 -- ## Pieces
 
--- what is said, or why nothing is
-pub record Spoken : Type 0 where
-  pub said : Said
-  pub silence : Option Reason
-
-abbrev pub spoken_in : Outcome → Spoken
-spoken_in o = record { said = record { sayings = o.sayings; words = o.words }; silence = o.silence }
-
--- an own step, in which the message is heard
-pub record Hears (line : Line) (v : LineState) (c : ℕ) (m : TrainMessage) (said : Said) (new : LineState) : Type 0 where
-  pub own : Own line (hears c m v) c m m.body said new
-
 -- the own step of a message: silent for its reason, and then nothing changes, or heard
 pub data Steps (line : Line) (v : LineState) (c : ℕ) (m : TrainMessage) (said : Said) (new : LineState) (why : Option Reason) : Type 0 where
   silent : (reason : Reason) → silence line v c m ≡ Some reason → why ≡ Some reason → said ≡ nothing → new ≡ v → Steps line v c m said new why
-  heard : silence line v c m ≡ None → why ≡ None → Hears line v c m said new → Steps line v c m said new why
+  heard : silence line v c m ≡ None → why ≡ None → Own line (hears c m v) c m m.body said new → Steps line v c m said new why
   listened : may_listen line c m.body (silence line v c m) ≡ true → why ≡ None → said ≡ nothing → new ≡ hears c m v → Steps line v c m said new why
 
 -- the own step of an event that has one
@@ -105,15 +93,14 @@ TellsInOrder words = (i j s e : ℕ) → i < j → slice_get words i ≡ Some (T
 pub record Piece (line : Line) (v : LineState) (event : Event) (outcome : Outcome) (new : LineState) : Type 0 where
   pub own : Said
   pub mid : LineState
-  pub why : Option Reason
   pub quiets : List Quiet
   pub later : Said
-  pub own_step : OwnStep line v event own mid why
+  pub own_step : OwnStep line v event own mid outcome.silence
   pub quiet_steps : TakesAll line mid quiets later new
   pub own_centre : list_all (is_of_centre line (centre_of event)) quiets ≡ true
-  pub none_if_silent : (why ≡ None) ⊎ (quiets ≡ [])
+  pub none_if_silent : (outcome.silence ≡ None) ⊎ (quiets ≡ [])
   pub in_order : TellsInOrder outcome.words
-  pub says : spoken_in outcome ≡ record { said = both own later; silence = why }
+  pub says : record { sayings = outcome.sayings; words = outcome.words } ≡ both own later
 
 -- From v the one line centre may meet the event with this answer, and go on from new. Bytes that spell no message, a centre not
 -- of the line, and a frame never sent change nothing

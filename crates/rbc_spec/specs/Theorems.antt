@@ -69,7 +69,7 @@ ForcedOwnStep line v event said new why = Unit {0}
 -- a piece without free choice
 pub record ForcedPiece (line : Line) (v : LineState) (event : Event) (outcome : Outcome) (new : LineState) : Type 0 where
   pub piece : Piece line v event outcome new
-  pub own_step : ForcedOwnStep line v event piece.own piece.mid piece.why
+  pub own_step : ForcedOwnStep line v event piece.own piece.mid outcome.silence
   pub quiet_steps : ForcedQuietSteps line piece.mid event piece.quiets
 
 abbrev pub GoesForced : Line → LineState → Event → Answer → LineState → Type 0

@@ -19,7 +19,7 @@ use Rattle.rbc_spec.specs.Step.{Refusal}
 use Rattle.rbc_spec.specs.Theorems.{IsOneCentreLine, IsStartAccepted, ForcedMessageStep, MayPropose, Asks, ForcedQuietSteps, ForcedOwnStep, GoesForced, ForcedRun}
 use Rattle.rbc_spec.specs.World.{World, Event, Bytes, Set, Unset, Delivery, Answer, new_world, world_step, world_run}
 use Rattle.test_scenes.specs.Turns.{Choice, Plainly, Rejecting, Listening, Extending, Unanswered, Turn, allowed, accepting, rejecting, restart, start_here, start_new, set_turn, unset_turn, start_at, own_turn, Step, message_step, own_step, quiet_turns}
-use Rattle.test_scenes.specs.Moves.{Move, Shown, Played, played, is_piece, play_by, play}
+use Rattle.test_scenes.specs.Moves.{Spoken, Move, Shown, Played, played, is_piece, play_by, play}
 use Rattle.test_scenes.specs.Forced.{played_on, is_barred, is_unasked, is_forced, is_plain, leaves_no_choice, leave_no_choice}
 use Rattle.test_scenes.specs.Pieces.{sheet, event_of, IsMetByForcedRun, events_of, shown_by, seen_after, centres_show, seen_of_line, line_shows}
 use Rattle.test_scenes.proofs.Valid.{Valid, valid_allowed, valid_some, valid_when, valid_then}
@@ -143,7 +143,7 @@ piece_forced line v event choice quiets bound plain only =
     valid_allowed (IsForcedPiece line v event) (is_piece line event own quiets later) (played own later) (λ so. record {
       meets = at_speaking (λ answer. GoesForced line v event answer later.state) _ (λ outcome says. record {
         piece = piece_with line v event own quiets later outcome first.0 others.0 says so;
-        own_step = forced;
+        own_step = subst (ForcedOwnStep line v event own.turn.said own.turn.state) (sym (ap (λ (x : Spoken). x.silence) says)) forced;
         quiet_steps = follows line own.turn.state event quiets later.said later.state others.0 here;
       });
       bound = others.1;

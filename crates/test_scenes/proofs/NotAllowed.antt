@@ -11,7 +11,7 @@ use Rattle.rbc_spec.specs.Acts.{◌>>◌}
 use Rattle.rbc_spec.specs.Step.{step}
 use Rattle.rbc_spec.specs.LineCentre.{LineState, line_beginning}
 use Rattle.rbc_spec.specs.Quiet.{Keep, is_of_centre}
-use Rattle.rbc_spec.specs.Run.{Piece, Spoken}
+use Rattle.rbc_spec.specs.Run.{Piece}
 use Rattle.rbc_spec.specs.World.{Event, Set, new_world, world_step, world_run}
 use Rattle.rbc_spec.specs.ReadOff.{StandsFor}
 use Rattle.test_scenes.specs.Scene.{line}
@@ -52,7 +52,7 @@ none_elsewhere v new outcome piece is = true≢false (sym piece.own_centre ∙ a
 pub none_behind_silence : (v new : LineState) (event : Event) (outcome : Outcome) (why : Reason) (piece : Piece line v event outcome new)
     → outcome.silence ≡ Some why → piece.quiets ≡ []
 none_behind_silence v new event outcome why piece is = elim (piece.none_if_silent) [
-  | inl none ↦ absurd (none-some why (sym none ∙ (sym (ap (λ (x : Spoken). x.silence) piece.says) ∙ is)))
+  | inl none ↦ absurd (none-some why (sym none ∙ is))
   | inr none ↦ none
 ]
 

@@ -1,6 +1,7 @@
 -- What comes of an event in Moves is an own step of the one line centre.
 use Rattle.std.proofs.Common.{◌≡◌, inl, inr, ℕ, ◌+◌, ◌-◌, ◌==◌, ◌≤◌, ◌<◌, true, false, ◌&&◌, ◌||◌, not, nat_le, nat_lt, Option, Some, None, Ok, Err, refl, sym, ap, ◌∙◌, arith, ⊎_elim, Bool}
 use Rattle.std.proofs.lemmas.Bool.{and_parts, leb-true, ltb-true, cases_Bool, cases_lt, eqb-true, or_cases, not-true}
+use Rattle.std.specs.Option.{option_map_or}
 use Rattle.rbc_spec.specs.SectionRuns.{SectionRun, within, behind, all_of}
 use Rattle.rbc_spec.specs.Line.{Line, is_centre, is_home, end}
 use Rattle.rbc_spec.specs.Sections.{section_count, is_on}
@@ -9,12 +10,12 @@ use Rattle.rbc_spec.specs.Message.{TrainMessage, TrainBody, TrainData, Request, 
 use Rattle.rbc_spec.specs.Outcome.{Reason}
 use Rattle.rbc_spec.specs.Centre.{is_registrar_of}
 use Rattle.rbc_spec.specs.LineCentre.{LineState, Open, Shut, is_given_to, is_mark_open, IsHand, supervises, is_waiting_at, hears, Said}
-use Rattle.rbc_spec.specs.OwnSteps.{Own, Starts, StartsHere, StartsNew, Restarts, Extends, Ends, Reports, Ending, Sets, Unsets, may_start, begins, track_of, is_unused_mark, set_mark, wished_back, without_ask, last_kept_of, may_be_given, reported}
+use Rattle.rbc_spec.specs.OwnSteps.{Own, Starts, StartsHere, StartsNew, Restarts, Extends, Ends, Ending, Sets, Unsets, may_start, begins, track_of, is_unused_mark, set_mark, wished_back, without_ask, last_kept_of, may_be_given, reported, Tells, release_words, is_cleared_of}
 use Rattle.rbc_spec.specs.Run.{OwnStep, Steps, silence, may_listen}
 use Rattle.rbc_spec.specs.World.{Event, Bytes, Set, Unset, Delivery}
 use Rattle.law_base.proofs.Lists.{none_is, each_of}
 use Rattle.test_scenes.specs.Turns.{Choice, Rejecting, Listening, Extending, Turn, hand_of, is_hand, is_end, extend, start_here, restart, start_new, start_at, request_at, report_at, end_at, own_turn, set_turn, unset_turn, Step, message_step, own_step}
-use Rattle.test_scenes.proofs.Valid.{Valid, valid_allowed, valid_then, valid_map, valid_when, valid_if, same}
+use Rattle.test_scenes.proofs.Valid.{Valid, valid_allowed, valid_then, valid_map, valid_when, valid_if, valid_some, same}
 use Rattle.test_scenes.proofs.Bounds.{IsWithinLine, on_within, covered_within, within_free, within_kept, within_given, within_put, within_one, within_shortened, within_reported, within_stopped}
 
 -- the relation holds of what a turn says and leaves, where only sections are given
@@ -134,10 +135,15 @@ start_is line t c (Some place) v choice bound =
 
 -- ## The other messages
 
-report_is : (line : Line) (t c : ℕ) (place : Option Place) (v : LineState) → IsWithinLine line v.mark
-    → Does line (Reports line t c place v) (report_at line t c place v)
-report_is line t c None v bound = (record { said_is = refl; new_is = refl }, bound)
-report_is line t c (Some place) v bound = (record { said_is = refl; new_is = refl }, within_reported line t c place v bound)
+-- a report of a place on the mission's track
+abbrev Reported : Line → (t c : ℕ) → Position → LineState → Said → LineState → Type 0
+Reported line t c position v said new =
+    (place : Place) × (place_on line (track_of v t) position ≡ Some place) × Tells (release_words line c (is_cleared_of line v t place) v) (reported line t c place v) said new
+
+report_is : (line : Line) (t c : ℕ) (position : Position) (v : LineState) → IsWithinLine line v.mark
+    → Valid (Does line (Reported line t c position v)) (option_map_or (λ place. Some (report_at line t c place v)) (place_on line (track_of v t) position) None)
+report_is line t c position v bound = valid_some (Does line (Reported line t c position v)) (λ place. Some (report_at line t c place v)) (place_on line (track_of v t) position)
+    (λ place is. ((place, is, record { said_is = refl; new_is = refl }), within_reported line t c place v bound))
 
 end_of_mission_is : (line : Line) (t c : ℕ) (is_still : Bool) (place : Option Place) (v : LineState) → IsWithinLine line v.mark
     → Does line (Ending line t c is_still place v) (end_at line t c is_still place v)
@@ -158,8 +164,7 @@ own_is line c m (TrainData position) v choice bound = (record { said_is = refl; 
 own_is line c m (Request position) v choice bound =
     request_is line v m.nid_engine c position choice (place_on line (track_of v m.nid_engine) position) refl bound
 own_is line c m (Report position) v choice bound =
-    valid_if _ _ (λ r. IsWithinLine line r.state.mark) (supervises v c m.nid_engine) _ _
-    (report_is line m.nid_engine c (place_on line (track_of v m.nid_engine) position) v bound) (record { said_is = refl; new_is = refl }, bound)
+    report_is line m.nid_engine c position v bound
 own_is line c m (ShorteningGranted stamp position) v choice bound = (
   record { said_is = refl; new_is = refl },
   within_shortened line m.nid_engine c (place_on line (track_of v m.nid_engine) position) (last_kept_of v m.nid_engine) (without_ask m.nid_engine v) bound,
@@ -196,7 +201,7 @@ message_is line c m v Listening why is bound = valid_allowed (IsMessageStep line
 message_is line c m v choice (Some reason) is bound = (Steps.silent reason is refl refl refl, bound)
 message_is line c m v choice None is bound =
     valid_then (Does line (Own line (hears c m v) c m m.body)) (IsMessageStep line c m v) _ (own_turn line c m m.body (hears c m v) choice)
-    (own_is line c m m.body (hears c m v) choice bound) (λ turn does. (Steps.heard is refl (record { own = does.0 }), does.1))
+    (own_is line c m m.body (hears c m v) choice bound) (λ turn does. (Steps.heard is refl does.0, does.1))
 
 pub own_step_is : (line : Line) (v : LineState) (event : Event) (choice : Choice) → IsWithinLine line v.mark → Valid (IsStep line v event) (own_step line v event choice)
 own_step_is line v (Bytes c (Ok m)) choice bound = valid_when (IsStep line v (Bytes c (Ok m))) (is_centre line c) _ (λ so.

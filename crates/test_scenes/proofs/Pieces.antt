@@ -5,18 +5,17 @@ use Rattle.std.specs.List.{filter_map, list_all}
 use Rattle.std.proofs.lemmas.Bool.{and_parts, or_cases, not-true}
 use Rattle.std.proofs.lemmas.Option.{none-some, same_Some}
 use Rattle.rbc_spec.specs.Line.{Line, is_centre}
-use Rattle.rbc_spec.specs.Outcome.{Outcome}
+use Rattle.rbc_spec.specs.Outcome.{Outcome, Reason}
 use Rattle.rbc_spec.specs.LineCentre.{LineState, line_beginning}
 use Rattle.rbc_spec.specs.Quiet.{Quiet, is_of_centre, TakesAll, both}
 use Rattle.rbc_spec.specs.Run as run
-use Rattle.rbc_spec.specs.Run.{Spoken, spoken_in}
 use Rattle.rbc_spec.specs.ReadOff.{read_off}
 use Rattle.rbc_spec.specs.Step.{Refusal}
 use Rattle.rbc_spec.specs.World.{World, Event, Bytes, Set, Unset, Delivery, Answer, Answered, NoCentre, NotSent, Fault, centre_of, new_world, world_step, world_run}
 use Rattle.law_base.proofs.Lists.{none_is}
 use Rattle.test_scenes.specs.Scene.{Scene}
 use Rattle.test_scenes.specs.Turns.{Choice, Plainly, Rejecting, Listening, Extending, Unanswered, Turn, Step, allowed, quiet_turns, own_step}
-use Rattle.test_scenes.specs.Moves.{Move, Shown, Speaks, Nowhere, NeverSent, BadBytes, Played, played, tells_in_order, are_none, is_piece, without_piece, play_by, play}
+use Rattle.test_scenes.specs.Moves.{Spoken, spoken_in, Move, Shown, Speaks, Nowhere, NeverSent, BadBytes, Played, played, tells_in_order, are_none, is_piece, without_piece, play_by, play}
 use Rattle.test_scenes.specs.Pieces.{Sheet, sheet, GoesWith, IsMetByRun, events_of, event_of, Seen, Shows, NotAllowed, shown_by, seen_after, centres_show, seen_of_line, line_shows}
 use Rattle.test_scenes.proofs.Valid.{Valid, valid_allowed, valid_then}
 use Rattle.test_scenes.proofs.InOrder.{in_order}
@@ -108,20 +107,20 @@ abbrev pub piece_with : (line : Line) (v : LineState) (event : Event) (own : Ste
     → spoken_in outcome ≡ record { said = both own.turn.said later.said; silence = own.why } → is_piece line event own quiets later ≡ true
     → run.Piece line v event outcome later.state
 piece_with line v event own quiets later outcome own_step quiet_steps says so =
+    let silent : outcome.silence ≡ own.why = ap (λ (x : Spoken). x.silence) says in
     let tests = and_parts (list_all (is_of_centre line (centre_of event)) quiets) _ so in
     let others = and_parts (is_none own.why || are_none quiets) (tells_in_order (both own.turn.said later.said).words) tests.1 in
     record {
       own = own.turn.said;
       mid = own.turn.state;
-      why = own.why;
       quiets = quiets;
       later = later.said;
-      own_step = own_step;
+      own_step = subst (run.OwnStep line v event own.turn.said own.turn.state) (sym silent) own_step;
       quiet_steps = quiet_steps;
       own_centre = tests.0;
-      none_if_silent = none_or own quiets others.0;
+      none_if_silent = subst (λ (why : Option Reason). (why ≡ None) ⊎ (quiets ≡ [])) (sym silent) (none_or own quiets others.0);
       in_order = subst run.TellsInOrder (sym (ap (λ (x : Spoken). x.said.words) says)) (in_order (both own.turn.said later.said).words others.1);
-      says = says;
+      says = ap (λ (x : Spoken). x.said) says;
     }
 
 -- an own step and quiet steps are a piece

@@ -122,12 +122,10 @@ quiet_is line v (Propose t c s) bound = valid_some (IsQuiet line v (Propose t c 
     )))
 quiet_is line v (Order t c) bound = valid_some (IsQuiet line v (Order t c)) _ (v.mission t) (λ m of_train.
     valid_some (IsQuiet line v (Order t c)) _ (next_centre line c m.place.track) (λ next next_is.
-    valid_some (IsQuiet line v (Order t c)) _ (find (is_over_border line v t next) (range_with_len 0 (section_count line))) (λ border _.
+    valid_some (IsQuiet line v (Order t c)) _ (find (is_over_border line v t next) (range_with_len 0 (section_count line))) (λ border is_border.
     valid_allowed (IsQuiet line v (Order t c)) _ _ (λ so.
     let halves = and_parts _ _ so in
-    let parts = and_parts _ _ halves.0 in
-    let here = and_parts _ _ parts.0 in
-    let there = and_parts _ _ parts.1 in
+    let here = and_parts _ _ halves.0 in
     let room = and_parts _ _ halves.1 in (
       record {
         mission = m;
@@ -137,8 +135,7 @@ quiet_is line v (Order t c) bound = valid_some (IsQuiet line v (Order t c)) _ (v
         supervises = at_is c m.supervisor here.0;
         is_up = up_is (v.phase t c) here.1;
         next_is = next_is;
-        at_border = there.0;
-        first_there = λ s less. not-true _ (each_of _ 0 border there.1 s (omega arith) (omega arith));
+        at_border = is_border;
         ahead = leb-true (group_start line m.place) (start line border) room.0;
         within_reach = leb-true (start line border) (group_start line m.place + 32767) room.1;
         says = record { said_is = refl; new_is = refl };

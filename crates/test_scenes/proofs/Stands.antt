@@ -1,20 +1,17 @@
 -- The state of the one line centre that stands for the world behind a start of mission.
-use Rattle.std.proofs.Common.{◌≡◌, ◌≢◌, inl, ℕ, zero, suc, ◌<◌, ◌≤◌, ◌==◌, nat_le, nat_lt, true, false, true≢false, List, [], ◌∷◌, length, drop, Some, None, pos, refl, sym, ap, ◌∙◌, subst, ne_eqb, eq-eqb, ⊎_elim, arith}
-use Rattle.std.specs.List.{Contains}
-use Rattle.std.proofs.Math.Seq.{drop-nil}
+use Rattle.std.proofs.Common.{◌≡◌, ◌≢◌, ℕ, zero, suc, ◌<◌, ◌≤◌, ◌==◌, nat_le, nat_lt, true, false, true≢false, length, Some, None, option_map, pos, refl, sym, ◌∙◌, subst, ne_eqb, eq-eqb, ⊎_elim, arith}
 use Rattle.std.proofs.lemmas.Bool.{cases_eq, cases_Bool, eqb-true, and_parts, leb-true, ltb-true}
 use Rattle.std.proofs.lemmas.Option.{none-some, same_Some}
 use Rattle.rbc_spec.specs.SectionRuns.{SectionRun, no_run, within, longest}
-use Rattle.rbc_spec.specs.Line.{is_home, start as line_start, end}
+use Rattle.rbc_spec.specs.Line.{is_centre, is_home, start as line_start, end}
 use Rattle.rbc_spec.specs.Centre as centre
 use Rattle.rbc_spec.specs.Place.{extent}
 use Rattle.rbc_spec.specs.Centre.{beginning}
 use Rattle.rbc_spec.specs.Acts.{◌>>◌}
 use Rattle.rbc_spec.specs.Step.{step}
 use Rattle.rbc_spec.specs.World.{World, new_world, world_step}
-use Rattle.rbc_spec.specs.LineCentre.{LineState, Shut, Given, LineMission, is_given_to, IsHand, line_beginning}
-use Rattle.rbc_spec.specs.ReadOff.{IsOnTheWay, IsHandOf, IsMissionOf, IsGiven, HasMark, StandsFor, seen, all_held, read_off}
-use Rattle.rbc_spec.specs.Frame.{Frame}
+use Rattle.rbc_spec.specs.LineCentre.{LineState, is_given_to, IsHand, line_beginning}
+use Rattle.rbc_spec.specs.ReadOff.{StandsFor, Held, seen, held, holder, mark_of, all_held, read_off}
 use Rattle.test_scenes.specs.Turns.{quiet_turns}
 use Rattle.test_scenes.specs.Moves.{play}
 use Rattle.test_scenes.specs.Scene.{line, group_1}
@@ -95,112 +92,26 @@ its_mission = record {
   handing = None;
 }
 
--- the centre, the train and the mission are these
-record IsIts (c t : ℕ) (m : centre.Mission) : Type 0 where
-  at_a : c ≡ 0
-  train_1 : t ≡ 1
-  mission : m ≡ its_mission
-
-only_mission : (c t : ℕ) (m : centre.Mission) → (w.at c).mission t ≡ Some m → IsIts c t m
+mission_is : (t : ℕ) → v.mission t ≡ option_map (λ (h : Held). h.mission) (held line w t)
 unfolding its_mission within longest line_start end extent beginning ◌>>◌ step new_world world_step line_beginning quiet_turns play world_after state_after
-only_mission c t m = at_or (λ d. (w.at d).mission t ≡ Some m → IsIts d t m) 0 c
-    (at_or (λ u. (w.at 0).mission u ≡ Some m → IsIts 0 u m) 1 t
-    (λ so. record { at_a = refl; train_1 = refl; mission = sym (same_Some its_mission m so) }) (λ apart. rw apart (λ so. absurd (none-some m so))))
-    (λ far. rw far (λ so. absurd (none-some m so)))
+mission_is t = at_or (λ u. v.mission u ≡ option_map (λ (h : Held). h.mission) (held line w u)) 1 t refl (λ apart. rw apart refl)
 
-nothing_sent : (a b : ℕ) → (w.at a).sent b ≡ []
-unfolding within longest line_start end extent beginning ◌>>◌ step new_world world_step line_beginning quiet_turns play world_after state_after
-nothing_sent a b = at_or (λ d. (w.at d).sent b ≡ []) 0 a refl (λ far. rw far refl)
-
-none_on_way : (a b : ℕ) (f : Frame) → IsOnTheWay w a b f → ⊥
-none_on_way a b f way =
-    let empty : drop ((w.at b).taken a) ((w.at a).sent b) ≡ [] = ap (drop ((w.at b).taken a)) (nothing_sent a b) ∙ drop-nil ((w.at b).taken a) in
-    none_in (drop ((w.at b).taken a) ((w.at a).sent b)) empty way.on_way
-  where
-    none_in : (fs : List Frame) → fs ≡ [] → Contains fs f → ⊥
-    none_in [] is (k, small, found) = omega (arith, small)
-    none_in (g ∷ gs) is found = zero_apart _ (ap length is)
-      where
-        zero_apart : (n : ℕ) → suc n ≡ 0 → ⊥
-        zero_apart n is = omega (arith, is)
-
--- ## Hands
-
-record IsItsHand (t : ℕ) (hand : SectionRun) : Type 0 where
-  train_1 : t ≡ 1
-  hand_is : hand ≡ record { first = 1; count = 1 }
-
-only_hand : (t : ℕ) (hand : SectionRun) → IsHandOf w t hand → IsItsHand t hand
-unfolding its_mission
-only_hand t hand (IsHandOf.at_centre c m has is) =
-    let its = only_mission c t m has.at_centre in
-    record { train_1 = its.train_1; hand_is = sym is ∙ ap (λ n. n.hand) its.mission }
-only_hand t hand (IsHandOf.on_the_way a b f heard has_data is_ended place way carries) = absurd (none_on_way a b f way)
-
-record IsItsSection (t s : ℕ) : Type 0 where
-  train_1 : t ≡ 1
-  section_1 : s ≡ 1
-
-only_given : (t s : ℕ) → IsGiven w t s → IsItsSection t s
-unfolding within
-only_given t s given =
-    let its = only_hand t given.hand given.of_train in
-    let inside = subst (λ r. within r s ≡ true) its.hand_is given.in_hand in
-    let ends = and_parts (nat_le 1 s) (nat_lt s 2) inside in
-    record { train_1 = its.train_1; section_1 = omega (arith, leb-true 1 s ends.0, ltb-true s 2 ends.1) }
-
-its_hand : IsHandOf w 1 (record { first = 1; count = 1 })
+none_else : (t c : ℕ) → is_centre line c ≡ false → (w.at c).mission t ≡ None
 unfolding its_mission within longest line_start end extent beginning ◌>>◌ step new_world world_step line_beginning quiet_turns play world_after state_after
-its_hand = IsHandOf.at_centre 0 its_mission (record { at_centre = refl }) refl
+none_else t c = at_or (λ d. is_centre line d ≡ false → (w.at d).mission t ≡ None) 0 c (λ no. absurd (true≢false no)) (λ far. rw far (λ no. refl))
 
 -- ## Marks
 
--- a section with no train
-unused : (s c : ℕ) → (s ≡ 1 → ⊥) → (w.at c).book s ≡ centre.Shut → HasMark w s c Shut
-unused s c apart shut = record {
-  given = λ t given. absurd (apart (only_given t s given).section_1);
-  only_given = λ t is. absurd (true≢false (sym (ap (is_given_to t) is ∙ eq-eqb t t refl)));
-  kept = λ t used. absurd (true≢false (sym used ∙ ap (centre.is_used_for t) shut));
-  opened = λ is. absurd (true≢false (sym (ap centre.is_open is) ∙ ap centre.is_open shut));
-  shut = λ _. refl;
-}
-
--- section 1
-in_use : HasMark w 1 0 (Given 1)
-unfolding within longest line_start end extent beginning ◌>>◌ step new_world world_step line_beginning quiet_turns play world_after state_after
-in_use = record {
-  given = λ t given. let its = only_given t 1 given in (ap Given (sym its.train_1), eq-eqb 1 t (sym its.train_1));
-  only_given = λ t is. subst (λ u. IsGiven w u 1) (eqb-true 1 t (ap (is_given_to t) is ∙ eq-eqb t t refl)) (record {
-    hand = record { first = 1; count = 1 };
-    of_train = its_hand;
-    in_hand = refl;
-  });
-  kept = λ t used. inl (ap Given (eqb-true 1 t used));
-  opened = λ is. absurd (true≢false (sym (ap centre.is_open is)));
-  shut = λ is. absurd (true≢false (ap (centre.is_used_for 1) is));
-}
-
-mark_is : (s c : ℕ) → is_home line c s ≡ true → HasMark w s c (v.mark s)
-unfolding within longest line_start end extent beginning ◌>>◌ step new_world world_step line_beginning quiet_turns play world_after state_after
-mark_is = each_section (λ s c. HasMark w s c (v.mark s))
-    (unused 0 0 (λ is. omega (arith, is)) refl) in_use (unused 2 0 (λ is. omega (arith, is)) refl) (unused 3 0 (λ is. omega (arith, is)) refl)
-    (unused 4 1 (λ is. omega (arith, is)) refl) (unused 5 1 (λ is. omega (arith, is)) refl) (unused 6 1 (λ is. omega (arith, is)) refl)
-    (unused 7 1 (λ is. omega (arith, is)) refl)
-
--- ## Missions
-
-mission_is : (t : ℕ) (m : LineMission) → v.mission t ≡ Some m → IsMissionOf w t m
+mark_is : (s c : ℕ) → is_home line c s ≡ true → v.mark s ≡ mark_of (holder line w s) ((w.at c).book s)
 unfolding its_mission within longest line_start end extent beginning ◌>>◌ step new_world world_step line_beginning quiet_turns play world_after state_after
-mission_is t m = at_or (λ u. v.mission u ≡ Some m → IsMissionOf w u m) 1 t
-    (λ so. subst (IsMissionOf w 1) (same_Some (seen 0 its_mission) m so) (IsMissionOf.supervised 0 its_mission (record { at_centre = refl })))
-    (λ apart. rw apart (λ so. absurd (none-some m so)))
+mark_is = each_section (λ s c. v.mark s ≡ mark_of (holder line w s) ((w.at c).book s)) refl refl refl refl refl refl refl refl
 
-each_mission : (t : ℕ) (m : LineMission) → IsMissionOf w t m → v.mission t ≡ Some m
+-- section 1 is in use for train 1, and no other section is in a hand
+in_use : (s c t : ℕ) → is_home line c s ≡ true → holder line w s ≡ Some t → centre.is_used_for t ((w.at c).book s) ≡ true
 unfolding its_mission within longest line_start end extent beginning ◌>>◌ step new_world world_step line_beginning quiet_turns play world_after state_after
-each_mission t m (IsMissionOf.supervised c k has) =
-    let its = only_mission c t k has.at_centre in
-    ap v.mission its.train_1 ∙ (ap (λ n. Some (seen 0 n)) (sym its.mission) ∙ ap (λ d. Some (seen d k)) (sym its.at_a))
-each_mission t m (IsMissionOf.parted a b f heard has_data is_ended place hand way carries) = absurd (none_on_way a b f way)
+in_use s c t home = each_section (λ s c. holder line w s ≡ Some t → centre.is_used_for t ((w.at c).book s) ≡ true)
+    (λ so. absurd (none-some t so)) (λ so. eq-eqb 1 t (same_Some 1 t so)) (λ so. absurd (none-some t so)) (λ so. absurd (none-some t so))
+    (λ so. absurd (none-some t so)) (λ so. absurd (none-some t so)) (λ so. absurd (none-some t so)) (λ so. absurd (none-some t so)) s c home
 
 -- ## One seat, and the hand that is given
 
@@ -224,11 +135,11 @@ given_one : (s : ℕ) → is_given_to 1 (v.mark s) ≡ within one s
 unfolding one its_mission within longest line_start end extent beginning ◌>>◌ step new_world world_step line_beginning quiet_turns play world_after state_after
 given_one s = at_or (λ e. is_given_to 1 (v.mark e) ≡ within one e) 1 s refl (λ apart. rw (not_in_one s apart, apart) refl)
 
-hands_are : (t : ℕ) (hand : SectionRun) → IsHandOf w t hand → IsHand v t hand
-unfolding one
-hands_are t hand has =
-    let its = only_hand t hand has in
-    record { each = λ s. ap (λ u. is_given_to u (v.mark s)) its.train_1 ∙ (given_one s ∙ ap (λ r. within r s) (sym its.hand_is)) }
+hands_are : (t : ℕ) (h : Held) → held line w t ≡ Some h → IsHand v t h.hand
+unfolding one its_mission within longest line_start end extent beginning ◌>>◌ step new_world world_step line_beginning quiet_turns play world_after state_after
+hands_are t h = at_or (λ u. held line w u ≡ Some h → IsHand v u h.hand) 1 t
+    (λ so. subst (λ (x : Held). IsHand v 1 x.hand) (same_Some (record { mission = seen 0 its_mission; hand = one }) h so) (record { each = given_one }))
+    (λ apart. rw apart (λ so. absurd (none-some h so)))
 
 -- ## The whole
 
@@ -240,9 +151,9 @@ start_stands = record {
   wait = wait_is;
   wish = wish_is;
   mark = mark_is;
+  in_use = in_use;
   mission = mission_is;
-  each_mission = each_mission;
-  one_hand = λ t u s one two. (only_given t s one).train_1 ∙ sym (only_given u s two).train_1;
+  none_else = none_else;
   one_seat = seats;
   hands = hands_are;
 }

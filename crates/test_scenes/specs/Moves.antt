@@ -4,10 +4,9 @@ use Rattle.std.specs.Prelude.{ℕ, nat_lt, Bool, true, false, ◌&&◌, ◌||◌
 use Rattle.std.specs.List.{list_all}
 use Rattle.std.specs.Option.{option_map_or}
 use Rattle.rbc_spec.specs.Line.{Line, is_centre}
-use Rattle.rbc_spec.specs.Outcome.{Word, Told}
-use Rattle.rbc_spec.specs.LineCentre.{LineState}
+use Rattle.rbc_spec.specs.Outcome.{Outcome, Reason, Word, Told}
+use Rattle.rbc_spec.specs.LineCentre.{LineState, Said}
 use Rattle.rbc_spec.specs.Quiet.{Quiet, is_of_centre, both}
-use Rattle.rbc_spec.specs.Run.{Spoken}
 use Rattle.rbc_spec.specs.World.{Event, Bytes, Set, Unset, Delivery, centre_of}
 use Rattle.test_scenes.specs.Turns.{Choice, Unanswered, Turn, allowed, Step, own_step, quiet_turns}
 
@@ -16,6 +15,14 @@ pub record Move : Type 0 where
   pub event : Event
   pub choice : Choice
   pub quiets : List Quiet
+
+-- what is said, or why nothing is
+pub record Spoken : Type 0 where
+  pub said : Said
+  pub silence : Option Reason
+
+abbrev pub spoken_in : Outcome → Spoken
+spoken_in o = record { said = record { sayings = o.sayings; words = o.words }; silence = o.silence }
 
 -- what an answer shows of a piece, but for its stamp and frames; or that there is none
 pub data Shown : Type 0 where

@@ -10,11 +10,10 @@ use Rattle.rbc_spec.specs.Step.{Refusal}
 use Rattle.rbc_spec.specs.World.{World, Event, Answer, Answered, NoCentre, NotSent, Fault, new_world, world_step, world_run}
 use Rattle.rbc_spec.specs.LineCentre.{LineState, Mark, LineMission, line_beginning}
 use Rattle.rbc_spec.specs.Run as run
-use Rattle.rbc_spec.specs.Run.{spoken_in}
 use Rattle.rbc_spec.specs.ReadOff.{read_off, IsLineRun}
 use Rattle.rbc_spec.specs.Theorems.{IsOneCentreLine, ForcedRun}
 use Rattle.test_scenes.specs.Scene.{Scene, Happens}
-use Rattle.test_scenes.specs.Moves.{Move, Shown, Speaks, Nowhere, NeverSent, BadBytes, Played, play}
+use Rattle.test_scenes.specs.Moves.{Move, spoken_in, Shown, Speaks, Nowhere, NeverSent, BadBytes, Played, play}
 
 -- ## A state on its line
 

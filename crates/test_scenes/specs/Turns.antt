@@ -11,8 +11,8 @@ use Rattle.rbc_spec.specs.Place.{Place, covered, group_start, fit_place, place_o
 use Rattle.rbc_spec.specs.Message.{TrainMessage, TrainBody, TrainData, Request, Report, ShorteningGranted, ShorteningRejected, EndOfMission, InitiationOfSession, TerminationOfSession, StartOfMission, SessionEstablished, TrackBody, Authority, DataAcknowledged, SystemVersion, TerminationAcknowledged, TrainRejected, TrainAccepted, ShorteningRequest, Transition, EndSession, unknown_group}
 use Rattle.rbc_spec.specs.Outcome.{Word, Done, Asked, NotHome, Reason}
 use Rattle.rbc_spec.specs.Centre.{Opened, Up, Closed, is_up, is_registrar_of}
-use Rattle.rbc_spec.specs.LineCentre.{LineState, Open, Shut, Kept, Given, LineMission, Supervisor, At, Parted, is_given_to, is_kept_for, is_mark_open, is_at, supervises, is_waiting_at, is_waiting, free, told, mark_all, set_mission, change_mission, hears, says, Said}
-use Rattle.rbc_spec.specs.OwnSteps.{one_message, session_ends, with_phase, may_start, begins, restarted, waits, may_be_given, is_cleared_of, reported, release_words, ended, without_ask, shortened, shortening_words, track_of, last_kept_of, is_unused_mark, set_mark, wished_back, stopped, stopping_words}
+use Rattle.rbc_spec.specs.LineCentre.{saying_of, LineState, Open, Shut, Kept, Given, LineMission, Supervisor, At, Parted, is_given_to, is_kept_for, is_mark_open, is_at, supervises, is_waiting_at, is_waiting, free, told, mark_all, set_mission, change_mission, hears, says, Said}
+use Rattle.rbc_spec.specs.OwnSteps.{session_ends, with_phase, may_start, begins, restarted, waits, may_be_given, is_cleared_of, reported, release_words, ended, without_ask, shortened, shortening_words, track_of, last_kept_of, is_unused_mark, set_mark, wished_back, stopped, stopping_words}
 use Rattle.rbc_spec.specs.Quiet.{Quiet, Keep, Unkeep, Admit, Dismiss, LayDown, TakeUp, Propose, Order, EndOrder, both}
 use Rattle.rbc_spec.specs.Run.{silence, may_listen}
 use Rattle.rbc_spec.specs.World.{Event, Bytes, Set, Unset, Delivery}
@@ -40,7 +40,7 @@ quietly = telling []
 
 -- one message, and the state is this but for its count
 abbrev pub answering : (t c group : ℕ) → TrackBody → List Word → LineState → LineState → Turn
-answering t c group body words v changed = record { said = one_message t c group body words v; state = says t c changed }
+answering t c group body words v changed = record { said = record { sayings = saying_of t c group body v ∷ []; words = words }; state = says t c changed }
 
 -- the turn, where it is allowed
 abbrev pub allowed : {X : Type 0} → Bool → X → Option X
@@ -113,9 +113,8 @@ abbrev pub request_at : Line → (t c : ℕ) → Option Place → LineState → 
 request_at line t c (Some place) v (Extending count) = extend line v t c place (hand_of line v t) count
 request_at line t c place v choice = None
 
-abbrev pub report_at : Line → (t c : ℕ) → Option Place → LineState → Turn
-report_at line t c None v = quietly v
-report_at line t c (Some place) v = telling (release_words line c (is_cleared_of line v t place) v) (reported line t c place v)
+abbrev pub report_at : Line → (t c : ℕ) → Place → LineState → Turn
+report_at line t c place v = telling (release_words line c (is_cleared_of line v t place) v) (reported line t c place v)
 
 abbrev pub end_at : Line → (t c : ℕ) → Bool → Option Place → LineState → Turn
 end_at line t c is_still None v = quietly (ended t v)
@@ -151,7 +150,7 @@ own_turn line c m (TrainData position) v choice =
     Some (answering m.nid_engine c unknown_group (DataAcknowledged m.t_train) [] v (change_mission m.nid_engine (λ n. record n { has_data = true }) v))
 own_turn line c m (Request position) v choice = request_at line m.nid_engine c (placed line m.nid_engine (Request position) v) v choice
 own_turn line c m (Report position) v choice =
-    if supervises v c m.nid_engine then Some (report_at line m.nid_engine c (placed line m.nid_engine (Report position) v) v) else Some (quietly v)
+    option_map_or (λ place. Some (report_at line m.nid_engine c place v)) (placed line m.nid_engine (Report position) v) None
 own_turn line c m (ShorteningGranted stamp position) v choice =
     Some (shortening line m.nid_engine c (placed line m.nid_engine (ShorteningGranted stamp position) v) v)
 own_turn line c m (ShorteningRejected stamp position) v choice = Some (quietly (without_ask m.nid_engine v))
@@ -227,10 +226,9 @@ proposed line v t c s m =
 abbrev pub is_over_border : Line → LineState → (t next s : ℕ) → Bool
 is_over_border line v t next s = is_given_to t (v.mark s) && is_home line next s
 
-abbrev pub may_order : Line → LineState → (t c : ℕ) → LineMission → (next border : ℕ) → Bool
-may_order line v t c m next border =
-    ((is_at c m.supervisor && is_up (v.phase t c))
-    && (is_over_border line v t next border && list_all (λ s. not (is_over_border line v t next s)) (range_with_len 0 border)))
+abbrev pub may_order : Line → LineState → (t c : ℕ) → LineMission → (border : ℕ) → Bool
+may_order line v t c m border =
+    (is_at c m.supervisor && is_up (v.phase t c))
     && (nat_le (group_start line m.place) (start line border) && nat_le (start line border) (group_start line m.place + 32767))
 
 abbrev pub ordered : Line → LineState → (t c : ℕ) → LineMission → (next border : ℕ) → Turn
@@ -239,7 +237,7 @@ ordered line v t c m next border =
 
 abbrev pub order_to : Line → LineState → (t c : ℕ) → LineMission → ℕ → Option Turn
 order_to line v t c m next = option_map_or
-    (λ border. allowed (may_order line v t c m next border) (ordered line v t c m next border))
+    (λ border. allowed (may_order line v t c m border) (ordered line v t c m next border))
     (find (is_over_border line v t next) (range_with_len 0 (section_count line))) None
 
 abbrev pub may_end : Line → LineState → (t c : ℕ) → Bool
