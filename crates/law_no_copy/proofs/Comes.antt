@@ -9,7 +9,7 @@ use Rattle.rbc_spec.specs.Acts.{Reply, rest, become, ◌>>◌, send}
 use Rattle.rbc_spec.specs.Links.{right_asked, right_returned, is_train}
 use Rattle.law_network.specs.Flow.{centre_count}
 use Rattle.law_no_copy.specs.Stray.{is_plain, train_of, has_place_for}
-use Rattle.law_no_copy.proofs.Tally.{Tally, IsTally, HasRegistrar, Fair, is_away, fair_rest, fair_then, eased, fair_if}
+use Rattle.law_no_copy.proofs.Tally.{Tally, IsTally, HasRegistrar, Fair, fair_rest, fair_then, eased, fair_if}
 use Rattle.law_no_copy.proofs.Leaving.{Makes, gives_back, returns_back, sends_plain, sends, fair_return_right}
 use Rattle.law_no_copy.proofs.Starts.{fair_right_taken}
 
@@ -19,14 +19,14 @@ used_out t Open h = cc
 used_out t (Taken u) h = cc
 used_out t (Out u) h = h
 
-pub unused_here : (u : ℕ) (e : Entry) → is_unused e ≡ true → is_away u e ≡ false
+pub unused_here : (u : ℕ) (e : Entry) → is_unused e ≡ true → is_out_for u e ≡ false
 unused_here u Shut h = refl
 unused_here u Open h = refl
 unused_here u (Taken v) h = cc
 unused_here u (Out v) h = cc
 
 -- out for one train, a section is out for no other
-pub out_apart : (t u : ℕ) (e : Entry) → t ≢ u → is_out_for t e ≡ true → is_away u e ≡ false
+pub out_apart : (t u : ℕ) (e : Entry) → t ≢ u → is_out_for t e ≡ true → is_out_for u e ≡ false
 out_apart t u Shut other h = refl
 out_apart t u Open other h = refl
 out_apart t u (Taken v) other h = refl

@@ -3,10 +3,10 @@ use Rattle.std.proofs.Common.{◌≡◌, ◌≢◌, ◌⊎◌, inl, inr, ℕ, �
 use Rattle.std.proofs.lemmas.Bool.{cases_eq, cases_lt, and_parts, and_from, ne_eqb, eqb-false, lt-ltb, le-leb}
 use Rattle.rbc_spec.specs.SectionRuns.{SectionRun, no_run, within, behind, is_empty, part_before, part_from, joined}
 use Rattle.rbc_spec.specs.Line.{Line, is_home}
-use Rattle.rbc_spec.specs.Centre.{Centre, Entry, Shut, Open, Taken, Out, Mission, is_open, is_unused, is_taken_for, is_used_for}
+use Rattle.rbc_spec.specs.Centre.{Centre, Entry, Shut, Open, Taken, Out, Mission, is_open, is_unused, is_taken_for, is_used_for, is_out_for}
 use Rattle.rbc_spec.specs.Acts.{freed}
 use Rattle.law_base.proofs.Runs.{within_true, within_part_before, within_part_from, within_none, within_joined, joined_empty}
-use Rattle.law_no_copy.proofs.Tally.{Tally, IsTally, is_away, part, part_away, gone}
+use Rattle.law_no_copy.proofs.Tally.{Tally, IsTally, part, part_away, gone}
 
 -- the pool follows the hand at once, if there is one
 abbrev pub Follows : Mission → Type 0
@@ -19,7 +19,7 @@ open_unused Open h = refl
 open_unused (Taken t) h = cc
 open_unused (Out t) h = cc
 
-pub open_here : (u : ℕ) (e : Entry) → is_open e ≡ true → is_away u e ≡ false
+pub open_here : (u : ℕ) (e : Entry) → is_open e ≡ true → is_out_for u e ≡ false
 open_here u Shut h = refl
 open_here u Open h = refl
 open_here u (Taken t) h = refl
@@ -174,13 +174,13 @@ module _ (line : Line) (c : ℕ) (y : Tally) (is : IsTally line c y) where
       by_within true = (is.back so).heavy
       by_within false = omega arith
 
-  pub taken_here : (t u : ℕ) (e : Entry) → is_taken_for t e ≡ true → is_away u e ≡ false
+  pub taken_here : (t u : ℕ) (e : Entry) → is_taken_for t e ≡ true → is_out_for u e ≡ false
   taken_here t u Shut h = refl
   taken_here t u Open h = refl
   taken_here t u (Taken v) h = refl
   taken_here t u (Out v) h = cc
 
-  pub given_here : (wish : Bool) (u : ℕ) → is_away u (if wish then Shut else Open) ≡ false
+  pub given_here : (wish : Bool) (u : ℕ) → is_out_for u (if wish then Shut else Open) ≡ false
   given_here true u = refl
   given_here false u = refl
 

@@ -10,14 +10,14 @@ use Rattle.rbc_spec.specs.Line.{Line, is_home, registrar}
 use Rattle.rbc_spec.specs.Place.{Place, Position, covered, fit_place}
 use Rattle.rbc_spec.specs.Message.{unknown_group, TrainAccepted, TrainRejected}
 use Rattle.rbc_spec.specs.Frame.{AskRight}
-use Rattle.rbc_spec.specs.Centre.{Centre, Entry, Shut, Open, Taken, Mission, Closed, is_open, is_taken_for, is_free, is_registrar_of}
+use Rattle.rbc_spec.specs.Centre.{Centre, Entry, Shut, Open, Taken, Mission, Closed, is_open, is_taken_for, is_free, is_registrar_of, is_out_for}
 use Rattle.rbc_spec.specs.Acts.{Reply, rest, become, ◌>>◌, where_so, with_some, send, booked, freed, set_mission, change_mission, return_right, begun}
 use Rattle.rbc_spec.specs.Rules.{choose, drop_wait, set_phase, close_session, accept, reject, restart, begin, start_here, start_waiting, start_new, start_mission}
 use Rattle.rbc_spec.specs.Links.{answered_ask, right_given, right_refused}
 use Rattle.law_base.proofs.Lists.{none_is}
 use Rattle.law_base.proofs.Runs.{each_within}
 use Rattle.law_network.specs.Flow.{centre_count}
-use Rattle.law_no_copy.proofs.Tally.{Tally, IsTally, HasRegistrar, Fair, right_of, wait_of, start_of, part, mission_of, back, is_away, alike, fair_rest, fair_then, fair_both, eased, fair_if, fair_or, fair_set, fair_change, fair_booked, fair_freed, fair_say, fair_plain, mission_put, mission_back}
+use Rattle.law_no_copy.proofs.Tally.{Tally, IsTally, HasRegistrar, Fair, right_of, wait_of, start_of, part, mission_of, back, alike, fair_rest, fair_then, fair_both, eased, fair_if, fair_or, fair_set, fair_change, fair_booked, fair_freed, fair_say, fair_plain, mission_put, mission_back}
 use Rattle.law_no_copy.proofs.Parts.{open_unused, open_here, none_part, freed_other, freed_back}
 use Rattle.law_no_copy.proofs.Leaving.{Makes, back_own, back_other, back_le, sends_plain, fair_return_right}
 
@@ -31,7 +31,7 @@ module _ (line : Line) (c : ℕ) (y : Tally) (is : IsTally line c y) where
       by_tests true false opened = omega arith
       by_tests true true opened = is.unused e g (open_unused e opened)
 
-  pub booked_back : y.exact ≡ true → (g : Entry) (r : SectionRun) (e : Entry) → is_away y.train g ≡ false → y.entry (if within r y.section && is_open e then g else e) ≤ y.entry e
+  pub booked_back : y.exact ≡ true → (g : Entry) (r : SectionRun) (e : Entry) → is_out_for y.train g ≡ false → y.entry (if within r y.section && is_open e then g else e) ≤ y.entry e
   booked_back so g r e is_here = by_tests (within r y.section) (is_open e) refl
     where
       by_tests : (w o : Bool) → is_open e ≡ o → y.entry (if w && o then g else e) ≤ y.entry e

@@ -73,16 +73,11 @@ back y t = if t == y.train then y.one else 0
 abbrev pub MayYield : Line → ℕ → Tally → SectionRun → Entry → Type 0
 MayYield line c y hand e = within hand y.section ≡ true → is_home line c y.section ≡ true → is_taken_for y.train e ≡ true
 
--- the entry is of a section that is out for the train
-abbrev pub is_away : ℕ → Entry → Bool
-is_away t (Out u) = u == t
-is_away t e = false
-
 -- and they count no less, where what is lost is counted
 pub record IsExactTally (line : Line) (c : ℕ) (y : Tally) : Type 0 where
   pub home_goes : (t track : ℕ) (r : SectionRun) (k : Centre) → (t ≡ y.train → within r y.section ≡ true → is_on line track y.section ≡ true)
       → gone y t r ≤ sent_by y.res (centre_count line) c (returned line c t track r k).frames
-  pub here : (e g : Entry) → is_away y.train e ≡ false → is_away y.train g ≡ false → y.entry e ≤ y.entry g
+  pub here : (e g : Entry) → is_out_for y.train e ≡ false → is_out_for y.train g ≡ false → y.entry e ≤ y.entry g
   pub named : y.outside ≡ true
   pub registrar : is_train line y.train ≡ true → HasRegistrar line y.train
   pub heavy : y.weight ≤ y.away

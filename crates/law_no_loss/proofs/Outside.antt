@@ -21,7 +21,7 @@ use Rattle.law_network.proofs.Begins.{no_use}
 use Rattle.law_network.proofs.Neighbours.{home_below}
 use Rattle.law_base.proofs.Puts.{itself}
 use Rattle.law_base.proofs.Runs.{within_shared, within_none}
-use Rattle.law_no_copy.proofs.Tally.{Tally, IsTally, IsExactTally, MayYield, is_away, wait_of, mission_of, part, gone}
+use Rattle.law_no_copy.proofs.Tally.{Tally, IsTally, IsExactTally, MayYield, wait_of, mission_of, part, gone}
 use Rattle.law_no_copy.proofs.Rights.{no_number}
 use Rattle.law_no_copy.proofs.Tokens.{tokens_counted, unused_none, open_none, used_once}
 use Rattle.law_no_copy.proofs.Homes.{home_goes_once}
@@ -32,7 +32,7 @@ abbrev pub outside : Line → ℕ → ℕ → Resource Centre Body
 outside line t s = record {
   held = λ c k. one_if (not (is_home line c s) && hand_has (k.mission t) s) + one_if (not (is_home line c s) && pool_has (k.mission t) s);
   inside = λ a b body. token_inside t s body;
-  cap = λ c k. one_if (is_home line c s && is_away t (k.book s));
+  cap = λ c k. one_if (is_home line c s && is_out_for t (k.book s));
 }
 
 abbrev pub outside_kept : Line → ℕ → ℕ → ℕ → Tally
@@ -44,28 +44,22 @@ outside_kept line c t s = record {
   weight = one_if (not (is_home line c s));
   waiting = 0;
   away = one_if (not (is_home line c s));
-  entry = λ e. one_if (is_home line c s && is_away t e);
+  entry = λ e. one_if (is_home line c s && is_out_for t e);
   outside = true;
   exact = true;
 }
 
-away_used : (t : ℕ) (e : Entry) → is_used_for t e ≡ false → is_away t e ≡ false
+away_used : (t : ℕ) (e : Entry) → is_used_for t e ≡ false → is_out_for t e ≡ false
 away_used t Shut h = refl
 away_used t Open h = refl
 away_used t (Taken u) h = refl
 away_used t (Out u) h = h
 
-taken_at_home : (u t : ℕ) (e : Entry) → is_taken_for u e ≡ true → is_away t e ≡ false
+taken_at_home : (u t : ℕ) (e : Entry) → is_taken_for u e ≡ true → is_out_for t e ≡ false
 taken_at_home u t Shut h = refl
 taken_at_home u t Open h = refl
 taken_at_home u t (Taken v) h = refl
 taken_at_home u t (Out v) h = cc
-
-out_away : (t : ℕ) (e : Entry) → is_out_for t e ≡ true → is_away t e ≡ true
-out_away t Shut h = cc
-out_away t Open h = cc
-out_away t (Taken v) h = cc
-out_away t (Out v) h = h
 
 module _ (line : Line) (ok : IsLine line) (c t s : ℕ) where
   abbrev y : Tally
@@ -127,14 +121,14 @@ module _ (line : Line) (ok : IsLine line) (c t s : ℕ) where
             one_if_true ((t == t) && within part_there s) (and_from (t == t) (within part_there s) (itself t) in_part),
           )
 
-  no_entry : (e : Entry) → is_away t e ≡ false → one_if (is_home line c s && is_away t e) ≡ 0
+  no_entry : (e : Entry) → is_out_for t e ≡ false → one_if (is_home line c s && is_out_for t e) ≡ 0
   no_entry e none = ap (λ z. one_if (is_home line c s && z)) none ∙ no_use (is_home line c s)
 
-  foreign_entry : is_home line c s ≡ false → (e : Entry) → one_if (is_home line c s && is_away t e) ≡ 0
-  foreign_entry foreign e = ap (λ z. one_if (z && is_away t e)) foreign
+  foreign_entry : is_home line c s ≡ false → (e : Entry) → one_if (is_home line c s && is_out_for t e) ≡ 0
+  foreign_entry foreign e = ap (λ z. one_if (z && is_out_for t e)) foreign
 
-  own_entry : is_home line c s ≡ true → (e : Entry) → is_away t e ≡ true → one_if (is_home line c s && is_away t e) ≡ 1
-  own_entry home e out = one_if_true _ (and_from (is_home line c s) (is_away t e) home out)
+  own_entry : is_home line c s ≡ true → (e : Entry) → is_out_for t e ≡ true → one_if (is_home line c s && is_out_for t e) ≡ 1
+  own_entry home e out = one_if_true _ (and_from (is_home line c s) (is_out_for t e) home out)
 
   own_weight : is_home line c s ≡ true → one_if (not (is_home line c s)) ≡ 0
   own_weight home = ap (λ z. one_if (not z)) home
@@ -164,11 +158,11 @@ module _ (line : Line) (ok : IsLine line) (c t s : ℕ) where
 
   -- a yield: the section goes from the hand, or its entry becomes out
   yields_law : (hand : SectionRun) (e : Entry) → MayYield line c y hand e
-      → one_if (is_home line c s && is_away t e) + one_if ((t == t) && within hand s) ≡ part y hand + one_if (is_home line c s && is_away t (if within hand s && is_taken_for t e then Out t else e))
+      → one_if (is_home line c s && is_out_for t e) + one_if ((t == t) && within hand s) ≡ part y hand + one_if (is_home line c s && is_out_for t (if within hand s && is_taken_for t e then Out t else e))
   yields_law hand e may = by_tests (within hand s) refl (is_home line c s) refl
     where
       goal_of : Bool → Bool → Type 0
-      goal_of w x = one_if (is_home line c s && is_away t e) + one_if ((t == t) && within hand s) ≡ (if w then one_if (not (is_home line c s)) else 0) + one_if (is_home line c s && is_away t (if w && x then Out t else e))
+      goal_of w x = one_if (is_home line c s && is_out_for t e) + one_if ((t == t) && within hand s) ≡ (if w then one_if (not (is_home line c s)) else 0) + one_if (is_home line c s && is_out_for t (if w && x then Out t else e))
 
       foreign : is_home line c s ≡ false → (x : Bool) → within hand s ≡ true → goal_of true x
       foreign away x is = omega (arith, in_run hand is, foreign_weight away, foreign_entry away e, foreign_entry away (if x then Out t else e))
@@ -181,23 +175,23 @@ module _ (line : Line) (ok : IsLine line) (c t s : ℕ) where
 
   -- a mission that is taken: the section comes into the hand, or its entry is taken
   takes_le : (hand : SectionRun) (e : Entry)
-      → one_if (is_home line c s && is_away t e) + part y hand ≤ one_if ((t == t) && within hand s) + one_if (is_home line c s && is_away t (if within hand s && is_out_for t e then Taken t else e))
+      → one_if (is_home line c s && is_out_for t e) + part y hand ≤ one_if ((t == t) && within hand s) + one_if (is_home line c s && is_out_for t (if within hand s && is_out_for t e then Taken t else e))
   takes_le hand e = by_tests (within hand s) refl (is_home line c s) refl (is_out_for t e)
     where
       by_tests : (w : Bool) → within hand s ≡ w → (h : Bool) → is_home line c s ≡ h → (x : Bool)
-          → one_if (is_home line c s && is_away t e) + (if w then one_if (not (is_home line c s)) else 0) ≤ one_if ((t == t) && within hand s) + one_if (is_home line c s && is_away t (if w && x then Taken t else e))
+          → one_if (is_home line c s && is_out_for t e) + (if w then one_if (not (is_home line c s)) else 0) ≤ one_if ((t == t) && within hand s) + one_if (is_home line c s && is_out_for t (if w && x then Taken t else e))
       by_tests false is h home x = omega arith
-      by_tests true is true home x = omega (arith, in_run hand is, own_weight home, one_if_le_one (is_home line c s && is_away t e))
+      by_tests true is true home x = omega (arith, in_run hand is, own_weight home, one_if_le_one (is_home line c s && is_out_for t e))
       by_tests true is false home x = omega (arith, in_run hand is, foreign_weight home, foreign_entry home e)
 
   takes_ge : (hand : SectionRun) (e : Entry) → (within hand s ≡ true → is_home line c s ≡ true → is_out_for t e ≡ true)
-      → one_if ((t == t) && within hand s) + one_if (is_home line c s && is_away t (if within hand s && is_out_for t e then Taken t else e)) ≤ one_if (is_home line c s && is_away t e) + part y hand
+      → one_if ((t == t) && within hand s) + one_if (is_home line c s && is_out_for t (if within hand s && is_out_for t e then Taken t else e)) ≤ one_if (is_home line c s && is_out_for t e) + part y hand
   takes_ge hand e out = by_tests (within hand s) refl (is_home line c s) refl (is_out_for t e) refl
     where
       by_tests : (w : Bool) → within hand s ≡ w → (h : Bool) → is_home line c s ≡ h → (x : Bool) → is_out_for t e ≡ x
-          → one_if ((t == t) && within hand s) + one_if (is_home line c s && is_away t (if w && x then Taken t else e)) ≤ one_if (is_home line c s && is_away t e) + (if w then one_if (not (is_home line c s)) else 0)
+          → one_if ((t == t) && within hand s) + one_if (is_home line c s && is_out_for t (if w && x then Taken t else e)) ≤ one_if (is_home line c s && is_out_for t e) + (if w then one_if (not (is_home line c s)) else 0)
       by_tests false is h home x at = omega (arith, out_of_run hand is)
-      by_tests true is true home true at = omega (arith, in_run hand is, own_entry home e (out_away t e at), no_entry (Taken t) refl)
+      by_tests true is true home true at = omega (arith, in_run hand is, own_entry home e at, no_entry (Taken t) refl)
       by_tests true is true home false at = absurd (let wrong : true ≡ false = sym (out is home) ∙ at in cc)
       by_tests true is false home x at = omega (arith, in_run hand is, foreign_weight home, foreign_entry home (if x then Taken t else e))
 
@@ -214,7 +208,7 @@ module _ (line : Line) (ok : IsLine line) (c t s : ℕ) where
     told = λ a r foreign. told_less r foreign;
     told_back = λ a r. omega arith;
     not_told = λ a b r none. out_of_run r (within_none r s (eqb-true r.count 0 none));
-    comes_home = λ a r e g home out unused. omega (arith, own_entry home e (out_away t e out), no_entry g (away_used t g (unused_none t g unused)), one_if_le_one ((t == t) && within r s));
+    comes_home = λ a r e g home out unused. omega (arith, own_entry home e out, no_entry g (away_used t g (unused_none t g unused)), one_if_le_one ((t == t) && within r s));
     not_home = λ a b r out. out_of_run r out;
     yields = λ to number heard has_data is_ended place hand e may. omega (arith, yields_law hand e may);
     takes = λ a number heard has_data is_ended place hand e out. omega (arith, takes_ge hand e out);
@@ -255,7 +249,7 @@ module _ (line : Line) (ok : IsLine line) (c t s : ℕ) where
     names = λ a b r out. out_of_run r out;
     told = λ a r. told r;
     told_back = λ a r. omega arith;
-    comes_home = λ a r e g home is out. omega (arith, in_run r is, one_if_le_one (is_home line c s && is_away t e));
+    comes_home = λ a r e g home is out. omega (arith, in_run r is, one_if_le_one (is_home line c s && is_out_for t e));
     yields = λ to number heard has_data is_ended place hand e may. omega (arith, yields_law hand e (may refl));
     takes = λ a number heard has_data is_ended place hand e. omega (arith, takes_le hand e);
     back = λ so. exact;

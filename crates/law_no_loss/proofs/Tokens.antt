@@ -9,7 +9,7 @@ use Rattle.rbc_spec.specs.Line.{Line, IsLine, is_home}
 use Rattle.rbc_spec.specs.Frame.{Body}
 use Rattle.rbc_spec.specs.Outcome as outcome
 use Rattle.rbc_spec.specs.Outcome.{Next, Old, Early, NoLink}
-use Rattle.rbc_spec.specs.Centre.{Centre, Entry, Shut, Open, Taken, Out, Mission, is_taken_for, is_used_for}
+use Rattle.rbc_spec.specs.Centre.{Centre, Entry, Shut, Open, Taken, Out, Mission, is_taken_for, is_used_for, is_out_for}
 use Rattle.rbc_spec.specs.Step.{Event, Train, Set, Unset, Deliver, link_answer, stamp_of, state_after}
 use Rattle.law_local.specs.Local.{hand_has}
 use Rattle.law_network.specs.Flow.{centre_count}
@@ -18,7 +18,6 @@ use Rattle.law_network.specs.Sound.{IsCentreSound}
 use Rattle.law_centre_sound.specs.Stays.{IsInRange}
 use Rattle.law_centre_sound.proofs.Events.{stays_sound}
 use Rattle.law_no_copy.specs.Steps.{came_by, came_to, done, IsExactStep}
-use Rattle.law_no_copy.proofs.Tally.{is_away}
 use Rattle.law_no_copy.proofs.Steps.{step_exact}
 use Rattle.law_no_loss.specs.Keeps.{HasRightOnce, BringsNoStray}
 use Rattle.law_no_loss.proofs.Ready.{ready_to_count, none_stray}
@@ -46,7 +45,7 @@ same_came line t s c k (Deliver d f) = by_answer (link_answer line c k d f)
     by_answer NoLink = refl
 
 -- an entry in use for the train is taken, or out
-used_parts : (t : ℕ) (e : Entry) → one_if (is_used_for t e) ≡ one_if (is_away t e) + one_if (is_taken_for t e)
+used_parts : (t : ℕ) (e : Entry) → one_if (is_used_for t e) ≡ one_if (is_out_for t e) + one_if (is_taken_for t e)
 used_parts t Shut = refl
 used_parts t Open = refl
 used_parts t (Taken u) = omega arith
@@ -59,7 +58,7 @@ at_home line c t s k = one_if (is_home line c s && is_taken_for t (k.book s))
 cap_parts : (line : Line) (c t s : ℕ) (k : Centre) → (tokens line t s).cap c k ≡ (outside line t s).cap c k + at_home line c t s k
 cap_parts line c t s k = by_home (is_home line c s)
   where
-    by_home : (h : Bool) → one_if (h && is_used_for t (k.book s)) ≡ one_if (h && is_away t (k.book s)) + one_if (h && is_taken_for t (k.book s))
+    by_home : (h : Bool) → one_if (h && is_used_for t (k.book s)) ≡ one_if (h && is_out_for t (k.book s)) + one_if (h && is_taken_for t (k.book s))
     by_home true = used_parts t (k.book s)
     by_home false = refl
 

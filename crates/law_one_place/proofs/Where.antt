@@ -1,7 +1,8 @@
 -- A section in use is found where its home has it.
 use Rattle.std.proofs.Common.{◌≡◌, inl, inr, ℕ, ◌+◌, ◌<◌, ◌==◌, ◌&&◌, not, Bool, true, false, List, [], ◌∷◌, ◌++◌, map, Option, Some, None, Ok, refl, sym, ap, ◌∙◌, subst, arith, ⊎_elim, ltb-true}
 use Rattle.std.specs.Option.{option_map_or}
-use Rattle.std.specs.List.{flat_map}
+use Rattle.std.specs.List.{Contains, flat_map}
+use Rattle.std.proofs.lemmas.List.Elements.{All-contains}
 use Rattle.std.proofs.lemmas.Bool.{eqb-true, lt-ltb}
 use Rattle.law_counting.specs.Sums.{one_if}
 use Rattle.law_counting.specs.Network.{way}
@@ -9,7 +10,7 @@ use Rattle.law_counting.specs.Resource.{carried, placed, allowed, OnlyHeld, Only
 use Rattle.law_counting.proofs.Sums.{one_if_true, sum_only}
 use Rattle.law_counting.proofs.Places.{one_place}
 use Rattle.rbc_spec.specs.Maps.{has}
-use Rattle.rbc_spec.specs.SectionRuns.{within}
+use Rattle.rbc_spec.specs.SectionRuns.{SectionRun, within, all_of}
 use Rattle.rbc_spec.specs.Line.{Line, IsLine, Section, section, is_home, is_centre}
 use Rattle.rbc_spec.specs.Place.{Place, covered}
 use Rattle.rbc_spec.specs.Frame.{Frame, Body, RouteInfo, RouteReturn, Yield}
@@ -17,20 +18,21 @@ use Rattle.rbc_spec.specs.Centre.{Centre, Entry, Shut, Open, Taken, Out, Mission
 use Rattle.rbc_spec.specs.World as world
 use Rattle.rbc_spec.specs.World.{World, Event, Answer, new_world, world_run}
 use Rattle.rbc_spec.specs.Promises.{once, held_for, carried_for, HasOnePlace}
+use Rattle.law_base.proofs.Runs.{each_within}
 use Rattle.law_base.proofs.Lines.{one_home}
 use Rattle.law_base.proofs.Puts.{itself}
 use Rattle.law_local.specs.Local.{hand_has}
 use Rattle.law_network.specs.Flow.{flow_of, centre_count}
 use Rattle.law_network.specs.Counts.{tokens, token_inside, pool_has, wait_has}
 use Rattle.law_network.specs.Sound.{IsFlowSound, LosesNothing}
-use Rattle.law_network.proofs.Frames.{way_is}
+use Rattle.law_network.proofs.Frames.{way_is, on_link}
 use Rattle.law_network.proofs.Neighbours.{home_below}
 use Rattle.law_network.proofs.OnePlace.{has_one_place}
 use Rattle.law_network.proofs.Trains.{times, times_once, count_both}
-use Rattle.law_no_unasked.specs.Asked.{IsAsked}
+use Rattle.law_no_unasked.specs.Asked.{IsAsked, IsBodyAsked}
 use Rattle.law_no_loss.proofs.Worlds.{never_lost}
 use Rattle.law_no_stray.proofs.Worlds.{IsReachedSo, each_reached}
-use Rattle.law_one_place.specs.Where.{IsFoundAs, IsWhereHomeHasIt}
+use Rattle.law_one_place.specs.Where.{GoesBetween, IsFoundAs, IsWhereHomeHasIt}
 
 -- ## What a centre has for a train
 
@@ -120,12 +122,28 @@ module _ (line : Line) (ok : IsLine line) (w : World) (sound : IsFlowSound line 
     one_time : (a b : ℕ) → carried (tokens line t s) a b (way (flow_of w) a b) ≡ 1 → times t (flat_map (λ (f : Frame). carried_for s f.body) (world.way w a b)) ≡ 1
     one_time a b is = times_are line s t a b (world.way w a b) ∙ (ap (carried (tokens line t s) a b) (sym (way_is w a b)) ∙ is)
 
+    -- a frame that has it comes from its home, goes to it, or hands its train over
+    goes_between : (a b : ℕ) (f : Frame) → Contains (world.way w a b) f → Contains (carried_for s f.body) t → GoesBetween c a b f.body
+    goes_between a b f there has = by_body f.body (All-contains (IsBodyAsked line a b) (way (flow_of w) a b) f.body (asked.bodies.each a b) (on_link w a b f f.body there refl)) has
+      where
+        in_run : (h : Bool) (u : ℕ) → Contains (once h u) t → h ≡ true
+        in_run true u is = refl
+        in_run false u is = absurd (let no : ⊥ = omega (arith, is.1) in no)
+
+        at_home : (d : ℕ) (r : SectionRun) → all_of (is_home line d) r ≡ true → within r s ≡ true → d ≡ c
+        at_home d r all inside = one_home line d c s (each_within (is_home line d) r all s inside) home
+
+        by_body : (g : Body) → IsBodyAsked line a b g → Contains (carried_for s g) t → GoesBetween c a b g
+        by_body (RouteInfo u r) is carries = at_home a r is.3 (in_run (within r s) u carries)
+        by_body (RouteReturn u r) is carries = at_home b r is.2 (in_run (within r s) u carries)
+        by_body g is carries = record {}
+
     pub out_there : IsFoundAs line w c s (Out t)
     out_there = ⊎_elim
         (λ (held : (e : ℕ) × (e < centre_count line) × OnlyHeld (tokens line t s) (centre_count line) (flow_of w) e).
         inl (held.0, lt-ltb held.0 (centre_count line) held.1, held_apart held.0 held.2.here, held_once line s t (w.at held.0) held.2.here))
         (λ (on_way : (a : ℕ) × (b : ℕ) × (a < centre_count line) × (b < centre_count line) × OnlyOnTheWay (tokens line t s) (centre_count line) (flow_of w) a b).
-        inr (on_way.0, on_way.1, lt-ltb on_way.0 (centre_count line) on_way.2, lt-ltb on_way.1 (centre_count line) on_way.3, one_time on_way.0 on_way.1 on_way.4.here))
+        inr (on_way.0, on_way.1, lt-ltb on_way.0 (centre_count line) on_way.2, lt-ltb on_way.1 (centre_count line) on_way.3, one_time on_way.0 on_way.1 on_way.4.here, goes_between on_way.0 on_way.1))
         (one_place (tokens line t s) (centre_count line) (flow_of w) one)
 
   pub found_as : (e : Entry) → (w.at c).book s ≡ e → IsFoundAs line w c s e

@@ -13,7 +13,8 @@ pub fn each_thing_is_in_one_place()
         → world_run line (new_world line) events ≡ Ok (answers, w) → HasOnePlace line w }
 {}
 
-/// That one place is where the home has the section: taken, at home itself; out, at one other centre, or on the way between two.
+/// That one place is where the home has the section: taken, at home itself; out, at one other centre, or on the way between two, lent by its home,
+/// on its way back to it, or handed over with its train.
 pub fn each_section_is_where_its_home_has_it()
     ensures { (line : Line) (events : List Event) (answers : List Answer) (w : World) (c s : ℕ) → IsLine line
         → world_run line (new_world line) events ≡ Ok (answers, w) → is_home line c s ≡ true → IsWhereHomeHasIt line w c s }

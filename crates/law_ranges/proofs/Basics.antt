@@ -1,23 +1,22 @@
 -- What a line's order and its limits give of the ranges of engines, sections, runs and links.
-use Rattle.std.proofs.Common.{◌≡◌, ◌≢◌, ◌⊎◌, inl, inr, ℕ, ◌+◌, ◌-◌, ◌<◌, ◌≤◌, ◌==◌, ◌&&◌, ◌||◌, not, Bool, true, false, List, length, get_or, Option, Some, None, is_some, refl, sym, ap, ◌∙◌, subst, arith, ⊎_elim, All, eqb-true, eq-eqb, lt-ltb}
+use Rattle.std.proofs.Common.{◌≡◌, ◌≢◌, inl, inr, ℕ, ◌+◌, ◌-◌, ◌<◌, ◌≤◌, ◌==◌, ◌&&◌, ◌||◌, not, Bool, true, false, List, length, get_or, Option, Some, None, is_some, refl, sym, ap, ◌∙◌, arith, All, eqb-true, eq-eqb, lt-ltb}
 use Rattle.std.specs.Option.{option_map_or}
 use Rattle.std.specs.List.{position}
-use Rattle.std.proofs.lemmas.Bool.{and_parts, and_from, eqb-false, or_cases, or_left, or_right}
+use Rattle.std.proofs.lemmas.Bool.{and_parts, and_from, eqb-false, or_left, or_right}
 use Rattle.std.proofs.lemmas.Bool.Decides.{eqb_tells}
 use Rattle.std.proofs.lemmas.Option.{slice_get_within}
 use Rattle.std.proofs.lemmas.List.Quantifiers.{position-Some}
 use Rattle.std.proofs.lemmas.List.Elements.{All-get_or}
-use Rattle.rbc_spec.specs.SectionRuns.{SectionRun, within, behind, no_run, is_empty, part_before, part_from, joined, shared}
+use Rattle.rbc_spec.specs.SectionRuns.{SectionRun, within, is_empty, shared}
 use Rattle.rbc_spec.specs.Line.{Line, Section, Train, IsLine, section, registrar, train_number, is_centre, is_home, is_linked, next_centre}
 use Rattle.rbc_spec.specs.Sections.{home_run, is_on}
 use Rattle.rbc_spec.specs.Frame.{IsEngine, HasRunRange}
 use Rattle.rbc_spec.specs.Centre.{is_registrar_of}
 use Rattle.law_local.proofs.Ordered.{is_ordered}
-use Rattle.law_base.proofs.Lines.{on_line, one_home, registrar_below}
-use Rattle.law_base.proofs.Runs.{within_from, within_part_before, within_part_from, within_joined, none_within, joined_empty}
+use Rattle.law_base.proofs.Lines.{on_line, registrar_below}
+use Rattle.law_base.proofs.Runs.{within_from}
 use Rattle.law_network.proofs.Homes.{in_both}
 use Rattle.law_network.proofs.Neighbours.{neighbours, home_below as centre_at}
-use Rattle.law_ranges.specs.Ranges.{GoesHome}
 
 -- ## Engines
 
@@ -72,8 +71,8 @@ module _ (line : Line) (ok : IsLine line) where
       and_from _ _ (and_from _ _ centre (lt-ltb r (length line.centres) (registrar_below line ok t r at))) (not_same r c (ap not apart))
 
   -- each home is this centre, or one that it has a link with
-  pub goes_home : (c : ℕ) → is_centre line c ≡ true → (r : SectionRun) → GoesHome line c r
-  goes_home c centre r s e is home = by_same (e == c) refl
+  pub each_home : (c : ℕ) → is_centre line c ≡ true → (s d : ℕ) → is_home line d s ≡ true → ((d == c) || is_linked line c d) ≡ true
+  each_home c centre s e home = by_same (e == c) refl
     where
       at : (o : Option Section) → section line s ≡ o → option_map_or (λ p. p.home == e) o false ≡ true → is_centre line e ≡ true
       at (Some p) there so = ap (is_centre line) (sym (eqb-true p.home e so)) ∙ centre_at line ok s p there
@@ -105,24 +104,3 @@ module _ (line : Line) (ok : IsLine line) where
 
       home_of : (s : ℕ) → within (shared r (home_run line d track)) s ≡ true → is_home line d s ≡ true
       home_of s is = (and_parts (is_home line d s) (is_on line track s) (sym ((is_ordered line ok).homes_run d track s) ∙ (in_both r (home_run line d track) s is).1)).0
-
--- ## Runs that go home
-
-module _ (line : Line) (c : ℕ) where
-  pub none_goes_home : GoesHome line c no_run
-  none_goes_home s d is home = absurd (let wrong : false ≡ true = sym (none_within s) ∙ is in cc)
-
-  pub before_goes_home : (r : SectionRun) (cut : ℕ) → GoesHome line c r → GoesHome line c (part_before cut r)
-  before_goes_home r cut goes s d is home = goes s d (and_parts (within r s) _ (sym (within_part_before r cut s) ∙ is)).0 home
-
-  pub from_goes_home : (r : SectionRun) (cut : ℕ) → GoesHome line c r → GoesHome line c (part_from cut r)
-  from_goes_home r cut goes s d is home = goes s d (and_parts (within r s) _ (sym (within_part_from r cut s) ∙ is)).0 home
-
-  pub joined_goes_home : (a b : SectionRun) → GoesHome line c a → GoesHome line c b → (b.count ≡ 0) ⊎ (b.first ≡ behind a) → GoesHome line c (joined a b)
-  joined_goes_home a b one two (inr follows) s d is home = ⊎_elim (λ (h : within a s ≡ true). one s d h home) (λ (h : within b s ≡ true). two s d h home)
-      (or_cases (within a s) (within b s) (sym (within_joined a b s follows) ∙ is))
-  joined_goes_home a b one two (inl none) s d is home = one s d (sym (joined_empty a b s (eq-eqb b.count 0 none)) ∙ is) home
-
-  -- where each section is of home d, and d is c or linked with it
-  pub own_goes_home : (r : SectionRun) (d : ℕ) → ((s : ℕ) → within r s ≡ true → is_home line d s ≡ true) → ((d == c) || is_linked line c d) ≡ true → GoesHome line c r
-  own_goes_home r d each fine s e is home = subst (λ x. ((x == c) || is_linked line c x) ≡ true) (one_home line d e s (each s is) home) fine

@@ -3,7 +3,7 @@ use Rattle.std.proofs.Common.{◌≡◌, inl, inr, ℕ, ◌<◌, ◌≤◌, ◌=
 use Rattle.std.specs.Option.{option_map_or}
 use Rattle.std.specs.List.{find, range_with_len}
 use Rattle.std.proofs.lemmas.Option.{same_Some}
-use Rattle.std.proofs.lemmas.Bool.{and_parts, or_right, eqb-false}
+use Rattle.std.proofs.lemmas.Bool.{and_parts, eqb-false}
 use Rattle.rbc_spec.specs.Maps.{has, put}
 use Rattle.rbc_spec.specs.SectionRuns.{SectionRun, no_run, behind, within, is_empty, part_before, part_from, all_of}
 use Rattle.rbc_spec.specs.Line.{Line, IsLine, is_centre, is_home, is_linked, section}
@@ -17,10 +17,9 @@ use Rattle.rbc_spec.specs.Acts.{Act, become, rest, ◌>>◌, with_some, send, bo
 use Rattle.rbc_spec.specs.Rules.{reject, begin, drop_wait}
 use Rattle.rbc_spec.specs.Links.{is_train, is_of_line, lendable, answered_ask, right_asked, right_given, right_refused, right_returned, route_asked, is_wanted, route_told, route_withdrawn, route_returned, announced, is_under, cancelled, taking_over, may_take, take_mission, yielded, expect, received}
 use Rattle.rbc_spec.specs.Step.{Deliver, taken_by, offered, effect}
-use Rattle.law_base.proofs.Runs.{each_within}
 use Rattle.law_base.proofs.Longest.{longest_few}
 use Rattle.law_ranges.specs.Ranges.{HasMissionRanges}
-use Rattle.law_ranges.proofs.Basics.{known_engine, linked_centre, none_goes_home, before_goes_home, from_goes_home, own_goes_home, goes_home}
+use Rattle.law_ranges.proofs.Basics.{known_engine, linked_centre}
 use Rattle.law_ranges.proofs.Places.{carried_range}
 use Rattle.law_ranges.proofs.Sent.{Kept, Goes, quiet, sends, then_goes, if_goes, if_reply, or_goes, or_reply, with_wait, with_heard, with_expectation, sets, changes, changes_at, books, frees, returns, orders_end, proposes, drops_wait, yields_over}
 use Rattle.law_ranges.proofs.Reports.{gives_back}
@@ -31,9 +30,7 @@ shorter_range : (line : Line) (c s : ℕ) (n : Mission) → HasMissionRanges lin
 shorter_range line c s n is = record {
   place = is.place;
   hand = is.hand;
-  hand_home = is.hand_home;
   pool = let few = is.pool in omega (arith, few);
-  pool_home = before_goes_home line c n.pool s is.pool_home;
   follows = ⊎_elim (λ (none : n.pool.count ≡ 0). inl (omega (arith, none))) (λ (after : n.pool.first ≡ behind n.hand). inr after) is.follows;
   handing = is.handing;
 }
@@ -87,13 +84,11 @@ module _ (line : Line) (ok : IsLine line) (c d : ℕ) (from : is_linked line c d
   route_is_told : (r : SectionRun) (k : Centre) → HasRunRange 0 31 r → Kept line ok c k → Goes line ok c (route_told line c d t r k)
   route_is_told r k range old = by_test ((has (λ first. first == r.first) (k.route_ask t) && (is_of_line line r && is_home line d r.first)) && all_of (is_home line d) r) refl
     where
-      pooled : all_of (is_home line d) r ≡ true → (m : Mission) → HasMissionRanges line c m → is_wanted line r m ≡ true → HasMissionRanges line c (record m { pool = r })
-      pooled all m is wanted = record {
+      pooled : (m : Mission) → HasMissionRanges line c m → is_wanted line r m ≡ true → HasMissionRanges line c (record m { pool = r })
+      pooled m is wanted = record {
         place = is.place;
         hand = is.hand;
-        hand_home = is.hand_home;
         pool = range.count.1;
-        pool_home = own_goes_home line c r d (λ s has. each_within (is_home line d) r all s has) (or_right (d == c) (is_linked line c d) from);
         follows = inr (eqb-true r.first (behind m.hand) (and_parts (r.first == behind m.hand) (is_on line m.place.track r.first) (and_parts ((r.first == behind m.hand) && is_on line m.place.track r.first) (not m.is_ended && is_empty m.pool) wanted).0).0);
         handing = is.handing;
       }
@@ -108,10 +103,9 @@ module _ (line : Line) (ok : IsLine line) (c d : ℕ) (from : is_linked line c d
           → Goes line ok c (if b then (become (λ j. record j { route_ask = put j.route_ask t None }) >> (λ j. if has (is_wanted line r) (j.mission t) then change_mission t (λ m. record m { pool = r }) j
           else (if is_empty r then rest else send d (RouteReturn t r)) j)) k else rest k)
       by_test true mine =
-          let all = (and_parts (has (λ first. first == r.first) (k.route_ask t) && (is_of_line line r && is_home line d r.first)) (all_of (is_home line d) r) mine).1 in
           then_goes line ok c (become (λ j. record j { route_ask = put j.route_ask t None })) _ k (quiet line ok c old)
           (λ j is same. if_reply line ok c (has (is_wanted line r) (j.mission t)) _ _
-          (λ wanted. changes_at line ok c t (λ m. record m { pool = r }) j same (λ m at. pooled all m (same.mission t m at) (wanted_at j m wanted at)))
+          (λ wanted. changes_at line ok c t (λ m. record m { pool = r }) j same (λ m at. pooled m (same.mission t m at) (wanted_at j m wanted at)))
           (λ no. if_goes line ok c (is_empty r) rest (send d (RouteReturn t r)) j (λ none. quiet line ok c same) (λ some. sends line ok c d (RouteReturn t r) j from (engine, homes some) same)))
       by_test false other = quiet line ok c old
 
@@ -120,7 +114,7 @@ module _ (line : Line) (ok : IsLine line) (c d : ℕ) (from : is_linked line c d
       (λ m at. if_goes line ok c (within m.pool s) (returned line c t m.place.track (part_from s m.pool) >> change_mission t (λ n. record n { pool = part_before s n.pool })) (propose_if_so line t s) k
       (λ pooled. let fine = old.mission t m at in let few = fine.pool in
       then_goes line ok c (returned line c t m.place.track (part_from s m.pool)) (change_mission t (λ n. record n { pool = part_before s n.pool })) k
-      (returns line ok c t m.place.track (part_from s m.pool) k engine (omega (arith, few)) (from_goes_home line c m.pool s fine.pool_home) old)
+      (returns line ok c t m.place.track (part_from s m.pool) k engine (omega (arith, few)) centre old)
       (λ j is same. changes line ok c t (λ n. record n { pool = part_before s n.pool }) j same (λ n is. shorter_range line c s n is)))
       (λ no. proposes line ok c t s k old))
       (λ none. quiet line ok c old)
@@ -182,9 +176,7 @@ module _ (line : Line) (ok : IsLine line) (c : ℕ) where
       arrived place is engine may = record {
         place = carried_range carried place is range.3;
         hand = range.4;
-        hand_home = goes_home line ok c (linked_centre line c d from) hand;
         pool = omega arith;
-        pool_home = none_goes_home line c;
         follows = inl refl;
         handing = λ h at. cc;
       }

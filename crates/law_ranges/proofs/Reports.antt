@@ -1,8 +1,8 @@
 -- Reports, ends of mission and shortenings leave a centre in its ranges.
-use Rattle.std.proofs.Common.{◌≡◌, ◌≢◌, inl, inr, ℕ, ◌+◌, ◌*◌, ◌≤◌, ◌==◌, ◌&&◌, not, if◌then◌else◌, Bool, true, false, [], ◌∷◌, All, Option, Some, None, option_map, nat_le, refl, sym, ◌∙◌, subst, arith, ⊎_elim, eq-eqb, ◌-◌}
+use Rattle.std.proofs.Common.{◌≡◌, ◌≢◌, inl, inr, ℕ, ◌+◌, ◌*◌, ◌≤◌, ◌==◌, ◌&&◌, not, if◌then◌else◌, Bool, true, false, [], ◌∷◌, All, Option, Some, None, option_map, nat_le, refl, sym, ◌∙◌, subst, arith, ⊎_elim, ◌-◌}
 use Rattle.std.specs.Option.{option_map_or}
 use Rattle.std.proofs.lemmas.Option.{same_Some}
-use Rattle.std.proofs.lemmas.Bool.{cases_eq, cond-true, eqb-false}
+use Rattle.std.proofs.lemmas.Bool.{eqb-false}
 use Rattle.std.proofs.lemmas.List.Elements.{All-nil, All-cons}
 use Rattle.law_base.proofs.Standstill.{rests_or_cuts}
 use Rattle.rbc_spec.specs.Maps.{put, has}
@@ -13,18 +13,14 @@ use Rattle.rbc_spec.specs.Frame.{ReturnRight, TakingOver, IsEngine, IsHandoverNu
 use Rattle.rbc_spec.specs.Centre.{Centre, Mission, Proposal, Expectation, is_registrar_of}
 use Rattle.rbc_spec.specs.Acts.{Act, rest, ◌>>◌, with_mission, send, returned, leave, set_mission, change_mission, return_pool, cancel, return_right, close, part_at}
 use Rattle.rbc_spec.specs.Rules.{cleared, clear, report_here, report, taking, take_over, end_mission, cut, granted, answer_granted, stand_still}
-use Rattle.law_base.proofs.Runs.{within_true, within_from, joined_count}
+use Rattle.law_base.proofs.Runs.{joined_count}
 use Rattle.law_base.proofs.Longest.{longest_few}
-use Rattle.law_ranges.specs.Ranges.{HasPositionRanges, GoesHome, HasMissionRanges, IsSentInRange}
-use Rattle.law_ranges.proofs.Basics.{registrar_linked, none_goes_home, before_goes_home, from_goes_home, joined_goes_home}
+use Rattle.law_ranges.specs.Ranges.{HasPositionRanges, HasMissionRanges, IsSentInRange}
+use Rattle.law_ranges.proofs.Basics.{registrar_linked}
 use Rattle.law_ranges.proofs.Places.{place_on_range}
 use Rattle.law_ranges.proofs.Sent.{Kept, Goes, quiet, sends, then_goes, if_goes, or_goes, or_reply, with_expects, sets, changes, returns, leaving, cancels}
 
 -- ## Runs
-
--- the first sections of a run
-front_goes_home : (line : Line) (c : ℕ) (r : SectionRun) (n : ℕ) → n ≤ r.count → GoesHome line c r → GoesHome line c (record { first = r.first; count = n })
-front_goes_home line c r n few goes s d is home = let ends = within_true (record { first = r.first; count = n }) s is in goes s d (within_from r s ends.0 (omega (arith, few, ends.1))) home
 
 -- what is left of a hand behind its first sections
 rest_range : (hand : SectionRun) (n : ℕ) → n ≤ hand.count → n ≢ hand.count → HasRunRange 1 most_in_hand hand → HasRunRange 1 most_in_hand (part_from (hand.first + n) hand)
@@ -52,9 +48,6 @@ module _ (line : Line) (ok : IsLine line) (c : ℕ) (centre : is_centre line c �
   -- hand and pool together
   all_few : (m : Mission) → Fine m → (joined m.hand m.pool).count ≤ 63
   all_few m fine = let hand = fine.hand.count.1 in let pool = fine.pool in omega (arith, joined_count m.hand m.pool, hand, pool)
-
-  all_home : (m : Mission) → Fine m → GoesHome line c (joined m.hand m.pool)
-  all_home m fine = joined_goes_home line c m.hand m.pool fine.hand_home fine.pool_home fine.follows
 
   -- ## Closing
 
@@ -90,9 +83,7 @@ module _ (line : Line) (ok : IsLine line) (c : ℕ) (centre : is_centre line c �
       fine_new some = record {
         place = placed;
         hand = rest_range m.hand r.count few some fine.hand;
-        hand_home = from_goes_home line c m.hand (behind r) fine.hand_home;
         pool = fine.pool;
-        pool_home = fine.pool_home;
         follows = ⊎_elim (λ (none : m.pool.count ≡ 0). inl none) (λ (after : m.pool.first ≡ behind m.hand). inr (after ∙ sym (rest_behind m.hand r.count few))) fine.follows;
         handing = fine.handing;
       }
@@ -100,9 +91,9 @@ module _ (line : Line) (ok : IsLine line) (c : ℕ) (centre : is_centre line c �
       by_all : (b : Bool) → (r.count == m.hand.count) ≡ b
           → Goes line ok c ((if b then (leave line c t m.place.track (joined m.hand m.pool) >> close line c t m) else (leave line c t m.place.track r >> set_mission t (Some new))) k)
       by_all true all = then_goes line ok c (leave line c t m.place.track (joined m.hand m.pool)) (close line c t m) k
-          (leaving line ok c t m.place.track (joined m.hand m.pool) k engine (all_few m fine) (all_home m fine) old) (λ j is same. closes m j fine same)
+          (leaving line ok c t m.place.track (joined m.hand m.pool) k engine (all_few m fine) centre old) (λ j is same. closes m j fine same)
       by_all false some = then_goes line ok c (leave line c t m.place.track r) (set_mission t (Some new)) k
-          (leaving line ok c t m.place.track r k engine (let high = fine.hand.count.1 in omega (arith, few, high)) (front_goes_home line c m.hand r.count few fine.hand_home) old)
+          (leaving line ok c t m.place.track r k engine (let high = fine.hand.count.1 in omega (arith, few, high)) centre old)
           (λ j is same. sets line ok c t (Some new) j same (λ n was. subst Fine (same_Some new n was) (fine_new (eqb-false r.count m.hand.count some))))
 
   module _ (position : Position) (range : HasPositionRanges position) where
@@ -149,7 +140,7 @@ module _ (line : Line) (ok : IsLine line) (c : ℕ) (centre : is_centre line c �
 
     cuts : (last_kept : ℕ) (m : Mission) (k : Centre) → Fine m → Kept line ok c k → Goes line ok c (cut line c t last_kept m k)
     cuts last_kept m k fine old = then_goes line ok c (leave line c t m.place.track (joined tail m.pool)) _ k
-        (leaving line ok c t m.place.track (joined tail m.pool) k engine tail_few tail_home old) (λ j is same. by_all (tail.count == m.hand.count) refl j same)
+        (leaving line ok c t m.place.track (joined tail m.pool) k engine tail_few centre old) (λ j is same. by_all (tail.count == m.hand.count) refl j same)
       where
         tail : SectionRun
         tail = part_from (last_kept + 1) m.hand
@@ -163,20 +154,11 @@ module _ (line : Line) (ok : IsLine line) (c : ℕ) (centre : is_centre line c �
         tail_few : (joined tail m.pool).count ≤ 63
         tail_few = let hand = fine.hand.count.1 in let pool = fine.pool in omega (arith, joined_count tail m.pool, hand, pool)
 
-        tail_home : GoesHome line c (joined tail m.pool)
-        tail_home = ⊎_elim
-            (λ (none : tail.count ≡ 0). subst (GoesHome line c) (sym (cond-true (is_empty tail) m.pool (record { first = tail.first; count = tail.count + m.pool.count }) (eq-eqb tail.count 0 none))) fine.pool_home)
-            (λ (some : tail.count ≢ 0). joined_goes_home line c tail m.pool (from_goes_home line c m.hand (last_kept + 1) fine.hand_home) fine.pool_home
-            (⊎_elim (λ (none : m.pool.count ≡ 0). inl none) (λ (after : m.pool.first ≡ behind m.hand). inr (omega (arith, after, some))) fine.follows))
-            (cases_eq tail.count 0)
-
         fine_kept : tail.count ≢ m.hand.count → Fine kept
         fine_kept some = record {
           place = fine.place;
           hand = kept_range m.hand (last_kept + 1) some fine.hand;
-          hand_home = before_goes_home line c m.hand (last_kept + 1) fine.hand_home;
           pool = omega arith;
-          pool_home = none_goes_home line c;
           follows = inl refl;
           handing = fine.handing;
         }
@@ -204,12 +186,12 @@ module _ (line : Line) (ok : IsLine line) (c : ℕ) (centre : is_centre line c �
         end_it m = return_pool line c t m >> change_mission t (λ n. record n { is_ended = true; proposal = None })
 
         no_pool : (n : Mission) → Fine n → Fine (record n { pool = no_run })
-        no_pool n is = record { place = is.place; hand = is.hand; hand_home = is.hand_home; pool = omega arith; pool_home = none_goes_home line c; follows = inl refl; handing = is.handing }
+        no_pool n is = record { place = is.place; hand = is.hand; pool = omega arith; follows = inl refl; handing = is.handing }
 
         ending : (m : Mission) (j : Centre) → Fine m → Kept line ok c j → Goes line ok c (end_it m j)
         ending m j fine same = then_goes line ok c (return_pool line c t m) (change_mission t (λ n. record n { is_ended = true; proposal = None })) j
             (then_goes line ok c (returned line c t m.place.track m.pool) (change_mission t (λ n. record n { pool = no_run })) j
-            (returns line ok c t m.place.track m.pool j engine (let few = fine.pool in omega (arith, few)) fine.pool_home same) (λ i was last. changes line ok c t (λ n. record n { pool = no_run }) i last no_pool))
+            (returns line ok c t m.place.track m.pool j engine (let few = fine.pool in omega (arith, few)) centre same) (λ i was last. changes line ok c t (λ n. record n { pool = no_run }) i last no_pool))
             (λ i was last. changes line ok c t (λ n. record n { is_ended = true; proposal = None }) i last (λ n is. is))
 
     -- ## Shortenings that are granted

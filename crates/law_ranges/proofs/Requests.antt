@@ -1,8 +1,8 @@
 -- Starts of mission and requests leave a centre in its ranges.
-use Rattle.std.proofs.Common.{◌≡◌, inl, inr, ℕ, ◌+◌, ◌-◌, ◌<◌, ◌≤◌, ◌==◌, ◌&&◌, ◌||◌, not, if◌then◌else◌, min, Bool, true, false, Some, None, is_none, nat_lt, refl, sym, ap, ◌∙◌, subst, arith, ⊎_elim, eqb-true, eq-eqb, ltb-true}
+use Rattle.std.proofs.Common.{◌≡◌, inl, inr, ℕ, ◌+◌, ◌-◌, ◌<◌, ◌≤◌, ◌&&◌, ◌||◌, not, if◌then◌else◌, min, Bool, true, false, Some, None, is_none, nat_lt, refl, sym, ap, ◌∙◌, subst, arith, ⊎_elim, eqb-true, ltb-true}
 use Rattle.std.specs.Option.{option_map_or}
 use Rattle.std.proofs.lemmas.Option.{same_Some}
-use Rattle.std.proofs.lemmas.Bool.{and_parts, or_cases, or_left}
+use Rattle.std.proofs.lemmas.Bool.{and_parts, or_cases}
 use Rattle.rbc_spec.specs.Maps.{put}
 use Rattle.rbc_spec.specs.SectionRuns.{SectionRun, most_in_hand, within, behind, is_empty, part_from, joined, all_of}
 use Rattle.rbc_spec.specs.Line.{Line, IsLine, start, end, registrar, is_centre, is_home, is_linked, next_centre}
@@ -13,12 +13,11 @@ use Rattle.rbc_spec.specs.Frame.{AskRight, Announce, RouteAsk, IsEngine, IsHando
 use Rattle.rbc_spec.specs.Centre.{Centre, Taken, Mission, Handing, is_open, is_free, is_registrar_of}
 use Rattle.rbc_spec.specs.Acts.{Act, become, rest, ◌>>◌, where_so, send, say, booked, set_mission, change_mission, begun, part_at, announce, ask_route}
 use Rattle.rbc_spec.specs.Rules.{accept, reject, restart, begin, start_here, start_waiting, start_new, start_mission, may_follow, extension, extended_by, authority, announce_if_due, ask_route_if_due, at_border, grant, request}
-use Rattle.law_base.proofs.Lines.{one_home}
-use Rattle.law_base.proofs.Runs.{within_true, within_joined, joined_count, joined_is, each_within}
+use Rattle.law_base.proofs.Runs.{within_true, within_joined, joined_count, joined_is}
 use Rattle.law_base.proofs.Longest.{longest_few, longest_each}
 use Rattle.law_centre_sound.proofs.Places.{fit_is}
-use Rattle.law_ranges.specs.Ranges.{HasPositionRanges, GoesHome, HasStartRanges, HasMissionRanges}
-use Rattle.law_ranges.proofs.Basics.{registrar_linked, next_linked, on_below, home_below, run_range, none_goes_home, from_goes_home, joined_goes_home, own_goes_home}
+use Rattle.law_ranges.specs.Ranges.{HasPositionRanges, HasStartRanges, HasMissionRanges}
+use Rattle.law_ranges.proofs.Basics.{registrar_linked, next_linked, on_below, home_below, run_range}
 use Rattle.law_ranges.proofs.Places.{extent_range, place_on_range, fit_range}
 use Rattle.law_ranges.proofs.Sent.{Kept, Goes, quiet, sends, then_goes, if_goes, if_reply, or_goes, or_reply, with_wait, sets, changes, books}
 
@@ -28,23 +27,21 @@ module _ (line : Line) (ok : IsLine line) (c : ℕ) (t : ℕ) (engine : IsEngine
 
   -- ## Starts
 
-  begun_range : (place : Place) → HasStartRanges line c place → Fine (begun line place)
+  begun_range : (place : Place) → HasStartRanges line place → Fine (begun line place)
   begun_range place is = record {
     place = is.place;
     hand = is.hand;
-    hand_home = is.home;
     pool = omega arith;
-    pool_home = none_goes_home line c;
     follows = inl refl;
     handing = λ h at. cc;
   }
 
-  pub begins : (place : Place) (k : Centre) → HasStartRanges line c place → Kept line ok c k → Goes line ok c (begin line t place k)
+  pub begins : (place : Place) (k : Centre) → HasStartRanges line place → Kept line ok c k → Goes line ok c (begin line t place k)
   begins place k fits old = then_goes line ok c (set_mission t (Some (begun line place))) (accept t) k
       (sets line ok c t (Some (begun line place)) k old (λ m is. subst Fine (same_Some (begun line place) m is) (begun_range place fits))) (λ j is same. quiet line ok c same)
 
   placed : (place : Place) → HasPlaceRange (yielded_place place) → (n : Mission) → Fine n → Fine (record n { place = place; has_data = false; is_ended = false; proposal = None })
-  placed place at n is = record { place = at; hand = is.hand; hand_home = is.hand_home; pool = is.pool; pool_home = is.pool_home; follows = is.follows; handing = is.handing }
+  placed place at n is = record { place = at; hand = is.hand; pool = is.pool; follows = is.follows; handing = is.handing }
 
   module _ (centre : is_centre line c ≡ true) (is_valid : Bool) (position : Position) (range : HasPositionRanges position) where
     pub starts : (k : Centre) → Kept line ok c k → Goes line ok c (start_mission line c t is_valid position k)
@@ -53,21 +50,19 @@ module _ (line : Line) (ok : IsLine line) (c : ℕ) (t : ℕ) (engine : IsEngine
         at_place : (place : Place) → fit_place line is_valid position ≡ Some place → HasPlaceRange (yielded_place place)
         at_place place fits = extent_range line ok position range place (fit_is line is_valid position place fits).1
 
-        may_start : (place : Place) → fit_place line is_valid position ≡ Some place → all_of (is_free line c k) (covered line place) ≡ true → HasStartRanges line c place
-        may_start place fits free = record {
+        may_start : (place : Place) → fit_place line is_valid position ≡ Some place → HasStartRanges line place
+        may_start place fits = record {
           place = at_place place fits;
           hand = fit_range line ok place (fit_is line is_valid position place fits).0;
-          home = own_goes_home line c (covered line place) c (λ s is. (and_parts (is_home line c s) (is_open (k.book s)) (each_within (is_free line c k) (covered line place) free s is)).0)
-              (or_left (c == c) (is_linked line c c) (eq-eqb c c refl));
         }
 
         asking : Act
         asking = option_map_or (λ r. send r (AskRight t)) (registrar line t) rest >> become (λ j. record j { has_asked = put j.has_asked t true })
 
-        waits : (place : Place) → HasStartRanges line c place → is_registrar_of line c t ≡ false → Goes line ok c (start_waiting line t place k)
+        waits : (place : Place) → HasStartRanges line place → is_registrar_of line c t ≡ false → Goes line ok c (start_waiting line t place k)
         waits place may away = then_goes line ok c (booked is_open (Taken t) (covered line place) >> become (λ j. record j { wait = put j.wait t (Some place) })) (where_so (λ j. not (j.has_asked t)) asking) k
             (then_goes line ok c (booked is_open (Taken t) (covered line place)) _ k (books line ok c is_open (Taken t) (covered line place) k old (λ u is. cc))
-            (λ j is same. quiet line ok c (with_wait line ok c j t (Some place) same (λ p was. subst (HasStartRanges line c) (same_Some place p was) may))))
+            (λ j is same. quiet line ok c (with_wait line ok c j t (Some place) same (λ p was. subst (HasStartRanges line) (same_Some place p was) may))))
             (λ j is same. if_reply line ok c (not (j.has_asked t)) (asking j) (rest j)
             (λ asks. then_goes line ok c (option_map_or (λ r. send r (AskRight t)) (registrar line t) rest) _ j
             (or_goes line ok c (registrar line t) (λ r. send r (AskRight t)) rest j (λ r at. sends line ok c r (AskRight t) j (registrar_linked line ok c t r centre away at) engine same) (λ none. quiet line ok c same))
@@ -81,10 +76,10 @@ module _ (line : Line) (ok : IsLine line) (c : ℕ) (t : ℕ) (engine : IsEngine
             (changes line ok c t (λ n. record n { place = place; has_data = false; is_ended = false; proposal = None }) k old (placed place (at_place place fits))) (λ j is same. quiet line ok c same))
             (λ no. quiet line ok c old))
             (λ none. if_reply line ok c (all_of (is_free line c k) (covered line place)) _ (reject t k)
-            (λ free. by_registrar place (may_start place fits free) (is_registrar_of line c t) refl)
+            (λ _. by_registrar place (may_start place fits) (is_registrar_of line c t) refl)
             (λ taken. quiet line ok c old))
           where
-            by_registrar : (place : Place) → HasStartRanges line c place → (b : Bool) → is_registrar_of line c t ≡ b → Goes line ok c ((if b then start_here line t place else start_waiting line t place) k)
+            by_registrar : (place : Place) → HasStartRanges line place → (b : Bool) → is_registrar_of line c t ≡ b → Goes line ok c ((if b then start_here line t place else start_waiting line t place) k)
             by_registrar place may true here = if_reply line ok c (k.has_right t) _ (reject t k)
                 (λ right. then_goes line ok c (booked is_open (Taken t) (covered line place) >> become (λ j. record j { has_right = put j.has_right t false })) (begin line t place) k
                 (then_goes line ok c (booked is_open (Taken t) (covered line place)) _ k (books line ok c is_open (Taken t) (covered line place) k old (λ u is. cc)) (λ j is same. quiet line ok c same))
@@ -117,9 +112,7 @@ module _ (line : Line) (ok : IsLine line) (c : ℕ) (t : ℕ) (engine : IsEngine
       handed number n is low high = record {
         place = is.place;
         hand = is.hand;
-        hand_home = is.hand_home;
         pool = is.pool;
-        pool_home = is.pool_home;
         follows = is.follows;
         handing = λ h at. let same : record { number = number; to = d } ≡ h = same_Some _ h at in
             subst (λ (x : Handing). IsHandoverNumber x.number × (is_linked line c x.to ≡ true)) same ((low, high), linked);
@@ -163,12 +156,6 @@ module _ (line : Line) (ok : IsLine line) (c : ℕ) (t : ℕ) (engine : IsEngine
         let may = longest_each (may_follow line c k m) (behind m.hand) (most_in_hand - m.hand.count) s ends.0 ends.1 in
         and_parts (is_on line m.place.track s) (is_free line c k s || within m.pool s) (and_parts (is_on line m.place.track s && (is_free line c k s || within m.pool s)) (has_room line m.place (end line s)) may).0
 
-    more_home : GoesHome line c more
-    more_home s d is home = ⊎_elim
-        (λ (free : is_free line c k s ≡ true). or_left (d == c) (is_linked line c d) (eq-eqb d c (one_home line d c s home (and_parts (is_home line c s) (is_open (k.book s)) free).0)))
-        (λ (pooled : within m.pool s ≡ true). fine.pool_home s d pooled home)
-        (or_cases (is_free line c k s) (within m.pool s) (follows_it s is).1)
-
     abbrev new : Mission
     new = extended_by more m
 
@@ -201,18 +188,14 @@ module _ (line : Line) (ok : IsLine line) (c : ℕ) (t : ℕ) (engine : IsEngine
         by_pool true none = record {
           place = fine.place;
           hand = longer;
-          hand_home = joined_goes_home line c m.hand more fine.hand_home more_home (inr refl);
           pool = fine.pool;
-          pool_home = fine.pool_home;
           follows = inl (eqb-true m.pool.count 0 none);
           handing = fine.handing;
         }
         by_pool false some = record {
           place = fine.place;
           hand = longer;
-          hand_home = joined_goes_home line c m.hand more fine.hand_home more_home (inr refl);
           pool = let few = fine.pool in omega (arith, few);
-          pool_home = from_goes_home line c m.pool (behind more) fine.pool_home;
           follows = ⊎_elim
               (λ (none : m.pool.count ≡ 0). inl (omega (arith, none)))
               (λ (after : m.pool.first ≡ behind m.hand). inr (let e : behind (joined m.hand more) ≡ m.hand.first + (m.hand.count + more.count) = ap behind hand_is in omega (arith, after, e)))
@@ -228,7 +211,7 @@ module _ (line : Line) (ok : IsLine line) (c : ℕ) (t : ℕ) (engine : IsEngine
       (λ none. quiet line ok c old)
     where
       moved : (m : Mission) (place : Place) → HasPlaceRange (yielded_place place) → Fine m → Fine (record m { place = place })
-      moved m place at is = record { place = at; hand = is.hand; hand_home = is.hand_home; pool = is.pool; pool_home = is.pool_home; follows = is.follows; handing = is.handing }
+      moved m place at is = record { place = at; hand = is.hand; pool = is.pool; follows = is.follows; handing = is.handing }
 
       grants : (m : Mission) → Fine m → Goes line ok c (grant line c t m k)
       grants m fine =

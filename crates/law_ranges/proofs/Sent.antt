@@ -8,7 +8,7 @@ use Rattle.std.proofs.lemmas.Bool.{cases_eq, and_parts, or_parts, eqb-false}
 use Rattle.std.proofs.lemmas.List.Elements.{All-nil, All-cons, All-append}
 use Rattle.rbc_spec.specs.Maps.{put, put_pair}
 use Rattle.rbc_spec.specs.SectionRuns.{SectionRun, within, is_empty, shared}
-use Rattle.rbc_spec.specs.Line.{Line, IsLine, is_home, is_linked}
+use Rattle.rbc_spec.specs.Line.{Line, IsLine, is_centre, is_home, is_linked}
 use Rattle.rbc_spec.specs.Sections.{home_run, is_on}
 use Rattle.rbc_spec.specs.Place.{Place, covered}
 use Rattle.rbc_spec.specs.Message.{unknown_time}
@@ -20,8 +20,8 @@ use Rattle.law_base.proofs.Puts.{put_here, put_other}
 use Rattle.law_base.proofs.Runs.{within_from}
 use Rattle.law_local.proofs.Ordered.{is_ordered}
 use Rattle.law_network.proofs.Homes.{in_both}
-use Rattle.law_ranges.specs.Ranges.{GoesHome, HasStartRanges, HasMissionRanges, HasStateRanges, IsSentInRange, LeavesInRange}
-use Rattle.law_ranges.proofs.Basics.{part_range}
+use Rattle.law_ranges.specs.Ranges.{HasStartRanges, HasMissionRanges, HasStateRanges, IsSentInRange, LeavesInRange}
+use Rattle.law_ranges.proofs.Basics.{part_range, each_home, linked_centre}
 
 module _ (line : Line) (ok : IsLine line) (c : ℕ) where
   abbrev pub Kept : Centre → Type 0
@@ -49,7 +49,7 @@ module _ (line : Line) (ok : IsLine line) (c : ℕ) where
     expects = old.expects;
   }
 
-  pub with_wait : (k : Centre) (t : ℕ) (new : Option Place) → Kept k → ((place : Place) → new ≡ Some place → HasStartRanges line c place) → Kept (record k { wait = put k.wait t new })
+  pub with_wait : (k : Centre) (t : ℕ) (new : Option Place) → Kept k → ((place : Place) → new ≡ Some place → HasStartRanges line place) → Kept (record k { wait = put k.wait t new })
   with_wait k t new old fine = record {
     clock = old.clock;
     announced = old.announced;
@@ -166,8 +166,8 @@ module _ (line : Line) (ok : IsLine line) (c : ℕ) where
 
   -- ## Sections that go home
 
-  pub returns : (t track : ℕ) (r : SectionRun) (k : Centre) → IsEngine t → r.count ≤ 63 → GoesHome line c r → Kept k → Goes (returned line c t track r k)
-  returns t track r k engine few goes old = record { centre = old; bodies = λ d. by_empty d ((d == c) || is_empty (part d)) refl }
+  pub returns : (t track : ℕ) (r : SectionRun) (k : Centre) → IsEngine t → r.count ≤ 63 → is_centre line c ≡ true → Kept k → Goes (returned line c t track r k)
+  returns t track r k engine few centre old = record { centre = old; bodies = λ d. by_empty d ((d == c) || is_empty (part d)) refl }
     where
       part : ℕ → SectionRun
       part d = shared r (home_run line d track)
@@ -178,15 +178,15 @@ module _ (line : Line) (ok : IsLine line) (c : ℕ) where
           let s : ℕ = (part d).first in
           let both = in_both r (home_run line d track) s (within_from (part d) s (omega arith) (omega (arith, filled))) in
           let home = (and_parts (is_home line d s) (is_on line track s) (sym ((is_ordered line ok).homes_run d track s) ∙ both.1)).0 in
-          record { linked = sym (ap (λ z. z || is_linked line c d) apart) ∙ goes s d both.0 home; body = (engine, part_range line ok 63 d track r few some) }
+          record { linked = sym (ap (λ z. z || is_linked line c d) apart) ∙ each_home line ok c centre s d home; body = (engine, part_range line ok 63 d track r few some) }
 
       by_empty : (d : ℕ) (b : Bool) → ((d == c) || is_empty (part d)) ≡ b → All (IsSentInRange line c d) (if b then [] else RouteReturn t (part d) ∷ [])
       by_empty d true is = All-nil (IsSentInRange line c d)
       by_empty d false is = let parts = or_parts (d == c) (is_empty (part d)) is in
           All-cons (IsSentInRange line c d) (RouteReturn t (part d)) [] (sent d parts.0 parts.1) (All-nil (IsSentInRange line c d))
 
-  pub leaving : (t track : ℕ) (r : SectionRun) (k : Centre) → IsEngine t → r.count ≤ 63 → GoesHome line c r → Kept k → Goes (leave line c t track r k)
-  leaving t track r k engine few goes old = then_goes (freed line c (is_taken_for t) r) (returned line c t track r) k (frees (is_taken_for t) r k old) (λ j is same. returns t track r j engine few goes same)
+  pub leaving : (t track : ℕ) (r : SectionRun) (k : Centre) → IsEngine t → r.count ≤ 63 → is_centre line c ≡ true → Kept k → Goes (leave line c t track r k)
+  leaving t track r k engine few centre old = then_goes (freed line c (is_taken_for t) r) (returned line c t track r) k (frees (is_taken_for t) r k old) (λ j is same. returns t track r j engine few centre same)
 
   -- ## Handovers
 
@@ -197,7 +197,7 @@ module _ (line : Line) (ok : IsLine line) (c : ℕ) where
       (λ none. quiet old)
     where
       without_handing : (n : Mission) → HasMissionRanges line c n → HasMissionRanges line c (record n { handing = None })
-      without_handing n is = record { place = is.place; hand = is.hand; hand_home = is.hand_home; pool = is.pool; pool_home = is.pool_home; follows = is.follows; handing = λ h at. cc }
+      without_handing n is = record { place = is.place; hand = is.hand; pool = is.pool; follows = is.follows; handing = λ h at. cc }
 
   pub orders_end : (t : ℕ) (k : Centre) → Kept k → Goes (end_order line c t k)
   orders_end t k old = if_reply (is_up (k.phase t)) _ (rest k) (λ up. quiet old) (λ down. quiet old)
@@ -206,7 +206,7 @@ module _ (line : Line) (ok : IsLine line) (c : ℕ) where
   yields_it t m h k engine fine handed old = then_goes _ (if is_empty (part_at line c m.place.track m.hand) then end_order line c t else rest) k
       (then_goes (returned line c t m.place.track m.pool >> booked (is_taken_for t) (Out t) m.hand) _ k
       (then_goes (returned line c t m.place.track m.pool) (booked (is_taken_for t) (Out t) m.hand) k
-      (returns t m.place.track m.pool k engine (omega (arith, fine.pool)) fine.pool_home old)
+      (returns t m.place.track m.pool k engine (omega (arith, fine.pool)) (linked_centre line c h.to to.1) old)
       (λ j is same. books (is_taken_for t) (Out t) m.hand j same out_to))
       (λ j is same. then_goes (set_mission t None) (send h.to (Yield h.number t (option_map_or (λ n. n) (k.heard t) 0) m.has_data m.is_ended (yielded_place m.place) m.hand)) j
       (sets t None j same (λ n at. cc))

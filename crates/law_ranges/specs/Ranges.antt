@@ -1,7 +1,7 @@
 -- The ranges of what a centre keeps and hears, as far as the frames that it sends are made of it.
-use Rattle.std.specs.Prelude.{◌≡◌, ◌⊎◌, ℕ, ◌≤◌, ◌<◌, ◌==◌, ◌||◌, true, List, All, Option, Some}
-use Rattle.rbc_spec.specs.SectionRuns.{SectionRun, most_in_hand, within, behind}
-use Rattle.rbc_spec.specs.Line.{Line, is_centre, is_home, is_linked}
+use Rattle.std.specs.Prelude.{◌≡◌, ◌⊎◌, ℕ, ◌≤◌, ◌<◌, true, List, All, Option, Some}
+use Rattle.rbc_spec.specs.SectionRuns.{SectionRun, most_in_hand, behind}
+use Rattle.rbc_spec.specs.Line.{Line, is_centre, is_linked}
 use Rattle.rbc_spec.specs.Place.{Place, Position, covered}
 use Rattle.rbc_spec.specs.Message.{TrainMessage, TrainBody, TrainData, Request, Report, ShorteningGranted, ShorteningRejected, EndOfMission, StartOfMission, unknown_time}
 use Rattle.rbc_spec.specs.Frame.{Body, yielded_place, IsEngine, IsHandoverNumber, HasRunRange, HasPlaceRange, HasBodyRange}
@@ -40,23 +40,16 @@ HasEventRanges line c (Deliver d f) = HasBodyRange f.body
 
 -- ## What is kept
 
--- each section of the run is of home c, or of a centre that c has a link with
-abbrev pub GoesHome : Line → ℕ → SectionRun → Type 0
-GoesHome line c r = (s d : ℕ) → within r s ≡ true → is_home line d s ≡ true → ((d == c) || is_linked line c d) ≡ true
-
--- a place whose sections may be a hand at c
-pub record HasStartRanges (line : Line) (c : ℕ) (p : Place) : Type 0 where
+-- a place whose sections may be a hand
+pub record HasStartRanges (line : Line) (p : Place) : Type 0 where
   pub place : HasPlaceRange (yielded_place p)
   pub hand : HasRunRange 1 most_in_hand (covered line p)
-  pub home : GoesHome line c (covered line p)
 
 -- what a mission at c has: a hand, at most 31 sections behind it, and a handover to a linked centre
 pub record HasMissionParts (line : Line) (c : ℕ) (p : Place) (held lent : SectionRun) (handover : Option Handing) : Type 0 where
   pub place : HasPlaceRange (yielded_place p)
   pub hand : HasRunRange 1 most_in_hand held
-  pub hand_home : GoesHome line c held
   pub pool : lent.count ≤ 31
-  pub pool_home : GoesHome line c lent
   pub follows : (lent.count ≡ 0) ⊎ (lent.first ≡ behind held)
   pub handing : (h : Handing) → handover ≡ Some h → IsHandoverNumber h.number × (is_linked line c h.to ≡ true)
 
@@ -72,7 +65,7 @@ pub record HasStateParts (line : Line) (c stamp count : ℕ) (book : ℕ → Ent
   pub out : (s t : ℕ) → book s ≡ Out t → IsEngine t
   pub heard : (t time : ℕ) → times t ≡ Some time → time < unknown_time
   pub mission : (t : ℕ) (m : Mission) → missions t ≡ Some m → HasMissionRanges line c m
-  pub wait : (t : ℕ) (place : Place) → waits t ≡ Some place → HasStartRanges line c place
+  pub wait : (t : ℕ) (place : Place) → waits t ≡ Some place → HasStartRanges line place
   pub expects : (d t : ℕ) (e : Expectation) → expected d t ≡ Some e → IsHandoverNumber e.number × (is_linked line c d ≡ true)
 
 abbrev pub HasStateRanges : Line → ℕ → Centre → Type 0
