@@ -1,9 +1,9 @@
 -- The look-up tables that stand beside a line.
-use Rattle.std.specs.Prelude.{◌≡◌, ℕ, ◌+◌, ◌*◌, ◌%◌, ◌<◌, Bool, List, get_or, Option, Some, slice_get, nat_eq}
+use Rattle.std.specs.Prelude.{◌≡◌, ℕ, ◌+◌, ◌*◌, ◌%◌, ◌<◌, List, get_or, Option, Some, slice_get, nat_eq}
 use Rattle.std.specs.HashMap.{HashMap, get}
 use Rattle.std.specs.declared.hash.FoldHasher.{FoldHasher}
 use Rattle.std.specs.declared.hash.BuildHasherDefault.{BuildHasherDefault}
-use Rattle.rbc_spec.specs.Line.{Line, IsLine, start, section_of_group, is_linked, next_centre}
+use Rattle.rbc_spec.specs.Line.{Line, IsLine, start, section_of_group, next_centre}
 use Rattle.rbc_line.specs.declared.parts.Section.{Section as SectionRow}
 
 -- a map from numbers to numbers
@@ -13,10 +13,6 @@ Numbers = HashMap ℕ ℕ (BuildHasherDefault FoldHasher)
 -- each row has the start of its section
 abbrev pub HasStarts : Line → List SectionRow → Type 0
 HasStarts line rows = (s : ℕ) (row : SectionRow) → slice_get rows s ≡ Some row → row.start ≡ start line s
-
--- for each pair of centres whether they are linked
-abbrev pub HasLinks : Line → List Bool → Type 0
-HasLinks line links = (a b : ℕ) → a < 8 → b < 8 → slice_get links (a * 8 + b) ≡ Some (is_linked line a b)
 
 -- for each centre and track the centre that follows
 abbrev pub HasNextCentres : Line → List (Option ℕ) → Type 0
@@ -29,9 +25,8 @@ HasGuessesOf {X} n key xs guesses =
     → get_or guesses (key x % 1024) 0 ≡ i
 
 -- all rules of a line, and the tables agree with it
-pub record IsTabled (line : Line) (rows : List SectionRow) (by_group : Numbers) (pairs : List Bool) (followers : List (Option ℕ)) : Type 0 where
+pub record IsTabled (line : Line) (rows : List SectionRow) (by_group : Numbers) (followers : List (Option ℕ)) : Type 0 where
   pub rules : IsLine line
   pub starts : HasStarts line rows
   pub groups : (q : ℕ) → get nat_eq by_group q ≡ section_of_group line q
-  pub links : HasLinks line pairs
   pub nexts : HasNextCentres line followers

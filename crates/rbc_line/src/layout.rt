@@ -5,9 +5,7 @@ ghost use Rattle.rbc_line.specs.Views.{placed_section, listed_train};
 
 use crate::guesses::Guesses;
 use crate::parts::{Rows, Section, Train};
-use crate::tables::{
-    engine_guesses_of, group_guesses_of, groups_of, links_of, next_centres_of, nid_lrbg_of,
-};
+use crate::tables::{engine_guesses_of, group_guesses_of, groups_of, next_centres_of, nid_lrbg_of};
 use std::alloc::{AllocError, Global};
 use std::collections::HashMap;
 use std::marker::Model;
@@ -19,7 +17,6 @@ pub struct Line {
     groups: HashMap<u32, u16>,
     group_guesses: Guesses,
     engine_guesses: Guesses,
-    links: [bool; 64],
     next_centres: [Option<u8>; 32],
 }
 
@@ -32,11 +29,11 @@ impl Model for Line {
 
     ghost view = { λ l. line_of_rows l.rows };
 
-    ghost invariant = { λ l. IsTabled (line_of_rows l.rows) l.rows.sections.items l.groups l.links l.next_centres };
+    ghost invariant = { λ l. IsTabled (line_of_rows l.rows) l.rows.sections.items l.groups l.next_centres };
 }
 
 impl Line {
-    ghost use Rattle.rbc_line.specs.Tables.{HasStarts, HasLinks, HasNextCentres};
+    ghost use Rattle.rbc_line.specs.Tables.{HasStarts, HasNextCentres};
     ghost use Rattle.rbc_line.specs.Views.{line_of_rows};
 
     /// The line of these rows, with its look-up tables.
@@ -45,21 +42,18 @@ impl Line {
         requires starts { HasStarts (line_of_rows rows) rows.sections.items }
         ensures { IfOk result (λ line. line ≡ line_of_rows rows) }
     {
-        let links = links_of(&rows);
         let next_centres = next_centres_of(&rows);
-        Line::with_centre_tables(alloc, rows, links, next_centres)
+        Line::with_centre_tables(alloc, rows, next_centres)
     }
 
     /// The line of these rows, where the tables of its centres are made.
     fn with_centre_tables(
         alloc: Global,
         rows: Rows,
-        links: [bool; 64],
         next_centres: [Option<u8>; 32],
     ) -> Result<Line, AllocError>
         requires line { IsLine (line_of_rows rows) }
         requires starts { HasStarts (line_of_rows rows) rows.sections.items }
-        requires links { HasLinks (line_of_rows rows) links }
         requires nexts { HasNextCentres (line_of_rows rows) next_centres }
         ensures { IfOk result (λ line. line ≡ line_of_rows rows) }
     {
@@ -71,7 +65,6 @@ impl Line {
             groups,
             group_guesses,
             engine_guesses,
-            links,
             next_centres,
         })
     }
@@ -82,7 +75,7 @@ impl Line {
         ensures line { IfOk result IsLine }
     {
         let rows = self.rows.copied(alloc)?;
-        Line::with_centre_tables(alloc, rows, self.links, self.next_centres)
+        Line::with_centre_tables(alloc, rows, self.next_centres)
     }
 
     /// The country or region that the line's balise groups belong to (NID_C).
@@ -261,14 +254,11 @@ impl Line {
         }
     }
 
-    /// Whether two centres exchange frames: homes of neighbouring sections of a track, or one of them a registrar.
+    /// Whether two centres exchange frames: any two of the line do.
     pub fn linked(&self, a: u8, b: u8) -> bool
         ensures { result ≡ is_linked self.now a b }
     {
-        if a >= self.centre_count() || b >= self.centre_count() {
-            return false;
-        }
-        self.links[a as usize * 8 + b as usize]
+        a < self.centre_count() && b < self.centre_count() && a != b
     }
 
     /// The centre that follows this one on a track.

@@ -2,8 +2,8 @@
 ghost use Rattle.std.specs.Prelude.{◌≡◌, ℕ, ◌+◌, ◌*◌, ◌<◌, ◌≤◌, ◌==◌, ◌&&◌, length, position, find, Some, IfOk, nat_eq};
 ghost use Rattle.std.specs.List.{zip, All};
 ghost use Rattle.std.specs.HashMap.{get};
-ghost use Rattle.rbc_spec.specs.Line.{AreDistinct, is_linked, next_centre};
-ghost use Rattle.rbc_line.specs.Tables.{HasGuessesOf, HasLinks, HasNextCentres};
+ghost use Rattle.rbc_spec.specs.Line.{AreDistinct, next_centre};
+ghost use Rattle.rbc_line.specs.Tables.{HasGuessesOf, HasNextCentres};
 ghost use Rattle.rbc_line.specs.Views.{line_of_rows};
 
 use crate::guesses::Guesses;
@@ -75,25 +75,6 @@ fn next_centre(rows: &Rows, c: u8, track: u8) -> Option<u8>
         Some((_, next)) => Some(next.home),
         None => None,
     }
-}
-
-/// Whether two centres are linked: any two of the line are.
-fn is_link(rows: &Rows, a: u8, b: u8) -> bool
-    ensures { result ≡ is_linked (line_of_rows rows.now) a b }
-{
-    let count = rows.centres.len();
-    (a as usize) < count && (b as usize) < count && a != b
-}
-
-/// For each pair of centres whether they are linked.
-pub(crate) fn links_of(rows: &Rows) -> [bool; 64]
-    ensures { HasLinks (line_of_rows rows.now) result }
-{
-    let mut links = [false; 64];
-    for k in 0..64usize {
-        links[k] = is_link(rows, (k / 8) as u8, (k % 8) as u8);
-    }
-    links
 }
 
 /// For each centre and track the centre that follows.

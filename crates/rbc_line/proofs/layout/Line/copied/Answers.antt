@@ -1,16 +1,12 @@
 use Rattle.std.proofs.Common.{Some, ap, sym, ◌∙◌}
 use Rattle.std.specs.List.{slice_get}
-use Rattle.rbc_spec.specs.Line.{start, is_linked, next_centre}
+use Rattle.rbc_spec.specs.Line.{start, next_centre}
 use Rattle.rbc_line.proofs.layout.Line.copied.Goals as goal
 
 pub with_centre_tables-requires-clause-starts : goal.with_centre_tables-requires-clause-starts
 with_centre_tables-requires-clause-starts c = λ s row at.
     c.self.invariant.starts s row (ap (λ rows. slice_get rows s) (sym c.in_ok-rows.ensures.sections) ∙ at)
     ∙ ap (λ line. start line s) (sym c.in_ok-rows.ensures.line)
-
-pub with_centre_tables-requires-clause-links : goal.with_centre_tables-requires-clause-links
-with_centre_tables-requires-clause-links c = λ a b in_a in_b.
-    c.self.invariant.links a b in_a in_b ∙ ap (λ line. Some (is_linked line a b)) (sym c.in_ok-rows.ensures.line)
 
 pub with_centre_tables-requires-clause-nexts : goal.with_centre_tables-requires-clause-nexts
 with_centre_tables-requires-clause-nexts c = λ a k in_a in_k.

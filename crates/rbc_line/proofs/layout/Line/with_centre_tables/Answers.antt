@@ -17,6 +17,5 @@ invariant_of-result c = record {
   rules = c.requires.line;
   starts = c.requires.starts;
   groups = λ q. (rw c.deref.ensures.value at c.in_ok-groups.ensures) q ∙ sym (position-map (λ p. c.args.rows.nid_c * 16384 + p.balise == q) section_of c.args.rows.sections.items);
-  links = c.requires.links;
   nexts = c.requires.nexts;
 }
