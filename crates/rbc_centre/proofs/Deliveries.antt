@@ -1,5 +1,6 @@
 -- A frame of another centre, and the links that it leaves.
-use Rattle.std.proofs.Common.{◌≡◌, ℕ, ◌+◌, ◌<◌, Bool, true, false, if◌then◌else◌, List, [], length, map, set, slice_get, Option, Some, None, is_some, is_none, refl, sym, ap, ◌∙◌, subst, arith, max, All}
+use Rattle.std.proofs.Common.{◌≡◌, ℕ, ◌+◌, ◌<◌, Bool, true, false, if◌then◌else◌, List, [], length, map, set, slice_get, Option, Some, None, is_some, is_none, nat_le, inl, inr, refl, sym, ap, ◌∙◌, subst, arith, max, All}
+use Rattle.std.proofs.lemmas.Bool.Decides.{eqb_tells}
 use Rattle.rbc_spec.specs.Maps.{put}
 use Rattle.rbc_spec.specs.Line.{Line, is_centre, train_number}
 use Rattle.rbc_spec.specs.Frame.{Frame, Body, AskRight, GiveRight, RefuseRight, ReturnRight, RouteAsk, RouteInfo, RouteWithdraw, RouteReturn, Announce, Cancel, TakingOver, Yield, HasBodyRange, HasFrameRanges}
@@ -226,3 +227,22 @@ next_from k d f mid answer is next = by (has_link k.links d) refl
     by : (b : Bool) → has_link k.links d ≡ b → is_centre k.line d ≡ true
     by true has = linked_centre k.line k.number d (sym (k.each_link d) ∙ has)
     by false has = let no : Next ≡ NoLink = sym next ∙ is.offer ∙ ap (λ b. if b then offered (taken_from k.links d) f.number else NoLink) has in cc
+
+late : (b : Bool) → (if b then Old else Early) ≡ Next → ⊥
+late true said = cc
+late false said = cc
+
+offered_next : (count n : ℕ) → offered count n ≡ Next → n ≡ count + 1
+offered_next count n said = elim (eqb_tells n (count + 1)) [
+  | inl e ↦ e.1
+  | inr e ↦ absurd (late (nat_le n count) (subst (λ b. (if b then Next else (if nat_le n count then Old else Early)) ≡ Next) (e.0) said))
+]
+
+-- and its number is above that of the last that was taken
+pub next_number : (k : CentreCode) (d : ℕ) (f : Frame) (mid : List (Link BodyCode)) (answer : Taken) → IsOffered k d f mid answer → answer ≡ Next → f.number ≡ (state_of k).taken d + 1
+unfolding stands_for
+next_number k d f mid answer is next = by (has_link k.links d) (sym is.offer ∙ next)
+  where
+    by : (b : Bool) → (if b then offered (taken_from k.links d) f.number else NoLink) ≡ Next → f.number ≡ taken_from k.links d + 1
+    by true said = offered_next (taken_from k.links d) f.number said
+    by false said = cc

@@ -1,5 +1,5 @@
 -- The step's definition, seen from the code.
-use Rattle.std.specs.Prelude.{◌≡◌, ◌⊎◌, ℕ, true, Option, Some, Result, Ok, Err, IsOk}
+use Rattle.std.specs.Prelude.{◌≡◌, ◌⊎◌, ◌+◌, ℕ, true, Option, Some, Result, Ok, Err, IsOk}
 use Rattle.rbc_spec.specs.Message.{InitiationOfSession}
 use Rattle.rbc_spec.specs.Centre.{Centre, Out}
 use Rattle.rbc_spec.specs.Step as step
@@ -25,11 +25,11 @@ Steps view (Ok x) r = r ≡ Ok (view x)
 Steps view (Err fault) r = IsRefusal fault r
 
 -- memory is wanted only where a train opens a session, where a section is taken back that is out, and where another centre may have to be
--- told something
+-- told something: by a train's message, or by a frame that is the next of its sender
 abbrev pub TakesMemory : Centre → step.Event → Type 0
 TakesMemory k (step.Train m) = (m.body ≡ InitiationOfSession) ⊎ (tells_others m.body ≡ true)
 TakesMemory k (step.Unset s) = (t : ℕ) × (k.book s ≡ Out t)
-TakesMemory k (step.Deliver from frame) = Unit {0}
+TakesMemory k (step.Deliver from frame) = frame.number ≡ k.taken from + 1
 TakesMemory k event = ⊥
 
 abbrev pub IsWantedBy : {X : Type 0} → Centre → step.Event → Result X StepFault → Type 0

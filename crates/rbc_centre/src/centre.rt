@@ -232,7 +232,8 @@ impl Centre {
     }
 
     /// Takes an event, and answers it. It is refused where the stamp would pass the last one or a link is nearly full, or for want of
-    /// memory, which only the opening of a session and the sending of a frame take; then nothing changes.
+    /// memory, which only the opening of a session and the sending of a frame take: of the frames that come, only one that is the next of
+    /// its sender. Then nothing changes.
     pub fn step(&mut self, event: &Event) -> Result<Outcome, StepFault>
         ensures line { line_of self.new ≡ line_of self.old }
         ensures number { number_of self.new ≡ number_of self.old }

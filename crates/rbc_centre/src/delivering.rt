@@ -1,11 +1,12 @@
-//! The step of a frame of another centre: room is made, the link says whether it is the next, and then its train takes it.
+//! The step of a frame of another centre: room is made where it is the next, the link says whether it is, and then its train takes it.
 
-ghost use Rattle.std.specs.Prelude.{◌≡◌, ◌<◌, IfOk, OnErr, false, max};
+ghost use Rattle.std.specs.Prelude.{◌≡◌, ◌<◌, IfOk, OnOk, OnErr, false, max};
 ghost use Rattle.rbc_spec.specs.Step as spec;
 ghost use Rattle.rbc_spec.specs.Step.{has_full_link};
 ghost use Rattle.rbc_link.specs.Links as links;
+ghost use Rattle.rbc_centre.specs.Answer.{TakesMemory};
 ghost use Rattle.rbc_centre.specs.Rooms.{HasFrameRoom};
-ghost use Rattle.rbc_centre.specs.States.{line_of, number_of, state_of};
+ghost use Rattle.rbc_centre.specs.States.{line_of, number_of, state_of, IsSame};
 ghost use Rattle.rbc_centre.specs.Views.{outcome_of};
 
 use crate::centre::Centre;
@@ -19,7 +20,7 @@ use std::alloc::AllocError;
 use std::cmp::max;
 
 impl Centre {
-    /// The step of a frame, at a centre that does not refuse it. Room for the frames in return is made first.
+    /// The step of a frame, at a centre that does not refuse it. Room for the frames in return is made first, where it is the next.
     pub(crate) fn deliver(&mut self, from: u8, frame: &Frame) -> Result<Outcome, AllocError>
         requires time { max self.old.clock frame.now.stamp < 1073741823 }
         requires numbers { has_full_link (line_of self.old) (number_of self.old) (state_of self.old) ≡ false }
@@ -27,18 +28,33 @@ impl Centre {
         ensures number { number_of self.new ≡ number_of self.old }
         ensures exact { IfOk result (λ o. (outcome_of o, state_of self.new)
             ≡ spec.taken (line_of self.old) (number_of self.old) (spec.Deliver from frame.now) (state_of self.old)) }
+        ensures memory { OnErr result (TakesMemory (state_of self.old) (spec.Deliver from frame.now)) }
         ensures err { OnErr result (state_of self.new ≡ state_of self.old) }
     {
-        self.reserve_frames()?;
+        self.make_room_for(from, frame)?;
         Ok(self.take_frame(from, frame))
     }
 
-    // The step of a frame, for whose return there is room.
+    // Room for the frames that a frame is answered by, where it is the next of its sender. Nothing else changes.
+    #[inline(always)]
+    fn make_room_for(&mut self, from: u8, frame: &Frame) -> Result<(), AllocError>
+        ensures same { IsSame self.old self.new }
+        ensures frames { OnOk result (TakesMemory (state_of self.new) (spec.Deliver from frame.now) → links.HasRoom self.new.links 4) }
+        ensures room { OnOk result (TakesMemory (state_of self.new) (spec.Deliver from frame.now) → HasFrameRoom self.new.room) }
+        ensures memory { OnErr result (TakesMemory (state_of self.old) (spec.Deliver from frame.now)) }
+    {
+        if frame.number() - 1 != self.taken(from) {
+            return Ok(());
+        }
+        self.reserve_frames()
+    }
+
+    // The step of a frame. For what a next one is answered by there is room.
     fn take_frame(&mut self, from: u8, frame: &Frame) -> Outcome
         requires time { max self.old.clock frame.now.stamp < 1073741823 }
         requires numbers { has_full_link (line_of self.old) (number_of self.old) (state_of self.old) ≡ false }
-        requires frames { links.HasRoom self.old.links 4 }
-        requires room { HasFrameRoom self.old.room }
+        requires frames { TakesMemory (state_of self.old) (spec.Deliver from frame.now) → links.HasRoom self.old.links 4 }
+        requires room { TakesMemory (state_of self.old) (spec.Deliver from frame.now) → HasFrameRoom self.old.room }
         ensures line { line_of self.new ≡ line_of self.old }
         ensures number { number_of self.new ≡ number_of self.old }
         ensures exact { (outcome_of result, state_of self.new)

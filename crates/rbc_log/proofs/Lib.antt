@@ -1,5 +1,5 @@
 pub mod Growing
-mod Copied
+pub mod Copied
 pub mod Refusals
 pub mod SameLines
 pub mod Sent

@@ -1,5 +1,5 @@
 -- What it is to merge logs.
-use Rattle.std.specs.Prelude.{◌≡◌, ℕ, ◌==◌, List, [], map, Option, All}
+use Rattle.std.specs.Prelude.{◌≡◌, ◌<◌, ℕ, ◌==◌, List, [], length, map, Option, All}
 use Rattle.std.specs.List.{find, flat_map}
 use Rattle.std.specs.List.Sorted.{IsPermutation}
 use Rattle.std.specs.Option.{option_map_or}
@@ -69,8 +69,8 @@ pub record IsOneRun (line : Line) (es : List LogEntry) (ends : ℕ → Centre) :
 abbrev pub MakesOneRun : List LogValue → List Entry → Type 0
 MakesOneRun logs es = (line : Line) → IsLine line → AreOfLine line logs → IsLegal (logs_by logs) → IsOneRun line (map entry_of es) (ends_by line logs)
 
--- when a fault comes: Twice is looked for first, then OtherLine
+-- when a fault comes: Twice is looked for first, then OtherLine; memory is wanted only where there is an entry
 abbrev pub IsMergeRefusal : List LogValue → MergeFault → Type 0
-IsMergeRefusal logs Memory = AreOfCentres logs × AreOfOneLine logs
+IsMergeRefusal logs Memory = AreOfCentres logs × AreOfOneLine logs × (0 < length (all_entries logs))
 IsMergeRefusal logs Twice = AreOfCentres logs → ⊥
 IsMergeRefusal logs OtherLine = AreOfCentres logs × (AreOfOneLine logs → ⊥)

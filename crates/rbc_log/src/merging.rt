@@ -1,4 +1,4 @@
-ghost use Rattle.std.specs.Prelude.{◌≡◌, ◌↔◌, ◌++◌, ◌==◌, All, IsTrue, map, IfOk, IfErr, OnOk};
+ghost use Rattle.std.specs.Prelude.{◌≡◌, ◌<◌, ◌↔◌, ◌++◌, ◌==◌, All, IsTrue, length, map, IfOk, IfErr, OnOk, OnErr};
 ghost use Rattle.std.specs.List.{list_any};
 ghost use Rattle.std.specs.List.Sorted.{IsPermutation};
 ghost use Rattle.law_logs.specs.Logs.{IsInOrder};
@@ -16,7 +16,7 @@ use std::alloc::{AllocError, Global};
 
 /// All entries of the logs, by their stamps, and those of one stamp by their centres. Each log keeps its order. Where each frame that was
 /// delivered stands in its sender's log, the entries are one run: of the world of the line, and of the one line centre.
-/// It takes as long as a stable sort of the entries.
+/// It takes as long as a stable sort of the entries, and no memory where there is none.
 pub fn merge(alloc: Global, logs: &[&CentreLog]) -> Result<Vec<Entry>, MergeFault>
     ensures merged { IfOk result (λ es. IsMerged (map (λ l. l.now) logs.now) es.items) }
     ensures run { IfOk result (λ es. MakesOneRun (map (λ l. l.now) logs.now) es.items) }
@@ -76,6 +76,7 @@ fn in_order(alloc: Global, logs: &[&CentreLog]) -> Result<Vec<Entry>, AllocError
     ensures once { IfOk result (λ es. IsPermutation (map written_of (entries_of_all (map (λ l. l.now) logs.now))) (map written_of es.items)) }
     ensures in_order { IfOk result (λ es. IsInOrder (map entry_of es.items)) }
     ensures replays { OnOk result (All IsReplaying (map (λ l. l.now) logs.now)) }
+    ensures memory { OnErr result (0 < length (entries_of_all (map (λ l. l.now) logs.now))) }
 {
     let mut all = all_entries(alloc, logs)?;
     all.sort_by_key(|entry| (entry.outcome.stamp, entry.centre))?;
@@ -86,6 +87,7 @@ fn in_order(alloc: Global, logs: &[&CentreLog]) -> Result<Vec<Entry>, AllocError
 fn all_entries(alloc: Global, logs: &[&CentreLog]) -> Result<Vec<Entry>, AllocError>
     ensures entries { IfOk result (λ es. map written_of es.items ≡ map written_of (entries_of_all (map (λ l. l.now) logs.now))) }
     ensures replays { OnOk result (All IsReplaying (map (λ l. l.now) logs.now)) }
+    ensures memory { OnErr result (0 < length (entries_of_all (map (λ l. l.now) logs.now))) }
 {
     let mut all = Vec::new(alloc);
     for log in logs {
@@ -96,7 +98,8 @@ fn all_entries(alloc: Global, logs: &[&CentreLog]) -> Result<Vec<Entry>, AllocEr
 
 /// Copies entries behind those that are there.
 fn add_entries(all: &mut Vec<Entry>, entries: &[Entry]) -> Result<(), AllocError>
-    ensures { OnOk result (map written_of all.new.items ≡ map written_of all.old.items ++ map written_of entries.now) }
+    ensures entries { OnOk result (map written_of all.new.items ≡ map written_of all.old.items ++ map written_of entries.now) }
+    ensures memory { OnErr result (0 < length entries.now) }
 {
     let alloc = *all.allocator();
     let mut room = FrameRoom::new(alloc);

@@ -1,6 +1,7 @@
 -- What gathering answers, from what uniting the logs does; and single steps of the tests of logs and shares.
-use Rattle.std.proofs.Common.{◌≡◌, ◌<◌, ◌≤◌, ℕ, ◌+◌, List, [], ◌∷◌, ◌==◌, true, false, refl, ne_eqb, length, map, take, All, Bool, IsTrue, Option, Some, None, Result, Ok, Err, slice_get, slice_index_or, sym, subst, ◌∙◌, arith}
+use Rattle.std.proofs.Common.{◌≡◌, ◌<◌, ◌≤◌, ℕ, ◌+◌, List, [], ◌∷◌, ◌==◌, true, false, refl, ne_eqb, length, map, take, All, Bool, IsTrue, Option, Some, None, Result, Ok, Err, inl, inr, slice_get, slice_index_or, sym, ap, subst, ◌∙◌, arith}
 use Rattle.std.proofs.lemmas.List.{take_all}
+use Rattle.std.proofs.lemmas.List.Sorted.{length_permutation}
 use Rattle.std.proofs.lemmas.List.Elements.{All-more}
 use Rattle.std.proofs.lemmas.Option.{same_Some}
 use Rattle.rbc_spec.specs.Frame.{Frame}
@@ -9,6 +10,8 @@ use Rattle.rbc_centre.specs.Views.{frame_number}
 use Rattle.rbc_centre.specs.declared.event.Event.TheVariants.{Deliver}
 use Rattle.rbc_log.specs.Entries.{entry_of}
 use Rattle.rbc_log.specs.Log.{LogValue, IsReplaying}
+use Rattle.rbc_log.specs.Merge.{all_entries}
+use Rattle.rbc_log.proofs.Copied.{some_entry}
 use Rattle.rbc_node.specs.Gather.{AreFound, IsFound, IsOrdered, IsGatherFault, Unites, Gathers}
 use Rattle.rbc_node.specs.Receipts.{ShareValue}
 use Rattle.rbc_node.specs.Sent.{IsSent}
@@ -18,15 +21,22 @@ use Rattle.rbc_node.specs.declared.gather_fault.GatherFault.TheVariants.{Memory,
 -- ## The answers
 
 pub unites : (given ordered : List LogValue) (shares : List ShareValue) (fault : GatherFault) → IsOrdered given ordered → IsGatherFault ordered shares fault → Unites given shares (Err fault)
-unites given ordered shares Memory order is = tt
+unites given ordered shares Memory order is = inr (ordered, order, is)
 unites given ordered shares Shares order is = (ordered, order, is)
 unites given ordered shares Foreign order is = (ordered, order, is)
 unites given ordered shares Centres order is = (ordered, order, is)
 
+some_log : (logs : List LogValue) → 0 < length (all_entries logs) → 0 < length logs
+some_log [] some = some
+some_log (l ∷ logs) some = omega arith
+
 pub gathers : (nodes : ℕ) (given : List LogValue) (shares : List ShareValue) (result : Result (List LogValue) GatherFault) → length given ≡ nodes → All IsReplaying given
     → Unites given shares result → Gathers nodes shares result
 gathers nodes given shares (Ok family) count r is = (given, count, r, is)
-gathers nodes given shares (Err Memory) count r is = tt
+gathers nodes given shares (Err Memory) count r is = elim is [
+  | inl more ↦ omega (arith, count, more)
+  | inr h ↦ let some = some_log (h.0) (h.2.1) in let same = length_permutation given (h.0) (h.1).same in omega (arith, count, some, same)
+]
 gathers nodes given shares (Err Shares) count r is = (given, count, r, is)
 gathers nodes given shares (Err Foreign) count r is = (given, count, r, is)
 gathers nodes given shares (Err Centres) count r is = (given, count, r, is)
@@ -40,6 +50,14 @@ all_more P xs i x within at all here = All-more P xs i x within all (subst P at 
 -- none is left
 pub all_of : {X : Type 0} (P : X → Type 0) (xs : List X) (i : ℕ) → length xs ≤ i → All P (take i xs) → All P xs
 all_of P xs i past all = subst (All P) (take_all i xs past) all
+
+map_itself : (logs : List LogValue) → map (λ l. l) logs ≡ logs
+map_itself [] = refl
+map_itself (l ∷ logs) = ap (λ ls. l ∷ ls) (map_itself logs)
+
+-- where one log has an entry, all of them have one
+pub some_entry_of : (logs : List LogValue) (i : ℕ) (l : LogValue) → i < length logs → l ≡ slice_index_or logs i l → 0 < length l.entries → 0 < length (all_entries logs)
+some_entry_of logs i l within at some = subst (λ (ls : List LogValue). 0 < length (all_entries ls)) (map_itself logs) (some_entry logs (λ m. m) i l within at some)
 
 -- one is not so
 pub not_all : {X : Type 0} (P : X → Type 0) (xs : List X) (i : ℕ) (x : X) → i < length xs → x ≡ slice_index_or xs i x → (P x → ⊥) → All P xs → ⊥

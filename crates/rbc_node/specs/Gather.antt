@@ -1,12 +1,12 @@
 -- What it is to gather logs, and the receipts of what was committed to them.
-use Rattle.std.specs.Prelude.{◌≡◌, ℕ, ◌<◌, ◌==◌, List, [], map, length, Option, Some, None, Result, Ok, Err, if◌then◌else◌, slice_get, All}
+use Rattle.std.specs.Prelude.{◌≡◌, ◌⊎◌, ℕ, ◌<◌, ◌==◌, List, [], map, length, Option, Some, None, Result, Ok, Err, if◌then◌else◌, slice_get, All}
 use Rattle.std.specs.List.{flat_map, count_by, AllAdjacentBelow}
 use Rattle.std.specs.List.Sorted.{IsPermutation, IsNonDecreasingBy}
 use Rattle.rbc_spec.specs.Line.{Line, IsLine}
 use Rattle.law_logs.specs.Logs.{AreLogs, IsLegal}
 use Rattle.rbc_centre.specs.States.{number_of}
 use Rattle.rbc_log.specs.Log.{LogValue, IsReplaying}
-use Rattle.rbc_log.specs.Merge.{AreOfLine, logs_by, ends_by}
+use Rattle.rbc_log.specs.Merge.{AreOfLine, logs_by, ends_by, all_entries}
 use Rattle.rbc_log.specs.declared.entry.Entry.{Entry}
 use Rattle.rbc_node.specs.Receipts.{ShareValue, Has}
 use Rattle.rbc_node.specs.declared.receipt.Receipt.{Receipt}
@@ -83,9 +83,9 @@ pub record IsOrdered (given ordered : List LogValue) : Type 0 where
   pub same : IsPermutation given ordered
   pub by_centre : IsNonDecreasingBy (λ l. number_of l.core) ordered
 
--- when a fault comes: Centres is looked for first, then Shares, then Foreign
+-- when a fault comes: Centres is looked for first, then Shares, then Foreign; memory is wanted only where there is an entry
 abbrev pub IsGatherFault : List LogValue → List ShareValue → GatherFault → Type 0
-IsGatherFault logs shares Memory = Unit {0}
+IsGatherFault logs shares Memory = AreCentres logs × (0 < length (all_entries logs))
 IsGatherFault logs shares Centres = AreCentres logs → ⊥
 IsGatherFault logs shares Shares = AreCentres logs × (AreShared logs shares → ⊥)
 IsGatherFault logs shares Foreign = AreCentres logs × AreShared logs shares × (IsLegal (logs_by logs) → ⊥)
@@ -96,13 +96,13 @@ pub record IsUnited (given logs : List LogValue) (shares : List ShareValue) : Ty
   pub family : IsFamily logs
   pub shared : AreShared logs shares
 
--- it is that, or what the logs in the order of their centres lack; or memory ran out
+-- it is that, or what the logs in the order of their centres lack; or memory ran out for them, or for the order of more than one log
 abbrev pub Unites : List LogValue → List ShareValue → Result (List LogValue) GatherFault → Type 0
 Unites given shares (Ok family) = IsUnited given family shares
-Unites given shares (Err Memory) = Unit {0}
+Unites given shares (Err Memory) = (1 < length given) ⊎ ((ordered : List LogValue) × IsOrdered given ordered × IsGatherFault ordered shares Memory)
 Unites given shares (Err fault) = (ordered : List LogValue) × IsOrdered given ordered × IsGatherFault ordered shares fault
 
--- so it is with some logs that replay, as many as there were nodes
+-- so it is with some logs that replay, as many as there were nodes; without a node no memory is wanted
 abbrev pub Gathers : ℕ → List ShareValue → Result (List LogValue) GatherFault → Type 0
-Gathers nodes shares (Err Memory) = Unit {0}
+Gathers nodes shares (Err Memory) = 0 < nodes
 Gathers nodes shares result = (given : List LogValue) × (length given ≡ nodes) × All IsReplaying given × Unites given shares result

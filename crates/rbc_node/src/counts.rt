@@ -1,4 +1,5 @@
-ghost use Rattle.std.specs.Prelude.{◌≡◌, ◌↔◌, ◌∷◌, [], IsTrue, All, IfOk, map};
+ghost use Rattle.std.specs.Prelude.{◌≡◌, ◌<◌, ◌↔◌, ◌∷◌, [], IsTrue, All, IfOk, OnErr, length, map};
+ghost use Rattle.rbc_log.specs.Merge.{all_entries};
 ghost use Rattle.rbc_node.specs.Counted.{counted};
 ghost use Rattle.rbc_node.specs.Gather.{places_in, places_of, HasEachOnce};
 
@@ -13,7 +14,8 @@ pub(crate) fn have_each_once(
     logs: &[CentreLog],
     shares: &[Share],
 ) -> Result<bool, AllocError>
-    ensures { IfOk result (λ answer. IsTrue answer ↔ All (HasEachOnce shares.now) logs.now) }
+    ensures exact { IfOk result (λ answer. IsTrue answer ↔ All (HasEachOnce shares.now) logs.now) }
+    ensures memory { OnErr result (0 < length (all_entries logs.now)) }
 {
     for log in logs {
         if !has_each_once(alloc, log, shares)? {
@@ -23,10 +25,14 @@ pub(crate) fn have_each_once(
     Ok(true)
 }
 
-// Whether each entry of the log is named by exactly one receipt.
+// Whether each entry of the log is named by exactly one receipt. It takes no memory where there is no entry.
 fn has_each_once(alloc: Global, log: &CentreLog, shares: &[Share]) -> Result<bool, AllocError>
-    ensures { IfOk result (λ answer. IsTrue answer ↔ HasEachOnce shares.now log.now) }
+    ensures exact { IfOk result (λ answer. IsTrue answer ↔ HasEachOnce shares.now log.now) }
+    ensures memory { OnErr result (0 < length log.now.entries) }
 {
+    if log.entries().is_empty() {
+        return Ok(true);
+    }
     let mut counts = vec![in alloc; 0u8; log.entries().len()]?;
     count_shares(&mut counts, log.number(), shares);
     Ok(are_ones(counts.as_slice()))

@@ -1,5 +1,6 @@
-ghost use Rattle.std.specs.Prelude.{◌≡◌, ◌↔◌, IsTrue, All, IfOk, IfErr, OnOk, vec_len};
+ghost use Rattle.std.specs.Prelude.{◌≡◌, ◌<◌, ◌↔◌, IsTrue, All, length, IfOk, IfErr, OnOk, OnErr, vec_len};
 ghost use Rattle.rbc_log.specs.Log.{IsReplaying};
+ghost use Rattle.rbc_log.specs.Merge.{all_entries};
 ghost use Rattle.rbc_node.specs.Gather.{AreAtPlaces, AreCentres, IsOrdered, StandIn, Rises, IsFound, AreShared, IsFamily, IsGatherFault, Unites, Gathers};
 ghost use Rattle.rbc_node.specs.Receipts.{Has};
 ghost use Rattle.rbc_node.specs.Sent.{IsSent, TakesSent, AllTakeSent};
@@ -16,7 +17,8 @@ use rbc_log::{CentreLog, Entry};
 use std::alloc::{AllocError, Global};
 
 /// Takes the nodes apart, and unites the logs that they held, as `unite` does with the same faults. On a fault the nodes and the shares
-/// are dropped. No clause can name the log that a node held: the answer is that of some logs that replay, one for each node.
+/// are dropped. No clause can name the log that a node held: the answer is that of some logs that replay, one for each node. It takes no
+/// memory where there is no node.
 pub fn gather(alloc: Global, nodes: Vec<Node>, shares: Vec<Share>) -> Result<Family, GatherFault>
     ensures { Gathers (vec_len nodes) shares.items result }
 {
@@ -25,7 +27,7 @@ pub fn gather(alloc: Global, nodes: Vec<Node>, shares: Vec<Share>) -> Result<Fam
 
 /// Takes the logs as a family: one for each centre of one line, the entries of each are the receipts of its shares, each once and each
 /// share's in its order, and each frame that was delivered was sent. What they lack is told: `Centres` is looked for first, then
-/// `Shares`, then `Foreign`. Its time grows with the entries and the receipts.
+/// `Shares`, then `Foreign`. Its time grows with the entries and the receipts. It takes no memory for one log without an entry.
 pub fn unite(logs: Vec<CentreLog>, shares: &[Share]) -> Result<Family, GatherFault>
     ensures { Unites logs.items shares.now result }
 {
@@ -54,7 +56,8 @@ fn are_family(alloc: Global, logs: &[CentreLog], shares: &[Share]) -> Result<(),
 
 // The same logs, in the order of their centres.
 fn by_centre(mut logs: Vec<CentreLog>) -> Result<Vec<CentreLog>, AllocError>
-    ensures { IfOk result (λ ordered. IsOrdered logs.items ordered.items) }
+    ensures ordered { IfOk result (λ ordered. IsOrdered logs.items ordered.items) }
+    ensures memory { OnErr result (1 < length logs.items) }
 {
     logs.sort_by_key(|log| log.number())?;
     Ok(logs)
@@ -64,6 +67,7 @@ fn by_centre(mut logs: Vec<CentreLog>) -> Result<Vec<CentreLog>, AllocError>
 fn logs_of(alloc: Global, mut nodes: Vec<Node>) -> Result<Vec<CentreLog>, AllocError>
     ensures count { IfOk result (λ logs. vec_len logs ≡ vec_len nodes) }
     ensures replays { IfOk result (λ logs. All IsReplaying logs.items) }
+    ensures memory { OnErr result (0 < vec_len nodes) }
 {
     let mut logs = Vec::new(alloc);
     while let Some(node) = nodes.pop() {
@@ -100,7 +104,8 @@ fn are_at_places(logs: &[CentreLog], line: &Line) -> bool
 
 // Whether each log's entries are the receipts of its shares, each once, and each share's in its order.
 fn are_shared(alloc: Global, logs: &[CentreLog], shares: &[Share]) -> Result<bool, AllocError>
-    ensures { IfOk result (λ answer. IsTrue answer ↔ AreShared logs.now shares.now) }
+    ensures exact { IfOk result (λ answer. IsTrue answer ↔ AreShared logs.now shares.now) }
+    ensures memory { OnErr result (0 < length (all_entries logs.now)) }
 {
     if !are_found(logs, shares) {
         return Ok(false);

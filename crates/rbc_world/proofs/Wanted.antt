@@ -1,5 +1,5 @@
 -- What wants memory where bytes of a train come to a centre of the line.
-use Rattle.std.proofs.Common.{◌≡◌, inl, inr, ℕ, ◌<◌, true, List, length, Result, Ok, Err}
+use Rattle.std.proofs.Common.{◌≡◌, inl, inr, ℕ, ◌+◌, ◌<◌, true, List, length, Option, Some, Result, Ok, Err}
 use Rattle.std.specs.Result.{OnErr}
 use Rattle.rbc_spec.specs.Line.{Line, is_centre}
 use Rattle.rbc_msgs.specs.TrainText.{TrainText}
@@ -8,6 +8,7 @@ use Rattle.rbc_msgs.specs.Kept.{kept_packets, MayKeep}
 use Rattle.rbc_msgs.specs.declared.fault.MsgFault.{MsgFault}
 use Rattle.rbc_msgs.specs.declared.fault.MsgFault.TheVariants as of_message
 use Rattle.rbc_spec.specs.Centre as centre
+use Rattle.rbc_spec.specs.Frame.{Frame}
 use Rattle.rbc_spec.specs.Step as step
 use Rattle.rbc_centre.specs.Answer.{IsWantedBy}
 use Rattle.rbc_centre.specs.declared.centre.Centre.{Centre}
@@ -22,6 +23,14 @@ pub fault_wants : (X Y : Type 0) (k : centre.Centre) (event : step.Event) (fault
 fault_wants X Y k event Memory h = h
 fault_wants X Y k event LinkFull h = tt
 fault_wants X Y k event ClockEnd h = tt
+
+-- a frame that was sent
+pub delivery_wants : (k : centre.Centre) (from : ℕ) (f : Frame) (sent : Option Frame) (result : Result Answer StepFault) → sent ≡ Some f → IsWantedBy k (step.Deliver from f) result
+    → IfWanted result ((g : Frame) × (sent ≡ Some g) × (g.number ≡ k.taken from + 1))
+delivery_wants k from f sent (Ok a) is h = tt
+delivery_wants k from f sent (Err Memory) is h = (f, is, h)
+delivery_wants k from f sent (Err LinkFull) is h = tt
+delivery_wants k from f sent (Err ClockEnd) is h = tt
 
 -- a section that is taken back
 pub unset_wants : (k : centre.Centre) (s : ℕ) (result : Result Answer StepFault) → IsWantedBy k (step.Unset s) result → IfWanted result ((t : ℕ) × (k.book s ≡ centre.Out t))

@@ -1,7 +1,8 @@
 -- What the calls of a world answer, beside their definitions.
-use Rattle.std.specs.Prelude.{◌≡◌, ◌≢◌, ◌⊎◌, ℕ, true, List, [], ◌∷◌, ◌++◌, Result, Ok, Err, is_some}
+use Rattle.std.specs.Prelude.{◌≡◌, ◌≢◌, ◌⊎◌, ◌+◌, ℕ, true, List, [], ◌∷◌, ◌++◌, Some, Result, Ok, Err}
 use Rattle.rbc_spec.specs.Line.{Line, is_centre}
 use Rattle.rbc_spec.specs.Centre.{Out}
+use Rattle.rbc_spec.specs.Frame.{Frame}
 use Rattle.rbc_spec.specs.World.{Event, World, new_world, mention, frame_sent, IsRefused}
 use Rattle.rbc_spec.specs.Step.{Refusal, ClockEnd as AtClockEnd, LinkFull as AtLinkFull}
 use Rattle.rbc_spec.specs.Message.{TrainMessage, InitiationOfSession}
@@ -37,11 +38,15 @@ abbrev pub BytesTakeMemory : Line → List ℕ → Result TrainText MsgFault →
 BytesTakeMemory line trains (Ok m) = (kept_packets m ≢ []) ⊎ MakesRoom line trains (step_message m)
 BytesTakeMemory line trains (Err fault) = IsBehindPackets fault
 
--- an event wants memory only where it is such bytes, at a centre of the line, takes a section back that is out at its home, or brings a
--- frame that was sent
+-- a frame was sent under this number, and is the next that its receiver takes of its sender
+abbrev pub IsNextSent : World → ℕ → ℕ → ℕ → Type 0
+IsNextSent w from to number = (f : Frame) × (frame_sent w from to number ≡ Some f) × (f.number ≡ (w.at to).taken from + 1)
+
+-- an event wants memory only where it is such bytes, at a centre of the line, takes a section back that is out at its home, or brings the
+-- next frame of its link
 abbrev pub TakesMemory : Line → World → WorldEvent → Type 0
 TakesMemory line w (event.Train c bytes) = (is_centre line c ≡ true) × BytesTakeMemory line w.trains (read_train bytes.items)
-TakesMemory line w (event.Deliver from to number) = is_some (frame_sent w from to number) ≡ true
+TakesMemory line w (event.Deliver from to number) = IsNextSent w from to number
 TakesMemory line w (event.Unset c s) = (t : ℕ) × ((w.at c).book s ≡ Out t)
 TakesMemory line w other = ⊥
 

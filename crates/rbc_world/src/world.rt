@@ -1,4 +1,4 @@
-ghost use Rattle.std.specs.Prelude.{◌≡◌, ◌<◌, ℕ, true, false, is_some, length, slice_get, IfOk, IfErr, IfSome, OnErr, Some};
+ghost use Rattle.std.specs.Prelude.{◌≡◌, ◌<◌, ℕ, true, false, length, slice_get, IfOk, IfErr, IfSome, OnErr, Some};
 ghost use Rattle.rbc_spec.specs.Line.{IsLine, is_centre};
 ghost use Rattle.rbc_spec.specs.World.{new_world, world_step, at_centre, takes, frame_sent, Bytes, Delivery};
 ghost use Rattle.rbc_msgs.specs.TrainReading.{read_train};
@@ -46,7 +46,7 @@ pub struct World {
 impl World {
     ghost use Rattle.rbc_world.specs.World.{line_of, state_of};
     ghost use Rattle.rbc_world.specs.Views.{event_of, answer_of, numbered};
-    ghost use Rattle.rbc_world.specs.Answers.{Gives, TakesMemory, BytesTakeMemory, IfWanted};
+    ghost use Rattle.rbc_world.specs.Answers.{Gives, TakesMemory, BytesTakeMemory, IsNextSent, IfWanted};
 
     /// The centres of the line at their beginning. A copy of the line is kept.
     pub fn new(alloc: Global, line: &Line) -> Result<World, AllocError>
@@ -95,7 +95,7 @@ impl World {
             → IfOk result (λ a. GoesForced (line_of self.old) (read_off (line_of self.old) (state_of self.old))
             (event_of event.now) (answer_of a) (read_off (line_of self.old) (state_of self.new))) }
         // Memory is wanted only by a train's bytes at a centre of the line, for packets that are kept, a session, a frame or a first mention,
-        // by a section that is out, and by a frame that was sent.
+        // by a section that is out, and by a frame that is the next of its link.
         ensures memory { IfWanted result (TakesMemory (line_of self.old) (state_of self.old) event.now) }
         ensures err { OnErr result (state_of self.new ≡ state_of self.old) }
     {
@@ -140,7 +140,7 @@ impl World {
         ensures line { line_of self.new ≡ line_of self.old }
         ensures exact { Gives (λ a. (answer_of a, state_of self.new)) result
             (world_step (line_of self.old) (state_of self.old) (Delivery from to number)) }
-        ensures memory { IfWanted result (is_some (frame_sent (state_of self.old) from to number) ≡ true) }
+        ensures memory { IfWanted result (IsNextSent (state_of self.old) from to number) }
         ensures err { OnErr result (state_of self.new ≡ state_of self.old) }
     {
         match self.frame_sent(from, to, number) {

@@ -3,16 +3,16 @@ use Rattle.rbc_spec.specs.Step.{Deliver, taken, has_full_link}
 use Rattle.rbc_centre.proofs.Turns.{state_same, on_err}
 use Rattle.rbc_centre.proofs.centre.Centre.deliver.Goals as goal
 
-pub returns-in_err-reserve_frames-clause-err : goal.returns-in_err-reserve_frames-clause-err
-returns-in_err-reserve_frames-clause-err c = on_err c.from_residual.result (state_same c.args.self.now c.reserve_frames.new.self c.in_err-reserve_frames.ensures.same)
+pub returns-in_err-make_room_for-clause-err : goal.returns-in_err-make_room_for-clause-err
+returns-in_err-make_room_for-clause-err c = on_err c.from_residual.result (state_same c.args.self.now c.make_room_for.new.self c.in_err-make_room_for.ensures.same)
 
 pub take_frame-requires-clause-numbers : goal.take_frame-requires-clause-numbers
 take_frame-requires-clause-numbers c =
-    let same = c.in_ok-reserve_frames.ensures.same in
-    (λ i. has_full_link (same.line i) (same.number i) (state_same c.args.self.now c.reserve_frames.new.self same i)) ∙ c.requires.numbers
+    let same = c.in_ok-make_room_for.ensures.same in
+    (λ i. has_full_link (same.line i) (same.number i) (state_same c.args.self.now c.make_room_for.new.self same i)) ∙ c.requires.numbers
 
 pub returns-clause-exact : goal.returns-clause-exact
 returns-clause-exact c =
-    let same = c.in_ok-reserve_frames.ensures.same in
+    let same = c.in_ok-make_room_for.ensures.same in
     c.take_frame.ensures.exact
-    ∙ (λ i. taken (same.line i) (same.number i) (Deliver c.args.from c.args.frame.now) (state_same c.args.self.now c.reserve_frames.new.self same i))
+    ∙ (λ i. taken (same.line i) (same.number i) (Deliver c.args.from c.args.frame.now) (state_same c.args.self.now c.make_room_for.new.self same i))

@@ -18,7 +18,7 @@ use Rattle.rbc_centre.specs.State.{stands_for}
 use Rattle.rbc_centre.specs.Posts.{MayPost}
 use Rattle.rbc_centre.specs.Sent.{frames_to}
 use Rattle.rbc_centre.specs.Views.{link_of, outcome_heard}
-use Rattle.rbc_centre.proofs.Deliveries.{not_next, deliver_stamp, delivered_allowed, received_may, offered_as, untaken, ignored, train_takes, silent, stays_silent, next_from}
+use Rattle.rbc_centre.proofs.Deliveries.{not_next, deliver_stamp, delivered_allowed, received_may, offered_as, untaken, ignored, train_takes, silent, stays_silent, next_from, next_number}
 use Rattle.rbc_centre.proofs.States.{number_within, counted_later, each_of_train_still}
 use Rattle.rbc_centre.proofs.Rows.{later_of}
 use Rattle.rbc_centre.proofs.Turns.{within, of_train, has_number, has_count, each_counted, turns, stays, sent_by}
@@ -204,7 +204,14 @@ pub post-frames-requires-clause-linked : goal.post-frames-requires-clause-linked
 post-frames-requires-clause-linked c = λ e. c.offer.ensures.linked e ∙ c.args.self.now.each_link e
 
 pub post-frames-requires-clause-room : goal.post-frames-requires-clause-room
-post-frames-requires-clause-room c d = inr c.requires.room
+unfolding stands_for
+post-frames-requires-clause-room c e =
+    let k = c.args.self.now in
+    let d = c.args.from in
+    let f = c.args.frame.now in
+    let is = offered_as k d f c.offer.new.self c.of-answer.result c.offer.result c.number.result c.of-answer.ensures c.number.ensures.value
+    c.offer.ensures.answer c.offer.ensures.count c.offer.ensures.linked c.offer.ensures.taken c.offer.ensures.sent c.offer.ensures.room in
+    inr (c.requires.room (next_number k d f c.offer.new.self (link_of c.of-answer.result) is (ap link_of c.in-Next.is)))
 
 pub post-frames-requires-clause-may : goal.post-frames-requires-clause-may
 post-frames-requires-clause-may c =
@@ -226,7 +233,8 @@ post-frames-requires-clause-may c =
     (λ x has known. ap (λ (b : Body). received k.line k.number d b x) (sym c.body-body.ensures.value) ∙ c.receive-heard.ensures.exact x has known) in
     subst (λ (u : ℕ). (e : ℕ) → MayPost c.offer.new.self e (mail_to k.line k.number u (expected_from c.receive-heard.new.self.expectations) heard.mail e)) ((of_train k t i old number at).engine ∙ c.engine.ensures ∙ sym c.engine-2.ensures)
     (received_may k d f clock c.offer.new.self _ old (expected_from c.receive-heard.new.self.expectations) heard (link_of c.of-answer.result) (deliver_stamp k d f ∙ ap (λ n. n + 1) latest) c.offer.ensures.sent effect (delivered_allowed k d f c.requires.time c.requires.numbers)
-    (subst HasBodyRange c.body-body.ensures.value c.body-body.ensures.range) c.offer.ensures.linked c.offer.ensures.room c.requires.frames)
+    (subst HasBodyRange c.body-body.ensures.value c.body-body.ensures.range) c.offer.ensures.linked c.offer.ensures.room
+    (c.requires.frames (next_number k d f c.offer.new.self (link_of c.of-answer.result) is (ap link_of c.in-Next.is))))
 
 -- ## The centre that is left, and the answer
 
@@ -262,7 +270,8 @@ invariant_of-self-2 c =
     let s = stays k (Deliver d f) clock c.offer.new.self c.post-frames.new.links c.receive-heard.new.book (record { registrar = c.receive-heard.new.registrar; handovers = k.desk.handovers }) (set k.trains.items i new) (mail_to k.line k.number old.supervision.engine (expected_from new.expectations) heard.mail) (told_train heard.saying heard.order) (map (λ s. Told s) heard.told) (Some answer) None
     stamp c.offer.ensures.sent sent.links effect (frames_to c.post-frames.result) sent.each
     (omega arith) (omega (arith, early, latest)) (range_hand f.body range) allowed range
-    (received_may k d f clock c.offer.new.self _ old (expected_from new.expectations) heard answer stamp c.offer.ensures.sent effect allowed range c.offer.ensures.linked c.offer.ensures.room c.requires.frames) desk.homes desk.rights.count (length-set k.trains.items i new) c.offer.ensures.count c.offer.ensures.linked in
+    (received_may k d f clock c.offer.new.self _ old (expected_from new.expectations) heard answer stamp c.offer.ensures.sent effect allowed range c.offer.ensures.linked c.offer.ensures.room
+    (c.requires.frames (next_number k d f c.offer.new.self (link_of c.of-answer.result) is (ap link_of c.in-Next.is)))) desk.homes desk.rights.count (length-set k.trains.items i new) c.offer.ensures.count c.offer.ensures.linked in
     record {
       line_rules = k.line_rules;
       of_line = k.of_line;
