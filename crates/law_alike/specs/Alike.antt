@@ -3,34 +3,32 @@ use Rattle.std.specs.Prelude.{◌≡◌, ℕ, List, [], ◌∷◌, Result, Ok, E
 use Rattle.rbc_spec.specs.Line.{Line}
 use Rattle.rbc_spec.specs.Frame.{Frame}
 use Rattle.rbc_spec.specs.Outcome.{Outcome, Saying}
-use Rattle.rbc_spec.specs.Step.{Refusal}
-use Rattle.rbc_spec.specs.World.{World, Event, Answer, world_step}
+use Rattle.rbc_spec.specs.World as spec
+use Rattle.rbc_spec.specs.World.{World, Event, world_step}
 use Rattle.rbc_msgs.specs.Layout.{IsBytes}
 use Rattle.rbc_msgs.specs.TrackSpelling.{SpellsTrack}
 use Rattle.rbc_linkmsg.specs.Spelling.{Spells}
+use Rattle.rbc_centre.specs.declared.fault.StepFault.{StepFault}
+use Rattle.rbc_world.specs.Answers.{Gives}
+use Rattle.rbc_world.specs.Views.{answer_of}
+use Rattle.rbc_world.specs.declared.event.Answer.{Answer}
 
 -- ## Steps
 
--- why a program refuses a step: memory ran out, or as the definition of a step refuses it
-pub data Fault : Type 0 where
-  Memory : Fault
-  Refused : (why : Refusal) → Fault
+-- what is seen of what a step returns
+abbrev pub seen : Result Answer StepFault → Result spec.Answer StepFault
+seen (Ok answer) = Ok (answer_of answer)
+seen (Err fault) = Err fault
 
--- what is returned and the world that is left are what the definition gives; but of want of memory nothing is said
-abbrev pub IsGiven : Result Answer Fault → World → Result (Answer × World) Refusal → Type 0
-IsGiven (Ok answer) new step = step ≡ Ok (answer, new)
-IsGiven (Err Memory) new step = Unit {0}
-IsGiven (Err (Refused why)) new step = step ≡ Err why
-
--- the clauses `line`, `exact` and `err` of World::step, of what its memory stands for: the line and world before it, the event, what is returned as it is
--- seen, and the line and world behind it
-pub record IsStep (line : Line) (w : World) (event : Event) (result : Result Answer Fault) (left : Line) (new : World) : Type 0 where
+-- the clauses `line`, `exact` and `err` of World::step, of what its memory stands for: the line and world before it, the event, what is returned, and the
+-- line and world behind it. What is returned and the world that is left are what the definition gives; but of want of memory nothing is said
+pub record IsStep (line : Line) (w : World) (event : Event) (result : Result Answer StepFault) (left : Line) (new : World) : Type 0 where
   pub same_line : left ≡ line
-  pub exact : IsGiven result new (world_step line w event)
+  pub exact : Gives (λ a. (answer_of a, new)) result (world_step line w event)
   pub err : OnErr result (new ≡ w)
 
 -- such steps one after another, each with what it returns, lead from w to new
-abbrev pub AreSteps : Line → World → List Event → List (Result Answer Fault) → World → Type 0
+abbrev pub AreSteps : Line → World → List Event → List (Result Answer StepFault) → World → Type 0
 AreSteps line w [] [] new = new ≡ w
 AreSteps line w (event ∷ events) (result ∷ results) new = (mid : World) × IsStep line w event result line mid × AreSteps line mid events results new
 AreSteps line w events results new = ⊥

@@ -1,24 +1,27 @@
 //! Laws of what a world's step promises.
 
-ghost use Rattle.std.specs.Prelude.{◌≡◌, ◌≢◌, ℕ, List, All, Result, Err};
+ghost use Rattle.std.specs.Prelude.{◌≡◌, ◌≢◌, ℕ, List, All, Result, Err, map};
 ghost use Rattle.rbc_spec.specs.Line.{Line};
 ghost use Rattle.rbc_spec.specs.Outcome.{Outcome};
-ghost use Rattle.rbc_spec.specs.World.{World, Event, Answer};
-ghost use Rattle.law_alike.specs.Alike.{Fault, Memory, IsStep, AreSteps, IsWrittenAs};
+ghost use Rattle.rbc_spec.specs.World.{World, Event};
+ghost use Rattle.rbc_centre.specs.declared.fault.StepFault.{StepFault};
+ghost use Rattle.rbc_centre.specs.declared.fault.StepFault.TheVariants.{Memory};
+ghost use Rattle.rbc_world.specs.declared.event.Answer.{Answer};
+ghost use Rattle.law_alike.specs.Alike.{IsStep, AreSteps, IsWrittenAs, seen};
 
 /// Two steps that keep the clauses, of whatever programs: from the same world, by the same event, each with memory at hand, they return the same
 /// answer or refusal, as it is seen, and leave the same line and world.
 pub fn a_step_has_one_result()
-    ensures { (line left others_left : Line) (w new others_new : World) (event : Event) (result other : Result Answer Fault)
+    ensures { (line left others_left : Line) (w new others_new : World) (event : Event) (result other : Result Answer StepFault)
         → IsStep line w event result left new → IsStep line w event other others_left others_new → result ≢ Err Memory → other ≢ Err Memory
-        → (result ≡ other) × (left ≡ others_left) × (new ≡ others_new) }
+        → (seen result ≡ seen other) × (left ≡ others_left) × (new ≡ others_new) }
 {}
 
 /// So do two programs over a whole list of events, one step after another: they return the same for each event, and leave the same world.
 pub fn a_list_of_events_has_one_end()
-    ensures { (line : Line) (w new others_new : World) (events : List Event) (results others : List (Result Answer Fault))
+    ensures { (line : Line) (w new others_new : World) (events : List Event) (results others : List (Result Answer StepFault))
         → AreSteps line w events results new → AreSteps line w events others others_new
-        → All (λ r. r ≢ Err Memory) results → All (λ r. r ≢ Err Memory) others → (results ≡ others) × (new ≡ others_new) }
+        → All (λ r. r ≢ Err Memory) results → All (λ r. r ≢ Err Memory) others → (map seen results ≡ map seen others) × (new ≡ others_new) }
 {}
 
 /// What is seen of an outcome has one spelling: the bytes of its messages to trains and of its frames to centres are the same, whoever writes them.
