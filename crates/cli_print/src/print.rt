@@ -1,3 +1,15 @@
+ghost use Rattle.std.specs.Prelude.{◌≡◌, ◌==◌, ℕ, List, OnOk, IfSome, codes, length, option_and_then};
+ghost use Rattle.std.specs.List.{find};
+ghost use Rattle.std.specs.Io.KnownBytes.{Appends};
+ghost use Rattle.rbc_spec.specs.LineCentre.{LineState};
+ghost use Rattle.rbc_spec.specs.World.{centre_of};
+ghost use Rattle.rbc_world.specs.View.{mark_shown, seat_of, Shows};
+ghost use Rattle.rbc_world.specs.Views.{answer_of, event_of};
+ghost use Rattle.rbc_world.specs.World.{line_of, state_of};
+ghost use Rattle.cli_print.specs.Rows.{event_row, home_at, mark_text, name_at, script_row, section_row, train_row};
+ghost use Rattle.cli_print.specs.Answers.{IsAnswerPrint};
+ghost use Rattle.cli_print.specs.Shown.{line_text, section_rows, train_rows};
+
 use crate::outcome::print_outcome;
 use cli_status::Fault;
 use rbc_line::Line;
@@ -25,7 +37,9 @@ pub fn print_event<W: Write>(
     out: &mut W,
     line: &Line,
     event: &WorldEvent,
-) -> Result<(), Fault<'static>> {
+) -> Result<(), Fault<'static>>
+    ensures { OnOk result (Appends (W.contents out.old) (W.contents out.new) (event_row line.now event.now)) }
+{
     match event {
         WorldEvent::Train { centre, bytes } => {
             let digits = hex::encode_upper(alloc, bytes)?;
@@ -52,13 +66,18 @@ fn print_row<W: Write, D: Display + Drop>(
     word: &str,
     centre: &str,
     rest: D,
-) -> Result<(), Fault<'static>> {
+) -> Result<(), Fault<'static>>
+    ensures { OnOk result (IfSome (D.output rest) (λ text. Appends (W.contents out.old) (W.contents out.new)
+        (script_row word.now centre.now text))) }
+{
     writeln!(out, "> {word} {centre} {rest}")?;
     Ok(())
 }
 
 /// Prints that the line is to be shown, as a line of a script, after `> `.
-pub fn print_show<W: Write>(out: &mut W) -> Result<(), Fault<'static>> {
+pub fn print_show<W: Write>(out: &mut W) -> Result<(), Fault<'static>>
+    ensures { OnOk result (Appends (W.contents out.old) (W.contents out.new) (codes "> show\n")) }
+{
     writeln!(out, "> show")?;
     Ok(())
 }
@@ -70,7 +89,10 @@ pub fn print_answer<W: Write>(
     line: &Line,
     event: &WorldEvent,
     answer: &Answer,
-) -> Result<(), Fault<'static>> {
+) -> Result<(), Fault<'static>>
+    ensures { OnOk result ((text : List ℕ) × IsAnswerPrint line.now (centre_of (event_of event.now))
+        (answer_of answer.now) text × Appends (W.contents out.old) (W.contents out.new) text) }
+{
     let centre = name_of(line, centre_of(event));
     match answer {
         Answer::Outcome(outcome) => print_outcome(alloc, out, line, centre, outcome)?,
@@ -88,19 +110,46 @@ pub fn print_line<W: Write>(
     out: &mut W,
     line: &Line,
     world: &World,
-) -> Result<(), Fault<'static>> {
+) -> Result<(), Fault<'static>>
+    ensures { OnOk result (line.now ≡ line_of world.now
+        → Appends (W.contents out.old) (W.contents out.new) (line_text line.now (state_of world.now))) }
+{
     let view = world.view(alloc)?;
+    print_sections(out, line, &view)?;
+    print_trains(out, line, world, &view)
+}
+
+// What each section is used for.
+fn print_sections<W: Write>(out: &mut W, line: &Line, view: &LineView) -> Result<(), Fault<'static>>
+    ensures { OnOk result ((v : LineState) → Shows line.now v view.now
+        → Appends (W.contents out.old) (W.contents out.new) (section_rows line.now v (length line.now.sections))) }
+{
     for (number, section) in view.sections.iter().enumerate() {
         print_section(out, line, number, section)?;
     }
-    for nid_engine in world.trains().iter() {
-        print_train(out, line, *nid_engine, supervisor_of(&view, *nid_engine))?;
+    Ok(())
+}
+
+// Who supervises each train that was heard of.
+fn print_trains<W: Write>(
+    out: &mut W,
+    line: &Line,
+    world: &World,
+    view: &LineView,
+) -> Result<(), Fault<'static>>
+    ensures { OnOk result ((v : LineState) → Shows line.now v view.now
+        → Appends (W.contents out.old) (W.contents out.new) (train_rows line.now v (state_of world.now).trains)) }
+{
+    for nid_engine in world.trains().as_slice() {
+        print_train(out, line, *nid_engine, supervisor_of(view, *nid_engine))?;
     }
     Ok(())
 }
 
 // The centre that supervises a train, if one does.
-fn supervisor_of(view: &LineView, nid_engine: u32) -> Option<u8> {
+fn supervisor_of(view: &LineView, nid_engine: u32) -> Option<u8>
+    ensures { result ≡ option_and_then seat_of (find (λ x. x.nid_engine == nid_engine) view.now.trains.items) }
+{
     for train in &view.trains {
         if train.nid_engine == nid_engine {
             return train.supervisor();
@@ -115,7 +164,10 @@ pub fn print_section<W: Write>(
     line: &Line,
     number: usize,
     section: &SectionView,
-) -> Result<(), Fault<'static>> {
+) -> Result<(), Fault<'static>>
+    ensures { OnOk result (Appends (W.contents out.old) (W.contents out.new) (section_row line.now number
+        (mark_shown section.now.mark) section.now.is_wished)) }
+{
     write!(out, "section {number} {} ", home_of(line, number))?;
     print_mark(out, section.mark)?;
     let wish = if section.is_wished { " wished" } else { "" };
@@ -124,7 +176,9 @@ pub fn print_section<W: Write>(
 }
 
 // What a section is used for, with the engine of the train that has it.
-fn print_mark<W: Write>(out: &mut W, mark: Mark) -> Result<(), Fault<'static>> {
+fn print_mark<W: Write>(out: &mut W, mark: Mark) -> Result<(), Fault<'static>>
+    ensures { OnOk result (Appends (W.contents out.old) (W.contents out.new) (mark_text (mark_shown mark))) }
+{
     let (word, train) = match mark {
         Mark::Shut => ("shut", None),
         Mark::Open => ("open", None),
@@ -144,7 +198,10 @@ pub fn print_train<W: Write>(
     line: &Line,
     nid_engine: u32,
     supervisor: Option<u8>,
-) -> Result<(), Fault<'static>> {
+) -> Result<(), Fault<'static>>
+    ensures { OnOk result (Appends (W.contents out.old) (W.contents out.new)
+        (train_row line.now nid_engine supervisor)) }
+{
     let name = match supervisor {
         Some(centre) => name_of(line, centre),
         None => "none",
@@ -154,7 +211,9 @@ pub fn print_train<W: Write>(
 }
 
 /// The centre that takes the step of an event.
-fn centre_of(event: &WorldEvent) -> u8 {
+fn centre_of(event: &WorldEvent) -> u8
+    ensures { result ≡ centre_of (event_of event.now) }
+{
     match event {
         WorldEvent::Train { centre, .. } => *centre,
         WorldEvent::Set { centre, .. } => *centre,
@@ -164,16 +223,20 @@ fn centre_of(event: &WorldEvent) -> u8 {
 }
 
 /// The name of a centre of the line.
-pub fn name_of(line: &Line, centre: u8) -> &str {
+pub fn name_of(line: &Line, centre: u8) -> &str
+    ensures { result.now ≡ name_at line.now centre }
+{
     line.centre_name(centre).unwrap_or("?")
 }
 
 /// The name of a section's home centre.
-fn home_of(line: &Line, number: usize) -> &str {
-    let Ok(number) = u16::try_from(number) else {
+fn home_of(line: &Line, number: usize) -> &str
+    ensures { result.now ≡ home_at line.now number }
+{
+    if number >= line.section_count() as usize {
         return "?";
-    };
-    match line.section(number) {
+    }
+    match line.section(number as u16) {
         Some(section) => name_of(line, section.home),
         None => "?",
     }
