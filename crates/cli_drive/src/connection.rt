@@ -4,7 +4,7 @@ use crate::fault::DriveFault;
 use crate::steps::Step;
 use rbc_msgs::decode_track;
 use std::alloc::Global;
-use std::io::{Read, Write};
+use std::io::{ErrorKind, Read, Write};
 
 /// How many bytes a message has at most.
 const MOST_BYTES: usize = 1023;
@@ -28,6 +28,19 @@ pub fn drive<C: Read + Write, O: Write>(
         }
     }
     Ok(())
+}
+
+/// Reads on to the end of a connection over which nothing more is sent: then the centre has taken all that was. What it says meanwhile is let go.
+pub fn see_off<C: Read>(connection: &mut C) -> Result<(), DriveFault> {
+    let mut piece = [0u8; MOST_BYTES];
+    for _ in 0..u64::MAX {
+        match connection.read(&mut piece) {
+            Ok(0) => return Ok(()),
+            Err(error) if error.kind() != ErrorKind::Interrupted => break,
+            _ => {}
+        }
+    }
+    Err(DriveFault::Socket)
 }
 
 /// Reads so many messages, and prints each. It gives how many were read.

@@ -7,6 +7,6 @@ mod connection;
 mod fault;
 mod steps;
 
-pub use connection::drive;
+pub use connection::{drive, see_off};
 pub use fault::DriveFault;
 pub use steps::{Step, StepsFault, steps_of};
