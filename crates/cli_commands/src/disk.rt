@@ -1,9 +1,10 @@
-use crate::files::{Files, Rows};
+use crate::files::{Files, MOST_ROW, Rows};
 use cli_status::Fault;
 use std::alloc::{AllocError, Global};
 use std::fs::File;
-use std::io::{BufRead, BufReader, ErrorKind};
+use std::io::{BufRead, BufReader, ErrorKind, Read};
 use std::rt::Env;
+use std::str::from_utf8;
 use std::{env, fs, rt};
 
 /// The files that the system has.
@@ -15,18 +16,25 @@ impl<R: rt::Files + AllocGlobal> Files for Disk<'_, R> {
         fs::read_to_string(self.0, name).ok()
     }
 
-    // A file of any length is read line by line.
+    // A file of any length is read line by line, and no line is kept that is too long.
     fn each_row<T: Rows>(&self, alloc: Global, name: &str, rows: &mut T) -> Option<()> {
         let file = File::open(self.0, name).ok()?;
         let mut reader = BufReader::new(alloc, file).ok()?;
-        let mut row = String::new(alloc);
+        let mut row = Vec::new(alloc);
         for _ in 0..u64::MAX {
             row.clear();
-            if reader.read_line(&mut row).ok()? == 0 {
+            let mut piece = reader.by_ref().take(MOST_ROW as u64 + 1);
+            if piece.read_until(b'\n', &mut row).ok()? == 0 {
                 break;
             }
-            let row = row.as_str();
-            rows.row(row.strip_suffix('\n').unwrap_or(row));
+            if row.last() == Some(&b'\n') {
+                row.pop();
+            }
+            if row.len() > MOST_ROW {
+                rows.long_row();
+                break;
+            }
+            rows.row(from_utf8(row.as_slice()).ok()?);
         }
         Some(())
     }

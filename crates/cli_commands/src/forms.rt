@@ -19,22 +19,22 @@ const SCRIPT: (&str, &str) = ("SCRIPT", "The script, one event a line");
 const FORMS: [Form; 9] = [
     Form {
         name: "check",
-        about: "Reads a line file, and says how many centres, tracks, sections and trains it has",
+        about: "Read a line file, and say how many centres, tracks, sections and trains it has",
         words: &[FILE],
     },
     Form {
         name: "explain",
-        about: "Says in plain words all that is wrong in a line file, or shows the line",
+        about: "Say in plain words all that is wrong in a line file, or show the line",
         words: &[FILE],
     },
     Form {
         name: "run",
-        about: "Runs a script of events, and prints each event, what it leads to, and the line at the end",
+        about: "Run a script of events, and print each event, what it leads to, and the line at the end",
         words: &[FILE, SCRIPT],
     },
     Form {
         name: "storm",
-        about: "Runs a script with four deliveries drawn by lot behind each event, and prints as `run` does",
+        about: "Run a script with four deliveries drawn by lot behind each event, and print as `run` does",
         words: &[
             FILE,
             SCRIPT,
@@ -46,7 +46,7 @@ const FORMS: [Form; 9] = [
     },
     Form {
         name: "serve",
-        about: "Lets the centres of a line run on this host: trains and the interlocking connect to them. After `stop` it prints what happened",
+        about: "Let the centres of a line run on this host, where trains and the interlocking connect to them; print what happened after `stop`",
         words: &[
             FILE,
             (
@@ -57,7 +57,7 @@ const FORMS: [Form; 9] = [
     },
     Form {
         name: "drive",
-        about: "Sends messages to a centre as a train does, and prints what it answers",
+        about: "Send messages to a centre as a train does, and print what it answers",
         words: &[
             ("PORT", "The port of the centre"),
             (
@@ -68,17 +68,17 @@ const FORMS: [Form; 9] = [
     },
     Form {
         name: "audit",
-        about: "Runs the events of a print again, and says whether all its lines are equal, or which differs first",
+        about: "Run the events of a print again, and say whether all its lines are equal, or which differs first",
         words: &[FILE, ("PRINTED", "What `run` or `serve` printed")],
     },
     Form {
         name: "words",
-        about: "Says in words what a run printed, line by line, or shows one message field by field",
+        about: "Say in words what a run printed, line by line, or show one message field by field",
         words: &[FILE, PRINTED],
     },
     Form {
         name: "picture",
-        about: "Draws what a run printed as a time-distance diagram, in SVG",
+        about: "Draw what a run printed as a time-distance diagram, in SVG",
         words: &[FILE, PRINTED],
     },
 ];
@@ -92,10 +92,17 @@ pub fn rbcline<'a>(alloc: Global) -> Result<Command<'a>, AllocError> {
     Ok(rbcline)
 }
 
+// How it ends, and where to begin.
+const ENDS: &str =
+    "Exit status: 0 done, 1 a print differs, 2 these words, 3 a file or script, 4 the line file, 5 a refused step, \
+6 a socket or the output, 7 bytes that spell no message\n\nTo begin: rbcline run line.toml script.txt";
+
 // The program without its commands.
 fn program<'a>(alloc: Global) -> Command<'a> {
     Command::new(alloc, "rbcline")
-        .about("Radio block centres that supervise one line")
+        .about("Radio block centres of ETCS Level 2 that supervise one line")
+        .version("0.1.0")
+        .after_help(ENDS)
         .no_binary_name(true)
         .subcommand_required(true)
         .arg_required_else_help(true)
@@ -103,13 +110,14 @@ fn program<'a>(alloc: Global) -> Command<'a> {
 
 fn command_of<'a>(alloc: Global, form: &Form) -> Result<Command<'a>, AllocError> {
     let mut command = Command::new(alloc, form.name).about(form.about);
-    if let Some(option) = option_of(alloc, form.name) {
-        command = command.arg(option)?;
+    if form.name == "words" {
+        command = command.arg(message(alloc))?;
     }
-    if form.name == "picture" {
-        for (name, value, help) in &CUT {
-            command = command.arg(part(alloc, name, value, help))?;
-        }
+    for (name, help) in flags_of(form.name) {
+        command = command.arg(flag(alloc, name, help))?;
+    }
+    for (name, value, help) in parts_of(form.name) {
+        command = command.arg(part(alloc, name, value, help))?;
     }
     for (name, help) in form.words {
         command = command.arg(Arg::new(alloc, name).required(true).help(help))?;
@@ -135,28 +143,64 @@ fn part<'a>(alloc: Global, name: &'static str, value: &'static str, help: &'stat
         .help(help)
 }
 
-// What a command takes besides its words.
-fn option_of<'a>(alloc: Global, command: &str) -> Option<Arg<'a>> {
+// What `serve` takes besides its words: the page's port, and how fast each train may be.
+const DOORS: [(&str, &str, &str); 3] = [
+    (
+        "page",
+        "PORT",
+        "Show the line to browsers on this host, at http://127.0.0.1:PORT/",
+    ),
+    (
+        "rate",
+        "N",
+        "How many messages a second a train's connection may say, one behind another",
+    ),
+    ("burst", "N", "How many it may say at once"),
+];
+
+// The options of a command with a value, each with what it is.
+fn parts_of(command: &str) -> &'static [(&'static str, &'static str, &'static str)] {
     match command {
-        "serve" => Some(quiet(alloc)),
-        "words" => Some(message(alloc)),
-        "picture" => Some(html(alloc)),
-        _ => None,
+        "picture" => &CUT,
+        "serve" => &DOORS,
+        _ => &[],
     }
 }
 
-fn quiet<'a>(alloc: Global) -> Arg<'a> {
-    Arg::new(alloc, "quiet")
-        .long("quiet")
-        .action(ArgAction::SetTrue)
-        .help("Says nothing on standard error while the centres run")
+const PICTURE: [(&str, &str); 1] = [(
+    "html",
+    "Draw it in an HTML page with a slider over the events",
+)];
+
+const SERVE: [(&str, &str); 3] = [
+    (
+        "quiet",
+        "Say nothing on standard error while the centres run",
+    ),
+    (
+        "tell",
+        "Tell the interlocking of each section that it wished back, once it is shut",
+    ),
+    (
+        "life",
+        "Show how much of each log, clock and link is used up, behind the lines of `show`",
+    ),
+];
+
+// The options of a command without a value.
+fn flags_of(command: &str) -> &'static [(&'static str, &'static str)] {
+    match command {
+        "picture" => &PICTURE,
+        "serve" => &SERVE,
+        _ => &[],
+    }
 }
 
-fn html<'a>(alloc: Global) -> Arg<'a> {
-    Arg::new(alloc, "html")
-        .long("html")
+fn flag<'a>(alloc: Global, name: &'static str, help: &'static str) -> Arg<'a> {
+    Arg::new(alloc, name)
+        .long(name)
         .action(ArgAction::SetTrue)
-        .help("Draws it in an HTML page with a slider over the events")
+        .help(help)
 }
 
 fn message<'a>(alloc: Global) -> Arg<'a> {

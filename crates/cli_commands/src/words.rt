@@ -37,7 +37,7 @@ pub enum Request<'a> {
     Serve {
         file: &'a str,
         port: u16,
-        is_quiet: bool,
+        words: ServeWords,
     },
     /// Be a train: send the lines of the file to the centre at this port.
     Drive {
@@ -60,6 +60,23 @@ pub enum Request<'a> {
         cut: Cut,
         is_html: bool,
     },
+}
+
+/// What `serve` is asked for beside the line and the port.
+#[derive(Clone, Copy, Debug)]
+pub struct ServeWords {
+    /// No notes are written.
+    pub is_quiet: bool,
+    /// The port at which browsers are shown the line, if they are.
+    pub page: Option<u16>,
+    /// Control connections are told of sections that are shut.
+    pub is_telling: bool,
+    /// `show` says how much of each log, clock and link is used up.
+    pub shows_life: bool,
+    /// How many messages a train's connection may say in a second, if that is named.
+    pub per_second: Option<u32>,
+    /// How many it may say at once, if that is named.
+    pub burst: Option<u32>,
 }
 
 /// Reads the words behind the program's name.
@@ -131,8 +148,30 @@ fn named_serve<'a>(words: &ArgMatches<'a>) -> Option<Request<'a>> {
     Some(Request::Serve {
         file: words.get_str("FILE")?,
         port: port_of(words.get_str("PORT")?)?,
-        is_quiet: words.get_flag("quiet"),
+        words: serve_words(words)?,
     })
+}
+
+fn serve_words(words: &ArgMatches<'_>) -> Option<ServeWords> {
+    Some(ServeWords {
+        is_quiet: words.get_flag("quiet"),
+        page: match words.get_str("page") {
+            Some(word) => Some(port_of(word)?),
+            None => None,
+        },
+        is_telling: words.get_flag("tell"),
+        shows_life: words.get_flag("life"),
+        per_second: named_count(words, "rate")?,
+        burst: named_count(words, "burst")?,
+    })
+}
+
+// The same as `named_number`, where none is 0.
+fn named_count(words: &ArgMatches<'_>, option: &str) -> Option<Option<u32>> {
+    match named_number(words, option)? {
+        Some(0) => None,
+        number => Some(number),
+    }
 }
 
 fn named_drive<'a>(words: &ArgMatches<'a>) -> Option<Request<'a>> {

@@ -24,13 +24,9 @@ fn main(rt: HostRuntime) -> ExitCode {
         Err(fault) => return ExitCode::from(report(&fault, &mut out, &mut err)),
     };
     let status = match requested(rt.alloc(), &words) {
-        Ok(
-            Request::Serve {
-                file,
-                port,
-                is_quiet,
-            },
-        ) => run_centres(&rt, file, port, is_quiet, &mut out, &mut err),
+        Ok(Request::Serve { file, port, words }) => run_centres(
+            &rt, file, port, &words, &mut out, &mut err,
+        ),
         Ok(Request::Drive { port, file }) => {
             let done = run_train(&rt, port, file, &mut out);
             ended(done, &mut out, &mut err)

@@ -2,14 +2,18 @@
 
 use cli_commands::disk::Disk;
 use cli_commands::files::Files as _;
-use cli_drive::{DriveFault, drive, steps_of};
+use cli_drive::{DriveFault, drive, see_off, steps_of};
 use cli_status::Fault;
 use std::alloc::AllocError;
 use std::io::Write;
-use std::net::{IpAddr, Ipv4Addr, Net, SocketAddr, TcpStream};
+use std::net::{IpAddr, Ipv4Addr, Net, Shutdown, SocketAddr, TcpStream};
 use std::rt::Files;
+use std::time::Duration;
 
-/// Sends the lines of a file to the centre at this port of this host, and prints what it reads.
+/// How long a centre may say nothing that is waited for, and take nothing, in seconds.
+const PATIENCE: u64 = 60;
+
+/// Sends the lines of a file to the centre at this port of this host, and prints what it reads. Behind them it waits until the centre has taken all.
 pub fn run_train<'a, R: Net<Stream = TcpStream> + Files + AllocGlobal, O: Write>(
     rt: &R,
     port: u16,
@@ -37,5 +41,9 @@ fn run_text<R: Net<Stream = TcpStream> + AllocGlobal, O: Write>(
     let steps = steps_of(rt.alloc(), text)?;
     let address = SocketAddr::new(IpAddr::V4(Ipv4Addr::LOCALHOST), port);
     let mut stream = TcpStream::connect(rt, address)?;
-    drive(rt.alloc(), &steps, &mut stream, out)
+    stream.set_read_timeout(Some(Duration::from_secs(PATIENCE)))?;
+    stream.set_write_timeout(Some(Duration::from_secs(PATIENCE)))?;
+    drive(rt.alloc(), &steps, &mut stream, out)?;
+    stream.shutdown(Shutdown::Write)?;
+    see_off(&mut stream)
 }

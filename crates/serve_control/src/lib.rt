@@ -10,4 +10,4 @@ mod printing;
 
 pub use command::{Command, CommandFault, command_of};
 pub use fault::ServeFault;
-pub use printing::print_family;
+pub use printing::{print_family, world_event};

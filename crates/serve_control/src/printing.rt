@@ -54,8 +54,8 @@ fn print_entries<O: Write>(
     print_line(alloc, out, line, &world)
 }
 
-// The event of an entry as it came to its centre.
-fn world_event(alloc: Global, entry: &Entry) -> Result<WorldEvent, Fault<'static>>
+/// The event of an entry as it came to its centre.
+pub fn world_event(alloc: Global, entry: &Entry) -> Result<WorldEvent, Fault<'static>>
     ensures { IfOk result (λ event. event_of event ≡ happened (entry_of entry.now)) }
 {
     let centre = entry.centre;

@@ -1,4 +1,5 @@
 use crate::hall::Hall;
+use crate::life::write_life;
 use crate::roster::Roster;
 use crate::show::show;
 use cli_print::{name_of, print_event, print_outcome};
@@ -24,7 +25,10 @@ pub(crate) fn answer<R: Wait>(
 ) -> Result<(), Fault<'static>> {
     match command {
         Command::Nothing | Command::Stop => Ok(()),
-        Command::Show => show(rt, hall, roster, text),
+        Command::Show => {
+            show(rt, hall, roster, text)?;
+            write_life(rt, hall, text)
+        }
         Command::Set { centre, section } => {
             let event = WorldEvent::Set { centre, section };
             commit(rt, hall, shares, centre, Event::Set(section), &event, text)

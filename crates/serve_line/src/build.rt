@@ -1,7 +1,10 @@
 use crate::doors::Listening;
 use crate::hall::{Caller, DirectedLink};
 use crate::limits::{CONTROLS, SPARE};
+use crate::manner::Manner;
 use crate::seats::{Door, Seat};
+use crate::teller::Teller;
+use cli_print::name_of;
 use rbc_line::Line;
 use rbc_node::{Node, Share};
 use serve_connections::Exchange;
@@ -83,9 +86,11 @@ fn seat_of(alloc: Global, number: usize, nodes: &[Node]) -> Result<Seat, AllocEr
     Ok(Seat {
         number,
         is_taken: AtomicBool::new(false),
+        is_leaving: AtomicBool::new(false),
         heard: AtomicU64::new(0),
         stream: Mutex::new(None),
         shares: Mutex::new(shares),
+        told: Mutex::new(Vec::new(alloc)),
     })
 }
 
@@ -146,4 +151,29 @@ pub(crate) fn exchanges_of<'a>(
         exchanges.push(Exchange::new(alloc, line, most_trains(line), row.as_slice())?)?;
     }
     Ok(exchanges)
+}
+
+/// For each centre where its answers go on to.
+pub(crate) fn tellers_of<'a>(
+    alloc: Global,
+    line: &'a Line,
+    exchanges: &'a [Exchange<'a>],
+    doors: &'a [Door],
+    manner: Manner,
+) -> Result<Vec<Teller<'a>>, AllocError> {
+    let control = if manner.is_telling {
+        doors.last()
+    } else {
+        None
+    };
+    let mut tellers = Vec::new(alloc);
+    for (exchange, centre) in exchanges.iter().zip(0..line.centre_count()) {
+        let name = name_of(line, centre);
+        tellers.push(Teller {
+            exchange,
+            control,
+            name,
+        })?;
+    }
+    Ok(tellers)
 }

@@ -66,8 +66,12 @@ fn answer_rows<R: Wait, N: Notes>(
             Came::Nothing => Next::Listen,
             Came::End => Next::End,
         };
+        let told = send(stream, seat.take_told(rt, hall.alloc).as_slice());
         if next != Next::Listen {
             return next;
+        }
+        if told != Next::Listen {
+            return told;
         }
     }
     unreachable!()

@@ -1,11 +1,15 @@
+use crate::notes::Notes;
+use cli_print::name_of;
 use rbc_line::Line;
 use serve_control::ServeFault;
 use std::alloc::Global;
+use std::io;
+use std::io::ErrorKind;
 use std::net::{IpAddr, Ipv4Addr, Net, SocketAddr, TcpListener, TcpStream};
 
 /// The ports of the centres and that of the interlocking, on which only this host is listened to.
 #[derive(Drop)]
-pub struct Doors(Vec<Listening>);
+pub struct Doors(Vec<Listening>, Option<Listening>);
 
 /// A port that is listened on.
 #[derive(Drop)]
@@ -16,22 +20,43 @@ pub(crate) struct Listening {
 
 impl Doors {
     /// Listens on 127.0.0.1: centre i at the port `first` + i, the control door at the port behind those. For the port 0 the system picks
-    /// each port.
-    pub fn open<R: Net<Stream = TcpStream, Listener = TcpListener>>(
+    /// each port. Where one can't be listened on, a note names it.
+    pub fn open<R: Net<Stream = TcpStream, Listener = TcpListener>, N: Notes>(
         rt: &R,
         alloc: Global,
         line: &Line,
         first: u16,
+        notes: &N,
     ) -> Result<Doors, ServeFault> {
         let mut doors = Vec::new(alloc);
-        for number in 0..=u16::from(line.centre_count()) {
-            let port = match first {
-                0 => 0,
-                _ => first.checked_add(number).ok_or(ServeFault::Socket)?,
-            };
-            doors.push(listen_on(rt, port)?)?;
+        for number in 0..=line.centre_count() {
+            let port = port_of(first, number);
+            match listen_at(rt, port) {
+                Ok(listening) => doors.push(listening)?,
+                Err(error) => {
+                    let name = who_is_at(line, number);
+                    notes.note(format_args!("{name}: port {port} can't be listened on: {error}"));
+                    return Err(ServeFault::Socket);
+                }
+            }
         }
-        Ok(Doors(doors))
+        Ok(Doors(doors, None))
+    }
+
+    /// Listens at this port of this host for browsers too, which are shown the line. Where that can't be, a note says so.
+    pub fn and_page<R: Net<Stream = TcpStream, Listener = TcpListener>, N: Notes>(
+        self,
+        rt: &R,
+        port: u16,
+        notes: &N,
+    ) -> Result<Doors, ServeFault> {
+        match listen_at(rt, u32::from(port)) {
+            Ok(listening) => Ok(Doors(self.0, Some(listening))),
+            Err(error) => {
+                notes.note(format_args!("page: port {port} can't be listened on: {error}"));
+                Err(ServeFault::Socket)
+            }
+        }
     }
 
     /// The addresses, by the centres' numbers, and at last that of the control door.
@@ -42,16 +67,36 @@ impl Doors {
         }
     }
 
-    /// The ports, by the centres' numbers, and at last that of the control door.
-    pub(crate) fn all(self) -> Vec<Listening> {
-        self.0
+    /// The ports, by the centres' numbers, and at last that of the control door; and that of the page, if there is one.
+    pub(crate) fn all(self) -> (Vec<Listening>, Option<Listening>) {
+        (self.0, self.1)
     }
 }
 
-fn listen_on<R: Net<Stream = TcpStream, Listener = TcpListener>>(
+// The port of a door: so far behind the first, or 0 where the system picks each.
+fn port_of(first: u16, number: u8) -> u32 {
+    match first {
+        0 => 0,
+        _ => u32::from(first) + u32::from(number),
+    }
+}
+
+// Who comes through the door of this number to whom.
+fn who_is_at(line: &Line, number: u8) -> &str {
+    if number < line.centre_count() {
+        name_of(line, number)
+    } else {
+        "control"
+    }
+}
+
+fn listen_at<R: Net<Stream = TcpStream, Listener = TcpListener>>(
     rt: &R,
-    port: u16,
-) -> Result<Listening, ServeFault> {
+    port: u32,
+) -> io::Result<Listening> {
+    let Ok(port) = u16::try_from(port) else {
+        return Err(io::Error::from(ErrorKind::InvalidInput));
+    };
     let address = SocketAddr::new(IpAddr::V4(Ipv4Addr::LOCALHOST), port);
     let listener = TcpListener::bind(rt, address)?;
     let address = listener.local_addr()?;

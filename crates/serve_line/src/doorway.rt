@@ -1,20 +1,21 @@
 use crate::control::serve_control;
 use crate::hall::{Caller, Hall};
 use crate::life::Life;
-use crate::limits::{DOOR_REST, GRACE_RESTS, LEAVING_RESTS};
+use crate::limits::{DEAF_REST, DOOR_REST, GRACE_RESTS, LEAVING_RESTS};
 use crate::notes::Notes;
 use crate::seats::{Door, Seat};
 use crate::sessions::serve_train;
 use std::alloc::Global;
+use std::io::ErrorKind;
 use std::net::{TcpListener, TcpStream};
 use std::sync::atomic::Ordering;
 use std::sync::{Arc, Wait};
-use std::thread;
 use std::thread::Threads;
-use std::time::Duration;
+use std::time::{Clock, Duration};
+use std::{io, thread};
 
 /// Lets callers in at one door until the centres stop, and closes it. It returns with the last of them, and ends those that are left after a while.
-pub(crate) fn run_door<R: Threads + Wait + Sync, N: Notes + Sync>(
+pub(crate) fn run_door<R: Threads + Wait + Sync + Clock, N: Notes + Sync>(
     rt: &R,
     hall: &Hall<'_>,
     notes: &N,
@@ -58,9 +59,12 @@ fn next_caller<'a, R: Wait, N: Notes>(
     door: &'a Door,
     listener: &Option<TcpListener>,
 ) -> Option<(Arc<TcpStream, Global>, &'a Seat)> {
-    let Ok((stream, _)) = listener.as_ref()?.accept() else {
-        rest(rt, door);
-        return None;
+    let stream = match listener.as_ref()?.accept() {
+        Ok((stream, _)) => stream,
+        Err(error) => {
+            rest_behind(rt, hall, notes, door, &error);
+            return None;
+        }
     };
     let stream = Arc::new(hall.alloc, stream).ok()?;
     let shared = Arc::try_clone(&stream).ok()?;
@@ -74,6 +78,26 @@ fn next_caller<'a, R: Wait, N: Notes>(
     Some((stream, seat))
 }
 
+// Rests a while where no connection came: longer where one may have come, and the system has none to give, as where too many files are open.
+fn rest_behind<R: Wait, N: Notes>(
+    rt: &R,
+    hall: &Hall<'_>,
+    notes: &N,
+    door: &Door,
+    error: &io::Error,
+) {
+    match error.kind() {
+        ErrorKind::WouldBlock | ErrorKind::Interrupted | ErrorKind::ConnectionAborted => {
+            rest(rt, door);
+        }
+        _ => {
+            let name = hall.name(door.caller);
+            notes.note(format_args!("{name}: no connection can be taken now: {error}"));
+            door.bell.park_timeout(rt, Duration::from_millis(DEAF_REST));
+        }
+    }
+}
+
 // Rests a while at a door.
 fn rest<R: Wait>(rt: &R, door: &Door) {
     door.bell.park_timeout(rt, Duration::from_millis(DOOR_REST));
@@ -82,12 +106,12 @@ fn rest<R: Wait>(rt: &R, door: &Door) {
 // A seat for a new connection. Where all are taken, another connection leaves its own: of those of trains the first that serves no train, of those of the
 // interlocking the one that has been silent longest.
 fn seat_for<'a, R: Wait>(rt: &R, hall: &Hall<'_>, door: &'a Door) -> Option<&'a Seat> {
-    if let Some(seat) = door.free_seat() {
+    if let Some(seat) = door.free_seat(rt) {
         return Some(seat);
     }
     dispensable(rt, hall, door)?.shut(rt);
     for _ in 0..LEAVING_RESTS {
-        if let Some(seat) = door.free_seat() {
+        if let Some(seat) = door.free_seat(rt) {
             return Some(seat);
         }
         rest(rt, door);
@@ -122,7 +146,7 @@ fn end_last<R: Wait, N: Notes>(rt: &R, hall: &Hall<'_>, notes: &N, door: &Door) 
 }
 
 // Serves one connection, and leaves its seat.
-fn attend<R: Threads + Wait + Sync, N: Notes + Sync>(
+fn attend<R: Threads + Wait + Sync + Clock, N: Notes + Sync>(
     rt: &R,
     hall: &Hall<'_>,
     notes: &N,

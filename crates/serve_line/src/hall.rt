@@ -1,8 +1,9 @@
+use crate::manner::Manner;
 use crate::seats::Door;
+use crate::teller::Teller;
 use cli_print::name_of;
 use rbc_line::Line;
 use rbc_node::{Node, Open, Share};
-use serve_connections::Exchange;
 use serve_workers::{Desk, LinkEnds};
 use std::alloc::Global;
 use std::sync::atomic::{AtomicBool, AtomicU64, Ordering};
@@ -90,19 +91,20 @@ pub(crate) struct Hall<'a> {
     pub alloc: Global,
     pub line: &'a Line,
     pub nodes: &'a [Node],
-    pub exchanges: &'a [Exchange<'a>],
+    pub tellers: &'a [Teller<'a>],
     pub doors: &'a [Door],
     pub links: &'a [DirectedLink],
     /// The bells of the links from each centre: all of a centre are rung together.
     pub bells: &'a [Vec<Parker>],
     pub state: &'a State,
+    pub manner: Manner,
 }
 
 impl Hall<'_> {
     /// A centre as its workers see it.
-    pub fn desk(&self, centre: u8) -> Option<Desk<'_, Open, Exchange<'_>>> {
+    pub fn desk(&self, centre: u8) -> Option<Desk<'_, Open, Teller<'_>>> {
         let node = self.nodes.get(centre as usize)?;
-        let outlet = self.exchanges.get(centre as usize)?;
+        let outlet = self.tellers.get(centre as usize)?;
         Some(Desk {
             node,
             gate: &Open,
@@ -115,8 +117,8 @@ impl Hall<'_> {
         let Caller::Trains(centre) = caller else {
             return false;
         };
-        match self.exchanges.get(centre as usize) {
-            Some(exchange) => exchange.is_serving(rt, number),
+        match self.tellers.get(centre as usize) {
+            Some(teller) => teller.exchange.is_serving(rt, number),
             None => false,
         }
     }

@@ -1,8 +1,12 @@
 use crate::hall::{Caller, Hall};
 use crate::limits::MOST_FRAMES;
 use crate::notes::Notes;
+use cli_print::name_of;
+use cli_status::Fault;
 use rbc_centre::LAST_STAMP;
+use rbc_line::Line;
 use rbc_log::{CentreLog, MOST_ENTRIES};
+use std::io::Write;
 use std::sync::Wait;
 
 /// How much of a centre's log, of its clock and of its fullest link is used up, as far as it was noted.
@@ -39,6 +43,35 @@ impl Life {
             .tell(notes, name, "clock", stamp, u64::from(LAST_STAMP));
         self.link.tell(notes, name, "fullest link", frames, u64::from(MOST_FRAMES));
     }
+}
+
+/// Writes how much of each centre's log, clock and links is used up, where that is asked for.
+pub(crate) fn write_life<R: Wait>(
+    rt: &R,
+    hall: &Hall<'_>,
+    text: &mut Vec<u8>,
+) -> Result<(), Fault<'static>> {
+    if !hall.manner.shows_life {
+        return Ok(());
+    }
+    for node in hall.nodes {
+        write_used(hall.line, node.look(rt).log(), text)?;
+    }
+    Ok(())
+}
+
+fn write_used(line: &Line, log: &CentreLog, text: &mut Vec<u8>) -> Result<(), Fault<'static>> {
+    let name = name_of(line, log.number());
+    let (entries, stamp, _) = used_of(log, line.centre_count());
+    writeln!(text, "{name} log {entries} of {MOST_ENTRIES}")?;
+    writeln!(text, "{name} clock {stamp} of {LAST_STAMP}")?;
+    for to in 0..line.centre_count() {
+        if line.linked(log.number(), to) {
+            let (other, frames) = (name_of(line, to), log.core().sent(to));
+            writeln!(text, "{name} link {other} {frames} of {MOST_FRAMES}")?;
+        }
+    }
+    Ok(())
 }
 
 // The entries of a log, the stamp of the last, and the frames on the link that has most.

@@ -12,8 +12,17 @@ pub(crate) const SPARE: usize = 8;
 /// How many connections the control door serves at once.
 pub(crate) const CONTROLS: usize = 4;
 
+/// How many messages a train's connection may say in a second, one behind another.
+pub(crate) const PER_SECOND: u32 = 50;
+
+/// How many it may say at once.
+pub(crate) const BURST: u32 = 20_000;
+
 /// How many replies wait for one train at most. One more, and its connection is cut.
 pub(crate) const REPLIES: usize = 256;
+
+/// How many bytes of lines of which the interlocking is told wait for one of its connections at most. More, and the connection ends.
+pub(crate) const MOST_TOLD: usize = 65_536;
 
 /// How many bytes a line at the control door has at most.
 pub(crate) const MOST_ROW: usize = 4_096;
@@ -26,6 +35,9 @@ pub(crate) const SILENCE: u64 = 600;
 
 /// How long a door rests at most before it looks for a connection again, in milliseconds.
 pub(crate) const DOOR_REST: u64 = 20;
+
+/// How long a door rests where the system gives it no connection, in milliseconds.
+pub(crate) const DEAF_REST: u64 = 1_000;
 
 /// How long a control connection waits for a line before it looks whether the centres still run, in milliseconds.
 pub(crate) const CONTROL_REST: u64 = 100;

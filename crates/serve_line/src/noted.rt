@@ -1,22 +1,25 @@
 use crate::notes::Notes;
+use crate::pace::Pace;
+use crate::teller::Teller;
 use rbc_centre::Outcome;
 use serve_connections::Wire;
 use serve_workers::Outlet;
 use std::sync::Wait;
+use std::time::Clock;
 
-/// A train's connection as the session over it sees it, which notes each train that opens its session.
+/// A train's connection as the session over it sees it, which notes each train that opens its session, and holds one back that is too fast.
 #[derive(Drop)]
-pub(crate) struct NotedWire<'a, N> {
+pub(crate) struct NotedWire<'a, T, N> {
     pub wire: Wire<'a>,
+    pub teller: &'a Teller<'a>,
+    pub pace: Pace<'a, T>,
     pub notes: &'a N,
-    /// The name of the centre.
-    pub name: &'a str,
 }
 
-impl<N: Notes> Outlet for NotedWire<'_, N> {
+impl<T: Clock, N: Notes> Outlet for NotedWire<'_, T, N> {
     fn opened<R: Wait>(&self, rt: &R, nid_engine: u32) {
         self.wire.opened(rt, nid_engine);
-        let name = self.name;
+        let name = self.teller.name;
         let number = self.wire.number;
         self.notes.note(format_args!(
             "{name}: train {nid_engine} opens its session over train connection {number}"
@@ -25,5 +28,7 @@ impl<N: Notes> Outlet for NotedWire<'_, N> {
 
     fn answered<R: Wait>(&self, rt: &R, outcome: &Outcome) {
         self.wire.answered(rt, outcome);
+        self.teller.tell(rt, outcome);
+        self.pace.hold(rt);
     }
 }

@@ -3,6 +3,9 @@ use rbc_line::Line;
 use rbc_log::{CentreLog, Entry};
 use std::alloc::{AllocError, Global};
 
+/// How many entries of a log are looked at in one piece at most. The log's centre takes no step meanwhile.
+const PIECE: usize = 4_096;
+
 /// Which trains the centres have heard of, and when first.
 #[derive(Drop)]
 pub(crate) struct Roster {
@@ -28,19 +31,22 @@ impl Roster {
         })
     }
 
-    /// Looks at what came to a centre since it was looked at last.
-    pub fn read_on(&mut self, line: &Line, log: &CentreLog) {
+    /// Looks at a piece of what came to a centre since it was looked at last, and says whether more is left.
+    pub fn read_on(&mut self, line: &Line, log: &CentreLog) -> bool {
         let centre = log.number() as usize;
         let Some(looked) = self.looked.get_mut(centre) else {
-            return;
+            return false;
         };
         let from = *looked;
-        *looked = log.entries().len();
-        if let Some(entries) = log.entries().get(from..) {
+        let count = log.entries().len();
+        let to = count.min(from.saturating_add(PIECE));
+        *looked = to;
+        if let Some(entries) = log.entries().get(from..to) {
             for entry in entries {
                 self.read(line, entry);
             }
         }
+        to < count
     }
 
     fn read(&mut self, line: &Line, entry: &Entry) {

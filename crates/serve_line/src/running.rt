@@ -1,10 +1,12 @@
-use crate::build::{bells_of, doors_of, exchanges_of, links_of, nodes_of};
+use crate::build::{bells_of, doors_of, exchanges_of, links_of, nodes_of, tellers_of};
 use crate::doors::Doors;
 use crate::doorway::run_door;
 use crate::hall::{DirectedLink, Hall, State};
 use crate::limits::NOTES;
 use crate::links::carry;
+use crate::manner::Manner;
 use crate::notes::{Notes, Queued, write_notes};
+use crate::pages::{PageDoor, run_pages};
 use crate::seats::{Door, Seat};
 use crate::tally::Tally;
 use crossbeam_channel::bounded;
@@ -17,14 +19,16 @@ use std::sync::Wait;
 use std::sync::atomic::AtomicU64;
 use std::thread;
 use std::thread::Threads;
+use std::time::Clock;
 
 /// Runs the centres of the line until the interlocking says `stop` and all sessions have ended. Then it gathers their logs, merges them, and
 /// prints all events with what they led to, and the line, as a run does. A thread of its own writes the notes.
-pub fn serve<R: Threads + Wait + Sync, N: Notes + Sync, O: Write>(
+pub fn serve<R: Threads + Wait + Sync + Clock, N: Notes + Sync, O: Write>(
     rt: &R,
     alloc: Global,
     line: &Line,
     doors: Doors,
+    manner: Manner,
     notes: &N,
     out: &mut O,
 ) -> Result<(), ServeFault> {
@@ -44,23 +48,39 @@ pub fn serve<R: Threads + Wait + Sync, N: Notes + Sync, O: Write>(
             queue,
             lost,
         };
-        serve_noted(rt, alloc, line, doors, &queued, out)
+        serve_noted(rt, alloc, line, doors, manner, &queued, out)
     })
 }
 
 // The same, where no note has to wait to be written.
-fn serve_noted<R: Threads + Wait + Sync, N: Notes + Sync, O: Write>(
+fn serve_noted<R: Threads + Wait + Sync + Clock, N: Notes + Sync, O: Write>(
     rt: &R,
     alloc: Global,
     line: &Line,
     doors: Doors,
+    manner: Manner,
     notes: &N,
     out: &mut O,
 ) -> Result<(), ServeFault> {
     let nodes = nodes_of(alloc, line)?;
-    let doors = doors_of(alloc, line, &nodes, doors.all())?;
+    let (listening, page) = doors.all();
+    let doors = doors_of(alloc, line, &nodes, listening)?;
+    let page = match page {
+        Some(listening) => Some(PageDoor::new(alloc, line, &doors, listening)?),
+        None => None,
+    };
     let links = links_of(alloc, line, &nodes)?;
-    run_centres(rt, alloc, line, &nodes, &doors, &links, notes)?;
+    run_centres(
+        rt,
+        alloc,
+        line,
+        &nodes,
+        &doors,
+        &links,
+        page.as_ref(),
+        manner,
+        notes,
+    )?;
     let shares = shares_of(alloc, doors, links)?;
     notes.note("all sessions have ended");
     let family = gather(alloc, nodes, shares)?;
@@ -91,37 +111,65 @@ fn print_noted<N: Notes, O: Write>(
 }
 
 // Runs all workers to their ends.
-fn run_centres<R: Threads + Wait + Sync, N: Notes + Sync>(
+fn run_centres<R: Threads + Wait + Sync + Clock, N: Notes + Sync>(
     rt: &R,
     alloc: Global,
     line: &Line,
     nodes: &[Node],
     doors: &[Door],
     links: &[DirectedLink],
+    page: Option<&PageDoor>,
+    manner: Manner,
     notes: &N,
 ) -> Result<(), AllocError> {
     let bells = bells_of(alloc, line)?;
     let exchanges = exchanges_of(alloc, line, &bells)?;
+    let tellers = tellers_of(alloc, line, &exchanges, doors, manner)?;
     let state = State::new(line.centre_count());
     let hall = Hall {
         alloc,
         line,
         nodes,
-        exchanges: &exchanges,
+        tellers: &tellers,
         doors,
         links,
         bells: &bells,
         state: &state,
+        manner,
     };
-    run_links(rt, &hall, notes);
+    run_beside(rt, &hall, page, notes);
     if state.has_failed() {
         return Err(AllocError);
     }
     Ok(())
 }
 
+// Runs the links and the doors, and beside them the page.
+fn run_beside<R: Threads + Wait + Sync + Clock, N: Notes + Sync>(
+    rt: &R,
+    hall: &Hall<'_>,
+    page: Option<&PageDoor>,
+    notes: &N,
+) {
+    thread::scope(thread::scope_env(), rt, |scope| {
+        if let Some(page) = page {
+            if scope
+                .spawn(move || run_pages(rt, hall, notes, page))
+                .is_err()
+            {
+                notes.note("page: no thread could be made");
+            }
+        }
+        run_links(rt, hall, notes);
+    });
+}
+
 // Carries frames for as long as the doors are open: a thread a link, and in it two workers.
-fn run_links<R: Threads + Wait + Sync, N: Notes + Sync>(rt: &R, hall: &Hall<'_>, notes: &N) {
+fn run_links<R: Threads + Wait + Sync + Clock, N: Notes + Sync>(
+    rt: &R,
+    hall: &Hall<'_>,
+    notes: &N,
+) {
     thread::scope(thread::scope_env(), rt, |scope| {
         for link in hall.links {
             if scope.spawn(move || carry(rt, hall, link)).is_err() {
@@ -134,7 +182,11 @@ fn run_links<R: Threads + Wait + Sync, N: Notes + Sync>(rt: &R, hall: &Hall<'_>,
 }
 
 // Lets callers in at each door, until the interlocking says `stop` and the last of them is gone.
-fn run_doors<R: Threads + Wait + Sync, N: Notes + Sync>(rt: &R, hall: &Hall<'_>, notes: &N) {
+fn run_doors<R: Threads + Wait + Sync + Clock, N: Notes + Sync>(
+    rt: &R,
+    hall: &Hall<'_>,
+    notes: &N,
+) {
     thread::scope(thread::scope_env(), rt, |scope| {
         for door in hall.doors {
             let name = hall.name(door.caller);

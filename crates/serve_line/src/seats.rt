@@ -1,6 +1,8 @@
 use crate::hall::Caller;
+use crate::limits::MOST_TOLD;
 use rbc_node::Share;
 use std::alloc::Global;
+use std::io::Write;
 use std::net::{Shutdown, SocketAddr, TcpListener, TcpStream};
 use std::sync::atomic::{AtomicBool, AtomicU64, Ordering};
 use std::sync::{Arc, Mutex, Wait};
@@ -11,19 +13,48 @@ use std::thread::Parker;
 pub(crate) struct Seat {
     pub number: usize,
     pub is_taken: AtomicBool,
+    /// Its connection has to leave it.
+    pub is_leaving: AtomicBool,
     /// The time at which its connection came or was heard last, as `State::hear` counts.
     pub heard: AtomicU64,
     /// The connection, while one has the seat.
     pub stream: Mutex<Option<Arc<TcpStream, Global>>>,
     pub shares: Mutex<Vec<Share>>,
+    /// Lines that the interlocking is told of, which its connection has yet to write.
+    pub told: Mutex<Vec<u8>>,
 }
 
 impl Seat {
     /// Ends the connection that has the seat.
     pub fn shut<R: Wait>(&self, rt: &R) {
+        self.is_leaving.store(true, Ordering::SeqCst);
         if let Some(stream) = &*self.stream.lock(rt) {
             let _ = stream.shutdown(Shutdown::Both);
         }
+    }
+
+    /// Whether its connection has to leave it.
+    pub fn is_leaving(&self) -> bool {
+        self.is_leaving.load(Ordering::SeqCst)
+    }
+
+    /// Tells the connection that has the seat that a section is shut. A connection for which too much waits ends.
+    pub fn tell<R: Wait>(&self, rt: &R, centre: &str, section: u16) {
+        if !self.is_taken.load(Ordering::SeqCst) {
+            return;
+        }
+        let is_told = {
+            let mut told = self.told.lock(rt);
+            told.len() < MOST_TOLD && writeln!(told, "{centre} {section} Told").is_ok()
+        };
+        if !is_told {
+            self.shut(rt);
+        }
+    }
+
+    /// What the connection was told since this was asked last.
+    pub fn take_told<R: Wait>(&self, rt: &R, alloc: Global) -> Vec<u8> {
+        std::mem::replace(&mut *self.told.lock(rt), Vec::new(alloc))
     }
 
     /// Its connection is gone: the seat is free.
@@ -52,9 +83,11 @@ pub(crate) struct Door {
 
 impl Door {
     /// A seat that is free, which is taken now. Only the thread at the door calls it.
-    pub fn free_seat(&self) -> Option<&Seat> {
+    pub fn free_seat<R: Wait>(&self, rt: &R) -> Option<&Seat> {
         for seat in &self.seats {
             if !seat.is_taken.load(Ordering::SeqCst) {
+                seat.told.lock(rt).clear();
+                seat.is_leaving.store(false, Ordering::SeqCst);
                 seat.is_taken.store(true, Ordering::SeqCst);
                 return Some(seat);
             }

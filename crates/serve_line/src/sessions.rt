@@ -2,6 +2,7 @@ use crate::hall::Hall;
 use crate::limits::{REPLIES, SILENCE, set_waits};
 use crate::noted::NotedWire;
 use crate::notes::Notes;
+use crate::pace::Pace;
 use crate::seats::Seat;
 use cli_print::name_of;
 use crossbeam_channel::{Receiver, bounded};
@@ -15,10 +16,10 @@ use std::net::{Shutdown, TcpStream};
 use std::sync::{Arc, Wait};
 use std::thread;
 use std::thread::Threads;
-use std::time::Duration;
+use std::time::{Clock, Duration};
 
 /// Serves a train's connection at a centre to its end.
-pub(crate) fn serve_train<R: Threads + Wait + Sync, N: Notes + Sync>(
+pub(crate) fn serve_train<R: Threads + Wait + Sync + Clock, N: Notes + Sync>(
     rt: &R,
     hall: &Hall<'_>,
     notes: &N,
@@ -29,9 +30,10 @@ pub(crate) fn serve_train<R: Threads + Wait + Sync, N: Notes + Sync>(
     let name = name_of(hall.line, centre);
     let number = seat.number;
     let at = centre as usize;
-    let (Some(node), Some(exchange)) = (hall.nodes.get(at), hall.exchanges.get(at)) else {
+    let (Some(node), Some(teller)) = (hall.nodes.get(at), hall.tellers.get(at)) else {
         return;
     };
+    let exchange = teller.exchange;
     let Ok(ends) = entered(rt, hall.alloc, exchange, number, stream) else {
         notes.note(format_args!("{name}: a train is refused, memory ran out"));
         return;
@@ -39,8 +41,9 @@ pub(crate) fn serve_train<R: Threads + Wait + Sync, N: Notes + Sync>(
     notes.note(format_args!("{name}: train connection {number} begins"));
     let noted = NotedWire {
         wire: Wire { exchange, number },
+        teller,
+        pace: Pace::new(rt, seat, hall.manner.rate),
         notes,
-        name,
     };
     match read_and_write(rt, hall.alloc, node, seat, &ends, &noted) {
         Some(end) => tell_end(notes, name, number, end),
@@ -97,13 +100,13 @@ fn ends_of(
 }
 
 // Reads and writes the connection, each in a thread, and says how it ended. Without a thread that writes it is not read, and there is no end to tell.
-fn read_and_write<R: Threads + Wait + Sync, N: Notes + Sync>(
+fn read_and_write<R: Threads + Wait + Sync + Clock, N: Notes + Sync>(
     rt: &R,
     alloc: Global,
     node: &Node,
     seat: &Seat,
     ends: &Ends,
-    noted: &NotedWire<'_, N>,
+    noted: &NotedWire<'_, R, N>,
 ) -> Option<End> {
     thread::scope(thread::scope_env(), rt, |scope| {
         if scope.spawn(move || write_replies(rt, ends)).is_err() {
@@ -115,13 +118,13 @@ fn read_and_write<R: Threads + Wait + Sync, N: Notes + Sync>(
 }
 
 // Commits what the train says, and says how the session ended.
-fn read_messages<R: Wait, N: Notes>(
+fn read_messages<R: Wait + Clock, N: Notes>(
     rt: &R,
     alloc: Global,
     node: &Node,
     seat: &Seat,
     stream: &TcpStream,
-    noted: &NotedWire<'_, N>,
+    noted: &NotedWire<'_, R, N>,
 ) -> End {
     let mut shares = seat.shares.lock(rt);
     let Some(share) = shares.first_mut() else {

@@ -5,7 +5,8 @@ use cli_status::Fault;
 use rbc_book::{Entry, Page};
 use rbc_centre::SectionRun;
 use rbc_line::Line;
-use rbc_log::CentreLog;
+use rbc_log::{CentreLog, MOST_ENTRIES};
+use rbc_node::Node;
 use rbc_world::{Mark, SectionView};
 use std::alloc::{AllocError, Global};
 use std::io::Write;
@@ -35,12 +36,25 @@ pub(crate) fn show<R: Wait>(
 ) -> Result<(), Fault<'static>> {
     let mut sight = Sight::new(hall.alloc, hall.line)?;
     for node in hall.nodes {
+        catch_up(rt, hall.line, node, roster);
+    }
+    for node in hall.nodes {
         let look = node.look(rt);
         sight.add(hall.line, look.log());
         roster.read_on(hall.line, look.log());
     }
     writeln!(text, "> show")?;
     sight.print(hall.alloc, hall.line, roster, text)
+}
+
+// Reads what was not seen yet of a log, in pieces, between which its centre goes on.
+fn catch_up<R: Wait>(rt: &R, line: &Line, node: &Node, roster: &mut Roster) {
+    for _ in 0..MOST_ENTRIES {
+        let look = node.look(rt);
+        if !roster.read_on(line, look.log()) {
+            return;
+        }
+    }
 }
 
 impl Sight {

@@ -1,9 +1,9 @@
-//! Two centres, of which one asks the other for the rights of three trains that start there.
+//! Two centres, of which one asks the other for the rights of three trains that start there, and that one asks for a section that it has lent.
 
 ghost use Rattle.std.specs.Prelude.{◌<◌, ◌≤◌, length, IfOk};
 ghost use Rattle.rbc_msgs.specs.TrainView.{HasItsPackets};
 
-use rbc_centre::Event;
+use rbc_centre::{Body, Event, Frame};
 use rbc_line::Line;
 use rbc_msgs::{TrainBody, TrainMsg};
 use rbc_node::{Node, Open, Share};
@@ -49,6 +49,9 @@ registrar = \"B\"
 engine = 3
 registrar = \"B\"
 ";
+
+/// The section of B.
+const OF_B: u16 = 3;
 
 /// How many frames A has for B.
 pub const FRAMES: u32 = 3;
@@ -142,4 +145,23 @@ pub fn asking<R: Wait>(rt: &R, alloc: Global) -> Result<(Node, Share), Fail> {
         return Err("A has three frames for B".into());
     }
     Ok((a, share))
+}
+
+/// A node of B, which has lent its section to A, and has asked so often that it comes home: frame 1, and as many behind it.
+pub fn withdrawing<R: Wait>(rt: &R, alloc: Global, count: u32) -> Result<Node, Fail> {
+    let b = node_of(alloc, B)?;
+    let mut share = b.share();
+    let body = Body::RouteAsk {
+        engine: 1,
+        first: OF_B,
+        most: 1,
+    };
+    let frame = Frame::new(1, 1, body);
+    take(rt, &b, &mut share, Event::Set(OF_B))?;
+    take(rt, &b, &mut share, Event::Deliver { from: A, frame })?;
+    for _ in 0..count {
+        take(rt, &b, &mut share, Event::Unset(OF_B))?;
+        take(rt, &b, &mut share, Event::Set(OF_B))?;
+    }
+    Ok(b)
 }

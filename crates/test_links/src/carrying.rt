@@ -1,10 +1,11 @@
 ghost use Rattle.std.specs.Prelude.{◌≡◌};
 
-use crate::asking::{A, B, asking, node_of};
+use crate::asking::{A, B, asking, node_of, withdrawing};
 use crate::narrow::Narrow;
+use crate::tried::Tried;
 use crate::unruly::Unruly;
 use rbc_board::{Carrier, QueueCarrier};
-use rbc_centre::{Event, LinkAnswer};
+use rbc_centre::{Body, Event, Frame, LAST_STAMP, LinkAnswer};
 use rbc_log::merge;
 use rbc_node::{Node, Open, Share, gather};
 use serve_workers::{Closed, Desk, InOrder, LinkEnds, receive_frames, send_frames};
@@ -82,41 +83,51 @@ fn each_frame_that_comes_is_committed_whatever_number_was_asked_for(
     Ok(())
 }
 
-// B gets the frames of A over a carrier while A puts them, though no session is left from the first: what its link answered.
+// A node gets the frames of another over a carrier while that puts them, though no session is left from the first: what its link answered.
 fn carried_at_the_end<R: Threads + Wait + Sync, C: Carrier + Sync>(
     rt: &R,
     alloc: Global,
+    from: &Node,
+    to: &Node,
     carrier: &C,
     writer: C::Seen,
     reader: C::Seen,
 ) -> Result<Vec<Option<LinkAnswer>>, Fail>
     requires { C.is_of carrier.now writer × C.is_of carrier.now reader }
 {
-    let (a, _) = asking(rt, alloc)?;
-    let b = node_of(alloc, B)?;
-    let mut of_b = b.share();
+    let mut of_to = to.share();
+    let (sender, receiver) = (from.share().centre(), of_to.centre());
     let (ends, bell, is_over) = (LinkEnds::new(), Parker::new(), AtomicBool::new(true));
     thread::join(
         rt,
         || -> C::Seen
             requires { C.is_of carrier.now writer }
-        { send_frames(rt, &a, B, carrier, writer, ends.of_sender(&bell, &is_over)) },
+        {
+            send_frames(
+                rt,
+                from,
+                receiver,
+                carrier,
+                writer,
+                ends.of_sender(&bell, &is_over),
+            )
+        },
         || -> C::Seen
             requires { C.is_of carrier.now reader }
         {
             let desk = Desk {
-                node: &b,
+                node: to,
                 gate: &Open,
                 outlet: &Closed,
             };
             let mut order = InOrder::new();
             let signals = ends.of_receiver(&bell, &is_over);
             receive_frames(
-                rt, &desk, &mut of_b, A, carrier, reader, &mut order, signals,
+                rt, &desk, &mut of_to, sender, carrier, reader, &mut order, signals,
             )
         },
     );
-    answers_of(alloc, &of_b)
+    answers_of(alloc, &of_to)
 }
 
 #[test]
@@ -125,7 +136,49 @@ fn all_frames_are_delivered_at_the_end_though_the_link_is_full(
 ) -> Result<(), Fail> {
     let (queue, writer, reader) = QueueCarrier::new(&rt, rt.alloc())?;
     let narrow = Narrow::new(queue);
-    let answers = carried_at_the_end(&rt, rt.alloc(), &narrow, writer, reader)?;
+    let (a, _) = asking(&rt, rt.alloc())?;
+    let b = node_of(rt.alloc(), B)?;
+    let answers = carried_at_the_end(&rt, rt.alloc(), &a, &b, &narrow, writer, reader)?;
     assert!(rt; answers.as_slice() == [Some(LinkAnswer::Next); 3].as_slice());
+    Ok(())
+}
+
+// How many frames B has for A there.
+const MANY: usize = 301;
+
+#[test]
+fn hundreds_of_frames_are_delivered_in_their_order(rt: HostRuntime) -> Result<(), Fail> {
+    let (queue, writer, reader) = QueueCarrier::new(&rt, rt.alloc())?;
+    let (a, b) = (node_of(rt.alloc(), A)?, withdrawing(&rt, rt.alloc(), 300)?);
+    let answers = carried_at_the_end(&rt, rt.alloc(), &b, &a, &queue, writer, reader)?;
+    assert!(rt; answers.as_slice() == [Some(LinkAnswer::Next); MANY].as_slice());
+    Ok(())
+}
+
+// A frame comes to B whose stamp leaves no further one: the numbers that were asked for, how much was committed, and whether the frame is there still.
+fn refused<R: Wait>(rt: &R, alloc: Global) -> Result<([u32; 3], usize, bool), Fail> {
+    let b = node_of(alloc, B)?;
+    let mut of_b = b.share();
+    let (queue, mut writer, reader) = QueueCarrier::new(rt, alloc)?;
+    let late = Frame::new(1, LAST_STAMP, Body::AskRight { engine: 1 });
+    if queue.put(&mut writer, 1, late).is_err() {
+        return Err("there is room for the frame".into());
+    }
+    let (ends, bell, is_over) = (LinkEnds::new(), Parker::new(), AtomicBool::new(false));
+    let mut order = Tried::new(&is_over);
+    let desk = Desk {
+        node: &b,
+        gate: &Open,
+        outlet: &Closed,
+    };
+    let signals = ends.of_receiver(&bell, &is_over);
+    let mut seen = receive_frames(rt, &desk, &mut of_b, A, &queue, reader, &mut order, signals);
+    let is_there = queue.get(&mut seen, 1) == Some(late);
+    Ok((order.asked(), of_b.receipts().len(), is_there))
+}
+
+#[test]
+fn a_commit_that_is_refused_is_tried_again(rt: HostRuntime) -> Result<(), Fail> {
+    assert!(rt; refused(&rt, rt.alloc())? == ([1, 1, 1], 0, true));
     Ok(())
 }

@@ -9,4 +9,7 @@ mod asking;
 #[cfg(test)]
 mod carrying;
 pub mod narrow;
+#[cfg(test)]
+mod three;
+pub mod tried;
 pub mod unruly;

@@ -15,6 +15,20 @@ impl<R: rt::Files + AllocGlobal> Folder<'_, R> {
         fs::read(self.rt, path.as_str()).ok()
     }
 
+    // The text of the file of this name, and behind it that of the file `NAME-again`, as often as the file `NAME-times` says.
+    fn with_more(&self, name: &str, mut text: String) -> Option<String> {
+        let file = format!(in self.rt.alloc(); "{name}-again").ok()?;
+        let Some(bytes) = self.bytes(file.as_str()) else {
+            return Some(text);
+        };
+        let more = String::from_utf8(bytes).ok()?;
+        let file = format!(in self.rt.alloc(); "{name}-times").ok()?;
+        for _ in 0..self.number(file.as_str())? {
+            text.push_str(more.as_str()).ok()?;
+        }
+        Some(text)
+    }
+
     /// The number in a file of its own.
     pub fn number(&self, file: &str) -> Option<u32> {
         let text = String::from_utf8(self.bytes(file)?).ok()?;
@@ -25,7 +39,7 @@ impl<R: rt::Files + AllocGlobal> Folder<'_, R> {
 impl<R: rt::Files + AllocGlobal> Files for Folder<'_, R> {
     fn text(&self, name: &str) -> Option<String> {
         if let Some(bytes) = self.bytes(name) {
-            return String::from_utf8(bytes).ok();
+            return self.with_more(name, String::from_utf8(bytes).ok()?);
         }
         let path = format!(in self.rt.alloc(); "lines/{name}").ok()?;
         fs::read_to_string(self.rt, path.as_str()).ok()

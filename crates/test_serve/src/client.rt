@@ -30,6 +30,8 @@ pub enum Missed {
     Audit,
     /// Hexadecimal digits.
     Digits,
+    /// The time.
+    Clock,
     /// Memory.
     Memory,
 }
@@ -71,6 +73,15 @@ pub fn heard(alloc: Global, stream: &TcpStream, count: usize) -> Done<Vec<u8>> {
         }
     }
     Err(Missed::NoAnswer)
+}
+
+/// Says this, and is answered so.
+pub fn answers(alloc: Global, stream: &TcpStream, said: &str, wanted: &str) -> Done<()> {
+    say(stream, said.as_bytes())?;
+    if heard(alloc, stream, wanted.len())?.as_slice() != wanted.as_bytes() {
+        return Err(Missed::OtherAnswer);
+    }
+    Ok(())
 }
 
 /// Whether the other side ends the connection, with nothing more to say.

@@ -1,8 +1,9 @@
 //! The control door: what its lines are answered, and how it ends.
 
-use crate::client::{Done, Missed, connect, heard, is_ended, say};
+use crate::client::{Done, Missed, answers, connect, heard, is_ended, say};
 use crate::line::{INITIATION_OF_ONE, bytes_of, two_centres};
 use crate::railway::{Addresses, printed_with};
+use serve_line::Manner;
 use std::alloc::Global;
 use std::net::{Net, TcpStream};
 use std::test::*;
@@ -10,7 +11,7 @@ use std::test::*;
 #[test]
 fn each_line_is_answered_as_a_run_prints_it(rt: HostRuntime) -> Result<(), Fail> {
     let line = two_centres(rt.alloc())?;
-    let printed = printed_with(&rt, rt.alloc(), &line, |addresses| {
+    let printed = printed_with(&rt, rt.alloc(), &line, Manner::default(), |addresses| {
         speak(&rt, rt.alloc(), addresses)
     })?;
     let wanted =
@@ -46,19 +47,10 @@ fn speak<R: Net<Stream = TcpStream>>(rt: &R, alloc: Global, addresses: Addresses
     Ok(())
 }
 
-// The lines are answered so.
-fn answers(alloc: Global, control: &TcpStream, lines: &str, wanted: &str) -> Done<()> {
-    say(control, lines.as_bytes())?;
-    if heard(alloc, control, wanted.len())?.as_slice() != wanted.as_bytes() {
-        return Err(Missed::OtherAnswer);
-    }
-    Ok(())
-}
-
 #[test]
 fn bytes_with_a_fault_end_their_connection_alone(rt: HostRuntime) -> Result<(), Fail> {
     let line = two_centres(rt.alloc())?;
-    let printed = printed_with(&rt, rt.alloc(), &line, |addresses| {
+    let printed = printed_with(&rt, rt.alloc(), &line, Manner::default(), |addresses| {
         fault_beside_a_train(&rt, rt.alloc(), addresses)
     })?;
     assert!(rt; printed.starts_with(b"> train A 9B028000000040000040\n"));

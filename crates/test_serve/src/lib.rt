@@ -5,11 +5,17 @@
 
 pub mod client;
 #[cfg(test)]
+mod driving;
+#[cfg(test)]
 mod interlocking;
 #[cfg(test)]
 mod line;
 #[cfg(test)]
+mod manner;
+#[cfg(test)]
 mod order;
+#[cfg(test)]
+mod outlets;
 #[cfg(test)]
 mod railway;
 #[cfg(test)]

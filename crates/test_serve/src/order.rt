@@ -4,6 +4,7 @@ use crate::client::{Done, Missed, TURNS, connect, heard, say};
 use crate::line::{INITIATION_OF_ONE, VERSION, bytes_of, two_centres};
 use crate::railway::{Addresses, printed_with};
 use rbc_msgs::{NID_LRBG_UNKNOWN, TrackBody, TrackMsg, decode_track};
+use serve_line::Manner;
 use serve_writing::{Order, Reply};
 use std::alloc::Global;
 use std::io::{ErrorKind, Read};
@@ -86,7 +87,7 @@ fn a_train_hears_all_in_order_though_two_threads_commit(rt: HostRuntime) -> Resu
         is_said: AtomicBool::new(false),
     };
     let numbers = AtomicBool::new(false);
-    let printed = printed_with(&rt, rt.alloc(), &line, |addresses| {
+    let printed = printed_with(&rt, rt.alloc(), &line, Manner::default(), |addresses| {
         let (opened, other) = thread::join(
             &rt,
             || open_and_start(&rt, rt.alloc(), addresses, &told),

@@ -4,12 +4,13 @@ use crate::client::{Done, Missed, connect, say};
 use crate::line::CONTROL;
 use cli_audit::{Audit, Verdict};
 use rbc_line::Line;
-use serve_line::{Doors, Quiet, serve};
+use serve_line::{Doors, Manner, Quiet, serve};
 use std::alloc::Global;
 use std::net::{Net, SocketAddr, TcpListener, TcpStream};
 use std::sync::Wait;
 use std::thread;
 use std::thread::Threads;
+use std::time::Clock;
 
 /// The addresses of centre A and of the control door.
 #[derive(Clone, Copy)]
@@ -20,19 +21,21 @@ pub struct Addresses {
 
 /// Serves the line while the play goes on, then says `stop`, and gives what was printed.
 pub fn printed_with<
-    R: Threads + Wait + Sync + Net<Stream = TcpStream, Listener = TcpListener>,
+    R: Threads + Wait + Sync + Net<Stream = TcpStream, Listener = TcpListener> + Clock,
     P: FnOnce(Addresses) -> Done<()>,
->(rt: &R, alloc: Global, line: &Line, play: P) -> Done<Vec<u8>>
+>(rt: &R, alloc: Global, line: &Line, manner: Manner, play: P) -> Done<Vec<u8>>
     requires { P.IsAlwaysCallable play }
 {
-    let doors = Doors::open(rt, alloc, line, 0).ok().ok_or(Missed::Door)?;
+    let doors = Doors::open(rt, alloc, line, 0, &Quiet)
+        .ok()
+        .ok_or(Missed::Door)?;
     let addresses = Addresses {
         centre: doors.address(0).ok_or(Missed::Door)?,
         control: doors.address(CONTROL).ok_or(Missed::Door)?,
     };
     let (served, played) = thread::join(
         rt,
-        || served(rt, alloc, line, doors),
+        || served(rt, alloc, line, doors, manner),
         || {
             let played = play(addresses);
             stop(rt, addresses)?;
@@ -43,14 +46,15 @@ pub fn printed_with<
     served
 }
 
-fn served<R: Threads + Wait + Sync>(
+fn served<R: Threads + Wait + Sync + Clock>(
     rt: &R,
     alloc: Global,
     line: &Line,
     doors: Doors,
+    manner: Manner,
 ) -> Done<Vec<u8>> {
     let mut out = Vec::new(alloc);
-    serve(rt, alloc, line, doors, &Quiet, &mut out)
+    serve(rt, alloc, line, doors, manner, &Quiet, &mut out)
         .ok()
         .ok_or(Missed::Print)?;
     Ok(out)

@@ -2,6 +2,7 @@ use crate::client::{Done, Missed, TURNS, connect, heard, say};
 use crate::line::{ACCEPTED, INITIATION_OF_ONE, VERSION, bytes_of, two_centres};
 use crate::railway::{Addresses, audited, printed_with};
 use cli_audit::Verdict;
+use serve_line::Manner;
 use std::alloc::Global;
 use std::net::{Net, TcpStream};
 use std::sync::atomic::{AtomicBool, Ordering};
@@ -21,7 +22,7 @@ struct Answered(AtomicBool);
 fn two_trains_are_served_and_the_print_is_audited(rt: HostRuntime) -> Result<(), Fail> {
     let line = two_centres(rt.alloc())?;
     let answered = Answered(AtomicBool::new(false));
-    let printed = printed_with(&rt, rt.alloc(), &line, |addresses| {
+    let printed = printed_with(&rt, rt.alloc(), &line, Manner::default(), |addresses| {
         release(&rt, rt.alloc(), addresses)?;
         let (two, one) = thread::join(
             &rt,

@@ -1,0 +1,27 @@
+use crate::limits::{BURST, PER_SECOND};
+use serve_reading::Rate;
+
+/// How the centres of a line are served, beside its ports.
+#[derive(Clone, Copy, Debug)]
+pub struct Manner {
+    /// How many messages each train's connection may say.
+    pub rate: Rate,
+    /// Whether each control connection is told of a section that was wished back and is shut, once it is.
+    pub is_telling: bool,
+    /// Whether `show` says how much of each log, clock and link is used up.
+    pub shows_life: bool,
+}
+
+impl Default for Manner {
+    /// As where nothing else is asked for.
+    fn default() -> Manner {
+        Manner {
+            rate: Rate {
+                per_second: PER_SECOND,
+                burst: BURST,
+            },
+            is_telling: false,
+            shows_life: false,
+        }
+    }
+}
