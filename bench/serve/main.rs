@@ -1,5 +1,6 @@
 // Clients of running centres, and a bare echo server beside them.
-// Words: line; echo PORT PORTS; release PORT; load centres|echo PORT SECONDS WINDOW TIME; soak PORT SECONDS; stop PORT; missing PRINTED HEARD.
+// Words: line; echo PORT PORTS; release PORT; load centres|echo PORT SECONDS WINDOW TIME; soak PORT SECONDS; browse PORT
+// SECONDS; stop PORT; missing PRINTED HEARD.
 
 #[path = "../peer/bits.rs"]
 #[allow(dead_code)]
@@ -11,6 +12,7 @@ mod echo;
 mod heard;
 mod line;
 mod load;
+mod page;
 #[path = "../peer/train.rs"]
 #[allow(dead_code)]
 mod said;
@@ -41,9 +43,19 @@ fn main() -> Result<(), Box<dyn Error>> {
             let until = Instant::now() + Duration::from_secs(seconds.parse()?);
             let outcome = trouble::soak(Soak { first_port: first.parse()?, until })?;
             eprintln!("the train that reads nothing was cut {} times", outcome.cuts);
+            let out_of_order: u32 = outcome.heard.iter().map(|heard| heard.out_of_order).sum();
+            if out_of_order > 0 {
+                return Err(format!("{out_of_order} answers came out of order").into());
+            }
             for line in outcome.heard.iter().flat_map(|heard| &heard.lines) {
                 println!("{line}");
             }
+        }
+        ["browse", port, seconds] => {
+            let until = Instant::now() + Duration::from_secs(seconds.parse()?);
+            let browsed = page::trouble(port.parse()?, until)?;
+            let (answered, crowded) = (browsed.answered.into_inner(), browsed.crowded.into_inner());
+            println!("{answered} requests were answered what is due, {crowded} connections were too many");
         }
         ["missing", printed, heard] => {
             let (print, heard) = (std::fs::read_to_string(printed)?, std::fs::read_to_string(heard)?);

@@ -1,4 +1,5 @@
-// Clients that make trouble: connections that are cut, that stall, that send random bytes, that read nothing, and too many at once.
+// Clients that make trouble: connections that are cut, that stall, that send random bytes, that read nothing, that say too much,
+// and too many at once.
 
 use crate::draw::Draw;
 use crate::heard::Heard;
@@ -6,7 +7,7 @@ use crate::line::{CENTRES, RELEASED, TRAINS, centre_of, name_of, spare_of};
 use crate::load::control;
 use crate::said::{Said, encode};
 use crate::train::{Train, begin, connect, end, other, request};
-use std::io::{self, Read, Write};
+use std::io::{self, ErrorKind, Read, Write};
 use std::net::{Shutdown, TcpStream};
 use std::os::fd::AsRawFd;
 use std::thread;
@@ -19,8 +20,17 @@ pub struct Soak {
     pub until: Instant,
 }
 
-/// How many idle connections a crowd has.
-const CROWD: usize = 6;
+/// How many idle connections a crowd has: more than a centre has seats.
+const CROWD: usize = 80;
+
+/// How many connections the control door serves at once.
+const CONTROLS: usize = 4;
+
+/// How often a train comes again that finds no seat.
+const TRIES: u32 = 20;
+
+/// An engine that is not of the line.
+const FOREIGN: u32 = 99;
 
 impl Soak {
     fn goes_on(self) -> bool {
@@ -46,8 +56,10 @@ pub fn soak(soak: Soak) -> io::Result<Outcome> {
             scope.spawn(move || random_bytes(soak, port, centre as u64));
             scope.spawn(move || crowd(soak, port));
             scope.spawn(move || stall(soak, port));
+            scope.spawn(move || flood(soak, port));
         }
         scope.spawn(move || interlocking(soak));
+        scope.spawn(move || silent_controls(soak));
         let heard: io::Result<_> = trains.into_iter().map(|train| train.join().unwrap()).collect();
         Ok(Outcome { heard: heard?, cuts: slow.join().unwrap()? })
     })
@@ -86,8 +98,7 @@ fn cut_train(soak: Soak, number: usize) -> io::Result<Heard> {
     let mut train = Train::new(number);
     let mut heard = Heard::default();
     while soak.goes_on() {
-        let mut stream = connect(train.port(soak.first_port))?;
-        begin(&mut stream, &mut train, &mut heard)?;
+        let mut stream = opened(soak, &mut train, &mut heard)?;
         for _ in 0..draw.below(20) {
             request(&mut stream, &mut train, &mut heard, 0)?;
             thread::sleep(Duration::from_millis(10));
@@ -99,6 +110,20 @@ fn cut_train(soak: Soak, number: usize) -> io::Result<Heard> {
         }
     }
     Ok(heard)
+}
+
+// A connection over which the train's session is open. Among many that come at once it may have to make room before that: then it comes again.
+fn opened(soak: Soak, train: &mut Train, heard: &mut Heard) -> io::Result<TcpStream> {
+    for _ in 0..TRIES {
+        let mut stream = connect(train.port(soak.first_port))?;
+        match begin(&mut stream, train, heard) {
+            Ok(()) => return Ok(stream),
+            Err(error) if [ErrorKind::UnexpectedEof, ErrorKind::ConnectionReset].contains(&error.kind()) => {}
+            Err(error) => return Err(error),
+        }
+        thread::sleep(Duration::from_millis(100));
+    }
+    Err(other("no connection is taken"))
 }
 
 // Bytes that mean nothing, half of them behind the head of a message. The connection ends at their fault, or is cut.
@@ -134,6 +159,27 @@ fn stall(soak: Soak, port: u16) {
             let _ = stream.write_all(&encode(1, 1, Said::Initiation)[..7]);
             thread::sleep(Duration::from_secs(3));
         }
+    }
+}
+
+// An engine that is not of the line opens its session as fast as the centre takes it. Each is an entry of the centre's log.
+fn flood(soak: Soak, port: u16) {
+    let bytes = encode(1, FOREIGN, Said::Initiation).repeat(100);
+    while soak.goes_on() {
+        if let Ok(mut stream) = connect(port) {
+            while soak.goes_on() && stream.write_all(&bytes).is_ok() {}
+            // It is not let in again at once, since each connection has a burst.
+            thread::sleep(Duration::from_secs(60).min(soak.until.saturating_duration_since(Instant::now())));
+        }
+    }
+}
+
+// As many silent connections as the control door has seats.
+fn silent_controls(soak: Soak) {
+    while soak.goes_on() {
+        let silent: Vec<_> = (0..CONTROLS).map(|_| control(soak.first_port)).collect();
+        thread::sleep(Duration::from_secs(2));
+        drop(silent);
     }
 }
 

@@ -1,0 +1,96 @@
+use crate::handovers::Handovers;
+use crate::layout::layout_of;
+use crate::news::News;
+use crate::seen::see_centre;
+use cli_status::Fault;
+use rbc_line::Line;
+use rbc_node::Node;
+use serve_page::{CentreNow, Layout, LineNow, LinkNow, SectionNow, Usage};
+use std::alloc::{AllocError, Global};
+use std::sync::Wait;
+
+/// The line as it was seen last.
+#[derive(Drop)]
+pub struct Glance {
+    pub layout: Layout,
+    pub now: LineNow,
+    handovers: Handovers,
+    news: News,
+}
+
+impl Glance {
+    /// Nothing was seen yet. The centres listen at these ports.
+    pub fn new(alloc: Global, line: &Line, ports: Vec<u16>) -> Result<Glance, AllocError> {
+        Ok(Glance {
+            layout: layout_of(alloc, line, ports)?,
+            now: nothing_of(alloc, line)?,
+            handovers: Handovers::new(alloc, line)?,
+            news: News::new(alloc, line)?,
+        })
+    }
+
+    /// Looks at the centres, one after another. Nobody has a seat in what is seen.
+    pub fn look<R: Wait>(
+        &mut self,
+        rt: &R,
+        alloc: Global,
+        line: &Line,
+        nodes: &[Node],
+    ) -> Result<(), Fault<'static>> {
+        let mut now = nothing_of(alloc, line)?;
+        for node in nodes {
+            let look = node.look(rt);
+            let log = look.log();
+            see_centre(line, log, &mut now)?;
+            self.handovers.read_on(line, log.core());
+            self.news.read_on(alloc, line, log)?;
+        }
+        self.handovers.add(&mut now);
+        now.last = self.news.tell(alloc, line)?;
+        self.now = now;
+        Ok(())
+    }
+}
+
+// The line of which nothing was seen.
+fn nothing_of(alloc: Global, line: &Line) -> Result<LineNow, AllocError> {
+    Ok(LineNow {
+        events: 0,
+        is_stopped: false,
+        sections: vec![in alloc; UNSEEN; line.section_count() as usize]?,
+        missions: vec![in alloc; None; line.train_count() as usize]?,
+        sessions: Vec::new(alloc),
+        centres: vec![in alloc; UNUSED; line.centre_count() as usize]?,
+        links: links_of(alloc, line)?,
+        last: Vec::new(alloc),
+    })
+}
+
+const UNSEEN: SectionNow = SectionNow {
+    usage: Usage::Shut,
+    is_wished: false,
+};
+
+const UNUSED: CentreNow = CentreNow {
+    entries: 0,
+    clock: 0,
+    taken: 0,
+    seats: 0,
+};
+
+fn links_of(alloc: Global, line: &Line) -> Result<Vec<LinkNow>, AllocError> {
+    let mut links = Vec::new(alloc);
+    for from in 0..line.centre_count() {
+        for to in 0..line.centre_count() {
+            if line.linked(from, to) {
+                links.push(LinkNow {
+                    from,
+                    to,
+                    sent: 0,
+                    taken: 0,
+                })?;
+            }
+        }
+    }
+    Ok(links)
+}

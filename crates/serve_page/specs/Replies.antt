@@ -1,0 +1,35 @@
+-- The bytes of an answer.
+use Rattle.std.specs.Prelude.{◌≡◌, ◌⊎◌, ℕ, Some, List, [], ◌++◌, length}
+use Rattle.std.specs.Fmt.{decimal}
+use Rattle.serve_page.specs.declared.request.Asked.{Asked}
+use Rattle.serve_page.specs.declared.request.Asked.TheVariants as asked
+use Rattle.serve_page.specs.declared.request.Refusal.{Refusal}
+use Rattle.serve_page.specs.declared.request.Refusal.TheVariants as refusal
+use Rattle.serve_page.specs.declared.reply.TheConstants as constants
+
+-- what a refused request is answered, whatever the line does
+abbrev pub refusal_text : Refusal → List ℕ
+refusal_text refusal.Form = constants.FORM.now
+refusal_text refusal.Host = constants.HOST.now
+refusal_text refusal.Method = constants.METHOD.now
+refusal_text refusal.Address = constants.ADDRESS.now
+refusal_text refusal.Size = constants.SIZE.now
+refusal_text refusal.Time = constants.TIME.now
+refusal_text refusal.Crowd = constants.CROWD.now
+
+-- a head, which ends in the length of the body, an empty line, and the body
+abbrev pub answer_of : List ℕ → List ℕ → List ℕ
+answer_of head body = head ++ decimal (length body) ++ constants.END.now ++ body
+
+-- a text is an answer with this head
+abbrev pub HasBody : List ℕ → List ℕ → Type 0
+HasBody head text = (body : List ℕ) × (text ≡ answer_of head body)
+
+-- what a request is answered where so many events have come: a refused one a fixed text, and one for what is so now of which nothing is
+-- new that nothing is new. Any other answer has the length of its body in its head
+abbrev pub IsAnswer : ℕ → Asked → List ℕ → Type 0
+IsAnswer events asked.More text = text ≡ []
+IsAnswer events (asked.Refused why) text = text ≡ refusal_text why
+IsAnswer events asked.Page text = HasBody constants.HTML.now text
+IsAnswer events asked.Line text = HasBody constants.JSON.now text
+IsAnswer events (asked.Now since) text = ((since ≡ Some events) × (text ≡ constants.SAME.now)) ⊎ HasBody constants.JSON.now text

@@ -1,0 +1,82 @@
+-- What a request asks for.
+use Rattle.std.specs.Prelude.{◌≡◌, ◌≢◌, ◌<◌, ◌≤◌, ℕ, Bool, true, false, ◌&&◌, ◌||◌, ◌==◌, List, [], ◌∷◌, length, take, drop, map, filter, codes, ⊤}
+use Rattle.std.specs.Char.{to_ascii_lowercase}
+use Rattle.std.specs.Str.{bytes_eq}
+use Rattle.httparse.specs.Grammar.{RequestHead, ReadsRequest, MayBecomeRequest}
+use Rattle.httparse.specs.Spans.{span_bytes, name_and_value}
+use Rattle.httparse.specs.declared.spans.HeaderSpan.{HeaderSpan}
+use Rattle.serve_page.specs.declared.request.Asked.{Asked}
+use Rattle.serve_page.specs.declared.request.Asked.TheVariants as asked
+use Rattle.serve_page.specs.declared.request.Refusal.TheVariants as refusal
+use Rattle.serve_page.specs.declared.request.Hosts.{Hosts}
+use Rattle.serve_page.specs.declared.request.Hosts.TheVariants as hosts
+
+-- a field of this name names a host
+abbrev pub names_host : List ℕ → Bool
+names_host name = bytes_eq (map to_ascii_lowercase name) (map to_ascii_lowercase (codes "host"))
+
+-- of fields by name and value, those that name a host
+abbrev pub hosts_of : List (List ℕ × List ℕ) → List (List ℕ × List ℕ)
+hosts_of fields = filter (λ f. names_host f.0) fields
+
+-- nothing, or a colon and a port
+abbrev pub is_port_part : List ℕ → Bool
+is_port_part [] = true
+is_port_part (b ∷ bytes) = b == 58
+
+-- a host has this name, with a port or without
+abbrev pub has_name : List ℕ → List ℕ → Bool
+has_name name host = bytes_eq (take (length name) host) name && is_port_part (drop (length name) host)
+
+-- a host goes by a name that means this host everywhere
+abbrev pub is_loopback : List ℕ → Bool
+is_loopback host = has_name (codes "localhost") host || has_name (codes "127.0.0.1") host
+
+-- a target that asks for what is so now
+abbrev pub is_now : List ℕ → Bool
+is_now target = bytes_eq target (codes "/now") || bytes_eq (take 11 target) (codes "/now?since=")
+
+-- what a target asks for: three addresses are known
+abbrev pub IsAskedAt : List ℕ → Asked → Type 0
+IsAskedAt target asked.Page = target ≡ codes "/"
+IsAskedAt target asked.Line = target ≡ codes "/line.json"
+IsAskedAt target (asked.Now since) = is_now target ≡ true
+IsAskedAt target (asked.Refused refusal.Address) = (target ≢ codes "/") × (target ≢ codes "/line.json") × (is_now target ≡ false)
+IsAskedAt target other = ⊥
+
+-- the fields of a head that name a host
+abbrev pub hosts_in : RequestHead → List (List ℕ × List ℕ)
+hosts_in h = hosts_of (map name_and_value h.fields)
+
+-- exactly one field names a host, and it goes by such a name or not
+abbrev pub HasHost : RequestHead → Bool → Type 0
+HasHost h is_ours = (host : List ℕ × List ℕ) × (hosts_in h ≡ host ∷ []) × (is_loopback host.1 ≡ is_ours)
+
+-- what a whole head asks for: one host, which is this one, before the method, and the method before the target
+abbrev pub IsAskedBy : RequestHead → Asked → Type 0
+IsAskedBy h (asked.Refused refusal.Form) = length (hosts_in h) ≢ 1
+IsAskedBy h (asked.Refused refusal.Host) = HasHost h false
+IsAskedBy h (asked.Refused refusal.Method) = HasHost h true × (h.method ≢ codes "GET")
+IsAskedBy h other = HasHost h true × (h.method ≡ codes "GET") × IsAskedAt h.target other
+
+-- more is waited for only where a head may come yet and few bytes have come; and nothing is given but to a whole head that asks for it
+abbrev pub IsAsked : List ℕ → Asked → Type 0
+IsAsked bytes asked.More = MayBecomeRequest bytes × (length bytes < 8192)
+IsAsked bytes (asked.Refused why) = ⊤
+IsAsked bytes other = (h : RequestHead) × (rest : List ℕ) × ReadsRequest bytes h rest × IsAskedBy h other
+
+-- the fields that name a host, where the spans lie in the bytes
+abbrev pub named_in : List ℕ → List HeaderSpan → List HeaderSpan
+named_in bytes fields = filter (λ f. names_host (span_bytes bytes f.name)) fields
+
+-- how many of them there are
+abbrev pub AreHosts : List HeaderSpan → Hosts → Type 0
+AreHosts fields hosts.Nothing = fields ≡ []
+AreHosts fields (hosts.One field) = fields ≡ field ∷ []
+AreHosts fields hosts.Several = 2 ≤ length fields
+
+-- of a head whose spans those are, what is known of the fields that name a host
+abbrev pub AreHostsOf : List ℕ → RequestHead → Hosts → Type 0
+AreHostsOf bytes h hosts.Nothing = hosts_in h ≡ []
+AreHostsOf bytes h (hosts.One field) = hosts_in h ≡ (span_bytes bytes field.name, span_bytes bytes field.value) ∷ []
+AreHostsOf bytes h hosts.Several = 2 ≤ length (hosts_in h)

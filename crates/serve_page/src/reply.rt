@@ -1,0 +1,90 @@
+//! The bytes of an answer.
+
+ghost use Rattle.std.specs.Prelude.{◌≡◌, string_bytes, IfOk};
+ghost use Rattle.serve_page.specs.Replies.{refusal_text, IsAnswer, HasBody, answer_of};
+
+use crate::page::{line_json, now_json, whole_page};
+use crate::request::{Asked, Refusal};
+use crate::view::{Layout, LineNow};
+use std::alloc::{AllocError, Global};
+
+const HTML: &str =
+    "HTTP/1.1 200 OK\r\nContent-Type: text/html; charset=utf-8\r\nContent-Security-Policy: default-src 'none'; style-src 'unsafe-inline'; script-src 'unsafe-inline'; connect-src 'self'; img-src data:; base-uri 'none'; form-action 'none'; frame-ancestors 'none'\r\nReferrer-Policy: no-referrer\r\nX-Content-Type-Options: nosniff\r\nCross-Origin-Resource-Policy: same-origin\r\nCache-Control: no-store\r\nConnection: close\r\nContent-Length: ";
+
+const JSON: &str =
+    "HTTP/1.1 200 OK\r\nContent-Type: application/json\r\nX-Content-Type-Options: nosniff\r\nCross-Origin-Resource-Policy: same-origin\r\nCache-Control: no-store\r\nConnection: close\r\nContent-Length: ";
+
+const END: &str = "\r\n\r\n";
+
+const SAME: &str =
+    "HTTP/1.1 304 Not Modified\r\nCache-Control: no-store\r\nConnection: close\r\n\r\n";
+
+const FORM: &str =
+    "HTTP/1.1 400 Bad Request\r\nContent-Type: text/plain\r\nConnection: close\r\nContent-Length: 12\r\n\r\nbad request\n";
+
+const ADDRESS: &str =
+    "HTTP/1.1 404 Not Found\r\nContent-Type: text/plain\r\nConnection: close\r\nContent-Length: 10\r\n\r\nnot found\n";
+
+const METHOD: &str =
+    "HTTP/1.1 405 Method Not Allowed\r\nAllow: GET\r\nContent-Type: text/plain\r\nConnection: close\r\nContent-Length: 9\r\n\r\nonly GET\n";
+
+const TIME: &str =
+    "HTTP/1.1 408 Request Timeout\r\nContent-Type: text/plain\r\nConnection: close\r\nContent-Length: 9\r\n\r\ntoo slow\n";
+
+const HOST: &str =
+    "HTTP/1.1 421 Misdirected Request\r\nContent-Type: text/plain\r\nConnection: close\r\nContent-Length: 19\r\n\r\nnot for that host \n";
+
+const SIZE: &str =
+    "HTTP/1.1 431 Request Header Fields Too Large\r\nContent-Type: text/plain\r\nConnection: close\r\nContent-Length: 9\r\n\r\ntoo long\n";
+
+const CROWD: &str =
+    "HTTP/1.1 503 Service Unavailable\r\nContent-Type: text/plain\r\nConnection: close\r\nContent-Length: 22\r\n\r\ntoo many ask at once \n";
+
+/// The answer to a request that is refused.
+pub fn refusal(why: Refusal) -> &'static str
+    ensures { result.now ≡ refusal_text why }
+{
+    match why {
+        Refusal::Form => FORM,
+        Refusal::Host => HOST,
+        Refusal::Method => METHOD,
+        Refusal::Address => ADDRESS,
+        Refusal::Size => SIZE,
+        Refusal::Time => TIME,
+        Refusal::Crowd => CROWD,
+    }
+}
+
+/// The answer to a request, which is nothing where it has not come whole.
+pub fn answer(
+    alloc: Global,
+    layout: &Layout,
+    now: &LineNow,
+    asked: Asked,
+) -> Result<String, AllocError>
+    ensures { IfOk result (λ text. IsAnswer now.now.events asked (string_bytes text)) }
+{
+    match asked {
+        Asked::More => Ok(String::new(alloc)),
+        Asked::Refused(why) => String::from_str(alloc, refusal(why)),
+        Asked::Page => found(alloc, HTML, whole_page(alloc, layout, now)?.as_str()),
+        Asked::Line => found(alloc, JSON, line_json(alloc, layout)?.as_str()),
+        Asked::Now {
+            since: Some(events),
+        } if events == now.events => String::from_str(alloc, SAME),
+        Asked::Now { .. } => found(alloc, JSON, now_json(alloc, layout, now)?.as_str()),
+    }
+}
+
+// The answer with this body.
+fn found(alloc: Global, head: &str, body: &str) -> Result<String, AllocError>
+    ensures exact { IfOk result (λ text. string_bytes text ≡ answer_of head.now body.now) }
+    ensures whole { IfOk result (λ text. HasBody head.now (string_bytes text)) }
+{
+    let length = body.len();
+    let mut text = String::from_str(alloc, head)?;
+    write!(text, "{length}")?;
+    text.push_str(END)?;
+    text.push_str(body)?;
+    Ok(text)
+}

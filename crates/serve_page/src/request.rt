@@ -1,0 +1,188 @@
+//! What a browser asks for.
+
+ghost use Rattle.std.specs.Prelude.{◌≡◌, ◌≤◌, ℕ, List, ◌∷◌, ◌++◌, [], length};
+ghost use Rattle.httparse.specs.declared.spans.HeaderSpan.{HeaderSpan};
+ghost use Rattle.httparse.specs.Grammar.{RequestHead, ReadsRequest};
+ghost use Rattle.httparse.specs.Spans.{span_bytes, IsRequestAt};
+ghost use Rattle.serve_page.specs.Requests.{names_host, has_name, is_loopback, named_in, AreHosts, AreHostsOf, IsAsked, IsAskedAt, IsAskedBy};
+
+use httparse::Status;
+use httparse::spans::{EMPTY_HEADER_SPAN, HeaderSpan, RequestSpans, Span, parse_request};
+
+/// How many bytes of a request are waited for at most.
+pub const MOST_REQUEST: usize = 8_192;
+
+/// How many header fields a request has at most.
+const MOST_FIELDS: usize = 64;
+
+/// What a request asks for.
+#[derive(Clone, Copy)]
+pub enum Asked {
+    /// The head of the request has not come whole yet.
+    More,
+    /// The page.
+    Page,
+    /// The layout of the line.
+    Line,
+    /// What is so now. Nothing of it is wanted where no event came behind so many.
+    Now { since: Option<u64> },
+    /// Nothing that there is.
+    Refused(Refusal),
+}
+
+/// Why a request is refused.
+#[derive(Clone, Copy)]
+pub enum Refusal {
+    /// It is no request of HTTP/1.0 or HTTP/1.1, or has not exactly one field for the host.
+    Form,
+    /// It is for another host than this one.
+    Host,
+    /// It is for another method than GET.
+    Method,
+    /// It is for another address.
+    Address,
+    /// It is too long, or has too many fields.
+    Size,
+    /// It takes too long to come.
+    Time,
+    /// Too many ask at once.
+    Crowd,
+}
+
+/// What the bytes that have come so far ask for.
+pub fn asked_of(bytes: &[u8]) -> Asked
+    ensures whole { (h : RequestHead) (rest : List ℕ) → ReadsRequest bytes.now h rest → length h.fields ≤ 64 → IsAskedBy h result }
+    ensures asked { IsAsked bytes.now result }
+{
+    let mut fields = [EMPTY_HEADER_SPAN; MOST_FIELDS];
+    match parse_request(bytes, &mut fields) {
+        Ok(Status::Complete(head)) => asked_by(bytes, &head, &fields),
+        Ok(Status::Partial) if bytes.len() < MOST_REQUEST => Asked::More,
+        Ok(Status::Partial) | Err(httparse::Error::TooManyHeaders) => Asked::Refused(Refusal::Size),
+        Err(_) => Asked::Refused(Refusal::Form),
+    }
+}
+
+// What the request with this head asks for.
+fn asked_by(bytes: &[u8], head: &RequestSpans, fields: &[HeaderSpan]) -> Asked
+    ensures { (h : RequestHead) → IsRequestAt bytes.now fields.now head.now h → IsAskedBy h result }
+{
+    let host = match hosts_of(bytes, head, fields) {
+        Hosts::One(field) => field.value,
+        Hosts::Nothing | Hosts::Several => return Asked::Refused(Refusal::Form),
+    };
+    if !is_loopback(part(bytes, host)) {
+        return Asked::Refused(Refusal::Host);
+    }
+    if part(bytes, head.method) != b"GET".as_slice() {
+        return Asked::Refused(Refusal::Method);
+    }
+    asked_at(part(bytes, head.path))
+}
+
+// What is asked for at an address.
+fn asked_at(target: &[u8]) -> Asked
+    ensures { IsAskedAt target.now result }
+{
+    if target == b"/".as_slice() {
+        return Asked::Page;
+    }
+    if target == b"/line.json".as_slice() {
+        return Asked::Line;
+    }
+    if target == b"/now".as_slice() {
+        return Asked::Now { since: None };
+    }
+    match target.strip_prefix(b"/now?since=") {
+        Some(digits) => Asked::Now {
+            since: number_of(digits),
+        },
+        None => Asked::Refused(Refusal::Address),
+    }
+}
+
+// The number that these digits write, if 64 bits hold it.
+fn number_of(digits: &[u8]) -> Option<u64> {
+    std::str::from_utf8(digits).ok()?.parse().ok()
+}
+
+/// The fields of a head that name a host.
+#[derive(Clone, Copy)]
+enum Hosts {
+    Nothing,
+    One(HeaderSpan),
+    Several,
+}
+
+// The fields of a head that name a host.
+fn hosts_of(bytes: &[u8], head: &RequestSpans, fields: &[HeaderSpan]) -> Hosts
+    ensures { (h : RequestHead) → IsRequestAt bytes.now fields.now head.now h → AreHostsOf bytes.now h result }
+{
+    match fields.get(..head.headers) {
+        Some(front) => hosts_in(bytes, front),
+        None => hosts_in(bytes, fields),
+    }
+}
+
+// Those of these fields that name a host.
+fn hosts_in(bytes: &[u8], fields: &[HeaderSpan]) -> Hosts
+    ensures { AreHosts (named_in bytes.now fields.now) result }
+{
+    let mut hosts = Hosts::Nothing;
+    for field in fields {
+        hosts = further(bytes, hosts, *field);
+    }
+    hosts
+}
+
+// The fields that name a host, with a further field.
+fn further(bytes: &[u8], hosts: Hosts, field: HeaderSpan) -> Hosts
+    ensures { (before : List HeaderSpan) → AreHosts (named_in bytes.now before) hosts → AreHosts (named_in bytes.now (before ++ field ∷ [])) result }
+{
+    if !is_host(part(bytes, field.name)) {
+        return hosts;
+    }
+    match hosts {
+        Hosts::Nothing => Hosts::One(field),
+        Hosts::One(_) | Hosts::Several => Hosts::Several,
+    }
+}
+
+// Whether a field of this name names a host.
+fn is_host(name: &[u8]) -> bool
+    ensures { result ≡ names_host name.now }
+{
+    name.eq_ignore_ascii_case(b"host")
+}
+
+// Whether a host goes by a name that means this host everywhere, with a port or without.
+fn is_loopback(host: &[u8]) -> bool
+    ensures { result ≡ is_loopback host.now }
+{
+    is_named(host, b"localhost") || is_named(host, b"127.0.0.1")
+}
+
+// Whether a host has this name, with a port or without.
+fn is_named(host: &[u8], name: &[u8]) -> bool
+    ensures { result ≡ has_name name.now host.now }
+{
+    match host.strip_prefix(name) {
+        Some([]) => true,
+        Some([first, ..]) => *first == b':',
+        None => false,
+    }
+}
+
+// The bytes of a part of the head.
+fn part(bytes: &[u8], span: Span) -> &[u8]
+    ensures { result.now ≡ span_bytes bytes.now span }
+{
+    let rest = match bytes.get(span.start..) {
+        Some(rest) => rest,
+        None => &[],
+    };
+    match rest.get(..span.end.saturating_sub(span.start)) {
+        Some(part) => part,
+        None => rest,
+    }
+}

@@ -1,0 +1,10 @@
+//! Tests of the page of the running line, over bytes in memory: what each request is answered, and that a person can read it without a script.
+//!
+//! What is expected comes from HTTP/1.1 (RFC 9110, RFC 9112) or from the rules in words, never from the program's own output.
+#![tactic(auto)]
+
+pub mod line;
+#[cfg(test)]
+mod requests;
+#[cfg(test)]
+mod shown;

@@ -1,0 +1,97 @@
+//! A line of two centres, with a train that has sections 0 and 1 of four.
+
+use serve_page::{
+    CentreNow, Layout, LineNow, LinkNow, MissionNow, Phase, Place, Run, SectionNow, SessionNow,
+    Usage,
+};
+use std::alloc::{AllocError, Global};
+
+/// Where its sections lie: two of 100 m in the home of A, two in that of B.
+pub fn layout(alloc: Global) -> Result<Layout, AllocError> {
+    let mut layout = Layout {
+        nid_c: 7,
+        centres: Vec::new(alloc),
+        ports: Vec::new(alloc),
+        tracks: Vec::new(alloc),
+        sections: Vec::new(alloc),
+    };
+    layout.centres.push(String::from_str(alloc, "A")?)?;
+    layout.centres.push(String::from_str(alloc, "B")?)?;
+    layout.ports.push(21_000)?;
+    layout.ports.push(21_001)?;
+    layout.tracks.push(String::from_str(alloc, "T1")?)?;
+    for (home, start) in [(0u8, 0u32), (0, 100), (1, 200), (1, 300)] {
+        layout.sections.push(Place {
+            track: 0,
+            home,
+            start,
+            metres: 100,
+        })?;
+    }
+    Ok(layout)
+}
+
+/// What its centres have of it behind five events: train 19 stands in section 0, section 2 is kept for it, and section 3 is not released.
+pub fn now(alloc: Global) -> Result<LineNow, AllocError> {
+    let mut now = LineNow {
+        events: 5,
+        is_stopped: false,
+        sections: Vec::new(alloc),
+        missions: Vec::new(alloc),
+        sessions: Vec::new(alloc),
+        centres: Vec::new(alloc),
+        links: Vec::new(alloc),
+        last: Vec::new(alloc),
+    };
+    let taken = Usage::Taken { nid_engine: 19 };
+    for usage in [taken, taken, taken, Usage::Shut] {
+        now.sections.push(SectionNow {
+            usage,
+            is_wished: false,
+        })?;
+    }
+    now.missions.push(Some(mission()))?;
+    now.sessions.push(SessionNow {
+        nid_engine: 19,
+        centre: 0,
+        phase: Phase::Up,
+    })?;
+    add_lives(&mut now)?;
+    now.last
+        .push(String::from_str(alloc, "4 · <b>\"A\\B\"</b> & more")?)?;
+    Ok(now)
+}
+
+// The mission of train 19, with sections 0 and 1 in its authority, which is announced to B.
+fn mission() -> MissionNow {
+    MissionNow {
+        nid_engine: 19,
+        supervisor: 0,
+        handover: Some(1),
+        track: 0,
+        front: 1_234,
+        rear: None,
+        hand: Run { first: 0, count: 2 },
+        pool: Run { first: 2, count: 0 },
+        asked: None,
+        is_ended: false,
+    }
+}
+
+fn add_lives(now: &mut LineNow) -> Result<(), AllocError> {
+    for entries in [4u64, 1] {
+        now.centres.push(CentreNow {
+            entries,
+            clock: 4,
+            taken: 1,
+            seats: 9,
+        })?;
+    }
+    now.links.push(LinkNow {
+        from: 0,
+        to: 1,
+        sent: 3,
+        taken: 2,
+    })?;
+    Ok(())
+}

@@ -1,0 +1,159 @@
+//! What each request is answered: the status of it.
+
+use crate::line::{layout, now};
+use serve_page::{Asked, MOST_REQUEST, Refusal, answer, asked_of, refusal};
+use std::alloc::Global;
+use std::test::*;
+
+// The status of the answer to these bytes, 0 where more are waited for.
+fn status(alloc: Global, bytes: &[u8]) -> Result<u16, Fail> {
+    let text = answer(alloc, &layout(alloc)?, &now(alloc)?, asked_of(bytes))?;
+    if text.is_empty() {
+        return Ok(0);
+    }
+    let status = text.as_str().get(9..12).ok_or("there is a status")?;
+    Ok(status.parse().ok().ok_or("it is a number")?)
+}
+
+// The status of the answer to a request of this method for this address, at this host.
+fn status_of(alloc: Global, method: &str, target: &str, host: &str) -> Result<u16, Fail> {
+    let text = format!(in alloc; "{method} {target} HTTP/1.1\r\nHost: {host}\r\n\r\n")?;
+    status(alloc, text.as_bytes())
+}
+
+#[test]
+fn three_addresses_are_known(rt: HostRuntime) -> Result<(), Fail> {
+    for (target, expected) in [
+        ("/", 200),
+        ("/line.json", 200),
+        ("/now", 200),
+        ("/now?since=", 200),
+        ("/now?since=4", 200),
+        ("/now?since=5", 304),
+        ("/now?since=99999999999999999999", 200),
+        ("/now?since=-5", 200),
+        ("/nowhere", 404),
+        ("/line.json/", 404),
+        ("//", 404),
+        ("/../etc/passwd", 404),
+        ("http://localhost/", 404),
+        ("*", 404),
+    ] {
+        assert!(rt;
+            status_of(rt.alloc(), "GET", target, "localhost:1")? == expected,
+            "{target}"
+        );
+    }
+    Ok(())
+}
+
+#[test]
+fn only_get_is_answered(rt: HostRuntime) -> Result<(), Fail> {
+    for method in [
+        "POST", "PUT", "DELETE", "OPTIONS", "CONNECT", "TRACE", "get", "HEAD",
+    ] {
+        assert!(rt;
+            status_of(rt.alloc(), method, "/", "localhost:1")? == 405,
+            "{method}"
+        );
+    }
+    Ok(())
+}
+
+#[test]
+fn another_host_is_not_answered(rt: HostRuntime) -> Result<(), Fail> {
+    for (host, expected) in [
+        ("localhost", 200),
+        ("127.0.0.1", 200),
+        ("127.0.0.1:8080", 200),
+        ("example.com", 421),
+        ("localhost.example.com", 421),
+        ("127.0.0.1.example.com:80", 421),
+        ("127.0.0.10", 421),
+        ("a@localhost", 421),
+        ("0.0.0.0", 421),
+        ("", 421),
+    ] {
+        assert!(rt;
+            status_of(rt.alloc(), "GET", "/now", host)? == expected,
+            "{host}"
+        );
+    }
+    Ok(())
+}
+
+#[test]
+fn a_request_names_one_host(rt: HostRuntime) -> Result<(), Fail> {
+    let none = status(rt.alloc(), b"GET / HTTP/1.1\r\n\r\n")?;
+    let twice = b"GET / HTTP/1.1\r\nHost: localhost\r\nhOsT: localhost\r\n\r\n";
+    let twice = status(rt.alloc(), twice)?;
+    let behind = b"GET / HTTP/1.1\r\nHost: localhost\r\nX-Host: example.com\r\n\r\n";
+    let behind = status(rt.alloc(), behind)?;
+    assert!(rt; (none, twice, behind) == (400, 400, 200));
+    Ok(())
+}
+
+#[test]
+fn what_is_no_request_is_refused(rt: HostRuntime) -> Result<(), Fail> {
+    for bytes in [
+        b"GET /\r\n\r\n".as_slice(),
+        b"GET / HTTP/2.0\r\n\r\n".as_slice(),
+        b"\x16\x03\x01\x02\x00\x01\x00\x01\xfc\x03\x03".as_slice(),
+        b"\0\0\0\0".as_slice(),
+        b"GET / HTTP/1.1\r\nHost localhost\r\n\r\n".as_slice(),
+        b"GET / HTTP/1.1\r\nHost: local\0host\r\n\r\n".as_slice(),
+    ] {
+        assert!(rt; status(rt.alloc(), bytes)? == 400, "{bytes:?}");
+    }
+    Ok(())
+}
+
+#[test]
+fn a_request_may_come_in_pieces(rt: HostRuntime) -> Result<(), Fail> {
+    let whole = b"GET /now HTTP/1.1\r\nHost: localhost\r\n\r\n";
+    for count in 0..whole.len() {
+        let part = whole.get(..count).ok_or("there are so many bytes")?;
+        assert!(rt; matches!(asked_of(part), Asked::More), "{count}");
+    }
+    assert!(rt; matches!(asked_of(whole), Asked::Now { since: None }));
+    Ok(())
+}
+
+// A request with so many fields more, of so many bytes each, and no end.
+fn long(alloc: Global, count: usize, bytes: usize) -> Result<Vec<u8>, Fail> {
+    let mut text = Vec::from_slice(alloc, b"GET / HTTP/1.1\r\nHost: localhost\r\n")?;
+    for _ in 0..count {
+        text.extend_from_slice(b"A: ")?;
+        for _ in 0..bytes {
+            text.push(b'a')?;
+        }
+        text.extend_from_slice(b"\r\n")?;
+    }
+    Ok(text)
+}
+
+#[test]
+fn a_long_request_is_refused(rt: HostRuntime) -> Result<(), Fail> {
+    let one = long(rt.alloc(), 1, MOST_REQUEST)?;
+    let many = long(rt.alloc(), 64, 1)?;
+    let few = long(rt.alloc(), 63, 1)?;
+    let (one, many) = (status(rt.alloc(), &one)?, status(rt.alloc(), &many)?);
+    assert!(rt; (one, many, status(rt.alloc(), &few)?) == (431, 431, 0));
+    Ok(())
+}
+
+#[test]
+fn what_stands_behind_a_request_is_not_read(rt: HostRuntime) -> Result<(), Fail> {
+    let two = b"GET /line.json HTTP/1.1\r\nHost: localhost\r\n\r\nDELETE / HTTP/1.1\r\n\r\n";
+    assert!(rt; matches!(asked_of(two), Asked::Line));
+    Ok(())
+}
+
+#[test]
+fn a_refusal_has_its_own_text(rt: HostRuntime) -> Result<(), Fail> {
+    let time = refusal(Refusal::Time);
+    let crowd = refusal(Refusal::Crowd);
+    assert!(rt; time.starts_with("HTTP/1.1 408 "));
+    assert!(rt; crowd.starts_with("HTTP/1.1 503 "));
+    Ok(())
+}
