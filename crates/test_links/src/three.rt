@@ -35,9 +35,13 @@ registrar = \"A\"
 fn three_centres(alloc: Global) -> Result<Line, &'static str>
     ensures { IfOk result (λ line. 3 ≤ length line.centres) }
 {
-    Line::from_toml(alloc, THREE_CENTRES)
+    let line = Line::from_toml(alloc, THREE_CENTRES)
         .ok()
-        .ok_or("the line file is accepted")
+        .ok_or("the line file is accepted")?;
+    if line.centre_count() < 3 {
+        return Err("the line has three centres");
+    }
+    Ok(line)
 }
 
 // A node of each centre takes so many events, and a share has the receipts of them.
@@ -48,10 +52,10 @@ fn taken<R: Wait>(
 ) -> Result<(Vec<Node>, Vec<Share>), Fail> {
     let line = three_centres(alloc)?;
     let (mut nodes, mut shares) = (Vec::new(alloc), Vec::new(alloc));
-    for (count, centre) in counts.iter().zip(0..3u8) {
+    for centre in 0..3u8 {
         let node = Node::new(alloc, &line, centre)?;
         let mut share = node.share();
-        for _ in 0..*count {
+        for _ in 0..counts[centre as usize] {
             set(rt, &node, &mut share, u16::from(centre))?;
         }
         nodes.push(node)?;
