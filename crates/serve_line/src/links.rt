@@ -1,7 +1,7 @@
 ghost use Rattle.std.specs.Prelude.{◌≡◌};
 
-use crate::hall::{DirectedLink, Hall};
 use rbc_board::{Carrier, QueueCarrier};
+use serve_hall::{DirectedLink, Hall};
 use serve_workers::{InOrder, receive_frames, send_frames};
 use std::alloc::AllocError;
 use std::sync::Wait;

@@ -1,12 +1,9 @@
-use crate::doors::Listening;
-use crate::hall::{Caller, Hall};
-use crate::limits::DOOR_REST;
-use crate::notes::Notes;
-use crate::seats::Door;
 use cli_status::Fault;
 use rbc_line::Line;
 use serve_glance::Glance;
+use serve_hall::{Caller, DOOR_REST, Door, Hall, Listening};
 use serve_page::{Asked, CentreNow, Refusal, answer, asked_of, refusal};
+use serve_show::Notes;
 use std::alloc::{AllocError, Global};
 use std::io::{ErrorKind, Read, Write};
 use std::net::{Shutdown, SocketAddr, TcpListener, TcpStream};

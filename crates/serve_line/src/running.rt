@@ -1,18 +1,16 @@
-use crate::build::{bells_of, doors_of, exchanges_of, links_of, nodes_of, tellers_of};
-use crate::doors::Doors;
-use crate::doorway::run_door;
-use crate::hall::{DirectedLink, Hall, State};
-use crate::limits::NOTES;
 use crate::links::carry;
-use crate::manner::Manner;
-use crate::notes::{Notes, Queued, write_notes};
 use crate::pages::{PageDoor, run_pages};
-use crate::seats::{Door, Seat};
 use crate::tally::Tally;
 use crossbeam_channel::bounded;
 use rbc_line::Line;
 use rbc_node::{Family, Node, Share, gather};
+use serve_callers::run_door;
 use serve_control::{ServeFault, print_family};
+use serve_hall::{
+    DirectedLink, Door, Doors, Hall, Manner, Seat, State, bells_of, doors_of, exchanges_of,
+    links_of, nodes_of, tellers_of,
+};
+use serve_show::{Notes, Queued, write_notes};
 use std::alloc::{AllocError, Global};
 use std::io::Write;
 use std::sync::Wait;
@@ -20,6 +18,9 @@ use std::sync::atomic::AtomicU64;
 use std::thread;
 use std::thread::Threads;
 use std::time::Clock;
+
+/// How many notes wait for standard error at most.
+const NOTES: usize = 1_024;
 
 /// Runs the centres of the line until the interlocking says `stop` and all sessions have ended. Then it gathers their logs, merges them, and
 /// prints all events with what they led to, and the line, as a run does. A thread of its own writes the notes.

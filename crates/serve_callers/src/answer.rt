@@ -1,13 +1,11 @@
-use crate::hall::Hall;
-use crate::life::write_life;
-use crate::roster::Roster;
-use crate::show::show;
 use cli_print::{name_of, print_event, print_outcome};
 use cli_status::Fault;
 use rbc_centre::Event;
 use rbc_node::Share;
 use rbc_world::WorldEvent;
 use serve_control::Command;
+use serve_hall::Hall;
+use serve_show::{Roster, show, write_life};
 use std::io::Write;
 use std::sync::Wait;
 
@@ -26,8 +24,11 @@ pub(crate) fn answer<R: Wait>(
     match command {
         Command::Nothing | Command::Stop => Ok(()),
         Command::Show => {
-            show(rt, hall, roster, text)?;
-            write_life(rt, hall, text)
+            show(rt, hall.alloc, hall.line, hall.nodes, roster, text)?;
+            if hall.manner.shows_life {
+                write_life(rt, hall.line, hall.nodes, text)?;
+            }
+            Ok(())
         }
         Command::Set { centre, section } => {
             let event = WorldEvent::Set { centre, section };

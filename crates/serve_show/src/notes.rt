@@ -27,9 +27,12 @@ impl<R: Eprint> Notes for Loud<'_, R> {
 
 /// Hands each note to a thread that writes it, so that nobody waits for who reads the notes. Where too many wait, a note is lost.
 #[derive(Drop)]
-pub(crate) struct Queued<'a, R> {
+pub struct Queued<'a, R> {
+    /// The handle by which it may wait.
     pub rt: &'a R,
+    /// Where memory for a note comes from.
     pub alloc: Global,
+    /// Where notes wait to be written.
     pub queue: Sender<Vec<u8>>,
     /// How many notes were lost since the last that was written.
     pub lost: &'a AtomicU64,
@@ -61,7 +64,7 @@ impl<R: Wait> Notes for Queued<'_, R> {
 }
 
 /// Writes the notes that come, until no more can come, and how many were lost in front of each.
-pub(crate) fn write_notes<R: Wait, N: Notes>(
+pub fn write_notes<R: Wait, N: Notes>(
     rt: &R,
     notes: &N,
     queue: &Receiver<Vec<u8>>,

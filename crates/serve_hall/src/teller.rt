@@ -6,7 +6,8 @@ use std::sync::Wait;
 
 /// Where what a centre answers goes on to: to its trains and links, and, where the interlocking is told of sections, to its connections.
 #[derive(Drop)]
-pub(crate) struct Teller<'a> {
+pub struct Teller<'a> {
+    /// The connections of the centre's trains, and the bells of its links.
     pub exchange: &'a Exchange<'a>,
     /// The control door, if its connections are told.
     pub control: Option<&'a Door>,

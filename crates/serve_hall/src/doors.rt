@@ -1,7 +1,7 @@
-use crate::notes::Notes;
 use cli_print::name_of;
 use rbc_line::Line;
 use serve_control::ServeFault;
+use serve_show::Notes;
 use std::alloc::Global;
 use std::io;
 use std::io::ErrorKind;
@@ -13,8 +13,10 @@ pub struct Doors(Vec<Listening>, Option<Listening>);
 
 /// A port that is listened on.
 #[derive(Drop)]
-pub(crate) struct Listening {
+pub struct Listening {
+    /// What connections are taken from, without waiting.
     pub listener: TcpListener,
+    /// Its address, with the port that the system picked where none was named.
     pub address: SocketAddr,
 }
 
@@ -68,7 +70,7 @@ impl Doors {
     }
 
     /// The ports, by the centres' numbers, and at last that of the control door; and that of the page, if there is one.
-    pub(crate) fn all(self) -> (Vec<Listening>, Option<Listening>) {
+    pub fn all(self) -> (Vec<Listening>, Option<Listening>) {
         (self.0, self.1)
     }
 }

@@ -1,14 +1,13 @@
-use crate::hall::Hall;
 use crate::limits::{REPLIES, SILENCE, set_waits};
 use crate::noted::NotedWire;
-use crate::notes::Notes;
 use crate::pace::Pace;
-use crate::seats::Seat;
 use cli_print::name_of;
 use crossbeam_channel::{Receiver, bounded};
 use rbc_node::{Node, Open};
 use serve_connections::{Connection, Exchange, Shared, Wire};
+use serve_hall::{Hall, Seat};
 use serve_reading::Reads;
+use serve_show::Notes;
 use serve_workers::{SessionEnd, run_session};
 use serve_writing::{Pipe, Reply, run_writer};
 use std::alloc::{AllocError, Global};

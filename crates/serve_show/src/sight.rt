@@ -1,4 +1,3 @@
-use crate::hall::Hall;
 use crate::roster::Roster;
 use cli_print::{print_section, print_train};
 use cli_status::Fault;
@@ -28,23 +27,25 @@ struct Mission {
 }
 
 /// Looks at the centres one after another, and writes the line as a run shows it.
-pub(crate) fn show<R: Wait>(
+pub fn show<R: Wait>(
     rt: &R,
-    hall: &Hall<'_>,
+    alloc: Global,
+    line: &Line,
+    nodes: &[Node],
     roster: &mut Roster,
     text: &mut Vec<u8>,
 ) -> Result<(), Fault<'static>> {
-    let mut sight = Sight::new(hall.alloc, hall.line)?;
-    for node in hall.nodes {
-        catch_up(rt, hall.line, node, roster);
+    let mut sight = Sight::new(alloc, line)?;
+    for node in nodes {
+        catch_up(rt, line, node, roster);
     }
-    for node in hall.nodes {
+    for node in nodes {
         let look = node.look(rt);
-        sight.add(hall.line, look.log());
-        roster.read_on(hall.line, look.log());
+        sight.add(line, look.log());
+        roster.read_on(line, look.log());
     }
     writeln!(text, "> show")?;
-    sight.print(hall.alloc, hall.line, roster, text)
+    sight.print(alloc, line, roster, text)
 }
 
 // Reads what was not seen yet of a log, in pieces, between which its centre goes on.

@@ -12,16 +12,19 @@ use std::thread::Parker;
 
 /// Who comes through a door.
 #[derive(Clone, Copy)]
-pub(crate) enum Caller {
+pub enum Caller {
     /// Trains, to the centre of this number.
     Trains(u8),
+    /// The interlocking, to all centres.
     Interlocking,
 }
 
 /// The link from one centre to another.
 #[derive(Drop)]
-pub(crate) struct DirectedLink {
+pub struct DirectedLink {
+    /// The number of the centre whose frames go over it.
     pub from: u8,
+    /// The number of the centre that takes them.
     pub to: u8,
     /// What its two workers tell each other.
     pub ends: LinkEnds,
@@ -31,7 +34,7 @@ pub(crate) struct DirectedLink {
 
 /// Whether the centres still run.
 #[derive(Drop)]
-pub(crate) struct State {
+pub struct State {
     /// No connection is taken any more.
     is_stopped: AtomicBool,
     /// How many doors of centres are open or have connections still.
@@ -45,6 +48,7 @@ pub(crate) struct State {
 }
 
 impl State {
+    /// Of a line with so many centres, whose doors are all open.
     pub fn new(centres: u8) -> State {
         State {
             is_stopped: AtomicBool::new(false),
@@ -80,6 +84,7 @@ impl State {
         self.is_over.store(true, Ordering::SeqCst);
     }
 
+    /// Whether memory ran out, or a thread could not be made.
     pub fn has_failed(&self) -> bool {
         self.has_failed.load(Ordering::SeqCst)
     }
@@ -87,16 +92,24 @@ impl State {
 
 /// All that the workers share.
 #[derive(Drop)]
-pub(crate) struct Hall<'a> {
+pub struct Hall<'a> {
+    /// Where memory comes from.
     pub alloc: Global,
+    /// The line that is served.
     pub line: &'a Line,
+    /// The centres, by their numbers.
     pub nodes: &'a [Node],
+    /// Where the answers of each go on to.
     pub tellers: &'a [Teller<'a>],
+    /// Their doors, and behind those the control door.
     pub doors: &'a [Door],
+    /// The links of the line, each in one direction.
     pub links: &'a [DirectedLink],
     /// The bells of the links from each centre: all of a centre are rung together.
     pub bells: &'a [Vec<Parker>],
+    /// Whether they still run.
     pub state: &'a State,
+    /// How they are served.
     pub manner: Manner,
 }
 
@@ -110,6 +123,14 @@ impl Hall<'_> {
             gate: &Open,
             outlet,
         })
+    }
+
+    /// The node of the centre that a caller comes to, if it comes to one.
+    pub fn node(&self, caller: Caller) -> Option<&Node> {
+        match caller {
+            Caller::Trains(centre) => self.nodes.get(centre as usize),
+            Caller::Interlocking => None,
+        }
     }
 
     /// Whether the connection with this number serves a train.

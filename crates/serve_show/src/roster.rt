@@ -8,7 +8,7 @@ const PIECE: usize = 4_096;
 
 /// Which trains the centres have heard of, and when first.
 #[derive(Drop)]
-pub(crate) struct Roster {
+pub struct Roster {
     // By the trains' places in the line file.
     first: Vec<Option<Mention>>,
     // By the centres' numbers: how many entries of the log were looked at.

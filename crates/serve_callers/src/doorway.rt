@@ -1,10 +1,8 @@
 use crate::control::serve_control;
-use crate::hall::{Caller, Hall};
-use crate::life::Life;
-use crate::limits::{DEAF_REST, DOOR_REST, GRACE_RESTS, LEAVING_RESTS};
-use crate::notes::Notes;
-use crate::seats::{Door, Seat};
+use crate::limits::{DEAF_REST, GRACE_RESTS, LEAVING_RESTS};
 use crate::sessions::serve_train;
+use serve_hall::{Caller, DOOR_REST, Door, Hall, Seat};
+use serve_show::{Life, Notes};
 use std::alloc::Global;
 use std::io::ErrorKind;
 use std::net::{TcpListener, TcpStream};
@@ -15,7 +13,7 @@ use std::time::{Clock, Duration};
 use std::{io, thread};
 
 /// Lets callers in at one door until the centres stop, and closes it. It returns with the last of them, and ends those that are left after a while.
-pub(crate) fn run_door<R: Threads + Wait + Sync + Clock, N: Notes + Sync>(
+pub fn run_door<R: Threads + Wait + Sync + Clock, N: Notes + Sync>(
     rt: &R,
     hall: &Hall<'_>,
     notes: &N,
@@ -29,7 +27,9 @@ pub(crate) fn run_door<R: Threads + Wait + Sync + Clock, N: Notes + Sync>(
                 break;
             }
             let Some((stream, seat)) = next_caller(rt, hall, notes, door, &listener) else {
-                life.look(rt, hall, notes, door.caller);
+                if let Some(node) = hall.node(door.caller) {
+                    life.look(rt, hall.line, node, notes, hall.name(door.caller));
+                }
                 continue;
             };
             let caller = door.caller;

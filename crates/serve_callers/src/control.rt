@@ -1,12 +1,10 @@
 use crate::answer::{SCRIPT_FAULT, answer};
-use crate::hall::Hall;
 use crate::limits::{CONTROL_REST, set_waits};
-use crate::notes::Notes;
-use crate::roster::Roster;
 use crate::rows::{Came, RowReader};
-use crate::seats::Seat;
 use rbc_node::Share;
 use serve_control::{Command, CommandFault, command_of};
+use serve_hall::{Hall, Seat};
+use serve_show::{Notes, Roster};
 use std::io::Write;
 use std::net::TcpStream;
 use std::sync::Wait;

@@ -20,7 +20,7 @@ fn most_trains(line: &Line) -> usize {
 }
 
 /// A node for each centre of the line.
-pub(crate) fn nodes_of(alloc: Global, line: &Line) -> Result<Vec<Node>, AllocError> {
+pub fn nodes_of(alloc: Global, line: &Line) -> Result<Vec<Node>, AllocError> {
     let mut nodes = Vec::new(alloc);
     for centre in 0..line.centre_count() {
         nodes.push(Node::new(alloc, line, centre)?)?;
@@ -29,7 +29,7 @@ pub(crate) fn nodes_of(alloc: Global, line: &Line) -> Result<Vec<Node>, AllocErr
 }
 
 /// The doors of the centres, and behind them the control door, each with its seats.
-pub(crate) fn doors_of(
+pub fn doors_of(
     alloc: Global,
     line: &Line,
     nodes: &[Node],
@@ -95,7 +95,7 @@ fn seat_of(alloc: Global, number: usize, nodes: &[Node]) -> Result<Seat, AllocEr
 }
 
 /// The links of the line, each in one direction.
-pub(crate) fn links_of(
+pub fn links_of(
     alloc: Global,
     line: &Line,
     nodes: &[Node],
@@ -123,7 +123,7 @@ fn link_of(from: u8, share: Share) -> DirectedLink {
 }
 
 /// For each centre the bells of its links, by the numbers of the centres that they lead to.
-pub(crate) fn bells_of(alloc: Global, line: &Line) -> Result<Vec<Vec<Parker>>, AllocError> {
+pub fn bells_of(alloc: Global, line: &Line) -> Result<Vec<Vec<Parker>>, AllocError> {
     let mut bells = Vec::new(alloc);
     for _ in 0..line.centre_count() {
         bells.push(bells_from(alloc, line)?)?;
@@ -141,7 +141,7 @@ fn bells_from(alloc: Global, line: &Line) -> Result<Vec<Parker>, AllocError> {
 }
 
 /// For each centre the connections of its trains.
-pub(crate) fn exchanges_of<'a>(
+pub fn exchanges_of<'a>(
     alloc: Global,
     line: &'a Line,
     bells: &'a [Vec<Parker>],
@@ -154,7 +154,7 @@ pub(crate) fn exchanges_of<'a>(
 }
 
 /// For each centre where its answers go on to.
-pub(crate) fn tellers_of<'a>(
+pub fn tellers_of<'a>(
     alloc: Global,
     line: &'a Line,
     exchanges: &'a [Exchange<'a>],

@@ -1,8 +1,8 @@
-use crate::notes::Notes;
 use crate::pace::Pace;
-use crate::teller::Teller;
 use rbc_centre::Outcome;
 use serve_connections::Wire;
+use serve_hall::Teller;
+use serve_show::Notes;
 use serve_workers::Outlet;
 use std::sync::Wait;
 use std::time::Clock;

@@ -1,4 +1,4 @@
-use crate::seats::Seat;
+use serve_hall::Seat;
 use serve_reading::{Bucket, Rate};
 use std::sync::{Mutex, Wait};
 use std::thread;

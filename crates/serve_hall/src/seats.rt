@@ -10,8 +10,10 @@ use std::thread::Parker;
 
 /// A place for one connection at a time, and the receipts of what is committed over it: a share for each centre that it reaches.
 #[derive(Drop)]
-pub(crate) struct Seat {
+pub struct Seat {
+    /// Which of its door's seats this is, from 0 on.
     pub number: usize,
+    /// Whether a connection has it.
     pub is_taken: AtomicBool,
     /// Its connection has to leave it.
     pub is_leaving: AtomicBool,
@@ -19,6 +21,7 @@ pub(crate) struct Seat {
     pub heard: AtomicU64,
     /// The connection, while one has the seat.
     pub stream: Mutex<Option<Arc<TcpStream, Global>>>,
+    /// The receipts.
     pub shares: Mutex<Vec<Share>>,
     /// Lines that the interlocking is told of, which its connection has yet to write.
     pub told: Mutex<Vec<u8>>,
@@ -71,11 +74,14 @@ impl Seat {
 
 /// A port that connections come to.
 #[derive(Drop)]
-pub(crate) struct Door {
+pub struct Door {
     /// None once the door is closed.
     pub listener: Mutex<Option<TcpListener>>,
+    /// Its address.
     pub address: SocketAddr,
+    /// Who comes through it.
     pub caller: Caller,
+    /// The seats of its connections.
     pub seats: Vec<Seat>,
     /// Rung where the door is to close.
     pub bell: Parker,

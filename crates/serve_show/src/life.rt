@@ -1,23 +1,26 @@
-use crate::hall::{Caller, Hall};
-use crate::limits::MOST_FRAMES;
 use crate::notes::Notes;
 use cli_print::name_of;
 use cli_status::Fault;
 use rbc_centre::LAST_STAMP;
 use rbc_line::Line;
 use rbc_log::{CentreLog, MOST_ENTRIES};
+use rbc_node::Node;
 use std::io::Write;
 use std::sync::Wait;
 
+/// How many frames a directed link carries in all.
+const MOST_FRAMES: u32 = 65_536;
+
 /// How much of a centre's log, of its clock and of its fullest link is used up, as far as it was noted.
 #[derive(Clone, Copy)]
-pub(crate) struct Life {
+pub struct Life {
     log: Gauge,
     clock: Gauge,
     link: Gauge,
 }
 
 impl Life {
+    /// Nothing was noted yet.
     pub fn new() -> Life {
         let gauge = Gauge { noted: 0 };
         Life {
@@ -27,16 +30,16 @@ impl Life {
         }
     }
 
-    /// Looks at a centre, and notes what is half used up, or almost.
-    pub fn look<R: Wait, N: Notes>(&mut self, rt: &R, hall: &Hall<'_>, notes: &N, caller: Caller) {
-        let Caller::Trains(centre) = caller else {
-            return;
-        };
-        let Some(node) = hall.nodes.get(centre as usize) else {
-            return;
-        };
-        let (entries, stamp, frames) = used_of(node.look(rt).log(), hall.line.centre_count());
-        let name = hall.name(caller);
+    /// Looks at the centre of this name, and notes what is half used up, or almost.
+    pub fn look<R: Wait, N: Notes>(
+        &mut self,
+        rt: &R,
+        line: &Line,
+        node: &Node,
+        notes: &N,
+        name: &str,
+    ) {
+        let (entries, stamp, frames) = used_of(node.look(rt).log(), line.centre_count());
         self.log
             .tell(notes, name, "log", entries, MOST_ENTRIES as u64);
         self.clock
@@ -45,17 +48,15 @@ impl Life {
     }
 }
 
-/// Writes how much of each centre's log, clock and links is used up, where that is asked for.
-pub(crate) fn write_life<R: Wait>(
+/// Writes how much of each centre's log, clock and links is used up.
+pub fn write_life<R: Wait>(
     rt: &R,
-    hall: &Hall<'_>,
+    line: &Line,
+    nodes: &[Node],
     text: &mut Vec<u8>,
 ) -> Result<(), Fault<'static>> {
-    if !hall.manner.shows_life {
-        return Ok(());
-    }
-    for node in hall.nodes {
-        write_used(hall.line, node.look(rt).log(), text)?;
+    for node in nodes {
+        write_used(line, node.look(rt).log(), text)?;
     }
     Ok(())
 }

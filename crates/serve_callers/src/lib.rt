@@ -1,0 +1,16 @@
+//! Who comes through the doors of a running line: trains, whose messages are committed and answered, and the
+//! interlocking, whose lines are answered as a run prints them.
+//!
+//! Bodies are free. What goes over a connection is fixed by docs/FORMATS.md.
+#![tactic(auto)]
+
+mod answer;
+mod control;
+mod doorway;
+mod limits;
+mod noted;
+mod pace;
+mod rows;
+mod sessions;
+
+pub use doorway::run_door;

@@ -1,0 +1,15 @@
+//! What a running line says of itself: to the interlocking the sections and trains, as their centres show them one after
+//! another; how much of each log, clock and link is used up; and notes of what happens.
+//!
+//! Bodies are free. What is shown is fixed by docs/FORMATS.md.
+#![tactic(auto)]
+
+mod life;
+mod notes;
+mod roster;
+mod sight;
+
+pub use life::{Life, write_life};
+pub use notes::{Loud, Notes, Queued, Quiet, write_notes};
+pub use roster::Roster;
+pub use sight::show;
