@@ -16,7 +16,7 @@ const PRINTED: (&str, &str) = ("PRINTED", "What `run` printed");
 
 const SCRIPT: (&str, &str) = ("SCRIPT", "The script, one event a line");
 
-const FORMS: [Form; 9] = [
+static FORMS: [Form; 9] = [
     Form {
         name: "check",
         about: "Read a line file, and say how many centres, tracks, sections and trains it has",
@@ -126,7 +126,7 @@ fn command_of<'a>(alloc: Global, form: &Form) -> Result<Command<'a>, AllocError>
 }
 
 // What `picture` takes besides its words: the part of the run that is drawn.
-const CUT: [(&str, &str, &str); 3] = [
+static CUT: [(&str, &str, &str); 3] = [
     ("from", "N", "The first event that is drawn, from 1"),
     ("to", "N", "The last event that is drawn"),
     (
@@ -144,7 +144,7 @@ fn part<'a>(alloc: Global, name: &'static str, value: &'static str, help: &'stat
 }
 
 // What `serve` takes besides its words: the page's port, and how fast each train may be.
-const DOORS: [(&str, &str, &str); 3] = [
+static DOORS: [(&str, &str, &str); 3] = [
     (
         "page",
         "PORT",
@@ -167,12 +167,12 @@ fn parts_of(command: &str) -> &'static [(&'static str, &'static str, &'static st
     }
 }
 
-const PICTURE: [(&str, &str); 1] = [(
+static PICTURE: [(&str, &str); 1] = [(
     "html",
     "Draw it in an HTML page with a slider over the events",
 )];
 
-const SERVE: [(&str, &str); 3] = [
+static SERVE: [(&str, &str); 3] = [
     (
         "quiet",
         "Say nothing on standard error while the centres run",

@@ -23,7 +23,7 @@ pub(crate) fn name_of(names: &[String], number: usize) -> Cell<'_> {
     }
 }
 
-const MISSION: [&str; 12] = [
+static MISSION: [&str; 12] = [
     "train",
     "supervisor",
     "handover_to",
@@ -104,7 +104,7 @@ fn add_sessions(sheet: &mut Sheet, layout: &Layout, now: &LineNow) -> Result<(),
     sheet.end()
 }
 
-const CENTRE: [&str; 6] = ["centre", "port", "entries", "clock", "connections", "seats"];
+static CENTRE: [&str; 6] = ["centre", "port", "entries", "clock", "connections", "seats"];
 
 fn add_centres(sheet: &mut Sheet, layout: &Layout, now: &LineNow) -> Result<(), AllocError> {
     sheet.begin("centres", &CENTRE)?;

@@ -36,7 +36,7 @@ struct Look {
     is_wished: bool,
 }
 
-const COLUMNS: [&str; 9] = [
+static COLUMNS: [&str; 9] = [
     "first", "last", "track", "from_m", "to_m", "home", "state", "train", "wished",
 ];
 

@@ -7,7 +7,7 @@ use rbc_msgs::{decode_track, decode_train, encode_track, encode_train};
 use std::io;
 use std::time::Instant;
 
-const TRAIN: [(&str, &[u8]); 4] = [
+static TRAIN: [(&str, &[u8]); 4] = [
     (
         "129",
         &[
@@ -38,7 +38,7 @@ const TRAIN: [(&str, &[u8]); 4] = [
     ),
 ];
 
-const TRACK: [(&str, &[u8]); 3] = [
+static TRACK: [(&str, &[u8]); 3] = [
     (
         "3",
         &[
@@ -55,7 +55,7 @@ const TRACK: [(&str, &[u8]); 3] = [
     ("41", &[0x29, 2, 0x80, 0, 0, 0, 0x9F, 0xFF, 0xFF, 0xE0]),
 ];
 
-const FRAMES: [(&str, &[u8]); 3] = [
+static FRAMES: [(&str, &[u8]); 3] = [
     ("AskRight", &[0, 0, 0, 1, 0, 0, 0, 4, 1, 0, 0, 0, 2]),
     (
         "RouteReturn",

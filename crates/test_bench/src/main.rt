@@ -19,25 +19,34 @@ use crate::missions::{measure_steps, print_answers};
 use anyhow::bail;
 use std::env;
 
+// What the words may be.
+const FORMS: &str =
+    "TURNS, or answers LINE SCRIPT, or time LINE SCRIPT TURNS, or merge LINE ENTRIES";
+
 fn main(rt: HostRuntime) -> anyhow::Result<()> {
-    let words: Vec<String> = env::args(&rt)?.skip(1).collect(rt.alloc())?;
-    match words.as_slice() {
-        [] => measure_codec(&rt, 1)?,
-        [turns] => measure_codec(&rt, number_in(turns))?,
-        [what, line, script] if what.as_str() == "answers" => {
-            print_answers(&rt, line.as_str(), script.as_str())?
-        }
+    let words: Vec<String> = env::args(&rt)?.collect(rt.alloc())?;
+    measure(&rt, words.get(1..).unwrap_or_default())
+}
+
+// Does what the words ask for.
+fn measure(rt: &HostRuntime, words: &[String]) -> anyhow::Result<()> {
+    match words {
+        [] => Ok(measure_codec(rt, 1)?),
+        [turns] => Ok(measure_codec(rt, number_in(turns))?),
+        [what, line, given] => measure_line(rt, what.as_str(), line.as_str(), given),
         [what, line, script, turns] if what.as_str() == "time" => {
-            measure_steps(&rt, line.as_str(), script.as_str(), number_in(turns))?
+            measure_steps(rt, line.as_str(), script.as_str(), number_in(turns))
         }
-        [what, line, entries] if what.as_str() == "merge" => {
-            measure_merge(&rt, line.as_str(), number_in(entries))?
-        }
-        _ => bail!(
-            "TURNS, or answers LINE SCRIPT, or time LINE SCRIPT TURNS, or merge LINE ENTRIES"
-        ),
+        _ => bail!("{FORMS}"),
     }
-    Ok(())
+}
+
+fn measure_line(rt: &HostRuntime, what: &str, line: &str, given: &String) -> anyhow::Result<()> {
+    match what {
+        "answers" => print_answers(rt, line, given.as_str()),
+        "merge" => measure_merge(rt, line, number_in(given)),
+        _ => bail!("{FORMS}"),
+    }
 }
 
 fn number_in(word: &String) -> u32 {

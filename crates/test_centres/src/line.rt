@@ -28,7 +28,7 @@ registrar = \"B\"
 ";
 
 /// With section 1 set, a train that centre B registers opens a session at centre A and starts its mission there.
-pub const START: [&str; 3] = [
+pub static START: [&str; 3] = [
     "9B028000000040000080",
     "9F028000000080000080",
     "9D0680000000C00000900040A0280CA096140050014406400418",

@@ -66,30 +66,78 @@ fn puts_all<C: Carrier>(carrier: &C, seen: &mut C::Seen, count: u32) -> bool
     true
 }
 
+// A full queue is asked for one frame more than it has room for, before the receiver takes the first and behind that: what the puts say.
+fn put_past_the_room<C: Carrier>(
+    carrier: &C,
+    sender: &mut C::Seen,
+    receiver: &mut C::Seen,
+) -> ([Result<(), Frame>; 2], [Option<Frame>; 2])
+    requires sender { C.is_of carrier.now sender.old }
+    requires receiver { C.is_of carrier.now receiver.old }
+{
+    let full = carrier.put(sender, 65, numbered(65));
+    let first = carrier.get(receiver, 1);
+    let behind = carrier.put(sender, 65, numbered(65));
+    let again = carrier.get(receiver, 1);
+    ([full, behind], [first, again])
+}
+
 #[test]
 fn a_queue_hands_back_what_it_has_no_room_for_and_gives_what_is_known_again(
     rt: HostRuntime,
 ) -> Result<(), Fail> {
     let (queue, mut sender, mut receiver) = QueueCarrier::new(&rt, rt.alloc())?;
     assert!(rt; puts_all(&queue, &mut sender, 64));
-    assert!(rt; queue.put(&mut sender, 65, numbered(65)) == Err(numbered(65)));
-    assert!(rt; queue.get(&mut receiver, 1) == Some(numbered(1)));
-    assert!(rt; queue.put(&mut sender, 65, numbered(65)) == Ok(()));
-    assert!(rt; queue.get(&mut receiver, 1) == Some(numbered(1)));
+    let (said, got) = put_past_the_room(&queue, &mut sender, &mut receiver);
+    assert!(rt; said == [Err(numbered(65)), Ok(())]);
+    assert!(rt; got == [Some(numbered(1)), Some(numbered(1))]);
     Ok(())
+}
+
+// The receiver puts a frame; the sender puts one under number 2, and one under number 1 twice: what each put says.
+fn put_by_each<C: Carrier>(
+    carrier: &C,
+    sender: &mut C::Seen,
+    receiver: &mut C::Seen,
+) -> [Result<(), Frame>; 4]
+    requires sender { C.is_of carrier.now sender.old }
+    requires receiver { C.is_of carrier.now receiver.old }
+    ensures sender { C.is_of carrier.now sender.new }
+    ensures receiver { C.is_of carrier.now receiver.new }
+{
+    let by_the_receiver = carrier.put(receiver, 1, numbered(1));
+    let under_two = carrier.put(sender, 2, numbered(2));
+    let under_one = carrier.put(sender, 1, numbered(1));
+    let again = carrier.put(sender, 1, numbered(1));
+    [by_the_receiver, under_two, under_one, again]
+}
+
+// What the sender gets under the numbers 2 and 1, and the receiver.
+fn got_by_each<C: Carrier>(
+    carrier: &C,
+    sender: &mut C::Seen,
+    receiver: &mut C::Seen,
+) -> [Option<Frame>; 4]
+    requires sender { C.is_of carrier.now sender.old }
+    requires receiver { C.is_of carrier.now receiver.old }
+    ensures sender { C.is_of carrier.now sender.new }
+    ensures receiver { C.is_of carrier.now receiver.new }
+{
+    [
+        carrier.get(sender, 2),
+        carrier.get(sender, 1),
+        carrier.get(receiver, 2),
+        carrier.get(receiver, 1),
+    ]
 }
 
 #[test]
 fn only_one_caller_of_a_queue_puts_and_only_the_other_takes(rt: HostRuntime) -> Result<(), Fail> {
     let (queue, mut sender, mut receiver) = QueueCarrier::new(&rt, rt.alloc())?;
-    assert!(rt; queue.put(&mut receiver, 1, numbered(1)) == Err(numbered(1)));
-    assert!(rt; queue.put(&mut sender, 2, numbered(2)) == Err(numbered(2)));
-    assert!(rt; queue.put(&mut sender, 1, numbered(1)) == Ok(()));
-    assert!(rt; queue.put(&mut sender, 1, numbered(1)) == Err(numbered(1)));
-    assert!(rt; queue.get(&mut sender, 2) == None);
-    assert!(rt; queue.get(&mut sender, 1) == Some(numbered(1)));
-    assert!(rt; queue.get(&mut receiver, 2) == None);
-    assert!(rt; queue.get(&mut receiver, 1) == Some(numbered(1)));
+    let said = put_by_each(&queue, &mut sender, &mut receiver);
+    assert!(rt; said == [Err(numbered(1)), Err(numbered(2)), Ok(()), Err(numbered(1))]);
+    let got = got_by_each(&queue, &mut sender, &mut receiver);
+    assert!(rt; got == [None, Some(numbered(1)), None, Some(numbered(1))]);
     queue.compare(&mut sender, receiver, 1);
     Ok(())
 }

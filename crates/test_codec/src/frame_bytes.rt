@@ -5,7 +5,7 @@ use rbc_linkmsg::{FrameFault, decode_frame, encode_frame};
 use std::test::*;
 
 // A frame of each body, and frames at the limits of each field.
-const FRAMES: [&str; 26] = [
+static FRAMES: [&str; 26] = [
     "00000001000000040100000002",
     "00000001000000050200000002",
     "00000002000000060400000002",
@@ -35,7 +35,7 @@ const FRAMES: [&str; 26] = [
 ];
 
 // Bytes that are no frame, and their fault.
-const FAULTS: [(&str, FrameFault); 47] = [
+static FAULTS: [(&str, FrameFault); 47] = [
     ("", FrameFault::Short),
     ("0000000100000004", FrameFault::Short),
     ("0000000000000000", FrameFault::Short),

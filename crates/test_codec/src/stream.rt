@@ -7,7 +7,7 @@ use std::test::*;
 
 // A stream in pieces, parted by commas (`-` has no bytes), and what each call gives, parted by semicolons: the bytes of the
 // messages that it appends, and its fault.
-const STREAMS: [(&str, &str); 11] = [
+static STREAMS: [(&str, &str); 11] = [
     (
         "9B,02,80,00,00,00,40,00,00,40",
         "none; none; none; none; none; none; none; none; none; 9B028000000040000040",
@@ -40,7 +40,7 @@ const STREAMS: [(&str, &str); 11] = [
 ];
 
 // A message of each number, with further packets at the end.
-const MESSAGES: [&str; 11] = [
+static MESSAGES: [&str; 11] = [
     "81070000000100000040010280A03282585001400510190010616015",
     "8406800000014000004200081405019412C2800A002880C80083",
     "88068000000180000040010280A03300D2500140051019001060",
@@ -154,7 +154,7 @@ fn megabyte(alloc: Global, message: &[u8], begin: &[u8]) -> Result<Vec<u8>, Fail
 }
 
 // Message 129 takes memory for its packet 11.
-const TRAIN_DATA: [u8; 28] = [
+static TRAIN_DATA: [u8; 28] = [
     0x81, 0x07, 0x00, 0x00, 0x00, 0x01, 0x00, 0x00, 0x00, 0x40, 0x01, 0x02, 0x80, 0xA0, 0x32, 0x82,
     0x58, 0x50, 0x01, 0x40, 0x05, 0x10, 0x19, 0x00, 0x10, 0x61, 0x60, 0x15,
 ];

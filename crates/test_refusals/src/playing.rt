@@ -31,20 +31,39 @@ pub enum Stopped {
 pub fn play<R: Wait>(rt: &R, alloc: Global) -> Result<Played, Stopped> {
     let mut a = seat(alloc, A)?;
     let mut b = seat(alloc, B)?;
-    set(rt, &mut a, B, 1)?;
-    start(rt, alloc, &mut a)?;
-    for _ in 0..2 {
-        let asks = over_a_queue(rt, alloc, frame(rt, &a, B, 1)?)?;
-        take(rt, &mut b, A, asks)?;
-    }
-    for _ in 0..2 {
-        let gives = over_a_queue(rt, alloc, frame(rt, &b, A, 1)?)?;
-        take(rt, &mut a, B, gives)?;
-    }
+    start_over_the_border(rt, alloc, &mut a, &mut b)?;
     let told = told(rt, alloc, &a.share)?;
     let family = gathered(alloc, a, b)?;
     let entries = merged(alloc, &family)?;
     Ok(Played { told, entries })
+}
+
+fn start_over_the_border<R: Wait>(
+    rt: &R,
+    alloc: Global,
+    a: &mut Seat,
+    b: &mut Seat,
+) -> Result<(), Stopped> {
+    set(rt, a, B, 1)?;
+    start(rt, alloc, a)?;
+    carry_twice(rt, alloc, (a, A), (b, B))?;
+    carry_twice(rt, alloc, (b, B), (a, A))
+}
+
+// The first frame from one centre to the other comes, and comes once more.
+fn carry_twice<R: Wait>(
+    rt: &R,
+    alloc: Global,
+    from: (&Seat, u8),
+    to: (&mut Seat, u8),
+) -> Result<(), Stopped> {
+    let (sender, a) = from;
+    let (receiver, b) = to;
+    for _ in 0..2 {
+        let sent = over_a_queue(rt, alloc, frame(rt, sender, b, 1)?)?;
+        take(rt, receiver, a, sent)?;
+    }
+    Ok(())
 }
 
 // A node of one of the two centres.

@@ -17,6 +17,8 @@ mod order;
 #[cfg(test)]
 mod outlets;
 #[cfg(test)]
+mod play;
+#[cfg(test)]
 mod railway;
 #[cfg(test)]
 mod replies;

@@ -1,7 +1,8 @@
 //! The order in which a train hears what its centre says: over bytes in memory, and where two threads commit for one train.
 
-use crate::client::{Done, Missed, TURNS, connect, heard, say};
+use crate::client::{Done, Missed, TURNS, connect, say};
 use crate::line::{INITIATION_OF_ONE, VERSION, bytes_of, two_centres};
+use crate::play::{Act, Step, play};
 use crate::railway::{Addresses, printed_with};
 use rbc_msgs::{NID_LRBG_UNKNOWN, TrackBody, TrackMsg, decode_track};
 use serve_line::Manner;
@@ -82,19 +83,9 @@ struct Told {
 #[test]
 fn a_train_hears_all_in_order_though_two_threads_commit(rt: HostRuntime) -> Result<(), Fail> {
     let line = two_centres(rt.alloc())?;
-    let told = Told {
-        is_open: AtomicBool::new(false),
-        is_said: AtomicBool::new(false),
-    };
     let numbers = AtomicBool::new(false);
     let printed = printed_with(&rt, rt.alloc(), &line, Manner::default(), |addresses| {
-        let (opened, other) = thread::join(
-            &rt,
-            || open_and_start(&rt, rt.alloc(), addresses, &told),
-            || start(&rt, rt.alloc(), addresses, &told),
-        );
-        other?;
-        let is_in_order = is_counted_from_two(opened?.as_slice())?;
+        let is_in_order = is_heard_in_order(&rt, rt.alloc(), addresses)?;
         numbers.store(is_in_order, Ordering::SeqCst);
         Ok(())
     })?;
@@ -103,6 +94,33 @@ fn a_train_hears_all_in_order_though_two_threads_commit(rt: HostRuntime) -> Resu
     Ok(())
 }
 
+// Whether the train hears all in order over its connection, while messages come over that and over another.
+fn is_heard_in_order<R: Threads + Net<Stream = TcpStream> + Sync>(
+    rt: &R,
+    alloc: Global,
+    addresses: Addresses,
+) -> Done<bool> {
+    let told = Told {
+        is_open: AtomicBool::new(false),
+        is_said: AtomicBool::new(false),
+    };
+    let (opened, other) = thread::join(
+        rt,
+        || open_and_start(rt, alloc, addresses, &told),
+        || start(rt, alloc, addresses, &told),
+    );
+    other?;
+    is_counted_from_two(opened?.as_slice())
+}
+
+// The train opens its session, and establishes it.
+static OPENING: [Step<'_>; 4] = [
+    (0, Act::Train),
+    (0, Act::Sends(INITIATION_OF_ONE)),
+    (0, Act::Hears(VERSION)),
+    (0, Act::Sends("9F028000000080000040")),
+];
+
 // Opens the train's session, and starts missions that are rejected, while another connection does. It gives what came behind the version.
 fn open_and_start<R: Net<Stream = TcpStream>>(
     rt: &R,
@@ -110,18 +128,13 @@ fn open_and_start<R: Net<Stream = TcpStream>>(
     addresses: Addresses,
     told: &Told,
 ) -> Done<Vec<u8>> {
-    let stream = connect(rt, addresses.centre)?;
-    say(&stream, &bytes_of(alloc, INITIATION_OF_ONE)?)?;
-    let version = bytes_of(alloc, VERSION)?;
-    if heard(alloc, &stream, version.len())?.as_slice() != version.as_slice() {
-        return Err(Missed::OtherAnswer);
-    }
-    say(&stream, &bytes_of(alloc, "9F028000000080000040")?)?;
+    let streams = play(rt, alloc, addresses, &OPENING)?;
+    let stream = streams.first().ok_or(Missed::Door)?;
     told.is_open.store(true, Ordering::SeqCst);
-    say_starts(alloc, &stream, "00")?;
+    say_starts(alloc, stream, "00")?;
     wait_for(&told.is_said)?;
     stream.shutdown(Shutdown::Write).ok().ok_or(Missed::Taking)?;
-    heard_to_the_end(alloc, &stream)
+    heard_to_the_end(alloc, stream)
 }
 
 // Starts missions of the train over a connection that does not serve it.
@@ -141,13 +154,17 @@ fn start<R: Net<Stream = TcpStream>>(
 // Says a start of mission again and again, with T_TRAIN 4, 8, 12 and so on, and for the low bits 80 with 2 more.
 fn say_starts(alloc: Global, stream: &TcpStream, low_bits: &str) -> Done<()> {
     for fourth in 1..=STARTS {
-        let digits = format!(in alloc;
-            "9D068000{fourth:04X}{low_bits}0000500040A0280CA096140050014406400418"
-        ).ok()
-            .ok_or(Missed::Memory)?;
-        say(stream, &bytes_of(alloc, &digits)?)?;
+        say(stream, &start_of(alloc, fourth, low_bits)?)?;
     }
     Ok(())
+}
+
+fn start_of(alloc: Global, fourth: u16, low_bits: &str) -> Done<Vec<u8>> {
+    let digits = format!(in alloc;
+        "9D068000{fourth:04X}{low_bits}0000500040A0280CA096140050014406400418"
+    ).ok()
+        .ok_or(Missed::Memory)?;
+    bytes_of(alloc, &digits)
 }
 
 fn wait_for(flag: &AtomicBool) -> Done<()> {

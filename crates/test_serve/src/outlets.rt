@@ -1,7 +1,8 @@
 //! Where the answers of one centre go: to the train that each is for, over the connection that serves it.
 
-use crate::client::{Done, Missed, answers, connect, heard, is_ended, say};
+use crate::client::{Done, Missed, heard, say};
 use crate::line::{INITIATION_OF_ONE, MISSION_OF_ONE, REQUEST_OF_ONE, bytes_of, two_centres};
+use crate::play::{Act, Step, begins_so, play};
 use crate::railway::{Addresses, printed_with};
 use rbc_msgs::{TrackBody, TrackMsg, decode_track};
 use serve_line::Manner;
@@ -15,30 +16,33 @@ use std::time::{Clock, Duration};
 const REQUESTS: u32 = 1_000;
 
 // Train 1 opens its session, and starts its mission. Sections 0 and 1 are released, and these too.
-fn on_its_way<R: Net<Stream = TcpStream>>(
-    rt: &R,
-    alloc: Global,
-    addresses: Addresses,
-) -> Done<(TcpStream, TcpStream)> {
-    let control = connect(rt, addresses.control)?;
-    answers(alloc, &control, "set A 0\n", "> set A 0\nA 0 Done\n")?;
-    answers(alloc, &control, "set A 1\n", "> set A 1\nA 1 Done\n")?;
-    answers(alloc, &control, "set B 2\n", "> set B 2\nB 2 Done\n")?;
-    let train = connect(rt, addresses.centre)?;
-    say(&train, &bytes_of(alloc, MISSION_OF_ONE)?)?;
-    heard(alloc, &train, 11 + 10 + 14)?;
-    Ok((control, train))
-}
+static ON_ITS_WAY: [Step<'_>; 7] = [
+    (0, Act::Control),
+    (0, Act::Asks("set A 0\n", "> set A 0\nA 0 Done\n")),
+    (0, Act::Asks("set A 1\n", "> set A 1\nA 1 Done\n")),
+    (0, Act::Asks("set B 2\n", "> set B 2\nB 2 Done\n")),
+    (1, Act::Train),
+    (1, Act::Sends(MISSION_OF_ONE)),
+    (1, Act::Takes(11 + 10 + 14)),
+];
 
 #[test]
 fn a_train_hears_both_messages_of_one_step(rt: HostRuntime) -> Result<(), Fail> {
     let line = two_centres(rt.alloc())?;
     let printed = printed_with(&rt, rt.alloc(), &line, Manner::default(), |addresses| {
-        let (_control, train) = on_its_way(&rt, rt.alloc(), addresses)?;
-        ask_until_both_come(&rt, rt.alloc(), &train)
+        ask_on_its_way(&rt, rt.alloc(), addresses)
     })?;
     assert!(rt; printed.starts_with(b"> set A 0\nA 0 Done\n"));
     Ok(())
+}
+
+fn ask_on_its_way<R: Net<Stream = TcpStream> + Clock>(
+    rt: &R,
+    alloc: Global,
+    addresses: Addresses,
+) -> Done<()> {
+    let streams = play(rt, alloc, addresses, &ON_ITS_WAY)?;
+    ask_until_both_come(rt, alloc, streams.get(1).ok_or(Missed::Door)?)
 }
 
 // Asks for the authority until it reaches over the border: behind message 3 of that step comes message 24, with the next T_TRAIN.
@@ -81,65 +85,52 @@ fn message(alloc: Global, train: &TcpStream) -> Done<TrackMsg> {
     decode_track(&bytes).ok().ok_or(Missed::Digits)
 }
 
+// Section 1 is wished back: the train is asked that its authority ends 1 000 m behind the start of section 0, message 9 with T_TRAIN 5.
+static WISHED_BACK: [Step<'_>; 11] = [
+    (0, Act::Control),
+    (0, Act::Asks("set A 0\n", "> set A 0\nA 0 Done\n")),
+    (0, Act::Asks("set A 1\n", "> set A 1\nA 1 Done\n")),
+    (0, Act::Asks("set B 2\n", "> set B 2\nB 2 Done\n")),
+    (1, Act::Train),
+    (1, Act::Sends(MISSION_OF_ONE)),
+    (1, Act::Takes(11 + 10 + 14)),
+    (1, Act::Sends(REQUEST_OF_ONE)),
+    (1, Act::Takes(18)),
+    (
+        0,
+        Act::Asks(
+            "unset A 1\n",
+            "> unset A 1\nA -> 1 09048000000140280C81E810901FF801F400\nA 1 Asked\n",
+        ),
+    ),
+    (1, Act::Hears("09048000000140280C81E810901FF801F400")),
+];
+
 #[test]
 fn a_train_hears_what_the_interlocking_wishes(rt: HostRuntime) -> Result<(), Fail> {
-    let line = two_centres(rt.alloc())?;
-    let printed = printed_with(&rt, rt.alloc(), &line, Manner::default(), |addresses| {
-        wish_back(&rt, rt.alloc(), addresses)
-    })?;
-    assert!(rt; printed.starts_with(b"> set A 0\nA 0 Done\n"));
-    Ok(())
-}
-
-// Section 1 is wished back: the train is asked that its authority ends 1 000 m behind the start of section 0, message 9 with T_TRAIN 5.
-fn wish_back<R: Net<Stream = TcpStream>>(rt: &R, alloc: Global, addresses: Addresses) -> Done<()> {
-    let (control, train) = on_its_way(rt, alloc, addresses)?;
-    say(&train, &bytes_of(alloc, REQUEST_OF_ONE)?)?;
-    heard(alloc, &train, 18)?;
-    answers(
-        alloc,
-        &control,
-        "unset A 1\n",
-        "> unset A 1\nA -> 1 09048000000140280C81E810901FF801F400\nA 1 Asked\n",
-    )?;
-    is_heard(alloc, &train, "09048000000140280C81E810901FF801F400")
-}
-
-fn is_heard(alloc: Global, train: &TcpStream, digits: &str) -> Done<()> {
-    let wanted = bytes_of(alloc, digits)?;
-    if heard(alloc, train, wanted.len())?.as_slice() != wanted.as_slice() {
-        return Err(Missed::OtherAnswer);
-    }
-    Ok(())
-}
-
-#[test]
-fn a_session_that_is_not_heard_moves_no_train(rt: HostRuntime) -> Result<(), Fail> {
-    let line = two_centres(rt.alloc())?;
-    let printed = printed_with(&rt, rt.alloc(), &line, Manner::default(), |addresses| {
-        open_twice(&rt, rt.alloc(), addresses)
-    })?;
-    let printed = std::str::from_utf8(&printed).ok().ok_or("it is text")?;
-    assert!(rt;
-        printed.starts_with(
-            "> train A 9B028000000080000040\nA -> 1 2002C00000005FFFFFE800\n> train A 9B028000000040000040\nA silent 1\n"
-        )
-    );
+    let wanted = b"> set A 0\nA 0 Done\n";
+    assert!(rt; begins_so(&rt, rt.alloc(), &WISHED_BACK, wanted)?);
     Ok(())
 }
 
 // The train opens its session with T_TRAIN 2; with T_TRAIN 1 and then bytes with a fault a second connection ends unanswered. What is said to the
 // train comes over the first one.
-fn open_twice<R: Net<Stream = TcpStream>>(rt: &R, alloc: Global, addresses: Addresses) -> Done<()> {
-    let first = connect(rt, addresses.centre)?;
-    say(&first, &bytes_of(alloc, "9B028000000080000040")?)?;
-    is_heard(alloc, &first, "2002C00000005FFFFFE800")?;
-    let second = connect(rt, addresses.centre)?;
-    say(&second, &bytes_of(alloc, INITIATION_OF_ONE)?)?;
-    say(&second, &bytes_of(alloc, "9B0240")?)?;
-    if !is_ended(&second) {
-        return Err(Missed::StillOpen);
-    }
-    say(&first, &bytes_of(alloc, "9B0280000000C0000040")?)?;
-    is_heard(alloc, &first, "2002C00000009FFFFFE800")
+static OPENED_TWICE: [Step<'_>; 9] = [
+    (0, Act::Train),
+    (0, Act::Sends("9B028000000080000040")),
+    (0, Act::Hears("2002C00000005FFFFFE800")),
+    (1, Act::Train),
+    (1, Act::Sends(INITIATION_OF_ONE)),
+    (1, Act::Sends("9B0240")),
+    (1, Act::Ends),
+    (0, Act::Sends("9B0280000000C0000040")),
+    (0, Act::Hears("2002C00000009FFFFFE800")),
+];
+
+#[test]
+fn a_session_that_is_not_heard_moves_no_train(rt: HostRuntime) -> Result<(), Fail> {
+    let wanted =
+        b"> train A 9B028000000080000040\nA -> 1 2002C00000005FFFFFE800\n> train A 9B028000000040000040\nA silent 1\n";
+    assert!(rt; begins_so(&rt, rt.alloc(), &OPENED_TWICE, wanted)?);
+    Ok(())
 }

@@ -1,11 +1,12 @@
 //! Doors at which all seats are taken: who makes room for a new connection.
 
-use crate::client::{Done, Missed, answers, connect, heard, is_ended, say};
-use crate::line::{INITIATION_OF_ONE, VERSION, bytes_of, two_centres};
+use crate::client::{Done, Missed};
+use crate::line::{INITIATION_OF_ONE, VERSION, two_centres};
+use crate::play::{Act, Step, begins_so, play};
 use crate::railway::{Addresses, printed_with};
 use serve_line::Manner;
 use std::alloc::Global;
-use std::net::{Net, SocketAddr, TcpStream};
+use std::net::{Net, TcpStream};
 use std::test::*;
 
 // How many connections the control door serves at once.
@@ -14,86 +15,58 @@ const CONTROLS: usize = 4;
 // How many connections a centre serves at once: one for each of the two trains, and eight.
 const TRAINS: usize = 10;
 
-// So many connections that say nothing yet.
-fn silent<R: Net<Stream = TcpStream>>(
-    rt: &R,
-    alloc: Global,
-    door: SocketAddr,
-    count: usize,
-) -> Done<Vec<TcpStream>> {
-    let mut all = Vec::new(alloc);
-    for _ in 0..count {
-        all.push(connect(rt, door)?).ok().ok_or(Missed::Memory)?;
-    }
-    Ok(all)
-}
+// Section 2 is of another centre.
+const NOT_HOME: Act<'_> = Act::Asks("set A 2\n", "> set A 2\nA 2 NotHome\n");
+
+// All four connections speak, and the first of them again; where a fifth comes, the second has to leave.
+static SPOKEN_BEHIND_SILENCE: [Step<'_>; 13] = [
+    (0, Act::Control),
+    (0, Act::Asks("set A 1\n", "> set A 1\nA 1 Done\n")),
+    (1, Act::Control),
+    (2, Act::Control),
+    (3, Act::Control),
+    (1, NOT_HOME),
+    (2, NOT_HOME),
+    (3, NOT_HOME),
+    (0, NOT_HOME),
+    (CONTROLS, Act::Control),
+    (CONTROLS, NOT_HOME),
+    (0, NOT_HOME),
+    (1, Act::Ends),
+];
 
 #[test]
 fn the_control_connection_that_is_silent_longest_makes_room(rt: HostRuntime) -> Result<(), Fail> {
-    let line = two_centres(rt.alloc())?;
-    let printed = printed_with(&rt, rt.alloc(), &line, Manner::default(), |addresses| {
-        speak_behind_silence(&rt, rt.alloc(), addresses)
-    })?;
-    assert!(rt; printed.starts_with(b"> set A 1\nA 1 Done\n"));
-    Ok(())
-}
-
-// All four speak, and the first of them again; where a fifth comes, the second has to leave.
-fn speak_behind_silence<R: Net<Stream = TcpStream>>(
-    rt: &R,
-    alloc: Global,
-    addresses: Addresses,
-) -> Done<()> {
-    let first = connect(rt, addresses.control)?;
-    answers(alloc, &first, "set A 1\n", "> set A 1\nA 1 Done\n")?;
-    let others = silent(rt, alloc, addresses.control, CONTROLS - 1)?;
-    for other in &others {
-        answers(alloc, other, "set A 2\n", "> set A 2\nA 2 NotHome\n")?;
-    }
-    answers(alloc, &first, "set A 2\n", "> set A 2\nA 2 NotHome\n")?;
-    let last = connect(rt, addresses.control)?;
-    answers(alloc, &last, "set A 2\n", "> set A 2\nA 2 NotHome\n")?;
-    answers(alloc, &first, "set A 2\n", "> set A 2\nA 2 NotHome\n")?;
-    match others.first() {
-        Some(second) if is_ended(second) => Ok(()),
-        _ => Err(Missed::StillOpen),
-    }
-}
-
-#[test]
-fn a_connection_that_serves_no_train_makes_room(rt: HostRuntime) -> Result<(), Fail> {
-    let line = two_centres(rt.alloc())?;
-    let printed = printed_with(&rt, rt.alloc(), &line, Manner::default(), |addresses| {
-        open_behind_silence(&rt, rt.alloc(), addresses)
-    })?;
-    assert!(rt; printed.starts_with(b"> train A 9B028000000040000040\n"));
+    let wanted = b"> set A 1\nA 1 Done\n";
+    assert!(rt; begins_so(&rt, rt.alloc(), &SPOKEN_BEHIND_SILENCE, wanted)?);
     Ok(())
 }
 
 // A train opens its session; with silent connections at all other seats, it opens it over another one, and the first ends.
-fn open_behind_silence<R: Net<Stream = TcpStream>>(
-    rt: &R,
-    alloc: Global,
-    addresses: Addresses,
-) -> Done<()> {
-    let first = connect(rt, addresses.centre)?;
-    say(&first, &bytes_of(alloc, INITIATION_OF_ONE)?)?;
-    is_version(alloc, &first, VERSION)?;
-    let others = silent(rt, alloc, addresses.centre, TRAINS - 1)?;
-    let last = connect(rt, addresses.centre)?;
-    say(&last, &bytes_of(alloc, "9B028000000080000040")?)?;
-    is_version(alloc, &last, "2002C00000009FFFFFE800")?;
-    match others.first() {
-        Some(oldest) if is_ended(oldest) && is_ended(&first) => Ok(()),
-        _ => Err(Missed::StillOpen),
-    }
-}
+static OPENED_BEHIND_SILENCE: [Step<'_>; 17] = [
+    (0, Act::Train),
+    (0, Act::Sends(INITIATION_OF_ONE)),
+    (0, Act::Hears(VERSION)),
+    (1, Act::Train),
+    (2, Act::Train),
+    (3, Act::Train),
+    (4, Act::Train),
+    (5, Act::Train),
+    (6, Act::Train),
+    (7, Act::Train),
+    (8, Act::Train),
+    (9, Act::Train),
+    (TRAINS, Act::Train),
+    (TRAINS, Act::Sends("9B028000000080000040")),
+    (TRAINS, Act::Hears("2002C00000009FFFFFE800")),
+    (1, Act::Ends),
+    (0, Act::Ends),
+];
 
-fn is_version(alloc: Global, stream: &TcpStream, digits: &str) -> Done<()> {
-    let version = bytes_of(alloc, digits)?;
-    if heard(alloc, stream, version.len())?.as_slice() != version.as_slice() {
-        return Err(Missed::OtherAnswer);
-    }
+#[test]
+fn a_connection_that_serves_no_train_makes_room(rt: HostRuntime) -> Result<(), Fail> {
+    let wanted = b"> train A 9B028000000040000040\n";
+    assert!(rt; begins_so(&rt, rt.alloc(), &OPENED_BEHIND_SILENCE, wanted)?);
     Ok(())
 }
 
@@ -101,21 +74,25 @@ fn is_version(alloc: Global, stream: &TcpStream, digits: &str) -> Done<()> {
 fn a_seat_is_free_behind_each_connection(rt: HostRuntime) -> Result<(), Fail> {
     let line = two_centres(rt.alloc())?;
     let printed = printed_with(&rt, rt.alloc(), &line, Manner::default(), |addresses| {
-        for t_train in 1..=2 * TRAINS {
-            open_and_go(&rt, rt.alloc(), addresses, t_train)?;
-        }
-        for _ in 0..3 * CONTROLS {
-            let control = connect(&rt, addresses.control)?;
-            answers(
-                rt.alloc(),
-                &control,
-                "set B 1\n",
-                "> set B 1\nB 1 NotHome\n",
-            )?;
-        }
-        Ok(())
+        come_and_go(&rt, rt.alloc(), addresses)
     })?;
     assert!(rt; printed.starts_with(b"> train A 9B028000000040000040\n"));
+    Ok(())
+}
+
+// More connections than there are seats come one behind another, to the centre and to the control door.
+fn come_and_go<R: Net<Stream = TcpStream>>(
+    rt: &R,
+    alloc: Global,
+    addresses: Addresses,
+) -> Done<()> {
+    for t_train in 1..=2 * TRAINS {
+        open_and_go(rt, alloc, addresses, t_train)?;
+    }
+    let asked = Act::Asks("set B 1\n", "> set B 1\nB 1 NotHome\n");
+    for _ in 0..3 * CONTROLS {
+        play(rt, alloc, addresses, &[(0, Act::Control), (0, asked)])?;
+    }
     Ok(())
 }
 
@@ -126,16 +103,17 @@ fn open_and_go<R: Net<Stream = TcpStream>>(
     addresses: Addresses,
     t_train: usize,
 ) -> Done<()> {
-    let stream = connect(rt, addresses.centre)?;
     let sixty_fourths = t_train.saturating_mul(64);
-    let digits = format!(in alloc; "9B02800000{sixty_fourths:04X}000040")
+    let opening = format!(in alloc; "9B02800000{sixty_fourths:04X}000040")
         .ok()
         .ok_or(Missed::Memory)?;
-    say(&stream, &bytes_of(alloc, &digits)?)?;
-    heard(alloc, &stream, 11)?;
-    say(&stream, &bytes_of(alloc, "9B0240")?)?;
-    if !is_ended(&stream) {
-        return Err(Missed::StillOpen);
-    }
+    let steps = [
+        (0, Act::Train),
+        (0, Act::Sends(&opening)),
+        (0, Act::Takes(11)),
+        (0, Act::Sends("9B0240")),
+        (0, Act::Ends),
+    ];
+    play(rt, alloc, addresses, &steps)?;
     Ok(())
 }

@@ -1,18 +1,43 @@
-use crate::client::{Done, Missed, TURNS, connect, heard, say};
-use crate::line::{ACCEPTED, INITIATION_OF_ONE, VERSION, bytes_of, two_centres};
+use crate::client::{Done, Missed, TURNS};
+use crate::line::{ACCEPTED, INITIATION_OF_ONE, VERSION, two_centres};
+use crate::play::{Act, Step, play};
 use crate::railway::{Addresses, audited, printed_with};
 use cli_audit::Verdict;
+use rbc_line::Line;
 use serve_line::Manner;
 use std::alloc::Global;
-use std::net::{Net, TcpStream};
+use std::net::{Net, TcpListener, TcpStream};
+use std::sync::Wait;
 use std::sync::atomic::{AtomicBool, Ordering};
 use std::test::*;
 use std::thread;
 use std::thread::Threads;
+use std::time::Clock;
 
-// Train 2 opens its session and starts a mission in section 1.
-const START_OF_TWO: &str =
-    "9B0280000000400000809F0280000000800000809D0680000000C00000900040A0280CA096140050014406400418";
+// The interlocking releases section 1, and is answered.
+static RELEASED: [Step<'_>; 2] = [
+    (0, Act::Control),
+    (0, Act::Asks("set A 1\n", "> set A 1\nA 1 Done\n")),
+];
+
+// Train 2 opens its session and starts a mission in section 1, with the right that comes from centre B.
+static START_OF_TWO: [Step<'_>; 4] = [
+    (0, Act::Train),
+    (
+        0,
+        Act::Sends(
+            "9B0280000000400000809F0280000000800000809D0680000000C00000900040A0280CA096140050014406400418",
+        ),
+    ),
+    (0, Act::Hears(VERSION)),
+    (0, Act::Hears(ACCEPTED)),
+];
+
+static OPENING_OF_ONE: [Step<'_>; 3] = [
+    (0, Act::Train),
+    (0, Act::Sends(INITIATION_OF_ONE)),
+    (0, Act::Hears(VERSION)),
+];
 
 /// Whether train 1 was answered.
 #[derive(Drop)]
@@ -21,17 +46,7 @@ struct Answered(AtomicBool);
 #[test]
 fn two_trains_are_served_and_the_print_is_audited(rt: HostRuntime) -> Result<(), Fail> {
     let line = two_centres(rt.alloc())?;
-    let answered = Answered(AtomicBool::new(false));
-    let printed = printed_with(&rt, rt.alloc(), &line, Manner::default(), |addresses| {
-        release(&rt, rt.alloc(), addresses)?;
-        let (two, one) = thread::join(
-            &rt,
-            || train_two(&rt, rt.alloc(), addresses, &answered),
-            || train_one(&rt, rt.alloc(), addresses, &answered),
-        );
-        two?;
-        one
-    })?;
+    let printed = printed_of_two(&rt, rt.alloc(), &line)?;
     let printed = std::str::from_utf8(&printed)
         .ok()
         .ok_or("the print is text")?;
@@ -44,28 +59,31 @@ fn two_trains_are_served_and_the_print_is_audited(rt: HostRuntime) -> Result<(),
     Ok(())
 }
 
-// The interlocking releases section 1, and is answered.
-fn release<R: Net<Stream = TcpStream>>(rt: &R, alloc: Global, addresses: Addresses) -> Done<()> {
-    let control = connect(rt, addresses.control)?;
-    say(&control, b"set A 1\n")?;
-    let answer = heard(alloc, &control, 19)?;
-    if answer.as_slice() != b"> set A 1\nA 1 Done\n".as_slice() {
-        return Err(Missed::OtherAnswer);
-    }
-    Ok(())
+// What is printed where both trains are served side by side.
+fn printed_of_two<
+    R: Threads + Wait + Sync + Net<Stream = TcpStream, Listener = TcpListener> + Clock,
+>(rt: &R, alloc: Global, line: &Line) -> Done<Vec<u8>> {
+    let answered = Answered(AtomicBool::new(false));
+    printed_with(rt, alloc, line, Manner::default(), |addresses| {
+        play(rt, alloc, addresses, &RELEASED)?;
+        let (two, one) = thread::join(
+            rt,
+            || train_two(rt, alloc, addresses, &answered),
+            || train_one(rt, alloc, addresses, &answered),
+        );
+        two?;
+        one
+    })
 }
 
-// Train 2 starts its mission with the right that comes from centre B, and stays until train 1 was answered.
+// Train 2 starts its mission, and stays until train 1 was answered.
 fn train_two<R: Net<Stream = TcpStream>>(
     rt: &R,
     alloc: Global,
     addresses: Addresses,
     answered: &Answered,
 ) -> Done<()> {
-    let stream = connect(rt, addresses.centre)?;
-    say(&stream, &bytes_of(alloc, START_OF_TWO)?)?;
-    expect(alloc, &stream, VERSION)?;
-    expect(alloc, &stream, ACCEPTED)?;
+    let _streams = play(rt, alloc, addresses, &START_OF_TWO)?;
     for _ in 0..TURNS {
         if answered.0.load(Ordering::SeqCst) {
             return Ok(());
@@ -81,18 +99,7 @@ fn train_one<R: Net<Stream = TcpStream>>(
     addresses: Addresses,
     answered: &Answered,
 ) -> Done<()> {
-    let stream = connect(rt, addresses.centre)?;
-    say(&stream, &bytes_of(alloc, INITIATION_OF_ONE)?)?;
-    expect(alloc, &stream, VERSION)?;
+    play(rt, alloc, addresses, &OPENING_OF_ONE)?;
     answered.0.store(true, Ordering::SeqCst);
-    Ok(())
-}
-
-// The next answer is this one.
-fn expect(alloc: Global, stream: &TcpStream, digits: &str) -> Done<()> {
-    let wanted = bytes_of(alloc, digits)?;
-    if heard(alloc, stream, wanted.len())?.as_slice() != wanted.as_slice() {
-        return Err(Missed::OtherAnswer);
-    }
     Ok(())
 }
