@@ -1,1 +1,9 @@
 pub mod Pages
+pub mod Rows
+pub mod Splits
+pub mod Joins
+pub mod Writes
+pub mod Neighbours
+pub mod Appends
+pub mod Opens
+pub mod Sheets

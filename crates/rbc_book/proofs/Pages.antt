@@ -1,29 +1,17 @@
 -- Laws of the pages of a book.
-use Rattle.std.proofs.Common.{◌≡◌, ◌≢◌, ℕ, zero, suc, ◌<◌, ◌≤◌, ◌==◌, inl, inr, true, false, cond, List, [], ◌∷◌, length, set, Option, Some, None, is_some, option_and_then, unwrap_or, slice_get, refl, ap, sym, ◌∙◌, arith}
+use Rattle.std.proofs.Common.{if◌then◌else◌, ◌≡◌, ℕ, ◌==◌, zero, suc, List, [], ◌∷◌, map, slice_get, option_and_then, cond, inl, inr, Bool, true, false, Option, Some, None, is_some, unwrap_or, option_map, refl, ap, sym, ◌∙◌}
 use Rattle.std.specs.Option.{option_map_or}
-use Rattle.std.proofs.lemmas.Bool.{false≢true, cases_lt}
+use Rattle.std.proofs.lemmas.Bool.{false≢true}
 use Rattle.std.proofs.lemmas.Bool.Decides.{eqb_tells}
-use Rattle.std.proofs.lemmas.Option.{slice_get_past}
+use Rattle.rbc_spec.specs.Line.{Section}
 use Rattle.rbc_spec.specs.Maps.{put}
 use Rattle.rbc_spec.specs.Line.{Line, is_home}
-use Rattle.rbc_spec.specs.Centre.{Shut}
+use Rattle.rbc_book.specs.Sheet.{Spot, Sheet, spot_on, is_open_in, is_open_on, page_in, page_on, pages_on, home_track}
+use Rattle.rbc_spec.specs.Centre.{Shut, is_open}
+use Rattle.rbc_spec.specs.SectionRuns.{longest}
 use Rattle.rbc_book.specs.Entries.{entry_of}
 use Rattle.rbc_book.specs.Book.{Pages, page_of, is_own, entry_at, wish_at}
 use Rattle.rbc_book.specs.declared.page.Page.{Page}
-
--- ## Lists
-
-slice_get-set_same : {X : Type 0} (xs : List X) (i : ℕ) (x : X) → i < length xs → slice_get (set xs i x) i ≡ Some x
-slice_get-set_same [] i x h = absurd (let no : ⊥ = omega arith in no)
-slice_get-set_same (y ∷ ys) zero x h = refl
-slice_get-set_same (y ∷ ys) (suc i) x h = slice_get-set_same ys i x (omega arith)
-
-slice_get-set_other : {X : Type 0} (xs : List X) (i j : ℕ) (x : X) → j ≢ i → slice_get (set xs i x) j ≡ slice_get xs j
-slice_get-set_other [] i j x h = refl
-slice_get-set_other (y ∷ ys) zero zero x h = absurd (h refl)
-slice_get-set_other (y ∷ ys) zero (suc j) x h = refl
-slice_get-set_other (y ∷ ys) (suc i) zero x h = refl
-slice_get-set_other (y ∷ ys) (suc i) (suc j) x h = slice_get-set_other ys i j x (λ e. h (ap suc e))
 
 -- ## Sections of another home
 
@@ -57,76 +45,95 @@ reads pages s page shut (Some p) is_shut unwished at read = record {
 
 -- ## A page is written
 
-pub own_within : (pages : Pages) (s : ℕ) → is_own pages s ≡ true → s < length pages
-unfolding is_own
-own_within pages s own =
-    elim (cases_lt s (length pages)) [
-      | inl within ↦ within
-      | inr past ↦ absurd (false≢true (ap (λ o. is_some (option_and_then (λ page. page) o)) (sym (slice_get_past pages s past)) ∙ own))
-    ]
-
 -- whatever is read of a page changes for the section that is written alone
-part-set : {X : Type 0} (part : Option Page → X) (pages : Pages) (s : ℕ) (page : Page) → s < length pages → (k : ℕ)
-    → part (page_of (set pages s (Some page)) k) ≡ put (λ j. part (page_of pages j)) s (part (Some page)) k
-part-set part pages s page within k =
-    elim (eqb_tells k s) as (λ _. part (page_of (set pages s (Some page)) k) ≡ put (λ j. part (page_of pages j)) s (part (Some page)) k) [
-      | inl e ↦ rw (e.0, e.1) (ap (λ o. part (option_and_then (λ p. p) o)) (slice_get-set_same pages s (Some page) within))
-      | inr e ↦ rw (e.0) (ap (λ o. part (option_and_then (λ p. p) o)) (slice_get-set_other pages s k (Some page) e.1))
-    ]
-
-pub entry_at-set : (pages : Pages) (s : ℕ) (page : Page) → is_own pages s ≡ true → (k : ℕ) → entry_at (set pages s (Some page)) k ≡ put (entry_at pages) s (entry_of page.entry) k
-unfolding entry_at
-entry_at-set pages s page own = part-set (λ p. option_map_or (λ (q : Page). entry_of q.entry) p Shut) pages s page (own_within pages s own)
-
-pub wish_at-set : (pages : Pages) (s : ℕ) (page : Page) → is_own pages s ≡ true → (k : ℕ) → wish_at (set pages s (Some page)) k ≡ put (wish_at pages) s page.is_wished k
-unfolding wish_at
-wish_at-set pages s page own = part-set (λ p. option_map_or (λ (q : Page). q.is_wished) p false) pages s page (own_within pages s own)
-
-written_is_own : (pages : Pages) (s : ℕ) (page : Page) → is_own pages s ≡ true → (k : ℕ) → is_own (set pages s (Some page)) k ≡ put (is_own pages) s true k
-unfolding is_own
-written_is_own pages s page own = part-set is_some pages s page (own_within pages s own)
-
-pub is_own-set : (pages : Pages) (s : ℕ) (page : Page) → is_own pages s ≡ true → (k : ℕ) → is_own (set pages s (Some page)) k ≡ is_own pages k
-is_own-set pages s page own k = written_is_own pages s page own k ∙
-    elim (eqb_tells k s) as (λ _. put (is_own pages) s true k ≡ is_own pages k) [
-      | inl e ↦ rw (e.0, e.1) (sym own)
+part-put : {X : Type 0} (part : Option Page → X) (old new : Pages) (s : ℕ) (page : Page) → ((k : ℕ) → page_of new k ≡ put (page_of old) s (Some page) k) → (k : ℕ)
+    → part (page_of new k) ≡ put (λ j. part (page_of old j)) s (part (Some page)) k
+part-put part old new s page written k = ap part (written k) ∙
+    elim (eqb_tells k s) as (λ _. part (put (page_of old) s (Some page) k) ≡ put (λ j. part (page_of old j)) s (part (Some page)) k) [
+      | inl e ↦ rw (e.0) refl
       | inr e ↦ rw (e.0) refl
     ]
 
+-- of the written pages all is said that is said of pages
+pub record IsWritten (old new : Pages) (s : ℕ) (page : Page) : Type 0 where
+  pub homes : (k : ℕ) → is_own new k ≡ is_own old k
+  pub entry : (k : ℕ) → entry_at new k ≡ put (entry_at old) s (entry_of page.entry) k
+  pub wish : (k : ℕ) → wish_at new k ≡ put (wish_at old) s page.is_wished k
+
+pub writes : (old new : Pages) (s : ℕ) (page : Page) → is_own old s ≡ true → ((k : ℕ) → page_of new k ≡ put (page_of old) s (Some page) k) → IsWritten old new s page
+unfolding is_own entry_at wish_at
+writes old new s page own written = record {
+  homes = λ k. part-put is_some old new s page written k ∙
+      elim (eqb_tells k s) as (λ _. put (λ j. is_some (page_of old j)) s true k ≡ is_some (page_of old k)) [
+        | inl e ↦ rw (e.0, e.1) (sym own)
+        | inr e ↦ rw (e.0) refl
+      ];
+  entry = part-put (λ p. option_map_or (λ (q : Page). entry_of q.entry) p Shut) old new s page written;
+  wish = part-put (λ p. option_map_or (λ (q : Page). q.is_wished) p false) old new s page written;
+}
+
+-- ## The pages of a sheet
+
+page-map : (spots : List (Option Spot)) (k : ℕ) → option_and_then (λ page. page) (slice_get (map page_in spots) k) ≡ page_in (option_and_then (λ spot. spot) (slice_get spots k))
+page-map [] k = refl
+page-map (x ∷ xs) zero = refl
+page-map (x ∷ xs) (suc k) = page-map xs k
+
+pub page_of_sheet : (sheet : Sheet) (k : ℕ) → page_of (pages_on sheet) k ≡ page_on sheet k
+page_of_sheet sheet k = page-map sheet k
+
+pub own_on : (sheet : Sheet) (s : ℕ) → is_own (pages_on sheet) s ≡ true → is_some (page_on sheet s) ≡ true
+unfolding is_own
+own_on sheet s own = ap is_some (sym (page_of_sheet sheet s)) ∙ own
+
+-- what is written on a sheet is written in the book
+pub sheet_writes : (old new : Sheet) (s : ℕ) (page : Page) → is_own (pages_on old) s ≡ true → ((k : ℕ) → page_on new k ≡ put (page_on old) s (Some page) k) → IsWritten (pages_on old) (pages_on new) s page
+sheet_writes old new s page own written = writes (pages_on old) (pages_on new) s page own
+    (λ k. page_of_sheet new k ∙ written k ∙ elim (eqb_tells k s) as (λ _. put (page_on old) s (Some page) k ≡ put (page_of (pages_on old)) s (Some page) k) [
+      | inl e ↦ rw (e.0) refl
+      | inr e ↦ rw (e.0) (sym (page_of_sheet old k))
+    ])
+
 -- ## A new book
 
--- a page for each of the first sections whose home is c, and none for the others
-pub record HasShutPages (line : Line) (c n : ℕ) (shut : Page) (pages : Pages) : Type 0 where
-  pub count : length pages ≡ n
-  pub each : (k : ℕ) → k < n → slice_get pages k ≡ Some (cond (is_home line c k) (Some shut) None)
+home_page : (o : Option Section) (c : ℕ) (page : Page) → is_some (option_map (λ (t : ℕ). page) (option_and_then (λ p. if p.home == c then Some p.track else None) o)) ≡ option_map_or (λ p. p.home == c) o false
+home_page None c page = refl
+home_page (Some p) c page = by_home (p.home == c)
+  where
+    by_home : (b : Bool) → is_some (option_map (λ (t : ℕ). page) (cond b (Some p.track) None)) ≡ b
+    by_home true = refl
+    by_home false = refl
 
--- no number past the last section is of a home
-past_is_foreign : (line : Line) (c k : ℕ) → length line.sections ≤ k → is_home line c k ≡ false
-past_is_foreign line c k past = ap (λ o. option_map_or (λ p. p.home == c) o false) (slice_get_past line.sections k past)
-
-module _ (line : Line) (c n : ℕ) (shut : Page) (pages : Pages) (whole : HasShutPages line c n shut pages) (all : n ≡ length line.sections) where
-  -- the page of each section
-  new_page : (k : ℕ) → page_of pages k ≡ cond (is_home line c k) (Some shut) None
-  new_page k =
-      elim (cases_lt k (length line.sections)) [
-        | inl within ↦ ap (option_and_then (λ p. p)) (whole.each k (omega arith))
-        | inr past ↦
-            ap (option_and_then (λ p. p)) (slice_get_past pages k (omega (arith, whole.count)))
-            ∙ ap (λ b. cond b (Some shut) None) (sym (past_is_foreign line c k past))
-      ]
-
-  pub new_home : (k : ℕ) → is_own pages k ≡ is_home line c k
+module _ (line : Line) (c : ℕ) (page : Page) (sheet : Sheet) (pages : (k : ℕ) → page_on sheet k ≡ option_map (λ (t : ℕ). page) (home_track line c k)) where
+  pub new_home : (k : ℕ) → is_own (pages_on sheet) k ≡ is_home line c k
   unfolding is_own
-  new_home k = ap is_some (new_page k) ∙ elim (is_home line c k) as (λ b. is_some (cond b (Some shut) None) ≡ b) [ true ↦ refl | false ↦ refl ]
+  new_home k = ap is_some (page_of_sheet sheet k ∙ pages k) ∙ home_page (slice_get line.sections k) c page
 
-  pub new_entry : entry_of shut.entry ≡ Shut → (k : ℕ) → entry_at pages k ≡ Shut
+  pub new_entry : entry_of page.entry ≡ Shut → (k : ℕ) → entry_at (pages_on sheet) k ≡ Shut
   unfolding entry_at
-  new_entry is_shut k =
-      ap (λ p. option_map_or (λ (q : Page). entry_of q.entry) p Shut) (new_page k)
-      ∙ elim (is_home line c k) as (λ b. option_map_or (λ (q : Page). entry_of q.entry) (cond b (Some shut) None) Shut ≡ Shut) [ true ↦ is_shut | false ↦ refl ]
+  new_entry is_shut k = ap (λ o. option_map_or (λ (q : Page). entry_of q.entry) o Shut) (page_of_sheet sheet k ∙ pages k) ∙ by_home (home_track line c k)
+    where
+      by_home : (o : Option ℕ) → option_map_or (λ (q : Page). entry_of q.entry) (option_map (λ (t : ℕ). page) o) Shut ≡ Shut
+      by_home None = refl
+      by_home (Some t) = is_shut
 
-  pub new_wish : shut.is_wished ≡ false → (k : ℕ) → wish_at pages k ≡ false
+  pub new_wish : page.is_wished ≡ false → (k : ℕ) → wish_at (pages_on sheet) k ≡ false
   unfolding wish_at
-  new_wish unwished k =
-      ap (λ p. option_map_or (λ (q : Page). q.is_wished) p false) (new_page k)
-      ∙ elim (is_home line c k) as (λ b. option_map_or (λ (q : Page). q.is_wished) (cond b (Some shut) None) false ≡ false) [ true ↦ unwished | false ↦ refl ]
+  new_wish unwished k = ap (λ o. option_map_or (λ (q : Page). q.is_wished) o false) (page_of_sheet sheet k ∙ pages k) ∙ by_home (home_track line c k)
+    where
+      by_home : (o : Option ℕ) → option_map_or (λ (q : Page). q.is_wished) (option_map (λ (t : ℕ). page) o) false ≡ false
+      by_home None = refl
+      by_home (Some t) = unwished
+
+-- ## Open sections
+
+open_on : (sheet : Sheet) (s : ℕ) → is_open_on sheet s ≡ is_open (entry_at (pages_on sheet) s)
+unfolding entry_at
+open_on sheet s = by_spot (spot_on sheet s) ∙ ap (λ o. is_open (option_map_or (λ (q : Page). entry_of q.entry) o Shut)) (sym (page_of_sheet sheet s))
+  where
+    by_spot : (o : Option Spot) → is_open_in o ≡ is_open (option_map_or (λ (q : Page). entry_of q.entry) (page_in o) Shut)
+    by_spot None = refl
+    by_spot (Some spot) = refl
+
+pub longest_open : (sheet : Sheet) (first most : ℕ) → longest (is_open_on sheet) first most ≡ longest (λ s. is_open (entry_at (pages_on sheet) s)) first most
+longest_open sheet first most = ap (λ (test : ℕ → Bool). longest test first most) (λ i s. open_on sheet s i)

@@ -1,4 +1,7 @@
 pub mod Entries
+pub mod Sheet
+pub mod Runs
+pub mod Edits
 pub mod Book
 pub mod Claim
 pub mod Answers

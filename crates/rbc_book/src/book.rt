@@ -1,12 +1,13 @@
 ghost use Rattle.std.specs.Prelude.{◌≡◌, ℕ, ◌==◌, ◌&&◌, not, true, false, if◌then◌else◌, IfOk, OnErr, MatchResult};
 ghost use Rattle.rbc_spec.specs.Centre as spec;
 ghost use Rattle.rbc_spec.specs.Line.{is_home};
+ghost use Rattle.rbc_spec.specs.SectionRuns.{longest};
 ghost use Rattle.rbc_spec.specs.Maps.{put};
-ghost use Rattle.rbc_book.specs.Book.{page_of};
 
 use crate::answer::{Back, NotHome, Unset};
 use crate::claim::Claim;
 use crate::page::{Entry, Page};
+use crate::runs::Runs;
 use rbc_line::Line;
 use std::alloc::{AllocError, Global};
 use std::marker::Model;
@@ -14,16 +15,17 @@ use std::marker::Model;
 /// The home sections of one centre: of each a page. Sections are numbered over the whole line.
 #[derive(Debug, Drop)]
 pub struct Book {
-    /// A page for each section of the line whose home the centre is.
-    pages: Vec<Option<Page>>,
+    /// The page of each section of the line whose home the centre is.
+    runs: Runs,
 }
 
 impl Model for Book {
     ghost use Rattle.rbc_book.specs.Book.{Pages};
+    ghost use Rattle.rbc_book.specs.Sheet.{pages_on};
 
     ghost Value = { Pages };
 
-    ghost view = { λ b. b.pages.items };
+    ghost view = { λ b. pages_on b.runs };
 }
 
 impl Book {
@@ -39,17 +41,8 @@ impl Book {
         ensures entry { IfOk result (λ b. (k : ℕ) → entry_at b k ≡ spec.Shut) }
         ensures wish { IfOk result (λ b. (k : ℕ) → wish_at b k ≡ false) }
     {
-        let count = line.section_count();
-        let mut pages = Vec::with_capacity(alloc, count as usize)?;
-        for s in 0..count {
-            let page = if line.is_home(centre, s) {
-                Some(Page::SHUT)
-            } else {
-                None
-            };
-            pages.push(page)?;
-        }
-        Ok(Book { pages })
+        let runs = Runs::new(alloc, line, centre, Page::SHUT)?;
+        Ok(Book { runs })
     }
 
     /// Whether the section is of this book's home.
@@ -57,7 +50,7 @@ impl Book {
     pub fn has(&self, s: u16) -> bool
         ensures { result ≡ is_own self.now s }
     {
-        own_page(&self.pages, s).is_some()
+        self.runs.page(s).is_some()
     }
 
     /// What the book has of a section; one of another home, or of no line, is shut.
@@ -66,7 +59,21 @@ impl Book {
         ensures wish { result.is_wished ≡ wish_at self.now s }
         ensures foreign { is_own self.now s ≡ false → result ≡ Page.SHUT }
     {
-        own_page(&self.pages, s).unwrap_or(Page::SHUT)
+        self.runs.page(s).unwrap_or(Page::SHUT)
+    }
+
+    /// How many sections from the first on are open, one after another, at most so many.
+    pub fn open_run(&self, first: u16, most: u16) -> u16
+        ensures { result ≡ longest (λ s. is_open (entry_at self.now s)) first most }
+    {
+        self.runs.open_run(first, most)
+    }
+
+    // Finds a section, so that what reads or writes it next has it at once.
+    fn seek(&mut self, s: u16)
+        ensures { self.new ≡ self.old }
+    {
+        self.runs.seek(s);
     }
 
     // Writes the page of a section of this book's home.
@@ -76,7 +83,7 @@ impl Book {
         ensures entry { (k : ℕ) → entry_at self.new k ≡ put (entry_at self.old) s (entry_of entry) k }
         ensures wish { (k : ℕ) → wish_at self.new k ≡ put (wish_at self.old) s is_wished k }
     {
-        self.pages[s as usize] = Some(Page { entry, is_wished });
+        self.runs.write(s, Page { entry, is_wished });
     }
 
     /// The interlocking releases a section: one that is in no use becomes open, and a wish to have it back ends.
@@ -90,6 +97,7 @@ impl Book {
             ≡ (if is_own self.old s && (k == s) then false else wish_at self.old k) }
         ensures err { OnErr result (self.new ≡ self.old) }
     {
+        self.seek(s);
         if !self.has(s) {
             return Err(NotHome);
         }
@@ -115,6 +123,7 @@ impl Book {
             ≡ (if is_own self.old s && (k == s) then not (is_unused (entry_at self.old s)) else wish_at self.old k) }
         ensures err { OnErr result (self.new ≡ self.old) }
     {
+        self.seek(s);
         if !self.has(s) {
             return Err(NotHome);
         }
@@ -136,6 +145,7 @@ impl Book {
             ≡ (if is_open (entry_at self.old s) && (k == s) then spec.Taken nid_engine else entry_at self.old k) }
         ensures wish { (k : ℕ) → wish_at self.new k ≡ wish_at self.old k }
     {
+        self.seek(s);
         let page = self.page(s);
         if !page.entry.is_open() {
             return None;
@@ -162,6 +172,7 @@ impl Book {
             section,
             nid_engine,
         } = claim;
+        self.seek(section);
         let page = self.page(section);
         if !page.entry.is_taken_for(nid_engine) {
             return Back::Open;
@@ -188,6 +199,7 @@ impl Book {
             section,
             nid_engine,
         } = claim;
+        self.seek(section);
         let page = self.page(section);
         if page.entry.is_taken_for(nid_engine) {
             self.write(section, Entry::Out { nid_engine }, page.is_wished);
@@ -203,6 +215,7 @@ impl Book {
             then spec.Taken nid_engine else entry_at self.old k) }
         ensures wish { (k : ℕ) → wish_at self.new k ≡ wish_at self.old k }
     {
+        self.seek(s);
         let page = self.page(s);
         if !page.entry.is_out_for(nid_engine) {
             return None;
@@ -213,11 +226,4 @@ impl Book {
             nid_engine,
         })
     }
-}
-
-/// The page of a section of the book's home.
-fn own_page(pages: &[Option<Page>], s: u16) -> Option<Page>
-    ensures { result ≡ page_of pages.now s }
-{
-    pages.get(s as usize).copied().flatten()
 }

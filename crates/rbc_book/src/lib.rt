@@ -9,7 +9,11 @@
 mod answer;
 mod book;
 mod claim;
+mod edits;
+mod moves;
 mod page;
+mod run;
+mod runs;
 
 pub use answer::{Back, NotHome, Unset};
 pub use book::Book;

@@ -1,9 +1,7 @@
 ghost use Rattle.std.specs.Prelude.{ℕ, ◌≡◌, ◌+◌, ◌≤◌, None, option_map, IfSome};
-ghost use Rattle.rbc_spec.specs.SectionRuns.{longest};
-ghost use Rattle.rbc_spec.specs.Centre.{Centre, is_open};
+ghost use Rattle.rbc_spec.specs.Centre.{Centre};
 ghost use Rattle.rbc_spec.specs.Frame.{RouteInfo, HasRunRange};
 ghost use Rattle.rbc_spec.specs.Links.{route_asked};
-ghost use Rattle.rbc_book.specs.Book.{entry_at};
 ghost use Rattle.rbc_hand.specs.Hands.{one};
 ghost use Rattle.rbc_hand.specs.SectionRuns.{run_of};
 ghost use Rattle.rbc_border.specs.Lending.{HasBook, with_book, LendsRun, sending};
@@ -12,19 +10,6 @@ use crate::homes::stretch;
 use rbc_book::Book;
 use rbc_hand::SectionRun;
 use rbc_line::Line;
-
-// How many sections from the first on are released and in no use, one after another, at most so many.
-fn open_run(book: &Book, first: u16, most: u16) -> u16
-    requires { first + most ≤ 65535 }
-    ensures { result ≡ longest (λ s. is_open (entry_at book.now s)) first most }
-{
-    for k in 0..most {
-        if !book.page(first + k).entry.is_open() {
-            return k;
-        }
-    }
-    most
-}
 
 // Lends a section, where it is open.
 fn lend_one(book: &mut Book, nid_engine: u32, s: u16)
@@ -64,7 +49,7 @@ pub fn lend(
 {
     let section = line.section(first)?;
     let on_track = stretch(line, centre, section.track, first, most);
-    let count = open_run(book, first, on_track);
+    let count = book.open_run(first, on_track);
     let run = SectionRun { first, count };
     lend_run(book, nid_engine, run);
     Some(run)

@@ -1,4 +1,4 @@
-ghost use Rattle.std.specs.Prelude.{◌≡◌, ◌-◌, ◌≤◌, ◌||◌};
+ghost use Rattle.std.specs.Prelude.{◌≡◌, ◌+◌, ◌-◌, ◌<◌, ◌≤◌, ◌||◌, ℕ, true};
 ghost use Rattle.rbc_spec.specs.SectionRuns.{behind, longest, within};
 ghost use Rattle.rbc_spec.specs.Centre.{is_open};
 ghost use Rattle.rbc_spec.specs.Place.{group_start};
@@ -31,19 +31,41 @@ pub(crate) fn following(
     ensures bound { result ≤ 32 - hand.count }
 {
     let room = Hand::ROOM.saturating_sub(hand.count);
+    let open = open_behind(book, hand, room);
     for k in 0..room {
         let s = hand.behind() + u32::from(k);
-        if !may_follow(line, book, pool, place, start, s) {
+        let is_known_open = k < open;
+        if !may_follow(line, book, pool, place, start, s, is_known_open) {
             return k;
         }
     }
     room
 }
 
+// How many sections behind the hand are open in this book, one after another, at most so many.
+fn open_behind(book: &Book, hand: SectionRun, most: u16) -> u16
+    ensures { (k : ℕ) → k < result → is_open (entry_at book.now (behind (run_of hand) + k)) ≡ true }
+{
+    let first = hand.behind();
+    if first > u32::from(u16::MAX) {
+        return 0;
+    }
+    book.open_run(first as u16, most)
+}
+
 // Whether the section may follow in the hand of a train at this place: on its track, open in this book or of the pool, and its end not
-// too far from the group, which is at this start.
+// too far from the group, which is at this start. Where it is known to be open, the book is not asked.
 #[inline(always)]
-fn may_follow(line: &Line, book: &Book, pool: SectionRun, place: &Place, start: u32, s: u32) -> bool
+fn may_follow(
+    line: &Line,
+    book: &Book,
+    pool: SectionRun,
+    place: &Place,
+    start: u32,
+    s: u32,
+    is_known_open: bool,
+) -> bool
+    requires known { is_known_open ≡ true → is_open (entry_at book.now s) ≡ true }
     requires start { start ≡ group_start line.now (place_of place.now) }
     requires bound { start ≤ 1024000 }
     ensures { result ≡ grants.may_follow line.now book.now (run_of pool) (place_of place.now) s }
@@ -52,7 +74,7 @@ fn may_follow(line: &Line, book: &Book, pool: SectionRun, place: &Place, start: 
         return false;
     }
     is_on(line, place.track, s)
-        && is_free(book, pool, s as u16)
+        && (is_known_open || is_free(book, pool, s as u16))
         && section_end(line, s) <= start + MOST_METRES
 }
 

@@ -1,19 +1,8 @@
-use Rattle.std.proofs.Common.{refl, arith}
+use Rattle.std.proofs.Common.{arith}
 use Rattle.rbc_border.proofs.HomeParts.{found}
 use Rattle.rbc_border.proofs.Loans.{IsLending, stretch_below, few, lent_range, asked_some}
 use Rattle.rbc_border.proofs.lending.lend.Goals.{After-lend_run}
 use Rattle.rbc_border.proofs.lending.lend.Goals as goal
-
-pub open_run-count-requires : goal.open_run-count-requires
-open_run-count-requires c =
-    let lending : IsLending c.args.line.now c.args.centre c.args.first c.args.most c.args.book.now c.in_ok-section.section c.stretch-on_track.result _ = record {
-      rules = c.section.ensures.line;
-      first = found c.args.line.now c.args.first c.section.result c.in_ok-section.section c.section.ensures.value c.in_ok-section.was;
-      stretch = c.stretch-on_track.ensures;
-      released = refl;
-    } in
-    let below = stretch_below _ _ _ _ _ _ _ _ lending in
-    omega (arith, below)
 
 pub lend_run-requires : goal.lend_run-requires
 lend_run-requires c =

@@ -1,10 +1,17 @@
-use Rattle.std.proofs.Common.{◌+◌, sym, ap, ◌∙◌, arith}
+use Rattle.std.proofs.Common.{◌≡◌, ◌+◌, sym, ap, ◌∙◌, ltb-true, arith}
+use Rattle.rbc_spec.specs.Centre.{is_open}
+use Rattle.rbc_book.specs.Book.{entry_at}
 use Rattle.rbc_spec.specs.SectionRuns.{behind, longest}
 use Rattle.rbc_hand.specs.SectionRuns.{run_of}
 use Rattle.rbc_place.specs.Places.{place_of}
 use Rattle.rbc_place.proofs.Longest.{stops, one_more, all_passed}
 use Rattle.rbc_grant.specs.Grants.{may_follow}
 use Rattle.rbc_grant.proofs.follow.following.Goals as goal
+
+pub may_follow-requires-clause-known : goal.may_follow-requires-clause-known
+may_follow-requires-clause-known c known =
+    let at : behind (run_of c.args.hand) + c.loop-k.k ≡ c.behind.result + c.from.result = omega (arith, c.behind.ensures, c.from.ensures) in
+    ap (λ s. is_open (entry_at c.args.book.now s)) (sym at) ∙ c.open_behind-open.ensures c.loop-k.k (ltb-true c.loop-k.k c.open_behind-open.result known)
 
 pub returns-then-not-may_follow-clause-value : goal.returns-then-not-may_follow-clause-value
 returns-then-not-may_follow-clause-value c =

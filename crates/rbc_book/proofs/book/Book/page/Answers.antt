@@ -1,20 +1,18 @@
-use Rattle.std.proofs.Common.{◌≡◌, ℕ, Option, unwrap_or, refl, ap, ◌∙◌}
-use Rattle.rbc_book.specs.Book.{Pages, page_of}
-use Rattle.rbc_book.specs.declared.page.Page.{Page}
+use Rattle.std.proofs.Common.{refl, sym, ap, ◌∙◌}
+use Rattle.rbc_book.specs.Book.{page_of}
 use Rattle.rbc_book.specs.declared.page.TheConstants as constants
-use Rattle.rbc_book.proofs.Pages.{IsRead, reads}
+use Rattle.rbc_book.proofs.Pages.{IsRead, reads, page_of_sheet}
 use Rattle.rbc_book.proofs.book.Book.page.Goals as goal
 
-read_row : (pages rows : Pages) (row : Pages) (s : ℕ) (page : Page) (own : Option Page) → row ≡ rows → rows ≡ pages → own ≡ page_of row s → page ≡ unwrap_or own constants.Page.SHUT
-    → IsRead pages s page constants.Page.SHUT
-read_row pages rows row s page own same view at read =
-    reads pages s page constants.Page.SHUT own refl refl (at ∙ ap (λ xs. page_of xs s) (same ∙ view)) read
+read : (c : goal.After-unwrap_or) → IsRead c.args.self.now c.args.s c.unwrap_or.result constants.Page.SHUT
+read c = reads c.args.self.now c.args.s c.unwrap_or.result constants.Page.SHUT c.page.result refl refl
+    (c.page.ensures ∙ sym (page_of_sheet c.self.inside.runs c.args.s) ∙ ap (λ pages. page_of pages c.args.s) c.self.view_is) c.unwrap_or.ensures
 
 pub returns-clause-entry : goal.returns-clause-entry
-returns-clause-entry c = (read_row _ _ _ c.args.s c.unwrap_or.result _ c.deref.ensures.value c.self.view_is c.own_page.ensures c.unwrap_or.ensures).entry
+returns-clause-entry c = (read c).entry
 
 pub returns-clause-wish : goal.returns-clause-wish
-returns-clause-wish c = (read_row _ _ _ c.args.s c.unwrap_or.result _ c.deref.ensures.value c.self.view_is c.own_page.ensures c.unwrap_or.ensures).wish
+returns-clause-wish c = (read c).wish
 
 pub returns-clause-foreign : goal.returns-clause-foreign
-returns-clause-foreign c = (read_row _ _ _ c.args.s c.unwrap_or.result _ c.deref.ensures.value c.self.view_is c.own_page.ensures c.unwrap_or.ensures).foreign
+returns-clause-foreign c = (read c).foreign

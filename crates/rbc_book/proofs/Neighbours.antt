@@ -1,0 +1,167 @@
+-- Laws of a section that goes over to the run before its own, or to the one behind.
+use Rattle.std.proofs.Common.{◌≢◌, subst, ◌≡◌, ℕ, zero, suc, ◌+◌, ◌-◌, ◌<◌, nat_lt, inl, inr, true, false, List, [], ◌∷◌, set, Some, refl, ap, sym, ◌∙◌, arith}
+use Rattle.std.proofs.lemmas.Bool.{and_left, and_right, le-ltb}
+use Rattle.std.proofs.lemmas.Bool.Decides.{eqb_tells}
+use Rattle.rbc_spec.specs.SectionRuns.{within}
+use Rattle.law_base.proofs.Runs.{within_from, within_behind}
+use Rattle.rbc_book.specs.Sheet.{page_in}
+use Rattle.rbc_book.specs.Runs.{At, AreInOrder, AreApart, GoesOn, GoesOnAt, sections_of}
+use Rattle.rbc_book.specs.Edits.{before, from, is_inside, split_at, joined, joined_at, with_page, IsSingledOut, IsWritten}
+use Rattle.rbc_book.specs.declared.page.Page.{Page}
+use Rattle.rbc_book.specs.declared.run.Run.{Run}
+use Rattle.rbc_book.proofs.Rows.{at_is, at_next, order_at, most_is, spot_of_run}
+use Rattle.rbc_book.proofs.Splits.{inside_from, split-outside, at_first, at_second, single_first, single_inside}
+use Rattle.rbc_book.proofs.Joins.{goes_on_at}
+use Rattle.rbc_book.proofs.Writes.{written_behind}
+
+-- ## The page is the same
+
+pub same_written : (s i : ℕ) (page : Page) (runs : List Run) (r : Run) → AreInOrder 0 runs → AreApart runs → At (λ q. within (sections_of q) s ≡ true) i runs → At (λ q. q ≡ r) i runs
+    → r.page ≡ page → IsWritten s page runs runs
+same_written s i page runs r order apart has at same =
+    let said = spot_of_run 0 runs i s r order at (at_is (λ q. within (sections_of q) s ≡ true) runs i r has at) in
+    record {
+      order = order;
+      apart = apart;
+      count = refl;
+      pages = λ k. elim (eqb_tells k s) [
+        | inl e ↦ rw (e.0, e.1) (ap page_in said ∙ ap (λ p. Some p) same)
+        | inr e ↦ rw (e.0) refl
+      ];
+      tracks = λ k. refl;
+    }
+
+-- ## To the run before
+
+-- the first section of a run, as it is used from now on
+abbrev pub first_of : Page → Run → Run
+first_of page r = record { first = r.first; count = 1; track = r.track; page = page }
+
+-- the run without it
+abbrev pub without_first : ℕ → Run → Run
+without_first s r = record { first = s + 1; count = r.count - 1; track = r.track; page = r.page }
+
+ahead-is : (a s : ℕ) (runs : List Run) (q r m : Run) → At (λ p. p ≡ q) a runs → At (λ p. p ≡ r) (suc a) runs → is_inside (s + 1) r ≡ true
+    → set (set runs a (joined q m)) (suc a) (from (s + 1) r) ≡ joined_at a (set (split_at (suc a) (s + 1) runs) (suc a) m)
+ahead-is a s [] q r m at next inside = absurd at
+ahead-is zero s (x ∷ []) q r m at next inside = absurd next
+ahead-is zero s (x ∷ y ∷ ys) q r m at next inside = rw (at, next) (rw inside refl)
+ahead-is (suc a) s (x ∷ xs) q r m at next inside = ap (λ rs. x ∷ rs) (ahead-is a s xs q r m at next inside)
+
+ahead-on : (a s : ℕ) (runs : List Run) (q r m : Run) → At (λ p. p ≡ q) a runs → At (λ p. p ≡ r) (suc a) runs → is_inside (s + 1) r ≡ true → GoesOn q m
+    → GoesOnAt a (set (split_at (suc a) (s + 1) runs) (suc a) m)
+ahead-on a s [] q r m at next inside on = absurd at
+ahead-on zero s (x ∷ []) q r m at next inside on = absurd next
+ahead-on zero s (x ∷ y ∷ ys) q r m at next inside on = rw (at, next) (rw inside on)
+ahead-on (suc a) s (x ∷ xs) q r m at next inside on = ahead-on a s xs q r m at next inside on
+
+ahead-off : (a s : ℕ) (runs : List Run) (r m : Run) → At (λ p. p ≡ r) (suc a) runs → is_inside (s + 1) r ≡ true → m.page ≢ r.page
+    → GoesOnAt (suc a) (set (split_at (suc a) (s + 1) runs) (suc a) m) → ⊥
+ahead-off a s [] r m next inside other = absurd next
+ahead-off zero s (x ∷ []) r m next inside other = absurd next
+ahead-off zero s (x ∷ y ∷ ys) r m next inside other = rw next (rw inside (λ h. other h.2))
+ahead-off (suc a) s (x ∷ xs) r m next inside other = ahead-off a s xs r m next inside other
+
+first-is : (s : ℕ) (page : Page) (r : Run) → r.first ≡ s → with_page page (before (s + 1) r) ≡ first_of page r
+first-is s page r first = let one : s + 1 - r.first ≡ 1 = omega (arith, first) in λ i. record { first = r.first; count = one i; track = r.track; page = page }
+
+rest-is : (s : ℕ) (r : Run) → r.first ≡ s → from (s + 1) r ≡ without_first s r
+rest-is s r first = let rest : r.count - (s + 1 - r.first) ≡ r.count - 1 = omega (arith, first) in λ i. record { first = s + 1; count = rest i; track = r.track; page = r.page }
+
+module _ (a s : ℕ) (page : Page) (runs : List Run) (q r : Run) (at : At (λ p. p ≡ q) a runs) (next : At (λ p. p ≡ r) (suc a) runs) (first : r.first ≡ s) (some : 1 < r.count)
+    (on : GoesOn q (first_of page r)) (order : AreInOrder 0 runs) (apart : AreApart runs) where
+  -- the page is another: else the two runs could be one
+  other : page ≢ r.page
+  other same = apart a (goes_on_at a runs q r at next (on.0, on.1, on.2 ∙ same))
+
+  inside : is_inside (s + 1) r ≡ true
+  inside = inside_from (s + 1) r (omega (arith, first)) (omega (arith, first, some))
+
+  out : IsSingledOut s runs (split_at (suc a) (s + 1) runs) (suc a)
+  out =
+      let outside : is_inside s r ≡ false = and_left (nat_lt r.first s) (within (sections_of r) s) (le-ltb r.first s (omega (arith, first))) in
+      subst (λ mid. IsSingledOut s runs (split_at (suc a) (s + 1) mid) (suc a)) (split-outside (suc a) s runs r next outside)
+      (single_first s (suc a) runs r next (within_from (sections_of r) s (omega (arith, first)) (omega (arith, first, some))) (omega (arith, first)) order apart)
+
+  abbrev m : Run
+  m = with_page page (before (s + 1) r)
+
+  on_m : GoesOn q m
+  on_m = subst (GoesOn q) (sym (first-is s page r first)) on
+
+  moved : IsWritten s page runs (set (set runs a (joined q m)) (suc a) (from (s + 1) r))
+  moved = written_behind s (suc a) page runs (split_at (suc a) (s + 1) runs) (before (s + 1) r) out (at_first (suc a) (s + 1) runs r next inside)
+      (set (split_at (suc a) (s + 1) runs) (suc a) m) (set (set runs a (joined q m)) (suc a) (from (s + 1) r)) a refl
+      (inl (refl, ahead-off a s runs r m next inside other)) (inr (ahead-is a s runs q r m at next inside, ahead-on a s runs q r m at next inside on_m))
+
+  pub moved_ahead : IsWritten s page runs (set (set runs a (joined q (first_of page r))) (a + 1) (without_first s r))
+  moved_ahead =
+      let here : suc a ≡ a + 1 = omega arith in
+      subst (λ n. IsWritten s page runs (set (set runs a (joined q (first_of page r))) n (without_first s r))) here
+      (subst (λ x. IsWritten s page runs (set (set runs a (joined q x)) (suc a) (without_first s r))) (first-is s page r first)
+      (subst (λ x. IsWritten s page runs (set (set runs a (joined q m)) (suc a) x)) (rest-is s r first) moved))
+
+-- ## To the run behind
+
+-- the last section of a run, as it is used from now on
+abbrev pub last_of : ℕ → Page → Run → Run
+last_of s page r = record { first = s; count = 1; track = r.track; page = page }
+
+behind-is : (i s : ℕ) (runs : List Run) (r n m : Run) → At (λ p. p ≡ r) i runs → At (λ p. p ≡ n) (suc i) runs → is_inside s r ≡ true
+    → set (set runs i (before s r)) (suc i) (joined m n) ≡ joined_at (suc i) (set (split_at i s runs) (suc i) m)
+behind-is i s [] r n m at next inside = absurd at
+behind-is zero s (x ∷ []) r n m at next inside = absurd next
+behind-is zero s (x ∷ y ∷ ys) r n m at next inside = rw (at, next) (rw inside refl)
+behind-is (suc i) s (x ∷ xs) r n m at next inside = ap (λ rs. x ∷ rs) (behind-is i s xs r n m at next inside)
+
+behind-on : (i s : ℕ) (runs : List Run) (r n m : Run) → At (λ p. p ≡ r) i runs → At (λ p. p ≡ n) (suc i) runs → is_inside s r ≡ true → GoesOn m n
+    → GoesOnAt (suc i) (set (split_at i s runs) (suc i) m)
+behind-on i s [] r n m at next inside on = absurd at
+behind-on zero s (x ∷ []) r n m at next inside on = absurd next
+behind-on zero s (x ∷ y ∷ ys) r n m at next inside on = rw (at, next) (rw inside on)
+behind-on (suc i) s (x ∷ xs) r n m at next inside on = behind-on i s xs r n m at next inside on
+
+behind-off : (i s : ℕ) (runs : List Run) (r n m : Run) → At (λ p. p ≡ r) i runs → At (λ p. p ≡ n) (suc i) runs → is_inside s r ≡ true → r.page ≢ m.page
+    → GoesOnAt i (joined_at (suc i) (set (split_at i s runs) (suc i) m)) → ⊥
+behind-off i s [] r n m at next inside other = absurd at
+behind-off zero s (x ∷ []) r n m at next inside other = absurd next
+behind-off zero s (x ∷ y ∷ ys) r n m at next inside other = rw (at, next) (rw inside (λ h. other h.2))
+behind-off (suc i) s (x ∷ xs) r n m at next inside other = behind-off i s xs r n m at next inside other
+
+last-is : (s : ℕ) (page : Page) (r : Run) → s + 1 ≡ r.first + r.count → 1 < r.count → with_page page (from s r) ≡ last_of s page r
+last-is s page r last some = let one : r.count - (s - r.first) ≡ 1 = omega (arith, last, some) in λ i. record { first = s; count = one i; track = r.track; page = page }
+
+module _ (i s : ℕ) (page : Page) (runs : List Run) (r n : Run) (at : At (λ p. p ≡ r) i runs) (next : At (λ p. p ≡ n) (suc i) runs) (last : s + 1 ≡ r.first + r.count) (some : 1 < r.count)
+    (on : GoesOn (last_of s page r) n) (order : AreInOrder 0 runs) (apart : AreApart runs) where
+  differs : r.page ≢ page
+  differs same = apart i (goes_on_at i runs r n at next (omega (arith, last, on.0), on.1, same ∙ on.2))
+
+  has_last : is_inside s r ≡ true
+  has_last = inside_from s r (omega (arith, last, some)) (omega (arith, last))
+
+  second_at : At (λ p. p ≡ from s r) (suc i) (split_at i s runs)
+  second_at = at_second i s runs r at has_last
+
+  cut_out : IsSingledOut s runs (split_at i s runs) (suc i)
+  cut_out =
+      let outside : is_inside (s + 1) (from s r) ≡ false = and_right (nat_lt s (s + 1)) (within (sections_of (from s r)) (s + 1)) (within_behind (sections_of (from s r)) (s + 1) (omega (arith, last, some))) in
+      subst (λ mid. IsSingledOut s runs mid (suc i)) (split-outside (suc i) (s + 1) (split_at i s runs) (from s r) second_at outside)
+      (single_inside s i runs r at (within_from (sections_of r) s (omega (arith, last, some)) (omega (arith, last))) (omega (arith, last, some)) order apart)
+
+  abbrev l : Run
+  l = with_page page (from s r)
+
+  on_l : GoesOn l n
+  on_l = subst (λ x. GoesOn x n) (sym (last-is s page r last some)) on
+
+  shifted : IsWritten s page runs (set (set runs i (before s r)) (suc i) (joined l n))
+  shifted = subst (IsWritten s page runs) (sym (behind-is i s runs r n l at next has_last))
+      (written_behind s (suc i) page runs (split_at i s runs) (from s r) cut_out second_at
+      (joined_at (suc i) (set (split_at i s runs) (suc i) l)) (joined_at (suc i) (set (split_at i s runs) (suc i) l)) i refl
+      (inr (refl, behind-on i s runs r n l at next has_last on_l)) (inl (refl, behind-off i s runs r n l at next has_last differs)))
+
+  pub moved_behind : IsWritten s page runs (set (set runs i (before s r)) (i + 1) (joined (last_of s page r) n))
+  moved_behind =
+      let here : suc i ≡ i + 1 = omega arith in
+      subst (λ k. IsWritten s page runs (set (set runs i (before s r)) k (joined (last_of s page r) n))) here
+      (subst (λ x. IsWritten s page runs (set (set runs i (before s r)) (suc i) (joined x n))) (last-is s page r last some) shifted)

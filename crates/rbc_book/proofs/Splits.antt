@@ -1,0 +1,224 @@
+-- Laws of runs that are divided.
+use Rattle.std.proofs.Common.{◌⊎◌, subst, ◌≡◌, ℕ, zero, suc, ◌+◌, ◌-◌, ◌<◌, ◌≤◌, ◌||◌, nat_lt, inl, inr, Bool, true, false, cond, List, [], ◌∷◌, length, set, get_or, Some, refl, ap, sym, ◌∙◌, arith}
+use Rattle.std.specs.List.{insert}
+use Rattle.std.proofs.lemmas.Bool.{cases_lt, cases_Bool, and_parts, and_from, and_left, ltb-true, lt-ltb, le-ltb, or_left, or_right, or_cases, both_ways}
+use Rattle.rbc_spec.specs.SectionRuns.{within}
+use Rattle.law_base.proofs.Runs.{within_true, within_from, same_tests}
+use Rattle.rbc_book.specs.Runs.{At, AreInOrder, AreApart, GoesOn, IsFollowed, GoesOnAt, sections_of, sections_in, spot_of, spot_at}
+use Rattle.rbc_book.specs.Edits.{before, from, is_inside, split_at, IsSingledOut}
+use Rattle.rbc_book.specs.declared.run.Run.{Run}
+use Rattle.rbc_book.proofs.Rows.{at_is, at_read, at_from, at_within, order_at, fewer}
+
+-- ## One run
+
+-- where the section stands that is inside a run
+pub record IsInside (s : ℕ) (r : Run) : Type 0 where
+  pub behind_first : r.first < s
+  pub before_end : s < r.first + r.count
+
+pub inside_true : (s : ℕ) (r : Run) → is_inside s r ≡ true → IsInside s r
+inside_true s r h =
+    let both = and_parts (nat_lt r.first s) (within (sections_of r) s) h in
+    record { behind_first = ltb-true r.first s both.0; before_end = (within_true (sections_of r) s both.1).1 }
+
+pub inside_from : (s : ℕ) (r : Run) → r.first < s → s < r.first + r.count → is_inside s r ≡ true
+inside_from s r low high = and_from (nat_lt r.first s) (within (sections_of r) s) (lt-ltb r.first s low) (within_from (sections_of r) s (omega arith) high)
+
+-- a section is in the run where it is in one of the two parts
+divided : (s : ℕ) (r : Run) (k : ℕ) → IsInside s r → within (sections_of r) k ≡ (within (sections_of (before s r)) k || within (sections_of (from s r)) k)
+divided s r k inside = same_tests (within (sections_of r) k) (within (sections_of (before s r)) k || within (sections_of (from s r)) k)
+    (λ has. let ends = within_true (sections_of r) k has in
+    elim (cases_lt k s) [
+      | inl low ↦ or_left (within (sections_of (before s r)) k) (within (sections_of (from s r)) k) (within_from (sections_of (before s r)) k ends.0 (omega (arith, inside.behind_first)))
+      | inr high ↦ or_right (within (sections_of (before s r)) k) (within (sections_of (from s r)) k) (within_from (sections_of (from s r)) k high (omega (arith, inside.behind_first, inside.before_end, ends.1)))
+    ])
+    (λ one. elim (or_cases (within (sections_of (before s r)) k) (within (sections_of (from s r)) k) one) [
+      | inl low ↦ let ends = within_true (sections_of (before s r)) k low in within_from (sections_of r) k ends.0 (omega (arith, inside.behind_first, inside.before_end, ends.1))
+      | inr high ↦ let ends = within_true (sections_of (from s r)) k high in within_from (sections_of r) k (omega (arith, inside.behind_first, ends.0)) (omega (arith, inside.behind_first, inside.before_end, ends.1))
+    ])
+
+either : {X : Type 0} (whole a b : Bool) (x y : X) → whole ≡ (a || b) → cond a x (cond b x y) ≡ cond whole x y
+either whole true b x y is = rw is refl
+either whole false b x y is = rw is refl
+
+-- ## A row
+
+pub spots-split : (i s : ℕ) (runs : List Run) (k : ℕ) → spot_at (split_at i s runs) k ≡ spot_at runs k
+spots-split i s [] k = refl
+spots-split zero s (r ∷ rs) k = elim (cases_Bool (is_inside s r)) [
+  | inl inside ↦ rw inside (either (within (sections_of r) k) (within (sections_of (before s r)) k) (within (sections_of (from s r)) k) (Some (spot_of r)) (spot_at rs k) (divided s r k (inside_true s r inside)))
+  | inr outside ↦ rw outside refl
+]
+spots-split (suc i) s (r ∷ rs) k = ap (λ o. cond (within (sections_of r) k) (Some (spot_of r)) o) (spots-split i s rs k)
+
+pub order-split : (i s from_n : ℕ) (runs : List Run) → AreInOrder from_n runs → AreInOrder from_n (split_at i s runs)
+order-split i s n [] order = order
+order-split zero s n (r ∷ rs) order = elim (cases_Bool (is_inside s r)) [
+  | inl inside ↦
+      let is = inside_true s r inside in
+      let end : r.first + r.count ≡ s + (r.count - (s - r.first)) = omega (arith, is.behind_first, is.before_end) in
+      rw inside (
+        order.0,
+        omega (arith, is.behind_first),
+        omega (arith, is.behind_first, is.before_end, order.2),
+        (omega (arith, is.behind_first), omega (arith, is.behind_first, is.before_end), omega (arith, end, order.2), subst (λ m. AreInOrder m rs) end order.3),
+      )
+  | inr outside ↦ rw outside order
+]
+order-split (suc i) s n (r ∷ rs) order = (order.0, order.1, order.2, order-split i s (r.first + r.count) rs order.3)
+
+pub count-split : (i s : ℕ) (runs : List Run) → sections_in (split_at i s runs) ≡ sections_in runs
+count-split i s [] = refl
+count-split zero s (r ∷ rs) = elim (cases_Bool (is_inside s r)) [
+  | inl inside ↦ let is = inside_true s r inside in rw inside (omega (arith, is.behind_first, is.before_end))
+  | inr outside ↦ rw outside refl
+]
+count-split (suc i) s (r ∷ rs) = ap (λ n. r.count + n) (count-split i s rs)
+
+-- who follows a row that is divided follows it before
+first-split : (i s : ℕ) (r : Run) (rs : List Run) → IsFollowed r (split_at i s rs) → IsFollowed r rs
+first-split i s r [] h = h
+first-split zero s r (q ∷ qs) h = by_test (is_inside s q) h
+  where
+    by_test : (b : Bool) → IsFollowed r (cond b (before s q ∷ from s q ∷ qs) (q ∷ qs)) → GoesOn r q
+    by_test true h = h
+    by_test false h = h
+first-split (suc i) s r (q ∷ qs) h = h
+
+-- who follows the second part follows the run
+last-split : (s : ℕ) (r : Run) (rs : List Run) → IsInside s r → IsFollowed (from s r) rs → IsFollowed r rs
+last-split s r [] inside h = h
+last-split s r (q ∷ qs) inside h = (omega (arith, inside.behind_first, inside.before_end, h.0), h.1, h.2)
+
+-- two runs of a divided row that could be one stand at the place, or could be one before
+abbrev pub Seam : ℕ → List Run → ℕ → Type 0
+Seam i runs j = (j ≡ i) ⊎ (GoesOnAt j runs ⊎ ((m : ℕ) × (j ≡ suc m) × GoesOnAt m runs))
+
+pub seams-split : (i s : ℕ) (runs : List Run) (j : ℕ) → GoesOnAt j (split_at i s runs) → Seam i runs j
+seams-split i s [] j h = absurd h
+seams-split zero s (r ∷ rs) j h = by_test (is_inside s r) refl j h
+  where
+    by_test : (b : Bool) → is_inside s r ≡ b → (j : ℕ) → GoesOnAt j (cond b (before s r ∷ from s r ∷ rs) (r ∷ rs)) → Seam zero (r ∷ rs) j
+    by_test true e zero h = inl refl
+    by_test true e (suc zero) h = inr (inr (0, refl, last-split s r rs (inside_true s r e) h))
+    by_test true e (suc (suc j)) h = inr (inr (suc j, refl, h))
+    by_test false e j h = inr (inl h)
+seams-split (suc i) s (r ∷ rs) zero h = inr (inl (first-split i s r rs h))
+seams-split (suc i) s (r ∷ rs) (suc j) h = elim (seams-split i s rs j h) [
+  | inl here ↦ inl (ap suc here)
+  | inr other ↦ elim other [
+    | inl same ↦ inr (inl same)
+    | inr next ↦ inr (inr (suc next.0, ap suc next.1, next.2))
+  ]
+]
+
+-- ## What stands where after it
+
+-- the second part begins with the section, and ends where the run did
+pub at_second : (i s : ℕ) (runs : List Run) (r : Run) → At (λ q. q ≡ r) i runs → is_inside s r ≡ true → At (λ q. q ≡ from s r) (suc i) (split_at i s runs)
+at_second i s [] r at inside = absurd at
+at_second zero s (q ∷ qs) r at inside = rw at (rw inside refl)
+at_second (suc i) s (q ∷ qs) r at inside = at_second i s qs r at inside
+
+-- the first part ends in front of it
+pub at_first : (i s : ℕ) (runs : List Run) (r : Run) → At (λ q. q ≡ r) i runs → is_inside s r ≡ true → At (λ q. q ≡ before s r) i (split_at i s runs)
+at_first i s [] r at inside = absurd at
+at_first zero s (q ∷ qs) r at inside = rw at (rw inside refl)
+at_first (suc i) s (q ∷ qs) r at inside = at_first i s qs r at inside
+
+-- nothing changes where it is not inside
+pub split-outside : (i s : ℕ) (runs : List Run) (r : Run) → At (λ q. q ≡ r) i runs → is_inside s r ≡ false → split_at i s runs ≡ runs
+split-outside i s [] r at outside = refl
+split-outside zero s (q ∷ qs) r at outside = rw at (rw outside refl)
+split-outside (suc i) s (q ∷ qs) r at outside = ap (λ xs. q ∷ xs) (split-outside i s qs r at outside)
+
+pub split-past : (i s : ℕ) (runs : List Run) → length runs ≤ i → split_at i s runs ≡ runs
+split-past i s [] past = refl
+split-past zero s (q ∷ qs) past = absurd (let no : ⊥ = omega arith in no)
+split-past (suc i) s (q ∷ qs) past = ap (λ xs. q ∷ xs) (split-past i s qs (omega arith))
+
+-- as the row is changed
+pub split-inside : (i s : ℕ) (runs : List Run) (r : Run) → At (λ q. q ≡ r) i runs → is_inside s r ≡ true → insert (set runs i (before s r)) (suc i) (from s r) ≡ split_at i s runs
+split-inside i s [] r at inside = absurd at
+split-inside zero s (q ∷ qs) r at inside = rw at (rw inside refl)
+split-inside (suc i) s (q ∷ qs) r at inside = ap (λ xs. q ∷ xs) (split-inside i s qs r at inside)
+
+-- ## A section is singled out
+
+no_seam : (runs : List Run) → AreApart runs → (i j : ℕ) → Seam i runs j → j ≡ i
+no_seam runs apart i j seam = elim seam [
+  | inl here ↦ here
+  | inr other ↦ elim other [
+    | inl same ↦ absurd (apart j same)
+    | inr next ↦ absurd (apart next.0 next.2)
+  ]
+]
+
+-- of a row in which the section begins a run, and all that could be one ends in front of that
+module _ (s i : ℕ) (old mid : List Run) (r : Run) (begins : r.first ≡ s) (some : 1 ≤ r.count) (at : At (λ q. q ≡ r) i mid) (order : AreInOrder 0 mid)
+    (spots : (k : ℕ) → spot_at mid k ≡ spot_at old k) (count : sections_in mid ≡ sections_in old) (seams : (j : ℕ) → GoesOnAt j mid → suc j ≡ i) where
+  alone : At (λ q. (q.first ≡ s) × (q.count ≡ 1)) i (split_at i (s + 1) mid)
+  alone = elim (cases_Bool (is_inside (s + 1) r)) [
+    | inl inside ↦ at_from (λ q. (q.first ≡ s) × (q.count ≡ 1)) (split_at i (s + 1) mid) i (before (s + 1) r) (begins, omega (arith, begins)) (at_first i (s + 1) mid r at inside)
+    | inr outside ↦
+        let short : r.count ≡ 1 = elim (cases_lt 1 r.count) [
+          | inl long ↦ absurd (both_ways (is_inside (s + 1) r) outside (inside_from (s + 1) r (omega (arith, begins)) (omega (arith, begins))))
+          | inr short ↦ omega (arith, some)
+        ] in
+        at_from (λ q. (q.first ≡ s) × (q.count ≡ 1)) (split_at i (s + 1) mid) i r (begins, short) (rw (split-outside i (s + 1) mid r at outside) at)
+  ]
+
+  pub second : IsSingledOut s old (split_at i (s + 1) mid) i
+  second = record {
+    spots = λ k. spots-split i (s + 1) mid k ∙ spots k;
+    alone = alone;
+    order = order-split i (s + 1) 0 mid order;
+    count = count-split i (s + 1) mid ∙ count;
+    seams = λ j h. elim (seams-split i (s + 1) mid j h) [
+      | inl here ↦ inl here
+      | inr other ↦ elim other [
+        | inl same ↦ inr (seams j same)
+        | inr next ↦ inl (next.1 ∙ seams next.0 next.2)
+      ]
+    ];
+  }
+
+-- a section of a run, behind its first
+pub single_inside : (s i : ℕ) (runs : List Run) (r : Run) → At (λ q. q ≡ r) i runs → within (sections_of r) s ≡ true → r.first < s → AreInOrder 0 runs → AreApart runs
+    → IsSingledOut s runs (split_at (suc i) (s + 1) (split_at i s runs)) (suc i)
+single_inside s i runs r at has behind order apart =
+    let ends = within_true (sections_of r) s has in
+    let inside : is_inside s r ≡ true = inside_from s r behind ends.1 in
+    second s (suc i) runs (split_at i s runs) (from s r) refl (omega (arith, ends.1)) (at_second i s runs r at inside) (order-split i s 0 runs order)
+    (spots-split i s runs) (count-split i s runs) (λ j h. ap suc (no_seam runs apart i j (seams-split i s runs j h)))
+
+-- the first section of a run
+pub single_first : (s i : ℕ) (runs : List Run) (r : Run) → At (λ q. q ≡ r) i runs → within (sections_of r) s ≡ true → s ≤ r.first → AreInOrder 0 runs → AreApart runs
+    → IsSingledOut s runs (split_at i (s + 1) (split_at i s runs)) i
+single_first s i runs r at has low order apart =
+    let ends = within_true (sections_of r) s has in
+    let outside : is_inside s r ≡ false = and_left (nat_lt r.first s) (within (sections_of r) s) (le-ltb r.first s low) in
+    subst (λ mid. IsSingledOut s runs (split_at i (s + 1) mid) i) (sym (split-outside i s runs r at outside))
+    (second s i runs runs r (omega (arith, ends.0)) (order_at 0 runs i r order at).some at order (λ k. refl) refl (λ j h. absurd (apart j h)))
+
+-- ## The code
+
+-- what stands behind the place is put there
+pub split-put : (i s : ℕ) (runs : List Run) (r : Run) → At (λ q. q ≡ r) i runs → is_inside s r ≡ true → insert (set runs i (before s r)) (i + 1) (from s r) ≡ split_at i s runs
+split-put i s runs r at inside = ap (λ n. insert (set runs i (before s r)) n (from s r)) (let e : i + 1 ≡ suc i = omega arith in e) ∙ split-inside i s runs r at inside
+
+-- there is room for it
+pub room_for : (i s : ℕ) (runs : List Run) (r : Run) → AreInOrder 0 runs → At (λ q. q ≡ r) i runs → is_inside s r ≡ true → length runs < sections_in runs
+room_for i s runs r order at inside = let is = inside_true s r inside in fewer 0 runs i order (at_from (λ q. 1 < q.count) runs i r (omega (arith, is.behind_first, is.before_end)) at)
+
+-- a section is singled out, at this place or the next
+pub singled_out : (s i place : ℕ) (runs mid new : List Run) (r : Run) → At (λ q. within (sections_of q) s ≡ true) i runs → r ≡ get_or runs i r → AreInOrder 0 runs → AreApart runs
+    → mid ≡ split_at i s runs → new ≡ split_at place (s + 1) mid → ((r.first < s) × (place ≡ i + 1)) ⊎ ((s ≤ r.first) × (place ≡ i)) → IsSingledOut s runs new place
+singled_out s i place runs mid new r has is order apart one two where_it_is =
+    let at = at_read runs i r (at_within (λ q. within (sections_of q) s ≡ true) runs i has) is in
+    let here = at_is (λ q. within (sections_of q) s ≡ true) runs i r has at in
+    let whole : new ≡ split_at place (s + 1) (split_at i s runs) = two ∙ ap (split_at place (s + 1)) one in
+    subst (λ xs. IsSingledOut s runs xs place) (sym whole) (elim where_it_is [
+      | inl later ↦ subst (λ n. IsSingledOut s runs (split_at n (s + 1) (split_at i s runs)) n) (let e : suc i ≡ place = omega (arith, later.1) in e) (single_inside s i runs r at here later.0 order apart)
+      | inr first ↦ subst (λ n. IsSingledOut s runs (split_at n (s + 1) (split_at i s runs)) n) (sym first.1) (single_first s i runs r at here first.0 order apart)
+    ])

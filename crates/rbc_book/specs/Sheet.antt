@@ -1,0 +1,46 @@
+-- What runs say of sections, by their numbers over the whole line.
+use Rattle.std.specs.Prelude.{ℕ, ◌==◌, Bool, false, List, map, slice_get, Option, Some, None, option_map, option_and_then, if◌then◌else◌}
+use Rattle.std.specs.Option.{option_map_or}
+use Rattle.rbc_spec.specs.Line.{Line, section}
+use Rattle.rbc_spec.specs.Centre.{is_open}
+use Rattle.rbc_book.specs.Entries.{entry_of}
+use Rattle.rbc_book.specs.declared.page.Page.{Page}
+
+-- a section that has a page, and its track
+pub record Spot : Type 0 where
+  pub page : Page
+  pub track : ℕ
+
+abbrev pub page_in : Option Spot → Option Page
+page_in spot = option_map (λ s. s.page) spot
+
+abbrev pub track_in : Option Spot → Option ℕ
+track_in spot = option_map (λ s. s.track) spot
+
+-- a section has a page, and is open
+abbrev pub is_open_in : Option Spot → Bool
+is_open_in spot = option_map_or (λ s. is_open (entry_of s.page.entry)) spot false
+
+-- of each section, by its number, its page and track, where it has one
+abbrev pub Sheet : Type 0
+Sheet = List (Option Spot)
+
+abbrev pub spot_on : Sheet → ℕ → Option Spot
+spot_on sheet s = option_and_then (λ spot. spot) (slice_get sheet s)
+
+abbrev pub page_on : Sheet → ℕ → Option Page
+page_on sheet s = page_in (spot_on sheet s)
+
+abbrev pub track_on : Sheet → ℕ → Option ℕ
+track_on sheet s = track_in (spot_on sheet s)
+
+abbrev pub is_open_on : Sheet → ℕ → Bool
+is_open_on sheet s = is_open_in (spot_on sheet s)
+
+-- the pages of a sheet
+abbrev pub pages_on : Sheet → List (Option Page)
+pages_on sheet = map page_in sheet
+
+-- the track of a section of the line whose home is c
+abbrev pub home_track : Line → ℕ → ℕ → Option ℕ
+home_track line c s = option_and_then (λ p. if p.home == c then Some p.track else None) (section line s)

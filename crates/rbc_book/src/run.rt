@@ -1,0 +1,51 @@
+ghost use Rattle.std.specs.Prelude.{◌≡◌, ◌+◌, MatchBool};
+
+use crate::page::Page;
+
+/// Consecutive sections of one track that are used alike.
+#[derive(Clone, Copy, Debug)]
+pub(crate) struct Run {
+    /// The first of them, numbered over the whole line.
+    pub(crate) first: u16,
+    /// How many they are.
+    pub(crate) count: u16,
+    /// The number of their track.
+    pub(crate) track: u8,
+    /// What the book has of each of them.
+    pub(crate) page: Page,
+}
+
+impl Run {
+    ghost use Rattle.rbc_spec.specs.SectionRuns.{within};
+    ghost use Rattle.rbc_book.specs.Runs.{sections_of, GoesOn};
+    ghost use Rattle.rbc_book.specs.Edits.{is_inside};
+
+    /// The number behind its last section.
+    pub(crate) fn behind(self) -> u32
+        ensures { result ≡ self.first + self.count }
+    {
+        u32::from(self.first) + u32::from(self.count)
+    }
+
+    /// Whether the section is one of them.
+    #[tactic(auto, unfolding(rbc_spec::specs::SectionRuns::within))]
+    pub(crate) fn contains(self, s: u16) -> bool
+        ensures { result ≡ within (sections_of self) s }
+    {
+        self.first <= s && u32::from(s) < self.behind()
+    }
+
+    /// Whether the section is one of them, and not the first.
+    pub(crate) fn has_inside(self, s: u16) -> bool
+        ensures { result ≡ is_inside s self }
+    {
+        self.first < s && self.contains(s)
+    }
+
+    /// Whether the next run goes on where this one ends, on its track and used alike: the two are one run then.
+    pub(crate) fn goes_on(self, next: Run) -> bool
+        ensures { MatchBool result (GoesOn self next) (¬ GoesOn self next) }
+    {
+        self.behind() == u32::from(next.first) && self.track == next.track && self.page == next.page
+    }
+}

@@ -1,0 +1,162 @@
+ghost use Rattle.std.specs.Prelude.{◌≡◌, ℕ, IfOk, IfSome, Option, None, Some, option_map, length, is_some, true};
+ghost use Rattle.rbc_spec.specs.SectionRuns.{longest, within};
+ghost use Rattle.rbc_spec.specs.Maps.{put};
+ghost use Rattle.rbc_book.specs.Sheet.{spot_on, page_on, track_on, is_open_on, home_track};
+ghost use Rattle.rbc_book.specs.Runs.{At, AreInOrder, IsRunOf, sections_of, spot_at};
+
+use crate::edits::{append, run_at, write_at};
+use crate::page::Page;
+use crate::run::Run;
+use rbc_line::Line;
+use std::alloc::{AllocError, Global};
+use std::marker::Model;
+
+/// Pages of sections, kept as runs of sections that are used alike, in order of their first sections. A run does not go past the end of
+/// a track, and of two runs of one track that follow each other at once the pages differ. There is room for as many runs as there are sections.
+#[derive(Debug, Drop)]
+pub(crate) struct Runs {
+    runs: Vec<Run>,
+    /// The place of the run that was found last: the next section is looked for there and behind it first.
+    last: usize,
+}
+
+impl Model for Runs {
+    ghost use Rattle.std.specs.Prelude.{vec_capacity};
+    ghost use Rattle.rbc_book.specs.Sheet.{Sheet};
+    ghost use Rattle.rbc_book.specs.Runs.{sheet_of, IsKept};
+
+    ghost Value = { Sheet };
+
+    ghost view = { λ r. sheet_of r.runs.items };
+
+    ghost invariant = { λ r. IsKept r.runs.items (vec_capacity r.runs) };
+}
+
+impl Runs {
+    /// The home sections of a centre, each with the same page.
+    pub(crate) fn new(
+        alloc: Global,
+        line: &Line,
+        centre: u8,
+        page: Page,
+    ) -> Result<Runs, AllocError>
+        ensures page { IfOk result (λ r. (k : ℕ) → page_on r k ≡ option_map (λ _. page) (home_track line.now centre k)) }
+        ensures track { IfOk result (λ r. (k : ℕ) → track_on r k ≡ home_track line.now centre k) }
+    {
+        let mut runs = Vec::new(alloc);
+        let mut homes = 0;
+        for s in 0..line.section_count() {
+            if let Some(track) = home_track(line, centre, s) {
+                append(&mut runs, s, track, page)?;
+                homes += 1;
+            }
+        }
+        runs.reserve(homes - runs.len())?;
+        Ok(Runs { runs, last: 0 })
+    }
+
+    /// The page of a section, where there is one.
+    pub(crate) fn page(&self, s: u16) -> Option<Page>
+        ensures { result ≡ page_on self.now s }
+    {
+        let run = self.run_of(s)?;
+        Some(run.page)
+    }
+
+    /// How many sections from the first on are open, one after another, at most so many.
+    pub(crate) fn open_run(&self, first: u16, most: u16) -> u16
+        ensures { result ≡ longest (is_open_on self.now) first most }
+    {
+        let mut count = 0;
+        while count < most {
+            let Some(run) = self.run_of(first + count) else {
+                return count;
+            };
+            if !run.page.entry.is_open() {
+                return count;
+            }
+            count = (run.behind() - u32::from(first)) as u16;
+        }
+        most
+    }
+
+    /// Finds a section, so that what reads or writes it next has it at once.
+    pub(crate) fn seek(&mut self, s: u16)
+        ensures { self.new ≡ self.old }
+    {
+        if let Some(found) = find(&self.runs, s, self.last) {
+            self.last = found;
+        }
+    }
+
+    /// Writes the page of a section that has one.
+    pub(crate) fn write(&mut self, s: u16, page: Page)
+        requires { is_some (page_on self.old s) ≡ true }
+        ensures page { (k : ℕ) → page_on self.new k ≡ put (page_on self.old) s (Some page) k }
+        ensures track { (k : ℕ) → track_on self.new k ≡ track_on self.old k }
+    {
+        let Some(found) = find(&self.runs, s, self.last) else {
+            return;
+        };
+        write_at(&mut self.runs, found, s, page);
+    }
+
+    // The run that has the section.
+    fn run_of(&self, s: u16) -> Option<Run>
+        ensures some { IfSome result (λ r. IsRunOf self.now s r) }
+        ensures none { result ≡ None → spot_on self.now s ≡ None }
+    {
+        let place = find(&self.runs, s, self.last)?;
+        Some(self.runs[place])
+    }
+}
+
+// The place of the run that has the section. It is looked for where a run was found last and behind that, and then in all runs.
+fn find(runs: &[Run], s: u16, last: usize) -> Option<usize>
+    requires { AreInOrder 0 runs.now }
+    ensures some { IfSome result (λ i. At (λ r. within (sections_of r) s ≡ true) i runs.now) }
+    ensures none { result ≡ None → spot_at runs.now s ≡ None }
+{
+    if let Some(found) = found_at(runs, last, s) {
+        return Some(found);
+    }
+    if let Some(found) = found_at(runs, last.wrapping_add(1), s) {
+        return Some(found);
+    }
+    search(runs, s)
+}
+
+// The place, where a run that has the section stands there.
+fn found_at(runs: &[Run], i: usize, s: u16) -> Option<usize>
+    ensures { IfSome result (λ i. At (λ r. within (sections_of r) s ≡ true) i runs.now) }
+{
+    let run = run_at(runs, i)?;
+    if run.contains(s) { Some(i) } else { None }
+}
+
+// The place of the run that has the section, by the first sections of all runs.
+fn search(runs: &[Run], s: u16) -> Option<usize>
+    requires { AreInOrder 0 runs.now }
+    ensures some { IfSome result (λ i. At (λ r. within (sections_of r) s ≡ true) i runs.now) }
+    ensures none { result ≡ None → spot_at runs.now s ≡ None }
+{
+    let later = runs.partition_point(|run| run.first <= s);
+    if later == 0 {
+        return None;
+    }
+    if runs[later - 1].contains(s) {
+        Some(later - 1)
+    } else {
+        None
+    }
+}
+
+// The track of a section, where its home is the centre.
+fn home_track(line: &Line, centre: u8, s: u16) -> Option<u8>
+    ensures { result ≡ home_track line.now centre s }
+{
+    match line.section(s) {
+        Some(section) if section.home == centre => Some(section.track),
+        _ => None,
+    }
+}
