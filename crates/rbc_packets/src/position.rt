@@ -33,6 +33,9 @@ pub struct Position {
 // The bits of the header and of the fields that each report has, but for Q_LENGTH and M_LEVEL.
 const FIXED_BITS: u64 = 109;
 
+// The bits behind the header of a report with L_TRAININT and without NID_NTC.
+const USUAL_BITS: u32 = 108;
+
 // The fewest bits behind the header.
 const LEAST_BITS: u32 = 93;
 
@@ -66,6 +69,36 @@ impl Position {
             None => Position::far(bits)?,
         };
         Ok(position)
+    }
+
+    /// Reads the packet behind its NID_PACKET, where its bits are as many as those of most reports: of a train whose length is known, and that
+    /// runs under no national system. None where it is another packet, or none. The places of its fields are known before it is read.
+    #[inline(always)]
+    pub fn read_usual(reader: &mut BitReader) -> Option<Self>
+        ensures exact { IfSome result (λ p. position_at reader.old ≡ Ok (p, reader.new)) }
+        ensures found { IfSome result (λ p. (reader.old ≡ joined (train_packet (position_fields p)) ++ reader.new) × PositionFits p) }
+    {
+        Position::usual(reader)
+    }
+
+    #[tactic(auto, unfolding(crate::specs::PositionReading::position_at))]
+    #[inline(always)]
+    fn usual(reader: &mut BitReader) -> Option<Self>
+        ensures exact { IfSome result (λ p. position_at reader.old ≡ Ok (p, reader.new)) }
+        ensures taken { IfSome result (λ p. reader.old ≡ joined (train_packet (position_fields p)) ++ reader.new) }
+        ensures fits { IfSome result PositionFits }
+    {
+        let Ok(bits) = train_part(reader) else {
+            return None;
+        };
+        if bits.remaining() != USUAL_BITS {
+            return None;
+        }
+        let part = in_word(&bits)?;
+        match Position::whole(part) {
+            Ok(position) => Some(position),
+            Err(_) => None,
+        }
     }
 
     // All bits behind the header, which stand in no word. It is a function of its own, so that the fields of the others are read with no test

@@ -5,4 +5,4 @@ use Rattle.rbc_msgs.proofs.decode.decode_train.Goals as goal
 
 pub returns-clause-only : goal.returns-clause-only
 returns-clause-only c =
-    λ m s. subst (λ r. Gives (λ x. x) c.train_from.result r) (read_train-again c.args.bytes.now m s) c.train_from.ensures.exact
+    λ m s. subst (λ r. Gives (λ x. x) c.train_of.result r) (read_train-again c.args.bytes.now m s) c.train_of.ensures.exact
