@@ -2,7 +2,7 @@
 use Rattle.std.proofs.Common.{◌≡◌, inl, inr, ℕ, ◌+◌, ◌<◌, ◌≤◌, Bool, true, false, if◌then◌else◌, nat_lt, List, [], ◌∷◌, ◌++◌, length, length-append, Option, Some, None, refl, sym, ap, subst, arith, ltb-true}
 use Rattle.std.specs.Bool.{⊤}
 use Rattle.std.specs.Option.{option_map_or}
-use Rattle.std.proofs.lemmas.Bool.{ltb-false}
+use Rattle.rbc_spec.specs.SectionRuns.{SectionRun, behind}
 use Rattle.rbc_spec.specs.Frame.{Body, RouteReturn}
 use Rattle.rbc_spec.specs.Centre.{Centre}
 use Rattle.rbc_spec.specs.Acts.{Act, Reply, ◌>>◌}
@@ -12,9 +12,9 @@ use Rattle.law_centre.specs.Sending.{rank, GoesBefore, GoesBeforeAll, GoInOrder}
 abbrev pub side : Bool → ℕ
 side b = if b then 0 else 1
 
--- the ranks of frames, with runs that go home ranked by whether they begin before a section
+-- the ranks of frames, with runs that go home ranked by whether a section lies behind them and before the bound
 abbrev pub key : ℕ → Body → ℕ
-key bound (RouteReturn t r) = side (nat_lt r.first bound)
+key bound (RouteReturn t r) = side (nat_lt (behind r) bound)
 key bound body = rank body + 1
 
 pub side_below : (b : Bool) → side b < 2
@@ -27,24 +27,37 @@ lower_side true true h = absurd (omega (arith, h))
 lower_side false true h = absurd (omega (arith, h))
 lower_side false false h = absurd (omega (arith, h))
 
-lower_return : (bound first other : ℕ) → side (nat_lt first bound) < side (nat_lt other bound) → first < other
-lower_return bound first other h =
-    let both = lower_side (nat_lt first bound) (nat_lt other bound) h in
-    let low : first < bound = ltb-true first bound both.0 in
-    let high : bound ≤ other = ltb-false other bound both.1 in
-    omega arith
+-- a run that goes home behind others begins at the bound or past it
+abbrev pub IsBeyond : ℕ → ℕ → Body → Type 0
+IsBeyond bound low (RouteReturn t r) = 0 < low → bound ≤ r.first
+IsBeyond bound low body = ⊤
 
-goes_before : (bound : ℕ) (a b : Body) → key bound a < key bound b → GoesBefore a b
-goes_before bound (RouteReturn t r) (RouteReturn u q) h = inr (lower_return bound r.first q.first h)
-goes_before bound (RouteReturn t r) b h = inl (omega arith)
-goes_before bound a (RouteReturn u q) h = let less = side_below (nat_lt q.first bound) in absurd (omega (arith, h, less))
-goes_before bound a b h = inl (omega (arith, h))
+pub beyond_none : (bound : ℕ) (body : Body) → IsBeyond bound 0 body
+beyond_none bound (RouteReturn t r) = λ none. absurd (omega (arith, none))
+beyond_none bound body = tt
+
+closer : (bound low low' : ℕ) (body : Body) → low' ≤ low → IsBeyond bound low body → IsBeyond bound low' body
+closer bound low low' (RouteReturn t r) less far = λ some. far (omega (arith, less, some))
+closer bound low low' body less far = tt
+
+lower_return : (bound mid : ℕ) (r q : SectionRun) → side (nat_lt (behind r) bound) < mid → mid ≤ side (nat_lt (behind q) bound) → (0 < mid → bound ≤ q.first) → behind r < q.first
+lower_return bound mid r q less least far =
+    let both = lower_side (nat_lt (behind r) bound) (nat_lt (behind q) bound) (omega (arith, less, least)) in
+    let low : behind r < bound = ltb-true (behind r) bound both.0 in
+    let high : bound ≤ q.first = far (omega (arith, less)) in
+    omega (arith, low, high)
+
+goes_before : (bound mid : ℕ) (a b : Body) → key bound a < mid → mid ≤ key bound b → IsBeyond bound mid b → GoesBefore a b
+goes_before bound mid (RouteReturn t r) (RouteReturn u q) less least far = inr (lower_return bound mid r q less least far)
+goes_before bound mid (RouteReturn t r) b less least far = inl (omega arith)
+goes_before bound mid a (RouteReturn u q) less least far = let below = side_below (nat_lt (behind q) bound) in absurd (omega (arith, less, least, below))
+goes_before bound mid a b less least far = inl (omega (arith, less, least))
 
 module _ (bound d : ℕ) where
-  -- each has a key from low on and before high
+  -- each has a key from low on and before high, and runs that go home begin at the bound or past it where others may stand before them
   abbrev pub AreBetween : ℕ → ℕ → List Body → Type 0
   AreBetween low high [] = ⊤
-  AreBetween low high (b ∷ bs) = (low ≤ key bound b) × (key bound b < high) × AreBetween low high bs
+  AreBetween low high (b ∷ bs) = (low ≤ key bound b) × (key bound b < high) × IsBeyond bound low b × AreBetween low high bs
 
   -- so much goes on the link to d, in order, with so many messages and words
   pub record Sends (low high frames sayings words : ℕ) (r : Reply) : Type 0 where
@@ -56,15 +69,15 @@ module _ (bound d : ℕ) where
 
   all_before : (mid high : ℕ) (a : Body) (bs : List Body) → key bound a < mid → AreBetween mid high bs → GoesBeforeAll a bs
   all_before mid high a [] less each = tt
-  all_before mid high a (b ∷ bs) less each = (goes_before bound a b (omega (arith, less, each.0)), all_before mid high a bs less each.2)
+  all_before mid high a (b ∷ bs) less each = (goes_before bound mid a b less each.0 each.2, all_before mid high a bs less each.3)
 
   wider : (low high low' high' : ℕ) (bs : List Body) → low' ≤ low → high ≤ high' → AreBetween low high bs → AreBetween low' high' bs
   wider low high low' high' [] one two each = tt
-  wider low high low' high' (b ∷ bs) one two each = (omega (arith, one, each.0), omega (arith, two, each.1), wider low high low' high' bs one two each.2)
+  wider low high low' high' (b ∷ bs) one two each = (omega (arith, one, each.0), omega (arith, two, each.1), closer bound low low' b one each.2, wider low high low' high' bs one two each.3)
 
   between_both : (low mid high : ℕ) (xs bs : List Body) → low ≤ mid → mid ≤ high → AreBetween low mid xs → AreBetween mid high bs → AreBetween low high (xs ++ bs)
   between_both low mid high [] bs one two left right = wider mid high low high bs one (omega arith) right
-  between_both low mid high (a ∷ xs) bs one two left right = (left.0, omega (arith, two, left.1), between_both low mid high xs bs one two left.2 right)
+  between_both low mid high (a ∷ xs) bs one two left right = (left.0, omega (arith, two, left.1), left.2, between_both low mid high xs bs one two left.3 right)
 
   before_both : (mid high : ℕ) (a : Body) (xs bs : List Body) → key bound a < mid → GoesBeforeAll a xs → AreBetween mid high bs → GoesBeforeAll a (xs ++ bs)
   before_both mid high a [] bs less first right = all_before mid high a bs less right
@@ -72,7 +85,7 @@ module _ (bound d : ℕ) where
 
   order_both : (low mid high : ℕ) (xs bs : List Body) → AreBetween low mid xs → AreBetween mid high bs → GoInOrder xs → GoInOrder bs → GoInOrder (xs ++ bs)
   order_both low mid high [] bs left right one two = two
-  order_both low mid high (a ∷ xs) bs left right one two = (before_both mid high a xs bs left.1 one.0 right, order_both low mid high xs bs left.2 right one.1 two)
+  order_both low mid high (a ∷ xs) bs left right one two = (before_both mid high a xs bs left.1 one.0 right, order_both low mid high xs bs left.3 right one.1 two)
 
   length_both : {X : Type 0} (xs bs : List X) (m n : ℕ) → length xs ≤ m → length bs ≤ n → length (xs ++ bs) ≤ m + n
   length_both xs bs m n one two = omega (arith, length-append xs bs, one, two)
@@ -89,9 +102,9 @@ module _ (bound d : ℕ) where
 
   -- one frame to d, where it is so, and nothing said
   pub sends_yes : (low high : ℕ) (b : Bool) (body : Body) (r : Reply) → r.frames d ≡ (if b then body ∷ [] else []) → r.sayings ≡ [] → r.words ≡ []
-      → (b ≡ true → (low ≤ key bound body) × (key bound body < high)) → Sends low high 1 0 0 r
+      → (b ≡ true → (low ≤ key bound body) × (key bound body < high) × IsBeyond bound low body) → Sends low high 1 0 0 r
   sends_yes low high true body r frames sayings words between = record {
-    each = subst (AreBetween low high) (sym frames) ((between refl).0, (between refl).1, tt);
+    each = subst (AreBetween low high) (sym frames) ((between refl).0, (between refl).1, (between refl).2, tt);
     order = subst GoInOrder (sym frames) (tt, tt);
     few_frames = let e : length (r.frames d) ≡ 1 = ap length frames in omega (arith, e);
     few_sayings = let e : length r.sayings ≡ 0 = ap length sayings in omega (arith, e);

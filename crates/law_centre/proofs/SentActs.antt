@@ -14,7 +14,7 @@ use Rattle.rbc_spec.specs.Centre.{Centre, Entry, Out, Mission, Handing, is_taken
 use Rattle.rbc_spec.specs.Acts.{Act, rest, become, ◌>>◌, where_so, send, say, booked, freed, returned, leave, set_mission, change_mission, cancel, return_right, close, propose_if_so, propose, may_propose, end_order, yield, part_at}
 use Rattle.rbc_spec.specs.Links.{taking_over}
 use Rattle.law_base.proofs.Puts.{put_there}
-use Rattle.law_centre.proofs.Sends.{Sends, key, side, side_below, sends_none, sends_yes, sends_words, sends_saying, sends_then, sends_less, sends_if, sends_some}
+use Rattle.law_centre.proofs.Sends.{Sends, IsBeyond, key, side, side_below, sends_none, sends_yes, sends_words, sends_saying, sends_then, sends_less, sends_if, sends_some}
 
 one_more : (b : Bool) (a n : ℕ) (xs : List ℕ) → length (map (λ s. Told s) xs) ≤ n → length (map (λ s. Told s) (if b then a ∷ xs else xs)) ≤ suc n
 one_more true a n xs few = omega (arith, few)
@@ -33,12 +33,12 @@ without_handing n = record n { handing = None }
 
 module _ (bound d : ℕ) (line : Line) (c t : ℕ) where
   -- one frame to some centre
-  pub sends_one : (low high e : ℕ) (body : Body) (k : Centre) → low ≤ key bound body → key bound body < high → Sends bound d low high 1 0 0 (send e body k)
-  sends_one low high e body k from to = sends_yes bound d low high (d == e) body (send e body k) refl refl refl (λ is. (from, to))
+  pub sends_one : (low high e : ℕ) (body : Body) (k : Centre) → low ≤ key bound body → key bound body < high → IsBeyond bound low body → Sends bound d low high 1 0 0 (send e body k)
+  sends_one low high e body k from to far = sends_yes bound d low high (d == e) body (send e body k) refl refl refl (λ is. (from, to, far))
 
   -- a run that goes home, of which the ranks are known
   home_sends : (low high track : ℕ) (r : SectionRun) (k : Centre)
-      → ((shared r (home_run line d track)).count ≢ 0 → (low ≤ side (nat_lt (shared r (home_run line d track)).first bound)) × (side (nat_lt (shared r (home_run line d track)).first bound) < high))
+      → ((shared r (home_run line d track)).count ≢ 0 → (low ≤ side (nat_lt (behind (shared r (home_run line d track))) bound)) × (side (nat_lt (behind (shared r (home_run line d track))) bound) < high) × (0 < low → bound ≤ (shared r (home_run line d track)).first))
       → Sends bound d low high 1 0 0 (returned line c t track r k)
   home_sends low high track r k between =
       let part : SectionRun = shared r (home_run line d track) in
@@ -46,18 +46,18 @@ module _ (bound d : ℕ) (line : Line) (c t : ℕ) where
       (λ is. between (eqb-false part.count 0 (or_parts (d == c) (is_empty part) (not-true ((d == c) || is_empty part) is)).1))
 
   pub home_any : (track : ℕ) (r : SectionRun) (k : Centre) → Sends bound d 0 2 1 0 0 (returned line c t track r k)
-  home_any track r k = home_sends 0 2 track r k (λ some. (omega arith, side_below (nat_lt (shared r (home_run line d track)).first bound)))
+  home_any track r k = home_sends 0 2 track r k (λ some. (omega arith, side_below (nat_lt (behind (shared r (home_run line d track))) bound), λ none. absurd (omega (arith, none))))
 
-  pub home_low : (track : ℕ) (r : SectionRun) (k : Centre) → behind r ≤ bound → Sends bound d 0 1 1 0 0 (returned line c t track r k)
+  pub home_low : (track : ℕ) (r : SectionRun) (k : Centre) → behind r < bound → Sends bound d 0 1 1 0 0 (returned line c t track r k)
   home_low track r k low = home_sends 0 1 track r k (λ some.
-      let is : nat_lt (shared r (home_run line d track)).first bound ≡ true = lt-ltb (shared r (home_run line d track)).first bound (omega (arith, some)) in
-      (omega arith, let e : side (nat_lt (shared r (home_run line d track)).first bound) ≡ 0 = ap side is in omega (arith, e)))
+      let is : nat_lt (behind (shared r (home_run line d track))) bound ≡ true = lt-ltb (behind (shared r (home_run line d track))) bound (omega (arith, some, low)) in
+      (omega arith, (let e : side (nat_lt (behind (shared r (home_run line d track))) bound) ≡ 0 = ap side is in omega (arith, e)), λ none. absurd (omega (arith, none))))
 
   pub home_high : (track : ℕ) (r : SectionRun) (k : Centre) → (r.count ≡ 0) ⊎ (bound ≤ r.first) → Sends bound d 1 2 1 0 0 (returned line c t track r k)
   home_high track r k (inl none) = home_sends 1 2 track r k (λ some. absurd (omega (arith, some)))
   home_high track r k (inr high) = home_sends 1 2 track r k (λ some.
-      let is : nat_lt (shared r (home_run line d track)).first bound ≡ false = le-ltb (shared r (home_run line d track)).first bound (omega (arith, some)) in
-      let e : side (nat_lt (shared r (home_run line d track)).first bound) ≡ 1 = ap side is in (omega (arith, e), omega (arith, e)))
+      let is : nat_lt (behind (shared r (home_run line d track))) bound ≡ false = le-ltb (behind (shared r (home_run line d track))) bound (omega (arith, some, high)) in
+      let e : side (nat_lt (behind (shared r (home_run line d track))) bound) ≡ 1 = ap side is in (omega (arith, e), omega (arith, e), λ low. omega (arith, some, high)))
 
   -- an empty run sends nothing
   pub home_none : (low high track : ℕ) (r : SectionRun) (k : Centre) → r.count ≡ 0 → Sends bound d low high 0 0 0 (returned line c t track r k)
@@ -75,7 +75,7 @@ module _ (bound d : ℕ) (line : Line) (c t : ℕ) where
   leave_any track r k = sends_then bound d 0 0 2 0 1 0 0 r.count 0 (freed line c (is_taken_for t) r) (returned line c t track r) k (omega arith) (omega arith)
       (freed_sends 0 0 (is_taken_for t) r k) (home_any track r _)
 
-  pub leave_low : (track : ℕ) (r : SectionRun) (k : Centre) → behind r ≤ bound → Sends bound d 0 1 1 0 (r.count + 0) (leave line c t track r k)
+  pub leave_low : (track : ℕ) (r : SectionRun) (k : Centre) → behind r < bound → Sends bound d 0 1 1 0 (r.count + 0) (leave line c t track r k)
   leave_low track r k low = sends_then bound d 0 0 1 0 1 0 0 r.count 0 (freed line c (is_taken_for t) r) (returned line c t track r) k (omega arith) (omega arith)
       (freed_sends 0 0 (is_taken_for t) r k) (home_low track r _ low)
 
@@ -90,7 +90,7 @@ module _ (bound d : ℕ) (line : Line) (c t : ℕ) where
     where
       by_handing : (o : Option Handing) → Sends bound d 3 4 1 0 0 (option_map_or (λ h. send h.to (Cancel h.number t) >> change_mission t (λ n. record n { handing = None })) o rest k)
       by_handing (Some h) = sends_then bound d 3 4 4 1 0 0 0 0 0 (send h.to (Cancel h.number t)) (change_mission t (λ n. record n { handing = None })) k (omega arith) (omega arith)
-          (sends_one 3 4 h.to (Cancel h.number t) k (omega arith) (omega arith)) (sends_none bound d 4 4 _ refl refl refl)
+          (sends_one 3 4 h.to (Cancel h.number t) k (omega arith) (omega arith) tt) (sends_none bound d 4 4 _ refl refl refl)
       by_handing None = sends_less bound d 3 4 0 0 0 3 4 1 0 0 (rest k) (omega arith) (omega arith) (omega arith) (omega arith) (omega arith) (sends_none bound d 3 4 (rest k) refl refl refl)
 
   pub right_sends : (k : Centre) → Sends bound d 4 5 1 0 0 (return_right line c t k)
@@ -98,7 +98,7 @@ module _ (bound d : ℕ) (line : Line) (c t : ℕ) where
     where
       by_registrar : (b : Bool) (o : Option ℕ) → Sends bound d 4 5 1 0 0 ((if b then become (λ j. record j { has_right = put j.has_right t true }) else option_map_or (λ r. send r (ReturnRight t)) o rest) k)
       by_registrar true o = sends_less bound d 4 5 0 0 0 4 5 1 0 0 _ (omega arith) (omega arith) (omega arith) (omega arith) (omega arith) (sends_none bound d 4 5 (become (λ j. record j { has_right = put j.has_right t true }) k) refl refl refl)
-      by_registrar false (Some r) = sends_one 4 5 r (ReturnRight t) k (omega arith) (omega arith)
+      by_registrar false (Some r) = sends_one 4 5 r (ReturnRight t) k (omega arith) (omega arith) tt
       by_registrar false None = sends_less bound d 4 5 0 0 0 4 5 1 0 0 (rest k) (omega arith) (omega arith) (omega arith) (omega arith) (omega arith) (sends_none bound d 4 5 (rest k) refl refl refl)
 
   pub close_sends : (m : Mission) (k : Centre) → Sends bound d 3 5 2 0 0 (close line c t m k)
@@ -162,7 +162,7 @@ module _ (bound d : ℕ) (line : Line) (c t : ℕ) where
       (sends_then bound d low 3 3 (n + 0 + (0 + 1)) 0 0 1 0 0 (home >> over) last k (omega arith) (omega arith)
       (sends_then bound d low 2 3 (n + 0) (0 + 1) 0 0 0 0 home over k (omega arith) (omega arith)
       (sends_then bound d low 2 2 n 0 0 0 0 0 (returned line c t m.place.track m.pool) (booked (is_taken_for t) (Out t) m.hand) k (omega arith) (omega arith) pool (sends_none bound d 2 2 _ refl refl refl))
-      (sends_then bound d 2 2 3 0 1 0 0 0 0 (set_mission t None) (send h.to body) _ (omega arith) (omega arith) (sends_none bound d 2 2 _ refl refl refl) (sends_one 2 3 h.to body _ (omega arith) (omega arith))))
+      (sends_then bound d 2 2 3 0 1 0 0 0 0 (set_mission t None) (send h.to body) _ (omega arith) (omega arith) (sends_none bound d 2 2 _ refl refl refl) (sends_one 2 3 h.to body _ (omega arith) (omega arith) tt)))
       (ordered (is_empty (part_at line c m.place.track m.hand)) _))
     where
       ordered : (b : Bool) (j : Centre) → Sends bound d 3 3 0 1 0 ((if b then end_order line c t else rest) j)

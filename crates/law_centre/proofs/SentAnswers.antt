@@ -1,6 +1,7 @@
 -- What the answer to a train's message sends on a link.
-use Rattle.std.proofs.Common.{◌≡◌, ◌⊎◌, ℕ, ◌+◌, ◌≤◌, ◌==◌, Bool, true, false, if◌then◌else◌, Option, Some, None, option_map, refl, sym, ap, ◌∙◌, subst, arith}
+use Rattle.std.proofs.Common.{◌≡◌, ◌≢◌, ◌⊎◌, ℕ, ◌+◌, ◌≤◌, ◌==◌, Bool, true, false, if◌then◌else◌, Option, Some, None, option_map, refl, sym, ap, ◌∙◌, subst, arith}
 use Rattle.std.specs.Option.{option_map_or}
+use Rattle.std.proofs.lemmas.Bool.{eqb-false}
 use Rattle.rbc_spec.specs.Maps.{put}
 use Rattle.rbc_spec.specs.SectionRuns.{SectionRun, no_run, behind, part_from, joined}
 use Rattle.rbc_spec.specs.Line.{Line}
@@ -41,12 +42,12 @@ module _ (d : ℕ) (line : Line) (c t : ℕ) where
         (leave_any bound d line c t m.place.track (joined m.hand m.pool) k))
         (close_sends bound d line c t m _))
 
-    kept_sends : (place : Place) (k : Centre) → Sends bound d 0 1 1 0 64 ((leave line c t m.place.track (cleared line place m) >> set_mission t (Some (behind_cleared place))) k)
-    kept_sends place k =
+    kept_sends : (place : Place) (k : Centre) → (cleared line place m).count ≢ m.hand.count → Sends bound d 0 1 1 0 64 ((leave line c t m.place.track (cleared line place m) >> set_mission t (Some (behind_cleared place))) k)
+    kept_sends place k part =
         let count = cleared_count place in
         sends_less bound d 0 1 1 0 ((cleared line place m).count + 0 + 0) 0 1 1 0 64 _ (omega arith) (omega arith) (omega arith) (omega arith) (omega (arith, count, few))
         (sends_then bound d 0 1 1 1 0 0 0 ((cleared line place m).count + 0) 0 (leave line c t m.place.track (cleared line place m)) (set_mission t (Some (behind_cleared place))) k (omega arith) (omega arith)
-        (leave_low bound d line c t m.place.track (cleared line place m) k (omega (arith, count)))
+        (leave_low bound d line c t m.place.track (cleared line place m) k (omega (arith, count, part)))
         (sends_none bound d 1 1 _ refl refl refl))
 
     pub closed_state : (k : Centre) → ((leave line c t m.place.track (joined m.hand m.pool) >> close line c t m) k).state.mission t ≡ None
@@ -73,12 +74,12 @@ module _ (d : ℕ) (line : Line) (c t : ℕ) where
     report_closed act k sends is = sends_less bound d 0 5 3 0 64 0 8 3 2 64 _ (omega arith) (omega arith) (omega arith) (omega arith) (omega arith) sends
 
     report_at : (place : Place) (k : Centre) → Few bound (clear line c t m place k)
-    report_at place k = by_rest ((cleared line place m).count == m.hand.count)
+    report_at place k = by_rest ((cleared line place m).count == m.hand.count) refl
       where
-        by_rest : (b : Bool) → Few bound ((if b then (leave line c t m.place.track (joined m.hand m.pool) >> close line c t m)
+        by_rest : (b : Bool) → ((cleared line place m).count == m.hand.count) ≡ b → Few bound ((if b then (leave line c t m.place.track (joined m.hand m.pool) >> close line c t m)
             else (leave line c t m.place.track (cleared line place m) >> set_mission t (Some (behind_cleared place)))) k)
-        by_rest true = report_closed (leave line c t m.place.track (joined m.hand m.pool) >> close line c t m) k (closed_sends place k) (closed_state k)
-        by_rest false = report_open (leave line c t m.place.track (cleared line place m) >> set_mission t (Some (behind_cleared place))) (behind_cleared place) k (kept_sends place k) (kept_state place k) refl
+        by_rest true all = report_closed (leave line c t m.place.track (joined m.hand m.pool) >> close line c t m) k (closed_sends place k) (closed_state k)
+        by_rest false part = report_open (leave line c t m.place.track (cleared line place m) >> set_mission t (Some (behind_cleared place))) (behind_cleared place) k (kept_sends place k (eqb-false (cleared line place m).count m.hand.count part)) (kept_state place k) refl
 
     pub report_few : (position : Position) (k : Centre) → k.mission t ≡ Some m → Few bound (report_here line c t position m k)
     report_few position k is = by_place (place_on line m.place.track position)

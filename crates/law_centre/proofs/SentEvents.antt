@@ -3,7 +3,7 @@ use Rattle.std.proofs.Common.{ℕ, ◌+◌, ◌≤◌, ◌&&◌, not, Bool, true
 use Rattle.std.specs.Option.{option_map_or}
 use Rattle.std.specs.List.{find, range_with_len}
 use Rattle.rbc_spec.specs.Maps.{put}
-use Rattle.rbc_spec.specs.SectionRuns.{SectionRun, no_run, within, is_empty, part_before, part_from, all_of}
+use Rattle.rbc_spec.specs.SectionRuns.{behind, SectionRun, no_run, within, is_empty, part_before, part_from, all_of}
 use Rattle.rbc_spec.specs.Line.{Line, is_home, section}
 use Rattle.rbc_spec.specs.Place.{Place}
 use Rattle.rbc_spec.specs.Frame.{Body, Frame, AskRight, GiveRight, RefuseRight, ReturnRight, RouteAsk, RouteInfo, RouteWithdraw, RouteReturn, Announce, Cancel, TakingOver, Yield, carried_place}
@@ -29,8 +29,8 @@ module _ (d : ℕ) (line : Line) (c t : ℕ) where
   asked_right e k = where_few _ _ k (few_if d line c t (k.has_right t) _ _
       (few d line c t 0 8 1 0 0 _ (omega arith) (omega arith) (omega arith) (omega arith)
       (sends_then 0 d 0 0 8 0 1 0 0 0 0 (become (λ j. record j { has_right = put j.has_right t false })) (send e (GiveRight t)) k (omega arith) (omega arith)
-      (sends_none 0 d 0 0 _ refl refl refl) (sends_one 0 d line c t 0 8 e (GiveRight t) _ (omega arith) (omega arith))))
-      (few d line c t 0 8 1 0 0 _ (omega arith) (omega arith) (omega arith) (omega arith) (sends_one 0 d line c t 0 8 e (RefuseRight t) k (omega arith) (omega arith))))
+      (sends_none 0 d 0 0 _ refl refl refl) (sends_one 0 d line c t 0 8 e (GiveRight t) _ (omega arith) (omega arith) tt)))
+      (few d line c t 0 8 1 0 0 _ (omega arith) (omega arith) (omega arith) (omega arith) (sends_one 0 d line c t 0 8 e (RefuseRight t) k (omega arith) (omega arith) tt)))
 
   given_right : (k : Centre) → Few d line c t (right_given line c t k)
   unfolding ◌>>◌
@@ -57,7 +57,7 @@ module _ (d : ℕ) (line : Line) (c t : ℕ) where
   lent_few : (e first most : ℕ) (k : Centre) → Few d line c t (route_asked line c e t first most k)
   lent_few e first most k = where_few _ _ k (few d line c t 0 8 1 0 0 _ (omega arith) (omega arith) (omega arith) (omega arith)
       (sends_then 0 d 0 0 8 0 1 0 0 0 0 (booked is_open (Out t) (lendable line c k first most)) (send e (RouteInfo t (lendable line c k first most))) k (omega arith) (omega arith)
-      (sends_none 0 d 0 0 _ refl refl refl) (sends_one 0 d line c t 0 8 e (RouteInfo t (lendable line c k first most)) _ (omega arith) (omega arith))))
+      (sends_none 0 d 0 0 _ refl refl refl) (sends_one 0 d line c t 0 8 e (RouteInfo t (lendable line c k first most)) _ (omega arith) (omega arith) tt)))
 
   told_few : (e : ℕ) (r : SectionRun) (k : Centre) → Few d line c t (route_told line c e t r k)
   unfolding ◌>>◌
@@ -67,7 +67,7 @@ module _ (d : ℕ) (line : Line) (c t : ℕ) where
       goes : (b : Bool) → Few d line c t ((if b then rest else send e (RouteReturn t r)) (become (λ k. record k { route_ask = put k.route_ask t None }) k).state)
       goes true = quiet d line c t _ refl (omega arith) (omega arith)
       goes false = few d line c t 0 2 1 0 0 _ (omega arith) (omega arith) (omega arith) (omega arith)
-          (sends_one 0 d line c t 0 2 e (RouteReturn t r) _ (omega arith) (side_below (nat_lt r.first 0)))
+          (sends_one 0 d line c t 0 2 e (RouteReturn t r) _ (omega arith) (side_below (nat_lt (behind r) 0)) (λ none. absurd (omega (arith, none))))
 
   withdrawn_few : (s : ℕ) (k : Centre) → Few d line c t (route_withdrawn line c t s k)
   withdrawn_few s k = by_mission (k.mission t)

@@ -57,7 +57,7 @@ module _ (d : ℕ) (line : Line) (c t : ℕ) where
     where
       asks : (b : Bool) (o : Option ℕ) (j : Centre) → Sends 0 d 0 8 1 0 0 (if b then (option_map_or (λ r. send r (AskRight t)) o rest >> become (λ j. record j { has_asked = put j.has_asked t true })) j else rest j)
       asks true (Some r) j = sends_then 0 d 0 8 8 1 0 0 0 0 0 (send r (AskRight t)) (become (λ j. record j { has_asked = put j.has_asked t true })) j (omega arith) (omega arith)
-          (sends_one 0 d line c t 0 8 r (AskRight t) j (omega arith) (omega arith)) (sends_none 0 d 8 8 _ refl refl refl)
+          (sends_one 0 d line c t 0 8 r (AskRight t) j (omega arith) (omega arith) tt) (sends_none 0 d 8 8 _ refl refl refl)
       asks true None j = sends_then 0 d 0 8 8 1 0 0 0 0 0 rest (become (λ j. record j { has_asked = put j.has_asked t true })) j (omega arith) (omega arith)
           (sends_quiet 0 d 0 8 1 0 0 _ refl (omega arith) (omega arith)) (sends_none 0 d 8 8 _ refl refl refl)
       asks false o j = sends_quiet 0 d 0 8 1 0 0 (rest j) refl (omega arith) (omega arith)
@@ -112,7 +112,7 @@ module _ (d : ℕ) (line : Line) (c t : ℕ) where
         where
           takes_over : (o : Option Expectation) → k.expects d t ≡ o → Sends 0 d 0 8 1 0 0 (take_over line t k)
           takes_over (Some e) is = sends_yes 0 d 0 8 (is_new k) (TakingOver e.number t) (take_over line t k)
-              (ap (λ o. option_map_or {U = List Body} (λ x. if is_new k then TakingOver x.number t ∷ [] else []) o []) is) refl refl (λ new. (omega arith, omega arith))
+              (ap (λ o. option_map_or {U = List Body} (λ x. if is_new k then TakingOver x.number t ∷ [] else []) o []) is) refl refl (λ new. (omega arith, omega arith, tt))
           takes_over None is = sends_quiet 0 d 0 8 1 0 0 (take_over line t k)
               (ap (λ o. option_map_or {U = List Body} (λ x. if is_new k then TakingOver x.number t ∷ [] else []) o []) is) (omega arith) (omega arith)
 

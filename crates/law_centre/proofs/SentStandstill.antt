@@ -1,7 +1,7 @@
 -- What an end of mission sends on a link.
 use Rattle.std.proofs.Common.{◌≡◌, ◌≢◌, ◌⊎◌, inl, inr, ℕ, ◌+◌, ◌-◌, ◌≤◌, ◌==◌, Bool, true, false, if◌then◌else◌, Option, Some, None, option_map, refl, sym, ap, ◌∙◌, subst, arith, ⊎_elim, eq-eqb, eqb-true, ◌<◌}
 use Rattle.std.specs.Option.{option_map_or}
-use Rattle.std.proofs.lemmas.Bool.{cond-true, cond-false, cases_eq, ne_eqb}
+use Rattle.std.proofs.lemmas.Bool.{cond-true, cond-false, cases_eq, ne_eqb, eqb-false}
 use Rattle.rbc_spec.specs.SectionRuns.{SectionRun, no_run, behind, is_empty, part_before, part_from, joined}
 use Rattle.rbc_spec.specs.Line.{Line}
 use Rattle.rbc_spec.specs.Place.{Place, Position, place_on}
@@ -146,10 +146,10 @@ module _ (d : ℕ) (line : Line) (c t : ℕ) where
     )
 
     -- the mission goes on behind its report
-    goes_on : (first : Act) (n : Mission) (w : ℕ) (k : Centre) → ((b : ℕ) → n.hand.first ≤ b → Sends b d 0 1 1 0 w (first k)) → (first k).state.mission t ≡ Some n → n.pool ≡ m.pool
-        → behind n.hand ≡ behind m.hand → w + (n.hand.count + n.pool.count) ≤ 64 → n.hand.first ≤ behind m.hand → FewSo (((first >> stands_if_so position) >> ends_if_so) k)
-    goes_on first n w k sends is same ends_as room low = subst FewSo (sym goes) (rests_or_cuts (λ act. FewSo (((first >> act) >> ends_if_so) k)) line c t position n (rests first n w k (sends (behind m.hand) low) is same (omega (arith, room)))
-        (λ x some fits. (n.hand.first + x, cut_few n x some fits (subst (λ (r : SectionRun). (r.count ≡ 0) ⊎ (behind n.hand ≤ r.first)) (sym same) (by_pool follows)) w room first k (sends (n.hand.first + x) (omega arith)))))
+    goes_on : (first : Act) (n : Mission) (w : ℕ) (k : Centre) → ((b : ℕ) → n.hand.first < b → Sends b d 0 1 1 0 w (first k)) → (first k).state.mission t ≡ Some n → n.pool ≡ m.pool
+        → behind n.hand ≡ behind m.hand → w + (n.hand.count + n.pool.count) ≤ 64 → Sends (behind m.hand) d 0 1 1 0 w (first k) → FewSo (((first >> stands_if_so position) >> ends_if_so) k)
+    goes_on first n w k sends is same ends_as room kept = subst FewSo (sym goes) (rests_or_cuts (λ act. FewSo (((first >> act) >> ends_if_so) k)) line c t position n (rests first n w k kept is same (omega (arith, room)))
+        (λ x some fits. (n.hand.first + x, cut_few n x some fits (subst (λ (r : SectionRun). (r.count ≡ 0) ⊎ (behind n.hand ≤ r.first)) (sym same) (by_pool follows)) w room first k (sends (n.hand.first + x) (omega (arith, some))))))
       where
         goes : (((first >> stands_if_so position) >> ends_if_so) k) ≡ (((first >> stand_still line c t position n) >> ends_if_so) k)
         goes = alike_then (first >> stands_if_so position) (first >> stand_still line c t position n) ends_if_so k
@@ -172,7 +172,7 @@ module _ (d : ℕ) (line : Line) (c t : ℕ) where
         goes = alike_then (first >> stands_if_so position) (first >> rest) ends_if_so k
             (then_alike first (stands_if_so position) rest k (ap (λ o. option_map_or (λ n. stand_still line c t position n (first k).state) o (rest (first k).state)) is))
 
-    kept_low : (place : Place) (b : ℕ) (k : Centre) → behind (cleared line place m) ≤ b
+    kept_low : (place : Place) (b : ℕ) (k : Centre) → behind (cleared line place m) < b
         → Sends b d 0 1 1 0 (cleared line place m).count ((leave line c t m.place.track (cleared line place m) >> set_mission t (Some (behind_cleared d line c t m few follows place))) k)
     kept_low place b k low = sends_less b d 0 1 (1 + 0) 0 ((cleared line place m).count + 0 + 0) 0 1 1 0 (cleared line place m).count _ (omega arith) (omega arith) (omega arith) (omega arith) (omega arith)
         (sends_then b d 0 1 1 1 0 0 0 ((cleared line place m).count + 0) 0 (leave line c t m.place.track (cleared line place m)) (set_mission t (Some (behind_cleared d line c t m few follows place))) k (omega arith) (omega arith)
@@ -188,11 +188,11 @@ module _ (d : ℕ) (line : Line) (c t : ℕ) where
         by_rest false part =
             let count = cleared_count d line c t m few follows place in
             goes_on (leave line c t m.place.track (cleared line place m) >> set_mission t (Some (behind_cleared d line c t m few follows place))) (behind_cleared d line c t m few follows place) (cleared line place m).count k
-            (λ b low. kept_low place b k (omega (arith, low))) (kept_state d line c t m few follows place k) refl (omega (arith, count)) (omega (arith, count, few)) (omega (arith, count))
+            (λ b low. kept_low place b k (omega (arith, low))) (kept_state d line c t m few follows place k) refl (omega (arith, count)) (omega (arith, count, few)) (kept_low place (behind m.hand) k (let less = eqb-false (cleared line place m).count m.hand.count part in omega (arith, count, less)))
 
     pub end_few : (k : Centre) → k.mission t ≡ Some m → FewSo (((report_here line c t position m >> stands_if_so position) >> ends_if_so) k)
     end_few k is = by_place (place_on line m.place.track position)
       where
         by_place : (o : Option Place) → FewSo (((option_map_or (clear line c t m) o rest >> stands_if_so position) >> ends_if_so) k)
         by_place (Some place) = end_at place k
-        by_place None = goes_on rest m 0 k (λ b low. sends_quiet b d 0 1 1 0 0 (rest k) refl (omega arith) (omega arith)) is refl refl (omega (arith, few)) (omega arith)
+        by_place None = goes_on rest m 0 k (λ b low. sends_quiet b d 0 1 1 0 0 (rest k) refl (omega arith) (omega arith)) is refl refl (omega (arith, few)) (sends_quiet (behind m.hand) d 0 1 1 0 0 (rest k) refl (omega arith) (omega arith))

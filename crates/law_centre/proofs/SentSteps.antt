@@ -97,7 +97,7 @@ module _ (d : ℕ) (line : Line) (c t : ℕ) where
       let g : Act = say t group (Transition (start line border - group_start line m.place) line.nid_c (nid_rbc line e)) in
       sends_then 0 d 5 6 6 1 0 0 1 0 0 (a >> b >> f) g k (omega arith) (omega arith)
       (sends_then 0 d 5 6 6 1 0 0 0 0 0 (a >> b) f k (omega arith) (omega arith)
-      (sends_then 0 d 5 6 6 1 0 0 0 0 0 a b k (omega arith) (omega arith) (sends_one 0 d line c t 5 6 e (Announce number t m.place.track) k (omega arith) (omega arith)) (sends_none 0 d 6 6 _ refl refl refl))
+      (sends_then 0 d 5 6 6 1 0 0 0 0 0 a b k (omega arith) (omega arith) (sends_one 0 d line c t 5 6 e (Announce number t m.place.track) k (omega arith) (omega arith) tt) (sends_none 0 d 6 6 _ refl refl refl))
       (sends_none 0 d 6 6 _ refl refl refl))
       (sends_quiet 0 d 6 6 0 1 0 _ refl (omega arith) (omega arith))
 
@@ -105,7 +105,7 @@ module _ (d : ℕ) (line : Line) (c t : ℕ) where
   ask_sends e m k =
       let body : Body = RouteAsk t (behind m.hand) (min (32 - m.hand.count) (512 - behind m.hand)) in
       sends_then 0 d 6 7 7 1 0 0 0 0 0 (send e body) (become (λ j. record j { route_ask = put j.route_ask t (Some (behind m.hand)) })) k (omega arith) (omega arith)
-      (sends_one 0 d line c t 6 7 e body k (omega arith) (omega arith)) (sends_none 0 d 7 7 _ refl refl refl)
+      (sends_one 0 d line c t 6 7 e body k (omega arith) (omega arith) tt) (sends_none 0 d 7 7 _ refl refl refl)
 
   pub where_sends : (low high n s w : ℕ) (b : Bool) (x : Reply) (k : Centre) → Sends 0 d low high n s w x → Sends 0 d low high n s w (if b then x else rest k)
   where_sends low high n s w b x k sends = sends_if 0 d low high n s w b x (rest k) (λ is. sends) (λ no. sends_quiet 0 d low high n s w (rest k) refl (omega arith) (omega arith))

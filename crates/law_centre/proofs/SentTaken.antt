@@ -39,7 +39,7 @@ module _ (d : ℕ) (line : Line) (c : ℕ) where
   wished_sends s Open j = sends_quiet 0 d 0 8 1 1 0 (rest j) refl (omega arith) (omega arith)
   wished_sends s (Taken t) j = sends_less 0 d 0 8 0 1 0 0 8 1 1 0 _ (omega arith) (omega arith) (omega arith) (omega arith) (omega arith) (propose_sends 0 d line c t 0 8 s j)
   wished_sends s (Out t) j = sends_less 0 d 0 8 1 0 0 0 8 1 1 0 _ (omega arith) (omega arith) (omega arith) (omega arith) (omega arith)
-      (sends_yes 0 d 0 8 (is_linked line c d) (RouteWithdraw t s) (withdraw line c t s j) refl refl refl (λ linked. (omega arith, omega arith)))
+      (sends_yes 0 d 0 8 (is_linked line c d) (RouteWithdraw t s) (withdraw line c t s j) refl refl refl (λ linked. (omega arith, omega arith, tt)))
 
   unset_few : (s : ℕ) (k : Centre) → Few d line c 0 (unset line c s k)
   unfolding ◌>>◌

@@ -17,9 +17,9 @@ rank (Announce number t track) = 4
 rank (RouteAsk t first most) = 5
 rank body = 6
 
--- of two runs that go home the lower goes first
+-- of two runs that go home the lower goes first, and a section lies between them: they are no parts of one longer run
 abbrev pub IsLowerReturn : Body → Body → Type 0
-IsLowerReturn (RouteReturn t r) (RouteReturn u q) = r.first < q.first
+IsLowerReturn (RouteReturn t r) (RouteReturn u q) = behind r < q.first
 IsLowerReturn a b = ⊥
 
 abbrev pub GoesBefore : Body → Body → Type 0

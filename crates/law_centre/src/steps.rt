@@ -19,7 +19,7 @@ pub fn a_step_sends_few()
 {}
 
 /// What a step sends on a link goes out in order: runs that go home, the lower first, then a Yield, a Cancel, a right that
-/// goes back, an Announce, a RouteAsk, and any other.
+/// goes back, an Announce, a RouteAsk, and any other. Between two runs that go home lies a section that does not, so each is as long as it can be.
 pub fn a_step_sends_in_order()
     ensures { (line : Line) (c d : ℕ) (k : Centre) (event : Event) → HoldsFew line k → TakesFew event
         → GoInOrder (map (λ (f : Frame). f.body) ((taken line c event k).0.frames d)) }
