@@ -7,3 +7,4 @@ pub mod Events
 pub mod Frames
 pub mod Steps
 pub mod Worlds
+pub mod Few

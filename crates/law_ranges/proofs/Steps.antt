@@ -69,7 +69,7 @@ module _ (line : Line) (ok : IsLine line) (c : ℕ) where
 
 -- ## Its frames
 
-holds_few : (line : Line) (c : ℕ) (k : Centre) → HasStateRanges line c k → HoldsFew line k
+pub holds_few : (line : Line) (c : ℕ) (k : Centre) → HasStateRanges line c k → HoldsFew line k
 holds_few line c k old = record {
   missions = λ t m at. let is = old.mission t m at in let hand = is.hand.count.1 in let pool = is.pool in omega (arith, hand, pool);
   pools = λ t m at. ⊎_elim (λ (none : m.pool.count ≡ 0). inl none) (λ (after : m.pool.first ≡ behind m.hand). inr (omega (arith, after))) (old.mission t m at).follows;
@@ -90,7 +90,7 @@ brings_few (Cancel number t) range = tt
 brings_few (TakingOver number t) range = tt
 brings_few (Yield number t heard has_data is_ended place hand) range = tt
 
-takes_few : (line : Line) (c : ℕ) (event : Event) → HasEventRanges line c event → TakesFew event
+pub takes_few : (line : Line) (c : ℕ) (event : Event) → HasEventRanges line c event → TakesFew event
 takes_few line c (Train m) range = tt
 takes_few line c (Set s) range = tt
 takes_few line c (Unset s) range = tt

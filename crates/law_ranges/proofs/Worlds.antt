@@ -59,7 +59,7 @@ module _ (line : Line) (ok : IsLine line) (w : World) (old : IsWorldInRange line
       chosen false is = stands_still NoCentre
 
   -- a frame that was sent is in range
-  sent_range : (a b number : ℕ) (f : Frame) → frame_sent w a b number ≡ Some f → HasFrameRanges f
+  pub sent_range : (a b number : ℕ) (f : Frame) → frame_sent w a b number ≡ Some f → HasFrameRanges f
   sent_range a b number f is = by_number (number == 0) is
     where
       by_number : (z : Bool) → (if z then None else slice_get ((w.at a).sent b) (number - 1)) ≡ Some f → HasFrameRanges f

@@ -7,6 +7,7 @@ ghost use Rattle.rbc_spec.specs.Step.{Event, refusal};
 ghost use Rattle.rbc_spec.specs.World as world;
 ghost use Rattle.rbc_spec.specs.World.{World, Answer, new_world, world_run};
 ghost use Rattle.law_ranges.specs.Ranges.{HasEventRanges, HasStateRanges};
+ghost use Rattle.law_ranges.specs.Few.{IsFewAnswer};
 ghost use Rattle.law_ranges.specs.Stays.{StaysInRange, SendsInRange, IsReadInRange, IsWorldInRange};
 
 /// At its beginning a centre is in its ranges.
@@ -32,4 +33,11 @@ pub fn each_frame_has_its_ranges()
 pub fn each_frame_of_a_world_has_its_ranges()
     ensures { (line : Line) (events : List world.Event) (answers : List Answer) (w : World) → IsLine line
         → All IsReadInRange events → world_run line (new_world line) events ≡ Ok (answers, w) → IsWorldInRange line w }
+{}
+
+/// Behind any list of events in which each message of a train is in range: each answer says two messages to trains at most and tells the
+/// interlocking 64 words, and sends three frames on a link at most, in their order.
+pub fn each_answer_says_few()
+    ensures { (line : Line) (events : List world.Event) (answers : List Answer) (w : World) → IsLine line
+        → All IsReadInRange events → world_run line (new_world line) events ≡ Ok (answers, w) → All IsFewAnswer answers }
 {}

@@ -7,6 +7,6 @@
 mod laws;
 
 pub use laws::{
-    a_centre_begins_in_range, a_centre_stays_in_range, each_frame_has_its_ranges,
-    each_frame_of_a_world_has_its_ranges,
+    a_centre_begins_in_range, a_centre_stays_in_range, each_answer_says_few,
+    each_frame_has_its_ranges, each_frame_of_a_world_has_its_ranges,
 };
