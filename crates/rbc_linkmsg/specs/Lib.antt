@@ -3,4 +3,5 @@ pub mod FrameView
 pub mod Kinds
 pub mod Spelling
 pub mod Faults
+pub mod FaultNumbers
 pub mod Raw

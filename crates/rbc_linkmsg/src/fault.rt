@@ -1,3 +1,6 @@
+ghost use Rattle.std.specs.Prelude.{◌≡◌};
+ghost use Rattle.rbc_linkmsg.specs.FaultNumbers.{frame_fault_number};
+
 use thiserror::Error;
 
 /// Why bytes are no frame.
@@ -15,4 +18,13 @@ pub enum FrameFault {
     /// A field has a value that is out of its range.
     #[error("value")]
     Value = 4,
+}
+
+impl FrameFault {
+    /// The number by which a program names the fault.
+    pub fn number(self) -> u8
+        ensures { result ≡ frame_fault_number self }
+    {
+        self as u8
+    }
 }
