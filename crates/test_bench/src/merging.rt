@@ -11,21 +11,25 @@ use std::time::Instant;
 /// Gives each centre of a line a log of so many entries, with the same stamps, and merges the logs. It prints how many entries there are, and
 /// how many nanoseconds each took.
 pub fn measure_merge(rt: &HostRuntime, line: &str, entries: u32) -> anyhow::Result<()> {
-    let alloc = rt.alloc();
     let line = line_in(rt, line)?;
-    let logs = logs_of(alloc, &line, entries)?;
-    let mut lent = Vec::with_capacity(alloc, logs.len())?;
+    let logs = logs_of(rt.alloc(), &line, entries)?;
+    let mut lent = Vec::with_capacity(rt.alloc(), logs.len())?;
     for log in &logs {
         lent.push(log)?;
     }
+    let (count, nanos) = merged(rt, lent.as_slice())?;
+    println!(rt; "{count} {}", nanos / count.max(1))?;
+    Ok(())
+}
+
+// Merges the logs: how many entries there are, and how many nanoseconds it took.
+fn merged(rt: &HostRuntime, logs: &[&CentreLog]) -> anyhow::Result<(u128, u128)> {
     let start = Instant::now(rt)?;
-    let Ok(merged) = merge(alloc, lent.as_slice()) else {
+    let Ok(merged) = merge(rt.alloc(), logs) else {
         bail!("the logs were not merged");
     };
     let nanos = start.elapsed(rt)?.as_nanos();
-    let count = merged.len() as u128;
-    println!(rt; "{count} {}", nanos / count.max(1))?;
-    Ok(())
+    Ok((merged.len() as u128, nanos))
 }
 
 // A log of each centre, in which a section was released so often.

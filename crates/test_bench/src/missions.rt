@@ -14,18 +14,27 @@ use std::{fs, io};
 
 /// Prints what the centres of a line answer to each event of a script.
 pub fn print_answers(rt: &HostRuntime, line: &str, script: &str) -> anyhow::Result<()> {
-    let alloc = rt.alloc();
     let line = line_in(rt, line)?;
     let events = events_in(rt, &line, script)?;
-    let mut world = World::new(alloc, &line)?;
-    let mut out = BufWriter::new(alloc, io::writer(rt))?;
-    for event in &events {
+    let mut out = BufWriter::new(rt.alloc(), io::writer(rt))?;
+    print_each(rt.alloc(), &line, &events, &mut out)?;
+    out.flush()?;
+    Ok(())
+}
+
+fn print_each<W: Write>(
+    alloc: Global,
+    line: &Line,
+    events: &[WorldEvent],
+    out: &mut W,
+) -> anyhow::Result<()> {
+    let mut world = World::new(alloc, line)?;
+    for event in events {
         match world.step(event) {
-            Ok(answer) => print_answer(alloc, &mut out, &answer)?,
+            Ok(answer) => print_answer(alloc, out, &answer)?,
             Err(fault) => bail!("step refused {}", fault.number()),
         }
     }
-    out.flush()?;
     Ok(())
 }
 
