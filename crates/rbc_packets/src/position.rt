@@ -112,8 +112,8 @@ impl Position {
         Position::whole(bits.part())
     }
 
-    // All bits behind the header.
-    #[inline(always)]
+    // All bits behind the header. It is a call, and the only one of `fields`, so that the part stays in registers from field to field.
+    #[inline(never)]
     fn whole(mut part: BitPart) -> Result<Self, PacketFault>
         ensures exact { (rest : List Bool) → Takes (λ x. x) result rest (position_part_at part.entry rest) }
         ensures taken { IfOk result (λ p. part.entry ≡ joined (position_fields p)) }
