@@ -9,22 +9,28 @@ ghost use Rattle.rbc_centre.specs.declared.fault.StepFault.TheVariants.{Memory};
 ghost use Rattle.rbc_world.specs.declared.event.Answer.{Answer};
 ghost use Rattle.law_alike.specs.Alike.{IsStep, AreSteps, IsWrittenAs, seen};
 
-/// Two steps that keep the clauses, of whatever programs: from the same world, by the same event, each with memory at hand, they return the same
-/// answer or refusal, as it is seen, and leave the same line and world.
+/// Two steps that keep the clauses, of whatever programs: from the same world, by the same event, each with memory at
+/// hand, they return the same answer or refusal, as it is seen, and leave the same line and world.
 pub fn a_step_has_one_result()
-    ensures { (line left others_left : Line) (w new others_new : World) (event : Event) (result other : Result Answer StepFault)
-        → IsStep line w event result left new → IsStep line w event other others_left others_new → result ≢ Err Memory → other ≢ Err Memory
+    ensures { (line left others_left : Line) (w new others_new : World) (event : Event)
+        (result other : Result Answer StepFault)
+        → IsStep line w event result left new → IsStep line w event other others_left others_new → result ≢ Err Memory
+        → other ≢ Err Memory
         → (seen result ≡ seen other) × (left ≡ others_left) × (new ≡ others_new) }
 {}
 
-/// So do two programs over a whole list of events, one step after another: they return the same for each event, and leave the same world.
+/// So do two programs over a whole list of events, one step after another: they return the same for each event, and
+/// leave the same world.
 pub fn a_list_of_events_has_one_end()
-    ensures { (line : Line) (w new others_new : World) (events : List Event) (results others : List (Result Answer StepFault))
+    ensures { (line : Line) (w new others_new : World) (events : List Event)
+        (results others : List (Result Answer StepFault))
         → AreSteps line w events results new → AreSteps line w events others others_new
-        → All (λ r. r ≢ Err Memory) results → All (λ r. r ≢ Err Memory) others → (map seen results ≡ map seen others) × (new ≡ others_new) }
+        → All (λ r. r ≢ Err Memory) results → All (λ r. r ≢ Err Memory) others
+        → (map seen results ≡ map seen others) × (new ≡ others_new) }
 {}
 
-/// What is seen of an outcome has one spelling: the bytes of its messages to trains and of its frames to centres are the same, whoever writes them.
+/// What is seen of an outcome has one spelling: the bytes of its messages to trains and of its frames to centres are
+/// the same, whoever writes them.
 pub fn an_outcome_has_one_spelling()
     ensures { (o : Outcome) (messages others : List (ℕ × List ℕ)) (frames other_frames : ℕ → List (List ℕ))
         → IsWrittenAs o messages frames → IsWrittenAs o others other_frames

@@ -1,8 +1,8 @@
-//! Programs that keep the contract of `World::step` answer alike: where memory is at hand, the same events from the same
-//! world are answered by the same, byte for byte, and leave the same.
+//! Programs that keep the contract of `World::step` answer alike: where memory is at hand, the same events from the
+//! same world are answered by the same, byte for byte, and leave the same.
 //!
-//! What `laws.rt` states stays, and how it is proved is free. `promised.rt` has the one call: it proves of the contract of `World::step` what
-//! the laws speak of.
+//! What `laws.rt` states stays, and how it is proved is free. `promised.rt` has the one call: it proves of the contract
+//! of `World::step` what the laws speak of.
 #![tactic(auto)]
 
 mod laws;

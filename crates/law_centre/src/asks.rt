@@ -11,8 +11,11 @@ ghost use Rattle.law_centre.specs.Asks.{AsksForEmptyPools, follows_hand};
 /// While a question of a train stands, the pool of its mission is empty: at the beginning, and behind each step.
 pub fn a_question_stands_for_an_empty_pool()
     ensures beginning { (line : Line) (c : ℕ) → AsksForEmptyPools (beginning line c) }
-    ensures step { (line : Line) (c : ℕ) (k : Centre) (event : Event) → AsksForEmptyPools k → AsksForEmptyPools (taken line c event k).1 }
-    // So what comes to a standing question is wanted wherever it follows the hand: that the pool is empty asks for no more.
-    ensures wanted { (line : Line) (k : Centre) (t first : ℕ) (m : Mission) (r : SectionRun) → AsksForEmptyPools k → k.route_ask t ≡ Some first
+    ensures step { (line : Line) (c : ℕ) (k : Centre) (event : Event) → AsksForEmptyPools k
+        → AsksForEmptyPools (taken line c event k).1 }
+    // So what comes to a standing question is wanted wherever it follows the hand: that the pool is empty asks for no
+    // more.
+    ensures wanted { (line : Line) (k : Centre) (t first : ℕ) (m : Mission) (r : SectionRun) → AsksForEmptyPools k
+        → k.route_ask t ≡ Some first
         → k.mission t ≡ Some m → is_wanted line r m ≡ follows_hand line r m }
 {}

@@ -1,10 +1,12 @@
-//! Laws of runs of sections: what is in them, what two share, a run that is cut in two, and the longest run under a test.
+//! Laws of runs of sections: what is in them, what two share, a run that is cut in two, and the longest run under a
+//! test.
 
 ghost use Rattle.std.specs.Prelude.{◌≡◌, ℕ, ◌+◌, ◌≤◌, ◌&&◌, ◌||◌, Bool, true, false, nat_lt, nat_le};
 ghost use Rattle.rbc_spec.specs.SectionRuns.{SectionRun, within, behind, is_empty, part_before, part_from, shared, joined, longest, passing};
 ghost use Rattle.law_base.specs.Runs.{IsLongest};
 
-/// A number cuts a run in two: of its sections the part before the number has the lower ones, the part from it on the others.
+/// A number cuts a run in two: of its sections the part before the number has the lower ones, the part from it on the
+/// others.
 pub fn a_run_is_cut_in_two()
     ensures before { (r : SectionRun) (cut s : ℕ) → within (part_before cut r) s ≡ (within r s && nat_lt s cut) }
     ensures from { (r : SectionRun) (cut s : ℕ) → within (part_from cut r) s ≡ (within r s && nat_le cut s) }
@@ -18,14 +20,16 @@ pub fn what_runs_share()
 
 /// A run and one that follows it at once are one run, of the sections of both. An empty one adds nothing.
 pub fn runs_are_joined()
-    ensures both { (a b : SectionRun) (s : ℕ) → b.first ≡ behind a → within (joined a b) s ≡ (within a s || within b s) }
+    ensures both { (a b : SectionRun) (s : ℕ) → b.first ≡ behind a
+        → within (joined a b) s ≡ (within a s || within b s) }
     ensures empty { (a b : SectionRun) (s : ℕ) → is_empty b ≡ true → within (joined a b) s ≡ within a s }
     ensures count { (a b : SectionRun) → (joined a b).count ≡ a.count + b.count }
 {}
 
 /// A run that is cut between its ends is the same run when its parts are joined.
 pub fn a_cut_run_is_joined_again()
-    ensures { (r : SectionRun) (cut : ℕ) → r.first ≤ cut → cut ≤ behind r → joined (part_before cut r) (part_from cut r) ≡ r }
+    ensures { (r : SectionRun) (cut : ℕ) → r.first ≤ cut → cut ≤ behind r
+        → joined (part_before cut r) (part_from cut r) ≡ r }
 {}
 
 /// Two runs that have the same sections, and one at least, are one run.
@@ -33,11 +37,12 @@ pub fn runs_of_the_same_sections()
     ensures { (r q : SectionRun) → is_empty r ≡ false → ((s : ℕ) → within r s ≡ within q s) → r ≡ q }
 {}
 
-/// The longest run under a test, of at most so many sections: each passes, and the next does not or there is room for no more. No
-/// other run is that.
+/// The longest run under a test, of at most so many sections: each passes, and the next does not or there is room for
+/// no more. No other run is that.
 pub fn the_longest_run()
     ensures is { (test : ℕ → Bool) (first most : ℕ) → IsLongest test first most (longest test first most) }
-    ensures only { (test : ℕ → Bool) (first most count : ℕ) → IsLongest test first most count → count ≡ longest test first most }
+    ensures only { (test : ℕ → Bool) (first most count : ℕ) → IsLongest test first most count
+        → count ≡ longest test first most }
 {}
 
 /// The first sections of a run that pass a test are the longest run of it that does.

@@ -18,8 +18,9 @@ pub fn a_step_sends_few()
         → length (taken line c event k).0.words ≤ 64 }
 {}
 
-/// What a step sends on a link goes out in order: runs that go home, the lower first, then a Yield, a Cancel, a right that
-/// goes back, an Announce, a RouteAsk, and any other. Between two runs that go home lies a section that does not, so each is as long as it can be.
+/// What a step sends on a link goes out in order: runs that go home, the lower first, then a Yield, a Cancel, a right
+/// that goes back, an Announce, a RouteAsk, and any other. Between two runs that go home lies a section that does not,
+/// so each is as long as it can be.
 pub fn a_step_sends_in_order()
     ensures { (line : Line) (c d : ℕ) (k : Centre) (event : Event) → HoldsFew line k → TakesFew event
         → GoInOrder (map (λ (f : Frame). f.body) ((taken line c event k).0.frames d)) }
@@ -27,6 +28,7 @@ pub fn a_step_sends_in_order()
 
 /// What a step that is not refused sends on a link has its numbers and its stamp in the ranges of their fields.
 pub fn each_frame_is_counted_in_range()
-    ensures { (line : Line) (c d : ℕ) (k : Centre) (event : Event) → HoldsFew line k → TakesFew event → is_linked line c d ≡ true
+    ensures { (line : Line) (c d : ℕ) (k : Centre) (event : Event) → HoldsFew line k → TakesFew event
+        → is_linked line c d ≡ true
         → refusal line c k event ≡ None → All IsCountedInRange ((taken line c event k).0.frames d) }
 {}

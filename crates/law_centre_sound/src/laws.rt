@@ -16,10 +16,11 @@ pub fn a_centre_begins_sound()
     ensures { (line : Line) (c : ℕ) → IsCentreSound line c (beginning line c) }
 {}
 
-/// Whatever a train says, the interlocking wishes or another centre sends: a sound centre stays sound, and what it sends
-/// is sound.
+/// Whatever a train says, the interlocking wishes or another centre sends: a sound centre stays sound, and what it
+/// sends is sound.
 pub fn a_centre_stays_sound()
-    ensures { (line : Line) (c : ℕ) (k : Centre) (event : Event) → IsLine line → IsInRange event → IsCentreSound line c k
+    ensures { (line : Line) (c : ℕ) (k : Centre) (event : Event) → IsLine line → IsInRange event
+        → IsCentreSound line c k
         → StaysSound line c k event }
 {}
 

@@ -16,35 +16,43 @@ ghost use Rattle.law_handover.specs.Orderly.{Allowance, IsOrderlyWith, IsOrderly
 ghost use Rattle.law_handover.specs.Steps.{IsByItself, left_by, sent_by};
 ghost use Rattle.law_handover.specs.Worlds.{IsWorldSound};
 
-/// An orderly act of a centre keeps what any two centres know of the handover of a train, where it yields none but what was announced and
-/// is taken over; and so does a frame that is the next of its link and is taken as it says.
+/// An orderly act of a centre keeps what any two centres know of the handover of a train, where it yields none but what
+/// was announced and is taken over; and so does a frame that is the next of its link and is taken as it says.
 pub fn an_orderly_act_keeps_all_paired()
-    ensures acts { (w : Flow) (c i j t : ℕ) (y : Centre) (frames : ℕ → List Body) → IsCounted w → IsOrderly (w.at c) y frames
+    ensures acts { (w : Flow) (c i j t : ℕ) (y : Centre) (frames : ℕ → List Body) → IsCounted w
+        → IsOrderly (w.at c) y frames
         → IsPaired w i j t → IsPaired (acted w c y frames) i j t }
-    ensures yields { (w : Flow) (c i j t : ℕ) (y : Centre) (frames : ℕ → List Body) (allow : Allowance) → IsCounted w → IsOrderlyWith allow (w.at c) y frames
+    ensures yields { (w : Flow) (c i j t : ℕ) (y : Centre) (frames : ℕ → List Body) (allow : Allowance) → IsCounted w
+        → IsOrderlyWith allow (w.at c) y frames
         → ((d u h : ℕ) → allow d u h ≡ true → (before w c d u h ≡ 0) × (h ≤ (w.at c).announced))
         → IsPaired w i j t → IsPaired (acted w c y frames) i j t }
     ensures takes { (w : Flow) (a c i j t : ℕ) (f : Body) (y : Centre) → TakesHead w a c f → IsTaking a f (w.at c) y
         → IsPaired w i j t → IsPaired (acted (took w a c) c y (λ d. [])) i j t }
 {}
 
-/// Each step of a centre is orderly: by itself whatever the centre is in, and behind the next frame of a link, which in a
-/// sound flow is taken as it says.
+/// Each step of a centre is orderly: by itself whatever the centre is in, and behind the next frame of a link, which in
+/// a sound flow is taken as it says.
 pub fn each_step_is_orderly()
     ensures by_itself { (line : Line) (c : ℕ) (k : Centre) (event : Event) → IsByItself line c k event
         → IsOrderly k (left_by line c k event) (sent_by line c k event) }
     ensures at_head { (line : Line) (w : Flow) (a c : ℕ) (f : Frame) → IsLine line → IsFlowSound line w
-        → is_centre line a ≡ true → is_centre line c ≡ true → TakesHead w a c f.body → link_answer line c (w.at c) a f ≡ Next
-        → IsTakenWith a f.body (w.at c) (left_by line c (w.at c) (Deliver a f)) (sent_by line c (w.at c) (Deliver a f)) }
+        → is_centre line a ≡ true → is_centre line c ≡ true → TakesHead w a c f.body
+        → link_answer line c (w.at c) a f ≡ Next
+        → IsTakenWith a f.body (w.at c) (left_by line c (w.at c) (Deliver a f))
+        (sent_by line c (w.at c) (Deliver a f)) }
 {}
 
 /// So each step of a centre keeps what any two centres of the line know of the handover of each train.
 pub fn each_step_keeps_all_paired()
-    ensures by_itself { (line : Line) (w : Flow) (c : ℕ) (event : Event) → IsCounted w → IsByItself line c (w.at c) event
-        → ArePaired line w → ArePaired line (acted w c (left_by line c (w.at c) event) (sent_by line c (w.at c) event)) }
+    ensures by_itself { (line : Line) (w : Flow) (c : ℕ) (event : Event) → IsCounted w
+        → IsByItself line c (w.at c) event
+        → ArePaired line w → ArePaired line
+        (acted w c (left_by line c (w.at c) event) (sent_by line c (w.at c) event)) }
     ensures at_head { (line : Line) (w : Flow) (a c : ℕ) (f : Frame) → IsLine line → IsFlowSound line w
-        → is_centre line a ≡ true → is_centre line c ≡ true → TakesHead w a c f.body → link_answer line c (w.at c) a f ≡ Next
-        → ArePaired line (acted (took w a c) c (left_by line c (w.at c) (Deliver a f)) (sent_by line c (w.at c) (Deliver a f))) }
+        → is_centre line a ≡ true → is_centre line c ≡ true → TakesHead w a c f.body
+        → link_answer line c (w.at c) a f ≡ Next
+        → ArePaired line (acted (took w a c) c (left_by line c (w.at c) (Deliver a f))
+        (sent_by line c (w.at c) (Deliver a f))) }
 {}
 
 /// With the laws of each centre by itself and of fair steps: each event of a world keeps its whole flow sound.

@@ -20,78 +20,94 @@ ghost use Rattle.law_mutants.specs.Small.{small, only, in_section_0, in_section_
 ghost use Rattle.law_mutants.specs.Past.{GoesPast};
 ghost use Rattle.law_mutants.specs.Rules.{lending_again, shutting_at_once, giving_back_all, keeping_pool, starting_at_once, keeping_yield, keeping_older, cancelling_any, handed_over_by, sent_home_by};
 
-/// Whoever asks for sections, no section is then held for a train more often than its home lets be out. Where a section that is out is lent
-/// again, to another train, the first one still has it in a pool, and its home does not let that be out.
+/// Whoever asks for sections, no section is then held for a train more often than its home lets be out. Where a section
+/// that is out is lent again, to another train, the first one still has it in a pool, and its home does not let that be
+/// out.
 pub fn no_section_is_lent_twice()
-    ensures the_rule_keeps { (line : Line) (w : Flow) (c d u first most t s : ℕ) → IsLine line → IsCounted w → is_centre line c ≡ true
+    ensures the_rule_keeps { (line : Line) (w : Flow) (c d u first most t s : ℕ) → IsLine line → IsCounted w
+        → is_centre line c ≡ true
         → IsWithinCap (tokens line t s) (centre_count line) w
         → IsWithinCap (tokens line t s) (centre_count line) (replied w c (route_asked line c d u first most (w.at c))) }
-    ensures the_wrong_rule_breaks { GoesPast (tokens small 1 1) small (flow pooled) (replied (flow pooled) 1 (lending_again small 1 0 2 1 1 ((flow pooled).at 1))) }
+    ensures the_wrong_rule_breaks { GoesPast (tokens small 1 1) small (flow pooled)
+        (replied (flow pooled) 1 (lending_again small 1 0 2 1 1 ((flow pooled).at 1))) }
 {}
 
-/// Whatever mission is handed over, each train then has its right once at most. Where the mission goes on at the centre that yields, the
-/// train has its right there and in the Yield.
+/// Whatever mission is handed over, each train then has its right once at most. Where the mission goes on at the centre
+/// that yields, the train has its right there and in the Yield.
 pub fn no_yield_keeps_its_mission()
     ensures the_rule_keeps { (line : Line) (w : Flow) (c u t : ℕ) → IsCounted w → is_centre line c ≡ true
         → IsWithinCap (rights line t) (centre_count line) w
         → IsWithinCap (rights line t) (centre_count line) (replied w c (handed_over_by (yield line c u) u (w.at c))) }
-    ensures the_wrong_rule_breaks { GoesPast (rights small 1) small (flow taking) (replied (flow taking) 0 (handed_over_by (keeping_yield small 0 1) 1 ((flow taking).at 0))) }
+    ensures the_wrong_rule_breaks { GoesPast (rights small 1) small (flow taking)
+        (replied (flow taking) 0 (handed_over_by (keeping_yield small 0 1) 1 ((flow taking).at 0))) }
 {}
 
-/// Where a mission is taken up, a message that was old to this centre or to the one that yields stays old. Where the older of both stamps
-/// is kept, a message that was heard here would be heard again.
+/// Where a mission is taken up, a message that was old to this centre or to the one that yields stays old. Where the
+/// older of both stamps is kept, a message that was heard here would be heard again.
 pub fn no_older_stamp_is_kept()
     ensures the_rule_keeps { (line : Line) (c d t heard stamp : ℕ) (m : Mission) (k : Centre)
         → (is_stale stamp (k.heard t) ≡ true) ⊎ (is_stale stamp (Some heard) ≡ true)
         → is_stale stamp ((take_mission line c d t heard m k).state.heard t) ≡ true }
     ensures the_wrong_rule_breaks { (is_stale 9 (((flow taking).at 1).heard 1) ≡ true)
-        × (is_stale 9 ((keeping_older small 1 0 1 6 (begun small in_section_1) ((flow taking).at 1)).state.heard 1) ≡ false) }
+        × (is_stale 9 ((keeping_older small 1 0 1 6 (begun small in_section_1) ((flow taking).at 1)).state.heard 1)
+        ≡ false) }
 {}
 
-/// A start of mission in released sections waits, and each train then has its right once at most. Where the mission begins while the right
-/// is asked for, it is in the mission and at the registrar.
+/// A start of mission in released sections waits, and each train then has its right once at most. Where the mission
+/// begins while the right is asked for, it is in the mission and at the registrar.
 pub fn no_start_begins_before_its_right()
-    ensures the_rule_keeps { (line : Line) (w : Flow) (c u t : ℕ) (place : Place) → IsCounted w → is_centre line c ≡ true
+    ensures the_rule_keeps { (line : Line) (w : Flow) (c u t : ℕ) (place : Place) → IsCounted w
+        → is_centre line c ≡ true
         → all_of (is_free line c (w.at c)) (covered line place) ≡ true
         → IsWithinCap (rights line t) (centre_count line) w
         → IsWithinCap (rights line t) (centre_count line) (replied w c (start_waiting line u place (w.at c))) }
-    ensures the_wrong_rule_breaks { GoesPast (rights small 1) small (flow at_the_other) (replied (flow at_the_other) 1 (starting_at_once small 1 in_section_1 ((flow at_the_other).at 1))) }
+    ensures the_wrong_rule_breaks { GoesPast (rights small 1) small (flow at_the_other)
+        (replied (flow at_the_other) 1 (starting_at_once small 1 in_section_1 ((flow at_the_other).at 1))) }
 {}
 
-/// Whatever sections come home at the head of a link, no section is then held more often than its home lets be out. Where all are given back
-/// that are out for the train, one opens that is still in a pool there.
+/// Whatever sections come home at the head of a link, no section is then held more often than its home lets be out.
+/// Where all are given back that are out for the train, one opens that is still in a pool there.
 pub fn no_section_opens_before_its_return()
     ensures the_rule_keeps { (line : Line) (w : Flow) (a c u t s : ℕ) (r : SectionRun) → IsLine line → IsCounted w
         → is_centre line a ≡ true → is_centre line c ≡ true → TakesHead w a c (RouteReturn u r)
         → IsWithinCap (tokens line t s) (centre_count line) w
-        → IsWithinCap (tokens line t s) (centre_count line) (replied (took w a c) c (route_returned line c u r (w.at c))) }
+        → IsWithinCap (tokens line t s) (centre_count line)
+        (replied (took w a c) c (route_returned line c u r (w.at c))) }
     ensures the_wrong_rule_breaks { TakesHead (flow returning) 0 1 (RouteReturn 1 (only 2))
-        × GoesPast (tokens small 1 1) small (flow returning) (replied (took (flow returning) 0 1) 1 (giving_back_all small 1 1 (only 2) ((flow returning).at 1))) }
+        × GoesPast (tokens small 1 1) small (flow returning)
+        (replied (took (flow returning) 0 1) 1 (giving_back_all small 1 1 (only 2) ((flow returning).at 1))) }
 {}
 
-/// Nor does a section that the interlocking wishes back: it stays in use until it comes home. Where it is shut as it is asked back, it is
-/// still in a pool elsewhere.
+/// Nor does a section that the interlocking wishes back: it stays in use until it comes home. Where it is shut as it is
+/// asked back, it is still in a pool elsewhere.
 pub fn no_section_shuts_as_it_is_asked_back()
-    ensures the_rule_keeps { (line : Line) (w : Flow) (c e t s : ℕ) → IsLine line → IsCounted w → is_centre line c ≡ true
+    ensures the_rule_keeps { (line : Line) (w : Flow) (c e t s : ℕ) → IsLine line → IsCounted w
+        → is_centre line c ≡ true
         → IsWithinCap (tokens line t s) (centre_count line) w
         → IsWithinCap (tokens line t s) (centre_count line) (replied w c (unset line c e (w.at c))) }
-    ensures the_wrong_rule_breaks { GoesPast (tokens small 1 1) small (flow pooled) (replied (flow pooled) 1 (shutting_at_once small 1 1 ((flow pooled).at 1))) }
+    ensures the_wrong_rule_breaks { GoesPast (tokens small 1 1) small (flow pooled)
+        (replied (flow pooled) 1 (shutting_at_once small 1 1 ((flow pooled).at 1))) }
 {}
 
-/// Whatever pool goes home, no section is then held more often than its home lets be out. Where the pool stays too, its sections are in it
-/// and on their way home.
+/// Whatever pool goes home, no section is then held more often than its home lets be out. Where the pool stays too, its
+/// sections are in it and on their way home.
 pub fn no_pool_is_returned_and_kept()
-    ensures the_rule_keeps { (line : Line) (w : Flow) (c u t s : ℕ) → IsLine line → IsCounted w → is_centre line c ≡ true
+    ensures the_rule_keeps { (line : Line) (w : Flow) (c u t s : ℕ) → IsLine line → IsCounted w
+        → is_centre line c ≡ true
         → IsWithinCap (tokens line t s) (centre_count line) w
-        → IsWithinCap (tokens line t s) (centre_count line) (replied w c (sent_home_by (return_pool line c u) u (w.at c))) }
-    ensures the_wrong_rule_breaks { GoesPast (tokens small 1 1) small (flow pooled) (replied (flow pooled) 0 (sent_home_by (keeping_pool small 0 1) 1 ((flow pooled).at 0))) }
+        → IsWithinCap (tokens line t s) (centre_count line)
+        (replied w c (sent_home_by (return_pool line c u) u (w.at c))) }
+    ensures the_wrong_rule_breaks { GoesPast (tokens small 1 1) small (flow pooled)
+        (replied (flow pooled) 0 (sent_home_by (keeping_pool small 0 1) 1 ((flow pooled).at 0))) }
 {}
 
-/// What may be taken under one number may be taken behind a Cancel under another. Where a Cancel ends the handover whatever its number, the
-/// Yield that comes under the newer one is not taken, and the train has no supervisor.
+/// What may be taken under one number may be taken behind a Cancel under another. Where a Cancel ends the handover
+/// whatever its number, the Yield that comes under the newer one is not taken, and the train has no supervisor.
 pub fn no_older_cancel_ends_a_newer_handover()
-    ensures the_rule_keeps { (line : Line) (c d older number t : ℕ) (place : Place) (hand : SectionRun) (k : Centre) → older ≢ number
-        → may_take line c k d number t place hand ≡ true → may_take line c (cancelled d older t k).state d number t place hand ≡ true }
+    ensures the_rule_keeps { (line : Line) (c d older number t : ℕ) (place : Place) (hand : SectionRun) (k : Centre)
+        → older ≢ number
+        → may_take line c k d number t place hand ≡ true
+        → may_take line c (cancelled d older t k).state d number t place hand ≡ true }
     ensures the_wrong_rule_breaks { (may_take small 1 expecting 0 2 1 in_section_0 (only 0) ≡ true)
         × (may_take small 1 (cancelling_any 0 1 1 expecting).state 0 2 1 in_section_0 (only 0) ≡ false) }
 {}

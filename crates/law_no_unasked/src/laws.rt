@@ -12,9 +12,10 @@ pub fn a_line_begins_asked()
     ensures { (line : Line) → IsAsked line (flow_of (new_world line)) }
 {}
 
-/// Each event of a sound world keeps what was asked for as it has to be: an answer is on the way only where its question stands, a right
-/// goes back to its registrar alone, and sections come home to their home alone.
+/// Each event of a sound world keeps what was asked for as it has to be: an answer is on the way only where its
+/// question stands, a right goes back to its registrar alone, and sections come home to their home alone.
 pub fn each_step_keeps_all_asked()
-    ensures { (line : Line) (w : World) (event : Event) (answer : Answer) (new : World) → IsLine line → IsWorldSound line w
+    ensures { (line : Line) (w : World) (event : Event) (answer : Answer) (new : World) → IsLine line
+        → IsWorldSound line w
         → IsAsked line (flow_of w) → world_step line w event ≡ Ok (answer, new) → IsAsked line (flow_of new) }
 {}

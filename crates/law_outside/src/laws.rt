@@ -7,9 +7,10 @@ ghost use Rattle.rbc_spec.specs.World.{Event, Answer};
 ghost use Rattle.rbc_spec.specs.Run.{Run};
 ghost use Rattle.law_outside.specs.Outside.{IsSafeOutside, sees_all, nothing_seen};
 
-/// Whatever comes to the centres of a line, in any order, late, twice or never: no two trains may run over one section by what they were told,
-/// and none over a section that the interlocking has not released, or has had back.
+/// Whatever comes to the centres of a line, in any order, late, twice or never: no two trains may run over one section
+/// by what they were told, and none over a section that the interlocking has not released, or has had back.
 pub fn what_is_told_is_safe()
-    ensures { (line : Line) (events : List Event) (answers : List Answer) (v : LineState) → IsLine line → Run line line_beginning events answers v
+    ensures { (line : Line) (events : List Event) (answers : List Answer) (v : LineState) → IsLine line
+        → Run line line_beginning events answers v
         → IsSafeOutside line (sees_all line events answers nothing_seen) }
 {}

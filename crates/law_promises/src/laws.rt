@@ -10,34 +10,43 @@ ghost use Rattle.rbc_spec.specs.Promises.{MayFree};
 ghost use Rattle.law_outside.specs.Outside.{OutsideTheorem};
 ghost use Rattle.law_promises.specs.Promised.{IsFreedWithin, IsTakenBack};
 
-/// Behind any list of events, a section that the line shows as given to a train is so behind the next event too, but where the train clears
-/// it by a report or an end of mission that its supervisor hears, or grants the standing request to give it up.
+/// Behind any list of events, a section that the line shows as given to a train is so behind the next event too, but
+/// where the train clears it by a report or an end of mission that its supervisor hears, or grants the standing request
+/// to give it up.
 pub fn a_section_leaves_a_hand_only_by_its_train()
-    ensures { (line : Line) (events : List Event) (answers : List Answer) (w new : World) (event : Event) (answer : Answer) (t s : ℕ) → IsLine line
+    ensures { (line : Line) (events : List Event) (answers : List Answer) (w new : World) (event : Event)
+        (answer : Answer) (t s : ℕ) → IsLine line
         → world_run line (new_world line) events ≡ Ok (answers, w) → world_step line w event ≡ Ok (answer, new)
-        → (read_off line w).mark s ≡ Given t → is_given_to t ((read_off line new).mark s) ≡ false → MayFree line w t s event }
+        → (read_off line w).mark s ≡ Given t → is_given_to t ((read_off line new).mark s) ≡ false
+        → MayFree line w t s event }
 {}
 
 /// So wherever a section was given to a train and is not any more, some event between freed it so.
 pub fn a_section_that_left_was_freed()
-    ensures { (line : Line) (past events : List Event) (earlier answers : List Answer) (w last : World) (t s : ℕ) → IsLine line
+    ensures { (line : Line) (past events : List Event) (earlier answers : List Answer) (w last : World) (t s : ℕ)
+        → IsLine line
         → world_run line (new_world line) past ≡ Ok (earlier, w) → world_run line w events ≡ Ok (answers, last)
-        → (read_off line w).mark s ≡ Given t → is_given_to t ((read_off line last).mark s) ≡ false → IsFreedWithin line w events t s }
+        → (read_off line w).mark s ≡ Given t → is_given_to t ((read_off line last).mark s) ≡ false
+        → IsFreedWithin line w events t s }
 {}
 
-/// Where a section is told back, or an unset of it is answered by Done, it is shut at its home and nobody has it: no hand, no pool, no start that waits
-/// and no frame on the way.
+/// Where a section is told back, or an unset of it is answered by Done, it is shut at its home and nobody has it: no
+/// hand, no pool, no start that waits and no frame on the way.
 pub fn a_section_told_back_is_nobodys()
-    ensures told { (line : Line) (events : List Event) (answers : List Answer) (w new : World) (event : Event) (o : Outcome) (c s : ℕ) → IsLine line
+    ensures told { (line : Line) (events : List Event) (answers : List Answer) (w new : World) (event : Event)
+        (o : Outcome) (c s : ℕ) → IsLine line
         → world_run line (new_world line) events ≡ Ok (answers, w) → world_step line w event ≡ Ok (Answered o, new)
         → is_home line c s ≡ true → Contains o.words (Told s) → IsTakenBack line c s new }
-    ensures done { (line : Line) (events : List Event) (answers : List Answer) (w new : World) (o : Outcome) (c s : ℕ) → IsLine line
-        → world_run line (new_world line) events ≡ Ok (answers, w) → world_step line w (Unset c s) ≡ Ok (Answered o, new)
+    ensures done { (line : Line) (events : List Event) (answers : List Answer) (w new : World) (o : Outcome) (c s : ℕ)
+        → IsLine line
+        → world_run line (new_world line) events ≡ Ok (answers, w)
+        → world_step line w (Unset c s) ≡ Ok (Answered o, new)
         → is_home line c s ≡ true → Contains o.words (Done s) → IsTakenBack line c s new }
 {}
 
-/// What the world outside sees is safe: whatever comes to the centres of a line, in any order, late, twice or never, no two trains may run over one
-/// section by what they were told, and none over a section that the interlocking has not released, or has had back.
+/// What the world outside sees is safe: whatever comes to the centres of a line, in any order, late, twice or never, no
+/// two trains may run over one section by what they were told, and none over a section that the interlocking has not
+/// released, or has had back.
 pub fn what_the_world_sees_is_safe()
     ensures { OutsideTheorem }
 {}

@@ -15,8 +15,8 @@ pub fn a_centre_begins_in_range()
     ensures { (line : Line) (c : ℕ) → HasStateRanges line c (beginning line c) }
 {}
 
-/// Whatever a train says, the interlocking wishes or another centre sends in range: a step that is not refused leaves the
-/// centre in its ranges, and sends bodies in theirs, on links alone.
+/// Whatever a train says, the interlocking wishes or another centre sends in range: a step that is not refused leaves
+/// the centre in its ranges, and sends bodies in theirs, on links alone.
 pub fn a_centre_stays_in_range()
     ensures { (line : Line) (c : ℕ) (k : Centre) (event : Event) → IsLine line → HasEventRanges line c event
         → HasStateRanges line c k → refusal line c k event ≡ None → StaysInRange line c k event }
@@ -35,9 +35,10 @@ pub fn each_frame_of_a_world_has_its_ranges()
         → All IsReadInRange events → world_run line (new_world line) events ≡ Ok (answers, w) → IsWorldInRange line w }
 {}
 
-/// Behind any list of events in which each message of a train is in range: each answer says two messages to trains at most and tells the
-/// interlocking 64 words, and sends three frames on a link at most, in their order.
+/// Behind any list of events in which each message of a train is in range: each answer says two messages to trains at
+/// most and tells the interlocking 64 words, and sends three frames on a link at most, in their order.
 pub fn each_answer_says_few()
     ensures { (line : Line) (events : List world.Event) (answers : List Answer) (w : World) → IsLine line
-        → All IsReadInRange events → world_run line (new_world line) events ≡ Ok (answers, w) → All IsFewAnswer answers }
+        → All IsReadInRange events → world_run line (new_world line) events ≡ Ok (answers, w)
+        → All IsFewAnswer answers }
 {}

@@ -21,12 +21,13 @@ pub fn what_is_known_of_a_world()
     ensures one_proof { (line : Line) (w : World) (p q : IsKnown line w) → p ≡ q }
     ensures stands { (line : Line) (w : World) → IsKnown line w → StandsFor line w (read_off line w) }
     ensures sound { (line : Line) (w : World) → IsLine line → IsKnown line w → IsSound line w }
-    ensures number { (line : Line) (w : World) (a b number : ℕ) (f : Frame) → IsKnown line w → frame_sent w a b number ≡ Some f
+    ensures number { (line : Line) (w : World) (a b number : ℕ) (f : Frame) → IsKnown line w
+        → frame_sent w a b number ≡ Some f
         → f.number ≡ number }
 {}
 
-/// From such a world the one line centre may meet each further event with the same answer, between the states that are read off the worlds,
-/// and the event keeps its promises.
+/// From such a world the one line centre may meet each further event with the same answer, between the states that are
+/// read off the worlds, and the event keeps its promises.
 pub fn each_further_event()
     ensures goes { (line : Line) (w new : World) (event : Event) (answer : Answer) → IsLine line → IsKnown line w
         → world_step line w event ≡ Ok (answer, new) → Goes line (read_off line w) event answer (read_off line new) }
@@ -34,7 +35,8 @@ pub fn each_further_event()
         → world_step line w event ≡ Ok (answer, new) → KeepsPromises line w event answer new }
 {}
 
-/// There each train's mission is found by looking at the centres and, where none of them has it, at the Yields on the way.
+/// There each train's mission is found by looking at the centres and, where none of them has it, at the Yields on the
+/// way.
 pub fn who_has_a_mission()
     ensures { (line : Line) (w : World) → IsKnown line w → AreMissionsSeen line w }
 {}
@@ -47,17 +49,25 @@ pub fn what_a_section_is_marked()
 /// On a one-centre line: no other centre has a part in what events led to, of which there is one proof at most. So each
 /// further event leaves no choice, and so does each run.
 pub fn each_event_is_forced()
-    ensures local { (line : Line) (c : ℕ) (events : List Event) (answers : List Answer) (w : World) → IsLine line → IsOneCentreLine line c
+    ensures local { (line : Line) (c : ℕ) (events : List Event) (answers : List Answer) (w : World) → IsLine line
+        → IsOneCentreLine line c
         → world_run line (new_world line) events ≡ Ok (answers, w) → IsLocal line w }
     ensures one_proof { (line : Line) (w : World) (p q : IsLocal line w) → p ≡ q }
-    ensures forced { (line : Line) (c : ℕ) (w new : World) (event : Event) (answer : Answer) → IsLine line → IsOneCentreLine line c → IsKnown line w → IsLocal line w
-        → world_step line w event ≡ Ok (answer, new) → GoesForced line (read_off line w) event answer (read_off line new) }
-    ensures forced_behind { (line : Line) (c : ℕ) (events : List Event) (answers : List Answer) (w new : World) (event : Event) (answer : Answer)
+    ensures forced { (line : Line) (c : ℕ) (w new : World) (event : Event) (answer : Answer) → IsLine line
+        → IsOneCentreLine line c → IsKnown line w → IsLocal line w
+        → world_step line w event ≡ Ok (answer, new)
+        → GoesForced line (read_off line w) event answer (read_off line new) }
+    ensures forced_behind { (line : Line) (c : ℕ) (events : List Event) (answers : List Answer) (w new : World)
+        (event : Event) (answer : Answer)
         → IsLine line → IsOneCentreLine line c → world_run line (new_world line) events ≡ Ok (answers, w)
-        → world_step line w event ≡ Ok (answer, new) → GoesForced line (read_off line w) event answer (read_off line new) }
-    ensures run { (line : Line) (c : ℕ) (events : List Event) (answers : List Answer) (w : World) → IsLine line → IsOneCentreLine line c
+        → world_step line w event ≡ Ok (answer, new)
+        → GoesForced line (read_off line w) event answer (read_off line new) }
+    ensures run { (line : Line) (c : ℕ) (events : List Event) (answers : List Answer) (w : World) → IsLine line
+        → IsOneCentreLine line c
         → world_run line (new_world line) events ≡ Ok (answers, w) → IsOneCentreRun line events answers w }
     // It ends in the state that is read off the centres.
-    ensures last { (line : Line) (c : ℕ) (events : List Event) (answers : List Answer) (w : World) → IsLine line → IsOneCentreLine line c
-        → world_run line (new_world line) events ≡ Ok (answers, w) → ForcedRun line line_beginning events answers (read_off line w) }
+    ensures last { (line : Line) (c : ℕ) (events : List Event) (answers : List Answer) (w : World) → IsLine line
+        → IsOneCentreLine line c
+        → world_run line (new_world line) events ≡ Ok (answers, w)
+        → ForcedRun line line_beginning events answers (read_off line w) }
 {}

@@ -28,9 +28,11 @@ ghost use Rattle.law_refine_followups.specs.Announced.{AnnouncesAll};
 ghost use Rattle.law_refine_followups.specs.Borders.{IsNextOf, MayAnnounce};
 ghost use Rattle.law_refine_followups.specs.Shown.{IsShownSo, ends};
 
-/// An act of a centre that leaves what is sound, is fair and orderly keeps all sound: by itself, and behind the next frame of a link.
+/// An act of a centre that leaves what is sound, is fair and orderly keeps all sound: by itself, and behind the next
+/// frame of a link.
 pub fn an_act_keeps_all_sound()
-    ensures by_itself { (line : Line) (w : Flow) (c : ℕ) (q : Reply) → IsLine line → IsFlowSound line w → is_centre line c ≡ true
+    ensures by_itself { (line : Line) (w : Flow) (c : ℕ) (q : Reply) → IsLine line → IsFlowSound line w
+        → is_centre line c ≡ true
         → LeavesSound line c q.state q.frames → IsFairAct line c (w.at c) nothing_came q.state q.frames
         → IsOrderly (w.at c) q.state q.frames → IsFlowSound line (replied w c q) }
     ensures at_head { (line : Line) (w : Flow) (a c : ℕ) (f : Body) (q : Reply) → IsLine line → IsFlowSound line w
@@ -41,61 +43,76 @@ pub fn an_act_keeps_all_sound()
 
 /// A request to shorten is made, where it may be, by a quiet step.
 pub fn a_request_to_shorten_is_quiet()
-    ensures { (line : Line) (w : Flow) (c t s : ℕ) (k : Centre) (v : LineState) → IsLine line → IsFlowSound line w → Shows line w v
+    ensures { (line : Line) (w : Flow) (c t s : ℕ) (k : Centre) (v : LineState) → IsLine line → IsFlowSound line w
+        → Shows line w v
         → is_centre line c ≡ true → w.at c ≡ k → Leads line w c (propose_if_so line t s k) v }
 {}
 
-/// A train is told by a quiet step to end its session with a centre that has no mission of it and no section of whose home is given to it.
+/// A train is told by a quiet step to end its session with a centre that has no mission of it and no section of whose
+/// home is given to it.
 pub fn an_end_of_session_is_quiet()
-    ensures { (line : Line) (w : Flow) (c t : ℕ) (k : Centre) (v : LineState) → IsLine line → IsFlowSound line w → Shows line w v
+    ensures { (line : Line) (w : Flow) (c t : ℕ) (k : Centre) (v : LineState) → IsLine line → IsFlowSound line w
+        → Shows line w v
         → is_centre line c ≡ true → w.at c ≡ k → k.mission t ≡ None
         → ((s : ℕ) → (is_home line c s && is_given_to t (v.mark s)) ≡ false) → Leads line w c (end_order line c t k) v }
 {}
 
-/// What follows an extension of a hand at the border. More sections are asked for, which is not seen; a train is told by a quiet step where
-/// the border is, where that may be said; and both together.
+/// What follows an extension of a hand at the border. More sections are asked for, which is not seen; a train is told
+/// by a quiet step where the border is, where that may be said; and both together.
 pub fn what_follows_at_a_border()
-    ensures asks { (line : Line) (w : Flow) (c t d : ℕ) (k : Centre) (v : LineState) → IsLine line → IsFlowSound line w → Shows line w v
-        → is_centre line c ≡ true → w.at c ≡ k → is_centre line d ≡ true → IsNextOf line c t d k → Leads line w c (ask_route_if_due line t d k) v }
-    ensures announces { (line : Line) (w : Flow) (c t d : ℕ) (k : Centre) (v : LineState) → IsLine line → IsFlowSound line w → Shows line w v
-        → is_centre line c ≡ true → w.at c ≡ k → MayAnnounce line c t d k → Leads line w c (announce_if_due line t d k) v }
-    ensures both { (line : Line) (w : Flow) (c t d : ℕ) (k : Centre) (v : LineState) → IsLine line → IsFlowSound line w → Shows line w v
-        → is_centre line c ≡ true → w.at c ≡ k → is_centre line d ≡ true → IsNextOf line c t d k → MayAnnounce line c t d k
+    ensures asks { (line : Line) (w : Flow) (c t d : ℕ) (k : Centre) (v : LineState) → IsLine line → IsFlowSound line w
+        → Shows line w v
+        → is_centre line c ≡ true → w.at c ≡ k → is_centre line d ≡ true → IsNextOf line c t d k
+        → Leads line w c (ask_route_if_due line t d k) v }
+    ensures announces { (line : Line) (w : Flow) (c t d : ℕ) (k : Centre) (v : LineState) → IsLine line
+        → IsFlowSound line w → Shows line w v
+        → is_centre line c ≡ true → w.at c ≡ k → MayAnnounce line c t d k
+        → Leads line w c (announce_if_due line t d k) v }
+    ensures both { (line : Line) (w : Flow) (c t d : ℕ) (k : Centre) (v : LineState) → IsLine line → IsFlowSound line w
+        → Shows line w v
+        → is_centre line c ≡ true → w.at c ≡ k → is_centre line d ≡ true → IsNextOf line c t d k
+        → MayAnnounce line c t d k
         → Leads line w c (at_border line c t d k) v }
-    ensures grants { (line : Line) (w : Flow) (c t track : ℕ) (k : Centre) (v : LineState) → IsLine line → IsFlowSound line w → Shows line w v
+    ensures grants { (line : Line) (w : Flow) (c t track : ℕ) (k : Centre) (v : LineState) → IsLine line
+        → IsFlowSound line w → Shows line w v
         → is_centre line c ≡ true → w.at c ≡ k
-        → ((m : Mission) → k.mission t ≡ Some m → m.place.track ≡ track) → ((d : ℕ) → next_centre line c track ≡ Some d → MayAnnounce line c t d k)
+        → ((m : Mission) → k.mission t ≡ Some m → m.place.track ≡ track)
+        → ((d : ℕ) → next_centre line c track ≡ Some d → MayAnnounce line c t d k)
         → Leads line w c (option_map_or (at_border line c t) (next_centre line c track) rest k) v }
 {}
 
-/// A handover that is taken over is yielded, whatever homes the hand has: the supervision is laid down by a quiet step, and the train is told
-/// by another to end its session, where that is up and no own section is in the hand.
+/// A handover that is taken over is yielded, whatever homes the hand has: the supervision is laid down by a quiet step,
+/// and the train is told by another to end its session, where that is up and no own section is in the hand.
 pub fn a_yield_lays_down()
-    ensures { (line : Line) (w : Flow) (c a number t : ℕ) (k : Centre) (v : LineState) → IsLine line → IsFlowSound line w → Shows line w v
+    ensures { (line : Line) (w : Flow) (c a number t : ℕ) (k : Centre) (v : LineState) → IsLine line
+        → IsFlowSound line w → Shows line w v
         → is_centre line c ≡ true → w.at c ≡ k
         → ((d u h : ℕ) → allowed_by a (TakingOver number t) d u h ≡ true → (before w c d u h ≡ 0) × (h ≤ k.announced))
         → Leads line w c (taking_over line c a number t k) v }
 {}
 
-/// Behind the extension that a request comes to the border may be told, if the hand had no section of the next centre where no handover was
-/// announced before.
+/// Behind the extension that a request comes to the border may be told, if the hand had no section of the next centre
+/// where no handover was announced before.
 pub fn a_request_may_announce()
-    ensures unannounced { (line : Line) (c d : ℕ) (k j : Centre) (m : TrainMessage) (n : Mission) (place : Place) → IsLine line
+    ensures unannounced { (line : Line) (c d : ℕ) (k j : Centre) (m : TrainMessage) (n : Mission) (place : Place)
+        → IsLine line
         → IsRequestHeard line c k m n place → IsHandAt line n.place n.hand → next_centre line c place.track ≡ Some d
         → (n.handing ≡ None → is_empty (part_at line d place.track n.hand) ≡ true)
         → j.mission m.nid_engine ≡ Some (extended line c k place n) → j.phase m.nid_engine ≡ k.phase m.nid_engine
         → MayAnnounce line c m.nid_engine d j }
-    ensures announced { (line : Line) (c d : ℕ) (k j : Centre) (m : TrainMessage) (n : Mission) (place : Place) → IsLine line
+    ensures announced { (line : Line) (c d : ℕ) (k j : Centre) (m : TrainMessage) (n : Mission) (place : Place)
+        → IsLine line
         → IsRequestHeard line c k m n place → IsHandAt line n.place n.hand → next_centre line c place.track ≡ Some d
         → AnnouncesAll line c k
         → j.mission m.nid_engine ≡ Some (extended line c k place n) → j.phase m.nid_engine ≡ k.phase m.nid_engine
         → MayAnnounce line c m.nid_engine d j }
 {}
 
-/// At an end of mission the pool goes home, and the mission is ended: behind that the mission is shown as ended, without a request to shorten
-/// that stands, and all else as before.
+/// At an end of mission the pool goes home, and the mission is ended: behind that the mission is shown as ended,
+/// without a request to shorten that stands, and all else as before.
 pub fn an_ended_mission_is_shown()
-    ensures { (line : Line) (w : Flow) (c t : ℕ) (m : Mission) (k : Centre) (v : LineState) → IsLine line → IsFlowSound line w → Shows line w v
+    ensures { (line : Line) (w : Flow) (c t : ℕ) (m : Mission) (k : Centre) (v : LineState) → IsLine line
+        → IsFlowSound line w → Shows line w v
         → is_centre line c ≡ true → w.at c ≡ k → k.mission t ≡ Some m
         → IsShownSo line w c (ends line c t m k) (ended t v) }
 {}
@@ -104,6 +121,7 @@ pub fn an_ended_mission_is_shown()
 /// beginning, and behind each step of a sound centre.
 pub fn a_centre_announces_all()
     ensures begins { (line : Line) (c : ℕ) → IsLine line → AnnouncesAll line c (beginning line c) }
-    ensures step { (line : Line) (c : ℕ) (k : Centre) (event : Event) → IsLine line → IsCentreSound line c k → AnnouncesAll line c k
+    ensures step { (line : Line) (c : ℕ) (k : Centre) (event : Event) → IsLine line → IsCentreSound line c k
+        → AnnouncesAll line c k
         → AnnouncesAll line c (left_by line c k event) }
 {}

@@ -20,15 +20,16 @@ pub fn a_rejection_is_heard()
     ensures { (asked : ℕ) (position : Position) → IsHeardAs (ShorteningRejected asked position) }
 {}
 
-/// A session that begins or ends takes with it a standing request to shorten, where the centre supervises the train, and a start of mission
-/// that waits here. The sections of that start are freed, and those that are wished back are told. No given section changes.
+/// A session that begins or ends takes with it a standing request to shorten, where the centre supervises the train,
+/// and a start of mission that waits here. The sections of that start are freed, and those that are wished back are
+/// told. No given section changes.
 pub fn a_session_begins_and_ends()
     ensures begins { IsHeardAs InitiationOfSession }
     ensures ends { IsHeardAs TerminationOfSession }
 {}
 
-/// A start of mission is rejected, goes on within the train's hand, begins at the train's registrar where its right is there, or waits for it
-/// elsewhere.
+/// A start of mission is rejected, goes on within the train's hand, begins at the train's registrar where its right is
+/// there, or waits for it elsewhere.
 pub fn a_start_is_answered()
     ensures { (is_valid : Bool) (position : Position) → IsHeardAs (StartOfMission is_valid position) }
 {}

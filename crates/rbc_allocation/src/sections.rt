@@ -14,7 +14,8 @@ use rbc_hand::{Hand, SectionRun, Token};
 
 // Ends a token: a claim goes back to the book.
 fn end_token(token: Token, book: &mut Book)
-    ensures { (s t : ℕ) (held : Held) → token ≡ token_of s held → is_held_as t (is_own book.old s) held ≡ true → FreesRun t (one s) book.old book.new }
+    ensures { (s t : ℕ) (held : Held) → token ≡ token_of s held → is_held_as t (is_own book.old s) held ≡ true
+        → FreesRun t (one s) book.old book.new }
 {
     match token {
         Token::Own(claim) => {
@@ -99,7 +100,8 @@ fn free_back(hand: &mut Hand, count: u16, nid_engine: u32, book: &mut Book)
     requires held { IsHeldBy nid_engine hand.old book.old }
     requires some { count ≤ length hand.old.holds }
     ensures hand { hand.new ≡ hand_front (length hand.old.holds - count) hand.old }
-    ensures book { FreesRun nid_engine (record { first = hand.old.first + (length hand.old.holds - count); count = count }) book.old book.new }
+    ensures book { FreesRun nid_engine
+        (record { first = hand.old.first + (length hand.old.holds - count); count = count }) book.old book.new }
 {
     for _ in 0..count {
         free_last(hand, nid_engine, book);
@@ -132,8 +134,8 @@ fn wished(sections: SectionRun, nid_engine: u32, book: &Book) -> Told
     Told::of(sections.first, sections.count, marks)
 }
 
-/// So many of the first sections leave the hand: those of the book's home are given back, and the names of the others end. Those that were
-/// wished back, in rising order.
+/// So many of the first sections leave the hand: those of the book's home are given back, and the names of the others
+/// end. Those that were wished back, in rising order.
 pub fn clear(hand: &mut Hand, count: u16, nid_engine: u32, book: &mut Book) -> Told
     requires held { IsHeldBy nid_engine hand.old book.old }
     requires some { count ≤ length hand.old.holds }
@@ -151,18 +153,20 @@ pub fn clear(hand: &mut Hand, count: u16, nid_engine: u32, book: &mut Book) -> T
     told
 }
 
-/// All but so many of the first sections leave the hand: those of the book's home are given back, and the names of the others end. Those
-/// that were wished back, in rising order.
+/// All but so many of the first sections leave the hand: those of the book's home are given back, and the names of the
+/// others end. Those that were wished back, in rising order.
 pub fn cut(hand: &mut Hand, keep: u16, nid_engine: u32, book: &mut Book) -> Told
     requires held { IsHeldBy nid_engine hand.old book.old }
     requires some { keep ≤ length hand.old.holds }
     requires most { length hand.old.holds ≤ 32 }
     requires numbers { hand.old.first + length hand.old.holds ≤ 65535 }
-    ensures told { result ≡ wished nid_engine (record { first = hand.old.first + keep; count = length hand.old.holds - keep }) book.old }
+    ensures told { result
+        ≡ wished nid_engine (record { first = hand.old.first + keep; count = length hand.old.holds - keep }) book.old }
     ensures hand { hand.new ≡ hand_front keep hand.old }
     ensures run { run hand.new ≡ record { first = hand.old.first; count = keep } }
     ensures held { IsHeldBy nid_engine hand.new book.new }
-    ensures book { FreesRun nid_engine (record { first = hand.old.first + keep; count = length hand.old.holds - keep }) book.old book.new }
+    ensures book { FreesRun nid_engine
+        (record { first = hand.old.first + keep; count = length hand.old.holds - keep }) book.old book.new }
 {
     let run = hand.run();
     let first = run.first + keep;
@@ -178,7 +182,8 @@ fn marks_on(first: u16, from: u16, upto: u16, old: u64, nid_engine: u32, book: &
     requires room { upto ≤ 32 }
     requires numbers { first + upto ≤ 65535 }
     requires fits { old < 2 ^ from }
-    ensures value { marked first upto result ≡ marked first from old ++ wished nid_engine (record { first = first + from; count = upto - from }) book.now }
+    ensures value { marked first upto result
+        ≡ marked first from old ++ wished nid_engine (record { first = first + from; count = upto - from }) book.now }
     ensures fits { result < 2 ^ upto }
 {
     let mut marks = old;
@@ -208,7 +213,8 @@ fn no_marks_on(first: u16, from: u16, upto: u16, old: u64) -> u64
     marks
 }
 
-/// Those of so many of the first sections, and of those behind so many, that are in use for the train and wished back, in rising order.
+/// Those of so many of the first sections, and of those behind so many, that are in use for the train and wished back,
+/// in rising order.
 pub fn wished_around(
     sections: SectionRun,
     cleared: u16,
@@ -220,7 +226,8 @@ pub fn wished_around(
     requires numbers { sections.first + sections.count ≤ 65535 }
     requires some { cleared ≤ keep }
     requires keep { keep ≤ sections.count }
-    ensures { result ≡ wished nid_engine (front_of cleared (run_of sections)) book.now ++ wished nid_engine (rest_of keep (run_of sections)) book.now }
+    ensures { result ≡ wished nid_engine (front_of cleared (run_of sections)) book.now
+        ++ wished nid_engine (rest_of keep (run_of sections)) book.now }
 {
     let (first, count) = (sections.first, sections.count);
     let front = marks_on(first, 0, cleared, 0, nid_engine, book);

@@ -4,7 +4,8 @@ ghost use Rattle.rbc_allocation.specs.Marks.{marked};
 use arrayvec::ArrayVec;
 use std::marker::Model;
 
-/// Sections that the interlocking is to be told of, in rising order: some of at most 64 that follow one another, each by one bit.
+/// Sections that the interlocking is to be told of, in rising order: some of at most 64 that follow one another, each
+/// by one bit.
 #[derive(Debug, Drop)]
 pub struct Told {
     first: u16,

@@ -7,7 +7,8 @@ use crate::reader::BitReader;
 use crate::word::BitWord;
 use std::marker::Model;
 
-/// Bits of a message that are read field by field, to the last of them. Up to 121 of them stand in one word. A refusal moves nothing.
+/// Bits of a message that are read field by field, to the last of them. Up to 121 of them stand in one word. A refusal
+/// moves nothing.
 #[derive(Debug, Drop)]
 pub struct BitPart<'a> {
     word: BitWord,
@@ -61,8 +62,8 @@ impl<'a> BitPart<'a> {
     }
 }
 
-// Reads the field of the next n bits, which the word has not: where it has some bits, these are the last. It is inlined, so that the word
-// stays in registers.
+// Reads the field of the next n bits, which the word has not: where it has some bits, these are the last. It is
+// inlined, so that the word stays in registers.
 #[inline(always)]
 fn take_other(word: &BitWord, others: &mut BitReader, n: u32) -> Result<u64, BitFault>
     requires width { n ≤ 64 }

@@ -150,8 +150,8 @@ fn field_from(bytes: &[u8], used: u32, n: u32) -> u64
     }
 }
 
-// Where the eight bytes begin that are looked at for a field behind the first `used` bits: at the field's first byte, or sooner
-// where fewer than eight are left.
+// Where the eight bytes begin that are looked at for a field behind the first `used` bits: at the field's first byte,
+// or sooner where fewer than eight are left.
 #[inline(always)]
 fn first_of_eight(count: usize, used: u32) -> usize
     requires { used ≤ 8 * count }

@@ -76,7 +76,8 @@ impl BitWriter {
     }
 }
 
-// A field with which 64 bits are full, behind bits that are held: eight bytes more. What comes out are the bits behind them.
+// A field with which 64 bits are full, behind bits that are held: eight bytes more. What comes out are the bits behind
+// them.
 #[inline(always)]
 fn push_full(
     bytes: &mut Vec<u8>,
@@ -90,7 +91,9 @@ fn push_full(
     requires full { 64 ≤ count + n }
     requires width { n ≤ 64 }
     requires fits { value < 2 ^ n }
-    ensures ok { IfOk result (λ left. bits_of bytes.new.items ++ field (count + n - 64) left ≡ (bits_of bytes.old.items ++ field count held) ++ field n value) }
+    ensures ok { IfOk result
+        (λ left. bits_of bytes.new.items ++ field (count + n - 64) left
+        ≡ (bits_of bytes.old.items ++ field count held) ++ field n value) }
     ensures left { IfOk result (λ left. left < 2 ^ (count + n - 64)) }
     ensures err { OnErr result (bytes.new.items ≡ bytes.old.items) }
     ensures memory { IsOkUnless result BitFault.Memory }

@@ -18,8 +18,8 @@ pub trait Carrier {
     ///
     /// # Errors
     ///
-    /// The frame comes back where its own number is another, where a frame stands under that number, where the link has no room for the
-    /// number, and for want of memory. What the caller knew it still knows.
+    /// The frame comes back where its own number is another, where a frame stands under that number, where the link has
+    /// no room for the number, and for want of memory. What the caller knew it still knows.
     fn put(&self, seen: &mut Self::Seen, number: u32, frame: Frame) -> Result<(), Frame>
         requires { is_of self.now seen.old }
         ensures link { is_of self.now seen.new }

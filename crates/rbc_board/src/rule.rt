@@ -1,5 +1,5 @@
-//! The rule of a link's queue, and the steps that keep it: a frame is put, a frame is taken, a second pass is made, two passes become one,
-//! and a pass learns that no two of its frames have one number.
+//! The rule of a link's queue, and the steps that keep it: a frame is put, a frame is taken, a second pass is made, two
+//! passes become one, and a pass learns that no two of its frames have one number.
 ghost use Rattle.std.specs.Prelude.{◌≡◌, ◌∷◌};
 ghost use Rattle.rbc_board.specs.InStep.{viewed, IsUnique};
 

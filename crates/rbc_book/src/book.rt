@@ -111,7 +111,8 @@ impl Book {
         Ok(())
     }
 
-    /// The interlocking takes a section back: one that is in no use becomes shut; of one that is in use the wish is noted.
+    /// The interlocking takes a section back: one that is in no use becomes shut; of one that is in use the wish is
+    /// noted.
     pub fn unset(&mut self, s: u16) -> Result<Unset, NotHome>
         ensures own { MatchResult result (λ _. is_own self.old s ≡ true) (λ _. is_own self.old s ≡ false) }
         ensures answer { IfOk result (λ answer. answer ≡ unset_answer (entry_at self.old s)) }
@@ -157,8 +158,8 @@ impl Book {
         })
     }
 
-    /// Gives a section back: it becomes open, or shut where it is wished back, and then the wish ends. A claim whose section
-    /// this book does not have as taken for its train changes nothing, and is answered as open.
+    /// Gives a section back: it becomes open, or shut where it is wished back, and then the wish ends. A claim whose
+    /// section this book does not have as taken for its train changes nothing, and is answered as open.
     pub fn give_back(&mut self, claim: Claim) -> Back
         ensures answer { result ≡ back_answer (is_taken_by self.old claim && wish_at self.old (section_of claim)) }
         ensures homes { (k : ℕ) → is_own self.new k ≡ is_own self.old k }
@@ -186,8 +187,8 @@ impl Book {
         }
     }
 
-    /// Lends a section to another centre, where its train runs on. A claim whose section this book does not have as taken
-    /// for its train changes nothing.
+    /// Lends a section to another centre, where its train runs on. A claim whose section this book does not have as
+    /// taken for its train changes nothing.
     pub fn lend(&mut self, claim: Claim)
         ensures homes { (k : ℕ) → is_own self.new k ≡ is_own self.old k }
         ensures entry { (k : ℕ) → entry_at self.new k

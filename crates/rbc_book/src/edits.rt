@@ -89,7 +89,8 @@ fn single_out(runs: &mut Vec<Run>, i: usize, s: u16) -> usize
     place
 }
 
-// Writes the page of a section of the run at a place: in that run, or in the one before or behind, or in a run of its own.
+// Writes the page of a section of the run at a place: in that run, or in the one before or behind, or in a run of its
+// own.
 pub(crate) fn write_at(runs: &mut Vec<Run>, i: usize, s: u16, page: Page)
     requires here { At (λ r. within (sections_of r) s ≡ true) i runs.old.items }
     requires order { AreInOrder 0 runs.old.items }

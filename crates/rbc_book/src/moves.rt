@@ -1,4 +1,5 @@
-//! A section that is used anew goes over to a neighbour of its run, where that goes on with it: no run is put in or taken out.
+//! A section that is used anew goes over to a neighbour of its run, where that goes on with it: no run is put in or
+//! taken out.
 ghost use Rattle.std.specs.Prelude.{◌≡◌, ◌≤◌, vec_capacity, MatchBool};
 ghost use Rattle.rbc_book.specs.Runs.{AreInOrder, AreApart};
 ghost use Rattle.rbc_book.specs.Edits.{IsWritten};
@@ -7,12 +8,13 @@ use crate::edits::run_at;
 use crate::page::Page;
 use crate::run::Run;
 
-// Writes the page of a section, where it is the first of the run at a place, and not its last, and the run before goes on with it under
-// that page. Whether it is so.
+// Writes the page of a section, where it is the first of the run at a place, and not its last, and the run before goes
+// on with it under that page. Whether it is so.
 pub(crate) fn move_ahead(runs: &mut Vec<Run>, i: usize, s: u16, page: Page) -> bool
     requires order { AreInOrder 0 runs.old.items }
     requires apart { AreApart runs.old.items }
-    ensures moved { MatchBool result (IsWritten s page runs.old.items runs.new.items) (runs.new.items ≡ runs.old.items) }
+    ensures moved { MatchBool result (IsWritten s page runs.old.items runs.new.items)
+        (runs.new.items ≡ runs.old.items) }
     ensures capacity { vec_capacity runs.old ≤ vec_capacity runs.new }
 {
     if i == 0 {
@@ -49,12 +51,13 @@ pub(crate) fn move_ahead(runs: &mut Vec<Run>, i: usize, s: u16, page: Page) -> b
     true
 }
 
-// Writes the page of a section, where it is the last of the run at a place, and not its first, and the run behind goes on with it under
-// that page. Whether it is so.
+// Writes the page of a section, where it is the last of the run at a place, and not its first, and the run behind goes
+// on with it under that page. Whether it is so.
 pub(crate) fn move_behind(runs: &mut Vec<Run>, i: usize, s: u16, page: Page) -> bool
     requires order { AreInOrder 0 runs.old.items }
     requires apart { AreApart runs.old.items }
-    ensures moved { MatchBool result (IsWritten s page runs.old.items runs.new.items) (runs.new.items ≡ runs.old.items) }
+    ensures moved { MatchBool result (IsWritten s page runs.old.items runs.new.items)
+        (runs.new.items ≡ runs.old.items) }
     ensures capacity { vec_capacity runs.old ≤ vec_capacity runs.new }
 {
     let Some(run) = run_at(runs, i) else {

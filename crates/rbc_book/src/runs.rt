@@ -11,8 +11,9 @@ use rbc_line::Line;
 use std::alloc::{AllocError, Global};
 use std::marker::Model;
 
-/// Pages of sections, kept as runs of sections that are used alike, in order of their first sections. A run does not go past the end of
-/// a track, and of two runs of one track that follow each other at once the pages differ. There is room for as many runs as there are sections.
+/// Pages of sections, kept as runs of sections that are used alike, in order of their first sections. A run does not go
+/// past the end of a track, and of two runs of one track that follow each other at once the pages differ. There is room
+/// for as many runs as there are sections.
 #[derive(Debug, Drop)]
 pub(crate) struct Runs {
     runs: Vec<Run>,
@@ -40,7 +41,8 @@ impl Runs {
         centre: u8,
         page: Page,
     ) -> Result<Runs, AllocError>
-        ensures page { IfOk result (λ r. (k : ℕ) → page_on r k ≡ option_map (λ _. page) (home_track line.now centre k)) }
+        ensures page { IfOk result
+            (λ r. (k : ℕ) → page_on r k ≡ option_map (λ _. page) (home_track line.now centre k)) }
         ensures track { IfOk result (λ r. (k : ℕ) → track_on r k ≡ home_track line.now centre k) }
     {
         let mut runs = Vec::new(alloc);
@@ -111,7 +113,8 @@ impl Runs {
     }
 }
 
-// The place of the run that has the section. It is looked for where a run was found last and behind that, and then in all runs.
+// The place of the run that has the section. It is looked for where a run was found last and behind that, and then in
+// all runs.
 fn find(runs: &[Run], s: u16, last: usize) -> Option<usize>
     requires { AreInOrder 0 runs.now }
     ensures some { IfSome result (λ i. At (λ r. within (sections_of r) s ≡ true) i runs.now) }

@@ -19,10 +19,11 @@ pub struct Arrival {
     pub track: u8,
 }
 
-/// Whether each section of a hand may come to this centre with a train that another centre hands over to it (3.15.1): one of its home
-/// is in use for the train elsewhere; any other is not of the next centre on the track.
+/// Whether each section of a hand may come to this centre with a train that another centre hands over to it (3.15.1):
+/// one of its home is in use for the train elsewhere; any other is not of the next centre on the track.
 pub fn may_arrive(line: &Line, centre: u8, book: &Book, train: Arrival, hand: SectionRun) -> bool
-    ensures { (k : Centre) → HasBook line.now centre k book.now → result ≡ all_of (links.may_arrive line.now centre k train.nid_engine train.track) (run_of hand) }
+    ensures { (k : Centre) → HasBook line.now centre k book.now
+        → result ≡ all_of (links.may_arrive line.now centre k train.nid_engine train.track) (run_of hand) }
 {
     for k in 0..hand.count {
         let s = u32::from(hand.first) + u32::from(k);
@@ -35,7 +36,8 @@ pub fn may_arrive(line: &Line, centre: u8, book: &Book, train: Arrival, hand: Se
 
 // Whether the section may come so.
 fn arrives(line: &Line, centre: u8, book: &Book, train: Arrival, s: u32) -> bool
-    ensures { (k : Centre) → HasBook line.now centre k book.now → result ≡ links.may_arrive line.now centre k train.nid_engine train.track s }
+    ensures { (k : Centre) → HasBook line.now centre k book.now
+        → result ≡ links.may_arrive line.now centre k train.nid_engine train.track s }
 {
     if s >= u32::from(line.section_count()) {
         return false;

@@ -24,9 +24,9 @@ use rbc_line::Line;
 use std::alloc::{AllocError, Global};
 use std::marker::Model;
 
-/// What a centre has of one train at the border to the next centre (profile): the train's pool, which are lent sections that follow its
-/// hand at once, and whether more sections were asked for without an answer. It can't be copied, and not be dropped: the names in
-/// its pool are spent where their sections go home, or come into the train's hand.
+/// What a centre has of one train at the border to the next centre (profile): the train's pool, which are lent sections
+/// that follow its hand at once, and whether more sections were asked for without an answer. It can't be copied, and
+/// not be dropped: the names in its pool are spent where their sections go home, or come into the train's hand.
 #[must_use]
 #[derive(Debug)]
 pub struct Border {
@@ -85,15 +85,20 @@ impl Border {
         }
     }
 
-    /// The sections behind the hand of the train's mission are asked for, where they are due: the first of them is of the next centre's
-    /// home and on the track, the hand has fewer than 32, the pool is empty, and no question stands. None exactly where they are not
-    /// due, and then nothing changes.
+    /// The sections behind the hand of the train's mission are asked for, where they are due: the first of them is of
+    /// the next centre's home and on the track, the hand has fewer than 32, the pool is empty, and no question stands.
+    /// None exactly where they are not due, and then nothing changes.
     pub fn ask(&mut self, line: &Line, next: u8, way: Way) -> Option<Question>
         ensures question { result ≡ (if is_due line.now next way self.old
             then Some (record { first = behind (run_of way.hand); most = min (32 - way.hand.count) (512 - behind (run_of way.hand)) }) else None) }
-        ensures state { self.new ≡ (if is_due line.now next way self.old then record self.old { asked = Some (behind (run_of way.hand)) } else self.old) }
-        ensures range { 1 ≤ way.hand.count → IfSome result (λ q. HasRunRange 1 31 (record { first = q.first; count = q.most })) }
-        ensures exact { (k : Centre) (m : Mission) → HasBorder k self.old → k.mission self.old.engine ≡ Some m → IsWayOf way m
+        ensures state { self.new
+            ≡ (if is_due line.now next way self.old then record self.old {
+              asked = Some (behind (run_of way.hand));
+            } else self.old) }
+        ensures range { 1 ≤ way.hand.count
+            → IfSome result (λ q. HasRunRange 1 31 (record { first = q.first; count = q.most })) }
+        ensures exact { (k : Centre) (m : Mission) → HasBorder k self.old → k.mission self.old.engine ≡ Some m
+            → IsWayOf way m
             → rules.ask_route_if_due line.now self.old.engine next k
             ≡ sending next (option_map (λ q. RouteAsk self.old.engine q.first q.most) result) (with_border self.new k) }
     {
@@ -120,10 +125,11 @@ impl Border {
             && self.asked.is_none()
     }
 
-    /// Another centre tells the sections that it lends, with the way of the train's mission here, where one goes on. It has no effect where
-    /// they were not asked for from their first on, or are not of the line, on one track, and of that centre's home. Else the question
-    /// is answered, and they are the pool where they follow the hand of the mission on its track and the pool is empty. The result is those
-    /// that are not wanted, which have to be returned to that centre.
+    /// Another centre tells the sections that it lends, with the way of the train's mission here, where one goes on. It
+    /// has no effect where they were not asked for from their first on, or are not of the line, on one track, and of
+    /// that centre's home. Else the question is answered, and they are the pool where they follow the hand of the
+    /// mission on its track and the pool is empty. The result is those that are not wanted, which have to be returned
+    /// to that centre.
     pub fn info(
         &mut self,
         line: &Line,
@@ -132,15 +138,20 @@ impl Border {
         way: Option<Way>,
     ) -> Option<SectionRun>
         requires { sections.count ≤ 31 }
-        ensures unasked { answers line.now from (run_of sections) self.old ≡ false → (result ≡ None) × (self.new ≡ self.old) }
-        ensures wanted { answers line.now from (run_of sections) self.old ≡ true → wants line.now (run_of sections) way self.old ≡ true
+        ensures unasked { answers line.now from (run_of sections) self.old ≡ false
+            → (result ≡ None) × (self.new ≡ self.old) }
+        ensures wanted { answers line.now from (run_of sections) self.old ≡ true
+            → wants line.now (run_of sections) way self.old ≡ true
             → (result ≡ None) × (self.new ≡ record self.old { lender = from; pool = run_of sections; asked = None }) }
-        ensures unwanted { answers line.now from (run_of sections) self.old ≡ true → wants line.now (run_of sections) way self.old ≡ false
-            → (result ≡ (if sections.count == 0 then None else Some sections)) × (self.new ≡ record self.old { asked = None }) }
+        ensures unwanted { answers line.now from (run_of sections) self.old ≡ true
+            → wants line.now (run_of sections) way self.old ≡ false
+            → (result ≡ (if sections.count == 0 then None else Some sections))
+            × (self.new ≡ record self.old { asked = None }) }
         ensures range { IfSome result (λ run. HasRunRange 1 31 (run_of run)) }
         ensures exact { (c : ℕ) (k : Centre) → HasBorder k self.old → GoesOn way (k.mission self.old.engine)
             → links.route_told line.now c from self.old.engine (run_of sections) k
-            ≡ sending from (option_map (λ run. RouteReturn self.old.engine (run_of run)) result) (with_border self.new k) }
+            ≡ sending from (option_map (λ run. RouteReturn self.old.engine (run_of run)) result)
+            (with_border self.new k) }
     {
         if !self.is_asked(sections.first) || !is_of_one_home(line, from, sections) {
             return None;
@@ -171,7 +182,8 @@ impl Border {
 
     // Whether these sections of a centre follow the hand on its track, and the pool is empty.
     fn wants(&self, line: &Line, from: u8, sections: SectionRun, way: Option<Way>) -> bool
-        ensures { track.is_home line.now from sections.first ≡ true → result ≡ wants line.now (run_of sections) way self.now }
+        ensures { track.is_home line.now from sections.first ≡ true
+            → result ≡ wants line.now (run_of sections) way self.now }
     {
         match way {
             Some(way) => {
@@ -183,14 +195,19 @@ impl Border {
         }
     }
 
-    /// A section is wished back by the interlocking of its home: it leaves the pool with all behind it, and these have to be returned.
-    /// None exactly where the pool has it not, and then nothing changes: a section of the hand may be proposed to be cut off.
+    /// A section is wished back by the interlocking of its home: it leaves the pool with all behind it, and these have
+    /// to be returned. None exactly where the pool has it not, and then nothing changes: a section of the hand may be
+    /// proposed to be cut off.
     pub fn withdraw(&mut self, s: u16) -> Option<SectionRun>
-        ensures run { option_map run_of result ≡ (if within self.old.pool s then Some (part_from s self.old.pool) else None) }
-        ensures state { self.new ≡ (if within self.old.pool s then record self.old { pool = part_before s self.old.pool } else self.old) }
-        ensures exact { (line : track.Line) (c : ℕ) (k : Centre) (m : Mission) → HasBorder k self.old → k.mission self.old.engine ≡ Some m
+        ensures run { option_map run_of result
+            ≡ (if within self.old.pool s then Some (part_from s self.old.pool) else None) }
+        ensures state { self.new
+            ≡ (if within self.old.pool s then record self.old { pool = part_before s self.old.pool } else self.old) }
+        ensures exact { (line : track.Line) (c : ℕ) (k : Centre) (m : Mission) → HasBorder k self.old
+            → k.mission self.old.engine ≡ Some m
             → links.route_withdrawn line c self.old.engine s k
-            ≡ option_map_or (λ run. acts.returned line c self.old.engine m.place.track (run_of run)) result (acts.propose_if_so line self.old.engine s) (with_border self.new k) }
+            ≡ option_map_or (λ run. acts.returned line c self.old.engine m.place.track (run_of run)) result
+            (acts.propose_if_so line self.old.engine s) (with_border self.new k) }
     {
         let pool = self.pool();
         if !pool.contains(s) {
@@ -205,8 +222,10 @@ impl Border {
     pub fn return_all(&mut self) -> SectionRun
         ensures run { run_of result ≡ self.old.pool }
         ensures state { self.new ≡ record self.old { pool = no_run } }
-        ensures exact { (line : track.Line) (c : ℕ) (k : Centre) (m : Mission) → HasBorder k self.old → k.mission self.old.engine ≡ Some m
-            → acts.return_pool line c self.old.engine m k ≡ acts.returned line c self.old.engine m.place.track (run_of result) (with_border self.new k) }
+        ensures exact { (line : track.Line) (c : ℕ) (k : Centre) (m : Mission) → HasBorder k self.old
+            → k.mission self.old.engine ≡ Some m
+            → acts.return_pool line c self.old.engine m k
+            ≡ acts.returned line c self.old.engine m.place.track (run_of result) (with_border self.new k) }
     {
         let pool = self.pool();
         names::spend_back(&mut self.names, pool.count);
@@ -214,17 +233,23 @@ impl Border {
         pool
     }
 
-    /// The train's hand is to be longer by so many sections: those of them that are of the pool come behind its last. How many have
-    /// come. What is left of the pool follows the longer hand.
+    /// The train's hand is to be longer by so many sections: those of them that are of the pool come behind its last.
+    /// How many have come. What is left of the pool follows the longer hand.
     pub fn feed(&mut self, count: u16, hand: &mut Hand) -> u16
         requires hand { 1 ≤ (run hand.old).count }
         requires room { (run hand.old).count + count ≤ 32 }
         requires next { 0 < self.old.pool.count → behind (run hand.old) ≡ self.old.pool.first }
         ensures fed { result ≡ min count self.old.pool.count }
-        ensures pool { self.new ≡ (if is_empty self.old.pool then self.old else record self.old { pool = rest_of count self.old.pool }) }
-        ensures hand { hand.new ≡ record hand.old { holds = hand.old.holds ++ replicate result (Name self.old.engine self.old.lender) } }
+        ensures pool { self.new
+            ≡ (if is_empty self.old.pool then self.old else record self.old { pool = rest_of count self.old.pool }) }
+        ensures hand { hand.new
+            ≡ record hand.old { holds = hand.old.holds ++ replicate result (Name self.old.engine self.old.lender) } }
         ensures exact { (m : Mission) → m.hand ≡ run hand.old → m.pool ≡ self.old.pool
-            → rules.extended_by (next_of count m.hand) m ≡ record m { hand = joined (run hand.new) (next_of (count - result) (run hand.new)); pool = self.new.pool } }
+            → rules.extended_by (next_of count m.hand) m
+            ≡ record m {
+              hand = joined (run hand.new) (next_of (count - result) (run hand.new));
+              pool = self.new.pool;
+            } }
     {
         if self.names.is_empty() {
             return 0;

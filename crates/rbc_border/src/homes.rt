@@ -38,9 +38,12 @@ pub(crate) fn stretch(line: &Line, home: u8, track: u8, first: u16, most: u16) -
     most
 }
 
-/// Whether the sections are of the line and on one track, and all of this home. The first has to be so also where there are none.
+/// Whether the sections are of the line and on one track, and all of this home. The first has to be so also where there
+/// are none.
 pub(crate) fn is_of_one_home(line: &Line, home: u8, sections: SectionRun) -> bool
-    ensures value { result ≡ ((is_of_line line.now (run_of sections) && is_home line.now home sections.first) && all_of (is_home line.now home) (run_of sections)) }
+    ensures value { result
+        ≡ ((is_of_line line.now (run_of sections) && is_home line.now home sections.first) && all_of
+        (is_home line.now home) (run_of sections)) }
     ensures line { IsLine line.now }
 {
     match line.section(sections.first) {
@@ -53,7 +56,8 @@ pub(crate) fn is_of_one_home(line: &Line, home: u8, sections: SectionRun) -> boo
     }
 }
 
-/// Those of these sections that are of this home and on this track: they follow one another. None exactly where there are none.
+/// Those of these sections that are of this home and on this track: they follow one another. None exactly where there
+/// are none.
 pub fn part_at(line: &Line, home: u8, track: u8, sections: SectionRun) -> Option<SectionRun>
     ensures none { is_none result ≡ is_empty (part_at line.now home track (run_of sections)) }
     ensures part { IfSome result (λ part. run_of part ≡ part_at line.now home track (run_of sections)) }
@@ -70,8 +74,8 @@ pub fn part_at(line: &Line, home: u8, track: u8, sections: SectionRun) -> Option
     None
 }
 
-/// Those of these lent sections that go home to a centre: they are of its home and on the track, and follow one another. None where
-/// there are none, and for the centre itself that returns them.
+/// Those of these lent sections that go home to a centre: they are of its home and on the track, and follow one
+/// another. None where there are none, and for the centre itself that returns them.
 pub fn part_of(
     line: &Line,
     centre: u8,

@@ -30,9 +30,9 @@ fn lend_run(book: &mut Book, nid_engine: u32, run: SectionRun)
     }
 }
 
-/// The centre is asked for sections for a train at another centre (profile): the longest run of released home sections from the first on, on one
-/// track, at most so many, is in use for the train there from now on. None exactly where the first is no section of the line, and then
-/// nothing changes and there is no answer.
+/// The centre is asked for sections for a train at another centre (profile): the longest run of released home sections
+/// from the first on, on one track, at most so many, is in use for the train there from now on. None exactly where the
+/// first is no section of the line, and then nothing changes and there is no answer.
 pub fn lend(
     line: &Line,
     centre: u8,
@@ -44,7 +44,8 @@ pub fn lend(
     ensures book { IfSome result (λ run. LendsRun nid_engine (run_of run) book.old book.new) }
     ensures none { result ≡ None → book.new ≡ book.old }
     ensures range { IfSome result (λ run. HasRunRange 0 most (run_of run)) }
-    ensures exact { (to : ℕ) (k : Centre) → HasBook line.now centre k book.old → route_asked line.now centre to nid_engine first most k
+    ensures exact { (to : ℕ) (k : Centre) → HasBook line.now centre k book.old
+        → route_asked line.now centre to nid_engine first most k
         ≡ sending to (option_map (λ run. RouteInfo nid_engine (run_of run)) result) (with_book book.new k) }
 {
     let section = line.section(first)?;

@@ -22,8 +22,8 @@ fn bring_one(book: &mut Book, nid_engine: u32, s: u16) -> bool
     }
 }
 
-/// Sections come home that were in use for the train at another centre (profile): each of them that is out for it is given back. Those that were
-/// wished back, of which the interlocking is to be told, in rising order.
+/// Sections come home that were in use for the train at another centre (profile): each of them that is out for it is
+/// given back. Those that were wished back, of which the interlocking is to be told, in rising order.
 pub fn bring_back(book: &mut Book, nid_engine: u32, run: SectionRun) -> Told
     requires most { run.count ≤ 64 }
     requires numbers { run.first + run.count ≤ 65535 }

@@ -161,7 +161,8 @@ impl Centre {
         ensures phase { phase_of result.phase ≡ (state_of self.now).phase nid_engine }
         ensures heard { result.heard ≡ (state_of self.now).heard nid_engine }
         ensures said { result.said ≡ (state_of self.now).said nid_engine }
-        ensures mission { mission_by result.mission result.hand result.pool (handing_at ((state_of self.now).mission nid_engine)) ≡ (state_of self.now).mission nid_engine }
+        ensures mission { mission_by result.mission result.hand result.pool
+            (handing_at ((state_of self.now).mission nid_engine)) ≡ (state_of self.now).mission nid_engine }
         ensures waiting { option_map place_of result.waiting ≡ (state_of self.now).wait nid_engine }
     {
         match self.line.train_number(nid_engine) {
@@ -192,11 +193,14 @@ impl Centre {
         self.links.taken(from)
     }
 
-    /// Says whether an event may be taken: it is refused as `ClockEnd` where its stamp would pass the last one, and else as `LinkFull`
-    /// where a link has fewer than four numbers left.
+    /// Says whether an event may be taken: it is refused as `ClockEnd` where its stamp would pass the last one, and
+    /// else as `LinkFull` where a link has fewer than four numbers left.
     pub fn may_step(&self, event: &Event) -> Result<(), StepFault>
-        ensures ok { OnOk result (refusal (line_of self.now) (number_of self.now) (state_of self.now) (event_of event.now) ≡ None) }
-        ensures err { IfErr result (λ fault. IsRefusalOf fault (refusal (line_of self.now) (number_of self.now) (state_of self.now) (event_of event.now))) }
+        ensures ok { OnOk result
+            (refusal (line_of self.now) (number_of self.now) (state_of self.now) (event_of event.now) ≡ None) }
+        ensures err { IfErr result
+            (λ fault. IsRefusalOf fault
+            (refusal (line_of self.now) (number_of self.now) (state_of self.now) (event_of event.now))) }
     {
         match event {
             Event::Train(_) | Event::Set(_) | Event::Unset(_) => self.may_take(self.clock),
@@ -218,7 +222,9 @@ impl Centre {
     // Whether a step may be taken whose stamp is above this.
     #[inline(always)]
     pub(crate) fn may_take(&self, stamp: u32) -> Result<(), StepFault>
-        ensures ok { OnOk result ((stamp < 1073741823) × (has_full_link (line_of self.now) (number_of self.now) (state_of self.now) ≡ false)) }
+        ensures ok { OnOk result
+            ((stamp < 1073741823)
+            × (has_full_link (line_of self.now) (number_of self.now) (state_of self.now) ≡ false)) }
         ensures err { IfErr result (λ fault. IsRefusalOf fault (if nat_lt 1073741823 (stamp + 1) then Some spec.ClockEnd
             else (if has_full_link (line_of self.now) (number_of self.now) (state_of self.now) then Some spec.LinkFull else None))) }
     {
@@ -231,9 +237,9 @@ impl Centre {
         Ok(())
     }
 
-    /// Takes an event, and answers it. It is refused where the stamp would pass the last one or a link is nearly full, or for want of
-    /// memory, which only the opening of a session and the sending of a frame take: of the frames that come, only one that is the next of
-    /// its sender. Then nothing changes.
+    /// Takes an event, and answers it. It is refused where the stamp would pass the last one or a link is nearly full,
+    /// or for want of memory, which only the opening of a session and the sending of a frame take: of the frames that
+    /// come, only one that is the next of its sender. Then nothing changes.
     pub fn step(&mut self, event: &Event) -> Result<Outcome, StepFault>
         ensures line { line_of self.new ≡ line_of self.old }
         ensures number { number_of self.new ≡ number_of self.old }
@@ -257,7 +263,8 @@ impl Centre {
         ensures line { line_of self.new ≡ line_of self.old }
         ensures number { number_of self.new ≡ number_of self.old }
         ensures exact { Steps (λ o. (outcome_of o, state_of self.new)) result
-            (spec.step (line_of self.old) (number_of self.old) (spec.Train (step_message message.now)) (state_of self.old)) }
+            (spec.step (line_of self.old) (number_of self.old) (spec.Train (step_message message.now))
+            (state_of self.old)) }
         ensures memory { IsWantedBy (state_of self.old) (spec.Train (step_message message.now)) result }
         ensures err { OnErr result (state_of self.new ≡ state_of self.old) }
     {

@@ -1,4 +1,5 @@
-//! The step of a frame of another centre: room is made where it is the next, the link says whether it is, and then its train takes it.
+//! The step of a frame of another centre: room is made where it is the next, the link says whether it is, and then its
+//! train takes it.
 
 ghost use Rattle.std.specs.Prelude.{◌≡◌, ◌<◌, IfOk, OnOk, OnErr, false, max};
 ghost use Rattle.rbc_spec.specs.Step as spec;
@@ -20,7 +21,8 @@ use std::alloc::AllocError;
 use std::cmp::max;
 
 impl Centre {
-    /// The step of a frame, at a centre that does not refuse it. Room for the frames in return is made first, where it is the next.
+    /// The step of a frame, at a centre that does not refuse it. Room for the frames in return is made first, where it
+    /// is the next.
     pub(crate) fn deliver(&mut self, from: u8, frame: &Frame) -> Result<Outcome, AllocError>
         requires time { max self.old.clock frame.now.stamp < 1073741823 }
         requires numbers { has_full_link (line_of self.old) (number_of self.old) (state_of self.old) ≡ false }
@@ -39,8 +41,10 @@ impl Centre {
     #[inline(always)]
     fn make_room_for(&mut self, from: u8, frame: &Frame) -> Result<(), AllocError>
         ensures same { IsSame self.old self.new }
-        ensures frames { OnOk result (TakesMemory (state_of self.new) (spec.Deliver from frame.now) → links.HasRoom self.new.links 4) }
-        ensures room { OnOk result (TakesMemory (state_of self.new) (spec.Deliver from frame.now) → HasFrameRoom self.new.room) }
+        ensures frames { OnOk result
+            (TakesMemory (state_of self.new) (spec.Deliver from frame.now) → links.HasRoom self.new.links 4) }
+        ensures room { OnOk result
+            (TakesMemory (state_of self.new) (spec.Deliver from frame.now) → HasFrameRoom self.new.room) }
         ensures memory { OnErr result (TakesMemory (state_of self.old) (spec.Deliver from frame.now)) }
     {
         if frame.number() - 1 != self.taken(from) {
@@ -53,7 +57,8 @@ impl Centre {
     fn take_frame(&mut self, from: u8, frame: &Frame) -> Outcome
         requires time { max self.old.clock frame.now.stamp < 1073741823 }
         requires numbers { has_full_link (line_of self.old) (number_of self.old) (state_of self.old) ≡ false }
-        requires frames { TakesMemory (state_of self.old) (spec.Deliver from frame.now) → links.HasRoom self.old.links 4 }
+        requires frames { TakesMemory (state_of self.old) (spec.Deliver from frame.now)
+            → links.HasRoom self.old.links 4 }
         requires room { TakesMemory (state_of self.old) (spec.Deliver from frame.now) → HasFrameRoom self.old.room }
         ensures line { line_of self.new ≡ line_of self.old }
         ensures number { number_of self.new ≡ number_of self.old }

@@ -11,7 +11,8 @@ use rbc_linkmsg::Frame;
 /// How many centres a line has at the most.
 pub(crate) const MOST_CENTRES: usize = 8;
 
-/// For how many frames to one centre a step makes room: two for sections that go home, one about a handover, and a letter.
+/// For how many frames to one centre a step makes room: two for sections that go home, one about a handover, and a
+/// letter.
 pub(crate) const MOST_TO_ONE: usize = 4;
 
 /// The frames that a step sent to other centres. It takes no memory where there are none.

@@ -34,7 +34,8 @@ impl Centre {
         ensures line { line_of self.new ≡ line_of self.old }
         ensures number { number_of self.new ≡ number_of self.old }
         ensures exact { IfOk result (λ o. (outcome_of o, state_of self.new)
-            ≡ spec.taken (line_of self.old) (number_of self.old) (spec.Train (step_message message.now)) (state_of self.old)) }
+            ≡ spec.taken (line_of self.old) (number_of self.old) (spec.Train (step_message message.now))
+            (state_of self.old)) }
         ensures memory { OnErr result (TakesMemory (state_of self.old) (spec.Train (step_message message.now))) }
         ensures err { OnErr result (state_of self.new ≡ state_of self.old) }
     {
@@ -53,7 +54,8 @@ impl Centre {
         ensures line { line_of self.new ≡ line_of self.old }
         ensures number { number_of self.new ≡ number_of self.old }
         ensures exact { Steps (λ o. (outcome_of o, state_of self.new)) result
-            (spec.step (line_of self.old) (number_of self.old) (spec.Train (step_message message.now)) (state_of self.old)) }
+            (spec.step (line_of self.old) (number_of self.old) (spec.Train (step_message message.now))
+            (state_of self.old)) }
         ensures memory { IsWantedBy (state_of self.old) (spec.Train (step_message message.now)) result }
         ensures err { OnErr result (state_of self.new ≡ state_of self.old) }
     {
@@ -70,7 +72,8 @@ impl Centre {
         ensures line { line_of self.new ≡ line_of self.old }
         ensures number { number_of self.new ≡ number_of self.old }
         ensures exact { IfOk result (λ o. (outcome_of o, state_of self.new)
-            ≡ spec.taken (line_of self.old) (number_of self.old) (spec.Train (step_message message.now)) (state_of self.old)) }
+            ≡ spec.taken (line_of self.old) (number_of self.old) (spec.Train (step_message message.now))
+            (state_of self.old)) }
         ensures memory { OnErr result (TakesMemory (state_of self.old) (spec.Train (step_message message.now))) }
         ensures err { OnErr result (state_of self.new ≡ state_of self.old) }
     {
@@ -79,14 +82,18 @@ impl Centre {
         Ok(self.hear_train(i as usize, message))
     }
 
-    // Room for the frames that a message sends, and for the session that the message of train number i of the line opens. Nothing else changes.
+    // Room for the frames that a message sends, and for the session that the message of train number i of the line
+    // opens. Nothing else changes.
     #[inline(always)]
     fn make_room(&mut self, i: usize, message: &TrainMsg) -> Result<(), AllocError>
         requires number { train_number (line_of self.old) message.now.nid_engine ≡ Some i }
         ensures same { IsSame self.old self.new }
-        ensures frames { OnOk result (tells_others (step_message message.now).body ≡ true → links.HasRoom self.new.links 4) }
+        ensures frames { OnOk result
+            (tells_others (step_message message.now).body ≡ true → links.HasRoom self.new.links 4) }
         ensures room { OnOk result (tells_others (step_message message.now).body ≡ true → HasFrameRoom self.new.room) }
-        ensures session { OnOk result (message.now.body ≡ InitiationOfSession → is_stale message.now.t_train ((state_of self.new).heard message.now.nid_engine) ≡ false
+        ensures session { OnOk result
+            (message.now.body ≡ InitiationOfSession
+            → is_stale message.now.t_train ((state_of self.new).heard message.now.nid_engine) ≡ false
             → sessions.HasRoom self.new.sessions) }
         ensures memory { OnErr result (TakesMemory (state_of self.old) (spec.Train (step_message message.now))) }
     {
@@ -112,12 +119,14 @@ impl Centre {
         requires ranges { HasMessageRanges (step_message message.now) }
         requires frames { tells_others (step_message message.now).body ≡ true → links.HasRoom self.old.links 4 }
         requires room { tells_others (step_message message.now).body ≡ true → HasFrameRoom self.old.room }
-        requires session { message.now.body ≡ InitiationOfSession → is_stale message.now.t_train ((state_of self.old).heard message.now.nid_engine) ≡ false
+        requires session { message.now.body ≡ InitiationOfSession
+            → is_stale message.now.t_train ((state_of self.old).heard message.now.nid_engine) ≡ false
             → sessions.HasRoom self.old.sessions }
         ensures line { line_of self.new ≡ line_of self.old }
         ensures number { number_of self.new ≡ number_of self.old }
         ensures exact { (outcome_of result, state_of self.new)
-            ≡ spec.taken (line_of self.old) (number_of self.old) (spec.Train (step_message message.now)) (state_of self.old) }
+            ≡ spec.taken (line_of self.old) (number_of self.old) (spec.Train (step_message message.now))
+            (state_of self.old) }
     {
         self.clock += 1;
         let train = &mut self.trains[i];

@@ -65,8 +65,8 @@ impl Centre {
         }
     }
 
-    /// The interlocking takes a section back. A train that has it in its movement authority is asked for it, and where it is
-    /// lent each other centre. Room for the frames is made first.
+    /// The interlocking takes a section back. A train that has it in its movement authority is asked for it, and where
+    /// it is lent each other centre. Room for the frames is made first.
     pub(crate) fn unset(&mut self, s: u16) -> Result<Outcome, AllocError>
         requires time { self.old.clock < 1073741823 }
         requires numbers { has_full_link (line_of self.old) (number_of self.old) (state_of self.old) ≡ false }
@@ -84,7 +84,8 @@ impl Centre {
         Ok(self.withdraw(s, nid_engine))
     }
 
-    // A section is taken back that is out for this train: each other centre is asked for it, as it is not known here which has it.
+    // A section is taken back that is out for this train: each other centre is asked for it, as it is not known here
+    // which has it.
     fn withdraw(&mut self, s: u16, nid_engine: u32) -> Outcome
         requires time { self.old.clock < 1073741823 }
         requires numbers { has_full_link (line_of self.old) (number_of self.old) (state_of self.old) ≡ false }

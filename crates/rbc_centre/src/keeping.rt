@@ -18,7 +18,8 @@ pub(crate) fn unknown_trains(
     book: &mut Book,
 ) -> Result<Vec<TrainState>, AllocError>
     ensures count { IfOk result (λ trains. length trains.items ≡ length line.now.trains) }
-    ensures each { IfOk result (λ trains. (i : ℕ) → (p : TrainState) → slice_get trains.items i ≡ Some p → IsUnknown line.now i p) }
+    ensures each { IfOk result
+        (λ trains. (i : ℕ) → (p : TrainState) → slice_get trains.items i ≡ Some p → IsUnknown line.now i p) }
     ensures sessions { IfOk result (λ trains. sessions.new ≡ sessions.old) }
     ensures book { IfOk result (λ trains. book.new ≡ book.old) }
 {

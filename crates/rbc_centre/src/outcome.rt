@@ -90,7 +90,15 @@ impl Outcome {
 
     /// A step that answers the interlocking with one word, and says one message or none to a train.
     pub(crate) fn told(stamp: u32, word: Word, saying: Option<Saying>) -> Outcome
-        ensures { outcome_of result ≡ record { stamp = stamp; sayings = sayings_of saying; frames = λ d. []; words = word_of word ∷ []; link = None; silence = None } }
+        ensures { outcome_of result
+            ≡ record {
+              stamp = stamp;
+              sayings = sayings_of saying;
+              frames = λ d. [];
+              words = word_of word ∷ [];
+              link = None;
+              silence = None;
+            } }
     {
         Outcome {
             stamp,
@@ -105,7 +113,15 @@ impl Outcome {
 
     /// A step that answers the interlocking with one word, by these frames.
     pub(crate) fn sent(stamp: u32, word: Word, frames: Frames) -> Outcome
-        ensures { outcome_of result ≡ record { stamp = stamp; sayings = []; frames = frames_to frames; words = word_of word ∷ []; link = None; silence = None } }
+        ensures { outcome_of result
+            ≡ record {
+              stamp = stamp;
+              sayings = [];
+              frames = frames_to frames;
+              words = word_of word ∷ [];
+              link = None;
+              silence = None;
+            } }
     {
         Outcome {
             stamp,

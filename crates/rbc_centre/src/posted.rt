@@ -25,8 +25,8 @@ use rbc_link::Links;
 use rbc_linkmsg::{Body, Frame};
 use rbc_train::{Letter, Mail, Notice};
 
-/// Sends the mail of a step with this stamp, which is of this train: to each centre first the sections that go to its home, then what it is
-/// told of a handover, and then its letter.
+/// Sends the mail of a step with this stamp, which is of this train: to each centre first the sections that go to its
+/// home, then what it is told of a handover, and then its letter.
 #[inline(always)]
 pub(crate) fn post(
     links: &mut Links<Body>,
@@ -40,10 +40,17 @@ pub(crate) fn post(
 ) -> Frames
     requires stamp { (1 ≤ stamp) × (stamp ≤ 1073741823) }
     requires linked { (d : ℕ) → has_link links.old d ≡ is_linked line.now centre d }
-    requires may { (d : ℕ) → MayPost links.old d (mail_to line.now centre nid_engine (expected_from expectations.now) mail.now d) }
-    requires room { (d : ℕ) → (mail_to line.now centre nid_engine (expected_from expectations.now) mail.now d ≡ []) ⊎ HasFrameRoom room.old }
-    ensures posted { HasPosted body_of stamp (mail_to line.now centre nid_engine (expected_from expectations.now) mail.now) links.old links.new }
-    ensures frames { (d : ℕ) → frames_to result d ≡ numbered stamp (length (sent_to links.old d)) (mail_to line.now centre nid_engine (expected_from expectations.now) mail.now d) }
+    requires may { (d : ℕ)
+        → MayPost links.old d (mail_to line.now centre nid_engine (expected_from expectations.now) mail.now d) }
+    requires room { (d : ℕ)
+        → (mail_to line.now centre nid_engine (expected_from expectations.now) mail.now d
+        ≡ []) ⊎ HasFrameRoom room.old }
+    ensures posted { HasPosted body_of stamp
+        (mail_to line.now centre nid_engine (expected_from expectations.now) mail.now) links.old links.new }
+    ensures frames { (d : ℕ)
+        → frames_to result d
+        ≡ numbered stamp (length (sent_to links.old d))
+        (mail_to line.now centre nid_engine (expected_from expectations.now) mail.now d) }
 {
     if is_nothing(line, centre, mail) {
         return Frames::nothing();
@@ -65,7 +72,8 @@ pub(crate) fn post(
 // Whether there is nothing to send.
 #[inline(always)]
 fn is_nothing(line: &Line, centre: u8, mail: &Mail) -> bool
-    ensures { IsTrue result → (t : ℕ) → (e : ℕ → Option Expectation) → (d : ℕ) → mail_to line.now centre t e mail.now d ≡ [] }
+    ensures { IsTrue result → (t : ℕ) → (e : ℕ → Option Expectation) → (d : ℕ)
+        → mail_to line.now centre t e mail.now d ≡ [] }
 {
     mail.notice == Notice::Nothing
         && mail.letter.is_none()
@@ -86,10 +94,17 @@ fn post_all(
 ) -> Frames
     requires stamp { (1 ≤ stamp) × (stamp ≤ 1073741823) }
     requires linked { (d : ℕ) → has_link links.old d ≡ is_linked line.now centre d }
-    requires may { (d : ℕ) → MayPost links.old d (mail_to line.now centre nid_engine (expected_from expectations.now) mail.now d) }
-    requires room { (d : ℕ) → (mail_to line.now centre nid_engine (expected_from expectations.now) mail.now d ≡ []) ⊎ HasFrameRoom room.old }
-    ensures posted { HasPosted body_of stamp (mail_to line.now centre nid_engine (expected_from expectations.now) mail.now) links.old links.new }
-    ensures frames { (d : ℕ) → frames_to result d ≡ numbered stamp (length (sent_to links.old d)) (mail_to line.now centre nid_engine (expected_from expectations.now) mail.now d) }
+    requires may { (d : ℕ)
+        → MayPost links.old d (mail_to line.now centre nid_engine (expected_from expectations.now) mail.now d) }
+    requires room { (d : ℕ)
+        → (mail_to line.now centre nid_engine (expected_from expectations.now) mail.now d
+        ≡ []) ⊎ HasFrameRoom room.old }
+    ensures posted { HasPosted body_of stamp
+        (mail_to line.now centre nid_engine (expected_from expectations.now) mail.now) links.old links.new }
+    ensures frames { (d : ℕ)
+        → frames_to result d
+        ≡ numbered stamp (length (sent_to links.old d))
+        (mail_to line.now centre nid_engine (expected_from expectations.now) mail.now d) }
 {
     let mut list = room.take();
     for to in 0..line.centre_count() {
@@ -122,9 +137,13 @@ fn post_part(
     to: u8,
 )
     requires stamp { (1 ≤ stamp) × (stamp ≤ 1073741823) }
-    requires may { MayPost links.old to (mail_to line.now centre nid_engine (expected_from expectations.now) mail.now to) }
-    requires room { (mail_to line.now centre nid_engine (expected_from expectations.now) mail.now to ≡ []) ⊎ (length list.old.items + 4 ≤ vec_capacity list.old) }
-    ensures sent { HasSent stamp (only to (mail_to line.now centre nid_engine (expected_from expectations.now) mail.now to)) links.old links.new list.old.items list.new.items }
+    requires may { MayPost links.old to
+        (mail_to line.now centre nid_engine (expected_from expectations.now) mail.now to) }
+    requires room { (mail_to line.now centre nid_engine (expected_from expectations.now) mail.now to ≡ []) ⊎
+        (length list.old.items + 4 ≤ vec_capacity list.old) }
+    ensures sent { HasSent stamp
+        (only to (mail_to line.now centre nid_engine
+        (expected_from expectations.now) mail.now to)) links.old links.new list.old.items list.new.items }
     ensures count { length list.new.items ≤ length list.old.items + 4 }
     ensures capacity { vec_capacity list.new ≡ vec_capacity list.old }
 {
@@ -158,9 +177,13 @@ fn post_to(
     to: u8,
 )
     requires stamp { (1 ≤ stamp) × (stamp ≤ 1073741823) }
-    requires may { MayPost links.old to (mail_to line.now centre nid_engine (expected_from expectations.now) mail.now to) }
-    requires room { (mail_to line.now centre nid_engine (expected_from expectations.now) mail.now to ≡ []) ⊎ (length list.old.items + 4 ≤ vec_capacity list.old) }
-    ensures sent { HasSent stamp (only to (mail_to line.now centre nid_engine (expected_from expectations.now) mail.now to)) links.old links.new list.old.items list.new.items }
+    requires may { MayPost links.old to
+        (mail_to line.now centre nid_engine (expected_from expectations.now) mail.now to) }
+    requires room { (mail_to line.now centre nid_engine (expected_from expectations.now) mail.now to ≡ []) ⊎
+        (length list.old.items + 4 ≤ vec_capacity list.old) }
+    ensures sent { HasSent stamp
+        (only to (mail_to line.now centre nid_engine
+        (expected_from expectations.now) mail.now to)) links.old links.new list.old.items list.new.items }
     ensures count { length list.new.items ≤ length list.old.items + 4 }
     ensures capacity { vec_capacity list.new ≡ vec_capacity list.old }
 {
@@ -222,7 +245,9 @@ pub(crate) fn post_to_others(
     requires may { (d : ℕ) → MayPost links.old d (to_others line.now centre (body_of body) d) }
     requires room { HasFrameRoom room.old }
     ensures posted { HasPosted body_of stamp (to_others line.now centre (body_of body)) links.old links.new }
-    ensures frames { (d : ℕ) → frames_to result d ≡ numbered stamp (length (sent_to links.old d)) (to_others line.now centre (body_of body) d) }
+    ensures frames { (d : ℕ)
+        → frames_to result d
+        ≡ numbered stamp (length (sent_to links.old d)) (to_others line.now centre (body_of body) d) }
 {
     let mut list = room.take();
     for to in 0..line.centre_count() {

@@ -40,7 +40,8 @@ impl Event {
         }
     }
 
-    /// Another event that says the same. Only the packets of a train's message that are kept without being read take memory.
+    /// Another event that says the same. Only the packets of a train's message that are kept without being read take
+    /// memory.
     pub fn copied(&self, alloc: Global) -> Result<Event, AllocError>
         ensures { IfOk result (λ event. event ≡ self.now) }
     {

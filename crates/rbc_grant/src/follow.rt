@@ -15,7 +15,8 @@ use rbc_place::{Place, is_on, section_end};
 /// The greatest distance from a balise group at which a movement authority may end, in metres.
 pub(crate) const MOST_METRES: u32 = 32_767;
 
-/// How many sections follow the hand, one after another, with at most 32 in the hand, where the place's group is at this start.
+/// How many sections follow the hand, one after another, with at most 32 in the hand, where the place's group is at
+/// this start.
 #[inline(always)]
 pub(crate) fn following(
     line: &Line,
@@ -27,7 +28,9 @@ pub(crate) fn following(
 ) -> u16
     requires start { start ≡ group_start line.now (place_of place.now) }
     requires bound { start ≤ 1024000 }
-    ensures value { result ≡ longest (grants.may_follow line.now book.now (run_of pool) (place_of place.now)) (behind (run_of hand)) (32 - hand.count) }
+    ensures value { result
+        ≡ longest (grants.may_follow line.now book.now (run_of pool) (place_of place.now)) (behind (run_of hand))
+        (32 - hand.count) }
     ensures bound { result ≤ 32 - hand.count }
 {
     let room = Hand::ROOM.saturating_sub(hand.count);
@@ -53,8 +56,8 @@ fn open_behind(book: &Book, hand: SectionRun, most: u16) -> u16
     book.open_run(first as u16, most)
 }
 
-// Whether the section may follow in the hand of a train at this place: on its track, open in this book or of the pool, and its end not
-// too far from the group, which is at this start. Where it is known to be open, the book is not asked.
+// Whether the section may follow in the hand of a train at this place: on its track, open in this book or of the pool,
+// and its end not too far from the group, which is at this start. Where it is known to be open, the book is not asked.
 #[inline(always)]
 fn may_follow(
     line: &Line,

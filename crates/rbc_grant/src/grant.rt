@@ -29,8 +29,8 @@ pub fn hand_end(line: &Line, hand: SectionRun) -> u32
     section_end(line, hand.behind().saturating_sub(1))
 }
 
-/// Whether a request from this place may be answered: the safe front end is not past the hand's end, which is at most 32 767
-/// metres past the balise group of the place.
+/// Whether a request from this place may be answered: the safe front end is not past the hand's end, which is at most
+/// 32 767 metres past the balise group of the place.
 #[inline(always)]
 pub fn may_request(line: &Line, hand: SectionRun, place: &Place) -> bool
     ensures { result ≡ grants.may_request line.now (run_of hand) (place_of place.now) }
@@ -39,9 +39,9 @@ pub fn may_request(line: &Line, hand: SectionRun, place: &Place) -> bool
     place.front <= 10 * end && end <= group_start(line, place) + MOST_METRES
 }
 
-/// The answer to a request (message 132 answered by message 3): the hand is extended by the longest run of sections that
-/// follow it on the train's track, each open in this centre's book or of the train's pool, with at most 32 sections in the hand and
-/// an end at most 32 767 metres past the balise group of the place.
+/// The answer to a request (message 132 answered by message 3): the hand is extended by the longest run of sections
+/// that follow it on the train's track, each open in this centre's book or of the train's pool, with at most 32
+/// sections in the hand and an end at most 32 767 metres past the balise group of the place.
 #[inline(always)]
 pub fn answer_request(
     line: &Line,
@@ -50,12 +50,16 @@ pub fn answer_request(
     hand: SectionRun,
     place: &Place,
 ) -> Grant
-    ensures sections { result.sections ≡ longest (grants.may_follow line.now book.now (run_of pool) (place_of place.now)) (behind (run_of hand)) (32 - hand.count) }
+    ensures sections { result.sections
+        ≡ longest (grants.may_follow line.now book.now (run_of pool) (place_of place.now)) (behind (run_of hand))
+        (32 - hand.count) }
     // No more than there is room for.
     ensures room { result.sections ≤ 32 - hand.count }
     // Each of them may follow.
-    ensures each { (k : ℕ) → k < result.sections → grants.may_follow line.now book.now (run_of pool) (place_of place.now) (behind (run_of hand) + k) ≡ true }
-    ensures end { result.end ≡ end line.now (behind (run_of hand) + result.sections - 1) - spec.group_start line.now (place_of place.now) }
+    ensures each { (k : ℕ) → k < result.sections
+        → grants.may_follow line.now book.now (run_of pool) (place_of place.now) (behind (run_of hand) + k) ≡ true }
+    ensures end { result.end
+        ≡ end line.now (behind (run_of hand) + result.sections - 1) - spec.group_start line.now (place_of place.now) }
     ensures line { IsLine line.now }
     // L_ENDSECTION has room for it, where the request may be answered.
     ensures fits { grants.may_request line.now (run_of hand) (place_of place.now) ≡ true → result.end ≤ 32767 }

@@ -6,9 +6,9 @@ use std::alloc::{AllocError, Global};
 use std::collections::VecDeque;
 use std::marker::Model;
 
-/// The consecutive sections that a train has in its movement authority, or that wait for it, at most 32: of each the token
-/// that the centre holds. Room for all is made at the beginning, and no call takes memory after that. A hand can't be copied,
-/// and not be dropped: its tokens are cut off, and then it ends.
+/// The consecutive sections that a train has in its movement authority, or that wait for it, at most 32: of each the
+/// token that the centre holds. Room for all is made at the beginning, and no call takes memory after that. A hand
+/// can't be copied, and not be dropped: its tokens are cut off, and then it ends.
 #[must_use]
 #[derive(Debug)]
 pub struct Hand {
@@ -77,8 +77,8 @@ impl Hand {
         self.run().is_empty()
     }
 
-    /// Whether a section may come behind the last: there is room, and it is the next in number, or the hand is empty. A section
-    /// 65 535, which no line has, may not.
+    /// Whether a section may come behind the last: there is room, and it is the next in number, or the hand is empty. A
+    /// section 65 535, which no line has, may not.
     #[tactic(auto, unfolding(crate::specs::Hands::takes))]
     pub fn takes(&self, section: u16) -> bool
         ensures { result ≡ takes (run self.now) section }
@@ -104,7 +104,8 @@ impl Hand {
         ensures run { run self.new ≡ (if takes (run self.old) (section_of token)
             then joined (run self.old) (one (section_of token)) else run self.old) }
         // A section that follows the last at once is taken where there is room, and any where the hand is empty.
-        ensures follows { (run self.old).count < 32 → section_of token < 65535 → section_of token ≡ behind (run self.old)
+        ensures follows { (run self.old).count < 32 → section_of token < 65535
+            → section_of token ≡ behind (run self.old)
             → IsOk result × (run self.new ≡ longer (run self.old)) }
         ensures begins { (run self.old).count ≡ 0 → section_of token < 65535
             → IsOk result × (run self.new ≡ one (section_of token)) }

@@ -1,8 +1,8 @@
 ghost use Rattle.std.specs.Prelude.{◌≡◌};
 ghost use Rattle.rbc_hand.specs.Tokens.{lent_on, lent_section, lent_train};
 
-/// The name of a section of another home, which its centre has lent to a train here. It can't be copied, and not be dropped:
-/// it ends where it is sent home or further on, also where its centre is dropped.
+/// The name of a section of another home, which its centre has lent to a train here. It can't be copied, and not be
+/// dropped: it ends where it is sent home or further on, also where its centre is dropped.
 #[must_use]
 #[derive(Debug)]
 pub struct Lent {

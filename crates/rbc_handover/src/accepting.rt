@@ -14,8 +14,9 @@ pub struct Expected;
 #[derive(Clone, Copy, Debug, PartialEq, Eq)]
 pub struct Taking;
 
-/// A handover of a train that another centre has announced to this one, which one holder has. It can't be copied, and not be
-/// dropped: it ends where it is cancelled or taken, also where its centre is dropped. Its phase is `Expected` or `Taking`.
+/// A handover of a train that another centre has announced to this one, which one holder has. It can't be copied, and
+/// not be dropped: it ends where it is cancelled or taken, also where its centre is dropped. Its phase is `Expected` or
+/// `Taking`.
 #[must_use]
 #[derive(Debug)]
 pub struct Accepting<S> {
@@ -130,7 +131,8 @@ impl AcceptingState {
         }
     }
 
-    // This centre says that it is taking over. Whether it says so now: not where nothing is expected, nor where it has said so.
+    // This centre says that it is taking over. Whether it says so now: not where nothing is expected, nor where it has
+    // said so.
     pub(crate) fn take_over(&mut self) -> bool
         ensures told { result ≡ is_to_be_told (expectation_of self.old) }
         ensures state { expectation_of self.new ≡ option_map taking (expectation_of self.old) }

@@ -15,8 +15,9 @@ use rbc_line::Line;
 use std::alloc::{AllocError, Global};
 use std::marker::Model;
 
-/// What a centre has of the handovers of one train that other centres have announced to it: of each centre of the line one at the
-/// most. Room is made at the beginning, and no call takes memory after that. It can't be copied, and not be dropped.
+/// What a centre has of the handovers of one train that other centres have announced to it: of each centre of the line
+/// one at the most. Room is made at the beginning, and no call takes memory after that. It can't be copied, and not be
+/// dropped.
 #[must_use]
 #[derive(Debug)]
 pub struct Expectations {
@@ -61,7 +62,8 @@ impl Expectations {
         some_stands(self.states.as_slice())
     }
 
-    /// The centre has announced the train under this number. Where it is expected from there already, that stays as it was.
+    /// The centre has announced the train under this number. Where it is expected from there already, that stays as it
+    /// was.
     pub fn announced(&mut self, from: u8, number: u32)
         requires { from < length self.old }
         ensures count { length self.new ≡ length self.old }
@@ -73,8 +75,8 @@ impl Expectations {
         self.states[from as usize].announced(number);
     }
 
-    /// The centre has cancelled the handover of this number: the train is not expected from there. Where it is expected under another
-    /// number, or not at all, nothing changes.
+    /// The centre has cancelled the handover of this number: the train is not expected from there. Where it is expected
+    /// under another number, or not at all, nothing changes.
     pub fn cancelled(&mut self, from: u8, number: u32)
         ensures count { length self.new ≡ length self.old }
         ensures expected { (d : ℕ) → expected_from self.new d
@@ -95,8 +97,9 @@ impl Expectations {
         number_at(self.states.as_slice(), from as usize)
     }
 
-    /// The train has reported in this centre's area (3.15.1): the centres that are told now that this one is taking over, each under the
-    /// number that it gave. They are those that have announced the train, and were not told before.
+    /// The train has reported in this centre's area (3.15.1): the centres that are told now that this one is taking
+    /// over, each under the number that it gave. They are those that have announced the train, and were not told
+    /// before.
     pub fn take_over(&mut self) -> Announcers
         ensures told { (d : ℕ) → is_told result d ≡ is_to_be_told (expected_from self.old d) }
         ensures count { length self.new ≡ length self.old }
@@ -107,8 +110,8 @@ impl Expectations {
         take_over_each(&mut self.states)
     }
 
-    /// Whether a handover from the centre may be taken under this number: the train is expected from there under it, and the centre was
-    /// told that this one is taking over.
+    /// Whether a handover from the centre may be taken under this number: the train is expected from there under it,
+    /// and the centre was told that this one is taking over.
     pub fn may_take(&self, from: u8, number: u32) -> bool
         ensures value { result ≡ is_taking_under number (expected_from self.now from) }
         ensures exact { (line : track.Line) (t : ℕ) (k : spec.Centre) → HasExpectations line t k self.now
@@ -149,7 +152,8 @@ fn some_stands(states: &[AcceptingState]) -> bool
 
 // Whether a handover from the centre at this place may be taken under this number.
 fn may_take_at(states: &[AcceptingState], i: usize, number: u32) -> bool
-    ensures { result ≡ expected.is_taking_under number (option_and_then accepting.expectation_of (slice_get states.now i)) }
+    ensures { result ≡ expected.is_taking_under number
+        (option_and_then accepting.expectation_of (slice_get states.now i)) }
 {
     match states.get(i) {
         Some(state) => state.may_take(number),
@@ -167,10 +171,13 @@ fn number_at(states: &[AcceptingState], i: usize) -> Option<u32>
     }
 }
 
-// This centre says to each centre that has announced the train, and was not told, that it is taking over: those centres.
+// This centre says to each centre that has announced the train, and was not told, that it is taking over: those
+// centres.
 fn take_over_each(states: &mut Vec<AcceptingState>) -> Announcers
     requires { length states.old.items ≤ 8 }
-    ensures told { (d : ℕ) → expected.is_told result d ≡ expected.is_to_be_told (expected.expected_from (map accepting.expectation_of states.old.items) d) }
+    ensures told { (d : ℕ)
+        → expected.is_told result d
+        ≡ expected.is_to_be_told (expected.expected_from (map accepting.expectation_of states.old.items) d) }
     ensures count { length states.new.items ≡ length states.old.items }
     ensures expected { (d : ℕ) → expected.expected_from (map accepting.expectation_of states.new.items) d
         ≡ option_map rules.taking (expected.expected_from (map accepting.expectation_of states.old.items) d) }

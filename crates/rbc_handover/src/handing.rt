@@ -10,8 +10,8 @@ pub struct HandoverName {
     pub to: u8,
 }
 
-/// A handover of a train that its centre has announced, which one holder has. It can't be copied, and not be dropped: it is
-/// yielded or cancelled, the latter also where its centre is dropped.
+/// A handover of a train that its centre has announced, which one holder has. It can't be copied, and not be dropped:
+/// it is yielded or cancelled, the latter also where its centre is dropped.
 #[must_use]
 #[derive(Debug)]
 pub struct Handing {
@@ -60,7 +60,8 @@ impl Handing {
         HandoverName { number, to }
     }
 
-    /// Ends it, where the supervision is yielded: what it went by, for the frame that carries the mission to the accepting centre.
+    /// Ends it, where the supervision is yielded: what it went by, for the frame that carries the mission to the
+    /// accepting centre.
     pub fn yield_to(self) -> HandoverName
         ensures { result ≡ name_of self }
     {

@@ -43,8 +43,8 @@ impl Handover {
         self.name().is_some()
     }
 
-    /// Announces a handover to this centre (3.15.1), where none stands: it has the next number, which is answered. None exactly where one stands,
-    /// and then nothing changes.
+    /// Announces a handover to this centre (3.15.1), where none stands: it has the next number, which is answered. None
+    /// exactly where one stands, and then nothing changes.
     pub fn announce(&mut self, count: &mut HandoverCount, to: u8) -> Option<u32>
         requires { count.old < 1073741823 }
         ensures number { result ≡ (if is_some (handing_of self.old) then None else Some (count.old + 1)) }
@@ -66,12 +66,15 @@ impl Handover {
         Some(number)
     }
 
-    /// The centre says that it is taking over under this number: takes the handover out, if it stands under this number to that centre, so
-    /// that the supervision is yielded (3.15.1). None exactly where it does not, and then nothing changes.
+    /// The centre says that it is taking over under this number: takes the handover out, if it stands under this number
+    /// to that centre, so that the supervision is yielded (3.15.1). None exactly where it does not, and then nothing
+    /// changes.
     pub fn claim(&mut self, from: u8, number: u32) -> Option<Handing>
-        ensures due { option_map kept_as result ≡ (if has (is_due from number) (handing_of self.old) then handing_of self.old else None) }
+        ensures due { option_map kept_as result
+            ≡ (if has (is_due from number) (handing_of self.old) then handing_of self.old else None) }
         ensures handover { handing_of self.new ≡ (if is_some result then None else handing_of self.old) }
-        ensures exact { (line : track.Line) (c t : ℕ) (m : spec.Mission) (k : spec.Centre) → HasMission t k m (handing_of self.old)
+        ensures exact { (line : track.Line) (c t : ℕ) (m : spec.Mission) (k : spec.Centre)
+            → HasMission t k m (handing_of self.old)
             → links.taking_over line c from number t k
             ≡ option_map_or (λ handing. acts.yield line c t m (kept_as handing) k) result (acts.rest k) }
     {

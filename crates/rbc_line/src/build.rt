@@ -42,7 +42,8 @@ fn nid_rbc_of(centre: &DraftCentre) -> u16
 
 fn centre_rows(alloc: Global, draft: &Draft) -> Result<Vec<Centre>, AllocError>
     requires { IsTested (file_view draft.now) }
-    ensures { IfOk result (λ rows. map centre_of rows.items ≡ map line_centre (map centre_view draft.now.centres.items)) }
+    ensures { IfOk result
+        (λ rows. map centre_of rows.items ≡ map line_centre (map centre_view draft.now.centres.items)) }
 {
     let centres = draft.centres.as_slice();
     let mut rows = Vec::with_capacity(alloc, centres.len())?;
@@ -97,9 +98,11 @@ fn train_row(centres: &[DraftCentre], train: &DraftTrain) -> Train
 
 fn section_rows(alloc: Global, draft: &Draft) -> Result<Vec<Section>, AllocError>
     requires tested { IsTested (file_view draft.now) }
-    requires order { Ascends 0 (length draft.now.tracks.names.items) (map section_view draft.now.tracks.sections.items) }
+    requires order { Ascends 0 (length draft.now.tracks.names.items)
+        (map section_view draft.now.tracks.sections.items) }
     ensures rows { IfOk result (λ rows. map section_of rows.items
-        ≡ map (line_section (map centre_view draft.now.centres.items)) (map section_view draft.now.tracks.sections.items)) }
+        ≡ map (line_section (map centre_view draft.now.centres.items))
+        (map section_view draft.now.tracks.sections.items)) }
     ensures starts { IfOk result (λ rows. HasOwnStarts rows.items) }
 {
     let centres = draft.centres.as_slice();
@@ -132,7 +135,8 @@ fn train_rows(alloc: Global, draft: &Draft) -> Result<Vec<Train>, AllocError>
 #[tactic(auto, unfolding(crate::specs::LineFile::line_of))]
 pub(crate) fn rows_of(alloc: Global, draft: &Draft) -> Result<Rows, AllocError>
     requires tested { IsTested (file_view draft.now) }
-    requires order { Ascends 0 (length draft.now.tracks.names.items) (map section_view draft.now.tracks.sections.items) }
+    requires order { Ascends 0 (length draft.now.tracks.names.items)
+        (map section_view draft.now.tracks.sections.items) }
     ensures line { IfOk result (λ rows. line_of_rows rows ≡ line_of (file_view draft.now)) }
     ensures starts { IfOk result (λ rows. HasOwnStarts rows.sections.items) }
 {

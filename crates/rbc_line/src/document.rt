@@ -74,7 +74,8 @@ impl Line {
     /// Reads the tables of a line file. Those that no fault applies to give the line that they name; for any others
     /// the lowest fault that applies is named. `Memory` comes where an allocation was refused, in place of any answer.
     pub fn from_table(alloc: Global, table: &Table) -> Result<Line, LineFault>
-        ensures named { IfOk result (λ line. MatchOption (line_file (table_view table.now)) ⊥ (λ file. line ≡ line_of file)) }
+        ensures named { IfOk result
+            (λ line. MatchOption (line_file (table_view table.now)) ⊥ (λ file. line ≡ line_of file)) }
         ensures sound { IfOk result (λ _. (fault : LineFault) → ¬ AppliesToTables (table_view table.now) fault) }
         ensures line { IfOk result IsLine }
         ensures fault { IfErr result

@@ -43,7 +43,8 @@ pub(crate) fn has_length_fault(draft: &Draft) -> bool
 }
 
 fn has_centre_number_fault(centres: &[DraftCentre]) -> bool
-    ensures { result ≡ list_any (λ c. is_outside 0 16382 c.nid_rbc || not (is_name c.name)) (map centre_view centres.now) }
+    ensures { result ≡ list_any (λ c. is_outside 0 16382 c.nid_rbc || not (is_name c.name))
+        (map centre_view centres.now) }
 {
     centres.iter().any(|centre| is_outside(0, 16382, centre.nid_rbc) || !is_name(centre.name))
 }
@@ -161,7 +162,8 @@ fn is_centre_name(centres: &[DraftCentre], name: &str) -> bool
 }
 
 fn has_foreign_home(centres: &[DraftCentre], sections: &[DraftSection]) -> bool
-    ensures { result ≡ list_any (λ s. not (list_any (λ c. bytes_eq c.name s.home) (map centre_view centres.now))) (map section_view sections.now) }
+    ensures { result ≡ list_any (λ s. not (list_any (λ c. bytes_eq c.name s.home) (map centre_view centres.now)))
+        (map section_view sections.now) }
 {
     sections
         .iter()
@@ -169,7 +171,8 @@ fn has_foreign_home(centres: &[DraftCentre], sections: &[DraftSection]) -> bool
 }
 
 fn has_foreign_registrar(centres: &[DraftCentre], trains: &[DraftTrain]) -> bool
-    ensures { result ≡ list_any (λ t. not (list_any (λ c. bytes_eq c.name t.registrar) (map centre_view centres.now))) (map train_view trains.now) }
+    ensures { result ≡ list_any (λ t. not (list_any (λ c. bytes_eq c.name t.registrar) (map centre_view centres.now)))
+        (map train_view trains.now) }
 {
     trains
         .iter()

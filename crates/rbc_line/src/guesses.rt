@@ -6,8 +6,8 @@ use std::marker::Model;
 /// How many guesses there are. So many numbers in a row have one each.
 const ROOM: usize = 1024;
 
-/// For each remainder of a number, the row where a number of that remainder may stand. It is a guess: whoever takes it looks whether the
-/// number is that of the row.
+/// For each remainder of a number, the row where a number of that remainder may stand. It is a guess: whoever takes it
+/// looks whether the number is that of the row.
 #[derive(Drop)]
 pub(crate) struct Guesses {
     rows: Vec<u16>,

@@ -14,8 +14,8 @@ pub enum Taken {
     Early,
 }
 
-/// What has come on a link from another centre: how many of its frames were taken, which are those numbered from 1 on. A link carries
-/// at most 65 536 frames, so no more are ever taken.
+/// What has come on a link from another centre: how many of its frames were taken, which are those numbered from 1 on.
+/// A link carries at most 65 536 frames, so no more are ever taken.
 #[derive(Debug, Drop)]
 pub struct Inbox {
     taken: u32,
@@ -49,7 +49,8 @@ impl Inbox {
         self.taken
     }
 
-    /// Offers it a frame by its number, which is at most 65 536. Only the next is taken; one that is old or early changes nothing.
+    /// Offers it a frame by its number, which is at most 65 536. Only the next is taken; one that is old or early
+    /// changes nothing.
     pub fn offer(&mut self, number: u32) -> Taken
         requires { number ≤ 65536 }
         ensures answer { answer_of result ≡ offered self.old number }

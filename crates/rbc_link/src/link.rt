@@ -35,7 +35,8 @@ impl<B> Link<B> {
     pub(crate) fn offer(&mut self, number: u32) -> Taken
         requires { number ≤ 65536 }
         ensures answer { answer_of result ≡ offered self.old.inbox number }
-        ensures link { self.new ≡ record self.old { inbox = taken_after (offered self.old.inbox number) self.old.inbox number } }
+        ensures link { self.new
+            ≡ record self.old { inbox = taken_after (offered self.old.inbox number) self.old.inbox number } }
     {
         self.inbox.offer(number)
     }
@@ -61,9 +62,11 @@ impl<B> Link<B> {
         ensures number { result ≡ length self.old.outbox.frames + 1 }
         ensures linked { self.new.is_linked ≡ self.old.is_linked }
         ensures inbox { self.new.inbox ≡ self.old.inbox }
-        ensures frames { self.new.outbox.frames ≡ self.old.outbox.frames ++ sent_as (length self.old.outbox.frames + 1) stamp body ∷ [] }
+        ensures frames { self.new.outbox.frames
+            ≡ self.old.outbox.frames ++ sent_as (length self.old.outbox.frames + 1) stamp body ∷ [] }
         ensures numbered { (meaning : B → spec.Body) → frames_by meaning self.new.outbox.frames
-            ≡ frames_by meaning self.old.outbox.frames ++ numbered stamp (length self.old.outbox.frames) (meaning body ∷ []) }
+            ≡ frames_by meaning self.old.outbox.frames
+            ++ numbered stamp (length self.old.outbox.frames) (meaning body ∷ []) }
         ensures room { self.new.outbox.room + 1 ≡ self.old.outbox.room }
     {
         self.outbox.send(stamp, body)

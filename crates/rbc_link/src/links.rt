@@ -104,11 +104,12 @@ impl<B> Links<B> {
         }
     }
 
-    /// Offers the link from a centre a frame by its number, which is at most 65 536. None where there is no such link. Only the next
-    /// frame is taken; nothing changes else.
+    /// Offers the link from a centre a frame by its number, which is at most 65 536. None where there is no such link.
+    /// Only the next frame is taken; nothing changes else.
     pub fn offer(&mut self, from: u8, number: u32) -> Option<Taken>
         requires { number ≤ 65536 }
-        ensures answer { link_answer_of result ≡ (if has_link self.old from then offered (taken_from self.old from) number else NoLink) }
+        ensures answer { link_answer_of result
+            ≡ (if has_link self.old from then offered (taken_from self.old from) number else NoLink) }
         ensures count { length self.new ≡ length self.old }
         ensures linked { (d : ℕ) → has_link self.new d ≡ has_link self.old d }
         ensures taken { (d : ℕ) → taken_from self.new d ≡ put (taken_from self.old) from
@@ -125,7 +126,8 @@ impl<B> Links<B> {
     /// Whether some link has fewer than four numbers left. Then no step is taken.
     #[inline(always)]
     pub fn is_full(&self) -> bool
-        ensures { result ≡ list_any (λ d. has_link self.now d && nat_lt 65532 (length (sent_to self.now d))) (range_with_len 0 (length self.now)) }
+        ensures { result ≡ list_any (λ d. has_link self.now d && nat_lt 65532 (length (sent_to self.now d)))
+            (range_with_len 0 (length self.now)) }
     {
         if self.is_ready {
             return false;
@@ -133,7 +135,8 @@ impl<B> Links<B> {
         is_some_full(self.links.as_slice())
     }
 
-    /// Makes room for so many frames more on each link, so that sending them takes no memory. A refusal changes nothing but the room.
+    /// Makes room for so many frames more on each link, so that sending them takes no memory. A refusal changes nothing
+    /// but the room.
     #[inline(always)]
     pub fn reserve(&mut self, count: usize) -> Result<(), AllocError>
         ensures keeps { KeepsLinks self.old self.new }
@@ -161,8 +164,8 @@ impl<B> Links<B> {
         Ok(())
     }
 
-    /// Sends a centre a frame with this body and the stamp of the step: its number is the next of the link. There is room for it, and
-    /// a number.
+    /// Sends a centre a frame with this body and the stamp of the step: its number is the next of the link. There is
+    /// room for it, and a number.
     #[inline(never)]
     pub fn post(&mut self, to: u8, stamp: u32, body: B) -> u32
         requires linked { has_link self.old to ≡ true }
@@ -174,7 +177,8 @@ impl<B> Links<B> {
         ensures linked { (d : ℕ) → has_link self.new d ≡ has_link self.old d }
         ensures taken { (d : ℕ) → taken_from self.new d ≡ taken_from self.old d }
         ensures sent { (meaning : B → spec.Body) (d : ℕ) → frames_by meaning (sent_to self.new d)
-            ≡ frames_by meaning (sent_to self.old d) ++ numbered stamp (length (sent_to self.old d)) (if d == to then meaning body ∷ [] else []) }
+            ≡ frames_by meaning (sent_to self.old d)
+            ++ numbered stamp (length (sent_to self.old d)) (if d == to then meaning body ∷ [] else []) }
         ensures room { (d : ℕ) → room_to self.old d ≡ room_to self.new d + (if d == to then 1 else 0) }
     {
         let number = self.links[to as usize].send(stamp, body);

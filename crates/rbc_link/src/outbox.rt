@@ -9,8 +9,8 @@ use std::marker::Model;
 /// How many frames a link carries at most.
 pub const MOST_FRAMES: usize = 65_536;
 
-/// What was sent on a link to another centre: its frames in order, numbered from 1. Each can be got again at any time. `B` is the type
-/// of a frame's body.
+/// What was sent on a link to another centre: its frames in order, numbered from 1. Each can be got again at any time.
+/// `B` is the type of a frame's body.
 #[derive(Drop)]
 pub struct Outbox<B> {
     frames: Vec<Sent<B>>,
@@ -72,7 +72,8 @@ impl<B> Outbox<B> {
         count <= self.frames.capacity() - self.frames.len()
     }
 
-    /// Makes room for so many frames more, so that sending them takes no memory. Where that is refused, the room stays as it was.
+    /// Makes room for so many frames more, so that sending them takes no memory. Where that is refused, the room stays
+    /// as it was.
     pub fn reserve(&mut self, count: usize) -> Result<(), AllocError>
         ensures frames { self.new.frames ≡ self.old.frames }
         ensures room { OnOk result (count ≤ self.new.room) }
@@ -82,7 +83,8 @@ impl<B> Outbox<B> {
         self.frames.reserve(count)
     }
 
-    /// Sends a frame with this body and the stamp of the step: its number is the next of the link. There is room for it, and a number.
+    /// Sends a frame with this body and the stamp of the step: its number is the next of the link. There is room for
+    /// it, and a number.
     pub fn send(&mut self, stamp: u32, body: B) -> u32
         requires room { 0 < self.old.room }
         requires numbers { length self.old.frames < 65536 }

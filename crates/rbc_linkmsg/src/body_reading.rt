@@ -20,7 +20,8 @@ pub(crate) fn read_body(kind: FrameKind, bytes: &[u8]) -> Body
     requires other { kind ≢ kinds.Yield }
     ensures spelled { bytes.now ≡ spelling.spelled (spelling.body_fields (body_of result)) }
     ensures kind { spelling.kind_of (body_of result) ≡ kind }
-    ensures found { (f : spec.Body) → spec.HasBodyRange f → spelling.kind_of f ≡ kind → bytes.now ≡ spelling.spelled (spelling.body_fields f) → body_of result ≡ f }
+    ensures found { (f : spec.Body) → spec.HasBodyRange f → spelling.kind_of f ≡ kind
+        → bytes.now ≡ spelling.spelled (spelling.body_fields f) → body_of result ≡ f }
 {
     match kind {
         FrameKind::AskRight => {

@@ -36,7 +36,8 @@ pub(crate) fn kind_of(body: Body) -> FrameKind
 #[tactic(auto, unfolding(crate::specs::Spelling::spelled))]
 pub(crate) fn put_body(bytes: &mut Vec<u8>, body: Body) -> Result<(), AllocError>
     requires { HasBodyRange (body_of body) }
-    ensures { OnOk result (bytes.new.items ≡ bytes.old.items ++ spelling.spelled (spelling.body_fields (body_of body))) }
+    ensures { OnOk result
+        (bytes.new.items ≡ bytes.old.items ++ spelling.spelled (spelling.body_fields (body_of body))) }
 {
     match body {
         Body::AskRight { engine }
@@ -88,7 +89,8 @@ pub(crate) fn put_body(bytes: &mut Vec<u8>, body: Body) -> Result<(), AllocError
 #[tactic(auto, unfolding(crate::specs::Spelling::spelled))]
 fn put_route(bytes: &mut Vec<u8>, engine: u32, run: SectionRun) -> Result<(), AllocError>
     requires { run.count < 256 }
-    ensures { OnOk result (bytes.new.items ≡ bytes.old.items ++ spelling.spelled ((4, engine) ∷ spelling.run_fields (run_of run))) }
+    ensures { OnOk result
+        (bytes.new.items ≡ bytes.old.items ++ spelling.spelled ((4, engine) ∷ spelling.run_fields (run_of run))) }
 {
     put_u32(bytes, engine)?;
     put_run(bytes, run)
@@ -111,7 +113,9 @@ fn put_place(
     is_ended: bool,
     place: YieldedPlace,
 ) -> Result<(), AllocError>
-    ensures { OnOk result (bytes.new.items ≡ bytes.old.items ++ spelling.spelled (spelling.place_fields has_data is_ended (place_of place))) }
+    ensures { OnOk result
+        (bytes.new.items ≡ bytes.old.items
+        ++ spelling.spelled (spelling.place_fields has_data is_ended (place_of place))) }
 {
     put_u8(bytes, place.track)?;
     put_u8(bytes, flags(has_data, is_ended, place.rear.is_some()))?;
@@ -123,7 +127,9 @@ fn put_place(
 // The front and the rear.
 #[tactic(auto, unfolding(crate::specs::Spelling::spelled))]
 fn put_ends(bytes: &mut Vec<u8>, place: YieldedPlace) -> Result<(), AllocError>
-    ensures { OnOk result (bytes.new.items ≡ bytes.old.items ++ spelling.spelled ((4, spelling.distance place.front) ∷ (4, spelling.rear_distance place.rear) ∷ [])) }
+    ensures { OnOk result
+        (bytes.new.items ≡ bytes.old.items
+        ++ spelling.spelled ((4, spelling.distance place.front) ∷ (4, spelling.rear_distance place.rear) ∷ [])) }
 {
     put_u32(bytes, place.front.cast_unsigned())?;
     put_u32(bytes, rear_distance(place.rear))

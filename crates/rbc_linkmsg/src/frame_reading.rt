@@ -1,6 +1,6 @@
-//! The frame of a kind that is known, read from bytes of its length.
-//! A function that reads a frame stands once for each kind and is not inlined, so that a result is written to its place at once:
-//! where the ways of all kinds join, each would carry the words of the largest.
+//! The frame of a kind that is known, read from bytes of its length. A function that reads a frame stands once for each
+//! kind and is not inlined, so that a result is written to its place at once: where the ways of all kinds join, each
+//! would carry the words of the largest.
 
 ghost use Rattle.std.specs.Prelude.{◌≡◌, ◌≢◌, ◌+◌, ◌^◌, ◌<◌, ◌≤◌, ◌++◌, Ok, length, slice_index, IfOk, OnOk, IfErr};
 ghost use Rattle.byteorder.specs.Endian.{big_bytes};
@@ -84,7 +84,8 @@ fn check_length(kind: FrameKind, bytes: &[u8]) -> Result<(), FrameFault>
 #[inline(always)]
 fn read_header(bytes: &[u8]) -> (u32, u32, u8, &[u8])
     requires { 9 ≤ length bytes.now }
-    ensures taken { bytes.now ≡ big_bytes 4 result.0 ++ (big_bytes 4 result.1 ++ (big_bytes 1 result.2 ++ result.3.now)) }
+    ensures taken { bytes.now
+        ≡ big_bytes 4 result.0 ++ (big_bytes 4 result.1 ++ (big_bytes 1 result.2 ++ result.3.now)) }
     ensures length { length bytes.now ≡ 9 + length result.3.now }
     ensures number { result.0 < 256 ^ 4 }
     ensures stamp { result.1 < 256 ^ 4 }
@@ -99,8 +100,10 @@ fn read_header(bytes: &[u8]) -> (u32, u32, u8, &[u8])
 // Whether a frame may have this number, stamp and body.
 #[inline(always)]
 fn check_ranges(number: u32, stamp: u32, body: Body) -> Result<(), FrameFault>
-    ensures ranges { OnOk result (spec.HasFrameRanges (record { number = number; stamp = stamp; body = body_of body })) }
-    ensures refused { IfErr result (λ e. spec.HasFrameRanges (record { number = number; stamp = stamp; body = body_of body }) → ⊥) }
+    ensures ranges { OnOk result
+        (spec.HasFrameRanges (record { number = number; stamp = stamp; body = body_of body })) }
+    ensures refused { IfErr result
+        (λ e. spec.HasFrameRanges (record { number = number; stamp = stamp; body = body_of body }) → ⊥) }
     ensures fault { IfErr result (λ e. e ≡ faults.Value) }
 {
     if !is_header(number, stamp) {

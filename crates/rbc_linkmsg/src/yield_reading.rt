@@ -38,7 +38,8 @@ pub(crate) fn read_yield(bytes: &[u8]) -> Option<Body>
     requires { length bytes.now ≡ 29 }
     ensures spelled { IfSome result (λ b. bytes.now ≡ spelling.spelled (spelling.body_fields (body_of b))) }
     ensures kind { IfSome result (λ b. spelling.kind_of (body_of b) ≡ kinds.Yield) }
-    ensures found { (f : spec.Body) → spec.HasBodyRange f → spelling.kind_of f ≡ kinds.Yield → bytes.now ≡ spelling.spelled (spelling.body_fields f) → result ≡ Some (body_back f) }
+    ensures found { (f : spec.Body) → spec.HasBodyRange f → spelling.kind_of f ≡ kinds.Yield
+        → bytes.now ≡ spelling.spelled (spelling.body_fields f) → result ≡ Some (body_back f) }
 {
     let raw = raw_yield(bytes);
     yield_of(raw)
@@ -48,7 +49,8 @@ pub(crate) fn read_yield(bytes: &[u8]) -> Option<Body>
 fn yield_of(raw: RawYield) -> Option<Body>
     ensures fields { IfSome result (λ b. spelling.body_fields (body_of b) ≡ readings.raw_fields raw) }
     ensures kind { IfSome result (λ b. spelling.kind_of (body_of b) ≡ kinds.Yield) }
-    ensures found { (f : spec.Body) → spec.HasBodyRange f → spelling.kind_of f ≡ kinds.Yield → spelling.body_fields f ≡ readings.raw_fields raw → result ≡ Some (body_back f) }
+    ensures found { (f : spec.Body) → spec.HasBodyRange f → spelling.kind_of f ≡ kinds.Yield
+        → spelling.body_fields f ≡ readings.raw_fields raw → result ≡ Some (body_back f) }
 {
     let seen = raw.place;
     let has_data = seen.flags % 2 == 1;

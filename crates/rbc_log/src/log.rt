@@ -36,7 +36,8 @@ impl Model for CentreLog {
 
     ghost view = { λ l. record { core = l.core; entries = l.entries.items } };
 
-    ghost invariant = { λ l. IsReplaying (record { core = l.core; entries = l.entries.items }) × (l.line ≡ line_of l.core) };
+    ghost invariant = { λ l. IsReplaying (record { core = l.core; entries = l.entries.items })
+        × (l.line ≡ line_of l.core) };
 }
 
 impl CentreLog {
@@ -94,7 +95,8 @@ impl CentreLog {
         self.entries.as_slice()
     }
 
-    /// The frame of this number that the centre has sent to another. None exactly for 0 and for a number that was not sent yet.
+    /// The frame of this number that the centre has sent to another. None exactly for 0 and for a number that was not
+    /// sent yet.
     pub fn frame(&self, to: u8, number: u32) -> Option<Frame>
         ensures value { result ≡ frame_number (sent_to to (map entry_of self.now.entries)) number }
         ensures replays { IsReplaying self.now }

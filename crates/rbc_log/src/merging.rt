@@ -14,9 +14,9 @@ use rbc_centre::FrameRoom;
 use rbc_line::Line;
 use std::alloc::{AllocError, Global};
 
-/// All entries of the logs, by their stamps, and those of one stamp by their centres. Each log keeps its order. Where each frame that was
-/// delivered stands in its sender's log, the entries are one run: of the world of the line, and of the one line centre.
-/// It takes as long as a stable sort of the entries, and no memory where there is none.
+/// All entries of the logs, by their stamps, and those of one stamp by their centres. Each log keeps its order. Where
+/// each frame that was delivered stands in its sender's log, the entries are one run: of the world of the line, and of
+/// the one line centre. It takes as long as a stable sort of the entries, and no memory where there is none.
 pub fn merge(alloc: Global, logs: &[&CentreLog]) -> Result<Vec<Entry>, MergeFault>
     ensures merged { IfOk result (λ es. IsMerged (map (λ l. l.now) logs.now) es.items) }
     ensures run { IfOk result (λ es. MakesOneRun (map (λ l. l.now) logs.now) es.items) }
@@ -73,7 +73,9 @@ fn are_of_line(logs: &[&CentreLog], line: &Line) -> bool
 
 /// All entries of the logs in the order of stamps.
 fn in_order(alloc: Global, logs: &[&CentreLog]) -> Result<Vec<Entry>, AllocError>
-    ensures once { IfOk result (λ es. IsPermutation (map written_of (entries_of_all (map (λ l. l.now) logs.now))) (map written_of es.items)) }
+    ensures once { IfOk result
+        (λ es. IsPermutation (map written_of (entries_of_all (map (λ l. l.now) logs.now)))
+        (map written_of es.items)) }
     ensures in_order { IfOk result (λ es. IsInOrder (map entry_of es.items)) }
     ensures replays { OnOk result (All IsReplaying (map (λ l. l.now) logs.now)) }
     ensures memory { OnErr result (0 < length (entries_of_all (map (λ l. l.now) logs.now))) }
@@ -85,7 +87,8 @@ fn in_order(alloc: Global, logs: &[&CentreLog]) -> Result<Vec<Entry>, AllocError
 
 /// All entries of the logs, log by log.
 fn all_entries(alloc: Global, logs: &[&CentreLog]) -> Result<Vec<Entry>, AllocError>
-    ensures entries { IfOk result (λ es. map written_of es.items ≡ map written_of (entries_of_all (map (λ l. l.now) logs.now))) }
+    ensures entries { IfOk result
+        (λ es. map written_of es.items ≡ map written_of (entries_of_all (map (λ l. l.now) logs.now))) }
     ensures replays { OnOk result (All IsReplaying (map (λ l. l.now) logs.now)) }
     ensures memory { OnErr result (0 < length (entries_of_all (map (λ l. l.now) logs.now))) }
 {
@@ -98,7 +101,8 @@ fn all_entries(alloc: Global, logs: &[&CentreLog]) -> Result<Vec<Entry>, AllocEr
 
 /// Copies entries behind those that are there.
 fn add_entries(all: &mut Vec<Entry>, entries: &[Entry]) -> Result<(), AllocError>
-    ensures entries { OnOk result (map written_of all.new.items ≡ map written_of all.old.items ++ map written_of entries.now) }
+    ensures entries { OnOk result
+        (map written_of all.new.items ≡ map written_of all.old.items ++ map written_of entries.now) }
     ensures memory { OnErr result (0 < length entries.now) }
 {
     let alloc = *all.allocator();

@@ -14,7 +14,8 @@ use rbc_line::Line;
 
 /// Whether a hand on this track still has a section of the accepting centre of the handover, if one stands.
 pub(crate) fn keeps_border(line: &Line, handover: &Handover, track: u8, hand: SectionRun) -> bool
-    ensures { result ≡ not (has (λ h. is_empty (acts.part_at line.now h.to track (run_of hand))) (handing_of handover.now)) }
+    ensures { result ≡ not
+        (has (λ h. is_empty (acts.part_at line.now h.to track (run_of hand))) (handing_of handover.now)) }
 {
     match handover.name() {
         Some(name) => part_at(line, name.to, track, hand).is_some(),

@@ -54,8 +54,8 @@ impl Supervision {
     ghost use Rattle.rbc_mission.specs.Passing.{IsBooked};
     ghost use Rattle.rbc_mission.specs.Handovers.{sends_off, WasHandedOver};
 
-    /// A handover to this centre is announced, where the hand of the mission has a section of its home and no handover stands. None exactly
-    /// where that is not so or no mission stands, and then nothing changes.
+    /// A handover to this centre is announced, where the hand of the mission has a section of its home and no handover
+    /// stands. None exactly where that is not so or no mission stands, and then nothing changes.
     pub fn announce(
         &mut self,
         line: &Line,
@@ -63,14 +63,18 @@ impl Supervision {
         to: u8,
     ) -> Option<Announcement>
         requires { count.old < 1073741823 }
-        ensures state { self.new ≡ option_map_or (λ a. with_handing (Some (begun to a.number)) self.old) result self.old }
+        ensures state { self.new
+            ≡ option_map_or (λ a. with_handing (Some (begun to a.number)) self.old) result self.old }
         ensures count { count.new ≡ option_map_or (λ a. count.old + 1) result count.old }
         ensures number { IfSome result (λ a. a.number ≡ count.old + 1) }
         ensures border { (m : spec.Mission) → self.old.mission ≡ Some m
-            → IfSome result (λ a. (a.border ≡ (acts.part_at line.now to m.place.track m.hand).first) × (within m.hand a.border ≡ true)) }
-        ensures exact { (m : spec.Mission) (k : spec.Centre) → HasSupervision k self.old → self.old.mission ≡ Some m → k.announced ≡ count.old
+            → IfSome result (λ a. (a.border ≡ (acts.part_at line.now to m.place.track m.hand).first)
+            × (within m.hand a.border ≡ true)) }
+        ensures exact { (m : spec.Mission) (k : spec.Centre) → HasSupervision k self.old → self.old.mission ≡ Some m
+            → k.announced ≡ count.old
             → rules.announce_if_due line.now self.old.engine to k
-            ≡ announcing line.now self.old.engine to m (option_map (λ a. a.number) result) (with_supervision self.new (with_count count.new k)) }
+            ≡ announcing line.now self.old.engine to m (option_map (λ a. a.number) result)
+            (with_supervision self.new (with_count count.new k)) }
     {
         let mission = self.mission?;
         let part = part_at(line, to, mission.place.track, self.hand.run())?;
@@ -81,9 +85,10 @@ impl Supervision {
         })
     }
 
-    /// The accepting centre says that it is taking over under this number: the mission is yielded, if its handover stands under this number to
-    /// that centre. Then no mission stands here: sections of this home are out for the train, the names of the others and the right go
-    /// there, and the pool has to be returned. None exactly where none stands so, and then nothing changes.
+    /// The accepting centre says that it is taking over under this number: the mission is yielded, if its handover
+    /// stands under this number to that centre. Then no mission stands here: sections of this home are out for the
+    /// train, the names of the others and the right go there, and the pool has to be returned. None exactly where none
+    /// stands so, and then nothing changes.
     pub fn yield_to(
         &mut self,
         line: &Line,
@@ -100,7 +105,8 @@ impl Supervision {
         ensures homes { (s : ℕ) → is_own book.new s ≡ is_own book.old s }
         ensures exact { (k : spec.Centre) → HasSupervision k self.old → HasBook line.now centre k book.old
             → links.taking_over line.now centre from number self.old.engine k
-            ≡ option_map_or (sends_off line.now centre self.old.engine) result acts.rest (with_supervision self.new (with_book book.new k)) }
+            ≡ option_map_or (sends_off line.now centre self.old.engine) result acts.rest
+            (with_supervision self.new (with_book book.new k)) }
     {
         let mission = self.mission?;
         let hand = self.hand.run();
@@ -119,8 +125,8 @@ impl Supervision {
         })
     }
 
-    /// A mission that another centre has yielded goes on here, with these sections and with the right to supervise the train: sections of
-    /// this home, which are out for the train, are in use for it here again.
+    /// A mission that another centre has yielded goes on here, with these sections and with the right to supervise the
+    /// train: sections of this home, which are out for the train, are in use for it here again.
     pub fn take_up(
         &mut self,
         line: &Line,
@@ -134,11 +140,17 @@ impl Supervision {
         requires most { sections.count ≤ 32 }
         requires numbers { sections.first + sections.count ≤ 65535 }
         requires line { sections.first + sections.count ≤ length line.now.sections }
-        requires own { (s : ℕ) → within (run_of sections) s ≡ true → is_own book.old s ≡ true → is_out_for self.old.engine (entry_at book.old s) ≡ true }
+        requires own { (s : ℕ) → within (run_of sections) s ≡ true → is_own book.old s ≡ true
+            → is_out_for self.old.engine (entry_at book.old s) ≡ true }
         requires right { right ≡ right_of self.old.number }
-        ensures supervision { self.new ≡ record self.old { mission = Some (mission_of (run_of sections) no_run None mission); hand = self.new.hand } }
+        ensures supervision { self.new
+            ≡ record self.old {
+              mission = Some (mission_of (run_of sections) no_run None mission);
+              hand = self.new.hand;
+            } }
         ensures held { IsHeldBy self.old.engine self.new.hand book.new }
-        ensures book { IsBooked (is_out_for self.old.engine) (Taken self.old.engine) (run_of sections) book.old book.new }
+        ensures book { IsBooked (is_out_for self.old.engine) (Taken self.old.engine)
+            (run_of sections) book.old book.new }
     {
         come_all(&mut self.hand, line, sections, self.nid_engine, book);
         held::hold(&mut self.right, right);

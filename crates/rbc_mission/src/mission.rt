@@ -31,7 +31,11 @@ impl Supervision {
         requires numbers { sections.first + sections.count ≤ 65535 }
         requires open { IsAllOpen (run_of sections) book.old }
         requires right { right ≡ right_of self.old.number }
-        ensures supervision { self.new ≡ record self.old { mission = Some (mission_at (place_of place) (run_of sections)); hand = claims_on self.old.engine (run_of sections) } }
+        ensures supervision { self.new
+            ≡ record self.old {
+              mission = Some (mission_at (place_of place) (run_of sections));
+              hand = claims_on self.old.engine (run_of sections);
+            } }
         ensures held { (is_home : ℕ → Bool) → IsHeldAt self.old.engine is_home self.new.hand }
         ensures book { TakesRun self.old.engine (run_of sections) book.old book.new }
     {
@@ -40,13 +44,19 @@ impl Supervision {
         self.mission = Some(MissionFacts::at(place));
     }
 
-    /// The start of mission that waits becomes a mission, with its place, its claims and the right to supervise the train.
+    /// The start of mission that waits becomes a mission, with its place, its claims and the right to supervise the
+    /// train.
     pub fn admit(&mut self, waiting: &mut WaitingStart, right: Right)
         requires none { self.old.mission ≡ None }
         requires waits { is_some waiting.old.wait ≡ true }
         requires engine { waiting.old.engine ≡ self.old.engine }
         requires right { right ≡ right_of self.old.number }
-        ensures supervision { self.new ≡ record self.old { mission = option_map (λ place. mission_at place waiting.old.sections) waiting.old.wait; hand = claims_on self.old.engine waiting.old.sections } }
+        ensures supervision { self.new
+            ≡ record self.old {
+              mission = option_map (λ place. mission_at place waiting.old.sections) waiting.old.wait;
+              hand = claims_on self.old.engine
+                  waiting.old.sections;
+            } }
         ensures held { (is_home : ℕ → Bool) → IsHeldAt self.old.engine is_home self.new.hand }
         ensures waits { waiting.new ≡ nothing_waits waiting.old.engine false }
     {
@@ -56,9 +66,17 @@ impl Supervision {
         }
     }
 
-    /// The mission goes on from this place as a new one: its train data are not known, it is not ended, and no request stands.
+    /// The mission goes on from this place as a new one: its train data are not known, it is not ended, and no request
+    /// stands.
     pub fn begin_again(&mut self, place: Place)
-        ensures { self.new ≡ record self.old { mission = option_map (λ (m : spec.Mission). record m { place = place_of place; has_data = false; is_ended = false; proposal = None }) self.old.mission } }
+        ensures { self.new ≡ record self.old {
+          mission = option_map (λ (m : spec.Mission). record m {
+            place = place_of place;
+            has_data = false;
+            is_ended = false;
+            proposal = None;
+          }) self.old.mission;
+        } }
     {
         if self.mission.is_some() {
             self.mission = Some(MissionFacts::at(place));
@@ -67,7 +85,9 @@ impl Supervision {
 
     /// The train data are known.
     pub fn note_data(&mut self)
-        ensures { self.new ≡ record self.old { mission = option_map (λ (m : spec.Mission). record m { has_data = true }) self.old.mission } }
+        ensures { self.new ≡ record self.old {
+          mission = option_map (λ (m : spec.Mission). record m { has_data = true }) self.old.mission;
+        } }
     {
         if let Some(mission) = self.mission {
             self.mission = Some(MissionFacts {
@@ -79,7 +99,10 @@ impl Supervision {
 
     /// This request to shorten stands (3.8.6).
     pub fn propose(&mut self, proposal: Proposal)
-        ensures { self.new ≡ record self.old { mission = option_map (λ (m : spec.Mission). record m { proposal = Some (proposal_of proposal) }) self.old.mission } }
+        ensures { self.new ≡ record self.old {
+          mission = option_map
+              (λ (m : spec.Mission). record m { proposal = Some (proposal_of proposal) }) self.old.mission;
+        } }
     {
         if let Some(mission) = self.mission {
             self.mission = Some(MissionFacts {
@@ -91,7 +114,9 @@ impl Supervision {
 
     /// No request to shorten stands (3.8.6).
     pub fn forget_proposal(&mut self)
-        ensures { self.new ≡ record self.old { mission = option_map (λ (m : spec.Mission). record m { proposal = None }) self.old.mission } }
+        ensures { self.new ≡ record self.old {
+          mission = option_map (λ (m : spec.Mission). record m { proposal = None }) self.old.mission;
+        } }
     {
         if let Some(facts) = self.mission {
             self.mission = Some(MissionFacts {
@@ -103,7 +128,9 @@ impl Supervision {
 
     /// The train has ended the mission. It keeps its sections, and no request to shorten stands.
     pub fn end_mission(&mut self)
-        ensures { self.new ≡ record self.old { mission = option_map (λ (m : spec.Mission). record m { is_ended = true; proposal = None }) self.old.mission } }
+        ensures { self.new ≡ record self.old {
+          mission = option_map (λ (m : spec.Mission). record m { is_ended = true; proposal = None }) self.old.mission;
+        } }
     {
         if let Some(mission) = self.mission {
             self.mission = Some(MissionFacts {
@@ -114,12 +141,18 @@ impl Supervision {
         }
     }
 
-    /// The train is at this place, and so many sections come behind its last: first those of its pool, and then open ones.
+    /// The train is at this place, and so many sections come behind its last: first those of its pool, and then open
+    /// ones.
     #[inline(always)]
     pub fn lengthen(&mut self, place: Place, count: u16, book: &mut Book)
         requires { (m : spec.Mission) → self.old.mission ≡ Some m → MayGrow m count book.old }
-        ensures supervision { self.new ≡ record self.old { mission = option_map (with_next (place_of place) count) self.old.mission; hand = self.new.hand } }
-        ensures held { IsHeldBy self.old.engine self.old.hand book.old → IsHeldBy self.old.engine self.new.hand book.new }
+        ensures supervision { self.new
+            ≡ record self.old {
+              mission = option_map (with_next (place_of place) count) self.old.mission;
+              hand = self.new.hand;
+            } }
+        ensures held { IsHeldBy self.old.engine self.old.hand book.old
+            → IsHeldBy self.old.engine self.new.hand book.new }
         ensures book { TakesRun self.old.engine (next_sections count self.old) book.old book.new }
     {
         if let Some(mission) = self.mission {
@@ -130,13 +163,17 @@ impl Supervision {
         }
     }
 
-    /// The train is at this place, and so many of its first sections leave. Where no section is left the mission closes, its pool
-    /// leaves too, and its handover is cancelled.
+    /// The train is at this place, and so many of its first sections leave. Where no section is left the mission
+    /// closes, its pool leaves too, and its handover is cancelled.
     #[inline(always)]
     pub fn clear_front(&mut self, place: Place, count: u16, book: &mut Book) -> Released
         requires some { count ≤ (hand_of self.old).count }
         requires held { IsHeldBy self.old.engine self.old.hand book.old }
-        ensures supervision { self.new ≡ record self.old { mission = option_and_then (without_front (place_of place) count) self.old.mission; hand = hand_rest count self.old.hand } }
+        ensures supervision { self.new
+            ≡ record self.old {
+              mission = option_and_then (without_front (place_of place) count) self.old.mission;
+              hand = hand_rest count self.old.hand;
+            } }
         ensures held { IsHeldBy self.old.engine self.new.hand book.new }
         ensures book { FreesRun self.old.engine (front_of count (hand_of self.old)) book.old book.new }
         ensures told { result.told ≡ wished self.old.engine (front_of count (hand_of self.old)) book.old }
@@ -163,12 +200,17 @@ impl Supervision {
         }
     }
 
-    /// All but so many of the first sections leave (3.8.6), and so does the pool; no request to shorten stands. Where no section is left
-    /// the mission closes. Its handover is cancelled where no section of the accepting centre is left.
+    /// All but so many of the first sections leave (3.8.6), and so does the pool; no request to shorten stands. Where
+    /// no section is left the mission closes. Its handover is cancelled where no section of the accepting centre is
+    /// left.
     pub fn shorten(&mut self, line: &Line, keep: u16, book: &mut Book) -> Released
         requires some { keep ≤ (hand_of self.old).count }
         requires held { IsHeldBy self.old.engine self.old.hand book.old }
-        ensures supervision { self.new ≡ record self.old { mission = option_and_then (with_front line.now keep) self.old.mission; hand = hand_front keep self.old.hand } }
+        ensures supervision { self.new
+            ≡ record self.old {
+              mission = option_and_then (with_front line.now keep) self.old.mission;
+              hand = hand_front keep self.old.hand;
+            } }
         ensures held { IsHeldBy self.old.engine self.new.hand book.new }
         ensures book { FreesRun self.old.engine (rest_of keep (hand_of self.old)) book.old book.new }
         ensures told { result.told ≡ wished self.old.engine (rest_of keep (hand_of self.old)) book.old }

@@ -39,7 +39,8 @@ fn pass_first(hand: &mut Hand, nid_engine: u32, book: &mut Book)
     }
 }
 
-/// All sections of a hand pass to another centre: those of the book's home are out for the train, and the names of the others end.
+/// All sections of a hand pass to another centre: those of the book's home are out for the train, and the names of the
+/// others end.
 pub(crate) fn pass_all(hand: &mut Hand, nid_engine: u32, book: &mut Book)
     requires held { IsHeldBy nid_engine hand.old book.old }
     ensures hand { hand.new ≡ hand_rest (length hand.old.holds) hand.old }
@@ -60,8 +61,8 @@ fn home_of(line: &Line, s: u16) -> u8
     }
 }
 
-// What is held of a section that comes with a train from another centre: its claim, where it is of the book's home and was out for
-// the train, and else its name.
+// What is held of a section that comes with a train from another centre: its claim, where it is of the book's home and
+// was out for the train, and else its name.
 fn token_from(line: &Line, s: u16, nid_engine: u32, book: &mut Book) -> Token
     requires line { s < length line.now.sections }
     requires own { is_own book.old s ≡ true → is_out_for nid_engine (entry_at book.old s) ≡ true }
@@ -99,8 +100,8 @@ fn end_token(token: Token, book: &mut Book) {
     }
 }
 
-/// Sections that come with a train from another centre are in an empty hand: those of the book's home, which were out for the train,
-/// by their claims, and the others by their names.
+/// Sections that come with a train from another centre are in an empty hand: those of the book's home, which were out
+/// for the train, by their claims, and the others by their names.
 pub(crate) fn come_all(
     hand: &mut Hand,
     line: &Line,
@@ -113,7 +114,8 @@ pub(crate) fn come_all(
     requires most { sections.count ≤ 32 }
     requires numbers { sections.first + sections.count ≤ 65535 }
     requires line { sections.first + sections.count ≤ length line.now.sections }
-    requires own { (s : ℕ) → within (run_of sections) s ≡ true → is_own book.old s ≡ true → is_out_for nid_engine (entry_at book.old s) ≡ true }
+    requires own { (s : ℕ) → within (run_of sections) s ≡ true → is_own book.old s ≡ true
+        → is_out_for nid_engine (entry_at book.old s) ≡ true }
     ensures run { run hand.new ≡ run_of sections }
     ensures held { IsHeldBy nid_engine hand.new book.new }
     ensures book { IsBooked (is_out_for nid_engine) (Taken nid_engine) (run_of sections) book.old book.new }

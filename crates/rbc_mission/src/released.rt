@@ -8,10 +8,10 @@ use rbc_border::Border;
 use rbc_hand::SectionRun;
 use rbc_handover::HandoverName;
 
-/// What leaves a mission: the sections that were wished back and are shut now, of which the interlocking is to be told, in rising
-/// order; the right to supervise the train, where the mission has closed; the run of sections that left, hand before pool, of which
-/// those of other homes have to be returned; and what its handover goes by, where it has to be cancelled. The right can't be dropped: it
-/// goes home.
+/// What leaves a mission: the sections that were wished back and are shut now, of which the interlocking is to be told,
+/// in rising order; the right to supervise the train, where the mission has closed; the run of sections that left, hand
+/// before pool, of which those of other homes have to be returned; and what its handover goes by, where it has to be
+/// cancelled. The right can't be dropped: it goes home.
 #[must_use]
 #[derive(Debug)]
 pub struct Released {

@@ -11,11 +11,11 @@ use rbc_handover::Handover;
 use std::alloc::{AllocError, Global};
 use std::marker::Model;
 
-/// What a centre supervises of one train of the line: its mission (the facts, the sections of its movement authority, those of its pool,
-/// the right to supervise it, and its handover where one stands), or that no mission stands; and whether sections were asked for over
-/// the border without an answer.
-/// Room for 32 sections of the hand and for the pool is made at the beginning, and no call takes memory after that. It can't be
-/// copied, and not be dropped: its sections go back to the book or home, and its right to the registrar.
+/// What a centre supervises of one train of the line: its mission (the facts, the sections of its movement authority,
+/// those of its pool, the right to supervise it, and its handover where one stands), or that no mission stands; and
+/// whether sections were asked for over the border without an answer. Room for 32 sections of the hand and for the pool
+/// is made at the beginning, and no call takes memory after that. It can't be copied, and not be dropped: its sections
+/// go back to the book or home, and its right to the registrar.
 #[must_use]
 #[derive(Debug)]
 pub struct Supervision {
@@ -37,7 +37,8 @@ impl Model for Supervision {
 
     ghost view = { λ c. supervision_state c.number c.nid_engine c.mission c.hand c.border (handing_of c.handover) };
 
-    ghost invariant = { λ c. IsSupervision c.number c.nid_engine c.mission c.hand c.right c.border (handing_of c.handover) };
+    ghost invariant = { λ c. IsSupervision c.number c.nid_engine c.mission c.hand c.right c.border
+        (handing_of c.handover) };
 }
 
 impl Supervision {
@@ -81,7 +82,8 @@ impl Supervision {
 
     /// The facts of the mission. None exactly where none stands.
     pub fn mission(&self) -> Option<MissionFacts>
-        ensures value { option_map (mission_of (hand_of self.now) (pool_of self.now) (handing_in self.now)) result ≡ self.now.mission }
+        ensures value { option_map (mission_of (hand_of self.now) (pool_of self.now) (handing_in self.now)) result
+            ≡ self.now.mission }
         ensures route { (m : spec.Mission) → self.now.mission ≡ Some m → HasRouteForm m }
     {
         self.mission
@@ -107,7 +109,8 @@ impl Supervision {
         self.border.pool()
     }
 
-    /// Ends it, where its centre does: its sections go back to the book, and the names of lent ones end, and so does its handover.
+    /// Ends it, where its centre does: its sections go back to the book, and the names of lent ones end, and so does
+    /// its handover.
     pub fn end(self, book: &mut Book) {
         let Supervision {
             number: _,

@@ -75,8 +75,8 @@ fn train_of(alloc: Global, bytes: &[u8]) -> Result<TrainMsg, MsgFault>
     train_from(alloc, bytes)
 }
 
-// A report or a request whose position report is a usual one, and that has no further packet. None where it is another message, or none. With
-// its length and its number known, the places of its fields are known before it is read.
+// A report or a request whose position report is a usual one, and that has no further packet. None where it is another
+// message, or none. With its length and its number known, the places of its fields are known before it is read.
 #[tactic(auto, unfolding(crate::specs::TrainReading::read_train))]
 #[inline(always)]
 fn usual(bytes: &[u8]) -> Option<TrainMsg>

@@ -8,8 +8,8 @@ ghost use Rattle.rbc_msgs.specs.Streams.{IsRest, IsEnd, IsFirstFault, ShowsFault
 ghost use Rattle.rbc_msgs.specs.declared.fault.MsgFault.{MsgFault};
 ghost use Rattle.rbc_msgs.specs.declared.fault.StreamFault.{StreamFault};
 
-/// It does not matter how a stream is cut into pieces: two pieces, one fed after the other, give the messages, the answer
-/// and the rest that both give at once, unless memory runs out.
+/// It does not matter how a stream is cut into pieces: two pieces, one fed after the other, give the messages, the
+/// answer and the rest that both give at once, unless memory runs out.
 pub fn no_cut_matters()
     ensures messages { (old mid new : List TrainText) (a b r s : List ℕ) →
         Adds old mid a r → Adds mid new (r ++ b) s → Adds old new (a ++ b) s }

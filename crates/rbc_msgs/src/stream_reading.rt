@@ -52,7 +52,8 @@ fn complete(
 ) -> Result<usize, MsgFault>
     requires { IsRest rest.old.items }
     ensures within { IfOk result (λ used. used ≤ length piece.now) }
-    ensures read { IfOk result (λ used. Adds out.old.items out.new.items (rest.old.items ++ take used piece.now) rest.new.items) }
+    ensures read { IfOk result
+        (λ used. Adds out.old.items out.new.items (rest.old.items ++ take used piece.now) rest.new.items) }
     ensures ends { IfOk result (λ used. (rest.new.items ≡ []) ⊎ (IsRest rest.new.items × (used ≡ length piece.now))) }
     ensures fault { IfErr result (λ fault. Halts out.old.items out.new.items (rest.old.items ++ piece.now) fault) }
 {

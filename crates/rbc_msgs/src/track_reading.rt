@@ -79,7 +79,8 @@ fn general(reader: &mut BitReader) -> Result<TrackBody, MsgFault>
 #[tactic(auto, unfolding(crate::specs::TrackReading::transition_order_at, rbc_packets::specs::Layout::joined))]
 fn transition(reader: &mut BitReader) -> Result<TrackBody, MsgFault>
     ensures exact { Takes track_body result reader.new (transition_order_at reader.old) }
-    ensures taken { IfOk result (λ body. field 8 131 ++ reader.old ≡ joined (track_body_fields (track_body body)) ++ reader.new) }
+    ensures taken { IfOk result
+        (λ body. field 8 131 ++ reader.old ≡ joined (track_body_fields (track_body body)) ++ reader.new) }
     ensures number { IfOk result (λ body. track_number (track_body body) ≡ 24) }
     ensures fits { IfOk result (λ body. TrackBodyFits (track_body body)) }
 {
@@ -90,7 +91,8 @@ fn transition(reader: &mut BitReader) -> Result<TrackBody, MsgFault>
 #[tactic(auto, unfolding(crate::specs::TrackReading::end_of_session_at, rbc_packets::specs::Layout::joined))]
 fn end_of_session(reader: &mut BitReader) -> Result<TrackBody, MsgFault>
     ensures exact { Takes track_body result reader.new (end_of_session_at reader.old) }
-    ensures taken { IfOk result (λ body. field 8 42 ++ reader.old ≡ joined (track_body_fields (track_body body)) ++ reader.new) }
+    ensures taken { IfOk result
+        (λ body. field 8 42 ++ reader.old ≡ joined (track_body_fields (track_body body)) ++ reader.new) }
     ensures number { IfOk result (λ body. track_number (track_body body) ≡ 24) }
     ensures fits { IfOk result (λ body. TrackBodyFits (track_body body)) }
 {

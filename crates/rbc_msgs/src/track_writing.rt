@@ -65,7 +65,9 @@ pub(crate) fn header(
 ) -> Result<BitWriter, EncodeFault>
     requires number { number < 2 ^ 8 }
     requires length { l_message < length_limit }
-    ensures ok { IfOk result (λ w. w ≡ joined ((8, number) ∷ (10, l_message) ∷ (32, message.now.t_train) ∷ (1, 0) ∷ (24, message.now.nid_lrbg) ∷ [])) }
+    ensures ok { IfOk result
+        (λ w. w ≡ joined ((8, number) ∷ (10, l_message) ∷ (32, message.now.t_train) ∷ (1, 0)
+        ∷ (24, message.now.nid_lrbg) ∷ [])) }
     ensures fits { OnOk result ((message.now.t_train < unknown_time) × (message.now.nid_lrbg < 2 ^ 24)) }
     ensures memory { IsOkUnless result EncodeFault.Memory }
 {

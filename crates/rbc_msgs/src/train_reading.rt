@@ -34,7 +34,8 @@ pub(crate) fn read_body(
     ensures number { IfOk result (λ body. train_number body ≡ train_number_value number) }
     ensures fits { IfOk result TrainBodyFits }
     // Memory is wanted only for the train data.
-    ensures memory { IfErr result (λ e. e ≡ MsgFault.Memory → MayKeep (λ x. data_packets x.0) (train_body_at number reader.old)) }
+    ensures memory { IfErr result
+        (λ e. e ≡ MsgFault.Memory → MayKeep (λ x. data_packets x.0) (train_body_at number reader.old)) }
 {
     match number {
         TrainNumber::TrainData => train_data(alloc, reader),
@@ -119,7 +120,8 @@ fn train_data(alloc: Global, reader: &mut BitReader) -> Result<TrainBody, MsgFau
     ensures taken { IfOk result (λ body. reader.old ≡ train_body_bits body ++ reader.new) }
     ensures number { IfOk result (λ body. train_number body ≡ 129) }
     ensures fits { IfOk result TrainBodyFits }
-    ensures memory { IfErr result (λ e. e ≡ MsgFault.Memory → MayKeep (λ x. data_packets x.0) (train_data_at reader.old)) }
+    ensures memory { IfErr result
+        (λ e. e ≡ MsgFault.Memory → MayKeep (λ x. data_packets x.0) (train_data_at reader.old)) }
 {
     let position = position(reader)?;
     let packet = data_packet(alloc, reader)?;
@@ -200,7 +202,8 @@ pub(crate) fn read_further(alloc: Global, reader: &mut BitReader) -> Result<Pack
     ensures taken { IfOk result (λ ps. reader.old ≡ flat_map packet_bits ps ++ reader.new) }
     ensures fits { IfOk result (AllByRecursion IsFurther) }
     // Memory is wanted only for a further packet.
-    ensures memory { IfErr result (λ e. e ≡ MsgFault.Memory → MayKeep (λ x. x.0) (further_at (length reader.old) reader.old)) }
+    ensures memory { IfErr result
+        (λ e. e ≡ MsgFault.Memory → MayKeep (λ x. x.0) (further_at (length reader.old) reader.old)) }
 {
     if reader.remaining() < 8 {
         return Ok(Packets::none());
@@ -228,7 +231,8 @@ fn read_some(alloc: Global, reader: &mut BitReader) -> Result<Packets, MsgFault>
     ensures taken { IfOk result (λ ps. reader.old ≡ flat_map packet_bits ps ++ reader.new) }
     ensures fits { IfOk result (AllByRecursion IsFurther) }
     // Memory is wanted only for a further packet.
-    ensures memory { IfErr result (λ e. e ≡ MsgFault.Memory → MayKeep (λ x. x.0) (further_at (length reader.old) reader.old)) }
+    ensures memory { IfErr result
+        (λ e. e ≡ MsgFault.Memory → MayKeep (λ x. x.0) (further_at (length reader.old) reader.old)) }
 {
     let mut further = Vec::new(alloc);
     while reader.remaining() >= 8 {

@@ -16,7 +16,8 @@ pub enum ShareFault {
     ClockEnd = 3,
     /// The log holds as many entries as it may.
     LogFull = 4,
-    /// The share is of another centre than the log, or the log lacks the share's last receipt at its place. It is looked for first.
+    /// The share is of another centre than the log, or the log lacks the share's last receipt at its place. It is
+    /// looked for first.
     Stray = 5,
 }
 

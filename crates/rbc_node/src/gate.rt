@@ -1,4 +1,5 @@
-/// What is told of each commit at a node, by its centre's number: a test can hold one commit back until another is answered.
+/// What is told of each commit at a node, by its centre's number: a test can hold one commit back until another is
+/// answered.
 pub trait Gate {
     /// The lock of the centre's log is held, and the commit comes next.
     fn inside(&self, centre: u8);

@@ -16,18 +16,19 @@ use rbc_line::Line;
 use rbc_log::{CentreLog, Entry};
 use std::alloc::{AllocError, Global};
 
-/// Takes the nodes apart, and unites the logs that they held, as `unite` does with the same faults. On a fault the nodes and the shares
-/// are dropped. No clause can name the log that a node held: the answer is that of some logs that replay, one for each node. It takes no
-/// memory where there is no node.
+/// Takes the nodes apart, and unites the logs that they held, as `unite` does with the same faults. On a fault the
+/// nodes and the shares are dropped. No clause can name the log that a node held: the answer is that of some logs that
+/// replay, one for each node. It takes no memory where there is no node.
 pub fn gather(alloc: Global, nodes: Vec<Node>, shares: Vec<Share>) -> Result<Family, GatherFault>
     ensures { Gathers (vec_len nodes) shares.items result }
 {
     unite(logs_of(alloc, nodes)?, shares.as_slice())
 }
 
-/// Takes the logs as a family: one for each centre of one line, the entries of each are the receipts of its shares, each once and each
-/// share's in its order, and each frame that was delivered was sent. What they lack is told: `Centres` is looked for first, then
-/// `Shares`, then `Foreign`. Its time grows with the entries and the receipts. It takes no memory for one log without an entry.
+/// Takes the logs as a family: one for each centre of one line, the entries of each are the receipts of its shares,
+/// each once and each share's in its order, and each frame that was delivered was sent. What they lack is told:
+/// `Centres` is looked for first, then `Shares`, then `Foreign`. Its time grows with the entries and the receipts. It
+/// takes no memory for one log without an entry.
 pub fn unite(logs: Vec<CentreLog>, shares: &[Share]) -> Result<Family, GatherFault>
     ensures { Unites logs.items shares.now result }
 {

@@ -4,7 +4,8 @@ ghost use Rattle.rbc_node.specs.Receipts.{Has};
 use rbc_centre::{Event, Outcome};
 use rbc_log::Entry;
 
-/// What is kept of an event that was committed: the event, what the centre answered, and the place of its entry in the centre's log.
+/// What is kept of an event that was committed: the event, what the centre answered, and the place of its entry in the
+/// centre's log.
 #[derive(Debug, Drop)]
 pub struct Receipt {
     pub event: Event,

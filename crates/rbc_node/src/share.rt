@@ -53,7 +53,8 @@ impl Share {
         self.receipts.as_slice()
     }
 
-    /// Whether the log is of the share's centre and has the share's last receipt at its place. It looks at no more than that entry.
+    /// Whether the log is of the share's centre and has the share's last receipt at its place. It looks at no more than
+    /// that entry.
     fn fits(&self, log: &CentreLog) -> bool
         ensures fits { IsTrue result ↔ Fits self.now log.now }
         ensures replays { IsReplaying log.now }

@@ -10,7 +10,8 @@ use crate::writing::put_track_header;
 use rbc_bits::{BitPart, BitReader, BitWriter};
 use rbc_vars::LEndsection;
 
-/// Packet 15, Level 2/3 Movement Authority, of one section and without timers, danger point or overlap (7.4.2.4, profile).
+/// Packet 15, Level 2/3 Movement Authority, of one section and without timers, danger point or overlap (7.4.2.4,
+/// profile).
 #[derive(Clone, Copy, Debug, PartialEq, Eq)]
 pub struct Authority {
     /// The end of the authority, from the balise group of the message.
@@ -28,9 +29,11 @@ impl Authority {
     #[inline(always)]
     pub fn read_packet(reader: &mut BitReader) -> Result<Self, PacketFault>
         // What is read is spelled so.
-        ensures found { IfOk result (λ a. (reader.old ≡ joined (track_packet (authority_fields a)) ++ reader.new) × AuthorityFits a) }
+        ensures found { IfOk result
+            (λ a. (reader.old ≡ joined (track_packet (authority_fields a)) ++ reader.new) × AuthorityFits a) }
         // What is spelled so is read.
-        ensures only { (a : Authority) (rest : List Bool) → AuthorityFits a → reader.old ≡ joined (track_packet (authority_fields a)) ++ rest → (result ≡ Ok a) × (reader.new ≡ rest) }
+        ensures only { (a : Authority) (rest : List Bool) → AuthorityFits a
+            → reader.old ≡ joined (track_packet (authority_fields a)) ++ rest → (result ≡ Ok a) × (reader.new ≡ rest) }
         // Which fault it is.
         ensures exact { Takes (λ x. x) result reader.new (authority_at reader.old) }
     {

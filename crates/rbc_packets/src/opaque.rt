@@ -11,8 +11,8 @@ use rbc_bits::{BitReader, BitWriter};
 use std::alloc::Global;
 use std::marker::Model;
 
-/// A packet of a train that is kept without being read: its NID_PACKET, and the bits behind its header. It stands behind a pointer, since
-/// few messages have one, and each is as large as the largest.
+/// A packet of a train that is kept without being read: its NID_PACKET, and the bits behind its header. It stands
+/// behind a pointer, since few messages have one, and each is as large as the largest.
 #[derive(Debug, Drop)]
 pub struct Opaque {
     kept: Box<Kept>,
@@ -65,9 +65,11 @@ impl Opaque {
         reader: &mut BitReader,
     ) -> Result<Self, PacketFault>
         // What is read is spelled so.
-        ensures found { IfOk result (λ p. (reader.old ≡ opaque_bits p ++ reader.new) × (p.nid_packet ≡ nid_packet) × PacketFits p) }
+        ensures found { IfOk result
+            (λ p. (reader.old ≡ opaque_bits p ++ reader.new) × (p.nid_packet ≡ nid_packet) × PacketFits p) }
         // What is spelled so is read, unless memory runs out.
-        ensures only { (p : Packet) (rest : List Bool) → PacketFits p → p.nid_packet ≡ nid_packet → reader.old ≡ opaque_bits p ++ rest →
+        ensures only { (p : Packet) (rest : List Bool) → PacketFits p → p.nid_packet ≡ nid_packet
+            → reader.old ≡ opaque_bits p ++ rest →
             TakesUnless PacketFault.Memory (λ x. x) result reader.new (Ok (p, rest)) }
         // Which fault it is.
         ensures exact { TakesUnless PacketFault.Memory (λ x. x) result reader.new (opaque_at nid_packet reader.old) }

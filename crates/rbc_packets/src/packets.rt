@@ -4,7 +4,8 @@ use crate::opaque::Opaque;
 use std::alloc::{AllocError, Global};
 use std::marker::Model;
 
-/// Packets of a train that are kept without being read, in their order. They stand behind one pointer, and none take no memory.
+/// Packets of a train that are kept without being read, in their order. They stand behind one pointer, and none take no
+/// memory.
 #[derive(Debug, Drop)]
 pub struct Packets {
     some: Option<Box<Vec<Opaque>>>,

@@ -47,9 +47,11 @@ impl Position {
     #[inline(always)]
     pub fn read_packet(reader: &mut BitReader) -> Result<Self, PacketFault>
         // What is read is spelled so.
-        ensures found { IfOk result (λ p. (reader.old ≡ joined (train_packet (position_fields p)) ++ reader.new) × PositionFits p) }
+        ensures found { IfOk result
+            (λ p. (reader.old ≡ joined (train_packet (position_fields p)) ++ reader.new) × PositionFits p) }
         // What is spelled so is read.
-        ensures only { (p : Position) (rest : List Bool) → PositionFits p → reader.old ≡ joined (train_packet (position_fields p)) ++ rest → (result ≡ Ok p) × (reader.new ≡ rest) }
+        ensures only { (p : Position) (rest : List Bool) → PositionFits p
+            → reader.old ≡ joined (train_packet (position_fields p)) ++ rest → (result ≡ Ok p) × (reader.new ≡ rest) }
         // Which fault it is.
         ensures exact { Takes (λ x. x) result reader.new (position_at reader.old) }
     {
@@ -71,12 +73,14 @@ impl Position {
         Ok(position)
     }
 
-    /// Reads the packet behind its NID_PACKET, where its bits are as many as those of most reports: of a train whose length is known, and that
-    /// runs under no national system. None where it is another packet, or none. The places of its fields are known before it is read.
+    /// Reads the packet behind its NID_PACKET, where its bits are as many as those of most reports: of a train whose
+    /// length is known, and that runs under no national system. None where it is another packet, or none. The places of
+    /// its fields are known before it is read.
     #[inline(always)]
     pub fn read_usual(reader: &mut BitReader) -> Option<Self>
         ensures exact { IfSome result (λ p. position_at reader.old ≡ Ok (p, reader.new)) }
-        ensures found { IfSome result (λ p. (reader.old ≡ joined (train_packet (position_fields p)) ++ reader.new) × PositionFits p) }
+        ensures found { IfSome result
+            (λ p. (reader.old ≡ joined (train_packet (position_fields p)) ++ reader.new) × PositionFits p) }
     {
         Position::usual(reader)
     }
@@ -101,8 +105,8 @@ impl Position {
         }
     }
 
-    // All bits behind the header, which stand in no word. It is a function of its own, so that the fields of the others are read with no test
-    // of where they stand.
+    // All bits behind the header, which stand in no word. It is a function of its own, so that the fields of the others
+    // are read with no test of where they stand.
     #[inline(never)]
     fn far(bits: BitReader) -> Result<Self, PacketFault>
         ensures exact { (rest : List Bool) → Takes (λ x. x) result rest (position_part_at bits.entry rest) }
@@ -112,7 +116,8 @@ impl Position {
         Position::whole(bits.part())
     }
 
-    // All bits behind the header. It is a call, and the only one of `fields`, so that the part stays in registers from field to field.
+    // All bits behind the header. It is a call, and the only one of `fields`, so that the part stays in registers from
+    // field to field.
     #[inline(never)]
     fn whole(mut part: BitPart) -> Result<Self, PacketFault>
         ensures exact { (rest : List Bool) → Takes (λ x. x) result rest (position_part_at part.entry rest) }

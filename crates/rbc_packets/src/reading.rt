@@ -43,7 +43,8 @@ pub(crate) fn train_part<'a>(reader: &mut BitReader<'a>) -> Result<BitReader<'a>
 #[inline(always)]
 pub(crate) fn track_part<'a>(reader: &mut BitReader<'a>) -> Result<BitReader<'a>, PacketFault>
     ensures exact { Takes (λ x. x) result reader.new (track_part_at reader.old) }
-    ensures taken { IfOk result (λ part. reader.old ≡ field 2 1 ++ (field 13 (23 + length part) ++ (part ++ reader.new))) }
+    ensures taken { IfOk result
+        (λ part. reader.old ≡ field 2 1 ++ (field 13 (23 + length part) ++ (part ++ reader.new))) }
 {
     let q_dir = take_header(reader, 2)?;
     let l_packet = take_header(reader, 13)? as u32;

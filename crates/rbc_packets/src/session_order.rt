@@ -30,9 +30,13 @@ impl SessionOrder {
     #[inline(always)]
     pub fn read_packet(reader: &mut BitReader) -> Result<Self, PacketFault>
         // What is read is spelled so.
-        ensures found { IfOk result (λ s. (reader.old ≡ joined (track_packet (session_order_fields s)) ++ reader.new) × SessionOrderFits s) }
+        ensures found { IfOk result
+            (λ s. (reader.old ≡ joined (track_packet (session_order_fields s)) ++ reader.new)
+            × SessionOrderFits s) }
         // What is spelled so is read.
-        ensures only { (s : SessionOrder) (rest : List Bool) → SessionOrderFits s → reader.old ≡ joined (track_packet (session_order_fields s)) ++ rest → (result ≡ Ok s) × (reader.new ≡ rest) }
+        ensures only { (s : SessionOrder) (rest : List Bool) → SessionOrderFits s
+            → reader.old ≡ joined (track_packet (session_order_fields s)) ++ rest
+            → (result ≡ Ok s) × (reader.new ≡ rest) }
         // Which fault it is.
         ensures exact { Takes (λ x. x) result reader.new (session_order_at reader.old) }
     {

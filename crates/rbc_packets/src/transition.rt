@@ -32,9 +32,11 @@ impl Transition {
     #[inline(always)]
     pub fn read_packet(reader: &mut BitReader) -> Result<Self, PacketFault>
         // What is read is spelled so.
-        ensures found { IfOk result (λ t. (reader.old ≡ joined (track_packet (transition_fields t)) ++ reader.new) × TransitionFits t) }
+        ensures found { IfOk result
+            (λ t. (reader.old ≡ joined (track_packet (transition_fields t)) ++ reader.new) × TransitionFits t) }
         // What is spelled so is read.
-        ensures only { (t : Transition) (rest : List Bool) → TransitionFits t → reader.old ≡ joined (track_packet (transition_fields t)) ++ rest → (result ≡ Ok t) × (reader.new ≡ rest) }
+        ensures only { (t : Transition) (rest : List Bool) → TransitionFits t
+            → reader.old ≡ joined (track_packet (transition_fields t)) ++ rest → (result ≡ Ok t) × (reader.new ≡ rest) }
         // Which fault it is.
         ensures exact { Takes (λ x. x) result reader.new (transition_at reader.old) }
     {

@@ -8,8 +8,8 @@ ghost use Rattle.rbc_place.specs.Places.{is_behind};
 use crate::sections::section_end;
 use rbc_line::Line;
 
-/// The first section of the line that is not behind the rear end, in decimetres from the start of this track: of a later track, or of
-/// this one and ending past it. Where the rear end is not known, the first of a later track.
+/// The first section of the line that is not behind the rear end, in decimetres from the start of this track: of a
+/// later track, or of this one and ending past it. Where the rear end is not known, the first of a later track.
 pub(crate) fn first_ahead(line: &Line, track: u8, rear: Option<i32>) -> u16
     ensures bound { result ≤ length line.now.sections }
     ensures behind { (s : ℕ) → s < result → is_behind line.now track rear s ≡ true }

@@ -9,8 +9,8 @@ use crate::sections::section_end;
 use rbc_hand::SectionRun;
 use rbc_line::Line;
 
-/// How many of the first sections of a train's hand it has cleared: those that end at or before its safe rear end (3.6.5).
-/// 0 where the rear end is not known.
+/// How many of the first sections of a train's hand it has cleared: those that end at or before its safe rear end
+/// (3.6.5). 0 where the rear end is not known.
 pub fn cleared(line: &Line, hand: SectionRun, place: &Place) -> u16
     ensures value { result ≡ passing (spec.is_cleared line.now (place_of place.now)) (run_of hand) }
     ensures bound { result ≤ hand.count }

@@ -11,8 +11,8 @@ use crate::sections::{is_on, section_end, section_start};
 use rbc_hand::SectionRun;
 use rbc_line::Line;
 
-/// Whether the train may stand in the section: on its track, the section starts before the safe front end, and ends past the
-/// safe rear end. A place whose rear end is not known covers no section.
+/// Whether the train may stand in the section: on its track, the section starts before the safe front end, and ends
+/// past the safe rear end. A place whose rear end is not known covers no section.
 pub fn covers(line: &Line, place: &Place, s: u16) -> bool
     ensures { result ≡ spec.covers line.now (place_of place.now) s }
 {

@@ -6,8 +6,8 @@ use crate::place::Place;
 use crate::sections::section_start;
 use rbc_line::Line;
 
-/// Where the section starts whose balise group the place names, in metres from the start of the track; 0 where the group is
-/// not of the line.
+/// Where the section starts whose balise group the place names, in metres from the start of the track; 0 where the
+/// group is not of the line.
 #[inline(always)]
 pub fn group_start(line: &Line, place: &Place) -> u32
     ensures value { result ≡ spec.group_start line.now (place_of place.now) }

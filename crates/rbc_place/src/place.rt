@@ -9,7 +9,8 @@ pub struct Place {
     pub group: u32,
     /// The safe front end: 31 bits.
     pub front: u32,
-    /// The safe rear end, known only where the train's integrity is confirmed. It may lie before the start of the track.
+    /// The safe rear end, known only where the train's integrity is confirmed. It may lie before the start of the
+    /// track.
     pub rear: Option<i32>,
     pub ghost of_24_bits: { group < 2 ^ 24 },
     pub ghost of_31_bits: { front ≤ 2147483647 },

@@ -12,8 +12,8 @@ use rbc_vars::{Direction, QScale};
 // A distance or a doubt of this value is unknown.
 const UNKNOWN: u64 = 32_767;
 
-/// The place of a report. None where its balise group is not of the line, where the train does not run in level 2 in the
-/// direction of the line, or where a distance is unknown.
+/// The place of a report. None where its balise group is not of the line, where the train does not run in level 2 in
+/// the direction of the line, or where a distance is unknown.
 #[inline(always)]
 #[tactic(auto, unfolding(rbc_spec::specs::Place::extent))]
 pub fn extent(line: &Line, position: &Position) -> Option<Place>

@@ -40,7 +40,8 @@ impl Registrar {
     pub fn new(alloc: Global, line: &Line, centre: u8) -> Result<Registrar, AllocError>
         ensures count { IfOk result (λ r. length r ≡ length line.now.trains) }
         ensures here { IfOk result (λ r. (j : ℕ) → is_here r j ≡ is_registered_at line.now centre j) }
-        ensures engines { IfOk result (λ r. (t j : ℕ) → train_number line.now t ≡ Some j → is_here r j ≡ is_registrar_of line.now centre t) }
+        ensures engines { IfOk result
+            (λ r. (t j : ℕ) → train_number line.now t ≡ Some j → is_here r j ≡ is_registrar_of line.now centre t) }
     {
         let count = line.train_count();
         let mut rights = Vec::with_capacity(alloc, count as usize)?;

@@ -1,8 +1,8 @@
 ghost use Rattle.std.specs.Prelude.{◌≡◌};
 ghost use Rattle.rbc_right.specs.Rights.{number_of_right, right_of};
 
-/// The right to supervise a train, which one holder has. It can't be copied, and not be dropped: it ends where it goes back to
-/// its registrar or into a frame, also where its centre is dropped.
+/// The right to supervise a train, which one holder has. It can't be copied, and not be dropped: it ends where it goes
+/// back to its registrar or into a frame, also where its centre is dropped.
 #[must_use]
 #[derive(Debug)]
 pub struct Right {

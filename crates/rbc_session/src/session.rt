@@ -8,8 +8,8 @@ pub struct Opened;
 #[derive(Clone, Copy, Debug, PartialEq, Eq)]
 pub struct Up;
 
-/// A session with a train, which one holder has. It can't be copied, and not be dropped: it ends in `Sessions::close`, also
-/// where its centre is dropped. Its phase is `Opened` or `Up`.
+/// A session with a train, which one holder has. It can't be copied, and not be dropped: it ends in `Sessions::close`,
+/// also where its centre is dropped. Its phase is `Opened` or `Up`.
 #[must_use]
 #[derive(Debug)]
 pub struct Session<S> {

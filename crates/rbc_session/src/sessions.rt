@@ -47,7 +47,8 @@ impl Sessions {
         }
     }
 
-    /// NID_ENGINE of the train of a session; none where its key is that of no session here. No two keys are of one train.
+    /// NID_ENGINE of the train of a session; none where its key is that of no session here. No two keys are of one
+    /// train.
     #[tactic(auto, unfolding(crate::specs::Sessions::train_at))]
     pub fn train<S>(&self, session: &Session<S>) -> Option<u32>
         ensures train { result ≡ train_at self.now (key_of session.now) }
@@ -115,8 +116,8 @@ impl Sessions {
         Session { key, phase: Up }
     }
 
-    /// Ends a session (3.5.5). Nothing of it is kept, and there is room for another. A session whose key is that of none here
-    /// changes nothing.
+    /// Ends a session (3.5.5). Nothing of it is kept, and there is room for another. A session whose key is that of
+    /// none here changes nothing.
     pub fn close<S: Drop>(&mut self, session: Session<S>)
         ensures phases { (u : ℕ) → phase_at self.new u
             ≡ (if is_of self.old session u then spec.Closed else phase_at self.old u) }

@@ -27,8 +27,8 @@ pub enum Cut {
 pub struct Unasked;
 
 /// What the train frees that has granted the request with this stamp (message 137). `front` is its safe front end in
-/// decimetres, where the message has a place on the mission's track: a train that has run past the proposed end frees nothing.
-/// Unasked exactly where no request stands, or it has another stamp.
+/// decimetres, where the message has a place on the mission's track: a train that has run past the proposed end frees
+/// nothing. Unasked exactly where no request stands, or it has another stamp.
 pub fn granted(
     line: &Line,
     proposal: Option<Proposal>,
@@ -53,8 +53,8 @@ pub fn granted(
     }
 }
 
-/// The train has rejected the request with this stamp (message 138): nothing is freed. Unasked exactly where no request stands,
-/// or it has another stamp.
+/// The train has rejected the request with this stamp (message 138): nothing is freed. Unasked exactly where no request
+/// stands, or it has another stamp.
 pub fn rejected(proposal: Option<Proposal>, stamp: u32) -> Result<(), Unasked>
     ensures exact { result ≡ on_asked (λ p. tt) proposal stamp }
     ensures reason { (m : spec.Mission) (position : place.Position) → standing_of proposal ≡ m.proposal

@@ -15,9 +15,9 @@ use rbc_place::section_start;
 /// The farthest end that L_ENDSECTION can give, in metres.
 const FARTHEST: u64 = 32_767;
 
-/// A request for co-operative shortening of MA, to the end of the section before `s` (3.8.6). It may be made exactly where the session
-/// is up, the mission is not ended, no request stands, `s` is in the hand and not its first section, the front is not past the
-/// start of `s`, and this start is at most 32 767 m past the group; else there is none.
+/// A request for co-operative shortening of MA, to the end of the section before `s` (3.8.6). It may be made exactly
+/// where the session is up, the mission is not ended, no request stands, `s` is in the hand and not its first section,
+/// the front is not past the start of `s`, and this start is at most 32 767 m past the group; else there is none.
 pub fn propose(line: &Line, facts: ShorteningFacts, s: u16) -> Option<Shortening>
     ensures exact { result ≡ (if may_shorten line.now facts s then Some (shortening line.now facts s) else None) }
     // The same of the mission that a centre keeps: where it may propose, and what it then sends and keeps.

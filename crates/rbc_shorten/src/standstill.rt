@@ -9,8 +9,8 @@ use rbc_hand::SectionRun;
 use rbc_line::Line;
 use rbc_place::section_start;
 
-/// What is cut off the hand of a train that ends its mission at standstill, with its safe front end there, in decimetres (5.5): the sections
-/// that begin at the front or past it, where the train has reached its hand.
+/// What is cut off the hand of a train that ends its mission at standstill, with its safe front end there, in
+/// decimetres (5.5): the sections that begin at the front or past it, where the train has reached its hand.
 pub fn cut_at_standstill(line: &Line, hand: SectionRun, front: u32) -> Cut
     ensures { result ≡ ahead_of line.now (run_of hand) front }
 {

@@ -1,4 +1,5 @@
-//! What the definitions come to where a reader would look twice. The functions do nothing: each contract is a law of the definitions.
+//! What the definitions come to where a reader would look twice. The functions do nothing: each contract is a law of
+//! the definitions.
 
 ghost use Rattle.std.specs.Prelude.{◌≡◌, ℕ, ◌+◌, ◌<◌, ◌≤◌, ◌&&◌, true, false, Some, None};
 ghost use Rattle.rbc_spec.specs.Line.{Line, IsLine, is_home, start, end};
@@ -15,18 +16,22 @@ ghost use Rattle.rbc_spec.specs.Promises.{IsSafe};
 
 /// On one track a section ends at or before the start of each later one, so that starts and ends rise.
 pub fn sections_follow_one_another()
-    ensures ends { (line : Line) (track s e : ℕ) → is_on line track s ≡ true → is_on line track e ≡ true → s ≤ e → end line s ≤ end line e }
-    ensures before { (line : Line) (track s e : ℕ) → is_on line track s ≡ true → is_on line track e ≡ true → s < e → end line s ≤ start line e }
+    ensures ends { (line : Line) (track s e : ℕ) → is_on line track s ≡ true → is_on line track e ≡ true → s ≤ e
+        → end line s ≤ end line e }
+    ensures before { (line : Line) (track s e : ℕ) → is_on line track s ≡ true → is_on line track e ≡ true → s < e
+        → end line s ≤ start line e }
 {}
 
 /// What a place covers is a run: the sections between two of them are covered too, on every line.
 pub fn a_place_covers_a_run()
-    ensures { (line : Line) (place : Place) (s : ℕ) → IsLine line → within (covered line place) s ≡ covers line place s }
+    ensures { (line : Line) (place : Place) (s : ℕ) → IsLine line
+        → within (covered line place) s ≡ covers line place s }
 {}
 
 /// The sections of one home on one track are a run.
 pub fn a_home_is_a_run()
-    ensures { (line : Line) (d track s : ℕ) → IsLine line → within (home_run line d track) s ≡ (is_home line d s && is_on line track s) }
+    ensures { (line : Line) (d track s : ℕ) → IsLine line
+        → within (home_run line d track) s ≡ (is_home line d s && is_on line track s) }
 {}
 
 /// A section that a train has cleared is none that it covers.
@@ -48,12 +53,16 @@ pub fn one_number_is_next()
     ensures early { (count number : ℕ) → count + 1 < number → offered count number ≡ Early }
 {}
 
-/// At most one state of the one line centre stands for a world: two that do are the same on the line's sections, trains and centres.
+/// At most one state of the one line centre stands for a world: two that do are the same on the line's sections, trains
+/// and centres.
 pub fn one_state_stands()
     ensures sessions { (line : Line) (w : World) (u v : LineState) (t c : ℕ) → StandsFor line w u → StandsFor line w v
-        → (u.phase t c ≡ v.phase t c) × (u.heard t c ≡ v.heard t c) × (u.said t c ≡ v.said t c) × (u.wait t c ≡ v.wait t c) }
-    ensures missions { (line : Line) (w : World) (u v : LineState) (t : ℕ) → StandsFor line w u → StandsFor line w v → u.mission t ≡ v.mission t }
-    ensures sections { (line : Line) (w : World) (u v : LineState) (s c : ℕ) → is_home line c s ≡ true → StandsFor line w u → StandsFor line w v
+        → (u.phase t c ≡ v.phase t c) × (u.heard t c ≡ v.heard t c) × (u.said t c ≡ v.said t c)
+        × (u.wait t c ≡ v.wait t c) }
+    ensures missions { (line : Line) (w : World) (u v : LineState) (t : ℕ) → StandsFor line w u → StandsFor line w v
+        → u.mission t ≡ v.mission t }
+    ensures sections { (line : Line) (w : World) (u v : LineState) (s c : ℕ) → is_home line c s ≡ true
+        → StandsFor line w u → StandsFor line w v
         → (u.mark s ≡ v.mark s) × (u.wish s ≡ v.wish s) }
 {}
 

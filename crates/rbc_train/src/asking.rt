@@ -1,4 +1,5 @@
-//! A request to shorten that a train's supervisor makes where the interlocking wishes a section of the hand back (3.8.6).
+//! A request to shorten that a train's supervisor makes where the interlocking wishes a section of the hand back
+//! (3.8.6).
 
 ghost use Rattle.std.specs.Prelude.{◌≡◌, ◌<◌, ◌≤◌, Option, Some, IfSome};
 ghost use Rattle.rbc_spec.specs.Acts.{propose_if_so};
@@ -27,11 +28,12 @@ pub struct Asking {
     pub l_endsection: u16,
 }
 
-/// The request to shorten that asks the train to end its authority before section `s`, in a message with T_TRAIN `stamp`; none
-/// where no such request may be made.
+/// The request to shorten that asks the train to end its authority before section `s`, in a message with T_TRAIN
+/// `stamp`; none where no such request may be made.
 #[inline(always)]
 pub fn ask_back(line: &Line, train: &Train, s: u16, stamp: u32) -> Option<Asking>
-    ensures exact { (handing : Option spec.Handing) (k : spec.Centre) → IsTrain k handing train.now stamp → propose_if_so line.now train.now.nid_engine s k ≡ asked_back train.now.nid_engine k result }
+    ensures exact { (handing : Option spec.Handing) (k : spec.Centre) → IsTrain k handing train.now stamp
+        → propose_if_so line.now train.now.nid_engine s k ≡ asked_back train.now.nid_engine k result }
     ensures room { IfSome result (λ a. a.l_endsection ≤ 32767) }
     ensures group { IfSome result (λ a. a.nid_lrbg < 16777216) }
 {
@@ -53,8 +55,10 @@ pub fn ask_back(line: &Line, train: &Train, s: u16, stamp: u32) -> Option<Asking
 
 // What decides whether the train may be asked to shorten the authority of its mission.
 fn facts(line: &Line, train: &Train, mission: &MissionFacts) -> rbc_shorten::ShorteningFacts
-    ensures { (handing : Option spec.Handing) (k : spec.Centre) → k.phase train.now.nid_engine ≡ phase_of train.now.phase
-        → AreFactsOf line.now train.now.nid_engine (mission_of (run_of train.now.hand) (run_of train.now.pool) handing mission.now) k result }
+    ensures { (handing : Option spec.Handing) (k : spec.Centre)
+        → k.phase train.now.nid_engine ≡ phase_of train.now.phase
+        → AreFactsOf line.now train.now.nid_engine
+        (mission_of (run_of train.now.hand) (run_of train.now.pool) handing mission.now) k result }
 {
     rbc_shorten::ShorteningFacts {
         is_up: is_up(train.phase),

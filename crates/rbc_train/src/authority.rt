@@ -32,9 +32,15 @@ impl TrainState {
     #[inline(never)]
     pub(crate) fn train_data(&mut self, t_train: u32) -> Result<Heard, Reason>
         requires count { self.old.said < 4294967294 }
-        ensures exact { (line : track.Line) (c : ℕ) (book : Pages) (rights : Rights) (k : spec.Centre) (position : place.Position)
+        ensures exact { (line : track.Line) (c : ℕ) (book : Pages) (rights : Rights) (k : spec.Centre)
+            (position : place.Position)
             → HearsTrain line c k t_train self.old book rights
-            → step.effect line c k (step.Train (record { t_train = t_train; nid_engine = self.old.supervision.engine; body = TrainData position }))
+            → step.effect line c k
+            (step.Train (record {
+              t_train = t_train;
+              nid_engine = self.old.supervision.engine;
+              body = TrainData position;
+            }))
             ≡ effect_left line c self.old.supervision.engine (with_parts self.new book rights k) result }
         ensures kept { KeepsTrain self.old self.new }
         ensures expectations { self.new.expectations ≡ self.old.expectations }
@@ -61,8 +67,9 @@ impl TrainState {
         Ok(Heard::said(saying))
     }
 
-    /// Message 132: the hand is extended by the sections that may follow it, first those of the pool, and the authority is given up to
-    /// its end. At a border a handover is announced, and the next centre is asked for the sections behind it, where they are due.
+    /// Message 132: the hand is extended by the sections that may follow it, first those of the pool, and the authority
+    /// is given up to its end. At a border a handover is announced, and the next centre is asked for the sections
+    /// behind it, where they are due.
     #[inline(never)]
     pub(crate) fn request(
         &mut self,
@@ -79,9 +86,16 @@ impl TrainState {
         requires kept { IsKeptAt line.now centre self.old }
         requires on { IsOnTrack line.now self.old }
         requires held { IsHeld line.now centre self.old }
-        ensures exact { (rights : Rights) (k : spec.Centre) → HearsTrain line.now centre k t_train self.old book.old rights → k.announced ≡ count.old
-            → step.effect line.now centre k (step.Train (record { t_train = t_train; nid_engine = self.old.supervision.engine; body = Request (position_of position.now) }))
-            ≡ effect_left line.now centre self.old.supervision.engine (with_count count.new (with_parts self.new book.new rights k)) result }
+        ensures exact { (rights : Rights) (k : spec.Centre)
+            → HearsTrain line.now centre k t_train self.old book.old rights → k.announced ≡ count.old
+            → step.effect line.now centre k
+            (step.Train (record {
+              t_train = t_train;
+              nid_engine = self.old.supervision.engine;
+              body = Request (position_of position.now);
+            }))
+            ≡ effect_left line.now centre self.old.supervision.engine
+            (with_count count.new (with_parts self.new book.new rights k)) result }
         ensures kept { KeepsTrain self.old self.new }
         ensures announced { (count.old ≤ count.new) × (count.new ≤ count.old + 1) }
         ensures expectations { self.new.expectations ≡ self.old.expectations }

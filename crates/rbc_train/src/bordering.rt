@@ -42,8 +42,9 @@ pub(crate) struct Bordering {
 }
 
 impl TrainState {
-    /// A handover to the next centre on the track is announced, where the hand has a section of its home and none stands: the train is told
-    /// where the border is. Then that centre is asked for the sections behind the hand, where they are due.
+    /// A handover to the next centre on the track is announced, where the hand has a section of its home and none
+    /// stands: the train is told where the border is. Then that centre is asked for the sections behind the hand, where
+    /// they are due.
     #[inline(always)]
     pub(crate) fn at_border(
         &mut self,
@@ -55,10 +56,14 @@ impl TrainState {
         requires said { self.old.said < 4294967294 }
         requires announced { count.old < 1073741823 }
         requires near { IsNear line.now self.old.supervision }
-        ensures exact { (e : ℕ → Option spec.Expectation) (k : spec.Centre) → HasSupervision k self.old.supervision → k.said self.old.supervision.engine ≡ self.old.said → k.announced ≡ count.old
-            → option_map_or (rules.at_border line.now centre self.old.supervision.engine) (next_centre line.now centre track) rest k
+        ensures exact { (e : ℕ → Option spec.Expectation) (k : spec.Centre) → HasSupervision k self.old.supervision
+            → k.said self.old.supervision.engine ≡ self.old.said → k.announced ≡ count.old
+            → option_map_or (rules.at_border line.now centre self.old.supervision.engine)
+            (next_centre line.now centre track) rest k
             ≡ posted (λ d. notices self.old.supervision.engine e result.notice d ++ letters result.letter d)
-            (replied (with_count count.new (counted_to self.old.supervision.engine self.new.said (with_supervision self.new.supervision k))) (sayings_of result.order) []) }
+            (replied (with_count count.new
+            (counted_to self.old.supervision.engine self.new.said
+            (with_supervision self.new.supervision k))) (sayings_of result.order) []) }
         ensures left { self.new ≡ record self.old { said = self.new.said; supervision = self.new.supervision } }
         ensures supervision { KeepsHand self.old.supervision self.new.supervision }
         ensures counted { (self.old.said ≤ self.new.said) × (self.new.said ≤ self.old.said + 1) }
@@ -91,10 +96,13 @@ impl TrainState {
         requires said { self.old.said < 4294967294 }
         requires announced { count.old < 1073741823 }
         requires near { IsNear line.now self.old.supervision }
-        ensures exact { (e : ℕ → Option spec.Expectation) (k : spec.Centre) → HasSupervision k self.old.supervision → k.said self.old.supervision.engine ≡ self.old.said → k.announced ≡ count.old
+        ensures exact { (e : ℕ → Option spec.Expectation) (k : spec.Centre) → HasSupervision k self.old.supervision
+            → k.said self.old.supervision.engine ≡ self.old.said → k.announced ≡ count.old
             → rules.announce_if_due line.now self.old.supervision.engine to k
             ≡ posted (notices self.old.supervision.engine e result.1)
-            (replied (with_count count.new (counted_to self.old.supervision.engine self.new.said (with_supervision self.new.supervision k))) (sayings_of result.0) []) }
+            (replied (with_count count.new
+            (counted_to self.old.supervision.engine self.new.said
+            (with_supervision self.new.supervision k))) (sayings_of result.0) []) }
         ensures left { self.new ≡ record self.old { said = self.new.said; supervision = self.new.supervision } }
         ensures supervision { KeepsHand self.old.supervision self.new.supervision }
         ensures counted { (self.old.said ≤ self.new.said) × (self.new.said ≤ self.old.said + 1) }
@@ -121,7 +129,8 @@ impl TrainState {
         ensures exact { (k : spec.Centre) → HasSupervision k self.old.supervision
             → rules.ask_route_if_due line.now self.old.supervision.engine next k
             ≡ posted (letters result) (replied (with_supervision self.new.supervision k) [] []) }
-        ensures left { self.new ≡ record self.old { supervision = record self.old.supervision { asked = self.new.supervision.asked } } }
+        ensures left { self.new
+            ≡ record self.old { supervision = record self.old.supervision { asked = self.new.supervision.asked } } }
     {
         let engine = self.nid_engine();
         let question = self.supervision.ask(line, next)?;
@@ -139,7 +148,9 @@ impl TrainState {
 // The order that this centre takes over from this section on, as far from the group of the place as that begins.
 fn transition(line: &Line, to: u8, border: u16, place: &Place) -> Transition
     requires near { start line.now border - start_of_group line.now (place_of place.now) ≤ 32767 }
-    ensures { track_body (message.Transition result) ≡ order.Transition (start line.now border - start_of_group line.now (place_of place.now)) line.now.nid_c (nid_rbc line.now to) }
+    ensures { track_body (message.Transition result)
+        ≡ order.Transition (start line.now border - start_of_group line.now (place_of place.now)) line.now.nid_c
+        (nid_rbc line.now to) }
 {
     let metres = section_start(line, border).saturating_sub(group_start(line, place));
     let nid_rbc = match line.nid_rbc(to) {

@@ -21,11 +21,14 @@ use rbc_line::Line;
 use rbc_packets::Position;
 
 impl TrainState {
-    /// Announce of a centre: the train is expected from there under this number, where it is not expected from there already.
+    /// Announce of a centre: the train is expected from there under this number, where it is not expected from there
+    /// already.
     pub(crate) fn announced(&mut self, line: &Line, from: u8, number: u32, track: u8) -> Heard
         requires { from < length self.old.expectations }
-        ensures exact { (c : ℕ) (book : Pages) (rights : Rights) (k : spec.Centre) → HasParts line.now c k self.old book rights
-            → (if nat_lt track (length line.now.tracks) then links.announced from number self.old.supervision.engine else rest) k
+        ensures exact { (c : ℕ) (book : Pages) (rights : Rights) (k : spec.Centre)
+            → HasParts line.now c k self.old book rights
+            → (if nat_lt track (length line.now.tracks) then links.announced from number self.old.supervision.engine
+            else rest) k
             ≡ reply_left line.now c self.old.supervision.engine (with_parts self.new book rights k) result }
         ensures same { self.new ≡ record self.old { expectations = self.new.expectations } }
         ensures count { length self.new.expectations ≡ length self.old.expectations }
@@ -39,8 +42,10 @@ impl TrainState {
 
     /// Cancel of a centre: the train is not expected from there any more, where it was under this number.
     pub(crate) fn cancelled(&mut self, from: u8, number: u32) -> Heard
-        ensures exact { (line : track.Line) (c : ℕ) (book : Pages) (rights : Rights) (k : spec.Centre) → HasParts line c k self.old book rights
-            → links.cancelled from number self.old.supervision.engine k ≡ reply_left line c self.old.supervision.engine (with_parts self.new book rights k) result }
+        ensures exact { (line : track.Line) (c : ℕ) (book : Pages) (rights : Rights) (k : spec.Centre)
+            → HasParts line c k self.old book rights
+            → links.cancelled from number self.old.supervision.engine k
+            ≡ reply_left line c self.old.supervision.engine (with_parts self.new book rights k) result }
         ensures same { self.new ≡ record self.old { expectations = self.new.expectations } }
         ensures count { length self.new.expectations ≡ length self.old.expectations }
     {
@@ -48,8 +53,9 @@ impl TrainState {
         Heard::nothing()
     }
 
-    /// Message 136 of a train that is supervised elsewhere, with its session up: where the train is expected here and its safe front end is
-    /// in a section of this home, each centre that announced it is told once that this one is taking over.
+    /// Message 136 of a train that is supervised elsewhere, with its session up: where the train is expected here and
+    /// its safe front end is in a section of this home, each centre that announced it is told once that this one is
+    /// taking over.
     pub(crate) fn report_elsewhere(
         &mut self,
         line: &Line,
@@ -59,8 +65,14 @@ impl TrainState {
     ) -> Result<Heard, Reason>
         requires up { session_phase self.old.session_state ≡ spec.Up }
         requires none { self.old.supervision.mission ≡ None }
-        ensures exact { (book : Pages) (rights : Rights) (k : spec.Centre) → HearsTrain line.now centre k t_train self.old book rights
-            → step.effect line.now centre k (step.Train (record { t_train = t_train; nid_engine = self.old.supervision.engine; body = Report (position_of position.now) }))
+        ensures exact { (book : Pages) (rights : Rights) (k : spec.Centre)
+            → HearsTrain line.now centre k t_train self.old book rights
+            → step.effect line.now centre k
+            (step.Train (record {
+              t_train = t_train;
+              nid_engine = self.old.supervision.engine;
+              body = Report (position_of position.now);
+            }))
             ≡ effect_left line.now centre self.old.supervision.engine (with_parts self.new book rights k) result }
         ensures same { self.new ≡ record self.old { heard = self.new.heard; expectations = self.new.expectations } }
         ensures count { length self.new.expectations ≡ length self.old.expectations }

@@ -17,7 +17,9 @@ use rbc_place::{Place, extent, is_on, section_end, section_start};
 
 /// Whether a report places the safe front end of its train in a section of this centre's home.
 pub(crate) fn is_in_area(line: &Line, centre: u8, position: &Position) -> bool
-    ensures { result ≡ has (λ p. list_any (λ s. track.is_home line.now centre s && has_front line.now p s) (range_with_len 0 (sections.section_count line.now))) (extent_of line.now (position_of position.now)) }
+    ensures { result ≡ has
+        (λ p. list_any (λ s. track.is_home line.now centre s && has_front line.now p s)
+        (range_with_len 0 (sections.section_count line.now))) (extent_of line.now (position_of position.now)) }
 {
     match extent(line, position) {
         Some(place) => has_front_home(line, centre, place),
@@ -27,7 +29,8 @@ pub(crate) fn is_in_area(line: &Line, centre: u8, position: &Position) -> bool
 
 // Whether the safe front end lies in a section of this home.
 fn has_front_home(line: &Line, centre: u8, place: Place) -> bool
-    ensures { result ≡ list_any (λ s. track.is_home line.now centre s && has_front line.now (place_of place) s) (range_with_len 0 (sections.section_count line.now)) }
+    ensures { result ≡ list_any (λ s. track.is_home line.now centre s && has_front line.now (place_of place) s)
+        (range_with_len 0 (sections.section_count line.now)) }
 {
     for s in 0..line.section_count() {
         if is_front_at(line, centre, &place, s) {

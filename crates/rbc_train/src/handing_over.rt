@@ -31,8 +31,9 @@ use rbc_msgs::{NID_LRBG_UNKNOWN, TrackBody};
 use rbc_place::Place;
 
 impl TrainState {
-    /// TakingOver of a centre: the mission is yielded, if its handover stands under this number to that centre. Its pool goes home, the mission
-    /// goes in one frame, and a train that is no more to come here is ordered to end its session.
+    /// TakingOver of a centre: the mission is yielded, if its handover stands under this number to that centre. Its
+    /// pool goes home, the mission goes in one frame, and a train that is no more to come here is ordered to end its
+    /// session.
     pub(crate) fn taking_over(
         &mut self,
         line: &Line,
@@ -45,7 +46,8 @@ impl TrainState {
         requires book { IsBookOf line.now centre book.old }
         requires held { IsHeld line.now centre self.old }
         ensures exact { (rights : Rights) (k : spec.Centre) → HasParts line.now centre k self.old book.old rights
-            → links.taking_over line.now centre from number self.old.supervision.engine k ≡ reply_left line.now centre self.old.supervision.engine (with_parts self.new book.new rights k) result }
+            → links.taking_over line.now centre from number self.old.supervision.engine k
+            ≡ reply_left line.now centre self.old.supervision.engine (with_parts self.new book.new rights k) result }
         ensures kept { KeepsTrain self.old self.new }
         ensures held { IsHeld line.now centre self.new }
         ensures session { self.new.session_state ≡ self.old.session_state }
@@ -65,8 +67,10 @@ impl TrainState {
     // The order to end its session, for a train that is no more to come here.
     fn order_if_gone(&mut self, line: &Line, centre: u8, is_gone: bool) -> Option<Saying>
         requires count { self.old.said < 4294967294 }
-        ensures exact { (k : spec.Centre) → k.phase self.old.supervision.engine ≡ session_phase self.old.session_state → k.said self.old.supervision.engine ≡ self.old.said
-            → (if is_gone then acts.end_order line.now centre self.old.supervision.engine else acts.rest) k ≡ replied (counted_to self.old.supervision.engine self.new.said k) (sayings_of result) [] }
+        ensures exact { (k : spec.Centre) → k.phase self.old.supervision.engine ≡ session_phase self.old.session_state
+            → k.said self.old.supervision.engine ≡ self.old.said
+            → (if is_gone then acts.end_order line.now centre self.old.supervision.engine else acts.rest) k
+            ≡ replied (counted_to self.old.supervision.engine self.new.said k) (sayings_of result) [] }
         ensures said { self.new ≡ record self.old { said = self.new.said } }
         ensures counted { (self.old.said ≤ self.new.said) × (self.new.said ≤ self.old.said + 1) }
     {
@@ -79,8 +83,10 @@ impl TrainState {
     /// The order to end its session, where that is up (3.5.5).
     pub(crate) fn order_end(&mut self, line: &Line, centre: u8) -> Option<Saying>
         requires count { self.old.said < 4294967294 }
-        ensures exact { (k : spec.Centre) → k.phase self.old.supervision.engine ≡ session_phase self.old.session_state → k.said self.old.supervision.engine ≡ self.old.said
-            → acts.end_order line.now centre self.old.supervision.engine k ≡ replied (counted_to self.old.supervision.engine self.new.said k) (sayings_of result) [] }
+        ensures exact { (k : spec.Centre) → k.phase self.old.supervision.engine ≡ session_phase self.old.session_state
+            → k.said self.old.supervision.engine ≡ self.old.said
+            → acts.end_order line.now centre self.old.supervision.engine k
+            ≡ replied (counted_to self.old.supervision.engine self.new.said k) (sayings_of result) [] }
         ensures said { self.new ≡ record self.old { said = self.new.said } }
         ensures counted { (self.old.said ≤ self.new.said) × (self.new.said ≤ self.old.said + 1) }
     {
@@ -95,7 +101,10 @@ impl TrainState {
 // The frame in which a mission goes to the accepting centre, with the last T_TRAIN heard.
 fn yield_letter(nid_engine: u32, heard: Option<u32>, yielded: Yielded) -> Letter
     ensures to { result.to ≡ yielded.handover.to }
-    ensures body { body_of result.body ≡ Yield yielded.handover.number nid_engine (option_map_or (λ n. n) heard 0) yielded.mission.has_data yielded.mission.is_ended (yielded_place (place_of yielded.mission.place)) (run_of yielded.hand) }
+    ensures body { body_of result.body
+        ≡ Yield yielded.handover.number nid_engine
+        (option_map_or (λ n. n) heard 0) yielded.mission.has_data yielded.mission.is_ended
+        (yielded_place (place_of yielded.mission.place)) (run_of yielded.hand) }
 {
     let mission = yielded.mission;
     Letter {

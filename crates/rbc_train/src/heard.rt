@@ -10,8 +10,9 @@ use rbc_hand::SectionRun;
 use rbc_handover::Announcers;
 use rbc_mission::Told;
 
-/// What a message comes to that is not left without an answer, or a frame: what the train is answered, and what it is ordered behind that; what is
-/// left for other centres; and the sections that were wished back and are shut now, of which the interlocking is told, in rising order.
+/// What a message comes to that is not left without an answer, or a frame: what the train is answered, and what it is
+/// ordered behind that; what is left for other centres; and the sections that were wished back and are shut now, of
+/// which the interlocking is told, in rising order.
 #[derive(Debug, Drop)]
 pub struct Heard {
     pub saying: Option<Saying>,
@@ -46,7 +47,12 @@ impl Heard {
         notice: Notice,
         letter: Option<Letter>,
     ) -> Heard
-        ensures { result ≡ record { saying = Some saying; order = order; mail = mail_home 0 no_sections notice letter; told = [] } }
+        ensures { result ≡ record {
+          saying = Some saying;
+          order = order;
+          mail = mail_home 0 no_sections notice letter;
+          told = [];
+        } }
     {
         let none = SectionRun { first: 0, count: 0 };
         Heard {
@@ -92,11 +98,14 @@ impl Heard {
         }
     }
 
-    /// Behind that, what is told of is this, and what another message came to goes to other centres too: its sections go home behind the
-    /// others of the track, with its notice.
+    /// Behind that, what is told of is this, and what another message came to goes to other centres too: its sections
+    /// go home behind the others of the track, with its notice.
     #[inline(always)]
     pub(crate) fn and_ahead(self, told: Told, ahead: Heard) -> Heard
-        ensures { result ≡ record self { mail = record self.mail { second = ahead.mail.first; notice = ahead.mail.notice }; told = told } }
+        ensures { result ≡ record self {
+          mail = record self.mail { second = ahead.mail.first; notice = ahead.mail.notice };
+          told = told;
+        } }
     {
         let Heard {
             saying,
@@ -117,8 +126,8 @@ impl Heard {
         }
     }
 
-    /// A mission is yielded: these sections of this track, its pool, go home, the letter takes the mission, and the train is ordered this or
-    /// nothing.
+    /// A mission is yielded: these sections of this track, its pool, go home, the letter takes the mission, and the
+    /// train is ordered this or nothing.
     #[inline(always)]
     pub(crate) fn yielded(
         track: u8,
@@ -126,7 +135,12 @@ impl Heard {
         letter: Letter,
         order: Option<Saying>,
     ) -> Heard
-        ensures { result ≡ record { saying = None; order = order; mail = mail_home track pool Notice.Nothing (Some letter); told = [] } }
+        ensures { result ≡ record {
+          saying = None;
+          order = order;
+          mail = mail_home track pool Notice.Nothing (Some letter);
+          told = [];
+        } }
     {
         Heard {
             order,
@@ -138,7 +152,12 @@ impl Heard {
     /// Sections of this track go home.
     #[inline(always)]
     pub(crate) fn returned(track: u8, sections: SectionRun) -> Heard
-        ensures { result ≡ record { saying = None; order = None; mail = mail_home track sections Notice.Nothing None; told = [] } }
+        ensures { result ≡ record {
+          saying = None;
+          order = None;
+          mail = mail_home track sections Notice.Nothing None;
+          told = [];
+        } }
     {
         Heard {
             mail: Mail::home(track, sections, Notice::Nothing, None),
@@ -160,7 +179,12 @@ impl Heard {
     /// These centres are told that this one is taking over.
     #[inline(always)]
     pub(crate) fn taking_over(told: Announcers) -> Heard
-        ensures { result ≡ record { saying = None; order = None; mail = mail_home 0 no_sections (Notice.TakingOver told) None; told = [] } }
+        ensures { result ≡ record {
+          saying = None;
+          order = None;
+          mail = mail_home 0 no_sections (Notice.TakingOver told) None;
+          told = [];
+        } }
     {
         let none = SectionRun { first: 0, count: 0 };
         Heard {

@@ -28,8 +28,9 @@ use rbc_right::Registrar;
 use rbc_session::Sessions;
 
 impl TrainState {
-    /// Takes a message of this train, at centre c with this book, these rights, these sessions and so many handovers announced: what it
-    /// comes to, or why it is left without an answer, which changes nothing. There is room for a session that it opens.
+    /// Takes a message of this train, at centre c with this book, these rights, these sessions and so many handovers
+    /// announced: what it comes to, or why it is left without an answer, which changes nothing. There is room for a
+    /// session that it opens.
     #[inline(always)]
     pub fn take(
         &mut self,
@@ -48,24 +49,31 @@ impl TrainState {
         requires on { IsOnTrack line.now self.old }
         requires held { IsHeld line.now centre self.old }
         requires stands { StandsFor sessions.old self.old.session_state self.old.supervision.engine }
-        requires room { message.now.body ≡ InitiationOfSession → is_stale message.now.t_train self.old.heard ≡ false → HasRoom sessions.old }
+        requires room { message.now.body ≡ InitiationOfSession → is_stale message.now.t_train self.old.heard ≡ false
+            → HasRoom sessions.old }
         requires count { self.old.said < 4294967293 }
         requires announced { count.old < 1073741823 }
-        ensures exact { (k : spec.Centre) → HasParts line.now centre k self.old book.old registrar.old → is_none (train_number line.now self.old.supervision.engine) ≡ false
-            → k.announced ≡ count.old → step.effect line.now centre k (step.Train (step_message message.now)) ≡ effect_left line.now centre self.old.supervision.engine (with_count count.new (with_parts self.new book.new registrar.new k)) result }
+        ensures exact { (k : spec.Centre) → HasParts line.now centre k self.old book.old registrar.old
+            → is_none (train_number line.now self.old.supervision.engine) ≡ false
+            → k.announced ≡ count.old
+            → step.effect line.now centre k (step.Train (step_message message.now))
+            ≡ effect_left line.now centre self.old.supervision.engine
+            (with_count count.new (with_parts self.new book.new registrar.new k)) result }
         ensures kept { KeepsTrain self.old self.new }
         ensures held { IsHeld line.now centre self.new }
         ensures covers { IsCovered line.now self.old.waiting → IsCovered line.now self.new.waiting }
         ensures announced { (count.old ≤ count.new) × (count.new ≤ count.old + 1) }
         ensures expected { length self.new.expectations ≡ length self.old.expectations }
         ensures desk { KeepsDesk self.old.supervision.number book.old book.new registrar.old registrar.new }
-        ensures stands { Enters sessions.old sessions.new self.new.session_state self.old.supervision.engine (session_phase self.new.session_state) }
+        ensures stands { Enters sessions.old sessions.new self.new.session_state self.old.supervision.engine
+            (session_phase self.new.session_state) }
     {
         let t_train = message.t_train();
         if self.is_stale(t_train) {
             return Err(Reason::StaleStamp);
         }
-        // Each of these writes what the message comes to straight to its place: inlined here, it would be copied part by part.
+        // Each of these writes what the message comes to straight to its place: inlined here, it would be copied part
+        // by part.
         match message.body() {
             TrainBody::InitiationOfSession => self.initiation_of_session(book, sessions, t_train),
             TrainBody::TerminationOfSession => self.termination_of_session(book, sessions, t_train),
@@ -93,8 +101,8 @@ impl TrainState {
     }
 }
 
-/// Whether another centre may have to be told something by a train's message: the right or sections may be asked for, or go home, and a
-/// handover is announced, claimed, cancelled or yielded.
+/// Whether another centre may have to be told something by a train's message: the right or sections may be asked for,
+/// or go home, and a handover is announced, claimed, cancelled or yielded.
 pub fn tells_others(body: &TrainBody) -> bool
     ensures { (m : TrainText) → m.body ≡ body.now → result ≡ tells_others (step_message m).body }
 {

@@ -7,19 +7,25 @@ ghost use Rattle.rbc_spec.specs.Acts.{Reply, propose_if_so};
 ghost use Rattle.rbc_spec.specs.Step.{set, unset};
 ghost use Rattle.rbc_train.specs.Tellings.{told_elsewhere, told_done, told_kept, told_asked, wishing};
 
-/// A section of home in no use is shut at once; of one that is in use for a train here, its train is asked, as far as may be,
-/// to end its authority before it; a section of another home is left alone.
+/// A section of home in no use is shut at once; of one that is in use for a train here, its train is asked, as far as
+/// may be, to end its authority before it; a section of another home is left alone.
 pub fn a_section_is_taken_back()
-    ensures unused { (line : Line) (c s : ℕ) (k : Centre) → is_home line c s ≡ true → is_unused (k.book s) ≡ true → unset line c s k ≡ told_done s Shut k }
-    ensures taken { (line : Line) (c s t : ℕ) (k : Centre) (reply : Reply) → is_home line c s ≡ true → k.book s ≡ Taken t
+    ensures unused { (line : Line) (c s : ℕ) (k : Centre) → is_home line c s ≡ true → is_unused (k.book s) ≡ true
+        → unset line c s k ≡ told_done s Shut k }
+    ensures taken { (line : Line) (c s t : ℕ) (k : Centre) (reply : Reply) → is_home line c s ≡ true
+        → k.book s ≡ Taken t
         → propose_if_so line t s (wishing s k) ≡ reply → unset line c s k ≡ told_asked s reply }
-    ensures elsewhere { (line : Line) (c s : ℕ) (k : Centre) → is_home line c s ≡ false → unset line c s k ≡ told_elsewhere s k }
+    ensures elsewhere { (line : Line) (c s : ℕ) (k : Centre) → is_home line c s ≡ false
+        → unset line c s k ≡ told_elsewhere s k }
 {}
 
-/// A section of home in no use is released at once; one that is in use stays so, and is not wished back any more; a section of
-/// another home is left alone.
+/// A section of home in no use is released at once; one that is in use stays so, and is not wished back any more; a
+/// section of another home is left alone.
 pub fn a_section_is_released()
-    ensures unused { (line : Line) (c s : ℕ) (k : Centre) → is_home line c s ≡ true → is_unused (k.book s) ≡ true → set line c s k ≡ told_done s Open k }
-    ensures used { (line : Line) (c s : ℕ) (k : Centre) → is_home line c s ≡ true → is_unused (k.book s) ≡ false → set line c s k ≡ told_kept s k }
-    ensures elsewhere { (line : Line) (c s : ℕ) (k : Centre) → is_home line c s ≡ false → set line c s k ≡ told_elsewhere s k }
+    ensures unused { (line : Line) (c s : ℕ) (k : Centre) → is_home line c s ≡ true → is_unused (k.book s) ≡ true
+        → set line c s k ≡ told_done s Open k }
+    ensures used { (line : Line) (c s : ℕ) (k : Centre) → is_home line c s ≡ true → is_unused (k.book s) ≡ false
+        → set line c s k ≡ told_kept s k }
+    ensures elsewhere { (line : Line) (c s : ℕ) (k : Centre) → is_home line c s ≡ false
+        → set line c s k ≡ told_elsewhere s k }
 {}

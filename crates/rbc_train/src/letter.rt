@@ -39,8 +39,8 @@ pub(crate) fn to_registrar(line: &Line, nid_engine: u32, body: Body) -> Option<L
     Some(Letter { to, body })
 }
 
-/// The right of a train that its mission or its registrar has handed out goes home, where there is one: to the registrar, if that is this
-/// centre, or by a letter to it.
+/// The right of a train that its mission or its registrar has handed out goes home, where there is one: to the
+/// registrar, if that is this centre, or by a letter to it.
 #[inline(always)]
 pub(crate) fn go_home(
     line: &Line,

@@ -18,7 +18,8 @@ pub enum Notice {
     Announce { name: HandoverName, track: u8 },
     /// The accepting centre is told that the train does not come.
     Cancel(HandoverName),
-    /// These centres are told, each under the number that the train is expected by from there, that this one is taking over.
+    /// These centres are told, each under the number that the train is expected by from there, that this one is taking
+    /// over.
     TakingOver(Announcers),
 }
 
@@ -83,8 +84,8 @@ fn claim_of(
     })
 }
 
-/// What a message leaves for other centres. On each link sections that were lent go home first, then a notice of a handover goes, and then
-/// a letter.
+/// What a message leaves for other centres. On each link sections that were lent go home first, then a notice of a
+/// handover goes, and then a letter.
 #[derive(Clone, Copy, Debug, PartialEq, Eq)]
 pub struct Mail {
     /// The track of the sections, by its number in the line file.

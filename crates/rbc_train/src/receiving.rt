@@ -38,8 +38,11 @@ impl TrainState {
         requires from { is_centre line.now from ≡ true }
         requires count { self.old.said < 4294967294 }
         requires range { HasBodyRange (body_of body) }
-        ensures exact { (k : spec.Centre) → HasParts line.now centre k self.old book.old registrar.old → is_none (train_number line.now self.old.supervision.engine) ≡ false
-            → received line.now centre from (body_of body) k ≡ reply_left line.now centre self.old.supervision.engine (with_parts self.new book.new registrar.new k) result }
+        ensures exact { (k : spec.Centre) → HasParts line.now centre k self.old book.old registrar.old
+            → is_none (train_number line.now self.old.supervision.engine) ≡ false
+            → received line.now centre from (body_of body) k
+            ≡ reply_left line.now centre self.old.supervision.engine
+            (with_parts self.new book.new registrar.new k) result }
         ensures kept { KeepsTrain self.old self.new }
         ensures held { IsHeld line.now centre self.new }
         ensures session { self.new.session_state ≡ self.old.session_state }

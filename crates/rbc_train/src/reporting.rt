@@ -32,16 +32,16 @@ use rbc_right::Registrar;
 use rbc_session::Phase;
 use rbc_shorten::{Cut, cut_at_standstill};
 
-// What lies ahead of a train at standstill: how many of the first sections that are left of its hand are kept; and those that were wished back
-// of all that leaves the hand, in rising order.
+// What lies ahead of a train at standstill: how many of the first sections that are left of its hand are kept; and
+// those that were wished back of all that leaves the hand, in rising order.
 struct Ahead {
     keep: u16,
     told: Told,
 }
 
 impl TrainState {
-    /// Message 136: the sections of the hand that the train has cleared are given back, and a mission without a section closes. Of a train that
-    /// another centre hands over to this one, its announcers are told that this one takes over.
+    /// Message 136: the sections of the hand that the train has cleared are given back, and a mission without a section
+    /// closes. Of a train that another centre hands over to this one, its announcers are told that this one takes over.
     #[inline(never)]
     pub(crate) fn report(
         &mut self,
@@ -57,8 +57,14 @@ impl TrainState {
         requires book { IsBookOf line.now centre book.old }
         requires held { IsHeld line.now centre self.old }
         ensures exact { (k : spec.Centre) → HearsTrain line.now centre k t_train self.old book.old registrar.old
-            → step.effect line.now centre k (step.Train (record { t_train = t_train; nid_engine = self.old.supervision.engine; body = Report (position_of position.now) }))
-            ≡ effect_left line.now centre self.old.supervision.engine (with_parts self.new book.new registrar.new k) result }
+            → step.effect line.now centre k
+            (step.Train (record {
+              t_train = t_train;
+              nid_engine = self.old.supervision.engine;
+              body = Report (position_of position.now);
+            }))
+            ≡ effect_left line.now centre self.old.supervision.engine
+            (with_parts self.new book.new registrar.new k) result }
         ensures kept { KeepsTrain self.old self.new }
         ensures held { IsHeld line.now centre self.new }
         ensures session { self.new.session_state ≡ self.old.session_state }
@@ -82,8 +88,8 @@ impl TrainState {
         Ok(self.clear(line, centre, book, registrar, place))
     }
 
-    /// Message 150: what the train has cleared is given back, where its report has a place; at standstill what lies ahead is too; then its
-    /// mission is ended, and its pool goes home.
+    /// Message 150: what the train has cleared is given back, where its report has a place; at standstill what lies
+    /// ahead is too; then its mission is ended, and its pool goes home.
     #[inline(never)]
     pub(crate) fn end_of_mission(
         &mut self,
@@ -99,8 +105,14 @@ impl TrainState {
         requires book { IsBookOf line.now centre book.old }
         requires held { IsHeld line.now centre self.old }
         ensures exact { (k : spec.Centre) → HearsTrain line.now centre k t_train self.old book.old registrar.old
-            → step.effect line.now centre k (step.Train (record { t_train = t_train; nid_engine = self.old.supervision.engine; body = EndOfMission (position_of position.now) }))
-            ≡ effect_left line.now centre self.old.supervision.engine (with_parts self.new book.new registrar.new k) result }
+            → step.effect line.now centre k
+            (step.Train (record {
+              t_train = t_train;
+              nid_engine = self.old.supervision.engine;
+              body = EndOfMission (position_of position.now);
+            }))
+            ≡ effect_left line.now centre self.old.supervision.engine
+            (with_parts self.new book.new registrar.new k) result }
         ensures kept { KeepsTrain self.old self.new }
         ensures held { IsHeld line.now centre self.new }
         ensures session { self.new.session_state ≡ self.old.session_state }
@@ -138,10 +150,14 @@ impl TrainState {
         }
     }
 
-    // What lies ahead of a train that stands still at a place of this track, when what it has cleared there has left its hand.
+    // What lies ahead of a train that stands still at a place of this track, when what it has cleared there has left
+    // its hand.
     fn ahead(&self, line: &Line, book: &Book, track: u8, position: &Position) -> Option<Ahead>
-        ensures none { result ≡ None → left_ahead line.now track (position_of position.now) (hand_of self.now.supervision) ≡ Nothing }
-        ensures some { IfSome result (λ a. IsAhead line.now self.now.supervision.engine track (position_of position.now) (hand_of self.now.supervision) book.now a.keep a.told) }
+        ensures none { result ≡ None
+            → left_ahead line.now track (position_of position.now) (hand_of self.now.supervision) ≡ Nothing }
+        ensures some { IfSome result
+            (λ a. IsAhead line.now self.now.supervision.engine track (position_of position.now)
+            (hand_of self.now.supervision) book.now a.keep a.told) }
     {
         if position.v_train.value() != 0 {
             return None;
@@ -178,11 +194,14 @@ impl TrainState {
         requires some { 1 ≤ keep }
         requires keep { keep ≤ (hand_of self.old.supervision).count }
         ensures exact { (m : spec.Mission) → self.old.supervision.mission ≡ Some m → m.place.track ≡ track
-            → Does line.now centre (rules.cut line.now centre self.old.supervision.engine (m.hand.first + keep - 1) m) self.old book.old registrar.old self.new book.new registrar.new result }
+            → Does line.now centre
+            (rules.cut line.now centre self.old.supervision.engine
+            (m.hand.first + keep - 1) m) self.old book.old registrar.old self.new book.new registrar.new result }
         ensures stays { IsKeptAt line.now centre self.old → IsKeptAt line.now centre self.new }
         ensures saying { result.saying ≡ None }
         ensures order { result.order ≡ None }
-        ensures told { result.told ≡ wished self.old.supervision.engine (rest_of keep (hand_of self.old.supervision)) book.old }
+        ensures told { result.told
+            ≡ wished self.old.supervision.engine (rest_of keep (hand_of self.old.supervision)) book.old }
         ensures mail { result.mail ≡ mail_home track result.mail.first result.mail.notice None }
         ensures pool { pool_of self.new.supervision ≡ no_run }
         ensures left { self.new ≡ record self.old { supervision = self.new.supervision } }
@@ -209,13 +228,18 @@ impl TrainState {
         requires book { IsBookOf line.now centre book.old }
         requires held { IsHeld line.now centre self.old }
         ensures exact { (m : spec.Mission) → self.old.supervision.mission ≡ Some m → m.place.track ≡ track
-            → Does line.now centre (rules.report_here line.now centre self.old.supervision.engine (position_of position.now) m) self.old book.old registrar.old self.new book.new registrar.new result }
+            → Does line.now centre
+            (rules.report_here line.now centre self.old.supervision.engine
+            (position_of position.now) m) self.old book.old registrar.old self.new book.new registrar.new result }
         ensures stays { IsKeptAt line.now centre self.old → IsKeptAt line.now centre self.new }
         ensures order { result.order ≡ None }
         ensures mail { result.mail ≡ mail_home track result.mail.first result.mail.notice result.mail.letter }
-        ensures track { (m n : spec.Mission) → self.old.supervision.mission ≡ Some m → m.place.track ≡ track → self.new.supervision.mission ≡ Some n → n.place.track ≡ track }
-        ensures letter { is_some self.new.supervision.mission ≡ true → (result.mail.letter ≡ None) × (result.mail.notice ≡ Notice.Nothing) }
-        ensures front { (p : spec_place.Place) → spec_place.place_on line.now track (position_of position.now) ≡ Some p → LeavesFront line.now p self.old.supervision self.new.supervision result.told book.old book.new }
+        ensures track { (m n : spec.Mission) → self.old.supervision.mission ≡ Some m → m.place.track ≡ track
+            → self.new.supervision.mission ≡ Some n → n.place.track ≡ track }
+        ensures letter { is_some self.new.supervision.mission ≡ true
+            → (result.mail.letter ≡ None) × (result.mail.notice ≡ Notice.Nothing) }
+        ensures front { (p : spec_place.Place) → spec_place.place_on line.now track (position_of position.now) ≡ Some p
+            → LeavesFront line.now p self.old.supervision self.new.supervision result.told book.old book.new }
         ensures left { self.new ≡ record self.old { supervision = self.new.supervision } }
         ensures kept { KeepsTrain self.old self.new }
         ensures held { IsHeld line.now centre self.new }
@@ -229,7 +253,8 @@ impl TrainState {
         }
     }
 
-    /// The train is at this place of its track: what it has cleared is given back, and a mission without a section closes.
+    /// The train is at this place of its track: what it has cleared is given back, and a mission without a section
+    /// closes.
     #[inline(always)]
     pub(crate) fn clear(
         &mut self,
@@ -243,13 +268,17 @@ impl TrainState {
         requires book { IsBookOf line.now centre book.old }
         requires held { IsHeld line.now centre self.old }
         ensures exact { (m : spec.Mission) → self.old.supervision.mission ≡ Some m → m.place.track ≡ place.track
-            → Does line.now centre (rules.clear line.now centre self.old.supervision.engine m (place_of place)) self.old book.old registrar.old self.new book.new registrar.new result }
+            → Does line.now centre
+            (rules.clear line.now centre self.old.supervision.engine m
+            (place_of place)) self.old book.old registrar.old self.new book.new registrar.new result }
         ensures stays { IsKeptAt line.now centre self.old → IsKeptAt line.now centre self.new }
         ensures order { result.order ≡ None }
         ensures mail { result.mail ≡ mail_home place.track result.mail.first result.mail.notice result.mail.letter }
         ensures track { (m : spec.Mission) → self.new.supervision.mission ≡ Some m → m.place.track ≡ place.track }
-        ensures letter { is_some self.new.supervision.mission ≡ true → (result.mail.letter ≡ None) × (result.mail.notice ≡ Notice.Nothing) }
-        ensures front { LeavesFront line.now (place_of place) self.old.supervision self.new.supervision result.told book.old book.new }
+        ensures letter { is_some self.new.supervision.mission ≡ true
+            → (result.mail.letter ≡ None) × (result.mail.notice ≡ Notice.Nothing) }
+        ensures front { LeavesFront line.now
+            (place_of place) self.old.supervision self.new.supervision result.told book.old book.new }
         ensures left { self.new ≡ record self.old { supervision = self.new.supervision } }
         ensures kept { KeepsTrain self.old self.new }
         ensures held { IsHeld line.now centre self.new }

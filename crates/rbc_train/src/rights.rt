@@ -33,7 +33,8 @@ impl TrainState {
         from: u8,
     ) -> Heard
         ensures exact { (book : Pages) (k : spec.Centre) → HasParts line.now centre k self.old book registrar.old
-            → links.right_asked line.now centre from self.old.supervision.engine k ≡ reply_left line.now centre self.old.supervision.engine (with_parts self.new book registrar.new k) result }
+            → links.right_asked line.now centre from self.old.supervision.engine k
+            ≡ reply_left line.now centre self.old.supervision.engine (with_parts self.new book registrar.new k) result }
         ensures same { self.new ≡ self.old }
         ensures rights { KeepsRights self.old.supervision.number registrar.old registrar.new }
     {
@@ -51,7 +52,8 @@ impl TrainState {
         Heard::told(Letter { to: from, body })
     }
 
-    /// GiveRight: a start that waits becomes a mission, and the train is accepted. A right that nothing waits for goes back.
+    /// GiveRight: a start that waits becomes a mission, and the train is accepted. A right that nothing waits for goes
+    /// back.
     pub(crate) fn right_given(
         &mut self,
         line: &Line,
@@ -62,7 +64,8 @@ impl TrainState {
         requires train { self.old.waiting.engine ≡ self.old.supervision.engine }
         requires number { self.old.supervision.number < length registrar.old }
         ensures exact { (book : Pages) (k : spec.Centre) → HasParts line.now centre k self.old book registrar.old
-            → links.right_given line.now centre self.old.supervision.engine k ≡ reply_left line.now centre self.old.supervision.engine (with_parts self.new book registrar.new k) result }
+            → links.right_given line.now centre self.old.supervision.engine k
+            ≡ reply_left line.now centre self.old.supervision.engine (with_parts self.new book registrar.new k) result }
         ensures kept { KeepsTrain self.old self.new }
         ensures expectations { self.new.expectations ≡ self.old.expectations }
         ensures held { (line : track.Line) (c : ℕ) → IsHeld line c self.old → IsHeld line c self.new }
@@ -91,8 +94,10 @@ impl TrainState {
     /// RefuseRight: a start that waits is dropped, and the train is rejected.
     pub(crate) fn right_refused(&mut self, book: &mut Book) -> Heard
         requires count { self.old.said < 4294967294 }
-        ensures exact { (line : track.Line) (c : ℕ) (rights : Rights) (k : spec.Centre) → HasParts line c k self.old book.old rights
-            → links.right_refused line c self.old.supervision.engine k ≡ reply_left line c self.old.supervision.engine (with_parts self.new book.new rights k) result }
+        ensures exact { (line : track.Line) (c : ℕ) (rights : Rights) (k : spec.Centre)
+            → HasParts line c k self.old book.old rights
+            → links.right_refused line c self.old.supervision.engine k
+            ≡ reply_left line c self.old.supervision.engine (with_parts self.new book.new rights k) result }
         ensures kept { KeepsTrain self.old self.new }
         ensures expectations { self.new.expectations ≡ self.old.expectations }
         ensures supervision { self.new.supervision ≡ self.old.supervision }
@@ -116,7 +121,8 @@ impl TrainState {
     ) -> Heard
         requires number { self.old.supervision.number < length registrar.old }
         ensures exact { (book : Pages) (k : spec.Centre) → HasParts line.now centre k self.old book registrar.old
-            → links.right_returned line.now centre self.old.supervision.engine k ≡ reply_left line.now centre self.old.supervision.engine (with_parts self.new book registrar.new k) result }
+            → links.right_returned line.now centre self.old.supervision.engine k
+            ≡ reply_left line.now centre self.old.supervision.engine (with_parts self.new book registrar.new k) result }
         ensures same { self.new ≡ self.old }
         ensures rights { KeepsRights self.old.supervision.number registrar.old registrar.new }
     {
@@ -127,7 +133,8 @@ impl TrainState {
         Heard::nothing()
     }
 
-    // What leaves a mission on this track: what it gives back is told, lent sections and its right go home, and its handover is cancelled.
+    // What leaves a mission on this track: what it gives back is told, lent sections and its right go home, and its
+    // handover is cancelled.
     #[inline(always)]
     pub(crate) fn released(
         &self,
@@ -140,8 +147,10 @@ impl TrainState {
         ensures saying { result.saying ≡ None }
         ensures order { result.order ≡ None }
         ensures told { result.told ≡ released.told }
-        ensures mail { result.mail ≡ mail_home track released.returned (cancel_of released.cancelled) result.mail.letter }
-        ensures right { GoesHome line.now centre self.now.supervision.engine released.right result.mail.letter registrar.old registrar.new }
+        ensures mail { result.mail
+            ≡ mail_home track released.returned (cancel_of released.cancelled) result.mail.letter }
+        ensures right { GoesHome line.now centre self.now.supervision.engine released.right result.mail.letter
+            registrar.old registrar.new }
     {
         let Released {
             told,

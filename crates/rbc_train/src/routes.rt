@@ -1,5 +1,5 @@
-//! Sections that go over a border: a home lends them to a train at another centre, and takes them back (profile, in words of
-//! SUBSET-039: Route Related Information).
+//! Sections that go over a border: a home lends them to a train at another centre, and takes them back (profile, in
+//! words of SUBSET-039: Route Related Information).
 
 ghost use Rattle.std.specs.Prelude.{◌≡◌, ◌+◌, ◌<◌, ◌≤◌, ◌&&◌, ℕ, not, if◌then◌else◌, is_some, is_none, []};
 ghost use Rattle.std.specs.List.{list_any};
@@ -31,8 +31,8 @@ use rbc_packets::SessionOrder;
 use rbc_vars::{NidC, NidRbc};
 
 impl TrainState {
-    /// RouteAsk of a centre: the longest run of released home sections from the first on, at most so many, is lent to the train there,
-    /// and that is told.
+    /// RouteAsk of a centre: the longest run of released home sections from the first on, at most so many, is lent to
+    /// the train there, and that is told.
     pub(crate) fn route_asked(
         &self,
         line: &Line,
@@ -43,7 +43,8 @@ impl TrainState {
         most: u16,
     ) -> Heard
         ensures exact { (rights : Rights) (k : spec.Centre) → HasParts line.now centre k self.now book.old rights
-            → links.route_asked line.now centre from self.now.supervision.engine first most k ≡ reply_left line.now centre self.now.supervision.engine (with_parts self.now book.new rights k) result }
+            → links.route_asked line.now centre from self.now.supervision.engine first most k
+            ≡ reply_left line.now centre self.now.supervision.engine (with_parts self.now book.new rights k) result }
         ensures homes { (s : ℕ) → is_own book.new s ≡ is_own book.old s }
     {
         let engine = self.nid_engine();
@@ -59,8 +60,10 @@ impl TrainState {
     /// RouteInfo of a centre: the sections that were asked for are the pool of the train's mission, or go home again.
     pub(crate) fn route_told(&mut self, line: &Line, from: u8, sections: SectionRun) -> Heard
         requires few { sections.count ≤ 31 }
-        ensures exact { (c : ℕ) (book : Pages) (rights : Rights) (k : spec.Centre) → HasParts line.now c k self.old book rights
-            → links.route_told line.now c from self.old.supervision.engine (run_of sections) k ≡ reply_left line.now c self.old.supervision.engine (with_parts self.new book rights k) result }
+        ensures exact { (c : ℕ) (book : Pages) (rights : Rights) (k : spec.Centre)
+            → HasParts line.now c k self.old book rights
+            → links.route_told line.now c from self.old.supervision.engine (run_of sections) k
+            ≡ reply_left line.now c self.old.supervision.engine (with_parts self.new book rights k) result }
         ensures kept { KeepsTrain self.old self.new }
         ensures expectations { self.new.expectations ≡ self.old.expectations }
         ensures hand { self.new.supervision.hand ≡ self.old.supervision.hand }
@@ -77,12 +80,14 @@ impl TrainState {
         }
     }
 
-    /// RouteWithdraw: a section of the pool goes home with all behind it. The train is asked to end its authority before one of its hand
-    /// (3.8.6), where that may be asked.
+    /// RouteWithdraw: a section of the pool goes home with all behind it. The train is asked to end its authority
+    /// before one of its hand (3.8.6), where that may be asked.
     pub(crate) fn route_withdrawn(&mut self, line: &Line, s: u16) -> Heard
         requires count { self.old.said < 4294967294 }
-        ensures exact { (c : ℕ) (book : Pages) (rights : Rights) (k : spec.Centre) → HasParts line.now c k self.old book rights
-            → (if is_some (section line.now s) then links.route_withdrawn line.now c self.old.supervision.engine s else rest) k
+        ensures exact { (c : ℕ) (book : Pages) (rights : Rights) (k : spec.Centre)
+            → HasParts line.now c k self.old book rights
+            → (if is_some (section line.now s) then links.route_withdrawn line.now c self.old.supervision.engine s
+            else rest) k
             ≡ reply_left line.now c self.old.supervision.engine (with_parts self.new book rights k) result }
         ensures kept { KeepsTrain self.old self.new }
         ensures expectations { self.new.expectations ≡ self.old.expectations }
@@ -102,8 +107,8 @@ impl TrainState {
         }
     }
 
-    /// RouteReturn of a centre: the sections that are out for the train are given back. A train that is no more to come here is told to
-    /// end its session (3.5.5).
+    /// RouteReturn of a centre: the sections that are out for the train are given back. A train that is no more to come
+    /// here is told to end its session (3.5.5).
     pub(crate) fn route_returned(
         &mut self,
         line: &Line,
@@ -116,7 +121,8 @@ impl TrainState {
         requires most { sections.count ≤ 63 }
         requires last { sections.first + sections.count ≤ 512 }
         ensures exact { (rights : Rights) (k : spec.Centre) → HasParts line.now centre k self.old book.old rights
-            → (if all_of (λ s. is_some (section line.now s)) (run_of sections) then links.route_returned line.now centre self.old.supervision.engine (run_of sections) else rest) k
+            → (if all_of (λ s. is_some (section line.now s)) (run_of sections)
+            then links.route_returned line.now centre self.old.supervision.engine (run_of sections) else rest) k
             ≡ reply_left line.now centre self.old.supervision.engine (with_parts self.new book.new rights k) result }
         ensures kept { KeepsTrain self.old self.new }
         ensures expectations { self.new.expectations ≡ self.old.expectations }
@@ -158,7 +164,8 @@ impl TrainState {
 
     // Whether neither a mission of the train nor a start that waits is here, and it is not expected.
     fn is_gone(&self) -> bool
-        ensures { result ≡ ((is_none self.now.supervision.mission && is_none self.now.waiting.wait) && not (list_any is_some self.now.expectations)) }
+        ensures { result ≡ ((is_none self.now.supervision.mission && is_none self.now.waiting.wait) && not
+            (list_any is_some self.now.expectations)) }
     {
         self.supervision.mission().is_none()
             && self.waiting.place().is_none()

@@ -20,7 +20,15 @@ impl Saying {
     pub(crate) fn of_count(nid_engine: u32, count: u32, nid_lrbg: u32, body: TrackBody) -> Saying
         requires count { count < 4294967295 }
         requires group { nid_lrbg < 16777216 }
-        ensures { saying_of result ≡ record { nid_engine = nid_engine; message = record { t_train = count; nid_lrbg = nid_lrbg; body = track_body body } } }
+        ensures { saying_of result
+            ≡ record {
+              nid_engine = nid_engine;
+              message = record {
+                t_train = count;
+                nid_lrbg = nid_lrbg;
+                body = track_body body;
+              };
+            } }
     {
         Saying {
             nid_engine,
@@ -45,7 +53,14 @@ impl TrainState {
         requires count { self.old.said < 4294967294 }
         requires group { nid_lrbg < 16777216 }
         ensures saying { saying_of result
-            ≡ record { nid_engine = self.old.supervision.engine; message = record { t_train = self.old.said + 1; nid_lrbg = nid_lrbg; body = track_body body } } }
+            ≡ record {
+              nid_engine = self.old.supervision.engine;
+              message = record {
+                t_train = self.old.said + 1;
+                nid_lrbg = nid_lrbg;
+                body = track_body body;
+              };
+            } }
         ensures counted { self.new ≡ record self.old { said = self.old.said + 1 } }
     {
         let nid_engine = self.nid_engine();
@@ -56,7 +71,15 @@ impl TrainState {
     /// The next message to the train says this, from no balise group, and nothing else is said.
     pub(crate) fn answered(&mut self, body: TrackBody) -> Heard
         requires { self.old.said < 4294967294 }
-        ensures said { sayings_of result.saying ≡ record { nid_engine = self.old.supervision.engine; message = record { t_train = self.old.said + 1; nid_lrbg = unknown_group; body = track_body body } } ∷ [] }
+        ensures said { sayings_of result.saying
+            ≡ record {
+              nid_engine = self.old.supervision.engine;
+              message = record {
+                t_train = self.old.said + 1;
+                nid_lrbg = unknown_group;
+                body = track_body body;
+              };
+            } ∷ [] }
         ensures order { result.order ≡ None }
         ensures mail { result.mail ≡ mail_of None }
         ensures told { result.told ≡ [] }

@@ -23,8 +23,8 @@ use rbc_msgs::{NID_LRBG_UNKNOWN, TrackBody};
 use rbc_session::{Phase, Sessions};
 
 impl TrainState {
-    /// Message 155: a session that stands is closed, with a request to shorten that stands and a start of mission that waits, and
-    /// another is opened.
+    /// Message 155: a session that stands is closed, with a request to shorten that stands and a start of mission that
+    /// waits, and another is opened.
     #[inline(never)]
     pub(crate) fn initiation_of_session(
         &mut self,
@@ -35,15 +35,22 @@ impl TrainState {
         requires stands { StandsFor sessions.old self.old.session_state self.old.supervision.engine }
         requires room { HasRoom sessions.old }
         requires count { self.old.said < 4294967294 }
-        ensures exact { (line : track.Line) (c : ℕ) (rights : Rights) (k : spec.Centre) → HearsTrain line c k t_train self.old book.old rights
-            → step.effect line c k (step.Train (record { t_train = t_train; nid_engine = self.old.supervision.engine; body = InitiationOfSession }))
+        ensures exact { (line : track.Line) (c : ℕ) (rights : Rights) (k : spec.Centre)
+            → HearsTrain line c k t_train self.old book.old rights
+            → step.effect line c k
+            (step.Train (record {
+              t_train = t_train;
+              nid_engine = self.old.supervision.engine;
+              body = InitiationOfSession;
+            }))
             ≡ effect_left line c self.old.supervision.engine (with_parts self.new book.new rights k) result }
         ensures kept { KeepsTrain self.old self.new }
         ensures expectations { self.new.expectations ≡ self.old.expectations }
         ensures hand { self.new.supervision.hand ≡ self.old.supervision.hand }
         ensures covers { (line : track.Line) → IsCovered line self.old.waiting → IsCovered line self.new.waiting }
         ensures homes { (s : ℕ) → is_own book.new s ≡ is_own book.old s }
-        ensures stands { Enters sessions.old sessions.new self.new.session_state self.old.supervision.engine (session_phase self.new.session_state) }
+        ensures stands { Enters sessions.old sessions.new self.new.session_state self.old.supervision.engine
+            (session_phase self.new.session_state) }
     {
         let nid_engine = self.nid_engine();
         self.heard = Some(t_train);
@@ -67,14 +74,21 @@ impl TrainState {
         t_train: u32,
     ) -> Result<Heard, Reason>
         requires stands { StandsFor sessions.old self.old.session_state self.old.supervision.engine }
-        ensures exact { (line : track.Line) (c : ℕ) (book : Pages) (rights : Rights) (k : spec.Centre) → HearsTrain line c k t_train self.old book rights
-            → step.effect line c k (step.Train (record { t_train = t_train; nid_engine = self.old.supervision.engine; body = SessionEstablished }))
+        ensures exact { (line : track.Line) (c : ℕ) (book : Pages) (rights : Rights) (k : spec.Centre)
+            → HearsTrain line c k t_train self.old book rights
+            → step.effect line c k
+            (step.Train (record {
+              t_train = t_train;
+              nid_engine = self.old.supervision.engine;
+              body = SessionEstablished;
+            }))
             ≡ effect_left line c self.old.supervision.engine (with_parts self.new book rights k) result }
         ensures kept { KeepsTrain self.old self.new }
         ensures expectations { self.new.expectations ≡ self.old.expectations }
         ensures hand { self.new.supervision.hand ≡ self.old.supervision.hand }
         ensures waiting { self.new.waiting ≡ self.old.waiting }
-        ensures stands { Enters sessions.old sessions.new self.new.session_state self.old.supervision.engine (session_phase self.new.session_state) }
+        ensures stands { Enters sessions.old sessions.new self.new.session_state self.old.supervision.engine
+            (session_phase self.new.session_state) }
     {
         let known = self.known();
         match known.phase {
@@ -87,7 +101,8 @@ impl TrainState {
         Ok(Heard::nothing())
     }
 
-    /// Message 156: the session that stands is closed, with a request to shorten that stands and a start of mission that waits.
+    /// Message 156: the session that stands is closed, with a request to shorten that stands and a start of mission
+    /// that waits.
     #[inline(never)]
     pub(crate) fn termination_of_session(
         &mut self,
@@ -97,15 +112,22 @@ impl TrainState {
     ) -> Result<Heard, Reason>
         requires stands { StandsFor sessions.old self.old.session_state self.old.supervision.engine }
         requires count { self.old.said < 4294967294 }
-        ensures exact { (line : track.Line) (c : ℕ) (rights : Rights) (k : spec.Centre) → HearsTrain line c k t_train self.old book.old rights
-            → step.effect line c k (step.Train (record { t_train = t_train; nid_engine = self.old.supervision.engine; body = TerminationOfSession }))
+        ensures exact { (line : track.Line) (c : ℕ) (rights : Rights) (k : spec.Centre)
+            → HearsTrain line c k t_train self.old book.old rights
+            → step.effect line c k
+            (step.Train (record {
+              t_train = t_train;
+              nid_engine = self.old.supervision.engine;
+              body = TerminationOfSession;
+            }))
             ≡ effect_left line c self.old.supervision.engine (with_parts self.new book.new rights k) result }
         ensures kept { KeepsTrain self.old self.new }
         ensures expectations { self.new.expectations ≡ self.old.expectations }
         ensures hand { self.new.supervision.hand ≡ self.old.supervision.hand }
         ensures covers { (line : track.Line) → IsCovered line self.old.waiting → IsCovered line self.new.waiting }
         ensures homes { (s : ℕ) → is_own book.new s ≡ is_own book.old s }
-        ensures stands { Enters sessions.old sessions.new self.new.session_state self.old.supervision.engine (session_phase self.new.session_state) }
+        ensures stands { Enters sessions.old sessions.new self.new.session_state self.old.supervision.engine
+            (session_phase self.new.session_state) }
     {
         let known = self.known();
         match known.phase {

@@ -25,8 +25,8 @@ use rbc_shorten::{Cut, granted, rejected};
 use rbc_vars::TTrain;
 
 impl TrainState {
-    /// Message 137: the request that is answered stands no more. A train that has not run past the proposed end gives back what
-    /// is behind it, and a mission without a section closes.
+    /// Message 137: the request that is answered stands no more. A train that has not run past the proposed end gives
+    /// back what is behind it, and a mission without a section closes.
     #[inline(never)]
     pub(crate) fn shortening_granted(
         &mut self,
@@ -43,8 +43,14 @@ impl TrainState {
         requires book { IsBookOf line.now centre book.old }
         requires held { IsHeld line.now centre self.old }
         ensures exact { (k : spec.Centre) → HearsTrain line.now centre k t_train self.old book.old registrar.old
-            → step.effect line.now centre k (step.Train (record { t_train = t_train; nid_engine = self.old.supervision.engine; body = ShorteningGranted request (position_of position.now) }))
-            ≡ effect_left line.now centre self.old.supervision.engine (with_parts self.new book.new registrar.new k) result }
+            → step.effect line.now centre k
+            (step.Train (record {
+              t_train = t_train;
+              nid_engine = self.old.supervision.engine;
+              body = ShorteningGranted request (position_of position.now);
+            }))
+            ≡ effect_left line.now centre self.old.supervision.engine
+            (with_parts self.new book.new registrar.new k) result }
         ensures kept { KeepsTrain self.old self.new }
         ensures held { IsHeld line.now centre self.new }
         ensures session { self.new.session_state ≡ self.old.session_state }
@@ -91,9 +97,15 @@ impl TrainState {
         t_train: u32,
         request: TTrain,
     ) -> Result<Heard, Reason>
-        ensures exact { (line : track.Line) (c : ℕ) (book : Pages) (rights : Rights) (k : spec.Centre) (position : place.Position)
+        ensures exact { (line : track.Line) (c : ℕ) (book : Pages) (rights : Rights) (k : spec.Centre)
+            (position : place.Position)
             → HearsTrain line c k t_train self.old book rights
-            → step.effect line c k (step.Train (record { t_train = t_train; nid_engine = self.old.supervision.engine; body = ShorteningRejected request position }))
+            → step.effect line c k
+            (step.Train (record {
+              t_train = t_train;
+              nid_engine = self.old.supervision.engine;
+              body = ShorteningRejected request position;
+            }))
             ≡ effect_left line c self.old.supervision.engine (with_parts self.new book rights k) result }
         ensures kept { KeepsTrain self.old self.new }
         ensures expectations { self.new.expectations ≡ self.old.expectations }

@@ -52,8 +52,14 @@ impl TrainState {
         requires count { self.old.said < 4294967294 }
         requires book { IsBookOf line.now centre book.old }
         ensures exact { (k : spec.Centre) → HearsTrain line.now centre k t_train self.old book.old registrar.old
-            → step.effect line.now centre k (step.Train (record { t_train = t_train; nid_engine = self.old.supervision.engine; body = StartOfMission (is_valid q_status) (position_of position.now) }))
-            ≡ effect_left line.now centre self.old.supervision.engine (with_parts self.new book.new registrar.new k) result }
+            → step.effect line.now centre k
+            (step.Train (record {
+              t_train = t_train;
+              nid_engine = self.old.supervision.engine;
+              body = StartOfMission (is_valid q_status) (position_of position.now);
+            }))
+            ≡ effect_left line.now centre self.old.supervision.engine
+            (with_parts self.new book.new registrar.new k) result }
         ensures kept { KeepsTrain self.old self.new }
         ensures expectations { self.new.expectations ≡ self.old.expectations }
         ensures held { IsHeld line.now centre self.old → IsHeld line.now centre self.new }
@@ -83,8 +89,8 @@ impl TrainState {
         }
     }
 
-    // Within the hand of a train that is supervised here its mission goes on; another begins where its sections are released and
-    // the train's right is here, or waits for the right where that is registered elsewhere.
+    // Within the hand of a train that is supervised here its mission goes on; another begins where its sections are
+    // released and the train's right is here, or waits for the right where that is registered elsewhere.
     fn start(
         &mut self,
         line: &Line,
@@ -97,7 +103,8 @@ impl TrainState {
         requires book { IsBookOf line.now centre book.old }
         requires none { self.old.waiting.wait ≡ None }
         ensures exact { (k : spec.Centre) → HasParts line.now centre k self.old book.old registrar.old
-            → rules.start_mission line.now centre self.old.supervision.engine (is_valid q_status) (position_of position.now) k
+            → rules.start_mission line.now centre self.old.supervision.engine (is_valid q_status)
+            (position_of position.now) k
             ≡ started self.old.supervision.engine result (with_parts self.new book.new registrar.new k) }
         ensures same { self.new ≡ record self.old { supervision = self.new.supervision; waiting = self.new.waiting } }
         ensures kept { KeepsTrain self.old self.new }
@@ -139,7 +146,8 @@ impl TrainState {
         requires most { run.count ≤ 32 }
         requires numbers { run.first + run.count ≤ 65535 }
         requires open { IsAllOpen (run_of run) book.old }
-        ensures exact { (line : track.Line) (c : ℕ) (k : spec.Centre) → HasParts line c k self.old book.old registrar.old → run_of run ≡ covered line (place_of place)
+        ensures exact { (line : track.Line) (c : ℕ) (k : spec.Centre)
+            → HasParts line c k self.old book.old registrar.old → run_of run ≡ covered line (place_of place)
             → rules.start_here line self.old.supervision.engine (place_of place) k
             ≡ started self.old.supervision.engine result (with_parts self.new book.new registrar.new k) }
         ensures same { self.new ≡ record self.old { supervision = self.new.supervision } }

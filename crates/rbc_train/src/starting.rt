@@ -21,7 +21,8 @@ use rbc_vars::QStatus;
 
 /// The place of a start of mission that is fit (5.4).
 pub(crate) fn place_of_start(line: &Line, q_status: QStatus, position: &Position) -> Option<Place>
-    ensures value { option_map place_of result ≡ fit_place line.now (message.is_valid q_status) (position_of position.now) }
+    ensures value { option_map place_of result
+        ≡ fit_place line.now (message.is_valid q_status) (position_of position.now) }
     ensures fit { IfSome result (λ p. place.is_fit line.now (place_of p) ≡ true) }
 {
     let place = extent(line, position)?;

@@ -54,9 +54,9 @@ pub(crate) struct Coming {
 }
 
 impl TrainState {
-    /// Yield of a centre: where it is expected, and this centre has said that it takes over, the mission goes on here, with its sections and
-    /// with the right. The later of both stamps is kept, and the train is asked to end its authority before the first section of this home that
-    /// is wished back (3.8.6), where that may be asked.
+    /// Yield of a centre: where it is expected, and this centre has said that it takes over, the mission goes on here,
+    /// with its sections and with the right. The later of both stamps is kept, and the train is asked to end its
+    /// authority before the first section of this home that is wished back (3.8.6), where that may be asked.
     pub(crate) fn yielded(
         &mut self,
         line: &Line,
@@ -71,8 +71,11 @@ impl TrainState {
         requires place { HasPlaceRange (bodies.place_of coming.place) }
         requires hand { HasRunRange 1 32 (run_of coming.hand) }
         ensures exact { (k : spec.Centre) → HasParts line.now centre k self.old book.old registrar.now
-            → option_map_or (links.yielded line.now centre coming.from coming.number self.old.supervision.engine (run_of coming.hand) coming.heard coming.has_data coming.is_ended) (carried_place (bodies.place_of coming.place)) rest k
-            ≡ reply_left line.now centre self.old.supervision.engine (with_parts self.new book.new registrar.now k) result }
+            → option_map_or (links.yielded line.now centre coming.from coming.number self.old.supervision.engine
+            (run_of coming.hand) coming.heard coming.has_data coming.is_ended) (carried_place
+            (bodies.place_of coming.place)) rest k
+            ≡ reply_left line.now centre self.old.supervision.engine
+            (with_parts self.new book.new registrar.now k) result }
         ensures kept { KeepsTrain self.old self.new }
         ensures count { length self.new.expectations ≡ length self.old.expectations }
         ensures held { IsHeld line.now centre self.new }
@@ -93,9 +96,9 @@ impl TrainState {
         }
     }
 
-    // Whether the mission may go on here: the train is expected from that centre under this number, and it was told that this one is taking
-    // over; neither a mission nor the right is here; and each section may arrive, on the track of the place, whose group is on it and not
-    // behind its front.
+    // Whether the mission may go on here: the train is expected from that centre under this number, and it was told
+    // that this one is taking over; neither a mission nor the right is here; and each section may arrive, on the track
+    // of the place, whose group is on it and not behind its front.
     fn may_take(
         &self,
         line: &Line,
@@ -108,7 +111,8 @@ impl TrainState {
         requires book { IsBookOf line.now centre book.now }
         requires some { 1 ≤ coming.now.hand.count }
         ensures exact { (k : spec.Centre) → HasParts line.now centre k self.now book.now registrar.now
-            → result ≡ links.may_take line.now centre k coming.now.from coming.now.number self.now.supervision.engine (place_of place.now) (run_of coming.now.hand) }
+            → result ≡ links.may_take line.now centre k coming.now.from coming.now.number self.now.supervision.engine
+            (place_of place.now) (run_of coming.now.hand) }
         ensures none { result ≡ true → self.now.supervision.mission ≡ None }
         ensures line { result ≡ true → coming.now.hand.first + coming.now.hand.count ≤ length line.now.sections }
         ensures own { result ≡ true → (s : ℕ) → within (run_of coming.now.hand) s ≡ true → is_own book.now s ≡ true
@@ -127,10 +131,11 @@ impl TrainState {
         may_arrive(line, centre, book, train, coming.hand)
     }
 
-    // Whether the train is expected from that centre under this number, and it was told that this one is taking over; and neither a mission
-    // nor the right is here.
+    // Whether the train is expected from that centre under this number, and it was told that this one is taking over;
+    // and neither a mission nor the right is here.
     fn awaits(&self, registrar: &Registrar, from: u8, number: u32) -> bool
-        ensures { result ≡ (is_taking_under number (expected_from self.now.expectations from) && (is_none self.now.supervision.mission && not (is_here registrar.now self.now.supervision.number))) }
+        ensures { result ≡ (is_taking_under number (expected_from self.now.expectations from) &&
+            (is_none self.now.supervision.mission && not (is_here registrar.now self.now.supervision.number))) }
     {
         self.expectations.may_take(from, number)
             && (self.supervision.mission().is_none() && !registrar.has(self.supervision.number()))
@@ -141,12 +146,16 @@ impl TrainState {
         requires none { self.old.supervision.mission ≡ None }
         requires hand { HasRunRange 1 32 (run_of coming.hand) }
         requires line { coming.hand.first + coming.hand.count ≤ length line.now.sections }
-        requires own { (s : ℕ) → within (run_of coming.hand) s ≡ true → is_own book.old s ≡ true → spec.is_out_for self.old.supervision.engine (entry_at book.old s) ≡ true }
-        ensures left { self.new ≡ taken_up coming (place_of place) self.new.supervision.hand self.new.expectations self.old }
-        ensures expected { (d : ℕ) → expected_from self.new.expectations d ≡ put (expected_from self.old.expectations) coming.from None d }
+        requires own { (s : ℕ) → within (run_of coming.hand) s ≡ true → is_own book.old s ≡ true
+            → spec.is_out_for self.old.supervision.engine (entry_at book.old s) ≡ true }
+        ensures left { self.new
+            ≡ taken_up coming (place_of place) self.new.supervision.hand self.new.expectations self.old }
+        ensures expected { (d : ℕ)
+            → expected_from self.new.expectations d ≡ put (expected_from self.old.expectations) coming.from None d }
         ensures count { length self.new.expectations ≡ length self.old.expectations }
         ensures held { IsHeldBy self.old.supervision.engine self.new.supervision.hand book.new }
-        ensures book { IsBooked (spec.is_out_for self.old.supervision.engine) (spec.Taken self.old.supervision.engine) (run_of coming.hand) book.old book.new }
+        ensures book { IsBooked (spec.is_out_for self.old.supervision.engine) (spec.Taken self.old.supervision.engine)
+            (run_of coming.hand) book.old book.new }
     {
         let mission = MissionFacts {
             has_data: coming.has_data,
@@ -189,7 +198,8 @@ fn arriving_place(place: YieldedPlace) -> Option<Place>
 
 // Whether the sections are on the track of the place, and its group is on it too, and not behind its front.
 fn is_placed(line: &Line, place: &Place, hand: SectionRun) -> bool
-    ensures { result ≡ ((sections.is_on_track line.now place.now.track (run_of hand) && has (sections.is_on line.now place.now.track) (section_of_group line.now place.now.group))
+    ensures { result ≡ ((sections.is_on_track line.now place.now.track (run_of hand) && has
+        (sections.is_on line.now place.now.track) (section_of_group line.now place.now.group))
         && nat_le (10 * start_of_group line.now (place_of place.now)) place.now.front) }
 {
     (is_on_track(line, place.track, hand) && has_group_on_track(line, place))
@@ -199,7 +209,8 @@ fn is_placed(line: &Line, place: &Place, hand: SectionRun) -> bool
 // The first section of the run that is of this centre's home and wished back.
 fn first_wished(line: &Line, centre: u8, book: &Book, run: SectionRun) -> Option<u16>
     requires { run.first + run.count ≤ 65535 }
-    ensures { result ≡ find (λ s. is_home line.now centre s && wish_at book.now s) (range_with_len run.first run.count) }
+    ensures { result ≡ find (λ s. is_home line.now centre s && wish_at book.now s)
+        (range_with_len run.first run.count) }
 {
     for k in 0..run.count {
         let s = run.first + k;

@@ -117,7 +117,8 @@ impl TrainState {
         ensures phase { phase_of result.phase ≡ session_phase self.now.session_state }
         ensures heard { result.heard ≡ self.now.heard }
         ensures said { result.said ≡ self.now.said }
-        ensures mission { mission_by result.mission result.hand result.pool (handing_in self.now.supervision) ≡ self.now.supervision.mission }
+        ensures mission { mission_by result.mission result.hand result.pool (handing_in self.now.supervision)
+            ≡ self.now.supervision.mission }
         ensures waiting { option_map place_of result.waiting ≡ self.now.waiting.wait }
     {
         TrainPage {
@@ -136,8 +137,11 @@ impl TrainState {
         ensures number { result.number ≡ self.now.supervision.number }
         ensures engine { result.nid_engine ≡ self.now.supervision.engine }
         ensures phase { phase_of result.phase ≡ session_phase self.now.session_state }
-        ensures mission { mission_by result.mission result.hand result.pool (handing_in self.now.supervision) ≡ self.now.supervision.mission }
-        ensures route { (m : spec.Mission) → mission_by result.mission result.hand result.pool (handing_in self.now.supervision) ≡ Some m → HasRouteForm m }
+        ensures mission { mission_by result.mission result.hand result.pool (handing_in self.now.supervision)
+            ≡ self.now.supervision.mission }
+        ensures route { (m : spec.Mission)
+            → mission_by result.mission result.hand result.pool (handing_in self.now.supervision) ≡ Some m
+            → HasRouteForm m }
     {
         Train {
             number: self.supervision.number(),
@@ -180,7 +184,8 @@ impl TrainState {
     pub fn ask_back(&mut self, line: &Line, s: u16) -> Option<Saying>
         requires count { self.old.said < 4294967294 }
         ensures exact { (k : spec.Centre) → HasTrain k self.old.supervision.engine self.old
-            → propose_if_so line.now self.old.supervision.engine s k ≡ asked self.old.supervision.engine self.new (sayings_of result) k }
+            → propose_if_so line.now self.old.supervision.engine s k
+            ≡ asked self.old.supervision.engine self.new (sayings_of result) k }
         ensures session_state { self.new.session_state ≡ self.old.session_state }
         ensures heard { self.new.heard ≡ self.old.heard }
         ensures question { self.new.supervision.asked ≡ self.old.supervision.asked }

@@ -25,9 +25,12 @@ impl World {
         requires { c < length self.old.centres.items }
         ensures line { line_of self.new ≡ line_of self.old }
         ensures exact { Gives (λ a. (answer_of a, state_of self.new)) result
-            (takes (line_of self.old) (state_of self.old) c (mention (line_of self.old) message.nid_engine (state_of self.old).trains) (Train (step_message message))) }
+            (takes (line_of self.old) (state_of self.old) c
+            (mention (line_of self.old) message.nid_engine (state_of self.old).trains)
+            (Train (step_message message))) }
         // Memory is wanted only for a session, a frame or a first mention.
-        ensures memory { IfWanted result (MakesRoom (line_of self.old) (state_of self.old).trains (step_message message)) }
+        ensures memory { IfWanted result
+            (MakesRoom (line_of self.old) (state_of self.old).trains (step_message message)) }
         ensures err { OnErr result (state_of self.new ≡ state_of self.old) }
     {
         match self.line.train_number(message.nid_engine()) {
@@ -36,15 +39,19 @@ impl World {
         }
     }
 
-    // It is from the train with this place in the line file. Where it is the first mention of the train, room for that is made first.
+    // It is from the train with this place in the line file. Where it is the first mention of the train, room for that
+    // is made first.
     #[inline(always)]
     fn hear_from(&mut self, c: usize, i: u8, message: TrainMsg) -> Result<Answer, StepFault>
         requires centre { c < length self.old.centres.items }
         requires number { train_number (line_of self.old) message.nid_engine ≡ Some i }
         ensures line { line_of self.new ≡ line_of self.old }
         ensures exact { Gives (λ a. (answer_of a, state_of self.new)) result
-            (takes (line_of self.old) (state_of self.old) c (mention (line_of self.old) message.nid_engine (state_of self.old).trains) (Train (step_message message))) }
-        ensures memory { IfWanted result (MakesRoom (line_of self.old) (state_of self.old).trains (step_message message)) }
+            (takes (line_of self.old) (state_of self.old) c
+            (mention (line_of self.old) message.nid_engine (state_of self.old).trains)
+            (Train (step_message message))) }
+        ensures memory { IfWanted result
+            (MakesRoom (line_of self.old) (state_of self.old).trains (step_message message)) }
         ensures err { OnErr result (state_of self.new ≡ state_of self.old) }
     {
         let is_first = is_first_mention(&self.named, i as usize);
@@ -67,8 +74,11 @@ impl World {
         requires foreign { train_number (line_of self.old) message.nid_engine ≡ None }
         ensures line { line_of self.new ≡ line_of self.old }
         ensures exact { Gives (λ a. (answer_of a, state_of self.new)) result
-            (takes (line_of self.old) (state_of self.old) c (mention (line_of self.old) message.nid_engine (state_of self.old).trains) (Train (step_message message))) }
-        ensures memory { IfWanted result (MakesRoom (line_of self.old) (state_of self.old).trains (step_message message)) }
+            (takes (line_of self.old) (state_of self.old) c
+            (mention (line_of self.old) message.nid_engine (state_of self.old).trains)
+            (Train (step_message message))) }
+        ensures memory { IfWanted result
+            (MakesRoom (line_of self.old) (state_of self.old).trains (step_message message)) }
         ensures err { OnErr result (state_of self.new ≡ state_of self.old) }
     {
         let outcome = self.centres[c].hear(&message)?;
@@ -109,7 +119,8 @@ fn add_mention(
 )
     requires room { is_first ≡ true → 0 < spare trains.old }
     requires number { i < length named.old.items }
-    ensures trains { trains.new.keys ≡ (if is_first then insert_key nat_eq trains.old.keys nid_engine else trains.old.keys) }
+    ensures trains { trains.new.keys
+        ≡ (if is_first then insert_key nat_eq trains.old.keys nid_engine else trains.old.keys) }
     ensures named { named.new.items ≡ (if is_first then set named.old.items i true else named.old.items) }
 {
     if is_first {

@@ -18,7 +18,8 @@ impl World {
     pub(crate) fn set(&mut self, c: u8, s: u16) -> Result<Answer, StepFault>
         ensures line { line_of self.new ≡ line_of self.old }
         ensures exact { Gives (λ a. (answer_of a, state_of self.new)) result
-            (at_centre (line_of self.old) (state_of self.old) c (takes (line_of self.old) (state_of self.old) c (state_of self.old).trains (Set s))) }
+            (at_centre (line_of self.old) (state_of self.old) c
+            (takes (line_of self.old) (state_of self.old) c (state_of self.old).trains (Set s))) }
         ensures memory { IsWantedBy ((state_of self.old).at c) (Set s) result }
         ensures err { OnErr result (state_of self.new ≡ state_of self.old) }
     {
@@ -34,7 +35,8 @@ impl World {
     pub(crate) fn unset(&mut self, c: u8, s: u16) -> Result<Answer, StepFault>
         ensures line { line_of self.new ≡ line_of self.old }
         ensures exact { Gives (λ a. (answer_of a, state_of self.new)) result
-            (at_centre (line_of self.old) (state_of self.old) c (takes (line_of self.old) (state_of self.old) c (state_of self.old).trains (Unset s))) }
+            (at_centre (line_of self.old) (state_of self.old) c
+            (takes (line_of self.old) (state_of self.old) c (state_of self.old).trains (Unset s))) }
         ensures memory { IsWantedBy ((state_of self.old).at c) (Unset s) result }
         ensures err { OnErr result (state_of self.new ≡ state_of self.old) }
     {

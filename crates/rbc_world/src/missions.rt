@@ -21,7 +21,8 @@ use rbc_linkmsg::YieldedPlace;
 use rbc_place::Place;
 
 impl World {
-    // The mission of a train, as the centre has it that supervises the train, and else as the frame has it that hands it over.
+    // The mission of a train, as the centre has it that supervises the train, and else as the frame has it that hands
+    // it over.
     pub(crate) fn mission_view(&self, nid_engine: u32) -> Option<MissionView>
         ensures { option_map held_shown result ≡ held (line_of self.now) (state_of self.now) nid_engine }
     {
@@ -82,7 +83,8 @@ impl World {
         None
     }
 
-    // The mission that the first Yield of a train carries that is on the way from one centre to another: sent, and not taken yet.
+    // The mission that the first Yield of a train carries that is on the way from one centre to another: sent, and not
+    // taken yet.
     fn mission_between(&self, from: u8, to: u8, nid_engine: u32) -> Option<MissionView>
         requires from { from < length self.now.centres.items }
         requires to { to < length self.now.centres.items }
@@ -100,7 +102,9 @@ impl World {
 
     // The mission of a train that the frame hands over that one centre sent to another under this number.
     fn mission_in(&self, from: u8, to: u8, number: u32, nid_engine: u32) -> Option<MissionView>
-        ensures { option_map held_shown result ≡ option_and_then (λ f. read.handed_over nid_engine f.body) (frame_sent (state_of self.now) from to number) }
+        ensures { option_map held_shown result
+            ≡ option_and_then (λ f. read.handed_over nid_engine f.body)
+            (frame_sent (state_of self.now) from to number) }
     {
         let frame = self.frame_sent(from, to, number)?;
         handed_over(nid_engine, frame.body())

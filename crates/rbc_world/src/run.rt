@@ -39,31 +39,41 @@ impl World {
     /// Runs the events one after another, from the line's beginning, and stops at the first refusal.
     pub fn run(alloc: Global, line: &Line, events: &[WorldEvent]) -> Result<Outputs, StepFault>
         // What the centres answer and hold is a run of the one line centre.
-        ensures run { IfOk result (λ o. IsLineRun line.now (map event_of events.now) (map answer_of o.answers.items) (state_of o.world)) }
-        // By what they were told no two trains may run over one section, and none over one that the interlocking has not released, or has had back.
+        ensures run { IfOk result
+            (λ o. IsLineRun line.now (map event_of events.now) (map answer_of o.answers.items) (state_of o.world)) }
+        // By what they were told no two trains may run over one section, and none over one that the interlocking has
+        // not released, or has had back.
         ensures outside { IfOk result (λ o. IsSafeOutside line.now
             (sees_all line.now (map event_of events.now) (map answer_of o.answers.items) nothing_seen)) }
         // It ends in the state that is read off them.
-        ensures last { IfOk result (λ o. line_run.Run line.now line_beginning (map event_of events.now) (map answer_of o.answers.items) (read_off line.now (state_of o.world))) }
-        // So each train has one supervisor at most, each section one train, and no section in use and no right is lost or in two places.
+        ensures last { IfOk result
+            (λ o. line_run.Run line.now line_beginning (map event_of events.now) (map answer_of o.answers.items)
+            (read_off line.now (state_of o.world))) }
+        // So each train has one supervisor at most, each section one train, and no section in use and no right is lost
+        // or in two places.
         ensures sound { IfOk result (λ o. IsSound line.now (state_of o.world)) }
         // On a one-centre line the run leaves no choice.
         ensures one_centre { (c : ℕ) → IsOneCentreLine line.now c
-            → IfOk result (λ o. IsOneCentreRun line.now (map event_of events.now) (map answer_of o.answers.items) (state_of o.world)) }
+            → IfOk result (λ o. IsOneCentreRun line.now (map event_of events.now) (map answer_of o.answers.items)
+            (state_of o.world)) }
         ensures one_centre_last { (c : ℕ) → IsOneCentreLine line.now c
-            → IfOk result (λ o. ForcedRun line.now line_beginning (map event_of events.now) (map answer_of o.answers.items) (read_off line.now (state_of o.world))) }
+            → IfOk result (λ o. ForcedRun line.now line_beginning (map event_of events.now)
+            (map answer_of o.answers.items) (read_off line.now (state_of o.world))) }
         // The trains are those that messages at centres of the line named, each once, by first mention.
-        ensures trains { IfOk result (λ o. (state_of o.world).trains ≡ all_named line.now (map event_of events.now) []) }
+        ensures trains { IfOk result
+            (λ o. (state_of o.world).trains ≡ all_named line.now (map event_of events.now) []) }
         // But for want of memory a run is refused exactly where one of its steps is.
         ensures refused { IfErr result (IsRefusedRun line.now (map event_of events.now)) }
-        ensures exact { Gives (λ o. (map answer_of o.answers.items, state_of o.world)) result (world_run line.now (new_world line.now) (map event_of events.now)) }
+        ensures exact { Gives (λ o. (map answer_of o.answers.items, state_of o.world)) result
+            (world_run line.now (new_world line.now) (map event_of events.now)) }
     {
         known_line(line);
         World::outputs(alloc, line, events)
     }
 
     fn outputs(alloc: Global, line: &Line, events: &[WorldEvent]) -> Result<Outputs, StepFault>
-        ensures { Gives (λ o. (map answer_of o.answers.items, state_of o.world)) result (world_run line.now (new_world line.now) (map event_of events.now)) }
+        ensures { Gives (λ o. (map answer_of o.answers.items, state_of o.world)) result
+            (world_run line.now (new_world line.now) (map event_of events.now)) }
     {
         let mut world = World::new(alloc, line)?;
         let mut answers = Vec::with_capacity(alloc, events.len())?;

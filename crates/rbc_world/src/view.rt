@@ -80,7 +80,8 @@ pub struct TrainView {
 }
 
 impl TrainView {
-    /// The number of the centre that supervises the train. None where it has no mission, or its mission is on the way between two.
+    /// The number of the centre that supervises the train. None where it has no mission, or its mission is on the way
+    /// between two.
     pub fn supervisor(&self) -> Option<u8>
         ensures { result ≡ seat_of self.now }
     {
@@ -115,7 +116,8 @@ impl World {
     pub fn view(&self, alloc: Global) -> Result<LineView, AllocError>
         ensures shows { IfOk result (Shows (line_of self.now) (read_off (line_of self.now) (state_of self.now))) }
         // That state stands for the centres and those frames.
-        ensures stands { StandsFor (line_of self.now) (state_of self.now) (read_off (line_of self.now) (state_of self.now)) }
+        ensures stands { StandsFor (line_of self.now) (state_of self.now)
+            (read_off (line_of self.now) (state_of self.now)) }
         // Some list of events led from the line's beginning to the centres as they are.
         ensures reached { ∥ WasReached (line_of self.now) (state_of self.now) ∥₁ }
     {
@@ -131,7 +133,9 @@ impl World {
         trains: &[TrainView],
     ) -> Result<Vec<SectionView>, AllocError>
         requires { AreTrainsSeen (line_of self.now) (state_of self.now) trains.now }
-        ensures { IfOk result (λ views. EachOf (λ s p. ShowsSection (read_off (line_of self.now) (state_of self.now)) s p) (length (line_of self.now).sections) views.items) }
+        ensures { IfOk result
+            (λ views. EachOf (λ s p. ShowsSection (read_off (line_of self.now) (state_of self.now)) s p)
+            (length (line_of self.now).sections) views.items) }
     {
         let count = self.line.section_count();
         let mut views = Vec::with_capacity(alloc, count as usize)?;
@@ -159,7 +163,8 @@ impl World {
     // A section of home c.
     fn seen_at(&self, c: u8, s: u16, trains: &[TrainView]) -> SectionView
         requires { AreTrainsSeen (line_of self.now) (state_of self.now) trains.now }
-        ensures mark { mark_shown result.mark ≡ shown (((state_of self.now).at c).book s) (is_in_its_hand (line_of self.now) (state_of self.now) s) }
+        ensures mark { mark_shown result.mark
+            ≡ shown (((state_of self.now).at c).book s) (is_in_its_hand (line_of self.now) (state_of self.now) s) }
         ensures wish { result.is_wished ≡ ((state_of self.now).at c).wish s }
     {
         let page = self.page_at(c, s);
@@ -169,7 +174,8 @@ impl World {
         }
     }
 
-    // What a section is used for of which its home's book has this. In use, it is in its train's movement authority, or kept for it.
+    // What a section is used for of which its home's book has this. In use, it is in its train's movement authority, or
+    // kept for it.
     fn mark_at(&self, s: u16, entry: Entry, trains: &[TrainView]) -> Mark
         requires { AreTrainsSeen (line_of self.now) (state_of self.now) trains.now }
         ensures { mark_shown result ≡ shown (entry_of entry) (is_in_its_hand (line_of self.now) (state_of self.now) s) }
@@ -229,7 +235,9 @@ impl World {
     }
 
     fn session_views(&self, alloc: Global, nid_engine: u32) -> Result<Vec<SessionView>, AllocError>
-        ensures { IfOk result (λ views. EachOf (λ c p. ShowsSession (read_off (line_of self.now) (state_of self.now)) nid_engine c p) (length (line_of self.now).centres) views.items) }
+        ensures { IfOk result
+            (λ views. EachOf (λ c p. ShowsSession (read_off (line_of self.now) (state_of self.now)) nid_engine c p)
+            (length (line_of self.now).centres) views.items) }
     {
         let mut views = Vec::with_capacity(alloc, self.centres.len())?;
         for c in 0..self.centres.len() {

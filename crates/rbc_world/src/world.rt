@@ -71,7 +71,8 @@ impl World {
         &self.trains
     }
 
-    /// Takes an event, and answers it. A refusal, for want of memory, of stamps or of a link's numbers, changes nothing.
+    /// Takes an event, and answers it. A refusal, for want of memory, of stamps or of a link's numbers, changes
+    /// nothing.
     pub fn step(&mut self, event: &WorldEvent) -> Result<Answer, StepFault>
         ensures line { line_of self.new ≡ line_of self.old }
         // What is answered and left is what the definition of a world's step gives.
@@ -83,19 +84,25 @@ impl World {
         // Some list of events led from the line's beginning to the world that is left.
         ensures reached { ∥ WasReached (line_of self.new) (state_of self.new) ∥₁ }
         // The state that is read off the centres stands for them, whatever was refused before.
-        ensures stands { StandsFor (line_of self.new) (state_of self.new) (read_off (line_of self.new) (state_of self.new)) }
-        // So each train has one supervisor at most, each section one train, and no section in use and no right is lost or in two places.
+        ensures stands { StandsFor (line_of self.new) (state_of self.new)
+            (read_off (line_of self.new) (state_of self.new)) }
+        // So each train has one supervisor at most, each section one train, and no section in use and no right is lost
+        // or in two places.
         ensures sound { IsSound (line_of self.new) (state_of self.new) }
         // A section leaves an authority only by what its train said, and the interlocking is told what is so.
-        ensures promises { IfOk result (λ a. KeepsPromises (line_of self.old) (state_of self.old) (event_of event.now) (answer_of a) (state_of self.new)) }
-        // By what they were told, behind whatever led here, no two trains may run over one section, and none over one that is not released.
-        ensures outside { IfOk result (λ a. StaysSafeOutside (line_of self.old) (state_of self.old) (event_of event.now) (answer_of a)) }
+        ensures promises { IfOk result
+            (λ a. KeepsPromises (line_of self.old) (state_of self.old) (event_of event.now) (answer_of a)
+            (state_of self.new)) }
+        // By what they were told, behind whatever led here, no two trains may run over one section, and none over one
+        // that is not released.
+        ensures outside { IfOk result
+            (λ a. StaysSafeOutside (line_of self.old) (state_of self.old) (event_of event.now) (answer_of a)) }
         // On a one-centre line the piece leaves no choice.
         ensures one_centre { (c : ℕ) → IsOneCentreLine (line_of self.old) c
             → IfOk result (λ a. GoesForced (line_of self.old) (read_off (line_of self.old) (state_of self.old))
             (event_of event.now) (answer_of a) (read_off (line_of self.old) (state_of self.new))) }
-        // Memory is wanted only by a train's bytes at a centre of the line, for packets that are kept, a session, a frame or a first mention,
-        // by a section that is out, and by a frame that is the next of its link.
+        // Memory is wanted only by a train's bytes at a centre of the line, for packets that are kept, a session, a
+        // frame or a first mention, by a section that is out, and by a frame that is the next of its link.
         ensures memory { IfWanted result (TakesMemory (line_of self.old) (state_of self.old) event.now) }
         ensures err { OnErr result (state_of self.new ≡ state_of self.old) }
     {
@@ -124,7 +131,8 @@ impl World {
         requires { MayBeTold (state_of self.old) c event.now }
         ensures line { line_of self.new ≡ line_of self.old }
         ensures exact { Gives (λ a. (answer_of a, state_of self.new)) result
-            (at_centre (line_of self.old) (state_of self.old) c (takes (line_of self.old) (state_of self.old) c (state_of self.old).trains (one_event event.now))) }
+            (at_centre (line_of self.old) (state_of self.old) c
+            (takes (line_of self.old) (state_of self.old) c (state_of self.old).trains (one_event event.now))) }
         ensures memory { one_step.IsWantedBy ((state_of self.old).at c) (one_event event.now) result }
         ensures err { OnErr result (state_of self.new ≡ state_of self.old) }
     {
@@ -168,7 +176,9 @@ impl World {
         ensures line { line_of self.new ≡ line_of self.old }
         ensures exact { Gives (λ a. (answer_of a, state_of self.new)) result
             (world_step (line_of self.old) (state_of self.old) (Bytes c (numbered (read_train bytes.now)))) }
-        ensures memory { IfWanted result ((is_centre (line_of self.old) c ≡ true) × BytesTakeMemory (line_of self.old) (state_of self.old).trains (read_train bytes.now)) }
+        ensures memory { IfWanted result
+            ((is_centre (line_of self.old) c ≡ true)
+            × BytesTakeMemory (line_of self.old) (state_of self.old).trains (read_train bytes.now)) }
         ensures err { OnErr result (state_of self.new ≡ state_of self.old) }
     {
         if c as usize >= self.centres.len() {
@@ -198,7 +208,8 @@ fn none_named(alloc: Global, line: &Line) -> Result<Vec<bool>, AllocError>
 // The centres of the line, in order.
 fn centres_of(alloc: Global, line: &Line) -> Result<Vec<Centre>, AllocError>
     ensures count { IfOk result (λ centres. length centres.items ≡ length line.now.centres) }
-    ensures each { IfOk result (λ centres. (c : ℕ) → (k : Centre) → slice_get centres.items c ≡ Some k → AtBeginning line.now c k) }
+    ensures each { IfOk result
+        (λ centres. (c : ℕ) → (k : Centre) → slice_get centres.items c ≡ Some k → AtBeginning line.now c k) }
 {
     let mut centres = Vec::new(alloc);
     for c in 0..line.centre_count() {
