@@ -6,4 +6,5 @@ pub mod Writes
 pub mod Neighbours
 pub mod Appends
 pub mod Opens
+pub mod Uses
 pub mod Sheets

@@ -9,7 +9,7 @@ use Rattle.rbc_book.specs.Runs.{At, AreInOrder, AreApart, GoesOn, GoesOnAt, sect
 use Rattle.rbc_book.specs.Edits.{before, from, is_inside, split_at, joined, joined_at, with_page, IsSingledOut, IsWritten}
 use Rattle.rbc_book.specs.declared.page.Page.{Page}
 use Rattle.rbc_book.specs.declared.run.Run.{Run}
-use Rattle.rbc_book.proofs.Rows.{at_is, at_next, order_at, most_is, spot_of_run}
+use Rattle.rbc_book.proofs.Rows.{at_is, spot_of_run}
 use Rattle.rbc_book.proofs.Splits.{inside_from, split-outside, at_first, at_second, single_first, single_inside}
 use Rattle.rbc_book.proofs.Joins.{goes_on_at}
 use Rattle.rbc_book.proofs.Writes.{written_behind}

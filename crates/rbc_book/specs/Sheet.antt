@@ -2,7 +2,7 @@
 use Rattle.std.specs.Prelude.{ℕ, ◌==◌, Bool, false, List, map, slice_get, Option, Some, None, option_map, option_and_then, if◌then◌else◌}
 use Rattle.std.specs.Option.{option_map_or}
 use Rattle.rbc_spec.specs.Line.{Line, section}
-use Rattle.rbc_spec.specs.Centre.{is_open}
+use Rattle.rbc_spec.specs.Centre.{is_open, is_used_for}
 use Rattle.rbc_book.specs.Entries.{entry_of}
 use Rattle.rbc_book.specs.declared.page.Page.{Page}
 
@@ -21,6 +21,10 @@ track_in spot = option_map (λ s. s.track) spot
 abbrev pub is_open_in : Option Spot → Bool
 is_open_in spot = option_map_or (λ s. is_open (entry_of s.page.entry)) spot false
 
+-- a section has a page, and is in use for a train
+abbrev pub is_used_in : ℕ → Option Spot → Bool
+is_used_in t spot = option_map_or (λ s. is_used_for t (entry_of s.page.entry)) spot false
+
 -- of each section, by its number, its page and track, where it has one
 abbrev pub Sheet : Type 0
 Sheet = List (Option Spot)
@@ -36,6 +40,9 @@ track_on sheet s = track_in (spot_on sheet s)
 
 abbrev pub is_open_on : Sheet → ℕ → Bool
 is_open_on sheet s = is_open_in (spot_on sheet s)
+
+abbrev pub is_used_on : ℕ → Sheet → ℕ → Bool
+is_used_on t sheet s = is_used_in t (spot_on sheet s)
 
 -- the pages of a sheet
 abbrev pub pages_on : Sheet → List (Option Page)

@@ -1,4 +1,4 @@
-ghost use Rattle.std.specs.Prelude.{◌≡◌, ℕ, ◌==◌, ◌&&◌, not, true, false, if◌then◌else◌, IfOk, OnErr, MatchResult};
+ghost use Rattle.std.specs.Prelude.{◌≡◌, ℕ, ◌==◌, ◌&&◌, not, true, false, if◌then◌else◌, IfOk, OnErr, MatchResult, IfSome, None};
 ghost use Rattle.rbc_spec.specs.Centre as spec;
 ghost use Rattle.rbc_spec.specs.Line.{is_home};
 ghost use Rattle.rbc_spec.specs.SectionRuns.{longest};
@@ -29,7 +29,7 @@ impl Model for Book {
 }
 
 impl Book {
-    ghost use Rattle.rbc_spec.specs.Centre.{is_open, is_unused, is_out_for};
+    ghost use Rattle.rbc_spec.specs.Centre.{is_open, is_unused, is_out_for, is_used_for};
     ghost use Rattle.rbc_book.specs.Entries.{entry_of};
     ghost use Rattle.rbc_book.specs.Book.{is_own, entry_at, wish_at};
     ghost use Rattle.rbc_book.specs.Claim.{section_of, train_of, claim_if, is_taken_by};
@@ -67,6 +67,14 @@ impl Book {
         ensures { result ≡ longest (λ s. is_open (entry_at self.now s)) first most }
     {
         self.runs.open_run(first, most)
+    }
+
+    /// A section that is in use for the train, here or at another centre. None exactly where none is.
+    pub fn section_in_use(&self, nid_engine: u32) -> Option<u16>
+        ensures some { IfSome result (λ s. is_used_for nid_engine (entry_at self.now s) ≡ true) }
+        ensures none { result ≡ None → (s : ℕ) → is_used_for nid_engine (entry_at self.now s) ≡ false }
+    {
+        self.runs.section_in_use(nid_engine)
     }
 
     // Finds a section, so that what reads or writes it next has it at once.

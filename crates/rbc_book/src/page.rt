@@ -14,7 +14,7 @@ pub enum Entry {
 }
 
 impl Entry {
-    ghost use Rattle.rbc_spec.specs.Centre.{is_open, is_unused, is_taken_for, is_out_for};
+    ghost use Rattle.rbc_spec.specs.Centre.{is_open, is_unused, is_taken_for, is_out_for, is_used_for};
     ghost use Rattle.rbc_book.specs.Entries.{entry_of};
 
     /// Whether the section is released and in no use.
@@ -29,6 +29,16 @@ impl Entry {
         ensures { result ≡ is_unused (entry_of self) }
     {
         matches!(self, Entry::Shut | Entry::Open)
+    }
+
+    /// Whether the section is in use for this train, here or at another centre.
+    pub fn is_used_for(self, train: u32) -> bool
+        ensures { result ≡ is_used_for train (entry_of self) }
+    {
+        match self {
+            Entry::Taken { nid_engine } | Entry::Out { nid_engine } => nid_engine == train,
+            _ => false,
+        }
     }
 
     /// Whether the section is in use for this train, with its claim at this centre.

@@ -1,7 +1,7 @@
-ghost use Rattle.std.specs.Prelude.{◌≡◌, ℕ, IfOk, IfSome, Option, None, Some, option_map, length, is_some, true};
+ghost use Rattle.std.specs.Prelude.{◌≡◌, ℕ, IfOk, IfSome, Option, None, Some, option_map, length, is_some, true, false};
 ghost use Rattle.rbc_spec.specs.SectionRuns.{longest, within};
 ghost use Rattle.rbc_spec.specs.Maps.{put};
-ghost use Rattle.rbc_book.specs.Sheet.{spot_on, page_on, track_on, is_open_on, home_track};
+ghost use Rattle.rbc_book.specs.Sheet.{spot_on, page_on, track_on, is_open_on, is_used_in, is_used_on, home_track};
 ghost use Rattle.rbc_book.specs.Runs.{At, AreInOrder, IsRunOf, sections_of, spot_at};
 
 use crate::edits::{append, run_at, write_at};
@@ -82,6 +82,14 @@ impl Runs {
         most
     }
 
+    /// A section that is in use for the train.
+    pub(crate) fn section_in_use(&self, nid_engine: u32) -> Option<u16>
+        ensures some { IfSome result (λ s. is_used_on nid_engine self.now s ≡ true) }
+        ensures none { result ≡ None → (s : ℕ) → is_used_on nid_engine self.now s ≡ false }
+    {
+        first_in_use(&self.runs, nid_engine)
+    }
+
     /// Finds a section, so that what reads or writes it next has it at once.
     pub(crate) fn seek(&mut self, s: u16)
         ensures { self.new ≡ self.old }
@@ -152,6 +160,21 @@ fn search(runs: &[Run], s: u16) -> Option<usize>
     } else {
         None
     }
+}
+
+// The first section of the first run that is in use for the train.
+fn first_in_use(runs: &[Run], nid_engine: u32) -> Option<u16>
+    requires { AreInOrder 0 runs.now }
+    ensures some { IfSome result (λ s. is_used_in nid_engine (spot_at runs.now s) ≡ true) }
+    ensures none { result ≡ None → (s : ℕ) → is_used_in nid_engine (spot_at runs.now s) ≡ false }
+{
+    for i in 0..runs.len() {
+        let run = runs[i];
+        if run.page.entry.is_used_for(nid_engine) {
+            return Some(run.first);
+        }
+    }
+    None
 }
 
 // The track of a section, where its home is the centre.

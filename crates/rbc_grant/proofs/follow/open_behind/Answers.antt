@@ -1,4 +1,4 @@
-use Rattle.std.proofs.Common.{◌≡◌, ◌+◌, ◌≤◌, ap, ◌∙◌, arith}
+use Rattle.std.proofs.Common.{◌+◌, arith}
 use Rattle.rbc_spec.specs.Centre.{is_open}
 use Rattle.rbc_spec.specs.SectionRuns.{behind}
 use Rattle.law_base.proofs.Longest.{longest_each}
