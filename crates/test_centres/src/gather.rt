@@ -40,6 +40,17 @@ fn is_run(alloc: Global, events: &[WorldEvent], entries: &[Entry]) -> Result<boo
     Ok(answers.len() == entries.len() && answers.iter().zip(entries).all(|(a, e)| is_answer(a, e)))
 }
 
+// The same, and whether the entries have these centres and stamps.
+fn is_run_with(
+    alloc: Global,
+    events: &[WorldEvent],
+    entries: &[Entry],
+    stamps: &[(u8, u32)],
+) -> Result<bool, Fail> {
+    let seen = stamps_of(alloc, entries)?;
+    Ok(seen.as_slice() == stamps && is_run(alloc, events, entries)?)
+}
+
 fn is_answer(answer: &Answer, entry: &Entry) -> bool {
     match answer {
         Answer::Outcome(outcome) => outcome.is_same(&entry.outcome),
@@ -96,10 +107,8 @@ fn sets_in_the_world(alloc: Global) -> Result<Vec<WorldEvent>, Fail> {
 fn what_two_centres_take_side_by_side_is_one_run(rt: HostRuntime) -> Result<(), Fail> {
     let (entries, gave_up, taken) = side_by_side(&rt, rt.alloc())?;
     assert!(rt; (gave_up, taken) == (false, (true, true)));
-    let stamps = stamps_of(rt.alloc(), &entries)?;
-    assert!(rt; stamps.as_slice() == [(A, 1), (B, 1)].as_slice());
     let events = sets_in_the_world(rt.alloc())?;
-    assert!(rt; is_run(rt.alloc(), &events, &entries)?);
+    assert!(rt; is_run_with(rt.alloc(), &events, &entries, &[(A, 1), (B, 1)])?);
     Ok(())
 }
 
@@ -206,11 +215,9 @@ fn a_node_shows_the_frame_that_it_sent(rt: HostRuntime) -> Result<(), Fail> {
     let asks = Frame::new(1, 4, Body::AskRight { engine: 2 });
     let gives = Frame::new(1, 5, Body::GiveRight { engine: 2 });
     assert!(rt; frames == [NOTHING, first_alone(asks), NOTHING, first_alone(gives)]);
-    let stamps = stamps_of(rt.alloc(), &entries)?;
-    let wanted = [(A, 1), (A, 2), (A, 3), (A, 4), (B, 5), (A, 6)];
-    assert!(rt; stamps.as_slice() == wanted.as_slice());
     let events = start_in_the_world(rt.alloc())?;
-    assert!(rt; is_run(rt.alloc(), &events, &entries)?);
+    let stamps = [(A, 1), (A, 2), (A, 3), (A, 4), (B, 5), (A, 6)];
+    assert!(rt; is_run_with(rt.alloc(), &events, &entries, &stamps)?);
     Ok(())
 }
 

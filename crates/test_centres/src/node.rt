@@ -1,21 +1,31 @@
 use crate::nodes::{A, Held, both, node_of};
 use rbc_centre::{Event, Outcome, Word};
 use rbc_node::{Node, Open, Share, ShareFault};
+use std::alloc::Global;
 use std::sync::Wait;
 use std::sync::atomic::Ordering;
 use std::test::*;
 use std::thread;
 use std::thread::Threads;
 
+// A takes two sets with its share, and refuses one with B's: the stamps; how many receipts A's share has, and the place and the stamp of the
+// last; and why the third is refused.
+fn taken_and_refused<R: Wait>(
+    rt: &R,
+    alloc: Global,
+) -> Result<([u32; 2], (usize, usize, u32), ShareFault), Fail> {
+    let (a, b) = both(alloc)?;
+    let mut share = a.share();
+    let first = stamp_of(rt, &a, &mut share, 0)?;
+    let second = stamp_of(rt, &a, &mut share, 0)?;
+    let third = refused(rt, &a, &mut b.share(), 0)?;
+    Ok(([first, second], last_of(&share)?, third))
+}
+
 #[test]
 fn a_share_of_another_centre_is_stray(rt: HostRuntime) -> Result<(), Fail> {
-    let (a, b) = both(rt.alloc())?;
-    let mut share = a.share();
-    let first = stamp_of(&rt, &a, &mut share, 0)?;
-    let second = stamp_of(&rt, &a, &mut share, 0)?;
-    assert!(rt; (first, second) == (1, 2));
-    assert!(rt; last_of(&share)? == (2, 1, 2));
-    let third = refused(&rt, &a, &mut b.share(), 0)?;
+    let (stamps, last, third) = taken_and_refused(&rt, rt.alloc())?;
+    assert!(rt; (stamps, last) == ([1, 2], (2, 1, 2)));
     assert!(rt; (third, third.number()) == (ShareFault::Stray, 5));
     Ok(())
 }
@@ -49,17 +59,26 @@ fn last_of(share: &Share) -> Result<(usize, usize, u32), Fail> {
     Ok((share.receipts().len(), last.place, last.outcome.stamp))
 }
 
+// A share with a receipt of A comes to A as it begins again: before that has taken anything, and behind another set. Why it is refused each
+// time, and how many receipts it has then.
+fn refused_where_a_begins_again<R: Wait>(
+    rt: &R,
+    alloc: Global,
+) -> Result<([ShareFault; 2], usize), Fail> {
+    let a = node_of(alloc, A)?;
+    let begun_again = node_of(alloc, A)?;
+    let mut share = a.share();
+    stamp_of(rt, &a, &mut share, 0)?;
+    let lacking = refused(rt, &begun_again, &mut share, 0)?;
+    stamp_of(rt, &begun_again, &mut begun_again.share(), 1)?;
+    let differing = refused(rt, &begun_again, &mut share, 0)?;
+    Ok(([lacking, differing], share.receipts().len()))
+}
+
 #[test]
 fn a_share_is_stray_where_its_last_receipt_is_not(rt: HostRuntime) -> Result<(), Fail> {
-    let a = node_of(rt.alloc(), A)?;
-    let begun_again = node_of(rt.alloc(), A)?;
-    let mut share = a.share();
-    stamp_of(&rt, &a, &mut share, 0)?;
-    let lacking = refused(&rt, &begun_again, &mut share, 0)?;
-    stamp_of(&rt, &begun_again, &mut begun_again.share(), 1)?;
-    let differing = refused(&rt, &begun_again, &mut share, 0)?;
-    assert!(rt; (lacking, differing) == (ShareFault::Stray, ShareFault::Stray));
-    assert!(rt; share.receipts().len() == 1);
+    let seen = refused_where_a_begins_again(&rt, rt.alloc())?;
+    assert!(rt; seen == ([ShareFault::Stray, ShareFault::Stray], 1));
     Ok(())
 }
 
@@ -98,20 +117,33 @@ fn set_side_by_side<R: Threads + Wait + Sync>(
     )
 }
 
-#[test]
-fn a_commit_waits_for_the_lock_of_its_centre_alone(rt: HostRuntime) -> Result<(), Fail> {
-    let (a, b) = both(rt.alloc())?;
+/// Whether the gate gave up, and how many commits are over.
+type Gated = (bool, u32);
+
+fn gated(gate: &Held) -> Gated {
+    (
+        gate.gave_up.load(Ordering::SeqCst),
+        gate.over.load(Ordering::SeqCst),
+    )
+}
+
+/// What comes of the sets, what the gate saw, and how many receipts the shares have.
+type SideBySide = ((Done, (Done, Done)), Gated, (usize, usize));
+
+fn side_by_side<R: Threads + Wait + Sync>(rt: &R, alloc: Global) -> Result<SideBySide, Fail> {
+    let (a, b) = both(alloc)?;
     let mut of_a = a.share();
     let mut of_b = b.share();
     let gate = Held::new();
-    let (first, others) = set_side_by_side(&rt, &gate, (&a, &mut of_a), (&b, &mut of_b));
-    assert!(rt;
-        (
-            gate.gave_up.load(Ordering::SeqCst),
-            gate.over.load(Ordering::SeqCst)
-        ) == (false, 2)
-    );
-    assert!(rt; (first, others) == (Some((1, 0)), (Some((1, 2)), Some((2, 1)))));
-    assert!(rt; (of_a.receipts().len(), of_b.receipts().len()) == (1, 1));
+    let sets = set_side_by_side(rt, &gate, (&a, &mut of_a), (&b, &mut of_b));
+    let receipts = (of_a.receipts().len(), of_b.receipts().len());
+    Ok((sets, gated(&gate), receipts))
+}
+
+#[test]
+fn a_commit_waits_for_the_lock_of_its_centre_alone(rt: HostRuntime) -> Result<(), Fail> {
+    let (sets, gate, receipts) = side_by_side(&rt, rt.alloc())?;
+    assert!(rt; sets == (Some((1, 0)), (Some((1, 2)), Some((2, 1)))));
+    assert!(rt; (gate, receipts) == ((false, 2), (1, 1)));
     Ok(())
 }

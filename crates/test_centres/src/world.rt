@@ -53,10 +53,8 @@ fn a_right_is_asked_for_and_given_between_centres(rt: HostRuntime) -> Result<(),
     let (asked, given, sayings, again) = played(rt.alloc())?;
     let asks = Frame::new(1, 4, Body::AskRight { engine: 2 });
     let gives = Frame::new(1, 5, Body::GiveRight { engine: 2 });
-    assert!(rt; asked == Some(asks));
-    assert!(rt; given == (Some(LinkAnswer::Next), Some(gives)));
-    assert!(rt; sayings == 1);
-    assert!(rt; again == (Some(LinkAnswer::Old), true));
+    assert!(rt; (asked, given) == (Some(asks), (Some(LinkAnswer::Next), Some(gives))));
+    assert!(rt; (sayings, again) == (1, (Some(LinkAnswer::Old), true)));
     Ok(())
 }
 

@@ -114,11 +114,6 @@ fn count<T>(counts: &mut Counts, read: &Result<T, MsgFault>) {
 // What pieces of each kind are to a centre, which reads what trains send.
 fn read_as_of_trains(alloc: Global) -> Result<Counts, Fail> {
     let mut hostile = Hostile::new(alloc)?;
-    let messages = [
-        bytes_of(alloc, TRAIN_DATA)?,
-        bytes_of(alloc, REQUEST)?,
-        bytes_of(alloc, INITIATION)?,
-    ];
     let mut counts = [0; 9];
     for _ in 0..TRIES {
         count(&mut counts, &decode_train(alloc, &hostile.piece(alloc)?));
@@ -126,14 +121,24 @@ fn read_as_of_trains(alloc: Global) -> Result<Counts, Fail> {
             &mut counts,
             &decode_train(alloc, &hostile.headed(alloc, &OF_TRAINS)?),
         );
-        for message in &messages {
-            count(
-                &mut counts,
-                &decode_train(alloc, &hostile.bent(alloc, message)?),
-            );
+        for digits in [TRAIN_DATA, REQUEST, INITIATION] {
+            read_bent(alloc, &mut hostile, digits, &mut counts)?;
         }
     }
     Ok(counts)
+}
+
+// What a good message of a train is with some bytes changed.
+fn read_bent(
+    alloc: Global,
+    hostile: &mut Hostile,
+    digits: &str,
+    counts: &mut Counts,
+) -> Result<(), Fail> {
+    let message = bytes_of(alloc, digits)?;
+    let bent = hostile.bent(alloc, &message)?;
+    count(counts, &decode_train(alloc, &bent));
+    Ok(())
 }
 
 // Memory is at hand, so that want of it is never told; all else comes.
