@@ -2,13 +2,14 @@
 
 use crate::files::Files;
 use crate::run::line_in;
-use cli_picture::{Cut, picture, picture_page};
+use cli_picture::picture;
+use cli_replay::{Cut, page_of};
 use cli_status::Fault;
 use std::alloc::Global;
 use std::io::Write;
 
-/// Draws the time-distance diagram of what `run` or `serve` has printed for a line, as far as the cut says, as an SVG document
-/// or in an HTML page.
+/// Draws what `run` or `serve` has printed for a line, as far as the cut says: the time-distance diagram as an SVG document, or
+/// an HTML page with the line behind each event.
 pub fn draw_printed<'a, F: Files, O: Write>(
     alloc: Global,
     file: &'a str,
@@ -23,7 +24,7 @@ pub fn draw_printed<'a, F: Files, O: Write>(
         return Err(Fault::CannotRead(printed));
     };
     let drawn = if is_html {
-        picture_page(alloc, &line, text.as_str(), cut)?
+        page_of(alloc, &line, text.as_str(), cut)?
     } else {
         picture(alloc, &line, text.as_str(), cut)?
     };

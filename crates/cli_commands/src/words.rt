@@ -1,7 +1,7 @@
 use crate::forms::rbcline;
 use clap::error::ErrorKind;
 use clap::{ArgMatches, Error};
-use cli_picture::Cut;
+use cli_replay::Cut;
 use cli_status::Fault;
 use std::alloc::{AllocError, Global};
 use std::convert::AsStr;

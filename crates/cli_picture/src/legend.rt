@@ -8,7 +8,7 @@ use rbc_world::{LineView, Mark};
 use std::alloc::AllocError;
 
 // The signs, each with where it lies and what it means.
-const SIGNS: [(Sign, u64, &str); 5] = [
+static SIGNS: [(Sign, u64, &str); 5] = [
     (Sign::Asked, 338, "9: asked to end earlier"),
     (Sign::Granted, 492, "137: does so"),
     (Sign::Dropped, 592, "the request ends so"),
@@ -17,7 +17,7 @@ const SIGNS: [(Sign, u64, &str); 5] = [
 ];
 
 // What has a box of its own look, each with where it lies and what it means.
-const LOOKS: [(&str, u64, &str); 4] = [
+static LOOKS: [(&str, u64, &str); 4] = [
     ("bar kept", 20, "kept for it"),
     ("bar wished", 130, "wished back"),
     ("wait", 238, "start that waits"),

@@ -6,7 +6,6 @@
 #![tactic(auto)]
 
 mod bars;
-mod cut;
 mod draw;
 mod events;
 mod fronts;
@@ -14,19 +13,16 @@ mod grid;
 mod heard;
 mod legend;
 mod marks;
-mod page;
 mod played;
 mod run;
 mod scale;
 mod seats;
-mod stretch;
 mod style;
 
 use crate::draw::draw;
-use crate::page::draw_page;
 use crate::played::played;
+use cli_replay::Cut;
 use cli_status::Fault;
-pub use cut::Cut;
 use rbc_line::Line;
 use std::alloc::Global;
 
@@ -41,15 +37,4 @@ pub fn picture(
 ) -> Result<String, Fault<'static>> {
     let run = played(alloc, line, printed, cut)?;
     Ok(draw(alloc, &run)?)
-}
-
-/// The same diagram in an HTML page, with a slider over its events. Errors as those of `picture`.
-pub fn picture_page(
-    alloc: Global,
-    line: &Line,
-    printed: &str,
-    cut: Cut,
-) -> Result<String, Fault<'static>> {
-    let run = played(alloc, line, printed, cut)?;
-    Ok(draw_page(alloc, &run)?)
 }

@@ -1,11 +1,11 @@
-use crate::handovers::Handovers;
-use crate::layout::layout_of;
 use crate::news::News;
 use crate::seen::see_centre;
+use crate::sent::Sent;
+use cli_page::{CentreNow, Layout, LineNow, LinkNow, MissionNow, SectionNow, Usage};
+use cli_replay::layout_of;
 use cli_status::Fault;
 use rbc_line::Line;
 use rbc_node::Node;
-use serve_page::{CentreNow, Layout, LineNow, LinkNow, SectionNow, Usage};
 use std::alloc::{AllocError, Global};
 use std::sync::Wait;
 
@@ -14,7 +14,7 @@ use std::sync::Wait;
 pub struct Glance {
     pub layout: Layout,
     pub now: LineNow,
-    handovers: Handovers,
+    sent: Sent,
     news: News,
 }
 
@@ -24,7 +24,7 @@ impl Glance {
         Ok(Glance {
             layout: layout_of(alloc, line, ports)?,
             now: nothing_of(alloc, line)?,
-            handovers: Handovers::new(alloc, line)?,
+            sent: Sent::new(alloc, line)?,
             news: News::new(alloc, line)?,
         })
     }
@@ -42,14 +42,39 @@ impl Glance {
             let look = node.look(rt);
             let log = look.log();
             see_centre(line, log, &mut now)?;
-            self.handovers.read_on(line, log.core());
+            self.sent.read_on(line, log.core());
             self.news.read_on(alloc, line, log)?;
         }
-        self.handovers.add(&mut now);
+        self.sent.add_handovers(&mut now);
+        mark_given(&mut now);
         now.last = self.news.tell(alloc, line)?;
         self.now = now;
         Ok(())
     }
+}
+
+// Of the sections that are kept, those in a train's movement authority are given.
+fn mark_given(now: &mut LineNow) {
+    for (s, section) in now.sections.iter_mut().enumerate() {
+        if let Usage::Kept { nid_engine } = section.usage {
+            if has_in_hand(&now.missions, nid_engine, s) {
+                section.usage = Usage::Given { nid_engine };
+            }
+        }
+    }
+}
+
+// Whether the train of this engine has the section in its movement authority.
+fn has_in_hand(missions: &[Option<MissionNow>], nid_engine: u32, section: usize) -> bool {
+    for mission in missions {
+        match mission {
+            Some(mission) if mission.nid_engine == nid_engine => {
+                return mission.hand.contains(section);
+            }
+            _ => {}
+        }
+    }
+    false
 }
 
 // The line of which nothing was seen.

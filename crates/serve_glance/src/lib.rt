@@ -5,9 +5,8 @@
 #![tactic(auto)]
 
 mod glance;
-mod handovers;
-mod layout;
 mod news;
 mod seen;
+mod sent;
 
 pub use glance::Glance;

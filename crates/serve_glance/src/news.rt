@@ -1,6 +1,7 @@
 use cli_print::{name_of, print_event, print_outcome};
+use cli_replay::rows_in_words;
 use cli_status::Fault;
-use cli_words::{line_in_words, number_of_train};
+use cli_words::number_of_train;
 use rbc_centre::{Body, Event, FrameRoom, StepFault};
 use rbc_line::Line;
 use rbc_log::{CentreLog, Entry};
@@ -87,18 +88,8 @@ fn in_words(alloc: Global, line: &Line, entry: &Entry) -> Result<String, Fault<'
     let name = name_of(line, entry.centre);
     print_outcome(alloc, &mut printed, line, name, &entry.outcome)?;
     let stamp = entry.outcome.stamp;
-    let mut words = format!(in alloc; "{stamp}")?;
-    let Ok(printed) = std::str::from_utf8(printed.as_slice()) else {
-        return Ok(words);
-    };
-    for row in printed.split('\n') {
-        if let Some(told) = line_in_words(alloc, line, row)? {
-            let who = told.who.as_str();
-            let what = told.what.as_str();
-            write!(words, " · {who}: {what}")?;
-        }
-    }
-    Ok(words)
+    let words = rows_in_words(alloc, line, printed.as_slice())?;
+    Ok(format!(in alloc; "{stamp} · {words}")?)
 }
 
 // Whether an event is worth a person's while: reports and requests of a train that runs on as it should are not, and of what comes over links

@@ -1,10 +1,11 @@
 //! What one centre shows.
 
+use cli_page::{LineNow, SectionNow, SessionNow, Usage};
+use cli_replay::{mission_now, phase_now};
 use rbc_book::Entry;
-use rbc_centre::{Centre, Phase as SessionPhase, SectionRun, TrainPage};
+use rbc_centre::{Centre, TrainPage};
 use rbc_line::Line;
 use rbc_log::CentreLog;
-use serve_page::{LineNow, MissionNow, Phase, Run, SectionNow, SessionNow, Usage};
 use std::alloc::AllocError;
 
 /// Adds what a centre has of its own sections, of its trains, and of its life.
@@ -53,11 +54,12 @@ fn see_sections(line: &Line, centre: &Centre, now: &mut LineNow) {
     }
 }
 
+// What a section is used for, where no movement authority is known.
 fn usage_of(entry: Entry) -> Usage {
     match entry {
         Entry::Shut => Usage::Shut,
         Entry::Open => Usage::Open,
-        Entry::Taken { nid_engine } | Entry::Out { nid_engine } => Usage::Taken { nid_engine },
+        Entry::Taken { nid_engine } | Entry::Out { nid_engine } => Usage::Kept { nid_engine },
     }
 }
 
@@ -78,28 +80,7 @@ fn see_mission(centre: u8, i: u8, nid_engine: u32, page: &TrainPage, now: &mut L
     let (Some(facts), Some(place)) = (page.mission, now.missions.get_mut(i as usize)) else {
         return;
     };
-    *place = Some(MissionNow {
-        nid_engine,
-        supervisor: centre,
-        handover: None,
-        track: facts.place.track,
-        front: facts.place.front,
-        rear: facts
-            .place
-            .rear
-            .map(|rear| u32::try_from(rear).unwrap_or(0)),
-        hand: run_of(page.hand),
-        pool: run_of(page.pool),
-        asked: facts.proposal.map(|proposal| proposal.last_kept),
-        is_ended: facts.is_ended,
-    });
-}
-
-fn run_of(run: SectionRun) -> Run {
-    Run {
-        first: run.first,
-        count: run.count,
-    }
+    *place = Some(mission_now(nid_engine, Some(centre), &facts, page.hand, page.pool));
 }
 
 fn see_session(
@@ -108,11 +89,8 @@ fn see_session(
     page: &TrainPage,
     now: &mut LineNow,
 ) -> Result<(), AllocError> {
-    let phase = match page.phase {
-        _ if page.waiting.is_some() => Phase::Waiting,
-        SessionPhase::Closed => return Ok(()),
-        SessionPhase::Opened => Phase::Opened,
-        SessionPhase::Up => Phase::Up,
+    let Some(phase) = phase_now(page.phase, page.waiting.is_some()) else {
+        return Ok(());
     };
     now.sessions.push(SessionNow {
         nid_engine,

@@ -4,18 +4,9 @@
 //! Bodies are free. What is answered is fixed by docs/FORMATS.md.
 #![tactic(auto)]
 
-mod look;
-mod page;
 mod reply;
 mod request;
-mod rows;
-mod sections;
-mod sheet;
-mod view;
 
+pub use cli_page::CentreNow;
 pub use reply::{answer, refusal};
 pub use request::{Asked, MOST_REQUEST, Refusal, asked_of};
-pub use view::{
-    CentreNow, Layout, LineNow, LinkNow, MissionNow, Phase, Place, Run, SectionNow, SessionNow,
-    Usage,
-};

@@ -3,9 +3,8 @@
 ghost use Rattle.std.specs.Prelude.{◌≡◌, string_bytes, IfOk};
 ghost use Rattle.serve_page.specs.Replies.{refusal_text, IsAnswer, HasBody, answer_of};
 
-use crate::page::{line_json, now_json, whole_page};
 use crate::request::{Asked, Refusal};
-use crate::view::{Layout, LineNow};
+use cli_page::{Layout, LineNow, line_json, live_page, now_json};
 use std::alloc::{AllocError, Global};
 
 const HTML: &str =
@@ -67,7 +66,7 @@ pub fn answer(
     match asked {
         Asked::More => Ok(String::new(alloc)),
         Asked::Refused(why) => String::from_str(alloc, refusal(why)),
-        Asked::Page => found(alloc, HTML, whole_page(alloc, layout, now)?.as_str()),
+        Asked::Page => found(alloc, HTML, live_page(alloc, layout, now)?.as_str()),
         Asked::Line => found(alloc, JSON, line_json(alloc, layout)?.as_str()),
         Asked::Now {
             since: Some(events),

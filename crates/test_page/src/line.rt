@@ -1,6 +1,6 @@
 //! A line of two centres, with a train that has sections 0 and 1 of four.
 
-use serve_page::{
+use cli_page::{
     CentreNow, Layout, LineNow, LinkNow, MissionNow, Phase, Place, Run, SectionNow, SessionNow,
     Usage,
 };
@@ -43,8 +43,9 @@ pub fn now(alloc: Global) -> Result<LineNow, AllocError> {
         links: Vec::new(alloc),
         last: Vec::new(alloc),
     };
-    let taken = Usage::Taken { nid_engine: 19 };
-    for usage in [taken, taken, taken, Usage::Shut] {
+    let given = Usage::Given { nid_engine: 19 };
+    let kept = Usage::Kept { nid_engine: 19 };
+    for usage in [given, given, kept, Usage::Shut] {
         now.sections.push(SectionNow {
             usage,
             is_wished: false,
@@ -66,7 +67,7 @@ pub fn now(alloc: Global) -> Result<LineNow, AllocError> {
 fn mission() -> MissionNow {
     MissionNow {
         nid_engine: 19,
-        supervisor: 0,
+        supervisor: Some(0),
         handover: Some(1),
         track: 0,
         front: 1_234,

@@ -101,6 +101,9 @@ fn no_text_ends_its_place(rt: HostRuntime) -> Result<(), Fail> {
         page.as_str()
             .contains("<td>4 · &lt;b&gt;\"A\\B\"&lt;/b&gt; &amp; more\n")
     );
-    assert!(rt; json.as_str().contains("[\"4 · <b> A B </b> & more\"]"));
+    assert!(rt;
+        json.as_str()
+            .contains("[\"4 · \\u003cb> A B \\u003c/b> & more\"]")
+    );
     Ok(())
 }

@@ -1,0 +1,60 @@
+//! The page of a running line, and what its script asks for.
+
+use crate::look::{DRAW, FOLLOW, HEAD, REFRESH, STYLE};
+use crate::rows::{add_now, name_of};
+use crate::sections::add_places;
+use crate::sheet::{Form, Sheet};
+use crate::view::{Layout, LineNow};
+use std::alloc::{AllocError, Global};
+
+/// What does not change while the centres run.
+pub fn line_json(alloc: Global, layout: &Layout) -> Result<String, AllocError> {
+    let mut sheet = Sheet::new(alloc, Form::Json);
+    add_line(&mut sheet, layout)?;
+    let nid_c = layout.nid_c;
+    let rest = sheet.into_text();
+    format!(in alloc; "{{\"nid_c\":{nid_c}{rest}}}\n")
+}
+
+/// Writes what does not change of the line.
+pub(crate) fn add_line(sheet: &mut Sheet, layout: &Layout) -> Result<(), AllocError> {
+    add_names(sheet, "tracks", "track", &layout.tracks)?;
+    add_names(sheet, "centres", "centre", &layout.centres)?;
+    add_places(sheet, layout)
+}
+
+fn add_names(
+    sheet: &mut Sheet,
+    table: &str,
+    column: &str,
+    names: &[String],
+) -> Result<(), AllocError> {
+    sheet.begin(table, &[column])?;
+    for number in 0..names.len() {
+        sheet.row(&[name_of(names, number)])?;
+    }
+    sheet.end()
+}
+
+/// What is so now.
+pub fn now_json(alloc: Global, layout: &Layout, now: &LineNow) -> Result<String, AllocError> {
+    let mut sheet = Sheet::new(alloc, Form::Json);
+    add_now(&mut sheet, layout, now)?;
+    let events = now.events;
+    let stopped = now.is_stopped;
+    let rest = sheet.into_text();
+    format!(in alloc; "{{\"events\":{events},\"stopped\":{stopped}{rest}}}\n")
+}
+
+/// The whole page. It loads nothing from elsewhere. Its script draws what it asks for once a second; without it, the tables stand there, and the
+/// page asks for itself again every two seconds.
+pub fn live_page(alloc: Global, layout: &Layout, now: &LineNow) -> Result<String, AllocError> {
+    let mut sheet = Sheet::new(alloc, Form::Html);
+    add_now(&mut sheet, layout, now)?;
+    let nid_c = layout.nid_c;
+    let events = now.events;
+    let tables = sheet.into_text();
+    format!(in alloc;
+        "{HEAD}{REFRESH}{STYLE}<h1>Line of NID_C {nid_c}</h1><p id=\"lost\" role=\"alert\"></p></header><main><p>{events} events so far. Each centre is shown at a moment of its own.</p>{tables}</main><script>{DRAW}{FOLLOW}</script></body></html>\n"
+    )
+}

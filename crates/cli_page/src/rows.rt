@@ -1,0 +1,176 @@
+//! What is so now, as tables.
+
+use crate::sections::add_sections;
+use crate::sheet::{Cell, Sheet};
+use crate::view::{Layout, LineNow, MissionNow, Phase, Run};
+use std::alloc::AllocError;
+
+/// Writes all that is so now.
+pub(crate) fn add_now(sheet: &mut Sheet, layout: &Layout, now: &LineNow) -> Result<(), AllocError> {
+    add_state(sheet, layout, now)?;
+    add_centres(sheet, layout, now)?;
+    add_links(sheet, layout, now)?;
+    add_last(sheet, now)
+}
+
+/// Writes the trains, the sections and the sessions.
+pub(crate) fn add_state(
+    sheet: &mut Sheet,
+    layout: &Layout,
+    now: &LineNow,
+) -> Result<(), AllocError> {
+    add_missions(sheet, layout, now)?;
+    add_sections(sheet, layout, now)?;
+    add_sessions(sheet, layout, now)
+}
+
+/// The name of this number, or nothing.
+pub(crate) fn name_of(names: &[String], number: usize) -> Cell<'_> {
+    match names.get(number) {
+        Some(name) => Cell::Text(name.as_str()),
+        None => Cell::Nothing,
+    }
+}
+
+/// This number, or nothing.
+pub(crate) fn number_of(number: Option<u32>) -> Cell<'static> {
+    match number {
+        Some(number) => Cell::Number(u64::from(number)),
+        None => Cell::Nothing,
+    }
+}
+
+/// What is shown of a mission.
+pub(crate) static MISSION: [&str; 12] = [
+    "train",
+    "supervisor",
+    "handover_to",
+    "track",
+    "rear_m",
+    "front_m",
+    "first",
+    "last",
+    "lent_first",
+    "lent_last",
+    "asked_to_keep",
+    "ended",
+];
+
+fn add_missions(sheet: &mut Sheet, layout: &Layout, now: &LineNow) -> Result<(), AllocError> {
+    sheet.begin("trains", &MISSION)?;
+    for mission in now.missions.iter() {
+        if let Some(mission) = mission {
+            sheet.row(&cells_of(layout, mission))?;
+        }
+    }
+    sheet.end()
+}
+
+/// A mission, by the columns of `MISSION`.
+pub(crate) fn cells_of<'a>(layout: &'a Layout, mission: &MissionNow) -> [Cell<'a>; 12] {
+    let [first, last] = ends_of(mission.hand);
+    let [lent_first, lent_last] = ends_of(mission.pool);
+    [
+        Cell::Number(u64::from(mission.nid_engine)),
+        centre_of(layout, mission.supervisor),
+        centre_of(layout, mission.handover),
+        name_of(&layout.tracks, mission.track as usize),
+        match mission.rear {
+            Some(rear) => Cell::Tenths(u64::from(rear)),
+            None => Cell::Nothing,
+        },
+        Cell::Tenths(u64::from(mission.front)),
+        first,
+        last,
+        lent_first,
+        lent_last,
+        section(mission.asked),
+        Cell::Number(u64::from(mission.is_ended)),
+    ]
+}
+
+// The name of a centre, or nothing.
+fn centre_of(layout: &Layout, centre: Option<u8>) -> Cell<'_> {
+    match centre {
+        Some(centre) => name_of(&layout.centres, centre as usize),
+        None => Cell::Nothing,
+    }
+}
+
+// The first and the last section, if there are any.
+fn ends_of(run: Run) -> [Cell<'static>; 2] {
+    match run.last() {
+        Some(last) => [section(Some(run.first)), section(Some(last))],
+        None => [Cell::Nothing; 2],
+    }
+}
+
+fn section(number: Option<u16>) -> Cell<'static> {
+    match number {
+        Some(number) => Cell::Number(u64::from(number)),
+        None => Cell::Nothing,
+    }
+}
+
+fn add_sessions(sheet: &mut Sheet, layout: &Layout, now: &LineNow) -> Result<(), AllocError> {
+    sheet.begin("sessions", &["train", "centre", "state"])?;
+    for session in now.sessions.iter() {
+        sheet.row(&[
+            Cell::Number(u64::from(session.nid_engine)),
+            name_of(&layout.centres, session.centre as usize),
+            words_of(session.phase),
+        ])?;
+    }
+    sheet.end()
+}
+
+/// How far a session has come, in words.
+pub(crate) fn words_of(phase: Phase) -> Cell<'static> {
+    Cell::Text(match phase {
+        Phase::Opened => "opened",
+        Phase::Up => "up",
+        Phase::Waiting => "start waits",
+    })
+}
+
+static CENTRE: [&str; 6] = ["centre", "port", "entries", "clock", "connections", "seats"];
+
+fn add_centres(sheet: &mut Sheet, layout: &Layout, now: &LineNow) -> Result<(), AllocError> {
+    sheet.begin("centres", &CENTRE)?;
+    for (number, centre) in now.centres.iter().enumerate() {
+        sheet.row(&[
+            name_of(&layout.centres, number),
+            match layout.ports.get(number) {
+                Some(port) => Cell::Number(u64::from(*port)),
+                None => Cell::Nothing,
+            },
+            Cell::Number(centre.entries),
+            Cell::Number(u64::from(centre.clock)),
+            Cell::Number(centre.taken),
+            Cell::Number(centre.seats),
+        ])?;
+    }
+    sheet.end()
+}
+
+fn add_links(sheet: &mut Sheet, layout: &Layout, now: &LineNow) -> Result<(), AllocError> {
+    sheet.begin("links", &["from", "to", "sent", "taken"])?;
+    for link in now.links.iter() {
+        sheet.row(&[
+            name_of(&layout.centres, link.from as usize),
+            name_of(&layout.centres, link.to as usize),
+            Cell::Number(u64::from(link.sent)),
+            Cell::Number(u64::from(link.taken)),
+        ])?;
+    }
+    sheet.end()
+}
+
+/// Writes the last events.
+pub(crate) fn add_last(sheet: &mut Sheet, now: &LineNow) -> Result<(), AllocError> {
+    sheet.begin("last", &["event"])?;
+    for event in now.last.iter() {
+        sheet.row(&[Cell::Text(event.as_str())])?;
+    }
+    sheet.end()
+}

@@ -1,0 +1,127 @@
+//! The sections. Those that follow each other and have all alike are one row.
+
+use crate::rows::{name_of, number_of};
+use crate::sheet::{Cell, Sheet};
+use crate::view::{Layout, LineNow, SectionNow, Usage};
+use std::alloc::AllocError;
+
+/// Sections that follow each other and have all alike.
+#[derive(Clone, Copy)]
+struct Stretch {
+    first: usize,
+    last: usize,
+    start: u64,
+    end: u64,
+    look: Look,
+}
+
+/// What sections of one stretch have alike.
+#[derive(Clone, Copy, PartialEq, Eq)]
+struct Look {
+    track: u8,
+    home: u8,
+    now: SectionNow,
+}
+
+static COLUMNS: [&str; 9] = [
+    "first", "last", "track", "from_m", "to_m", "home", "state", "train", "wished",
+];
+
+/// Writes all sections.
+pub(crate) fn add_sections(
+    sheet: &mut Sheet,
+    layout: &Layout,
+    now: &LineNow,
+) -> Result<(), AllocError> {
+    sheet.begin("sections", &COLUMNS)?;
+    let mut held: Option<Stretch> = None;
+    for s in 0..layout.sections.len() {
+        if let Some(next) = stretch_at(layout, now, s) {
+            held = match held {
+                Some(stretch) if stretch.look == next.look => Some(Stretch {
+                    last: next.last,
+                    end: next.end,
+                    ..stretch
+                }),
+                other => {
+                    add_stretch(sheet, layout, other)?;
+                    Some(next)
+                }
+            };
+        }
+    }
+    add_stretch(sheet, layout, held)?;
+    sheet.end()
+}
+
+// One section.
+fn stretch_at(layout: &Layout, now: &LineNow, s: usize) -> Option<Stretch> {
+    let place = layout.sections.get(s)?;
+    let now = *now.sections.get(s)?;
+    let start = u64::from(place.start);
+    Some(Stretch {
+        first: s,
+        last: s,
+        start,
+        end: start + u64::from(place.metres),
+        look: Look {
+            track: place.track,
+            home: place.home,
+            now,
+        },
+    })
+}
+
+fn add_stretch(
+    sheet: &mut Sheet,
+    layout: &Layout,
+    stretch: Option<Stretch>,
+) -> Result<(), AllocError> {
+    let Some(stretch) = stretch else {
+        return Ok(());
+    };
+    let look = stretch.look;
+    let [state, train, wished] = state_of(look.now);
+    sheet.row(&[
+        Cell::Number(stretch.first as u64),
+        Cell::Number(stretch.last as u64),
+        name_of(&layout.tracks, look.track as usize),
+        Cell::Number(stretch.start),
+        Cell::Number(stretch.end),
+        name_of(&layout.centres, look.home as usize),
+        state,
+        train,
+        wished,
+    ])
+}
+
+/// What a section is used for, for which train, and whether it is wished back.
+pub(crate) fn state_of(now: SectionNow) -> [Cell<'static>; 3] {
+    let (state, train) = match now.usage {
+        Usage::Shut => ("shut", None),
+        Usage::Open => ("open", None),
+        Usage::Kept { nid_engine } => ("kept", Some(nid_engine)),
+        Usage::Given { nid_engine } => ("given", Some(nid_engine)),
+    };
+    [
+        Cell::Text(state),
+        number_of(train),
+        Cell::Number(u64::from(now.is_wished)),
+    ]
+}
+
+/// Writes where each section lies.
+pub(crate) fn add_places(sheet: &mut Sheet, layout: &Layout) -> Result<(), AllocError> {
+    sheet.begin("sections", &["section", "track", "from_m", "to_m", "home"])?;
+    for (s, place) in layout.sections.iter().enumerate() {
+        let start = u64::from(place.start);
+        sheet.row(&[
+            Cell::Number(s as u64),
+            name_of(&layout.tracks, place.track as usize),
+            Cell::Number(start),
+            Cell::Number(start + u64::from(place.metres)),
+            name_of(&layout.centres, place.home as usize),
+        ])?;
+    }
+    sheet.end()
+}

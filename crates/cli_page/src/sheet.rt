@@ -1,0 +1,160 @@
+//! Tables, which are written as JSON for a program or as HTML for a person. As JSON a table is a list of rows, the first of which has the
+//! names of the columns.
+
+use std::alloc::{AllocError, Global};
+
+#[derive(Clone, Copy)]
+pub(crate) enum Form {
+    Json,
+    Html,
+}
+
+/// What stands in one place of a table.
+#[derive(Clone, Copy)]
+pub(crate) enum Cell<'a> {
+    Nothing,
+    Number(u64),
+    /// A number of tenths.
+    Tenths(u64),
+    Text(&'a str),
+}
+
+/// A text to which tables are written.
+#[derive(Drop)]
+pub(crate) struct Sheet {
+    form: Form,
+    text: String,
+}
+
+impl Sheet {
+    pub fn new(alloc: Global, form: Form) -> Sheet {
+        Sheet {
+            form,
+            text: String::new(alloc),
+        }
+    }
+
+    /// Begins a table.
+    pub fn begin(&mut self, name: &str, columns: &[&str]) -> Result<(), AllocError> {
+        self.name(name)?;
+        self.heads(0, columns)?;
+        self.end_row()
+    }
+
+    /// Begins a table, each row of which stands behind the number of an event.
+    pub fn begin_at(&mut self, name: &str, columns: &[&str]) -> Result<(), AllocError> {
+        self.name(name)?;
+        self.heads(0, &["event"])?;
+        self.heads(1, columns)?;
+        self.end_row()
+    }
+
+    /// Writes a row.
+    pub fn row(&mut self, cells: &[Cell<'_>]) -> Result<(), AllocError> {
+        self.begin_row()?;
+        self.cells(0, cells)?;
+        self.end_row()
+    }
+
+    /// Writes a row behind the number of an event.
+    pub fn row_at(&mut self, event: u64, cells: &[Cell<'_>]) -> Result<(), AllocError> {
+        self.begin_row()?;
+        self.cells(0, &[Cell::Number(event)])?;
+        self.cells(1, cells)?;
+        self.end_row()
+    }
+
+    /// Ends a table.
+    pub fn end(&mut self) -> Result<(), AllocError> {
+        self.text.push_str(match self.form {
+            Form::Json => "]",
+            Form::Html => "</table>\n",
+        })
+    }
+
+    /// The text.
+    pub fn into_text(self) -> String {
+        self.text
+    }
+
+    fn name(&mut self, name: &str) -> Result<(), AllocError> {
+        match self.form {
+            Form::Json => write!(self.text, ",\n\"{name}\":[["),
+            Form::Html => write!(self.text, "<h2>{name}</h2><table><tr>"),
+        }
+    }
+
+    // Names of columns, the first of which has this number.
+    fn heads(&mut self, first: usize, columns: &[&str]) -> Result<(), AllocError> {
+        for (number, column) in columns.iter().enumerate() {
+            self.between(first.saturating_add(number), "<th>")?;
+            self.cell(Cell::Text(column))?;
+        }
+        Ok(())
+    }
+
+    fn begin_row(&mut self) -> Result<(), AllocError> {
+        self.text.push_str(match self.form {
+            Form::Json => ",[",
+            Form::Html => "<tr>",
+        })
+    }
+
+    // Cells, the first of which has this number in its row.
+    fn cells(&mut self, first: usize, cells: &[Cell<'_>]) -> Result<(), AllocError> {
+        for (number, cell) in cells.iter().enumerate() {
+            self.between(first.saturating_add(number), "<td>")?;
+            self.cell(*cell)?;
+        }
+        Ok(())
+    }
+
+    // What stands before the cell of this number.
+    fn between(&mut self, number: usize, mark: &str) -> Result<(), AllocError> {
+        match self.form {
+            Form::Json if number == 0 => Ok(()),
+            Form::Json => self.text.push(','),
+            Form::Html => self.text.push_str(mark),
+        }
+    }
+
+    fn end_row(&mut self) -> Result<(), AllocError> {
+        match self.form {
+            Form::Json => self.text.push(']'),
+            Form::Html => self.text.push('\n'),
+        }
+    }
+
+    fn cell(&mut self, cell: Cell<'_>) -> Result<(), AllocError> {
+        match (cell, self.form) {
+            (Cell::Nothing, Form::Json) => self.text.push_str("null"),
+            (Cell::Nothing, Form::Html) => Ok(()),
+            (Cell::Number(number), _) => write!(self.text, "{number}"),
+            (Cell::Tenths(tenths), _) => {
+                let (ones, rest) = (tenths / 10, tenths % 10);
+                write!(self.text, "{ones}.{rest}")
+            }
+            (Cell::Text(text), Form::Html) => self.put(text),
+            (Cell::Text(text), Form::Json) => {
+                self.text.push('"')?;
+                self.put(text)?;
+                self.text.push('"')
+            }
+        }
+    }
+
+    // Writes a text. What could end it in JSON is written as a blank: no name has it, and no event in words. JSON has no `<`, so it ends no element of a page.
+    fn put(&mut self, text: &str) -> Result<(), AllocError> {
+        for letter in text.chars() {
+            match (letter, self.form) {
+                ('<', Form::Html) => self.text.push_str("&lt;")?,
+                ('>', Form::Html) => self.text.push_str("&gt;")?,
+                ('&', Form::Html) => self.text.push_str("&amp;")?,
+                ('<', Form::Json) => self.text.push_str("\\u003c")?,
+                ('"' | '\\' | '\0'..='\u{1f}', Form::Json) => self.text.push(' ')?,
+                (other, _) => self.text.push(other)?,
+            }
+        }
+        Ok(())
+    }
+}
