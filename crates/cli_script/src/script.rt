@@ -30,8 +30,10 @@ pub enum ScriptFault {
 
 /// Why a line of a script is refused.
 #[derive(Clone, Copy)]
-enum EntryFault {
+pub enum EntryFault {
+    /// Memory ran out.
     Memory,
+    /// The line has no form that a script may have.
     Form,
 }
 
@@ -111,7 +113,7 @@ fn is_kept(row: &str) -> bool
 
 /// What a line that is not skipped asks for.
 #[tactic(auto, unfolding(crate::specs::Script::row_asks))]
-fn entry_of(alloc: Global, line: &Line, row: &str) -> Result<Entry, EntryFault>
+pub fn entry_of(alloc: Global, line: &Line, row: &str) -> Result<Entry, EntryFault>
     ensures { Finds asked_of result (row_asks line.now row.now) }
 {
     let words = parts(alloc, row, ' ')?;

@@ -1,0 +1,4 @@
+pub mod Letters
+pub mod Asking
+pub mod Lines
+pub mod Entries

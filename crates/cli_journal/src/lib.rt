@@ -1,0 +1,19 @@
+//! The journal of a centre: a file of lines, one for each event that the centre took, with its stamp and a checksum. What
+//! is written is read again, and of a file that ends anywhere the lines that are whole.
+//!
+//! Bodies are free. The format is fixed by docs/FORMATS.md.
+#![tactic(auto)]
+
+mod digest;
+mod entry;
+mod fault;
+mod laws;
+mod reading;
+mod row;
+mod writing;
+
+pub use entry::Entry;
+pub use fault::JournalFault;
+pub use laws::{a_cut_leaves_a_beginning, a_text_begins_one_journal};
+pub use reading::read_journal;
+pub use writing::{add_entry, first_line};
