@@ -16,7 +16,8 @@ digest text = encode_lower (sha256 text)
 unfoldable pub checksum : List ℕ → List ℕ
 checksum text = encode_lower (take 4 (sha256 text))
 
--- the first line, without the line feed that ends it: the version of the format, the centre, and the digest of the line file
+-- the first line, without the line feed that ends it: the version of the format, the centre, and the digest of the line
+-- file
 abbrev pub first_line : Line → ℕ → List ℕ → List ℕ
 first_line line c file = codes "journal 1 " ++ (name_at line c ++ (codes " " ++ digest file))
 

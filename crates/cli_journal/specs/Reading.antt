@@ -49,7 +49,8 @@ pub record Follows (line : Line) (c : ℕ) (text : List ℕ) (es : List Entry) :
 
 -- The text is a journal of these entries, whose last line may be cut short; or it is the first line, cut short
 pub data Begins (line : Line) (c : ℕ) (file text : List ℕ) (es : List Entry) : Type 0 where
-  torn : (rest : List ℕ) → text ≡ first_line line c file ++ 10 ∷ rest → Follows line c rest es → Begins line c file text es
+  torn : (rest : List ℕ) → text ≡ first_line line c file ++ 10 ∷ rest → Follows line c rest es
+      → Begins line c file text es
   early : (n : ℕ) → text ≡ take n (first_line line c file) → es ≡ [] → Begins line c file text es
 
 -- ## A line
@@ -57,20 +58,25 @@ pub data Begins (line : Line) (c : ℕ) (file text : List ℕ) (es : List Entry)
 -- a line that is parted so: a checksum, a stamp, the sign of an event and its words
 abbrev pub ArePartsOf : List ℕ → Option (Bor (List ℕ) × Bor (List ℕ)) → Type 0
 ArePartsOf row found =
-    (sum stamp words : List ℕ) → Lacks 32 sum → Lacks 32 stamp → row ≡ sum ++ 32 ∷ (stamp ++ 32 ∷ 62 ∷ 32 ∷ words)
+    (sum stamp words : List ℕ) → Lacks 32 sum → Lacks 32 stamp
+    → row ≡ sum ++ 32 ∷ (stamp ++ 32 ∷ 62 ∷ 32 ∷ words)
     → MatchOption found ⊥ (λ x. (x.0.now ≡ stamp) × (x.1.now ≡ words))
 
 -- the entry is one whose line this is; it is refused for its form only where there is none
 abbrev pub Finds : Line → ℕ → List ℕ → Result Entry EntryFault → Type 0
 Finds line c row (Ok e) = IsNote line c (noted_of e) × (entry_line line e ≡ row ++ 10 ∷ [])
-Finds line c row (Err why) = why ≡ refused.Form → (e : Entry) → IsNote line c (noted_of e) → entry_line line e ≡ row ++ 10 ∷ [] → ⊥
+Finds line c row (Err why) =
+    why ≡ refused.Form → (e : Entry) → IsNote line c (noted_of e) → entry_line line e ≡ row ++ 10 ∷ [] → ⊥
 
 -- where there is an entry whose line this is, it is guessed, or memory ran out
 abbrev pub Guesses : Line → List ℕ → Result Entry EntryFault → Type 0
-Guesses line row (Ok found) = (c : ℕ) (e : Entry) → IsNote line c (noted_of e) → entry_line line e ≡ row ++ 10 ∷ [] → noted_of found ≡ noted_of e
-Guesses line row (Err why) = why ≡ refused.Form → (c : ℕ) (e : Entry) → IsNote line c (noted_of e) → entry_line line e ≡ row ++ 10 ∷ [] → ⊥
+Guesses line row (Ok found) =
+    (c : ℕ) (e : Entry) → IsNote line c (noted_of e) → entry_line line e ≡ row ++ 10 ∷ [] → noted_of found ≡ noted_of e
+Guesses line row (Err why) =
+    why ≡ refused.Form → (c : ℕ) (e : Entry) → IsNote line c (noted_of e) → entry_line line e ≡ row ++ 10 ∷ [] → ⊥
 
 -- it is the given entry whose line this is, or that is none
 abbrev pub Tells : Line → ℕ → List ℕ → Entry → Result Entry EntryFault → Type 0
 Tells line c row given (Ok e) = IsNote line c (noted_of e) × (entry_line line e ≡ row ++ 10 ∷ [])
-Tells line c row given (Err why) = why ≡ refused.Form → IsNote line c (noted_of given) → entry_line line given ≡ row ++ 10 ∷ [] → ⊥
+Tells line c row given (Err why) =
+    why ≡ refused.Form → IsNote line c (noted_of given) → entry_line line given ≡ row ++ 10 ∷ [] → ⊥

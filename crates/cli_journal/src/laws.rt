@@ -7,12 +7,14 @@ ghost use Rattle.cli_journal.specs.declared.entry.Entry.{Entry};
 
 /// What is left of a journal that was cut at any byte begins with its first entries, so many as are whole.
 pub fn a_cut_leaves_a_beginning()
-    ensures { (line : Line) (c : ℕ) (file : List ℕ) (es : List Entry) (n : ℕ) → IsLine line → AllByRecursion (λ e. IsNote line c (noted_of e)) es
+    ensures { (line : Line) (c : ℕ) (file : List ℕ) (es : List Entry) (n : ℕ)
+        → IsLine line → AllByRecursion (λ e. IsNote line c (noted_of e)) es
         → (k : ℕ) × Begins line c file (take n (journal line c file es)) (take k es) }
 {}
 
 /// A text is what was left of one journal at most: of two both say the same.
 pub fn a_text_begins_one_journal()
-    ensures { (line : Line) (c : ℕ) (file text : List ℕ) (es fs : List Entry) → IsLine line → is_centre line c ≡ true
+    ensures { (line : Line) (c : ℕ) (file text : List ℕ) (es fs : List Entry)
+        → IsLine line → is_centre line c ≡ true
         → Begins line c file text es → Begins line c file text fs → map noted_of es ≡ map noted_of fs }
 {}

@@ -12,8 +12,8 @@ use cli_script::script::EntryFault;
 use rbc_line::Line;
 use std::alloc::Global;
 
-/// The entries of a centre's journal, which may end anywhere: a last line that no line feed ends is left out. The text of the line file is
-/// looked at, of which the first line has the digest.
+/// The entries of a centre's journal, which may end anywhere: a last line that no line feed ends is left out. Of the
+/// text of the line file the first line has the digest.
 pub fn read_journal(
     alloc: Global,
     line: &Line,
@@ -23,8 +23,10 @@ pub fn read_journal(
 ) -> Result<Vec<Entry>, JournalFault>
     requires { is_centre line.now centre ≡ true }
     ensures found { IfOk result (λ read. Begins line.now centre file.now text.now read.items) }
-    ensures only { IfOk result (λ read. (es : List Entry) → Begins line.now centre file.now text.now es → map noted_of read.items ≡ map noted_of es) }
-    ensures refused { IfErr result (λ why. why ≢ Memory → (es : List Entry) → Begins line.now centre file.now text.now es → ⊥) }
+    ensures only { IfOk result (λ read. (es : List Entry) → Begins line.now centre file.now text.now es
+        → map noted_of read.items ≡ map noted_of es) }
+    ensures refused { IfErr result (λ why. why ≢ Memory → (es : List Entry)
+        → Begins line.now centre file.now text.now es → ⊥) }
 {
     known_line(line);
     let first = first_line(alloc, line, centre, file)?;
@@ -56,7 +58,8 @@ fn entries_in(
     requires line { IsLine line.now }
     requires centre { is_centre line.now centre ≡ true }
     ensures found { IfOk result (λ read. Follows line.now centre text.now read.items) }
-    ensures refused { IfErr result (λ why. why ≢ Memory → (es : List Entry) → Follows line.now centre text.now es → ⊥) }
+    ensures refused { IfErr result (λ why. why ≢ Memory → (es : List Entry)
+        → Follows line.now centre text.now es → ⊥) }
 {
     let mut entries = Vec::new(alloc);
     let mut rest = text;

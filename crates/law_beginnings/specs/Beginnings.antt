@@ -8,14 +8,16 @@ use Rattle.law_logs.specs.Logs.{LogEntry, Replays, AreLogs, IsFromLog, IsLegal, 
 abbrev pub cut : (ℕ → ℕ) → (ℕ → List LogEntry) → ℕ → List LogEntry
 cut count logs c = take (count c) (logs c)
 
--- The beginnings are logs themselves, up to where they stop; and where each frame that was delivered stands in the beginning of its sender's log, every merge
--- of them is one run of the world
+-- The beginnings are logs themselves, up to where they stop; and where each frame that was delivered stands in the
+-- beginning of its sender's log, every merge of them is one run of the world
 abbrev pub BeginningsTheorem : Type 0
-BeginningsTheorem = (line : Line) (logs : ℕ → List LogEntry) (ends : ℕ → Centre) (count : ℕ → ℕ) → AreLogs line logs ends
-    → (stops : ℕ → Centre) × AreLogs line (cut count logs) stops
-    × (IsLegal (cut count logs) → (merged : List LogEntry) → IsMerge (cut count logs) merged → IsWorldRun line merged stops)
+BeginningsTheorem = (line : Line) (logs : ℕ → List LogEntry) (ends : ℕ → Centre) (count : ℕ → ℕ)
+    → AreLogs line logs ends → (stops : ℕ → Centre) × AreLogs line (cut count logs) stops
+    × (IsLegal (cut count logs) → (merged : List LogEntry) → IsMerge (cut count logs) merged
+    → IsWorldRun line merged stops)
 
--- Two logs of centre c from its beginning: where one has the events of the first n entries of the other, it has those entries
+-- Two logs of centre c from its beginning: where one has the events of the first n entries of the other, it has those
+-- entries
 abbrev pub SameLogTheorem : Type 0
 SameLogTheorem = (line : Line) (c n : ℕ) (log again : List LogEntry) (last end : Centre)
     → Replays line c (beginning line c) log last → Replays line c (beginning line c) again end
@@ -24,7 +26,9 @@ SameLogTheorem = (line : Line) (c n : ℕ) (log again : List LogEntry) (last end
 -- Entries of all centres in the order in which they are written: each behind the entry that sent the frame that it took
 abbrev pub IsWrittenBehind : List LogEntry → List LogEntry → Type 0
 IsWrittenBehind before [] = Unit {0}
-IsWrittenBehind before (e ∷ entries) = IsFromLog (λ a. entries_of a before) e.centre e.event × IsWrittenBehind (before ++ e ∷ []) entries
+IsWrittenBehind before (e ∷ entries) =
+    IsFromLog (λ a. entries_of a before) e.centre e.event × IsWrittenBehind (before ++ e ∷ []) entries
 
 abbrev pub WrittenFirstTheorem : Type 0
-WrittenFirstTheorem = (written : List LogEntry) (n : ℕ) → IsWrittenBehind [] written → IsLegal (λ c. entries_of c (take n written))
+WrittenFirstTheorem =
+    (written : List LogEntry) (n : ℕ) → IsWrittenBehind [] written → IsLegal (λ c. entries_of c (take n written))

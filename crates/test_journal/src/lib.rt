@@ -1,0 +1,11 @@
+//! Tests of journals, over texts in memory: what is written, and what is read of a text that ends anywhere, or is
+//! damaged.
+//!
+//! Digests and checksums are those that `sha256sum` gives of the line file and of what stands behind the checksum.
+#![tactic(auto)]
+
+pub mod line;
+#[cfg(test)]
+mod reading;
+#[cfg(test)]
+mod writing;

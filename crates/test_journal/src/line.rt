@@ -1,0 +1,48 @@
+//! The line of the tests, and a journal of its centre B.
+
+ghost use Rattle.std.specs.Prelude.{◌≤◌, length, IfOk};
+
+use rbc_line::Line;
+use std::alloc::Global;
+
+/// The line file.
+pub const FILE: &str = "nid_c = 5
+[[centre]]
+name = \"A\"
+nid_rbc = 1
+[[centre]]
+name = \"B\"
+nid_rbc = 2
+[[track]]
+name = \"main\"
+section = [
+  { length = 1000, home = \"A\", balise = 100 },
+  { length = 1000, home = \"B\", balise = 101 },
+]
+[[train]]
+engine = 1
+registrar = \"A\"
+";
+
+/// The first line of the journal of B.
+pub const FIRST: &str =
+    "journal 1 B ba35c55526b8ee737edcb0f3cc29d5304c156d9964d7e8ca30cc4d3f91642eea";
+
+/// Three lines behind it.
+pub const ENTRIES: &str = "
+3a1cc061 1 > set B 1
+44a52c2b 7 > deliver A B 1
+5000362a 8 > train B 9B028000000040000040
+";
+
+pub const B: u8 = 1;
+
+/// Centre A with section 0, and centre B with section 1.
+pub fn two_centres(alloc: Global) -> Result<Line, &'static str>
+    ensures { IfOk result (λ line. 2 ≤ length line.centres) }
+{
+    let Ok(line) = Line::from_toml(alloc, FILE) else {
+        return Err("the line file is accepted");
+    };
+    Ok(line)
+}
