@@ -23,7 +23,8 @@ pub struct Audit<'a> {
     events: u64,
     /// Why the run stopped: a refused step, or want of memory. Nothing is played behind it.
     refused: Option<StepFault>,
-    /// The number of the first line that is too long, or whose script has no form that a script may have. Nothing is looked at behind it.
+    /// The number of the first line that is too long, or whose script has no form that a script may have. Nothing is
+    /// looked at behind it.
     faulty: Option<usize>,
 }
 
@@ -67,7 +68,8 @@ impl<'a> Audit<'a> {
         self.rows = self.rows.saturating_add(1);
     }
 
-    /// What the audit found, where no further line comes. A script fault is told before a refused step, and that before a difference.
+    /// What the audit found, where no further line comes. A script fault is told before a refused step, and that before
+    /// a difference.
     pub fn end(&mut self) -> Result<Verdict, Fault<'static>> {
         if let Some(row) = self.faulty {
             return Err(Fault::Script(row));

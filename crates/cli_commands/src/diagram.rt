@@ -8,8 +8,8 @@ use cli_status::Fault;
 use std::alloc::Global;
 use std::io::Write;
 
-/// Draws what `run` or `serve` has printed for a line, as far as the cut says: the time-distance diagram as an SVG document, or
-/// an HTML page with the line behind each event.
+/// Draws what `run` or `serve` has printed for a line, as far as the cut says: the time-distance diagram as an SVG
+/// document, or an HTML page with the line behind each event.
 pub fn draw_printed<'a, F: Files, O: Write>(
     alloc: Global,
     file: &'a str,

@@ -9,9 +9,9 @@ pub trait Files {
     /// memory for its text.
     fn text(&self, name: &str) -> Option<String>;
 
-    /// Gives each line of the file of this name, without the line feed that ends it; a last line needs none. Behind the first
-    /// line of more than `MOST_ROW` bytes, which is told and not given, nothing is read. None where the file can't be read, though some lines were
-    /// given then.
+    /// Gives each line of the file of this name, without the line feed that ends it; a last line needs none. Behind the
+    /// first line of more than `MOST_ROW` bytes, which is told and not given, nothing is read. None where the file
+    /// can't be read, though some lines were given then.
     fn each_row<T: Rows>(&self, _alloc: Global, name: &str, rows: &mut T) -> Option<()> {
         let text = self.text(name)?;
         let text = text.as_str();

@@ -189,7 +189,8 @@ fn cut_of(words: &ArgMatches<'_>) -> Option<Cut> {
     })
 }
 
-// The number that an option names, where it is there. None where it names no number that 32 bits hold, or one with a sign.
+// The number that an option names, where it is there. None where it names no number that 32 bits hold, or one with a
+// sign.
 fn named_number(words: &ArgMatches<'_>, option: &str) -> Option<Option<u32>> {
     match words.get_str(option) {
         Some(word) if word.starts_with('+') => None,

@@ -35,7 +35,8 @@ impl Due {
         line_end(rest).is_none()
     }
 
-    /// Takes the next line of a print, and says whether it is the one that has to come. Another line leaves what has to come as it is.
+    /// Takes the next line of a print, and says whether it is the one that has to come. Another line leaves what has to
+    /// come as it is.
     pub fn takes(&mut self, row: &str) -> bool
         ensures answer { result ≡ is_next row.now self.old }
         ensures left { self.new ≡ left_behind row.now self.old }

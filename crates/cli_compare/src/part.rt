@@ -32,7 +32,8 @@ impl Part {
 
     /// Takes the next line of the print, by its number.
     pub fn row(&mut self, number: u64, row: &str)
-        ensures told { (rows : List (List ℕ)) → found self.old number (row.now ∷ rows) ≡ found self.new (number + 1) rows }
+        ensures told { (rows : List (List ℕ))
+            → found self.old number (row.now ∷ rows) ≡ found self.new (number + 1) rows }
         ensures differs { self.new.differs ≡ differs_behind number row.now self.old.differs self.old.due }
         ensures due { self.new.due ≡ due_behind row.now self.old.differs self.old.due }
     {
@@ -41,7 +42,8 @@ impl Part {
         }
     }
 
-    /// The number of the first line that differs, where no further line comes, by the number that such a line would have.
+    /// The number of the first line that differs, where no further line comes, by the number that such a line would
+    /// have.
     pub fn end(&self, number: u64) -> Option<u64>
         ensures { result ≡ found self.now number [] }
     {

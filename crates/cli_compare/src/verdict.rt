@@ -5,7 +5,8 @@ use std::fmt;
 pub enum Verdict {
     /// The print is that of its events.
     Equal { events: u64 },
-    /// The first line that differs, by its number from 1. Where one text ends first, it is the first line that only one has.
+    /// The first line that differs, by its number from 1. Where one text ends first, it is the first line that only one
+    /// has.
     Differs { line: u64 },
 }
 

@@ -12,7 +12,8 @@ const MOST_BYTES: usize = 1023;
 /// How many bytes hold NID_MESSAGE and L_MESSAGE.
 const HEAD: usize = 3;
 
-/// Takes the steps one after another over a connection to a centre, and prints each message that it reads in hexadecimal.
+/// Takes the steps one after another over a connection to a centre, and prints each message that it reads in
+/// hexadecimal.
 pub fn drive<C: Read + Write, O: Write>(
     alloc: Global,
     steps: &[Step],
@@ -30,7 +31,8 @@ pub fn drive<C: Read + Write, O: Write>(
     Ok(())
 }
 
-/// Reads on to the end of a connection over which nothing more is sent: then the centre has taken all that was. What it says meanwhile is let go.
+/// Reads on to the end of a connection over which nothing more is sent: then the centre has taken all that was. What it
+/// says meanwhile is let go.
 pub fn see_off<C: Read>(connection: &mut C) -> Result<(), DriveFault> {
     let mut piece = [0u8; MOST_BYTES];
     for _ in 0..u64::MAX {

@@ -63,8 +63,8 @@ impl From<AllocError> for StepFault {
     }
 }
 
-/// What the lines of a train's file ask for, in order: pairs of hexadecimal digits are sent, and `wait` with a number of at most 65 535 reads
-/// so many messages. A last line needs no line feed.
+/// What the lines of a train's file ask for, in order: pairs of hexadecimal digits are sent, and `wait` with a number
+/// of at most 65 535 reads so many messages. A last line needs no line feed.
 pub fn steps_of(alloc: Global, text: &str) -> Result<Vec<Step>, StepsFault>
     ensures asked { IfOk result (λ steps. AreAsked (whole_rows (rows text.now)) steps.items) }
     ensures fault { IfErr result (IsFirstFault (whole_rows (rows text.now))) }
@@ -122,7 +122,8 @@ fn step_in(alloc: Global, words: &[&str]) -> Result<Step, StepFault>
 /// The parts of a text between single separators.
 fn parts<'a>(alloc: Global, text: &'a str, separator: char) -> Result<Vec<&'a str>, AllocError>
     requires { separator < 128 }
-    ensures { IfOk result (λ parts. map (λ part. part.now) parts.items ≡ slice_split (λ b. b == separator) text.entry.now) }
+    ensures { IfOk result
+        (λ parts. map (λ part. part.now) parts.items ≡ slice_split (λ b. b == separator) text.entry.now) }
 {
     text.split(separator).collect(alloc)
 }

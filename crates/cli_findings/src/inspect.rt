@@ -24,8 +24,8 @@ impl<'a> Homes<'a> {
     }
 }
 
-/// All that is wrong in the tables of a text as a line file, in the order in which the walk comes to it: within a table its
-/// keys, then what stands in it. What is missing or of another type is tested no further.
+/// All that is wrong in the tables of a text as a line file, in the order in which the walk comes to it: within a table
+/// its keys, then what stands in it. What is missing or of another type is tested no further.
 pub fn cases_in(alloc: Global, table: &Table) -> Result<Vec<Finding<'_>>, AllocError> {
     let mut inspection = Inspection::new(alloc);
     inspection.file(alloc, table)?;

@@ -1,5 +1,6 @@
-//! The page of a line, running or printed: what is shown of it as types, the tables that say it in JSON and in HTML, the style, and the script that
-//! draws. It is made of what it is handed, and of nothing else: nothing here has a line, a centre, a socket or a clock.
+//! The page of a line, running or printed: what is shown of it as types, the tables that say it in JSON and in HTML,
+//! the style, and the script that draws. It is made of what it is handed, and of nothing else: nothing here has a line,
+//! a centre, a socket or a clock.
 //!
 //! Bodies are free. What the page has is fixed by docs/FORMATS.md.
 #![tactic(auto)]

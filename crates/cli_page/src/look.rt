@@ -1,4 +1,5 @@
-//! How the page looks, and how its script draws the line. The running line's page and a print's share the style and the drawing.
+//! How the page looks, and how its script draws the line. The running line's page and a print's share the style and the
+//! drawing.
 
 /// What stands before the style.
 pub(crate) const HEAD: &str = "<!doctype html>
@@ -176,7 +177,8 @@ async function follow(){
 follow();
 ";
 
-/// How the slider of a print shows the line behind an event: of each section, train and session the last row so far counts.
+/// How the slider of a print shows the line behind an event: of each section, train and session the last row so far
+/// counts.
 pub(crate) const REPLAY: &str = "
 const run=JSON.parse(document.getElementById('run').textContent),nav=document.querySelector('nav'),range=nav.querySelector('input');
 for(const name of ['tracks','centres','sections','events','states','missions','phases'])run[name]=rows(run[name]);

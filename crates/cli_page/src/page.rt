@@ -46,8 +46,8 @@ pub fn now_json(alloc: Global, layout: &Layout, now: &LineNow) -> Result<String,
     format!(in alloc; "{{\"events\":{events},\"stopped\":{stopped}{rest}}}\n")
 }
 
-/// The whole page. It loads nothing from elsewhere. Its script draws what it asks for once a second; without it, the tables stand there, and the
-/// page asks for itself again every two seconds.
+/// The whole page. It loads nothing from elsewhere. Its script draws what it asks for once a second; without it, the
+/// tables stand there, and the page asks for itself again every two seconds.
 pub fn live_page(alloc: Global, layout: &Layout, now: &LineNow) -> Result<String, AllocError> {
     let mut sheet = Sheet::new(alloc, Form::Html);
     add_now(&mut sheet, layout, now)?;

@@ -1,5 +1,5 @@
-//! Tables, which are written as JSON for a program or as HTML for a person. As JSON a table is a list of rows, the first of which has the
-//! names of the columns.
+//! Tables, which are written as JSON for a program or as HTML for a person. As JSON a table is a list of rows, the
+//! first of which has the names of the columns.
 
 use std::alloc::{AllocError, Global};
 
@@ -143,7 +143,8 @@ impl Sheet {
         }
     }
 
-    // Writes a text. What could end it in JSON is written as a blank: no name has it, and no event in words. JSON has no `<`, so it ends no element of a page.
+    // Writes a text. What could end it in JSON is written as a blank: no name has it, and no event in words. JSON has
+    // no `<`, so it ends no element of a page.
     fn put(&mut self, text: &str) -> Result<(), AllocError> {
         for letter in text.chars() {
             match (letter, self.form) {

@@ -25,7 +25,8 @@ impl Handovers {
         })
     }
 
-    /// Takes what a frame from one centre to another says of a handover. Frames come in the order in which they were sent.
+    /// Takes what a frame from one centre to another says of a handover. Frames come in the order in which they were
+    /// sent.
     pub fn hear(&mut self, line: &Line, from: u8, to: u8, body: Body) {
         let Some(train) = line.train_number(body.engine()) else {
             return;

@@ -18,8 +18,9 @@ const MOST_EVENTS: usize = 10_000;
 /// How many of the last events are told where no script runs.
 const TOLD: usize = 24;
 
-/// The page of a print: the line before the first event that the cut shows and behind each, with a slider. Only the lines that begin with `> ` are
-/// read. Errors: the cut names a train that is not of the line, or no event; a line has no form of a script; a step is refused.
+/// The page of a print: the line before the first event that the cut shows and behind each, with a slider. Only the
+/// lines that begin with `> ` are read. Errors: the cut names a train that is not of the line, or no event; a line has
+/// no form of a script; a step is refused.
 pub fn page_of(
     alloc: Global,
     line: &Line,

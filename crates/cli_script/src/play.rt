@@ -40,15 +40,16 @@ pub enum PlayFault<F> {
     Untold(F),
 }
 
-/// Plays a script's entries on a world, one after another, and tells each as it comes. It stops at the first event that is
-/// refused: all in front of it is told then, and nothing behind it.
+/// Plays a script's entries on a world, one after another, and tells each as it comes. It stops at the first event that
+/// is refused: all in front of it is told then, and nothing behind it.
 pub fn play<T: Teller>(
     world: &mut World,
     entries: &[Entry],
     teller: &mut T,
 ) -> Result<(), PlayFault<T::Fault>>
     ensures line { line_of world.new ≡ line_of world.old }
-    ensures told { Leaves T.tells (line_of world.old) (state_of world.old) teller.old entries.now result (state_of world.new) teller.new }
+    ensures told { Leaves T.tells (line_of world.old) (state_of world.old) teller.old entries.now result
+        (state_of world.new) teller.new }
 {
     for entry in entries {
         play_one(world, entry, teller)?;
@@ -62,7 +63,8 @@ fn play_one<T: Teller>(
     teller: &mut T,
 ) -> Result<(), PlayFault<T::Fault>>
     ensures line { line_of world.new ≡ line_of world.old }
-    ensures told { Leaves T.tells (line_of world.old) (state_of world.old) teller.old (entry.now ∷ []) result (state_of world.new) teller.new }
+    ensures told { Leaves T.tells (line_of world.old) (state_of world.old) teller.old (entry.now ∷ []) result
+        (state_of world.new) teller.new }
 {
     match entry {
         Entry::Show => show(world, teller),
@@ -71,7 +73,8 @@ fn play_one<T: Teller>(
 }
 
 fn show<T: Teller>(world: &World, teller: &mut T) -> Result<(), PlayFault<T::Fault>>
-    ensures { Leaves T.tells (line_of world.now) (state_of world.now) teller.old (entry.Show ∷ []) result (state_of world.now) teller.new }
+    ensures { Leaves T.tells (line_of world.now) (state_of world.now) teller.old (entry.Show ∷ []) result
+        (state_of world.now) teller.new }
 {
     match teller.show(world) {
         Ok(()) => Ok(()),
@@ -85,7 +88,8 @@ fn take<T: Teller>(
     teller: &mut T,
 ) -> Result<(), PlayFault<T::Fault>>
     ensures line { line_of world.new ≡ line_of world.old }
-    ensures told { Leaves T.tells (line_of world.old) (state_of world.old) teller.old (entry.Event event.now ∷ []) result (state_of world.new) teller.new }
+    ensures told { Leaves T.tells (line_of world.old) (state_of world.old) teller.old
+        (entry.Event event.now ∷ []) result (state_of world.new) teller.new }
 {
     if let Err(fault) = teller.comes(event) {
         return Err(PlayFault::Untold(fault));

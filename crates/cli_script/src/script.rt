@@ -207,7 +207,8 @@ fn delivery_in(
 /// The parts of a text between single separators.
 fn parts<'a>(alloc: Global, text: &'a str, separator: char) -> Result<Vec<&'a str>, AllocError>
     requires { separator < 128 }
-    ensures { IfOk result (λ parts. map (λ part. part.now) parts.items ≡ slice_split (λ b. b == separator) text.entry.now) }
+    ensures { IfOk result
+        (λ parts. map (λ part. part.now) parts.items ≡ slice_split (λ b. b == separator) text.entry.now) }
 {
     text.split(separator).collect(alloc)
 }

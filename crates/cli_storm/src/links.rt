@@ -84,8 +84,8 @@ fn last_number(before: u32, frames: &[Frame]) -> u32
     number
 }
 
-/// Draws a delivery: one of the links that have sent a frame, and the number of one of its frames or one more. None is drawn where no
-/// link has sent any.
+/// Draws a delivery: one of the links that have sent a frame, and the number of one of its frames or one more. None is
+/// drawn where no link has sent any.
 pub fn draw_delivery(draws: &mut Draws, links: &[Link]) -> Option<WorldEvent>
     ensures { (result, draws.new.x) ≡ delivery (filter has_sent links.now) draws.old.x }
 {

@@ -50,8 +50,8 @@ impl Storm {
         &self.world
     }
 
-    /// Plays a script's entries, one after another, and four drawn deliveries behind each event. Each is told as it comes, as `play` does
-    /// it, and it stops at the first event that is refused.
+    /// Plays a script's entries, one after another, and four drawn deliveries behind each event. Each is told as it
+    /// comes, as `play` does it, and it stops at the first event that is refused.
     pub fn play<T: Teller>(
         &mut self,
         entries: &[Entry],
@@ -59,7 +59,8 @@ impl Storm {
     ) -> Result<(), PlayFault<T::Fault>>
         ensures line { line_of self.new.world ≡ line_of self.old.world }
         ensures told { Leaves T.tells (line_of self.old.world) (state_of self.old.world) teller.old
-            (storm (line_of self.old.world) (state_of self.old.world) self.old.draws.x entries.now) result (state_of self.new.world) teller.new }
+            (storm (line_of self.old.world) (state_of self.old.world) self.old.draws.x entries.now) result
+            (state_of self.new.world) teller.new }
     {
         for entry in entries {
             self.play_one(entry, teller)?;
@@ -74,7 +75,8 @@ impl Storm {
     ) -> Result<(), PlayFault<T::Fault>>
         ensures line { line_of self.new.world ≡ line_of self.old.world }
         ensures told { Continues T.tells (line_of self.old.world) (state_of self.old.world) teller.old
-            (played_by (line_of self.old.world) (state_of self.old.world) self.old.draws.x entry.now) result (state_of self.new.world) teller.new self.new.draws.x }
+            (played_by (line_of self.old.world) (state_of self.old.world) self.old.draws.x entry.now) result
+            (state_of self.new.world) teller.new self.new.draws.x }
     {
         match entry {
             Entry::Show => self.show(teller),
@@ -87,7 +89,8 @@ impl Storm {
 
     fn show<T: Teller>(&mut self, teller: &mut T) -> Result<(), PlayFault<T::Fault>>
         ensures same { self.new ≡ self.old }
-        ensures told { Leaves T.tells (line_of self.old.world) (state_of self.old.world) teller.old (entry.Show ∷ []) result (state_of self.new.world) teller.new }
+        ensures told { Leaves T.tells (line_of self.old.world) (state_of self.old.world) teller.old
+            (entry.Show ∷ []) result (state_of self.new.world) teller.new }
     {
         match teller.show(&self.world) {
             Ok(()) => Ok(()),
@@ -99,7 +102,8 @@ impl Storm {
     fn deliver<T: Teller>(&mut self, teller: &mut T) -> Result<(), PlayFault<T::Fault>>
         ensures line { line_of self.new.world ≡ line_of self.old.world }
         ensures told { Continues T.tells (line_of self.old.world) (state_of self.old.world) teller.old
-            (deliveries 4 (line_of self.old.world) (state_of self.old.world) self.old.draws.x) result (state_of self.new.world) teller.new self.new.draws.x }
+            (deliveries 4 (line_of self.old.world) (state_of self.old.world) self.old.draws.x) result
+            (state_of self.new.world) teller.new self.new.draws.x }
     {
         for _ in 0..DELIVERIES {
             self.deliver_one(teller)?;
@@ -111,7 +115,8 @@ impl Storm {
     fn deliver_one<T: Teller>(&mut self, teller: &mut T) -> Result<(), PlayFault<T::Fault>>
         ensures line { line_of self.new.world ≡ line_of self.old.world }
         ensures told { Continues T.tells (line_of self.old.world) (state_of self.old.world) teller.old
-            (with_delivery (line_of self.old.world) (state_of self.old.world) self.old.draws.x) result (state_of self.new.world) teller.new self.new.draws.x }
+            (with_delivery (line_of self.old.world) (state_of self.old.world) self.old.draws.x) result
+            (state_of self.new.world) teller.new self.new.draws.x }
     {
         match draw_delivery(&mut self.draws, &self.links) {
             Some(event) => self.take(&event, teller),
@@ -127,8 +132,10 @@ impl Storm {
     ) -> Result<(), PlayFault<T::Fault>>
         ensures line { line_of self.new.world ≡ line_of self.old.world }
         ensures draws { self.new.draws ≡ self.old.draws }
-        ensures left { OnOk result (state_of self.new.world ≡ behind (line_of self.old.world) (state_of self.old.world) event.now) }
-        ensures told { Leaves T.tells (line_of self.old.world) (state_of self.old.world) teller.old (entry.Event event.now ∷ []) result (state_of self.new.world) teller.new }
+        ensures left { OnOk result
+            (state_of self.new.world ≡ behind (line_of self.old.world) (state_of self.old.world) event.now) }
+        ensures told { Leaves T.tells (line_of self.old.world) (state_of self.old.world) teller.old
+            (entry.Event event.now ∷ []) result (state_of self.new.world) teller.new }
     {
         if let Err(fault) = teller.comes(event) {
             return Err(PlayFault::Untold(fault));

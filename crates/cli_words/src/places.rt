@@ -23,7 +23,8 @@ impl fmt::Display for Decimetres {
     }
 }
 
-/// Where a report puts its train: from the safe rear to the safe front, or the front alone where integrity is not confirmed.
+/// Where a report puts its train: from the safe rear to the safe front, or the front alone where integrity is not
+/// confirmed.
 pub fn place_in_words(
     alloc: Global,
     line: &Line,

@@ -3,7 +3,8 @@
 use std::fmt;
 use std::fmt::Formatter;
 
-/// A line of what `run` prints, in words: who speaks to whom, what is said, and the line itself with its hexadecimal cut.
+/// A line of what `run` prints, in words: who speaks to whom, what is said, and the line itself with its hexadecimal
+/// cut.
 #[derive(Drop)]
 pub struct Told {
     pub who: String,

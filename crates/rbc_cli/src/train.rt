@@ -13,7 +13,8 @@ use std::time::Duration;
 /// How long a centre may say nothing that is waited for, and take nothing, in seconds.
 const PATIENCE: u64 = 60;
 
-/// Sends the lines of a file to the centre at this port of this host, and prints what it reads. Behind them it waits until the centre has taken all.
+/// Sends the lines of a file to the centre at this port of this host, and prints what it reads. Behind them it waits
+/// until the centre has taken all.
 pub fn run_train<'a, R: Net<Stream = TcpStream> + Files + AllocGlobal, O: Write>(
     rt: &R,
     port: u16,

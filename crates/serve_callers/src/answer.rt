@@ -12,7 +12,8 @@ use std::sync::Wait;
 /// What a line of another form is answered.
 pub(crate) const SCRIPT_FAULT: &str = "script fault\n";
 
-/// Does what a line at the control door asks for, and writes what a run prints of it. A commit that is refused is told with its number.
+/// Does what a line at the control door asks for, and writes what a run prints of it. A commit that is refused is told
+/// with its number.
 pub(crate) fn answer<R: Wait>(
     rt: &R,
     hall: &Hall<'_>,

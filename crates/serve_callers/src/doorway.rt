@@ -12,7 +12,8 @@ use std::thread::Threads;
 use std::time::{Clock, Duration};
 use std::{io, thread};
 
-/// Lets callers in at one door until the centres stop, and closes it. It returns with the last of them, and ends those that are left after a while.
+/// Lets callers in at one door until the centres stop, and closes it. It returns with the last of them, and ends those
+/// that are left after a while.
 pub fn run_door<R: Threads + Wait + Sync + Clock, N: Notes + Sync>(
     rt: &R,
     hall: &Hall<'_>,
@@ -78,7 +79,8 @@ fn next_caller<'a, R: Wait, N: Notes>(
     Some((stream, seat))
 }
 
-// Rests a while where no connection came: longer where one may have come, and the system has none to give, as where too many files are open.
+// Rests a while where no connection came: longer where one may have come, and the system has none to give, as where too
+// many files are open.
 fn rest_behind<R: Wait, N: Notes>(
     rt: &R,
     hall: &Hall<'_>,
@@ -103,8 +105,8 @@ fn rest<R: Wait>(rt: &R, door: &Door) {
     door.bell.park_timeout(rt, Duration::from_millis(DOOR_REST));
 }
 
-// A seat for a new connection. Where all are taken, another connection leaves its own: of those of trains the first that serves no train, of those of the
-// interlocking the one that has been silent longest.
+// A seat for a new connection. Where all are taken, another connection leaves its own: of those of trains the first
+// that serves no train, of those of the interlocking the one that has been silent longest.
 fn seat_for<'a, R: Wait>(rt: &R, hall: &Hall<'_>, door: &'a Door) -> Option<&'a Seat> {
     if let Some(seat) = door.free_seat(rt) {
         return Some(seat);

@@ -27,7 +27,8 @@ pub(crate) const LEAVING_RESTS: u32 = 50;
 /// How long trains have behind `stop` until their connections are ended, in rests of a door: some 30 seconds.
 pub(crate) const GRACE_RESTS: u32 = 1_500;
 
-/// Lets a connection send at once. A read waits for the client no longer than this, and a write no longer than `PATIENCE`.
+/// Lets a connection send at once. A read waits for the client no longer than this, and a write no longer than
+/// `PATIENCE`.
 pub(crate) fn set_waits(stream: &TcpStream, reading: Duration) {
     let _ = stream.set_nodelay(true);
     let _ = stream.set_read_timeout(Some(reading));

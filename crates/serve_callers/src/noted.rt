@@ -7,7 +7,8 @@ use serve_workers::Outlet;
 use std::sync::Wait;
 use std::time::Clock;
 
-/// A train's connection as the session over it sees it, which notes each train that opens its session, and holds one back that is too fast.
+/// A train's connection as the session over it sees it, which notes each train that opens its session, and holds one
+/// back that is too fast.
 #[derive(Drop)]
 pub(crate) struct NotedWire<'a, T, N> {
     pub wire: Wire<'a>,

@@ -98,7 +98,8 @@ fn ends_of(
     Ok((ends, connection))
 }
 
-// Reads and writes the connection, each in a thread, and says how it ended. Without a thread that writes it is not read, and there is no end to tell.
+// Reads and writes the connection, each in a thread, and says how it ended. Without a thread that writes it is not
+// read, and there is no end to tell.
 fn read_and_write<R: Threads + Wait + Sync + Clock, N: Notes + Sync>(
     rt: &R,
     alloc: Global,

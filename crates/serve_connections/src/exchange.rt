@@ -71,8 +71,8 @@ impl<'a> Exchange<'a> {
         self.board.lock(rt).is_serving(number)
     }
 
-    // The connection serves this train from now on, and no other, and the order of what is said to it begins anew. The connection that served
-    // the train before ends.
+    // The connection serves this train from now on, and no other, and the order of what is said to it begins anew. The
+    // connection that served the train before ends.
     fn begin<R: Wait>(&self, rt: &R, number: usize, train: usize, order: &mut Order, t_train: u32) {
         order.begin(t_train);
         let mut board = self.board.lock(rt);
@@ -94,7 +94,8 @@ impl<'a> Exchange<'a> {
         Some((number, Arc::try_clone(connection).ok()?))
     }
 
-    // Hands a message to a train in to its order, and lets out what has its turn now. The thread that reads a connection is told by its number.
+    // Hands a message to a train in to its order, and lets out what has its turn now. The thread that reads a
+    // connection is told by its number.
     fn say<R: Wait>(&self, rt: &R, own: Option<usize>, saying: &Saying) {
         let Some(train) = self.line.train_number(saying.nid_engine) else {
             return;
@@ -122,8 +123,9 @@ impl<'a> Exchange<'a> {
         }
     }
 
-    // Says what has its turn, over the connection that serves the train. Where a reply was not taken, none of them comes any more: the connection is
-    // cut. The first reply is written here if the calling thread reads the connection, and no other waits.
+    // Says what has its turn, over the connection that serves the train. Where a reply was not taken, none of them
+    // comes any more: the connection is cut. The first reply is written here if the calling thread reads the
+    // connection, and no other waits.
     fn let_out<R: Wait>(
         &self,
         rt: &R,

@@ -3,8 +3,8 @@ ghost use Rattle.serve_connections.specs.Serving.{freed, released};
 
 use std::alloc::{AllocError, Global};
 
-/// Which connections there are at a centre, and which of them serves which train. A connection serves one train at most, and a train is
-/// served over one connection at most.
+/// Which connections there are at a centre, and which of them serves which train. A connection serves one train at
+/// most, and a train is served over one connection at most.
 #[derive(Drop)]
 pub(crate) struct Switchboard<C: Drop> {
     // By the connections' numbers.
@@ -27,9 +27,11 @@ impl<C: Drop> Switchboard<C> {
         })
     }
 
-    /// Takes a connection in under its number. It serves no train yet. It is handed back where there is no place of that number.
+    /// Takes a connection in under its number. It serves no train yet. It is handed back where there is no place of
+    /// that number.
     pub fn enter(&mut self, number: usize, connection: C)
-        ensures connections { self.new.connections.items ≡ slice_set self.old.connections.items number (Some connection) }
+        ensures connections { self.new.connections.items
+            ≡ slice_set self.old.connections.items number (Some connection) }
         ensures serving { self.new.serving.items ≡ released number self.old.serving.items }
     {
         self.release(number);
@@ -51,7 +53,8 @@ impl<C: Drop> Switchboard<C> {
     /// From now on the connection serves this train and no other, and no other connection serves it.
     pub fn serve(&mut self, number: usize, train: usize)
         ensures connections { self.new.connections.items ≡ self.old.connections.items }
-        ensures serving { self.new.serving.items ≡ slice_set (released number self.old.serving.items) train (Some number) }
+        ensures serving { self.new.serving.items
+            ≡ slice_set (released number self.old.serving.items) train (Some number) }
     {
         self.release(number);
         if let Some(place) = self.serving.get_mut(train) {

@@ -92,8 +92,8 @@ fn in_words(alloc: Global, line: &Line, entry: &Entry) -> Result<String, Fault<'
     Ok(format!(in alloc; "{stamp} · {words}")?)
 }
 
-// Whether an event is worth a person's while: reports and requests of a train that runs on as it should are not, and of what comes over links
-// handovers alone.
+// Whether an event is worth a person's while: reports and requests of a train that runs on as it should are not, and of
+// what comes over links handovers alone.
 fn is_news(line: &Line, entry: &Entry) -> bool {
     if entry.outcome.silence.is_some() || announces(line, entry) {
         return true;

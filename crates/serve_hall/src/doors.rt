@@ -21,8 +21,8 @@ pub struct Listening {
 }
 
 impl Doors {
-    /// Listens on 127.0.0.1: centre i at the port `first` + i, the control door at the port behind those. For the port 0 the system picks
-    /// each port. Where one can't be listened on, a note names it.
+    /// Listens on 127.0.0.1: centre i at the port `first` + i, the control door at the port behind those. For the port
+    /// 0 the system picks each port. Where one can't be listened on, a note names it.
     pub fn open<R: Net<Stream = TcpStream, Listener = TcpListener>, N: Notes>(
         rt: &R,
         alloc: Global,
@@ -45,7 +45,8 @@ impl Doors {
         Ok(Doors(doors, None))
     }
 
-    /// Listens at this port of this host for browsers too, which are shown the line. Where that can't be, a note says so.
+    /// Listens at this port of this host for browsers too, which are shown the line. Where that can't be, a note says
+    /// so.
     pub fn and_page<R: Net<Stream = TcpStream, Listener = TcpListener>, N: Notes>(
         self,
         rt: &R,

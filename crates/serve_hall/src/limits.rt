@@ -1,5 +1,5 @@
-//! How much of each thing there is at most, and how long a door rests. What one caller may have, and how long each wait for it takes, stands in
-//! `serve_callers`.
+//! How much of each thing there is at most, and how long a door rests. What one caller may have, and how long each wait
+//! for it takes, stands in `serve_callers`.
 
 /// How many connections a centre serves at once, beside one for each train of the line.
 pub(crate) const SPARE: usize = 8;
@@ -13,7 +13,8 @@ pub(crate) const PER_SECOND: u32 = 50;
 /// How many it may say at once.
 pub(crate) const BURST: u32 = 20_000;
 
-/// How many bytes of lines of which the interlocking is told wait for one of its connections at most. More, and the connection ends.
+/// How many bytes of lines of which the interlocking is told wait for one of its connections at most. More, and the
+/// connection ends.
 pub(crate) const MOST_TOLD: usize = 65_536;
 
 /// How long a door rests at most before it looks for a connection again, in milliseconds.

@@ -8,7 +8,8 @@ use std::sync::atomic::{AtomicBool, AtomicU64, Ordering};
 use std::sync::{Arc, Mutex, Wait};
 use std::thread::Parker;
 
-/// A place for one connection at a time, and the receipts of what is committed over it: a share for each centre that it reaches.
+/// A place for one connection at a time, and the receipts of what is committed over it: a share for each centre that it
+/// reaches.
 #[derive(Drop)]
 pub struct Seat {
     /// Which of its door's seats this is, from 0 on.

@@ -4,7 +4,8 @@ use serve_connections::Exchange;
 use serve_workers::Outlet;
 use std::sync::Wait;
 
-/// Where what a centre answers goes on to: to its trains and links, and, where the interlocking is told of sections, to its connections.
+/// Where what a centre answers goes on to: to its trains and links, and, where the interlocking is told of sections, to
+/// its connections.
 #[derive(Drop)]
 pub struct Teller<'a> {
     /// The connections of the centre's trains, and the bells of its links.

@@ -8,7 +8,8 @@ use std::sync::Wait;
 use std::thread;
 use std::thread::Threads;
 
-/// Carries the frames of a link in a bounded queue, until nothing new comes: a worker sends them, and another receives them.
+/// Carries the frames of a link in a bounded queue, until nothing new comes: a worker sends them, and another receives
+/// them.
 pub(crate) fn carry<R: Threads + Wait + Sync>(rt: &R, hall: &Hall<'_>, link: &DirectedLink) {
     if try_carry(rt, hall, link).is_err() {
         hall.fail();
@@ -25,7 +26,8 @@ fn try_carry<R: Threads + Wait + Sync>(
     Ok(())
 }
 
-// Carries the frames by a carrier: they are sent in a thread of its own, and received in this one. Where no thread can be made, the line ends.
+// Carries the frames by a carrier: they are sent in a thread of its own, and received in this one. Where no thread can
+// be made, the line ends.
 fn carry_by<R: Threads + Wait + Sync, C: Carrier + Sync>(
     rt: &R,
     hall: &Hall<'_>,

@@ -22,7 +22,8 @@ const PAGE_REST: u64 = 250;
 /// How many reads and writes there are at most in one connection.
 const TURNS: u32 = 16;
 
-/// How long the line counts as seen, in milliseconds: however many ask, the centres are looked at four times a second at most.
+/// How long the line counts as seen, in milliseconds: however many ask, the centres are looked at four times a second
+/// at most.
 const FRESH: u64 = 250;
 
 /// The port at which browsers ask for the page of the line.

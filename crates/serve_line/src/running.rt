@@ -22,8 +22,9 @@ use std::time::Clock;
 /// How many notes wait for standard error at most.
 const NOTES: usize = 1_024;
 
-/// Runs the centres of the line until the interlocking says `stop` and all sessions have ended. Then it gathers their logs, merges them, and
-/// prints all events with what they led to, and the line, as a run does. A thread of its own writes the notes.
+/// Runs the centres of the line until the interlocking says `stop` and all sessions have ended. Then it gathers their
+/// logs, merges them, and prints all events with what they led to, and the line, as a run does. A thread of its own
+/// writes the notes.
 pub fn serve<R: Threads + Wait + Sync + Clock, N: Notes + Sync, O: Write>(
     rt: &R,
     alloc: Global,

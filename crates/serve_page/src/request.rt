@@ -51,7 +51,8 @@ pub enum Refusal {
 
 /// What the bytes that have come so far ask for.
 pub fn asked_of(bytes: &[u8]) -> Asked
-    ensures whole { (h : RequestHead) (rest : List ℕ) → ReadsRequest bytes.now h rest → length h.fields ≤ 64 → IsAskedBy h result }
+    ensures whole { (h : RequestHead) (rest : List ℕ) → ReadsRequest bytes.now h rest → length h.fields ≤ 64
+        → IsAskedBy h result }
     ensures asked { IsAsked bytes.now result }
 {
     let mut fields = [EMPTY_HEADER_SPAN; MOST_FIELDS];
@@ -137,7 +138,8 @@ fn hosts_in(bytes: &[u8], fields: &[HeaderSpan]) -> Hosts
 
 // The fields that name a host, with a further field.
 fn further(bytes: &[u8], hosts: Hosts, field: HeaderSpan) -> Hosts
-    ensures { (before : List HeaderSpan) → AreHosts (named_in bytes.now before) hosts → AreHosts (named_in bytes.now (before ++ field ∷ [])) result }
+    ensures { (before : List HeaderSpan) → AreHosts (named_in bytes.now before) hosts
+        → AreHosts (named_in bytes.now (before ++ field ∷ [])) result }
 {
     if !is_host(part(bytes, field.name)) {
         return hosts;

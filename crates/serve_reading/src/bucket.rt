@@ -13,8 +13,8 @@ pub struct Rate {
     pub burst: u32,
 }
 
-/// What a connection may still say at once. It fills with time, and each message takes from it: in any span of time it lets through no more
-/// than a burst, and what its rate gives in that time (`a_bucket_keeps_to_its_rate`).
+/// What a connection may still say at once. It fills with time, and each message takes from it: in any span of time it
+/// lets through no more than a burst, and what its rate gives in that time (`a_bucket_keeps_to_its_rate`).
 #[derive(Clone, Copy, Debug)]
 pub struct Bucket {
     rate: Rate,
@@ -38,8 +38,8 @@ impl Bucket {
         }
     }
 
-    /// One more message asks at this time, in milliseconds, whether it may pass. Where it may not yet, the answer is how many milliseconds it is to
-    /// wait before it asks again.
+    /// One more message asks at this time, in milliseconds, whether it may pass. Where it may not yet, the answer is
+    /// how many milliseconds it is to wait before it asks again.
     pub fn ask(&mut self, now: u64) -> Result<(), u64>
         ensures rate { self.new.rate ≡ self.old.rate }
         ensures at { self.new.at ≡ max self.old.at now }
@@ -71,8 +71,8 @@ impl Bucket {
     }
 }
 
-/// However a bucket was asked, and whatever it held at first: what it let through is no more than it can hold, and what its rate gave from when
-/// it was filled before the first ask to the last.
+/// However a bucket was asked, and whatever it held at first: what it let through is no more than it can hold, and what
+/// its rate gave from when it was filled before the first ask to the last.
 pub fn a_bucket_keeps_to_its_rate()
     ensures { (rate burst level at : ℕ) (asks : List Ask) → level ≤ burst * 1000 → Answers rate burst level at asks
         → passed asks * 1000 ≤ burst * 1000 + (last_time at asks - at) * rate }

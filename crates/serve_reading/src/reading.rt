@@ -19,15 +19,16 @@ pub enum IntakeEnd {
     Device,
 }
 
-/// Reads one piece from the source, and appends the messages that are whole with it. Before a fault of the bytes the messages in front of
-/// it are appended; at the other ends the stream keeps what it has of a message that is not whole.
+/// Reads one piece from the source, and appends the messages that are whole with it. Before a fault of the bytes the
+/// messages in front of it are appended; at the other ends the stream keeps what it has of a message that is not whole.
 pub fn read_messages<S: Source>(
     source: &mut S,
     stream: &mut Stream,
     messages: &mut Vec<TrainMsg>,
 ) -> Result<(), IntakeEnd>
     requires { S.failures source.old < 2 ^ 64 - 1 }
-    ensures brings { (piece : List ℕ) × Consumes (S.left source.old) (S.left source.new) piece × Brings stream.old piece messages.old.items messages.new.items result stream.new }
+    ensures brings { (piece : List ℕ) × Consumes (S.left source.old) (S.left source.new) piece
+        × Brings stream.old piece messages.old.items messages.new.items result stream.new }
     ensures ends { EndsSo (S.left source.new) (S.failures source.old) (S.failures source.new) result }
 {
     let mut buffer = [0u8; PIECE];

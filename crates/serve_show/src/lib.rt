@@ -1,5 +1,5 @@
-//! What a running line says of itself: to the interlocking the sections and trains, as their centres show them one after
-//! another; how much of each log, clock and link is used up; and notes of what happens.
+//! What a running line says of itself: to the interlocking the sections and trains, as their centres show them one
+//! after another; how much of each log, clock and link is used up; and notes of what happens.
 //!
 //! Bodies are free. What is shown is fixed by docs/FORMATS.md.
 #![tactic(auto)]

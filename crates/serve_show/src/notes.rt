@@ -25,7 +25,8 @@ impl<R: Eprint> Notes for Loud<'_, R> {
     }
 }
 
-/// Hands each note to a thread that writes it, so that nobody waits for who reads the notes. Where too many wait, a note is lost.
+/// Hands each note to a thread that writes it, so that nobody waits for who reads the notes. Where too many wait, a
+/// note is lost.
 #[derive(Drop)]
 pub struct Queued<'a, R> {
     /// The handle by which it may wait.

@@ -23,7 +23,8 @@ impl<G: Gate, O: Outlet> Desk<'_, G, O> {
         share: &mut Share,
         event: Event,
     ) -> Result<Outcome, ShareFault>
-        ensures commits { IfOk result (λ o. CommitsAt (centre_of self.now.node.now) share.old share.new event (outcome_of o)) }
+        ensures commits { IfOk result
+            (λ o. CommitsAt (centre_of self.now.node.now) share.old share.new event (outcome_of o)) }
         ensures refused { IfErr result (RefusesAt (centre_of self.now.node.now) share.old event) }
         ensures err { OnErr result (share.new ≡ share.old) }
     {

@@ -19,7 +19,8 @@ pub enum SessionEnd {
 }
 
 impl SessionEnd {
-    /// The number by which a program names the end: 1 for the end of the stream, 2 for a fault, 3 for a read that failed, 4 for a refusal.
+    /// The number by which a program names the end: 1 for the end of the stream, 2 for a fault, 3 for a read that
+    /// failed, 4 for a refusal.
     pub fn number(self) -> u8
         ensures { result ≡ number_of_end self }
     {

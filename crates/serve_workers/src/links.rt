@@ -7,9 +7,10 @@ use rbc_centre::Event;
 use rbc_node::{Gate, Node, Share};
 use std::sync::Wait;
 
-/// Puts the frames that a centre sends to another on their link, in the order of their numbers. A frame that the link does not take is put
-/// again on the next turn. Once no session is left it ends where the centre has no further frame for the link, where the receiving worker has
-/// ended, or where that takes nothing for five seconds; what is not put stays with the centre.
+/// Puts the frames that a centre sends to another on their link, in the order of their numbers. A frame that the link
+/// does not take is put again on the next turn. Once no session is left it ends where the centre has no further frame
+/// for the link, where the receiving worker has ended, or where that takes nothing for five seconds; what is not put
+/// stays with the centre.
 pub fn send_frames<R: Wait, C: Carrier>(
     rt: &R,
     node: &Node,
@@ -43,8 +44,9 @@ pub fn send_frames<R: Wait, C: Carrier>(
     seen
 }
 
-/// Gets the frames that come from a centre, under the numbers of the order, and commits each that it gets at this centre. Once no session is
-/// left it ends where a commit is refused, and where no frame is there and the sending worker has ended, or puts nothing for five seconds.
+/// Gets the frames that come from a centre, under the numbers of the order, and commits each that it gets at this
+/// centre. Once no session is left it ends where a commit is refused, and where no frame is there and the sending
+/// worker has ended, or puts nothing for five seconds.
 pub fn receive_frames<R: Wait, C: Carrier, G: Gate, O: Outlet, N: Order>(
     rt: &R,
     desk: &Desk<'_, G, O>,

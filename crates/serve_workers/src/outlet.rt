@@ -1,7 +1,8 @@
 use rbc_centre::Outcome;
 use std::sync::Wait;
 
-/// Where what a centre answers goes on to: its messages to trains and its frames to links. What becomes of them there is not claimed.
+/// Where what a centre answers goes on to: its messages to trains and its frames to links. What becomes of them there
+/// is not claimed.
 pub trait Outlet {
     /// The connection that a message came over serves this engine from now on, by its NID_ENGINE.
     fn opened<R: Wait>(&self, rt: &R, nid_engine: u32);

@@ -14,9 +14,9 @@ use serve_reading::{Source, read_messages};
 use std::alloc::Global;
 use std::sync::Wait;
 
-/// Reads the messages of a train from a source, and commits each to the centre's log, in order. It ends with the source, at a fault of the
-/// bytes, at a read that fails and at a commit that is refused; the messages in front of a fault are committed first. A rest that is no
-/// whole message commits nothing.
+/// Reads the messages of a train from a source, and commits each to the centre's log, in order. It ends with the
+/// source, at a fault of the bytes, at a read that fails and at a commit that is refused; the messages in front of a
+/// fault are committed first. A rest that is no whole message commits nothing.
 pub fn run_session<R: Wait, S: Source, G: Gate, O: Outlet>(
     rt: &R,
     alloc: Global,
@@ -27,7 +27,8 @@ pub fn run_session<R: Wait, S: Source, G: Gate, O: Outlet>(
     outlet: &O,
 ) -> SessionEnd
     requires { S.failures source.old < 2 ^ 64 - 1 }
-    ensures serves { (read : List ℕ) × Consumes (S.left source.old) (S.left source.new) read × Serves (centre_of node.now) share.old share.new read result }
+    ensures serves { (read : List ℕ) × Consumes (S.left source.old) (S.left source.new) read
+        × Serves (centre_of node.now) share.old share.new read result }
     ensures ends { EndsSo (S.left source.new) (S.failures source.old) (S.failures source.new) result }
 {
     let mut stream = Stream::new(alloc);

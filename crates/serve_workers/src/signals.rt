@@ -6,7 +6,8 @@ use std::time::Duration;
 /// How long a worker rests at most before it looks again, in milliseconds.
 const REST: u64 = 50;
 
-/// How often a worker rests at the end, one time after another, while the worker at the other end of its link does nothing.
+/// How often a worker rests at the end, one time after another, while the worker at the other end of its link does
+/// nothing.
 const LAST_RESTS: u32 = 100;
 
 /// What the two workers of a directed link tell each other.
@@ -28,7 +29,8 @@ impl LinkEnds {
         }
     }
 
-    /// What the sending worker is told: its bell is rung where its centre has a frame for the link, and where there is room again.
+    /// What the sending worker is told: its bell is rung where its centre has a frame for the link, and where there is
+    /// room again.
     pub fn of_sender<'a>(&'a self, bell: &'a Parker, is_over: &'a AtomicBool) -> Signals<'a> {
         Signals {
             own: bell,
@@ -76,7 +78,8 @@ pub(crate) enum Stage {
 }
 
 impl Signals<'_> {
-    /// How far the end is. A worker asks before it looks at the link: what it then does not find does not come any more.
+    /// How far the end is. A worker asks before it looks at the link: what it then does not find does not come any
+    /// more.
     pub(crate) fn stage(&self) -> Stage {
         if !self.is_over.load(Ordering::SeqCst) {
             Stage::Running
@@ -115,8 +118,8 @@ impl Patience {
         Patience { rests: LAST_RESTS }
     }
 
-    /// Rests until the worker is rung, or for a while, and says whether it did: at the end only while the other end of the link goes on, and so
-    /// often.
+    /// Rests until the worker is rung, or for a while, and says whether it did: at the end only while the other end of
+    /// the link goes on, and so often.
     pub(crate) fn rests<R: Wait>(&mut self, rt: &R, signals: &Signals<'_>, stage: Stage) -> bool {
         match stage {
             Stage::Running => {}

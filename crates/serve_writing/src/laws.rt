@@ -2,9 +2,9 @@ ghost use Rattle.std.specs.Prelude.{◌≡◌, ℕ, List, ◌++◌, All};
 ghost use Rattle.rbc_spec.specs.Message.{TrackMessage};
 ghost use Rattle.serve_writing.specs.Turns.{Act, Goes, IsCounted, IsSaidBy, handed_in, let_out};
 
-/// Whatever is handed in to an order and let out of it, in any order of acts: let a centre have said these messages to a train since the order
-/// began, counted on from there, and let nothing else be handed in but what it said before. Then what the order lets out is a beginning of
-/// them, each once, in the order in which the centre said them.
+/// Whatever is handed in to an order and let out of it, in any order of acts: let a centre have said these messages to
+/// a train since the order began, counted on from there, and let nothing else be handed in but what it said before.
+/// Then what the order lets out is a beginning of them, each once, in the order in which the centre said them.
 pub fn an_order_lets_out_a_beginning()
     ensures { (said : List TrackMessage) (first : ℕ) (early : List TrackMessage) (acts : List Act)
         → IsCounted first said → All (IsSaidBy first said) early → All (IsSaidBy first said) (handed_in acts)

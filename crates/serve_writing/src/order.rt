@@ -7,8 +7,8 @@ use std::alloc::Global;
 /// How many replies wait for their turn at most.
 const MOST_EARLY: usize = 1_024;
 
-/// The order in which a centre's replies to one train go out. The threads that committed them hand them in as they come; a centre counts what
-/// it says to a train (T_TRAIN), so each reply has its turn, and waits for it.
+/// The order in which a centre's replies to one train go out. The threads that committed them hand them in as they
+/// come; a centre counts what it says to a train (T_TRAIN), so each reply has its turn, and waits for it.
 #[derive(Drop)]
 pub struct Order {
     // T_TRAIN of the reply whose turn it is.
@@ -46,7 +46,9 @@ impl Order {
     /// A reply is handed in, and waits for its turn. One whose turn is over is let go.
     pub fn hand_in(&mut self, reply: Reply) -> Result<(), NoRoom>
         ensures next { self.new.next ≡ self.old.next }
-        ensures ok { OnOk result (map message_of self.new.early.items ≡ kept self.old.next reply.message (map message_of self.old.early.items)) }
+        ensures ok { OnOk result
+            (map message_of self.new.early.items
+            ≡ kept self.old.next reply.message (map message_of self.old.early.items)) }
         ensures err { OnErr result (self.new.early.items ≡ self.old.early.items) }
     {
         if reply.message().t_train() < self.next {
@@ -68,7 +70,9 @@ impl Order {
     /// The reply whose turn it is, if it was handed in. The turn goes on to the next.
     pub fn let_out(&mut self) -> Option<Reply>
         ensures next { self.new.next ≡ (if is_some result then self.old.next + 1 else self.old.next) }
-        ensures some { IfSome result (λ reply. IsTurn self.old.next reply.message (map message_of self.old.early.items) (map message_of self.new.early.items)) }
+        ensures some { IfSome result
+            (λ reply. IsTurn self.old.next reply.message (map message_of self.old.early.items)
+            (map message_of self.new.early.items)) }
         ensures none { IfNone result (All (λ reply. reply.message.t_train ≢ self.old.next) self.old.early.items) }
         ensures left { IfNone result (self.new.early.items ≡ self.old.early.items) }
     {
@@ -81,7 +85,8 @@ impl Order {
 
 // Where the reply with this T_TRAIN stands.
 fn place_of(replies: &[Reply], t_train: u32) -> Option<usize>
-    ensures some { IfSome result (λ i. (i < length replies.now) × HoldsAt (λ reply. reply.message.t_train ≡ t_train) replies.now i) }
+    ensures some { IfSome result
+        (λ i. (i < length replies.now) × HoldsAt (λ reply. reply.message.t_train ≡ t_train) replies.now i) }
     ensures none { IfNone result (All (λ reply. reply.message.t_train ≢ t_train) replies.now) }
 {
     for (place, reply) in replies.iter().enumerate() {

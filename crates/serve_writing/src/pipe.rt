@@ -5,8 +5,9 @@ use std::io::{ErrorKind, Write};
 use std::sync::atomic::{AtomicU64, Ordering};
 use std::sync::{Mutex, MutexGuard, Wait};
 
-/// Where the replies of one connection are written. Its writer writes those that wait; where none waits, the thread that reads the connection
-/// writes its own. So a reply is never written among the bytes of another, and never in front of one that waits.
+/// Where the replies of one connection are written. Its writer writes those that wait; where none waits, the thread
+/// that reads the connection writes its own. So a reply is never written among the bytes of another, and never in front
+/// of one that waits.
 #[derive(Drop)]
 pub struct Pipe<W: Drop> {
     // How many bytes wait for the writer.

@@ -11,15 +11,17 @@ use std::sync::Wait;
 #[derive(Clone, Copy, Debug, PartialEq, Eq)]
 pub struct WriteFailed;
 
-/// Writes the replies that come, until no more can come, or a write fails. What is written is a row of whole messages; only behind a write
-/// that failed is the last one perhaps no more than begun.
+/// Writes the replies that come, until no more can come, or a write fails. What is written is a row of whole messages;
+/// only behind a write that failed is the last one perhaps no more than begun.
 pub fn run_writer<R: Wait, W: Write>(
     rt: &R,
     replies: &Receiver<Reply>,
     out: &mut W,
 ) -> Result<(), WriteFailed>
-    ensures ok { OnOk result ((bytes : List ℕ) × IsRow bytes × Appends (W.contents out.old) (W.contents out.new) bytes) }
-    ensures err { OnErr result ((bytes : List ℕ) × IsBegunRow bytes × Appends (W.contents out.old) (W.contents out.new) bytes) }
+    ensures ok { OnOk result
+        ((bytes : List ℕ) × IsRow bytes × Appends (W.contents out.old) (W.contents out.new) bytes) }
+    ensures err { OnErr result
+        ((bytes : List ℕ) × IsBegunRow bytes × Appends (W.contents out.old) (W.contents out.new) bytes) }
 {
     for _ in rt.forever() {
         let Ok(reply) = replies.recv(rt) else {

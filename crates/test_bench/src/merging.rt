@@ -8,8 +8,8 @@ use rbc_log::{CentreLog, merge};
 use std::alloc::Global;
 use std::time::Instant;
 
-/// Gives each centre of a line a log of so many entries, with the same stamps, and merges the logs. It prints how many entries there are, and
-/// how many nanoseconds each took.
+/// Gives each centre of a line a log of so many entries, with the same stamps, and merges the logs. It prints how many
+/// entries there are, and how many nanoseconds each took.
 pub fn measure_merge(rt: &HostRuntime, line: &str, entries: u32) -> anyhow::Result<()> {
     let line = line_in(rt, line)?;
     let logs = logs_of(rt.alloc(), &line, entries)?;

@@ -38,8 +38,8 @@ fn print_each<W: Write>(
     Ok(())
 }
 
-/// Plays a script on a line so often, each time in a new world, and prints how many events a second the fastest turn took and the
-/// bytes of its messages to trains. Only the steps and the writing of messages are timed.
+/// Plays a script on a line so often, each time in a new world, and prints how many events a second the fastest turn
+/// took and the bytes of its messages to trains. Only the steps and the writing of messages are timed.
 pub fn measure_steps(rt: &HostRuntime, line: &str, script: &str, turns: u32) -> anyhow::Result<()> {
     let alloc = rt.alloc();
     let line = line_in(rt, line)?;
@@ -84,8 +84,8 @@ fn events_in(rt: &HostRuntime, line: &Line, file: &str) -> anyhow::Result<Vec<Wo
     Ok(events)
 }
 
-// Takes the events one after another: how many bytes of messages were written to trains. None where a step was refused or memory
-// ran out.
+// Takes the events one after another: how many bytes of messages were written to trains. None where a step was refused
+// or memory ran out.
 fn play(alloc: Global, world: &mut World, events: &[WorldEvent]) -> Option<usize> {
     let mut bytes = 0usize;
     for event in events {

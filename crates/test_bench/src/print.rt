@@ -8,8 +8,8 @@ use std::alloc::{AllocError, Global};
 use std::io;
 use std::io::Write;
 
-/// Prints an answer: the stamp of a step, each message with its engine, each frame with its receiver, each word, that a frame is old or
-/// early, and the reason of silence; or why no centre took a step.
+/// Prints an answer: the stamp of a step, each message with its engine, each frame with its receiver, each word, that a
+/// frame is old or early, and the reason of silence; or why no centre took a step.
 pub fn print_answer<W: Write>(alloc: Global, out: &mut W, answer: &Answer) -> io::Result<()> {
     match answer {
         Answer::Outcome(outcome) => print_outcome(alloc, out, outcome),

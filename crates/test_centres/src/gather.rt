@@ -112,7 +112,8 @@ fn what_two_centres_take_side_by_side_is_one_run(rt: HostRuntime) -> Result<(), 
     Ok(())
 }
 
-// A start at A of a train that B registers, as the world takes it, with the frames that then ask for the right and give it.
+// A start at A of a train that B registers, as the world takes it, with the frames that then ask for the right and give
+// it.
 fn start_in_the_world(alloc: Global) -> Result<Vec<WorldEvent>, Fail> {
     let set = WorldEvent::Set {
         centre: A,
@@ -179,8 +180,8 @@ fn take_frame<R: Wait>(
     commit_all(rt, node, share, events)
 }
 
-// The nodes take a start at A of a train that B registers, and the frames in which the right is asked for and given: the frames from A to
-// B before and behind the start, those from A to itself, and those from B to A.
+// The nodes take a start at A of a train that B registers, and the frames in which the right is asked for and given:
+// the frames from A to B before and behind the start, those from A to itself, and those from B to A.
 fn begun<R: Wait>(
     rt: &R,
     alloc: Global,

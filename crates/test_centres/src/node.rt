@@ -8,8 +8,8 @@ use std::test::*;
 use std::thread;
 use std::thread::Threads;
 
-// A takes two sets with its share, and refuses one with B's: the stamps; how many receipts A's share has, and the place and the stamp of the
-// last; and why the third is refused.
+// A takes two sets with its share, and refuses one with B's: the stamps; how many receipts A's share has, and the place
+// and the stamp of the last; and why the third is refused.
 fn taken_and_refused<R: Wait>(
     rt: &R,
     alloc: Global,
@@ -59,8 +59,8 @@ fn last_of(share: &Share) -> Result<(usize, usize, u32), Fail> {
     Ok((share.receipts().len(), last.place, last.outcome.stamp))
 }
 
-// A share with a receipt of A comes to A as it begins again: before that has taken anything, and behind another set. Why it is refused each
-// time, and how many receipts it has then.
+// A share with a receipt of A comes to A as it begins again: before that has taken anything, and behind another set.
+// Why it is refused each time, and how many receipts it has then.
 fn refused_where_a_begins_again<R: Wait>(
     rt: &R,
     alloc: Global,

@@ -28,8 +28,8 @@ pub fn both(alloc: Global) -> Result<(Node, Node), Fail> {
     Ok((a, b))
 }
 
-/// Holds the commit of A back under its lock until the commit of B is answered, and once more behind its lock until another commit
-/// of A is answered: each time at most so many turns. Counts the commits that are over.
+/// Holds the commit of A back under its lock until the commit of B is answered, and once more behind its lock until
+/// another commit of A is answered: each time at most so many turns. Counts the commits that are over.
 #[derive(Drop)]
 pub struct Held {
     pub is_begun: AtomicBool,

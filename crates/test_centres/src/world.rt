@@ -46,8 +46,8 @@ fn events_are_run_in_order(rt: HostRuntime) -> Result<(), Fail> {
     Ok(())
 }
 
-// Made to be run with each allocation failing in turn (`rt try --test --fail-alloc N`): a step that memory refused changed nothing, and
-// is taken again.
+// Made to be run with each allocation failing in turn (`rt try --test --fail-alloc N`): a step that memory refused
+// changed nothing, and is taken again.
 #[test]
 fn a_right_is_asked_for_and_given_between_centres(rt: HostRuntime) -> Result<(), Fail> {
     let (asked, given, sayings, again) = played(rt.alloc())?;
@@ -64,8 +64,9 @@ type Answered = (Option<LinkAnswer>, Option<Frame>);
 /// What the link says to a frame that comes again, and whether no frame is sent then.
 type Again = (Option<LinkAnswer>, bool);
 
-// A train starts at centre 0. The frame that asks for its right is delivered, then the one that gives it, and then the first again: the
-// frame that asks, what centre 1 answers, how much centre 0 says to the train, and what comes of the frame that comes again.
+// A train starts at centre 0. The frame that asks for its right is delivered, then the one that gives it, and then the
+// first again: the frame that asks, what centre 1 answers, how much centre 0 says to the train, and what comes of the
+// frame that comes again.
 fn played(alloc: Global) -> Result<(Option<Frame>, Answered, usize, Again), Fail> {
     let line = two_centres(alloc)?;
     let mut world = World::new(alloc, &line)?;

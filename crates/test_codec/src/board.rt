@@ -1,4 +1,5 @@
-//! A board carries a frame from one caller to another, and takes one under each number; so does a queue, which has room for 64.
+//! A board carries a frame from one caller to another, and takes one under each number; so does a queue, which has room
+//! for 64.
 ghost use Rattle.std.specs.Prelude.{◌≤◌};
 
 use rbc_board::{Carrier, CellBoard, QueueCarrier};
@@ -10,7 +11,8 @@ fn asked() -> Frame {
     Frame::new(1, 4, Body::AskRight { engine: 2 })
 }
 
-// A frame is put twice under number 1: what another caller gets there before and between, and then under number 2; and what each put says.
+// A frame is put twice under number 1: what another caller gets there before and between, and then under number 2; and
+// what each put says.
 fn put_twice(board: &CellBoard) -> Result<([Option<Frame>; 3], [Result<(), Frame>; 2]), Fail> {
     let mut sender = board.seen()?;
     let mut receiver = board.seen()?;
@@ -66,7 +68,8 @@ fn puts_all<C: Carrier>(carrier: &C, seen: &mut C::Seen, count: u32) -> bool
     true
 }
 
-// A full queue is asked for one frame more than it has room for, before the receiver takes the first and behind that: what the puts say.
+// A full queue is asked for one frame more than it has room for, before the receiver takes the first and behind that:
+// what the puts say.
 fn put_past_the_room<C: Carrier>(
     carrier: &C,
     sender: &mut C::Seen,

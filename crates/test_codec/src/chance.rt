@@ -9,7 +9,8 @@ pub fn next_of(seed: u32) -> u32 {
     seed.wrapping_mul(1_664_525).wrapping_add(1_013_904_223)
 }
 
-/// So many bytes of chance: the number and the stamp are small, and the kind is one of sixteen, so that many of them spell a frame.
+/// So many bytes of chance: the number and the stamp are small, and the kind is one of sixteen, so that many of them
+/// spell a frame.
 pub fn bytes_by_chance(alloc: Global, seed: u32, count: usize) -> Result<Vec<u8>, AllocError>
     ensures { IfOk result (λ bytes. length bytes.items ≡ count) }
 {

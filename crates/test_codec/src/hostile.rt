@@ -1,4 +1,5 @@
-//! Bytes of chance in place of a message, as somebody sends them who means ill: each is a message, or has a fault of the format.
+//! Bytes of chance in place of a message, as somebody sends them who means ill: each is a message, or has a fault of
+//! the format.
 
 use crate::bytes::bytes_of;
 use crate::chance::Chance;

@@ -1,12 +1,13 @@
-//! A train's messages on a stream, in whatever pieces its bytes come, and written again. No command reads a stream or writes what a train says.
+//! A train's messages on a stream, in whatever pieces its bytes come, and written again. No command reads a stream or
+//! writes what a train says.
 
 use crate::bytes::bytes_of;
 use rbc_msgs::{MsgFault, Stream, StreamFault, TrainMsg, encode_train};
 use std::alloc::Global;
 use std::test::*;
 
-// A stream in pieces, parted by commas (`-` has no bytes), and what each call gives, parted by semicolons: the bytes of the
-// messages that it appends, and its fault.
+// A stream in pieces, parted by commas (`-` has no bytes), and what each call gives, parted by semicolons: the bytes of
+// the messages that it appends, and its fault.
 static STREAMS: [(&str, &str); 11] = [
     (
         "9B,02,80,00,00,00,40,00,00,40",
@@ -159,7 +160,8 @@ static TRAIN_DATA: [u8; 28] = [
     0x58, 0x50, 0x01, 0x40, 0x05, 0x10, 0x19, 0x00, 0x10, 0x61, 0x60, 0x15,
 ];
 
-// Feeds the message, and then again in two pieces: whether memory was there, and whether each call told the want of it, the first as such.
+// Feeds the message, and then again in two pieces: whether memory was there, and whether each call told the want of it,
+// the first as such.
 fn fed(alloc: Global, messages: &mut Vec<TrainMsg>) -> (bool, bool) {
     let mut stream = Stream::new(alloc);
     let mut memory = true;

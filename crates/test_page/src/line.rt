@@ -31,7 +31,8 @@ pub fn layout(alloc: Global) -> Result<Layout, AllocError> {
     Ok(layout)
 }
 
-/// What its centres have of it behind five events: train 19 stands in section 0, section 2 is kept for it, and section 3 is not released.
+/// What its centres have of it behind five events: train 19 stands in section 0, section 2 is kept for it, and section
+/// 3 is not released.
 pub fn now(alloc: Global) -> Result<LineNow, AllocError> {
     let mut now = LineNow {
         events: 5,

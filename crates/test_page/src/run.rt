@@ -5,8 +5,8 @@ use cli_page::{Changes, Part, Phase, RunSheet, SectionNow, Usage};
 use std::alloc::Global;
 use std::test::*;
 
-// The page of the last two of seven events, behind which the line is as `now` has it. Section 2 is kept from event 6 on, train 19 has a mission
-// from event 6 on, and a session with A between events 5 and 7.
+// The page of the last two of seven events, behind which the line is as `now` has it. Section 2 is kept from event 6
+// on, train 19 has a mission from event 6 on, and a session with A between events 5 and 7.
 fn page(alloc: Global) -> Result<String, Fail> {
     let (layout, now) = (layout(alloc)?, now(alloc)?);
     let mut sheet = RunSheet::new(alloc, &layout)?;

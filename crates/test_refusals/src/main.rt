@@ -1,7 +1,7 @@
-//! A train's start over two nodes, as a program whose allocations `bench/refuse --nodes` refuses in turn: a session over
-//! bytes in memory, a frame each way over a queue, a writer, and then what the nodes took, gathered and merged. What
-//! memory refuses is tried once more, so the same is printed whichever allocation is refused; but `gather` drops what
-//! it was given, and says so.
+//! A train's start over two nodes, as a program whose allocations `bench/refuse --nodes` refuses in turn: a session
+//! over bytes in memory, a frame each way over a queue, a writer, and then what the nodes took, gathered and merged.
+//! What memory refuses is tried once more, so the same is printed whichever allocation is refused; but `gather` drops
+//! what it was given, and says so.
 //!
 //! What is expected comes from the standard or from the rules in words, never from the program's own output.
 #![tactic(auto)]

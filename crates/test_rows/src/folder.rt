@@ -15,7 +15,8 @@ impl<R: rt::Files + AllocGlobal> Folder<'_, R> {
         fs::read(self.rt, path.as_str()).ok()
     }
 
-    // The text of the file of this name, and behind it that of the file `NAME-again`, as often as the file `NAME-times` says.
+    // The text of the file of this name, and behind it that of the file `NAME-again`, as often as the file `NAME-times`
+    // says.
     fn with_more(&self, name: &str, mut text: String) -> Option<String> {
         let file = format!(in self.rt.alloc(); "{name}-again").ok()?;
         let Some(bytes) = self.bytes(file.as_str()) else {

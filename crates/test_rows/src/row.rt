@@ -49,8 +49,8 @@ fn page_of<R: rt::Files + AllocGlobal>(alloc: Global, row: &Folder<'_, R>, file:
     }
 }
 
-/// Whether a stream is the row's file of its name, and empty where there is none; or any text but the empty one where the
-/// row has the second file.
+/// Whether a stream is the row's file of its name, and empty where there is none; or any text but the empty one where
+/// the row has the second file.
 fn is_as_told<R: rt::Files + AllocGlobal, W: Write>(
     alloc: Global,
     row: &Folder<'_, R>,

@@ -21,13 +21,15 @@ pub fn late_frames()
     ensures cleared_with_a_pool { seen line cleared_with_a_pool ≡ cleared_with_a_pool_shows }
     ensures cleared_over_the_border { seen line cleared_over_the_border ≡ cleared_over_the_border_shows }
     ensures whole_hand_is_cut { seen line whole_hand_is_cut ≡ whole_hand_is_cut_shows }
-    ensures session_opens_over_a_waiting_start { seen line session_opens_over_a_waiting_start ≡ session_opens_over_a_waiting_start_shows }
+    ensures session_opens_over_a_waiting_start { seen line session_opens_over_a_waiting_start
+        ≡ session_opens_over_a_waiting_start_shows }
 {}
 
 /// The scenes of late frames, met.
 pub fn races_met()
     ensures withdrawn_from_the_pool { IsMetByRun line withdrawn_from_the_pool withdrawn_from_the_pool_moves }
-    ensures first_of_the_pool_withdrawn { IsMetByRun line first_of_the_pool_withdrawn first_of_the_pool_withdrawn_moves }
+    ensures first_of_the_pool_withdrawn { IsMetByRun line first_of_the_pool_withdrawn
+        first_of_the_pool_withdrawn_moves }
     ensures last_of_the_pool_withdrawn { IsMetByRun line last_of_the_pool_withdrawn last_of_the_pool_withdrawn_moves }
     ensures route_for_an_ended_mission { IsMetByRun line route_for_an_ended_mission route_for_an_ended_mission_moves }
     ensures end_of_mission_with_a_pool { IsMetByRun line end_of_mission_with_a_pool end_of_mission_with_a_pool_moves }
@@ -38,5 +40,6 @@ pub fn races_met()
     ensures cleared_with_a_pool { IsMetByRun line cleared_with_a_pool cleared_with_a_pool_moves }
     ensures cleared_over_the_border { IsMetByRun line cleared_over_the_border cleared_over_the_border_moves }
     ensures whole_hand_is_cut { IsMetByRun line whole_hand_is_cut whole_hand_is_cut_moves }
-    ensures session_opens_over_a_waiting_start { IsMetByRun line session_opens_over_a_waiting_start (plain session_opens_over_a_waiting_start) }
+    ensures session_opens_over_a_waiting_start { IsMetByRun line session_opens_over_a_waiting_start
+        (plain session_opens_over_a_waiting_start) }
 {}

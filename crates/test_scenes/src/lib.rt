@@ -39,7 +39,8 @@ pub use not_allowed::{moves_not_allowed, two_yields_on_the_way};
 pub use one_places::each_thing_stays_in_one_place;
 pub use outside::{trains_side_by_side_are_seen, wrong_answers_are_seen};
 
-/// What the interlocking is told, how sessions are opened and ended, and how missions start at the registrar and elsewhere.
+/// What the interlocking is told, how sessions are opened and ended, and how missions start at the registrar and
+/// elsewhere.
 pub fn sessions_and_starts()
     ensures nothing_happens { seen line nothing_happens ≡ nothing_happens_shows }
     ensures set_and_unset { seen line set_and_unset ≡ set_and_unset_shows }
@@ -49,14 +50,16 @@ pub fn sessions_and_starts()
     ensures session_opens_over_a_session { seen line session_opens_over_a_session ≡ session_opens_over_a_session_shows }
     ensures session_ends { seen line session_ends ≡ session_ends_shows }
     ensures messages_without_a_session { seen line messages_without_a_session ≡ messages_without_a_session_show }
-    ensures messages_before_the_session_is_up { seen line messages_before_the_session_is_up ≡ messages_before_the_session_is_up_show }
+    ensures messages_before_the_session_is_up { seen line messages_before_the_session_is_up
+        ≡ messages_before_the_session_is_up_show }
     ensures messages_without_a_mission { seen line messages_without_a_mission ≡ messages_without_a_mission_show }
     ensures first_reason { seen line first_reason ≡ first_reason_shows }
     ensures start_at_the_registrar { seen line start_at_the_registrar ≡ start_at_the_registrar_shows }
     ensures start_at_a_shut_section { seen line start_at_a_shut_section ≡ start_at_a_shut_section_shows }
     ensures request_without_train_data { seen line request_without_train_data ≡ request_without_train_data_shows }
     ensures hand_outlives_the_session { seen line hand_outlives_the_session ≡ hand_outlives_the_session_shows }
-    ensures start_after_the_end_of_mission { seen line start_after_the_end_of_mission ≡ start_after_the_end_of_mission_shows }
+    ensures start_after_the_end_of_mission { seen line start_after_the_end_of_mission
+        ≡ start_after_the_end_of_mission_shows }
     ensures unset_of_the_first_section { seen line unset_of_the_first_section ≡ unset_of_the_first_section_shows }
     ensures right_comes { seen line right_comes ≡ right_comes_shows }
     ensures right_goes_back { seen line right_goes_back ≡ right_goes_back_shows }
@@ -72,15 +75,18 @@ pub fn requests_and_reports()
     ensures end_of_the_track { seen line_of_two_tracks end_of_the_track ≡ end_of_the_track_shows }
     ensures report_clears { seen line report_clears ≡ report_clears_shows }
     ensures no_integrity_frees_nothing { seen line no_integrity_frees_nothing ≡ no_integrity_frees_nothing_shows }
-    ensures request_extends_over_the_border { seen line request_extends_over_the_border ≡ request_extends_over_the_border_shows }
+    ensures request_extends_over_the_border { seen line request_extends_over_the_border
+        ≡ request_extends_over_the_border_shows }
     ensures early_frame { seen line early_frame ≡ early_frame_shows }
     ensures hand_of_32_sections { seen (line_of_one 40 100) hand_of_32_sections ≡ hand_of_32_sections_shows }
-    ensures end_within_reach_of_the_message { seen (line_of_one 20 2000) end_within_reach_of_the_message ≡ end_within_reach_of_the_message_shows }
+    ensures end_within_reach_of_the_message { seen (line_of_one 20 2000) end_within_reach_of_the_message
+        ≡ end_within_reach_of_the_message_shows }
     ensures longest_authority { seen (line_of_32_km 767) longest_authority ≡ longest_authority_shows }
     ensures one_metre_too_far { seen (line_of_32_km 768) one_metre_too_far ≡ one_metre_too_far_shows }
     ensures end_of_mission { seen line end_of_mission ≡ end_of_mission_shows }
     ensures end_at_standstill { seen line end_at_standstill ≡ end_at_standstill_shows }
-    ensures end_at_standstill_with_a_wish { seen line end_at_standstill_with_a_wish ≡ end_at_standstill_with_a_wish_shows }
+    ensures end_at_standstill_with_a_wish { seen line end_at_standstill_with_a_wish
+        ≡ end_at_standstill_with_a_wish_shows }
     ensures end_before_the_hand { seen line end_before_the_hand ≡ end_before_the_hand_shows }
     ensures end_at_the_end_of_the_hand { seen line end_at_the_end_of_the_hand ≡ end_at_the_end_of_the_hand_shows }
 {}
@@ -88,11 +94,14 @@ pub fn requests_and_reports()
 /// How a section of a hand is wished back, and what the train answers.
 pub fn authorities_shortened()
     ensures unset_in_a_hand { seen line unset_in_a_hand ≡ unset_in_a_hand_shows }
-    ensures start_drops_the_proposal { seen (line_of_one 8 1000) start_drops_the_proposal ≡ start_drops_the_proposal_shows }
-    ensures shortening_in_one_centre { seen (line_of_one 8 1000) shortening_in_one_centre ≡ shortening_in_one_centre_shows }
+    ensures start_drops_the_proposal { seen (line_of_one 8 1000) start_drops_the_proposal
+        ≡ start_drops_the_proposal_shows }
+    ensures shortening_in_one_centre { seen (line_of_one 8 1000) shortening_in_one_centre
+        ≡ shortening_in_one_centre_shows }
     ensures shortening_and_a_late_route { seen line shortening_and_a_late_route ≡ shortening_and_a_late_route_shows }
     ensures answer_to_another_proposal { seen line answer_to_another_proposal ≡ answer_to_another_proposal_shows }
-    ensures granted_past_the_proposed_end { seen line granted_past_the_proposed_end ≡ granted_past_the_proposed_end_shows }
+    ensures granted_past_the_proposed_end { seen line granted_past_the_proposed_end
+        ≡ granted_past_the_proposed_end_shows }
     ensures another_answer_at_the_border { seen line another_answer_at_the_border ≡ another_answer_at_the_border_shows }
     ensures asking_again_tries_again { seen line asking_again_tries_again ≡ asking_again_tries_again_shows }
 {}
@@ -101,7 +110,8 @@ pub fn authorities_shortened()
 pub fn trains_handed_over()
     ensures handover { seen line handover ≡ handover_shows }
     ensures return_after_handover { seen line return_after_handover ≡ return_after_handover_shows }
-    ensures yield_carries_the_last_stamp_heard { seen line yield_carries_the_last_stamp_heard ≡ yield_carries_the_last_stamp_heard_shows }
+    ensures yield_carries_the_last_stamp_heard { seen line yield_carries_the_last_stamp_heard
+        ≡ yield_carries_the_last_stamp_heard_shows }
     ensures cancelled_before_taking_over { seen line cancelled_before_taking_over ≡ cancelled_before_taking_over_shows }
 {}
 
@@ -112,17 +122,21 @@ pub fn over_three_centres()
     ensures yield_with_a_third_home { seen (line_of_three 0) yield_with_a_third_home ≡ yield_with_a_third_home_shows }
     ensures wish_at_a_third_centre { seen (line_of_three 0) wish_at_a_third_centre ≡ wish_at_a_third_centre_shows }
     ensures any_two_are_linked { seen (line_of_three 1) any_two_are_linked ≡ any_two_are_linked_shows }
-    ensures each_home_gets_its_section_back { seen (line_of_three 0) each_home_gets_its_section_back ≡ each_home_gets_its_section_back_shows }
-    ensures ended_mission_is_yielded { seen (line_of_three 0) ended_mission_is_yielded ≡ ended_mission_is_yielded_shows }
-    ensures stands_still_before_the_third { seen (line_of_three 0) stands_still_before_the_third ≡ stands_still_before_the_third_shows }
+    ensures each_home_gets_its_section_back { seen (line_of_three 0) each_home_gets_its_section_back
+        ≡ each_home_gets_its_section_back_shows }
+    ensures ended_mission_is_yielded { seen (line_of_three 0) ended_mission_is_yielded
+        ≡ ended_mission_is_yielded_shows }
+    ensures stands_still_before_the_third { seen (line_of_three 0) stands_still_before_the_third
+        ≡ stands_still_before_the_third_shows }
 {}
 
-/// When a step is refused, what is answered to a frame of a centre without a link, that no section past the 512th is asked for, and
-/// that a run gives the answers of its steps.
+/// When a step is refused, what is answered to a frame of a centre without a link, that no section past the 512th is
+/// asked for, and that a run gives the answers of its steps.
 pub fn refused_steps()
     ensures last_stamp { stamps line last_stamp_is_taken (beginning line 0) ≡ last_stamp_is_taken_shows }
     ensures past_the_last { stamps line stamp_past_the_last (beginning line 0) ≡ stamp_past_the_last_shows }
-    ensures no_link { stamps (line_of_three 1) frame_without_a_link (beginning (line_of_three 1) 0) ≡ frame_without_a_link_shows }
+    ensures no_link { stamps (line_of_three 1) frame_without_a_link (beginning (line_of_three 1) 0)
+        ≡ frame_without_a_link_shows }
     ensures three_numbers_left { stamps line (Set 0 ∷ []) (having_sent 65533) ≡ Err LinkFull ∷ [] }
     ensures whole_run { run_items (world_run line (new_world line) set_and_session) ≡ set_and_session_shows }
     ensures full_hand { asks_behind (record { first = 470; count = 5 }) ≡ RouteAsk 1 475 27 ∷ [] }
@@ -130,24 +144,28 @@ pub fn refused_steps()
     ensures four_numbers_left { stamps line (Set 0 ∷ []) (having_sent 65532) ≡ Ok (1, None) ∷ [] }
 {}
 
-/// The scenes of sessions and starts, met. Of a start it is shown whole that the state of the line centre stands for the centres.
+/// The scenes of sessions and starts, met. Of a start it is shown whole that the state of the line centre stands for
+/// the centres.
 pub fn starts_met()
     ensures nothing_happens { IsMetByRun line nothing_happens (plain nothing_happens) }
     ensures set_and_unset { IsMetByRun line set_and_unset (plain set_and_unset) }
     ensures session_opens { IsMetByRun line session_opens (plain session_opens) }
     ensures session_opens_again { IsMetByRun line session_opens_again (plain session_opens_again) }
     ensures trains_are_named { IsMetByRun line trains_are_named trains_are_named_moves }
-    ensures session_opens_over_a_session { IsMetByRun line session_opens_over_a_session (plain session_opens_over_a_session) }
+    ensures session_opens_over_a_session { IsMetByRun line session_opens_over_a_session
+        (plain session_opens_over_a_session) }
     ensures session_ends { IsMetByRun line session_ends (plain session_ends) }
     ensures messages_without_a_session { IsMetByRun line messages_without_a_session (plain messages_without_a_session) }
-    ensures messages_before_the_session_is_up { IsMetByRun line messages_before_the_session_is_up (plain messages_before_the_session_is_up) }
+    ensures messages_before_the_session_is_up { IsMetByRun line messages_before_the_session_is_up
+        (plain messages_before_the_session_is_up) }
     ensures messages_without_a_mission { IsMetByRun line messages_without_a_mission (plain messages_without_a_mission) }
     ensures first_reason { IsMetByRun line first_reason (plain first_reason) }
     ensures start_at_the_registrar { IsMetByRun line start_at_the_registrar start_moves }
     ensures start_at_a_shut_section { IsMetByRun line start_at_a_shut_section (plain start_at_a_shut_section) }
     ensures request_without_train_data { IsMetByRun line request_without_train_data (plain request_without_train_data) }
     ensures hand_outlives_the_session { IsMetByRun line hand_outlives_the_session (plain hand_outlives_the_session) }
-    ensures start_after_the_end_of_mission { IsMetByRun line start_after_the_end_of_mission (plain start_after_the_end_of_mission) }
+    ensures start_after_the_end_of_mission { IsMetByRun line start_after_the_end_of_mission
+        (plain start_after_the_end_of_mission) }
     ensures unset_of_the_first_section { IsMetByRun line unset_of_the_first_section (plain unset_of_the_first_section) }
     ensures right_comes { IsMetByRun line right_comes right_comes_moves }
     ensures right_goes_back { IsMetByRun line right_goes_back (plain right_goes_back) }
@@ -167,12 +185,14 @@ pub fn requests_met()
     ensures request_extends_over_the_border { IsMetByRun line request_extends_over_the_border over_the_border_moves }
     ensures early_frame { IsMetByRun line early_frame early_frame_moves }
     ensures hand_of_32_sections { IsMetByRun (line_of_one 40 100) hand_of_32_sections hand_of_32_sections_moves }
-    ensures end_within_reach_of_the_message { IsMetByRun (line_of_one 20 2000) end_within_reach_of_the_message end_within_reach_of_the_message_moves }
+    ensures end_within_reach_of_the_message { IsMetByRun
+        (line_of_one 20 2000) end_within_reach_of_the_message end_within_reach_of_the_message_moves }
     ensures longest_authority { IsMetByRun (line_of_32_km 767) longest_authority longest_authority_moves }
     ensures one_metre_too_far { IsMetByRun (line_of_32_km 768) one_metre_too_far one_metre_too_far_moves }
     ensures end_of_mission { IsMetByRun line end_of_mission end_of_mission_moves }
     ensures end_at_standstill { IsMetByRun line end_at_standstill end_at_standstill_moves }
-    ensures end_at_standstill_with_a_wish { IsMetByRun line end_at_standstill_with_a_wish end_at_standstill_with_a_wish_moves }
+    ensures end_at_standstill_with_a_wish { IsMetByRun line end_at_standstill_with_a_wish
+        end_at_standstill_with_a_wish_moves }
     ensures end_before_the_hand { IsMetByRun line end_before_the_hand end_before_the_hand_moves }
     ensures end_at_the_end_of_the_hand { IsMetByRun line end_at_the_end_of_the_hand end_at_the_end_of_the_hand_moves }
 {}
@@ -180,12 +200,16 @@ pub fn requests_met()
 /// The scenes of requests to shorten, met.
 pub fn shortenings_met()
     ensures unset_in_a_hand { IsMetByRun line unset_in_a_hand unset_in_a_hand_moves }
-    ensures start_drops_the_proposal { IsMetByRun (line_of_one 8 1000) start_drops_the_proposal start_drops_the_proposal_moves }
-    ensures shortening_in_one_centre { IsMetByRun (line_of_one 8 1000) shortening_in_one_centre shortening_in_one_centre_moves }
+    ensures start_drops_the_proposal { IsMetByRun
+        (line_of_one 8 1000) start_drops_the_proposal start_drops_the_proposal_moves }
+    ensures shortening_in_one_centre { IsMetByRun
+        (line_of_one 8 1000) shortening_in_one_centre shortening_in_one_centre_moves }
     ensures shortening_and_a_late_route { IsMetByRun line shortening_and_a_late_route late_route_moves }
     ensures answer_to_another_proposal { IsMetByRun line answer_to_another_proposal answer_to_another_proposal_moves }
-    ensures granted_past_the_proposed_end { IsMetByRun line granted_past_the_proposed_end granted_past_the_proposed_end_moves }
-    ensures another_answer_at_the_border { IsMetByRun line another_answer_at_the_border another_answer_at_the_border_moves }
+    ensures granted_past_the_proposed_end { IsMetByRun line granted_past_the_proposed_end
+        granted_past_the_proposed_end_moves }
+    ensures another_answer_at_the_border { IsMetByRun line another_answer_at_the_border
+        another_answer_at_the_border_moves }
     ensures asking_again_tries_again { IsMetByRun line asking_again_tries_again asking_again_tries_again_moves }
 {}
 
@@ -193,7 +217,8 @@ pub fn shortenings_met()
 pub fn handovers_met()
     ensures handover { IsMetByRun line handover (handed_over_moves 7) }
     ensures return_after_handover { IsMetByRun line return_after_handover return_moves }
-    ensures yield_carries_the_last_stamp_heard { IsMetByRun line yield_carries_the_last_stamp_heard last_stamp_heard_moves }
+    ensures yield_carries_the_last_stamp_heard { IsMetByRun line yield_carries_the_last_stamp_heard
+        last_stamp_heard_moves }
     ensures cancelled_before_taking_over { IsMetByRun line cancelled_before_taking_over cancelled_moves }
 {}
 
@@ -201,12 +226,16 @@ pub fn handovers_met()
 pub fn three_centres_met()
     ensures border_of_the_first { IsMetByRun (line_of_three 0) border_of_the_first from_the_first_moves }
     ensures second_takes_over { IsMetByRun (line_of_three 0) second_takes_over from_the_second_moves }
-    ensures yield_with_a_third_home { IsMetByRun (line_of_three 0) yield_with_a_third_home yield_with_a_third_home_moves }
+    ensures yield_with_a_third_home { IsMetByRun
+        (line_of_three 0) yield_with_a_third_home yield_with_a_third_home_moves }
     ensures wish_at_a_third_centre { IsMetByRun (line_of_three 0) wish_at_a_third_centre wish_at_a_third_centre_moves }
     ensures any_two_are_linked { IsMetByRun (line_of_three 1) any_two_are_linked any_two_are_linked_moves }
-    ensures each_home_gets_its_section_back { IsMetByRun (line_of_three 0) each_home_gets_its_section_back each_home_gets_its_section_back_moves }
-    ensures ended_mission_is_yielded { IsMetByRun (line_of_three 0) ended_mission_is_yielded ended_mission_is_yielded_moves }
-    ensures stands_still_before_the_third { IsMetByRun (line_of_three 0) stands_still_before_the_third stands_still_before_the_third_moves }
+    ensures each_home_gets_its_section_back { IsMetByRun
+        (line_of_three 0) each_home_gets_its_section_back each_home_gets_its_section_back_moves }
+    ensures ended_mission_is_yielded { IsMetByRun
+        (line_of_three 0) ended_mission_is_yielded ended_mission_is_yielded_moves }
+    ensures stands_still_before_the_third { IsMetByRun
+        (line_of_three 0) stands_still_before_the_third stands_still_before_the_third_moves }
 {}
 
 /// What a single condition decides.
@@ -220,13 +249,17 @@ pub fn single_conditions()
     ensures yield_with_a_pool { seen line yield_with_a_pool ≡ yield_with_a_pool_shows }
     ensures cut_with_a_pool { seen line cut_with_a_pool ≡ cut_with_a_pool_shows }
     ensures cut_behind_the_border { seen line cut_behind_the_border ≡ cut_behind_the_border_shows }
-    ensures proposal_ends_with_the_session { seen line proposal_ends_with_the_session ≡ proposal_ends_with_the_session_shows }
+    ensures proposal_ends_with_the_session { seen line proposal_ends_with_the_session
+        ≡ proposal_ends_with_the_session_shows }
     ensures start_outside_the_hand { seen line start_outside_the_hand ≡ start_outside_the_hand_shows }
-    ensures request_again_over_the_border { seen line request_again_over_the_border ≡ request_again_over_the_border_shows }
+    ensures request_again_over_the_border { seen line request_again_over_the_border
+        ≡ request_again_over_the_border_shows }
     ensures request_while_asked { seen line request_while_asked ≡ request_while_asked_shows }
-    ensures full_hand_at_the_border { seen (line_of_a_and_b 32 4 100) full_hand_at_the_border ≡ full_hand_at_the_border_shows }
+    ensures full_hand_at_the_border { seen (line_of_a_and_b 32 4 100) full_hand_at_the_border
+        ≡ full_hand_at_the_border_shows }
     ensures pool_out_of_reach { seen (line_of_a_and_b 10 10 2000) pool_out_of_reach ≡ pool_out_of_reach_shows }
-    ensures proposal_ends_with_the_mission { seen line proposal_ends_with_the_mission ≡ proposal_ends_with_the_mission_shows }
+    ensures proposal_ends_with_the_mission { seen line proposal_ends_with_the_mission
+        ≡ proposal_ends_with_the_mission_shows }
 {}
 
 /// The scenes of single conditions, met.
@@ -240,13 +273,17 @@ pub fn conditions_met()
     ensures yield_with_a_pool { IsMetByRun line yield_with_a_pool yield_with_a_pool_moves }
     ensures cut_with_a_pool { IsMetByRun line cut_with_a_pool cut_with_a_pool_moves }
     ensures cut_behind_the_border { IsMetByRun line cut_behind_the_border cut_behind_the_border_moves }
-    ensures proposal_ends_with_the_session { IsMetByRun line proposal_ends_with_the_session proposal_ends_with_the_session_moves }
+    ensures proposal_ends_with_the_session { IsMetByRun line proposal_ends_with_the_session
+        proposal_ends_with_the_session_moves }
     ensures start_outside_the_hand { IsMetByRun line start_outside_the_hand (plain start_outside_the_hand) }
-    ensures request_again_over_the_border { IsMetByRun line request_again_over_the_border request_again_over_the_border_moves }
+    ensures request_again_over_the_border { IsMetByRun line request_again_over_the_border
+        request_again_over_the_border_moves }
     ensures request_while_asked { IsMetByRun line request_while_asked request_while_asked_moves }
-    ensures full_hand_at_the_border { IsMetByRun (line_of_a_and_b 32 4 100) full_hand_at_the_border full_hand_at_the_border_moves }
+    ensures full_hand_at_the_border { IsMetByRun
+        (line_of_a_and_b 32 4 100) full_hand_at_the_border full_hand_at_the_border_moves }
     ensures pool_out_of_reach { IsMetByRun (line_of_a_and_b 10 10 2000) pool_out_of_reach pool_out_of_reach_moves }
-    ensures proposal_ends_with_the_mission { IsMetByRun line proposal_ends_with_the_mission proposal_ends_with_the_mission_moves }
+    ensures proposal_ends_with_the_mission { IsMetByRun line proposal_ends_with_the_mission
+        proposal_ends_with_the_mission_moves }
 {}
 
 /// Where one centre has the whole line the run leaves the line centre no choice.
@@ -265,7 +302,8 @@ pub fn stray_frames()
     ensures of_another_centre { effects line 0 2 announcing (TakingOver 1 1 ∷ []) ≡ times 1 calm_announcing }
     ensures to_the_expecting { effects line 1 0 expecting strays_to_the_expecting ≡ times 4 calm_expecting }
     ensures to_the_taking { effects line 1 0 taking_over strays_to_the_taking ≡ times 8 calm_taking }
-    ensures before_the_track { deliveries line 1 0 4 taking_over fronts_before_the_track ≡ times 2 (taken_without_effect 4 calm_taking) }
+    ensures before_the_track { deliveries line 1 0 4 taking_over fronts_before_the_track
+        ≡ times 2 (taken_without_effect 4 calm_taking) }
     ensures yields_taken { missions_taken ≡ Some (mission_at 16200) ∷ Some (mission_at 10000) ∷ [] }
 {}
 
@@ -285,7 +323,8 @@ pub fn places_met()
     ensures reports_without_place { IsMetByRun line reports_without_place (plain reports_without_place) }
     ensures requests_without_place { IsMetByRun line requests_without_place requests_without_place_moves }
     ensures hand_out_of_reach { IsMetByRun (line_of_one 20 2000) hand_out_of_reach hand_out_of_reach_moves }
-    ensures starts_that_are_not_fit { IsMetByRun (line_of_one 8 1000) starts_that_are_not_fit (plain starts_that_are_not_fit) }
+    ensures starts_that_are_not_fit { IsMetByRun (line_of_one 8 1000) starts_that_are_not_fit
+        (plain starts_that_are_not_fit) }
     ensures longest_train { IsMetByRun (line_of_one 40 100) longest_train (plain longest_train) }
     ensures other_scale { IsMetByRun line other_scale other_scale_moves }
     ensures own_stamp_after_a_yield { IsMetByRun line own_stamp_after_a_yield own_stamp_after_a_yield_moves }

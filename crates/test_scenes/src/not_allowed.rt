@@ -10,7 +10,8 @@ ghost use Rattle.rbc_spec.specs.ReadOff.{StandsFor};
 ghost use Rattle.test_scenes.specs.Scene.{line};
 ghost use Rattle.test_scenes.specs.NotAllowed.{shown_at, kept_at_home, kept_at_home_shows, kept_elsewhere, kept_elsewhere_shows, silent_alone, silent_alone_shows, kept_behind_silence, kept_behind_silence_shows, told_in_order, told_in_order_shows, told_out_of_order, told_out_of_order_shows, one_yield, two_yields, missions_in};
 
-/// No quiet step of another centre is in an event's piece, none follows a silent message, and no section is told before a lower one.
+/// No quiet step of another centre is in an event's piece, none follows a silent message, and no section is told before
+/// a lower one.
 pub fn moves_not_allowed()
     ensures at_home { shown_at kept_at_home ≡ kept_at_home_shows }
     ensures elsewhere { shown_at kept_elsewhere ≡ kept_elsewhere_shows }
@@ -19,10 +20,13 @@ pub fn moves_not_allowed()
     ensures in_order { shown_at told_in_order ≡ told_in_order_shows }
     ensures out_of_order { shown_at told_out_of_order ≡ told_out_of_order_shows }
     // No piece at all is so, whatever the state.
-    ensures none_elsewhere { (v new : LineState) (outcome : Outcome) (piece : Piece line v (Set 0 0) outcome new) → piece.quiets ≡ Keep 1 4 ∷ [] → ⊥ }
-    ensures none_behind_silence { (v new : LineState) (event : Event) (outcome : Outcome) (why : Reason) (piece : Piece line v event outcome new)
+    ensures none_elsewhere { (v new : LineState) (outcome : Outcome) (piece : Piece line v (Set 0 0) outcome new)
+        → piece.quiets ≡ Keep 1 4 ∷ [] → ⊥ }
+    ensures none_behind_silence { (v new : LineState) (event : Event) (outcome : Outcome) (why : Reason)
+        (piece : Piece line v event outcome new)
         → outcome.silence ≡ Some why → piece.quiets ≡ [] }
-    ensures none_out_of_order { (v new : LineState) (event : Event) (outcome : Outcome) → Piece line v event outcome new → outcome.words ≡ Told 5 ∷ Told 4 ∷ [] → ⊥ }
+    ensures none_out_of_order { (v new : LineState) (event : Event) (outcome : Outcome) → Piece line v event outcome new
+        → outcome.words ≡ Told 5 ∷ Told 4 ∷ [] → ⊥ }
 {}
 
 /// Two Yields of one train are on the way, and no state stands for that.

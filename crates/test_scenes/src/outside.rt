@@ -13,8 +13,9 @@ pub fn trains_side_by_side_are_seen()
     ensures not_the_second { may_run_over line (seen_of side_by_side) 1 2 ≡ false }
 {}
 
-/// Wrong answers are seen from outside: an authority that is longer than the train's hand, one over a section in which another train's start waits, a
-/// section that is had back while a train has it, and an authority for a train that was never accepted.
+/// Wrong answers are seen from outside: an authority that is longer than the train's hand, one over a section in which
+/// another train's start waits, a section that is had back while a train has it, and an authority for a train that was
+/// never accepted.
 pub fn wrong_answers_are_seen()
     ensures longer_than_the_hand { IsSafeOutside line (seen_of longer_than_the_hand) → ⊥ }
     ensures over_a_waiting_start { IsSafeOutside line (seen_of over_a_waiting_start) → ⊥ }

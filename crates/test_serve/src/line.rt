@@ -53,8 +53,8 @@ pub const VERSION: &str = "2002C00000005FFFFFE800";
 // It acknowledges train 2's mission.
 pub const ACCEPTED: &str = "2902800000009FFFFFE0";
 
-// Train 1 opens its session, starts its mission in section 0, and gives its train data: messages 155, 159, 157 and 129. The centre answers with 11, 10
-// and 14 bytes.
+// Train 1 opens its session, starts its mission in section 0, and gives its train data: messages 155, 159, 157 and 129.
+// The centre answers with 11, 10 and 14 bytes.
 pub const MISSION_OF_ONE: &str =
     "9B0280000000400000409F0280000000800000409D0680000000C00000500040A0280C809614005001440640041881074000000100000040010280A03202585001400510190010616018A0";
 

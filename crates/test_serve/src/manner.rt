@@ -88,7 +88,8 @@ fn opening(alloc: Global, t_train: u64) -> Done<Vec<u8>> {
 // Train 1 has left section 0.
 const REPORT: &str = "880680000001C0000040010280A0328190500140051019001060";
 
-// The interlocking wishes section 0 back, while the train covers it; the train leaves it. Connection 1 of the interlocking only listens.
+// The interlocking wishes section 0 back, while the train covers it; the train leaves it. Connection 1 of the
+// interlocking only listens.
 static WISHED_BACK: [Step<'_>; 14] = [
     (0, Act::Control),
     (1, Act::Control),

@@ -1,4 +1,5 @@
-//! The order in which a train hears what its centre says: over bytes in memory, and where two threads commit for one train.
+//! The order in which a train hears what its centre says: over bytes in memory, and where two threads commit for one
+//! train.
 
 use crate::client::{Done, Missed, TURNS, connect, say};
 use crate::line::{INITIATION_OF_ONE, VERSION, bytes_of, two_centres};
@@ -121,7 +122,8 @@ static OPENING: [Step<'_>; 4] = [
     (0, Act::Sends("9F028000000080000040")),
 ];
 
-// Opens the train's session, and starts missions that are rejected, while another connection does. It gives what came behind the version.
+// Opens the train's session, and starts missions that are rejected, while another connection does. It gives what came
+// behind the version.
 fn open_and_start<R: Net<Stream = TcpStream>>(
     rt: &R,
     alloc: Global,

@@ -45,7 +45,8 @@ fn ask_on_its_way<R: Net<Stream = TcpStream> + Clock>(
     ask_until_both_come(rt, alloc, streams.get(1).ok_or(Missed::Door)?)
 }
 
-// Asks for the authority until it reaches over the border: behind message 3 of that step comes message 24, with the next T_TRAIN.
+// Asks for the authority until it reaches over the border: behind message 3 of that step comes message 24, with the
+// next T_TRAIN.
 fn ask_until_both_come<R: Clock>(rt: &R, alloc: Global, train: &TcpStream) -> Done<()> {
     let mut before = None;
     for k in 0..REQUESTS {
@@ -85,7 +86,8 @@ fn message(alloc: Global, train: &TcpStream) -> Done<TrackMsg> {
     decode_track(&bytes).ok().ok_or(Missed::Digits)
 }
 
-// Section 1 is wished back: the train is asked that its authority ends 1 000 m behind the start of section 0, message 9 with T_TRAIN 5.
+// Section 1 is wished back: the train is asked that its authority ends 1 000 m behind the start of section 0, message 9
+// with T_TRAIN 5.
 static WISHED_BACK: [Step<'_>; 11] = [
     (0, Act::Control),
     (0, Act::Asks("set A 0\n", "> set A 0\nA 0 Done\n")),
@@ -113,8 +115,8 @@ fn a_train_hears_what_the_interlocking_wishes(rt: HostRuntime) -> Result<(), Fai
     Ok(())
 }
 
-// The train opens its session with T_TRAIN 2; with T_TRAIN 1 and then bytes with a fault a second connection ends unanswered. What is said to the
-// train comes over the first one.
+// The train opens its session with T_TRAIN 2; with T_TRAIN 1 and then bytes with a fault a second connection ends
+// unanswered. What is said to the train comes over the first one.
 static OPENED_TWICE: [Step<'_>; 9] = [
     (0, Act::Train),
     (0, Act::Sends("9B028000000080000040")),

@@ -111,8 +111,8 @@ fn no_reply_overtakes_one_that_waits(rt: HostRuntime) -> Result<(), Fail> {
     Ok(())
 }
 
-// A version comes while an acceptance waits, and again behind it: what the first is answered, whether nothing is kept then, what the
-// writer of the acceptance is answered, and what the second version is.
+// A version comes while an acceptance waits, and again behind it: what the first is answered, whether nothing is kept
+// then, what the writer of the acceptance is answered, and what the second version is.
 fn overtaken<R: Wait>(
     rt: &R,
     alloc: Global,

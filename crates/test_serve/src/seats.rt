@@ -42,7 +42,8 @@ fn the_control_connection_that_is_silent_longest_makes_room(rt: HostRuntime) -> 
     Ok(())
 }
 
-// A train opens its session; with silent connections at all other seats, it opens it over another one, and the first ends.
+// A train opens its session; with silent connections at all other seats, it opens it over another one, and the first
+// ends.
 static OPENED_BEHIND_SILENCE: [Step<'_>; 17] = [
     (0, Act::Train),
     (0, Act::Sends(INITIATION_OF_ONE)),

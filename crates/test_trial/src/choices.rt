@@ -1,4 +1,5 @@
-//! What a train of the trial says next: it begins missions, runs, asks for more, answers, and speaks to the next centre where its front is there.
+//! What a train of the trial says next: it begins missions, runs, asks for more, answers, and speaks to the next centre
+//! where its front is there.
 
 use crate::line::home_of;
 use crate::traveller::{Traveller, Words};

@@ -1,4 +1,5 @@
-//! What has to hold behind each event of the trial: what is said to trains and to the interlocking is held against the view of the line.
+//! What has to hold behind each event of the trial: what is said to trains and to the interlocking is held against the
+//! view of the line.
 
 use crate::traveller::Words;
 use crate::trial::centre_of;
@@ -122,8 +123,8 @@ fn gives_up(speaker: Option<(u32, Words)>, nid_engine: u32) -> bool {
     }
 }
 
-// A section that is told is shut, in no use, and not wished back any more, and sections are told in their order. What is done is so, and
-// what is asked for is in use.
+// A section that is told is shut, in no use, and not wished back any more, and sections are told in their order. What
+// is done is so, and what is asked for is in use.
 fn words_hold(event: &WorldEvent, outcome: &Outcome, view: &LineView) -> bool {
     let told = outcome.told.sections();
     let is_ascending = told.iter().zip(told.iter().skip(1)).all(|(a, b)| a < b);
@@ -162,7 +163,8 @@ fn is_in_use(view: &LineView, section: u16) -> bool {
     )
 }
 
-// A centre accepts a train, acknowledges its data, gives or shortens an authority, or orders a transition only as the train's supervisor.
+// A centre accepts a train, acknowledges its data, gives or shortens an authority, or orders a transition only as the
+// train's supervisor.
 fn supervisor_speaks(centre: u8, outcome: &Outcome, view: &LineView) -> bool {
     outcome.sayings.iter().all(|saying| {
         !is_of_mission(saying.message.body()) || supervises(view, centre, saying.nid_engine)

@@ -1,5 +1,6 @@
-//! A trial of strength: ten trains run over the borders of three centres by chance, the interlocking sets and unsets sections, and each frame
-//! comes late, out of turn and again. Behind each event the view is held against what was answered.
+//! A trial of strength: ten trains run over the borders of three centres by chance, the interlocking sets and unsets
+//! sections, and each frame comes late, out of turn and again. Behind each event the view is held against what was
+//! answered.
 
 use crate::choices::{SECTIONS, next_words, some_centre};
 use crate::line::three_centres;

@@ -1,4 +1,5 @@
-//! Two centres, of which one asks the other for the rights of three trains that start there, and that one asks for a section that it has lent.
+//! Two centres, of which one asks the other for the rights of three trains that start there, and that one asks for a
+//! section that it has lent.
 
 ghost use Rattle.std.specs.Prelude.{◌<◌, ◌≤◌, length, IfOk};
 ghost use Rattle.rbc_msgs.specs.TrainView.{HasItsPackets};
@@ -147,7 +148,8 @@ pub fn asking<R: Wait>(rt: &R, alloc: Global) -> Result<(Node, Share), Fail> {
     Ok((a, share))
 }
 
-/// A node of B, which has lent its section to A, and has asked so often that it comes home: frame 1, and as many behind it.
+/// A node of B, which has lent its section to A, and has asked so often that it comes home: frame 1, and as many behind
+/// it.
 pub fn withdrawing<R: Wait>(rt: &R, alloc: Global, count: u32) -> Result<Node, Fail> {
     let b = node_of(alloc, B)?;
     let mut share = b.share();

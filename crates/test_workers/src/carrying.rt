@@ -41,7 +41,8 @@ fn merged(alloc: Global, nodes: Vec<Node>, shares: Vec<Share>) -> Result<usize, 
     Ok(entries.len())
 }
 
-// B gets the three frames of A under these numbers, once A has put them all: what its link answered, and how many entries there are.
+// B gets the three frames of A under these numbers, once A has put them all: what its link answered, and how many
+// entries there are.
 fn got_under<R: Wait>(
     rt: &R,
     alloc: Global,
@@ -83,7 +84,8 @@ fn each_frame_that_comes_is_committed_whatever_number_was_asked_for(
     Ok(())
 }
 
-// A node gets the frames of another over a carrier while that puts them, though no session is left from the first: what its link answered.
+// A node gets the frames of another over a carrier while that puts them, though no session is left from the first: what
+// its link answered.
 fn carried_at_the_end<R: Threads + Wait + Sync, C: Carrier + Sync>(
     rt: &R,
     alloc: Global,
@@ -155,7 +157,8 @@ fn hundreds_of_frames_are_delivered_in_their_order(rt: HostRuntime) -> Result<()
     Ok(())
 }
 
-// A frame comes to B whose stamp leaves no further one: the numbers that were asked for, how much was committed, and whether the frame is there still.
+// A frame comes to B whose stamp leaves no further one: the numbers that were asked for, how much was committed, and
+// whether the frame is there still.
 fn refused<R: Wait>(rt: &R, alloc: Global) -> Result<([u32; 3], usize, bool), Fail> {
     let b = node_of(alloc, B)?;
     let mut of_b = b.share();

@@ -6,7 +6,8 @@ use rbc_world::{Answer, World, WorldEvent};
 use std::alloc::Global;
 use std::test::*;
 
-// With section 1 set, the train opens its session at A, starts in section 1, and tells its data. Its T_TRAIN goes from 1 to 4.
+// With section 1 set, the train opens its session at A, starts in section 1, and tells its data. Its T_TRAIN goes from
+// 1 to 4.
 static BEGIN: [&str; 4] = [
     "9B028000000040000040",
     "9F028000000080000040",

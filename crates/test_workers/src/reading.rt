@@ -78,8 +78,8 @@ fn a_whole_message_is_kept_and_its_session_stays_open(rt: HostRuntime) -> Result
     Ok(())
 }
 
-// The train opens its session over one connection, whose read then fails, and goes on over another, of which the same is so: what is
-// left behind each.
+// The train opens its session over one connection, whose read then fails, and goes on over another, of which the same
+// is so: what is left behind each.
 fn goes_on<R: Wait>(rt: &R, alloc: Global) -> Result<[(usize, Phase); 2], Fail> {
     let line = two_centres(alloc)?;
     let node = Node::new(alloc, &line, A)?;

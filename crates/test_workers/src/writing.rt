@@ -50,7 +50,8 @@ fn replies_to<R: Wait>(rt: &R, alloc: Global, share: &Share) -> Result<Receiver<
     Ok(replies)
 }
 
-// The writer of what the share's first message is answered, over an output that takes so many bytes: how it ends, and how often it wrote.
+// The writer of what the share's first message is answered, over an output that takes so many bytes: how it ends, and
+// how often it wrote.
 fn written<R: Wait>(
     rt: &R,
     alloc: Global,
@@ -63,7 +64,8 @@ fn written<R: Wait>(
     Ok((end, out.writes))
 }
 
-/// How the writers end, and how often each wrote; how many entries of the log have an answer; and what is left at the centre.
+/// How the writers end, and how often each wrote; how many entries of the log have an answer; and what is left at the
+/// centre.
 type Failed = ([(Result<(), WriteFailed>, usize); 2], usize, (usize, Phase));
 
 // How many entries of the log have one answer to a train.
