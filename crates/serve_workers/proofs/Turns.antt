@@ -75,19 +75,19 @@ leaves-end c share rest after end.Device h = h
 leaves-end c share rest after (end.Fault fault) h = h
 
 pub serves-end : (c : ℕ) (old mid new : ShareValue) (read kept piece : List ℕ) (done messages : List TrainText) (after : Option (List ℕ)) (e : IntakeEnd)
-    → Adds [] done read kept → Joins old mid done → IsTurn kept piece messages after (Err e) → Joins mid new messages → Serves c old new (read ++ piece) (end_of_intake e)
+    → Adds [] done read kept → Joins c old mid done → IsTurn kept piece messages after (Err e) → Joins c mid new messages → Serves c old new (read ++ piece) (end_of_intake e)
 serves-end c old mid new read kept piece done messages after e before joins t joined =
     record {
       messages = done ++ messages;
       rest = t.rest;
       spelled = of_adds (done ++ messages) (read ++ piece) t.rest (adds-turn read kept piece t.rest done messages before t.adds);
-      joins = joins-then old mid new done messages joins joined;
+      joins = joins-then c old mid new done messages joins joined;
       leaves = leaves-end c new t.rest after e t.leaves;
     }
 
 -- a message of the turn was refused
 pub serves-refused : (c : ℕ) (old mid new : ShareValue) (read kept piece : List ℕ) (done messages : List TrainText) (after : Option (List ℕ)) (result : Result (Unit {0}) IntakeEnd) (fault : ShareFault)
-    → Adds [] done read kept → Joins old mid done → IsTurn kept piece messages after result → CommitsAll c mid new messages (Err fault) → Serves c old new (read ++ piece) (Refused fault)
+    → Adds [] done read kept → Joins c old mid done → IsTurn kept piece messages after result → CommitsAll c mid new messages (Err fault) → Serves c old new (read ++ piece) (Refused fault)
 serves-refused c old mid new read kept piece done messages after result fault before joins t h =
     let these = h.0 in
     let next = h.1 in
@@ -100,7 +100,7 @@ serves-refused c old mid new read kept piece done messages after result fault be
       messages = done ++ these;
       rest = cut.0;
       spelled = cut.1;
-      joins = joins-then old mid new done these joins h.4;
+      joins = joins-then c old mid new done these joins h.4;
       leaves = (refused.0, refused.1, next, refused.2, refused.3, h.5);
     }
 

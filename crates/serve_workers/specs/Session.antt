@@ -1,5 +1,5 @@
 -- What a session does with the bytes that it reads.
-use Rattle.std.specs.Prelude.{◌≡◌, ◌≢◌, ℕ, List, ◌∷◌, ◌++◌, map, Result, Ok, Err}
+use Rattle.std.specs.Prelude.{◌≡◌, ◌≢◌, ℕ, List, [], ◌∷◌, ◌++◌, Result, Ok, Err}
 use Rattle.rbc_msgs.specs.TrainText.{TrainText}
 use Rattle.rbc_msgs.specs.TrainSpelling.{SpellsTrain}
 use Rattle.rbc_msgs.specs.Streams.{IsRest, ShowsFault, Spell}
@@ -7,24 +7,25 @@ use Rattle.rbc_msgs.specs.declared.fault.MsgFault.TheVariants.{Memory}
 use Rattle.rbc_msgs.specs.declared.fault.StreamFault.{StreamFault}
 use Rattle.rbc_msgs.specs.declared.fault.StreamFault.TheVariants.{Message, Failed}
 use Rattle.rbc_centre.specs.declared.event.Event.TheVariants.{Train}
-use Rattle.rbc_node.specs.Receipts.{ShareValue, Committed, committed_of}
-use Rattle.rbc_node.specs.Node.{RefusesAt}
+use Rattle.rbc_spec.specs.Outcome.{Outcome}
+use Rattle.rbc_node.specs.Receipts.{ShareValue}
+use Rattle.rbc_node.specs.Node.{CommitsAt, RefusesAt}
 use Rattle.rbc_node.specs.declared.fault.ShareFault.{ShareFault}
 use Rattle.serve_workers.specs.declared.end.SessionEnd.{SessionEnd}
 use Rattle.serve_workers.specs.declared.end.SessionEnd.TheVariants.{EndOfStream, Fault, Device, Refused}
 
--- behind what it had, the share has the receipts of these messages, in their order, and no others
-pub record Joins (old new : ShareValue) (messages : List TrainText) : Type 0 where
-  pub centre : new.centre ≡ old.centre
-  pub added : List Committed
-  pub receipts : map committed_of new.receipts ≡ map committed_of old.receipts ++ added
-  pub events : map (λ c. c.event) added ≡ map (λ m. Train m) messages
+-- the messages are committed at centre c, one behind another, each with the outcome of its step: the share has their
+-- receipts behind what it had, in their order, and no others
+abbrev pub Joins : ℕ → ShareValue → ShareValue → List TrainText → Type 0
+Joins c old new [] = new ≡ old
+Joins c old new (m ∷ messages) =
+    (mid : ShareValue) × (outcome : Outcome) × CommitsAt c old mid (Train m) outcome × Joins c mid new messages
 
 -- all messages were committed at centre c, or those in front of one that was refused
 abbrev pub CommitsAll : ℕ → ShareValue → ShareValue → List TrainText → Result (Unit {0}) ShareFault → Type 0
-CommitsAll c old new messages (Ok _) = Joins old new messages
+CommitsAll c old new messages (Ok _) = Joins c old new messages
 CommitsAll c old new messages (Err fault) =
-    (done : List TrainText) × (next : TrainText) × (later : List TrainText) × (messages ≡ done ++ next ∷ later) × Joins old new done × RefusesAt c new (Train next) fault
+    (done : List TrainText) × (next : TrainText) × (later : List TrainText) × (messages ≡ done ++ next ∷ later) × Joins c old new done × RefusesAt c new (Train next) fault
 
 -- the bytes show this fault, or memory ran out there
 abbrev pub Shows : List ℕ → StreamFault → Type 0
@@ -49,5 +50,5 @@ pub record Serves (c : ℕ) (old new : ShareValue) (read : List ℕ) (end : Sess
   pub messages : List TrainText
   pub rest : List ℕ
   pub spelled : Spell read messages rest
-  pub joins : Joins old new messages
+  pub joins : Joins c old new messages
   pub leaves : LeavesSo c new rest end

@@ -73,7 +73,7 @@ fn commit_one<R: Wait, G: Gate, O: Outlet>(
     message: TrainMsg,
     outlet: &O,
 ) -> Result<(), ShareFault>
-    ensures joins { OnOk result (Joins share.old share.new (message ∷ [])) }
+    ensures joins { OnOk result (Joins (centre_of node.now) share.old share.new (message ∷ [])) }
     ensures refused { IfErr result (RefusesAt (centre_of node.now) share.old (Train message)) }
     ensures err { OnErr result (share.new ≡ share.old) }
 {

@@ -18,7 +18,7 @@ forwards : (given turned : List TrainText) → turned ≡ reverse given → give
 forwards given turned h = sym (reverse-reverse given) ∙ ap reverse (sym h)
 
 pub loop-message-init : goal.loop-message-init
-loop-message-init g c = ([], joins-none c.args.share.now, refl)
+loop-message-init g c = ([], joins-none (centre_of c.args.node.now) c.args.share.now, refl)
 
 pub loop-message-preserved : goal.loop-message-preserved
 loop-message-preserved g c =
@@ -27,7 +27,7 @@ loop-message-preserved g c =
     let left : List TrainText = c.pop.new.self.items in
     let next : reverse c.loop-message.messages.items ≡ m ∷ reverse left = next_of c.loop-message.messages.items left m c.in-Some.ensures.items in (
       before.0 ++ m ∷ [],
-      joins-then c.args.share.now c.loop-message.share c.commit_one.new.share before.0 (m ∷ []) before.1 c.in_ok-commit_one.ensures.joins,
+      joins-then (centre_of c.args.node.now) c.args.share.now c.loop-message.share c.commit_one.new.share before.0 (m ∷ []) before.1 c.in_ok-commit_one.ensures.joins,
       before.2 ∙ ap (λ xs. before.0 ++ xs) next ∙ sym (append_assoc before.0 (m ∷ []) (reverse left)),
     )
 
@@ -43,7 +43,7 @@ returns-in_err-commit_one-clause-commits g c =
     forwards c.args.messages.now.items c.reverse.new.self.items c.reverse.ensures.items ∙ before.2 ∙ ap (λ xs. before.0 ++ xs) next in
     let refused : RefusesAt (centre_of c.args.node.now) c.commit_one.new.share (Train m) c.in_err-commit_one.field-0.0 =
     subst (λ (s : ShareValue). RefusesAt (centre_of c.args.node.now) s (Train m) c.in_err-commit_one.field-0.0) (sym same) c.in_err-commit_one.ensures.refused in
-    rw (p.1, p.2) (before.0, m, reverse left, all, joins-same c.args.share.now c.loop-message.share c.commit_one.new.share before.0 same before.1, refused)
+    rw (p.1, p.2) (before.0, m, reverse left, all, joins-same (centre_of c.args.node.now) c.args.share.now c.loop-message.share c.commit_one.new.share before.0 same before.1, refused)
 
 pub returns-clause-commits : goal.returns-clause-commits
 returns-clause-commits g c =
@@ -51,4 +51,4 @@ returns-clause-commits g c =
     let empty : c.loop-message.messages.items ≡ [] = nil_from_length c.loop-message.messages.items (omega (arith, c.in_default.ensures.cases.0)) in
     let all : before.0 ≡ c.args.messages.now.items =
     sym (forwards c.args.messages.now.items c.reverse.new.self.items c.reverse.ensures.items ∙ before.2 ∙ ap (λ xs. before.0 ++ reverse xs) empty ∙ append-nil before.0) in
-    subst (λ (ms : List TrainText). Joins c.args.share.now c.loop-message.share ms) all before.1
+    subst (λ (ms : List TrainText). Joins (centre_of c.args.node.now) c.args.share.now c.loop-message.share ms) all before.1

@@ -38,7 +38,7 @@ loop-preserved g c =
       i.1 ++ c.read_messages-came.new.messages.items,
       t.rest,
       consumes-then (g.S.Source.left c.args.source.now) (g.S.Source.left c.loop.source) (g.S.Source.left c.read_messages-came.new.source) i.0 b.0 i.3 b.1,
-      joins-then c.args.share.now c.loop.share c.commit_all.new.share i.1 c.read_messages-came.new.messages.items i.4 c.in_default.ensures.commits,
+      joins-then (centre_of c.args.node.now) c.args.share.now c.loop.share c.commit_all.new.share i.1 c.read_messages-came.new.messages.items i.4 c.in_default.ensures.commits,
       adds-turn i.0 i.2 b.0 t.rest i.1 c.read_messages-came.new.messages.items i.5 t.adds,
       t.leaves.0,
       t.leaves.1,

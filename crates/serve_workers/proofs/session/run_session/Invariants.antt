@@ -2,6 +2,7 @@ use Rattle.std.proofs.Common.{◌≡◌, ℕ, List, [], Some}
 use Rattle.std.specs.Io.KnownBytes.{Consumes}
 use Rattle.rbc_msgs.specs.TrainText.{TrainText}
 use Rattle.rbc_msgs.specs.Streams.{IsRest, Adds}
+use Rattle.rbc_node.specs.Node.{centre_of}
 use Rattle.serve_workers.specs.Session.{Joins}
 use Rattle.serve_workers.proofs.session.run_session.Given as goal
 
@@ -9,7 +10,7 @@ abbrev pub invariant-loop : goal.invariant-loop
 invariant-loop g l =
     (read : List ℕ) × (done : List TrainText) × (kept : List ℕ)
     × Consumes (g.S.Source.left l.initial.source) (g.S.Source.left l.source) read
-    × Joins l.initial.share l.share done
+    × Joins (centre_of l.initial.node) l.initial.share l.share done
     × Adds [] done read kept
     × (l.stream ≡ Some kept) × IsRest kept
     × (l.messages.items ≡ [])
