@@ -1,12 +1,10 @@
-use cli_print::{name_of, print_event, print_outcome};
 use cli_status::Fault;
 use rbc_centre::Event;
 use rbc_node::Share;
 use rbc_world::WorldEvent;
-use serve_control::Command;
+use serve_control::{Command, print_commit};
 use serve_hall::Hall;
 use serve_show::{Roster, show, write_life};
-use std::io::Write;
 use std::sync::Wait;
 
 /// What a line of another form is answered.
@@ -63,15 +61,6 @@ fn commit<R: Wait>(
     let (Some(desk), Some(share)) = (hall.desk(centre), shares.get_mut(centre as usize)) else {
         return Ok(());
     };
-    match desk.commit(rt, share, event) {
-        Ok(outcome) => {
-            print_event(hall.alloc, text, hall.line, printed)?;
-            let name = name_of(hall.line, centre);
-            print_outcome(hall.alloc, text, hall.line, name, &outcome)
-        }
-        Err(fault) => {
-            writeln!(text, "refused {}", fault.number())?;
-            Ok(())
-        }
-    }
+    let answer = desk.commit(rt, share, event);
+    print_commit(hall.alloc, text, hall.line, centre, printed, &answer)
 }

@@ -4,10 +4,12 @@
 //! Bodies are free. What goes over a connection is fixed by docs/FORMATS.md.
 #![tactic(auto)]
 
+mod answering;
 mod command;
 mod fault;
 mod printing;
 
+pub use answering::print_commit;
 pub use command::{Command, CommandFault, command_of};
 pub use fault::ServeFault;
 pub use printing::{print_family, world_event};

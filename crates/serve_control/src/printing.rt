@@ -2,6 +2,7 @@ ghost use Rattle.std.specs.Prelude.{◌≡◌, IfOk};
 ghost use Rattle.law_logs.specs.Logs.{happened};
 ghost use Rattle.rbc_log.specs.Entries.{entry_of};
 ghost use Rattle.rbc_world.specs.Views.{event_of};
+ghost use Rattle.serve_control.specs.Events.{IsCommitted};
 
 use crate::fault::ServeFault;
 use cli_print::{name_of, print_event, print_line, print_outcome};
@@ -54,9 +55,10 @@ fn print_entries<O: Write>(
     print_line(alloc, out, line, &world)
 }
 
-/// The event of an entry as it came to its centre.
+/// The event of an entry as it came to its centre: the bytes of a train's message spell it whole.
 pub fn world_event(alloc: Global, entry: &Entry) -> Result<WorldEvent, Fault<'static>>
-    ensures { IfOk result (λ event. event_of event ≡ happened (entry_of entry.now)) }
+    ensures happened { IfOk result (λ event. event_of event ≡ happened (entry_of entry.now)) }
+    ensures whole { IfOk result (IsCommitted entry.now.centre entry.now.event) }
 {
     let centre = entry.centre;
     match &entry.event {

@@ -1,0 +1,21 @@
+-- What the interlocking is answered at the control door.
+use Rattle.std.specs.Prelude.{◌≡◌, ℕ, List, ◌++◌, Result, Ok, Err, codes}
+use Rattle.std.specs.Fmt.{decimal}
+use Rattle.rbc_spec.specs.Line.{Line}
+use Rattle.rbc_centre.specs.Views.{outcome_of}
+use Rattle.rbc_centre.specs.declared.outcome.Outcome.{Outcome}
+use Rattle.rbc_world.specs.declared.event.WorldEvent.{WorldEvent}
+use Rattle.rbc_node.specs.Faults.{number_of_fault}
+use Rattle.rbc_node.specs.declared.fault.ShareFault.{ShareFault}
+use Rattle.cli_print.specs.Rows.{name_at, event_row}
+use Rattle.cli_print.specs.Answers.{IsOutcomePrint}
+
+-- the number of a fault
+abbrev pub refusal_row : ShareFault → List ℕ
+refusal_row fault = codes "refused " ++ (decimal (number_of_fault fault) ++ codes "\n")
+
+-- the event and what it led to at centre c, or why the commit was refused
+abbrev pub IsCommitPrint : Line → ℕ → WorldEvent → Result Outcome ShareFault → List ℕ → Type 0
+IsCommitPrint line c event (Ok outcome) text =
+    (rows : List ℕ) × IsOutcomePrint line (name_at line c) (outcome_of outcome) rows × (text ≡ event_row line event ++ rows)
+IsCommitPrint line c event (Err fault) text = text ≡ refusal_row fault

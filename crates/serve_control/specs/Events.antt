@@ -1,0 +1,16 @@
+-- The event of an entry, as it came to its centre.
+use Rattle.std.specs.Prelude.{◌≡◌, ℕ}
+use Rattle.rbc_msgs.specs.TrainSpelling.{SpellsTrain}
+use Rattle.rbc_centre.specs.declared.event.Event.{Event}
+use Rattle.rbc_centre.specs.declared.event.Event.TheVariants as committed
+use Rattle.rbc_world.specs.declared.event.WorldEvent.{WorldEvent}
+use Rattle.rbc_world.specs.declared.event.WorldEvent.TheVariants as came
+
+-- what centre c took came to it so: a train's bytes spell its whole message, with the packets that no step reads
+abbrev pub IsCommitted : ℕ → Event → WorldEvent → Type 0
+IsCommitted c (committed.Train m) (came.Train d bytes) = (d ≡ c) × SpellsTrain bytes.items m
+IsCommitted c (committed.Set s) (came.Set d r) = (d ≡ c) × (r ≡ s)
+IsCommitted c (committed.Unset s) (came.Unset d r) = (d ≡ c) × (r ≡ s)
+IsCommitted c (committed.Deliver from frame) (came.Deliver a b number) =
+    (a ≡ from) × (b ≡ c) × (number ≡ frame.number)
+IsCommitted c event other = ⊥

@@ -1,0 +1,37 @@
+ghost use Rattle.std.specs.Prelude.{ℕ, List, OnOk};
+ghost use Rattle.std.specs.Io.KnownBytes.{Appends};
+ghost use Rattle.serve_control.specs.Answers.{IsCommitPrint};
+
+use cli_print::{name_of, print_event, print_outcome};
+use cli_status::Fault;
+use rbc_centre::Outcome;
+use rbc_line::Line;
+use rbc_node::ShareFault;
+use rbc_world::WorldEvent;
+use std::alloc::Global;
+use std::io::Write;
+
+/// Prints what the interlocking is answered behind its event at a centre: the event and what it led to, as a run prints
+/// them; or, where the commit was refused, the number of the fault.
+pub fn print_commit<W: Write>(
+    alloc: Global,
+    out: &mut W,
+    line: &Line,
+    centre: u8,
+    event: &WorldEvent,
+    answer: &Result<Outcome, ShareFault>,
+) -> Result<(), Fault<'static>>
+    ensures { OnOk result ((text : List ℕ) × IsCommitPrint line.now centre event.now answer.now text
+        × Appends (W.contents out.old) (W.contents out.new) text) }
+{
+    match answer {
+        Ok(outcome) => {
+            print_event(alloc, out, line, event)?;
+            print_outcome(alloc, out, line, name_of(line, centre), outcome)
+        }
+        Err(fault) => {
+            writeln!(out, "refused {}", fault.number())?;
+            Ok(())
+        }
+    }
+}
