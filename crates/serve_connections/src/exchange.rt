@@ -1,8 +1,8 @@
 use crate::connection::Connection;
+use crate::route::{Route, route_of};
 use crate::switchboard::Switchboard;
 use rbc_centre::{Outcome, Saying};
 use rbc_line::Line;
-use rbc_msgs::TrackBody;
 use serve_workers::Outlet;
 use serve_writing::{Order, Reply};
 use std::alloc::{AllocError, Global};
@@ -71,46 +71,38 @@ impl<'a> Exchange<'a> {
         self.board.lock(rt).is_serving(number)
     }
 
-    // The connection serves this train from now on, and no other, and the order of what is said to it begins anew. The
-    // connection that served the train before ends.
-    fn begin<R: Wait>(&self, rt: &R, number: usize, train: usize, order: &mut Order, t_train: u32) {
-        order.begin(t_train);
+    // The connection that a message of this route goes to, with its number, if one serves its train. One that served
+    // the train before ends. The board is free again behind it.
+    fn direct<R: Wait>(&self, rt: &R, route: &Route) -> Option<(usize, Arc<Connection, Global>)> {
         let mut board = self.board.lock(rt);
-        if let Some(before) = board.number_for(train) {
-            if before != number {
-                if let Some(connection) = board.connection(before) {
-                    connection.shut();
-                }
+        let directed = board.direct(route);
+        if let Some(before) = directed.ended {
+            if let Some(connection) = board.connection(before) {
+                connection.shut();
             }
         }
-        board.serve(number, train);
-    }
-
-    // The connection that serves a train, with its number, if one does. The board is free again behind it.
-    fn serving<R: Wait>(&self, rt: &R, train: usize) -> Option<(usize, Arc<Connection, Global>)> {
-        let board = self.board.lock(rt);
-        let number = board.number_for(train)?;
+        let number = directed.to?;
         let connection = board.connection(number)?;
         Some((number, Arc::try_clone(connection).ok()?))
     }
 
-    // Hands a message to a train in to its order, and lets out what has its turn now. The thread that reads a
-    // connection is told by its number.
+    // Hands a message to a train in to its order, and lets out what has its turn now. The order begins anew with a
+    // session. The thread that reads a connection is told by its number.
     fn say<R: Wait>(&self, rt: &R, own: Option<usize>, saying: &Saying) {
-        let Some(train) = self.line.train_number(saying.nid_engine) else {
+        let Some(route) = route_of(self.line, own, saying) else {
             return;
         };
-        let train = train as usize;
-        let Some(place) = self.orders.get(train) else {
+        let Some(place) = self.orders.get(route.train) else {
             return;
         };
         let mut order = place.lock(rt);
-        if let (Some(number), TrackBody::SystemVersion) = (own, saying.message.body()) {
-            self.begin(rt, number, train, &mut order, saying.message.t_train());
+        if route.begins.is_some() {
+            order.begin(saying.message.t_train());
         }
+        let to = self.direct(rt, &route);
         let is_taken = self.hand_in(&mut order, saying);
-        self.let_out(rt, own, train, order, is_taken);
-        if own.is_some() {
+        let is_long = let_out(rt, own, to, order, is_taken);
+        if is_long && own.is_some() {
             rest(rt, place);
         }
     }
@@ -121,42 +113,6 @@ impl<'a> Exchange<'a> {
             Ok(reply) => order.hand_in(reply).is_ok(),
             Err(_) => false,
         }
-    }
-
-    // Says what has its turn, over the connection that serves the train. Where a reply was not taken, none of them
-    // comes any more: the connection is cut. The first reply is written here if the calling thread reads the
-    // connection, and no other waits.
-    fn let_out<R: Wait>(
-        &self,
-        rt: &R,
-        own: Option<usize>,
-        train: usize,
-        mut order: MutexGuard<'_, Order>,
-        is_taken: bool,
-    ) {
-        let Some((number, connection)) = self.serving(rt, train) else {
-            say_due(rt, None, &mut order);
-            return;
-        };
-        if !is_taken {
-            connection.cut();
-        }
-        let Some(first) = order.let_out() else {
-            return;
-        };
-        let turn = if own == Some(number) {
-            connection.turn()
-        } else {
-            None
-        };
-        let Some(turn) = turn else {
-            connection.say(rt, first);
-            say_due(rt, Some(&connection), &mut order);
-            return;
-        };
-        say_due(rt, Some(&connection), &mut order);
-        drop(order);
-        connection.write(turn, &first);
     }
 
     // Says all messages of an outcome, and rings the bells where it has frames.
@@ -180,6 +136,42 @@ fn orders_of(alloc: Global, trains: u8) -> Result<Vec<Mutex<Order>>, AllocError>
         orders.push(Mutex::new(Order::new(alloc)))?;
     }
     Ok(orders)
+}
+
+// Says what has its turn, over the connection that serves the train, and says whether many replies wait on. Where a
+// reply was not taken, none of them comes any more: the connection is cut. The first reply is written here if the
+// calling thread reads the connection, and no other waits.
+fn let_out<R: Wait>(
+    rt: &R,
+    own: Option<usize>,
+    to: Option<(usize, Arc<Connection, Global>)>,
+    mut order: MutexGuard<'_, Order>,
+    is_taken: bool,
+) -> bool {
+    let Some((number, connection)) = to else {
+        say_due(rt, None, &mut order);
+        return order.waiting() > FEW;
+    };
+    if !is_taken {
+        connection.cut();
+    }
+    let turn = if own == Some(number) {
+        connection.turn()
+    } else {
+        None
+    };
+    let Some(turn) = turn else {
+        say_due(rt, Some(&connection), &mut order);
+        return order.waiting() > FEW;
+    };
+    let first = order.let_out();
+    say_due(rt, Some(&connection), &mut order);
+    let is_long = order.waiting() > FEW;
+    drop(order);
+    if let Some(first) = first {
+        connection.write(turn, &first);
+    }
+    is_long
 }
 
 // Hands what has its turn to the writer of the connection. Where there is none, it is let go.

@@ -6,6 +6,7 @@
 
 mod connection;
 mod exchange;
+mod route;
 mod switchboard;
 
 pub use connection::{Connection, Shared};

@@ -1,7 +1,17 @@
 ghost use Rattle.std.specs.Prelude.{◌≡◌, ◌↔◌, IsTrue, Contains, IfOk, Some, None, replicate, slice_get, slice_set, option_and_then};
 ghost use Rattle.serve_connections.specs.Serving.{freed, released};
+ghost use Rattle.serve_connections.specs.Routes.{directed, other_than, served_by, serving_behind};
 
+use crate::route::Route;
 use std::alloc::{AllocError, Global};
+
+/// Where a message to a train goes: the number of its connection, if one serves the train, and that of a connection
+/// which served the train before, and ends.
+#[derive(Clone, Copy, Debug, PartialEq, Eq)]
+pub(crate) struct Directed {
+    pub to: Option<usize>,
+    pub ended: Option<usize>,
+}
 
 /// Which connections there are at a centre, and which of them serves which train. A connection serves one train at
 /// most, and a train is served over one connection at most.
@@ -62,6 +72,32 @@ impl<C: Drop> Switchboard<C> {
         }
     }
 
+    /// Takes a message of this route, and says where it goes. Who serves its train changes where it begins a session.
+    pub fn direct(&mut self, route: &Route) -> Directed
+        ensures directed { result ≡ directed route.now self.old.serving.items }
+        ensures serving { self.new.serving.items ≡ serving_behind route.now self.old.serving.items }
+        ensures connections { self.new.connections.items ≡ self.old.connections.items }
+    {
+        let ended = match route.begins {
+            Some(number) => self.begin(number, route.train),
+            None => None,
+        };
+        let to = self.number_for(route.train);
+        Directed { to, ended }
+    }
+
+    // The connection serves this train from now on: which other one served it before.
+    fn begin(&mut self, number: usize, train: usize) -> Option<usize>
+        ensures ended { result ≡ other_than number (served_by train self.old.serving.items) }
+        ensures serving { self.new.serving.items
+            ≡ slice_set (released number self.old.serving.items) train (Some number) }
+        ensures connections { self.new.connections.items ≡ self.old.connections.items }
+    {
+        let before = self.number_for(train);
+        self.serve(number, train);
+        other_than(number, before)
+    }
+
     /// The number of the connection that serves a train.
     pub fn number_for(&self, train: usize) -> Option<usize>
         ensures { result ≡ option_and_then (λ n. n) (slice_get self.now.serving.items train) }
@@ -109,6 +145,16 @@ fn freed(number: usize, place: Option<usize>) -> Option<usize>
 {
     match place {
         Some(serving) if serving == number => None,
+        other => other,
+    }
+}
+
+// The connection, if it is another than that of this number.
+fn other_than(number: usize, connection: Option<usize>) -> Option<usize>
+    ensures { result ≡ other_than number connection }
+{
+    match connection {
+        Some(before) if before == number => None,
         other => other,
     }
 }
