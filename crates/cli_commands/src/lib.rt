@@ -16,5 +16,4 @@ mod in_words;
 mod picture;
 pub mod run;
 mod storm;
-mod teller;
 pub mod words;

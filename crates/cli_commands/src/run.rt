@@ -1,11 +1,10 @@
 use crate::files::Files;
-use crate::teller::Printer;
 use cli_print::print_counts;
-use cli_script::play::{PlayFault, play};
+use cli_run::print_played;
+use cli_script::play::PlayFault;
 use cli_script::script::{Entry, script_of};
 use cli_status::Fault;
 use rbc_line::Line;
-use rbc_world::World;
 use std::alloc::{AllocError, Global};
 use std::io::{BufWriter, Write};
 
@@ -24,7 +23,11 @@ pub fn run<'a, F: Files, O: Write>(
     };
     let done = print_played(alloc, &line, &entries, &mut out);
     out.flush()?;
-    done
+    match done {
+        Ok(()) => Ok(()),
+        Err(PlayFault::Refused(fault)) => Err(fault.into()),
+        Err(PlayFault::Untold(fault)) => Err(fault),
+    }
 }
 
 /// Reads a line file, and prints how many centres, tracks, sections and trains the line has.
@@ -59,19 +62,4 @@ pub(crate) fn entries_in<'a, F: Files>(
         return Err(Fault::CannotRead(script));
     };
     Ok(script_of(alloc, line, text.as_str())?)
-}
-
-fn print_played<W: Write>(
-    alloc: Global,
-    line: &Line,
-    entries: &[Entry],
-    out: &mut W,
-) -> Result<(), Fault<'static>> {
-    let mut world = World::new(alloc, line)?;
-    let mut printer = Printer { alloc, line, out };
-    match play(&mut world, entries, &mut printer) {
-        Ok(()) => printer.show_line(&world),
-        Err(PlayFault::Refused(fault)) => Err(fault.into()),
-        Err(PlayFault::Untold(fault)) => Err(fault),
-    }
 }

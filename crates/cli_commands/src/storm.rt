@@ -2,7 +2,7 @@
 
 use crate::files::Files;
 use crate::run::{entries_in, line_in};
-use crate::teller::Printer;
+use cli_run::Printer;
 use cli_script::play::PlayFault;
 use cli_script::script::Entry;
 use cli_status::Fault;

@@ -12,9 +12,9 @@ use Rattle.cli_script.specs.declared.script.Entry.TheVariants as entry
 use Rattle.cli_script.specs.declared.play.PlayFault.{PlayFault}
 use Rattle.cli_script.specs.declared.play.PlayFault.TheVariants.{Refused, Untold}
 
--- one thing that is told: the centres as they are, an event that comes next, or what that event was answered
+-- one thing that is told: the centres of a line as they are, an event that comes next, or what that event was answered
 pub data Telling : Type 0 where
-  Showing : (world : World) → Telling
+  Showing : (line : Line) → (world : World) → Telling
   Coming : (event : WorldEvent) → Telling
   Answering : (event : WorldEvent) → (answer : spec.Answer) → Telling
 
@@ -23,7 +23,7 @@ pub data Telling : Type 0 where
 -- The entries are played on world w and told to t. All are answered, and told one after another; this leaves world v and the teller u.
 abbrev pub IsPlayed : {T : Type 0} → (T → Telling → T → Type 0) → Line → World → T → List Entry → World → T → Type 0
 IsPlayed tells line w t [] v u = (v ≡ w) × (u ≡ t)
-IsPlayed {T} tells line w t (entry.Show ∷ rest) v u = (s : T) × tells t (Showing w) s × IsPlayed tells line w s rest v u
+IsPlayed {T} tells line w t (entry.Show ∷ rest) v u = (s : T) × tells t (Showing line w) s × IsPlayed tells line w s rest v u
 IsPlayed {T} tells line w t (entry.Event event ∷ rest) v u =
     (answer : spec.Answer) × (x : World) × (s r : T) × (world_step line w (event_of event) ≡ Ok (answer, x))
     × tells t (Coming event) s × tells s (Answering event answer) r × IsPlayed tells line x r rest v u

@@ -20,7 +20,7 @@ pub trait Teller {
 
     /// The line, as the centres supervise it.
     fn show(&mut self, world: &World) -> Result<(), Self::Fault>
-        ensures { OnOk result (tells self.old (Showing (state_of world.now)) self.new) };
+        ensures { OnOk result (tells self.old (Showing (line_of world.now) (state_of world.now)) self.new) };
 
     /// An event, before the world takes it.
     fn comes(&mut self, event: &WorldEvent) -> Result<(), Self::Fault>
