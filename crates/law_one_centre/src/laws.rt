@@ -14,7 +14,8 @@ ghost use Rattle.law_refinement.specs.Meets.{Meets};
 /// goes on from what is read off them afterwards.
 pub fn each_event_leaves_no_choice()
     ensures { (line : Line) (c : ℕ) (w new : World) (event : Event) (answer : Answer) → IsLine line
-        → IsOneCentreLine line c → Meets line w (read_off line w) → IsLocal line w → world_step line w event ≡ Ok (answer, new)
+        → IsOneCentreLine line c → Meets line w (read_off line w) → IsLocal line w
+        → world_step line w event ≡ Ok (answer, new)
         → GoesForced line (read_off line w) event answer (read_off line new) }
 {}
 
