@@ -1,2 +1,3 @@
 mod Bidden
+mod Committed
 mod Printed
