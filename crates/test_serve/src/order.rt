@@ -84,34 +84,25 @@ struct Told {
 #[test]
 fn a_train_hears_all_in_order_though_two_threads_commit(rt: HostRuntime) -> Result<(), Fail> {
     let line = two_centres(rt.alloc())?;
+    let told = Told {
+        is_open: AtomicBool::new(false),
+        is_said: AtomicBool::new(false),
+    };
     let numbers = AtomicBool::new(false);
     let printed = printed_with(&rt, rt.alloc(), &line, Manner::default(), |addresses| {
-        let is_in_order = is_heard_in_order(&rt, rt.alloc(), addresses)?;
+        let (opened, other) = thread::join(
+            &rt,
+            || open_and_start(&rt, rt.alloc(), addresses, &told),
+            || start(&rt, rt.alloc(), addresses, &told),
+        );
+        other?;
+        let is_in_order = is_counted_from_two(opened?.as_slice())?;
         numbers.store(is_in_order, Ordering::SeqCst);
         Ok(())
     })?;
     assert!(rt; numbers.load(Ordering::SeqCst));
     assert!(rt; printed.starts_with(b"> train A 9B028000000040000040\n"));
     Ok(())
-}
-
-// Whether the train hears all in order over its connection, while messages come over that and over another.
-fn is_heard_in_order<R: Threads + Net<Stream = TcpStream> + Sync>(
-    rt: &R,
-    alloc: Global,
-    addresses: Addresses,
-) -> Done<bool> {
-    let told = Told {
-        is_open: AtomicBool::new(false),
-        is_said: AtomicBool::new(false),
-    };
-    let (opened, other) = thread::join(
-        rt,
-        || open_and_start(rt, alloc, addresses, &told),
-        || start(rt, alloc, addresses, &told),
-    );
-    other?;
-    is_counted_from_two(opened?.as_slice())
 }
 
 // The train opens its session, and establishes it.
