@@ -19,7 +19,7 @@ pub fn layout(alloc: Global) -> Result<Layout, AllocError> {
     layout.centres.push(String::from_str(alloc, "B")?)?;
     layout.ports.push(21_000)?;
     layout.ports.push(21_001)?;
-    layout.tracks.push(String::from_str(alloc, "T1")?)?;
+    layout.tracks.push(String::from_str(alloc, "main")?)?;
     for (home, start) in [(0u8, 0u32), (0, 100), (1, 200), (1, 300)] {
         layout.sections.push(Place {
             track: 0,

@@ -43,7 +43,7 @@ fn each_change_is_a_row(rt: HostRuntime) -> Result<(), Fail> {
     for row in [
         "{\"nid_c\":7,\"first\":6,\"last\":7,\"of\":7,\"train\":19,\n",
         "[6,2,\"kept\",19,1]",
-        "[6,19,\"A\",\"B\",\"T1\",null,123.4,0,1,null,null,null,0]",
+        "[6,19,\"A\",\"B\",\"main\",null,123.4,0,1,null,null,null,0]",
         "[7,19,null,null,null,null,null,null,null,null,null,null,null]",
         "[5,19,\"A\",\"up\"]",
         "[7,19,\"A\",null]",
@@ -67,8 +67,8 @@ fn a_person_reads_the_last_state_without_a_script(rt: HostRuntime) -> Result<(),
     let text = page(rt.alloc())?;
     let text = text.as_str();
     assert!(rt; text.contains("<p>Behind event 7 of 7.</p>"));
-    assert!(rt; text.contains("<tr><td>19<td>A<td>B<td>T1<td><td>123.4<td>0<td>1<td>"));
-    assert!(rt; text.contains("<tr><td>2<td>2<td>T1<td>200<td>300<td>B<td>kept<td>19<td>0"));
+    assert!(rt; text.contains("<tr><td>19<td>A<td>B<td>main<td><td>123.4<td>0<td>1<td>"));
+    assert!(rt; text.contains("<tr><td>2<td>2<td>main<td>200<td>300<td>B<td>kept<td>19<td>0"));
     assert!(rt; !text.contains("http-equiv='refresh'"));
     Ok(())
 }

@@ -53,9 +53,9 @@ fn each_refusal_says_its_length(rt: HostRuntime) -> Result<(), Fail> {
 fn sections_alike_are_one_row(rt: HostRuntime) -> Result<(), Fail> {
     let text = answered(rt.alloc(), Asked::Now { since: None })?;
     for row in [
-        "[0,1,\"T1\",0,200,\"A\",\"given\",19,0]",
-        "[2,2,\"T1\",200,300,\"B\",\"kept\",19,0]",
-        "[3,3,\"T1\",300,400,\"B\",\"shut\",null,0]",
+        "[0,1,\"main\",0,200,\"A\",\"given\",19,0]",
+        "[2,2,\"main\",200,300,\"B\",\"kept\",19,0]",
+        "[3,3,\"main\",300,400,\"B\",\"shut\",null,0]",
     ] {
         assert!(rt; text.as_str().contains(row), "{row}");
     }
@@ -66,7 +66,7 @@ fn sections_alike_are_one_row(rt: HostRuntime) -> Result<(), Fail> {
 fn a_train_has_what_is_known_of_it(rt: HostRuntime) -> Result<(), Fail> {
     let text = answered(rt.alloc(), Asked::Now { since: None })?;
     let text = text.as_str();
-    assert!(rt; text.contains("[19,\"A\",\"B\",\"T1\",null,123.4,0,1,null,null,null,0]"));
+    assert!(rt; text.contains("[19,\"A\",\"B\",\"main\",null,123.4,0,1,null,null,null,0]"));
     assert!(rt; text.contains("[19,\"A\",\"up\"]"));
     assert!(rt; text.contains("[\"A\",21000,4,4,1,9]"));
     assert!(rt; text.contains("[\"A\",\"B\",3,2]"));
@@ -77,8 +77,8 @@ fn a_train_has_what_is_known_of_it(rt: HostRuntime) -> Result<(), Fail> {
 fn the_line_has_its_sections(rt: HostRuntime) -> Result<(), Fail> {
     let text = answered(rt.alloc(), Asked::Line)?;
     let text = text.as_str();
-    assert!(rt; text.contains("{\"nid_c\":7,\n\"tracks\":[[\"track\"],[\"T1\"]]"));
-    assert!(rt; text.contains("[2,\"T1\",200,300,\"B\"]"));
+    assert!(rt; text.contains("{\"nid_c\":7,\n\"tracks\":[[\"track\"],[\"main\"]]"));
+    assert!(rt; text.contains("[2,\"main\",200,300,\"B\"]"));
     Ok(())
 }
 
@@ -87,8 +87,8 @@ fn a_person_reads_it_without_a_script(rt: HostRuntime) -> Result<(), Fail> {
     let text = answered(rt.alloc(), Asked::Page)?;
     let text = text.as_str();
     assert!(rt; text.contains("<h2>trains</h2><table><tr><th>train<th>supervisor"));
-    assert!(rt; text.contains("<tr><td>19<td>A<td>B<td>T1<td><td>123.4<td>0<td>1<td>"));
-    assert!(rt; text.contains("<tr><td>0<td>1<td>T1<td>0<td>200<td>A<td>given<td>19<td>0"));
+    assert!(rt; text.contains("<tr><td>19<td>A<td>B<td>main<td><td>123.4<td>0<td>1<td>"));
+    assert!(rt; text.contains("<tr><td>0<td>1<td>main<td>0<td>200<td>A<td>given<td>19<td>0"));
     assert!(rt; text.contains("<noscript><meta http-equiv='refresh'"));
     Ok(())
 }
