@@ -1,4 +1,4 @@
-ghost use Rattle.std.specs.Prelude.{◌≡◌, ℕ, Bool};
+ghost use Rattle.std.specs.Prelude.{◌≡◌, ◌+◌, ◌-◌, ◌^◌, ℕ, Bool, min};
 
 /// The numbers under which the receiving worker of a link asks for frames.
 pub trait Order {
@@ -29,6 +29,16 @@ impl InOrder {
         ensures { result.number ≡ 1 }
     {
         InOrder { number: 1 }
+    }
+
+    /// Asks first for the frame behind this number, which is that of the last frame that was committed. There is no
+    /// number behind the greatest: that is asked for again.
+    pub fn behind(number: u32) -> InOrder
+        ensures { result.number ≡ min (number + 1) (2 ^ 32 - 1) }
+    {
+        InOrder {
+            number: number.saturating_add(1),
+        }
     }
 }
 
