@@ -143,8 +143,8 @@ fn part<'a>(alloc: Global, name: &'static str, value: &'static str, help: &'stat
         .help(help)
 }
 
-// What `serve` takes besides its words: the page's port, and how fast each train may be.
-static DOORS: [(&str, &str, &str); 3] = [
+// What `serve` takes besides its words: the page's port, how fast each train may be, and where the journals lie.
+static DOORS: [(&str, &str, &str); 5] = [
     (
         "page",
         "PORT",
@@ -156,6 +156,16 @@ static DOORS: [(&str, &str, &str); 3] = [
         "How many messages a second a train's connection may say, one behind another",
     ),
     ("burst", "N", "How many it may say at once"),
+    (
+        "journal",
+        "FOLDER",
+        "Begin a journal of each centre in this folder, and write each event there that it takes",
+    ),
+    (
+        "resume",
+        "FOLDER",
+        "Go on from the journals in this folder, and write on in them",
+    ),
 ];
 
 // The options of a command with a value, each with what it is.
@@ -172,7 +182,7 @@ static PICTURE: [(&str, &str); 1] = [(
     "Draw it in an HTML page with a slider over the events",
 )];
 
-static SERVE: [(&str, &str); 3] = [
+static SERVE: [(&str, &str); 4] = [
     (
         "quiet",
         "Say nothing on standard error while the centres run",
@@ -184,6 +194,10 @@ static SERVE: [(&str, &str); 3] = [
     (
         "life",
         "Show how much of each log, clock and link is used up, behind the lines of `show`",
+    ),
+    (
+        "no-sync",
+        "Write journals without waiting until the disk has what is written",
     ),
 ];
 

@@ -13,6 +13,7 @@ mod explain;
 pub mod files;
 mod forms;
 mod in_words;
+pub mod journal;
 mod picture;
 pub mod run;
 mod storm;

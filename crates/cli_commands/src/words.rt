@@ -37,7 +37,7 @@ pub enum Request<'a> {
     Serve {
         file: &'a str,
         port: u16,
-        words: ServeWords,
+        words: ServeWords<'a>,
     },
     /// Be a train: send the lines of the file to the centre at this port.
     Drive {
@@ -64,7 +64,7 @@ pub enum Request<'a> {
 
 /// What `serve` is asked for beside the line and the port.
 #[derive(Clone, Copy, Debug)]
-pub struct ServeWords {
+pub struct ServeWords<'a> {
     /// No notes are written.
     pub is_quiet: bool,
     /// The port at which browsers are shown the line, if they are.
@@ -77,6 +77,19 @@ pub struct ServeWords {
     pub per_second: Option<u32>,
     /// How many it may say at once, if that is named.
     pub burst: Option<u32>,
+    /// The journals that the centres write, if they do.
+    pub journal: Option<JournalWords<'a>>,
+}
+
+/// What `serve` is asked for of journals.
+#[derive(Clone, Copy, Debug)]
+pub struct JournalWords<'a> {
+    /// The folder in which each centre has its journal.
+    pub folder: &'a str,
+    /// The centres go on from the journals that lie in the folder; else these are begun.
+    pub is_resumed: bool,
+    /// What is written is waited for until the disk has it.
+    pub is_synced: bool,
 }
 
 /// Reads the words behind the program's name.
@@ -152,7 +165,7 @@ fn named_serve<'a>(words: &ArgMatches<'a>) -> Option<Request<'a>> {
     })
 }
 
-fn serve_words(words: &ArgMatches<'_>) -> Option<ServeWords> {
+fn serve_words<'a>(words: &ArgMatches<'a>) -> Option<ServeWords<'a>> {
     Some(ServeWords {
         is_quiet: words.get_flag("quiet"),
         page: match words.get_str("page") {
@@ -163,7 +176,24 @@ fn serve_words(words: &ArgMatches<'_>) -> Option<ServeWords> {
         shows_life: words.get_flag("life"),
         per_second: named_count(words, "rate")?,
         burst: named_count(words, "burst")?,
+        journal: journal_words(words)?,
     })
+}
+
+// What is asked for of journals. None where both folders are named, or where none is and still no write is waited for.
+fn journal_words<'a>(words: &ArgMatches<'a>) -> Option<Option<JournalWords<'a>>> {
+    let is_synced = !words.get_flag("no-sync");
+    let (folder, is_resumed) = match (words.get_str("journal"), words.get_str("resume")) {
+        (Some(folder), None) => (folder, false),
+        (None, Some(folder)) => (folder, true),
+        (None, None) if is_synced => return Some(None),
+        _ => return None,
+    };
+    Some(Some(JournalWords {
+        folder,
+        is_resumed,
+        is_synced,
+    }))
 }
 
 // The same as `named_number`, where none is 0.

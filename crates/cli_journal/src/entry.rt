@@ -1,3 +1,7 @@
+ghost use Rattle.std.specs.Prelude.{◌≡◌};
+ghost use Rattle.rbc_spec.specs.World.{centre_of};
+ghost use Rattle.rbc_world.specs.Views.{event_of};
+
 use rbc_world::WorldEvent;
 
 /// An event that a centre took, and the stamp of what it answered.
@@ -5,4 +9,18 @@ use rbc_world::WorldEvent;
 pub struct Entry {
     pub stamp: u32,
     pub event: WorldEvent,
+}
+
+impl Entry {
+    /// The centre that took the event.
+    pub fn centre(&self) -> u8
+        ensures { result ≡ centre_of (event_of self.now.event) }
+    {
+        match &self.event {
+            WorldEvent::Train { centre, .. } => *centre,
+            WorldEvent::Set { centre, .. } => *centre,
+            WorldEvent::Unset { centre, .. } => *centre,
+            WorldEvent::Deliver { to, .. } => *to,
+        }
+    }
 }

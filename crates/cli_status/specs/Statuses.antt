@@ -1,7 +1,7 @@
 -- The exit statuses of the program.
 use Rattle.std.specs.Prelude.{◌≡◌, ℕ, ◌⊎◌, Result, Ok, Err}
 use Rattle.cli_status.specs.declared.fault.Fault.{Fault}
-use Rattle.cli_status.specs.declared.fault.Fault.TheVariants.{Words, Usage, CannotRead, Line, Script, Step, Message, Differs, Socket, Write}
+use Rattle.cli_status.specs.declared.fault.Fault.TheVariants.{Words, Usage, CannotRead, NoJournal, Foreign, Damaged, Unfit, Line, Script, Step, Message, Differs, Socket, Write}
 
 -- the status that stands for a fault
 abbrev pub status_of : Fault → ℕ
@@ -10,6 +10,10 @@ status_of Words = 2
 status_of (Usage usage) = 2
 status_of (CannotRead name) = 3
 status_of (Script row) = 3
+status_of (NoJournal name) = 3
+status_of (Foreign name) = 3
+status_of (Damaged journal row) = 3
+status_of (Unfit journal row) = 3
 status_of (Line why) = 4
 status_of (Step why) = 5
 status_of Socket = 6

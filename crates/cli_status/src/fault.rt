@@ -18,6 +18,18 @@ pub enum Fault<'a> {
     Usage(clap::Error),
     #[error("rbcline: cannot read {0}")]
     CannotRead(&'a str),
+    /// The journal of a centre can't be read: its name, with its folder.
+    #[error("rbcline: cannot read {0}")]
+    NoJournal(String),
+    /// A journal of this name is of another centre, line or version.
+    #[error("rbcline: {0} is of another centre or line")]
+    Foreign(String),
+    /// A line of a journal is damaged; lines count from 1.
+    #[error("rbcline: {journal} line {row}")]
+    Damaged { journal: String, row: usize },
+    /// The journals are not those of one run of the line: the line of the first entry that does not fit.
+    #[error("rbcline: the journals do not fit together: {journal} line {row}")]
+    Unfit { journal: String, row: usize },
     #[error("rbcline: line fault {number}", number = .0.number())]
     Line(LineFault),
     /// A line of the script has no form that a script may have; lines count from 1.
@@ -50,6 +62,8 @@ impl Fault<'_> {
             Fault::Differs => 1,
             Fault::Words | Fault::Usage(_) => 2,
             Fault::CannotRead(_) | Fault::Script(_) => 3,
+            Fault::NoJournal(_) | Fault::Foreign(_) => 3,
+            Fault::Damaged { .. } | Fault::Unfit { .. } => 3,
             Fault::Line(_) => 4,
             Fault::Step(_) => 5,
             Fault::Socket | Fault::Write => 6,
