@@ -9,6 +9,7 @@ mod end;
 mod links;
 mod order;
 mod outlet;
+mod passing;
 mod session;
 mod signals;
 
@@ -17,5 +18,6 @@ pub use end::SessionEnd;
 pub use links::{receive_frames, send_frames};
 pub use order::{InOrder, Order};
 pub use outlet::{Closed, Outlet};
+pub use passing::pass_over;
 pub use session::run_session;
 pub use signals::{LinkEnds, Signals};
