@@ -1,6 +1,6 @@
 // Clients of running centres, and a bare echo server beside them.
 // Words: line; echo PORT PORTS; release PORT; load centres|echo PORT SECONDS WINDOW TIME; soak PORT SECONDS; browse PORT
-// SECONDS; stop PORT; missing PRINTED HEARD.
+// SECONDS; stop PORT; missing PRINTED HEARD; crash PORT TIME.
 
 #[path = "../peer/bits.rs"]
 #[allow(dead_code)]
@@ -8,6 +8,7 @@ mod bits;
 #[path = "../peer/draw.rs"]
 #[allow(dead_code)]
 mod draw;
+mod crash;
 mod echo;
 mod heard;
 mod line;
@@ -48,6 +49,16 @@ fn main() -> Result<(), Box<dyn Error>> {
                 return Err(format!("{out_of_order} answers came out of order").into());
             }
             for line in outcome.heard.iter().flat_map(|heard| &heard.lines) {
+                println!("{line}");
+            }
+        }
+        ["crash", first, time] => {
+            let heard = crash::run(first.parse()?, time.parse()?);
+            let out_of_order: u32 = heard.iter().map(|heard| heard.out_of_order).sum();
+            if out_of_order > 0 {
+                return Err(format!("{out_of_order} answers came out of order").into());
+            }
+            for line in heard.iter().flat_map(|heard| &heard.lines) {
                 println!("{line}");
             }
         }

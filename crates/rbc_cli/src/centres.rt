@@ -1,11 +1,14 @@
 //! The centres of a line that run.
 
+use crate::record::opened;
 use cli_commands::disk::Disk;
-use cli_commands::run::line_in;
+use cli_commands::files::Files as _;
+use cli_commands::journal::{Found, journals_in};
 use cli_commands::words::ServeWords;
-use cli_status::report;
+use cli_status::{Fault, report};
 use rbc_line::Line;
-use serve_line::{Doors, Loud, Manner, Notes, Quiet, ServeFault, serve};
+use serve_line::{Doors, Loud, Manner, Notes, Quiet, Record, ServeFault, serve};
+use std::fs::File;
 use std::io::{Eprint, Write};
 use std::net::{Net, TcpListener, TcpStream};
 use std::rt::Files;
@@ -20,21 +23,28 @@ pub fn run_centres<
         + Sync
         + Net<Stream = TcpStream, Listener = TcpListener>
         + Clock
-        + Files
+        + Files<File = File>
         + Eprint
         + AllocGlobal,
     O: Write,
     E: Write,
->(rt: &R, file: &str, port: u16, words: &ServeWords, out: &mut O, err: &mut E) -> u8 {
-    let line = match line_in(rt.alloc(), file, &Disk(rt)) {
-        Ok(line) => line,
+>(rt: &R, file: &str, port: u16, words: &ServeWords<'_>, out: &mut O, err: &mut E) -> u8 {
+    let Some(text) = Disk(rt).text(file) else {
+        return report(&Fault::CannotRead(file), out, err);
+    };
+    let (line, found) = match known(rt, &text, words) {
+        Ok(known) => known,
         Err(fault) => return report(&fault, out, err),
     };
-    let manner = manner_of(words);
+    let begun = Begun {
+        line: &line,
+        text: &text,
+        found,
+    };
     let done = if words.is_quiet {
-        run_noted(rt, &line, port, words.page, manner, &Quiet, out)
+        run_noted(rt, begun, port, words, &Quiet, out)
     } else {
-        run_noted(rt, &line, port, words.page, manner, &Loud(rt), out)
+        run_noted(rt, begun, port, words, &Loud(rt), out)
     };
     match done {
         Ok(()) => 0,
@@ -46,34 +56,64 @@ pub fn run_centres<
     }
 }
 
-// Opens the ports, and serves.
+/// What the centres begin with: the line, the text of its file, and the journals that they go on from.
+#[derive(Drop)]
+struct Begun<'a> {
+    line: &'a Line,
+    text: &'a str,
+    found: Option<Found>,
+}
+
+// The line, and the journals that its centres go on from, if they do.
+fn known<'a, R: Files + AllocGlobal>(
+    rt: &R,
+    text: &str,
+    words: &ServeWords<'a>,
+) -> Result<(Line, Option<Found>), Fault<'a>> {
+    let line = Line::from_toml(rt.alloc(), text)?;
+    let found = match &words.journal {
+        Some(journal) if journal.is_resumed => {
+            let disk = Disk(rt);
+            Some(journals_in(rt.alloc(), &line, text, journal.folder, &disk)?)
+        }
+        _ => None,
+    };
+    Ok((line, found))
+}
+
+// Opens the ports and the journals, and serves.
 fn run_noted<
     R: Threads
         + Wait
         + Sync
         + Net<Stream = TcpStream, Listener = TcpListener>
         + Clock
+        + Files<File = File>
         + AllocGlobal,
     N: Notes + Sync,
     O: Write,
 >(
     rt: &R,
-    line: &Line,
+    begun: Begun<'_>,
     port: u16,
-    page: Option<u16>,
-    manner: Manner,
+    words: &ServeWords<'_>,
     notes: &N,
     out: &mut O,
 ) -> Result<(), ServeFault> {
+    let Begun { line, text, found } = begun;
     let mut doors = Doors::open(rt, rt.alloc(), line, port, notes)?;
-    if let Some(page) = page {
+    if let Some(page) = words.page {
         doors = doors.and_page(rt, page, notes)?;
     }
-    serve(rt, rt.alloc(), line, doors, manner, notes, out)
+    let record = match &words.journal {
+        Some(journal) => opened(rt, line, text, journal, found, notes)?,
+        None => Record::none(rt.alloc()),
+    };
+    serve(rt, rt.alloc(), line, doors, record, manner_of(words), notes, out)
 }
 
 // What the words ask for.
-fn manner_of(words: &ServeWords) -> Manner {
+fn manner_of(words: &ServeWords<'_>) -> Manner {
     let mut manner = Manner {
         is_telling: words.is_telling,
         shows_life: words.shows_life,

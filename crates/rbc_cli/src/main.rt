@@ -5,6 +5,7 @@
 #![tactic(auto)]
 
 mod centres;
+mod record;
 mod train;
 
 use crate::centres::run_centres;

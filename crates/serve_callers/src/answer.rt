@@ -10,6 +10,10 @@ use std::sync::Wait;
 /// What a line of another form is answered.
 pub(crate) const SCRIPT_FAULT: &str = "script fault\n";
 
+/// What a line is answered whose event can't be written to the centre's journal. The event is not answered: it was not
+/// taken, or the line ended before it was written.
+const JOURNAL_FAULT: &str = "journal fault\n";
+
 /// Does what a line at the control door asks for, and writes what a run prints of it. A commit that is refused is told
 /// with its number.
 pub(crate) fn answer<R: Wait>(
@@ -61,6 +65,16 @@ fn commit<R: Wait>(
     let (Some(desk), Some(share)) = (hall.desk(centre), shares.get_mut(centre as usize)) else {
         return Ok(());
     };
+    if hall.is_stuck(rt, centre) {
+        text.extend_from_slice(JOURNAL_FAULT.as_bytes())?;
+        return Ok(());
+    }
     let answer = desk.commit(rt, share, event);
+    if let (Some(journal), Ok(outcome)) = (hall.journal(centre), &answer) {
+        if !journal.reaches(rt, outcome.stamp) {
+            text.extend_from_slice(JOURNAL_FAULT.as_bytes())?;
+            return Ok(());
+        }
+    }
     print_commit(hall.alloc, text, hall.line, centre, printed, &answer)
 }

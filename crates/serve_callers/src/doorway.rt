@@ -69,6 +69,13 @@ fn next_caller<'a, R: Wait, N: Notes>(
     };
     let stream = Arc::new(hall.alloc, stream).ok()?;
     let shared = Arc::try_clone(&stream).ok()?;
+    if let Caller::Trains(centre) = door.caller {
+        if hall.is_stuck(rt, centre) {
+            let name = hall.name(door.caller);
+            notes.note(format_args!("{name}: a connection is refused, the journal can't be written"));
+            return None;
+        }
+    }
     let Some(seat) = seat_for(rt, hall, door) else {
         let name = hall.name(door.caller);
         notes.note(format_args!("{name}: a connection is refused, there are too many"));

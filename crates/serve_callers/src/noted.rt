@@ -28,8 +28,10 @@ impl<T: Clock, N: Notes> Outlet for NotedWire<'_, T, N> {
     }
 
     fn answered<R: Wait>(&self, rt: &R, outcome: &Outcome) {
-        self.wire.answered(rt, outcome);
-        self.teller.tell(rt, outcome);
+        if self.teller.may_tell(rt, outcome) {
+            self.wire.answered(rt, outcome);
+            self.teller.tell(rt, outcome);
+        }
         self.pace.hold(rt);
     }
 }

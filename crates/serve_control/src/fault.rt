@@ -15,6 +15,9 @@ pub enum ServeFault {
     Gather(GatherFault),
     #[error("rbcline: merge refused {number}", number = .0.number())]
     Merge(MergeFault),
+    /// A journal was given up: it lacks what was committed last, or it can't be begun.
+    #[error("rbcline: journal")]
+    Journal,
     /// As for a run.
     #[error(transparent)]
     Run(Fault<'static>),
@@ -29,7 +32,7 @@ impl ServeFault {
         ensures { result ≡ status_of_serve self.now }
     {
         match self {
-            ServeFault::Socket => 6,
+            ServeFault::Socket | ServeFault::Journal => 6,
             ServeFault::Gather(_) | ServeFault::Merge(_) => 7,
             ServeFault::Run(fault) => fault.status(),
         }

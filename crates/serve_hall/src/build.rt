@@ -8,9 +8,10 @@ use cli_print::name_of;
 use rbc_line::Line;
 use rbc_node::{Node, Share};
 use serve_connections::Exchange;
+use serve_journal::Journal;
 use serve_workers::LinkEnds;
 use std::alloc::{AllocError, Global};
-use std::sync::Mutex;
+use std::sync::{Mutex, Wait};
 use std::sync::atomic::{AtomicBool, AtomicU64};
 use std::thread::Parker;
 
@@ -153,12 +154,32 @@ pub fn exchanges_of<'a>(
     Ok(exchanges)
 }
 
+/// For each centre the journal that it goes on with, behind what its node has.
+pub fn journals_of<R: Wait>(
+    rt: &R,
+    alloc: Global,
+    nodes: &[Node],
+) -> Result<Vec<Journal>, AllocError> {
+    let mut journals = Vec::with_capacity(alloc, nodes.len())?;
+    for node in nodes {
+        let look = node.look(rt);
+        let entries = look.log().entries();
+        let stamp = match entries.last() {
+            Some(entry) => entry.outcome.stamp,
+            None => 0,
+        };
+        journals.push(Journal::new(entries.len(), stamp))?;
+    }
+    Ok(journals)
+}
+
 /// For each centre where its answers go on to.
 pub fn tellers_of<'a>(
     alloc: Global,
     line: &'a Line,
     exchanges: &'a [Exchange<'a>],
     doors: &'a [Door],
+    journals: &'a [Journal],
     manner: Manner,
 ) -> Result<Vec<Teller<'a>>, AllocError> {
     let control = if manner.is_telling {
@@ -172,6 +193,7 @@ pub fn tellers_of<'a>(
         tellers.push(Teller {
             exchange,
             control,
+            journal: journals.get(centre as usize),
             name,
         })?;
     }

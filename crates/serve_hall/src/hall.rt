@@ -4,6 +4,7 @@ use crate::teller::Teller;
 use cli_print::name_of;
 use rbc_line::Line;
 use rbc_node::{Node, Open, Share};
+use serve_journal::Journal;
 use serve_workers::{Desk, LinkEnds};
 use std::alloc::Global;
 use std::sync::atomic::{AtomicBool, AtomicU64, Ordering};
@@ -36,13 +37,17 @@ pub struct DirectedLink {
 #[derive(Drop)]
 pub struct State {
     /// No connection is taken any more.
-    is_stopped: AtomicBool,
+    pub is_stopped: AtomicBool,
     /// How many doors of centres are open or have connections still.
     doors: AtomicU64,
     /// How often a caller came or was heard.
     heard: AtomicU64,
     /// No connection is left: nothing new comes to the links.
     pub is_over: AtomicBool,
+    /// No worker is left: nothing more is committed.
+    pub is_done: AtomicBool,
+    /// A journal was given up: it lacks what was committed last.
+    has_lost: AtomicBool,
     /// Memory ran out, or a thread could not be made.
     has_failed: AtomicBool,
 }
@@ -55,6 +60,8 @@ impl State {
             doors: AtomicU64::new(u64::from(centres)),
             heard: AtomicU64::new(0),
             is_over: AtomicBool::new(false),
+            is_done: AtomicBool::new(false),
+            has_lost: AtomicBool::new(false),
             has_failed: AtomicBool::new(false),
         }
     }
@@ -84,6 +91,11 @@ impl State {
         self.is_over.store(true, Ordering::SeqCst);
     }
 
+    /// Whether a journal was given up.
+    pub fn has_lost(&self) -> bool {
+        self.has_lost.load(Ordering::SeqCst)
+    }
+
     /// Whether memory ran out, or a thread could not be made.
     pub fn has_failed(&self) -> bool {
         self.has_failed.load(Ordering::SeqCst)
@@ -107,6 +119,8 @@ pub struct Hall<'a> {
     pub links: &'a [DirectedLink],
     /// The bells of the links from each centre: all of a centre are rung together.
     pub bells: &'a [Vec<Parker>],
+    /// The journals of the centres, by their numbers; none where they keep none.
+    pub journals: &'a [Journal],
     /// Whether they still run.
     pub state: &'a State,
     /// How they are served.
@@ -123,6 +137,35 @@ impl Hall<'_> {
             gate: &Open,
             outlet,
         })
+    }
+
+    /// The journal of a centre, if it keeps one.
+    pub fn journal(&self, centre: u8) -> Option<&Journal> {
+        self.journals.get(centre as usize)
+    }
+
+    /// Whether the centre's journal can't be written now. Then the centre takes nothing.
+    pub fn is_stuck<R: Wait>(&self, rt: &R, centre: u8) -> bool {
+        match self.journal(centre) {
+            Some(journal) => journal.is_stuck(rt),
+            None => false,
+        }
+    }
+
+    /// The journal of a centre is given up: nothing that it lacks is answered.
+    pub fn lose<R: Wait>(&self, rt: &R, centre: u8) {
+        self.state.has_lost.store(true, Ordering::SeqCst);
+        if let Some(journal) = self.journal(centre) {
+            journal.close(rt);
+        }
+    }
+
+    /// Nothing more is committed: what is left is written to the journals.
+    pub fn finish(&self) {
+        self.state.is_done.store(true, Ordering::SeqCst);
+        for journal in self.journals {
+            journal.ring();
+        }
     }
 
     /// The node of the centre that a caller comes to, if it comes to one.
@@ -157,6 +200,9 @@ impl Hall<'_> {
         self.state.is_stopped.store(true, Ordering::SeqCst);
         for door in self.doors {
             door.bell.unpark();
+        }
+        for journal in self.journals {
+            journal.ring();
         }
     }
 

@@ -12,7 +12,7 @@ mod manner;
 mod seats;
 mod teller;
 
-pub use build::{bells_of, doors_of, exchanges_of, links_of, nodes_of, tellers_of};
+pub use build::{bells_of, doors_of, exchanges_of, journals_of, links_of, nodes_of, tellers_of};
 pub use doors::{Doors, Listening};
 pub use hall::{Caller, DirectedLink, Hall, State};
 pub use limits::DOOR_REST;

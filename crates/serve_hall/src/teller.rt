@@ -1,22 +1,39 @@
 use crate::seats::Door;
 use rbc_centre::{Outcome, Word};
 use serve_connections::Exchange;
+use serve_journal::Journal;
 use serve_workers::Outlet;
 use std::sync::Wait;
 
 /// Where what a centre answers goes on to: to its trains and links, and, where the interlocking is told of sections, to
-/// its connections.
+/// its connections. Where the centre keeps a journal, nothing goes on before its event is written there.
 #[derive(Drop)]
 pub struct Teller<'a> {
     /// The connections of the centre's trains, and the bells of its links.
     pub exchange: &'a Exchange<'a>,
     /// The control door, if its connections are told.
     pub control: Option<&'a Door>,
+    /// The centre's journal, if it keeps one.
+    pub journal: Option<&'a Journal>,
     /// The name of the centre.
     pub name: &'a str,
 }
 
 impl Teller<'_> {
+    /// Waits until what was answered so may go on, and says whether it may: not where the journal was given up before
+    /// its event was written. Where nothing goes on to a train or the interlocking, it waits for what is far behind
+    /// alone: a frame waits for itself.
+    pub fn may_tell<R: Wait>(&self, rt: &R, outcome: &Outcome) -> bool {
+        let Some(journal) = self.journal else {
+            return true;
+        };
+        if outcome.sayings.as_slice().is_empty() && outcome.words().is_empty() {
+            journal.keeps_up(rt, outcome.stamp)
+        } else {
+            journal.reaches(rt, outcome.stamp)
+        }
+    }
+
     /// Tells the interlocking of each section that was wished back, and is shut now.
     pub fn tell<R: Wait>(&self, rt: &R, outcome: &Outcome) {
         let Some(door) = self.control else {
@@ -36,7 +53,9 @@ impl Outlet for Teller<'_> {
     fn opened<R: Wait>(&self, _rt: &R, _nid_engine: u32) {}
 
     fn answered<R: Wait>(&self, rt: &R, outcome: &Outcome) {
-        self.exchange.answered(rt, outcome);
-        self.tell(rt, outcome);
+        if self.may_tell(rt, outcome) {
+            self.exchange.answered(rt, outcome);
+            self.tell(rt, outcome);
+        }
     }
 }

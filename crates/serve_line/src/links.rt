@@ -2,7 +2,8 @@ ghost use Rattle.std.specs.Prelude.{◌≡◌};
 
 use rbc_board::{Carrier, QueueCarrier};
 use serve_hall::{DirectedLink, Hall};
-use serve_workers::{InOrder, receive_frames, send_frames};
+use serve_journal::Held;
+use serve_workers::{InOrder, pass_over, receive_frames, send_frames};
 use std::alloc::AllocError;
 use std::sync::Wait;
 use std::thread;
@@ -22,6 +23,12 @@ fn try_carry<R: Threads + Wait + Sync>(
     link: &DirectedLink,
 ) -> Result<(), AllocError> {
     let (carrier, writer, reader) = QueueCarrier::new(rt, hall.alloc)?;
+    let journal = hall.journal(link.from);
+    let carrier = Held {
+        rt,
+        carrier,
+        journal,
+    };
     carry_by(rt, hall, link, &carrier, writer, reader);
     Ok(())
 }
@@ -81,7 +88,8 @@ fn send<R: Wait, C: Carrier>(
     send_frames(rt, node, link.to, carrier, seen, signals);
 }
 
-// Receives the frames of a link, until nothing new comes.
+// Receives the frames of a link, until nothing new comes. A centre that goes on from its journal has taken some
+// already.
 fn receive<R: Wait, C: Carrier>(
     rt: &R,
     hall: &Hall<'_>,
@@ -98,7 +106,9 @@ fn receive<R: Wait, C: Carrier>(
         return;
     };
     let signals = link.ends.of_receiver(bell, &hall.state.is_over);
-    let mut order = InOrder::new();
+    let taken = desk.node.look(rt).log().core().taken(link.from);
+    let seen = pass_over(rt, carrier, seen, taken, signals);
+    let mut order = InOrder::behind(taken);
     let mut share = link.share.lock(rt);
     receive_frames(
         rt, &desk, &mut share, link.from, carrier, seen, &mut order, signals,

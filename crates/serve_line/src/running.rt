@@ -1,6 +1,9 @@
+use crate::journals::{Record, keep};
 use crate::links::carry;
 use crate::pages::{PageDoor, run_pages};
 use crate::tally::Tally;
+use cli_journal::Entry;
+use cli_print::name_of;
 use crossbeam_channel::bounded;
 use rbc_line::Line;
 use rbc_node::{Family, Node, Share, gather};
@@ -8,11 +11,13 @@ use serve_callers::run_door;
 use serve_control::{ServeFault, print_family};
 use serve_hall::{
     DirectedLink, Door, Doors, Hall, Manner, Seat, State, bells_of, doors_of, exchanges_of,
-    links_of, nodes_of, tellers_of,
+    journals_of, links_of, nodes_of, tellers_of,
 };
+use serve_journal::{JournalFile, ResumeFault, resume};
 use serve_show::{Notes, Queued, write_notes};
 use std::alloc::{AllocError, Global};
-use std::io::Write;
+use std::fs::OpenFile;
+use std::io::{Seek, Write};
 use std::sync::Wait;
 use std::sync::atomic::AtomicU64;
 use std::thread;
@@ -24,12 +29,18 @@ const NOTES: usize = 1_024;
 
 /// Runs the centres of the line until the interlocking says `stop` and all sessions have ended. Then it gathers their
 /// logs, merges them, and prints all events with what they led to, and the line, as a run does. A thread of its own
-/// writes the notes.
-pub fn serve<R: Threads + Wait + Sync + Clock, N: Notes + Sync, O: Write>(
+/// writes the notes, and one for each journal what its centre commits.
+pub fn serve<
+    R: Threads + Wait + Sync + Clock,
+    N: Notes + Sync,
+    F: Write + Seek + OpenFile + Drop + Send,
+    O: Write,
+>(
     rt: &R,
     alloc: Global,
     line: &Line,
     doors: Doors,
+    record: Record<F>,
     manner: Manner,
     notes: &N,
     out: &mut O,
@@ -50,21 +61,29 @@ pub fn serve<R: Threads + Wait + Sync + Clock, N: Notes + Sync, O: Write>(
             queue,
             lost,
         };
-        serve_noted(rt, alloc, line, doors, manner, &queued, out)
+        serve_noted(rt, alloc, line, doors, record, manner, &queued, out)
     })
 }
 
 // The same, where no note has to wait to be written.
-fn serve_noted<R: Threads + Wait + Sync + Clock, N: Notes + Sync, O: Write>(
+fn serve_noted<
+    R: Threads + Wait + Sync + Clock,
+    N: Notes + Sync,
+    F: Write + Seek + OpenFile + Drop + Send,
+    O: Write,
+>(
     rt: &R,
     alloc: Global,
     line: &Line,
     doors: Doors,
+    record: Record<F>,
     manner: Manner,
     notes: &N,
     out: &mut O,
 ) -> Result<(), ServeFault> {
     let nodes = nodes_of(alloc, line)?;
+    let Record { files, entries } = record;
+    let resumed = resume_noted(rt, alloc, line, &nodes, entries, notes)?;
     let (listening, page) = doors.all();
     let doors = doors_of(alloc, line, &nodes, listening)?;
     let page = match page {
@@ -72,7 +91,7 @@ fn serve_noted<R: Threads + Wait + Sync + Clock, N: Notes + Sync, O: Write>(
         None => None,
     };
     let links = links_of(alloc, line, &nodes)?;
-    run_centres(
+    let is_whole = run_centres(
         rt,
         alloc,
         line,
@@ -80,13 +99,48 @@ fn serve_noted<R: Threads + Wait + Sync + Clock, N: Notes + Sync, O: Write>(
         &doors,
         &links,
         page.as_ref(),
+        files,
         manner,
         notes,
     )?;
-    let shares = shares_of(alloc, doors, links)?;
+    let shares = shares_of(resumed, doors, links)?;
     notes.note("all sessions have ended");
     let family = gather(alloc, nodes, shares)?;
-    print_noted(alloc, line, &family, notes, out)
+    print_noted(alloc, line, &family, notes, out)?;
+    if is_whole {
+        Ok(())
+    } else {
+        Err(ServeFault::Journal)
+    }
+}
+
+// Lets the centres go on from what their journals have, and says so.
+fn resume_noted<R: Wait, N: Notes>(
+    rt: &R,
+    alloc: Global,
+    line: &Line,
+    nodes: &[Node],
+    entries: Vec<Entry>,
+    notes: &N,
+) -> Result<Vec<Share>, ServeFault> {
+    match resume(rt, alloc, nodes, &entries) {
+        Ok(shares) => {
+            for share in &shares {
+                let count = share.receipts().len();
+                if count > 0 {
+                    let name = name_of(line, share.centre());
+                    notes.note(format_args!("{name}: goes on behind {count} events"));
+                }
+            }
+            Ok(shares)
+        }
+        Err(ResumeFault::Memory) => Err(AllocError.into()),
+        Err(ResumeFault::Unfit(centre, number)) => {
+            let name = name_of(line, centre);
+            notes.note(format_args!("{name}: event {number} of the journal does not fit"));
+            Err(ServeFault::Journal)
+        }
+    }
 }
 
 // Prints all events, and notes how many are missing where a write fails.
@@ -112,8 +166,12 @@ fn print_noted<N: Notes, O: Write>(
     done
 }
 
-// Runs all workers to their ends.
-fn run_centres<R: Threads + Wait + Sync + Clock, N: Notes + Sync>(
+// Runs all workers to their ends, and says whether the journals have all that was committed.
+fn run_centres<
+    R: Threads + Wait + Sync + Clock,
+    N: Notes + Sync,
+    F: Write + Seek + OpenFile + Drop + Send,
+>(
     rt: &R,
     alloc: Global,
     line: &Line,
@@ -121,12 +179,18 @@ fn run_centres<R: Threads + Wait + Sync + Clock, N: Notes + Sync>(
     doors: &[Door],
     links: &[DirectedLink],
     page: Option<&PageDoor>,
+    files: Vec<JournalFile<F>>,
     manner: Manner,
     notes: &N,
-) -> Result<(), AllocError> {
+) -> Result<bool, AllocError> {
     let bells = bells_of(alloc, line)?;
     let exchanges = exchanges_of(alloc, line, &bells)?;
-    let tellers = tellers_of(alloc, line, &exchanges, doors, manner)?;
+    let journals = if files.is_empty() {
+        Vec::new(alloc)
+    } else {
+        journals_of(rt, alloc, nodes)?
+    };
+    let tellers = tellers_of(alloc, line, &exchanges, doors, &journals, manner)?;
     let state = State::new(line.centre_count());
     let hall = Hall {
         alloc,
@@ -136,21 +200,27 @@ fn run_centres<R: Threads + Wait + Sync + Clock, N: Notes + Sync>(
         doors,
         links,
         bells: &bells,
+        journals: &journals,
         state: &state,
         manner,
     };
-    run_beside(rt, &hall, page, notes);
+    run_beside(rt, &hall, page, files, notes);
     if state.has_failed() {
         return Err(AllocError);
     }
-    Ok(())
+    Ok(!state.has_lost())
 }
 
-// Runs the links and the doors, and beside them the page.
-fn run_beside<R: Threads + Wait + Sync + Clock, N: Notes + Sync>(
+// Runs the links and the doors, and beside them the page and the journals.
+fn run_beside<
+    R: Threads + Wait + Sync + Clock,
+    N: Notes + Sync,
+    F: Write + Seek + OpenFile + Drop + Send,
+>(
     rt: &R,
     hall: &Hall<'_>,
     page: Option<&PageDoor>,
+    files: Vec<JournalFile<F>>,
     notes: &N,
 ) {
     thread::scope(thread::scope_env(), rt, |scope| {
@@ -162,7 +232,17 @@ fn run_beside<R: Threads + Wait + Sync + Clock, N: Notes + Sync>(
                 notes.note("page: no thread could be made");
             }
         }
+        for (file, centre) in files.into_iter().zip(0..hall.line.centre_count()) {
+            if scope
+                .spawn(move || keep(rt, hall, notes, centre, file))
+                .is_err()
+            {
+                hall.lose(rt, centre);
+                hall.fail();
+            }
+        }
         run_links(rt, hall, notes);
+        hall.finish();
     });
 }
 
@@ -204,13 +284,13 @@ fn run_doors<R: Threads + Wait + Sync + Clock, N: Notes + Sync>(
     });
 }
 
-// The receipts of all that was committed.
+// The receipts of all that was committed: those with which the centres began, and those of the workers.
 fn shares_of(
-    alloc: Global,
+    begun: Vec<Share>,
     doors: Vec<Door>,
     links: Vec<DirectedLink>,
 ) -> Result<Vec<Share>, AllocError> {
-    let mut all = Vec::new(alloc);
+    let mut all = begun;
     for door in doors {
         add_shares(&mut all, door.seats)?;
     }

@@ -24,6 +24,8 @@ pub enum Missed {
     OtherAnswer,
     /// The end of a connection.
     StillOpen,
+    /// An entry, in a journal.
+    Entry,
     /// A print, when the centres ended.
     Print,
     /// A run, in the print.

@@ -9,6 +9,8 @@ mod driving;
 #[cfg(test)]
 mod interlocking;
 #[cfg(test)]
+mod journals;
+#[cfg(test)]
 mod line;
 #[cfg(test)]
 mod manner;
@@ -26,5 +28,7 @@ mod replies;
 mod seats;
 #[cfg(test)]
 mod sessions;
+#[cfg(test)]
+mod sheet;
 #[cfg(test)]
 mod trains;

@@ -4,8 +4,10 @@ use crate::client::{Done, Missed, connect, say};
 use crate::line::CONTROL;
 use cli_audit::{Audit, Verdict};
 use rbc_line::Line;
-use serve_line::{Doors, Manner, Quiet, serve};
+use serve_line::{Doors, Manner, Quiet, Record, serve};
 use std::alloc::Global;
+use std::fs::{File, OpenFile};
+use std::io::{Seek, Write};
 use std::net::{Net, SocketAddr, TcpListener, TcpStream};
 use std::sync::Wait;
 use std::thread;
@@ -26,6 +28,46 @@ pub fn printed_with<
 >(rt: &R, alloc: Global, line: &Line, manner: Manner, play: P) -> Done<Vec<u8>>
     requires { P.IsAlwaysCallable play }
 {
+    let none: Record<File> = Record::none(alloc);
+    printed_of(rt, alloc, line, manner, none, play)
+}
+
+/// The same of centres that keep journals, or go on from them.
+pub fn printed_of<
+    R: Threads + Wait + Sync + Net<Stream = TcpStream, Listener = TcpListener> + Clock,
+    F: Write + Seek + OpenFile + Drop + Send,
+    P: FnOnce(Addresses) -> Done<()>,
+>(
+    rt: &R,
+    alloc: Global,
+    line: &Line,
+    manner: Manner,
+    record: Record<F>,
+    play: P,
+) -> Done<Vec<u8>>
+    requires { P.IsAlwaysCallable play }
+{
+    match served_with(rt, alloc, line, manner, record, play)? {
+        (0, printed) => Ok(printed),
+        _ => Err(Missed::Print),
+    }
+}
+
+/// The same, with the status by which the centres end.
+pub fn served_with<
+    R: Threads + Wait + Sync + Net<Stream = TcpStream, Listener = TcpListener> + Clock,
+    F: Write + Seek + OpenFile + Drop + Send,
+    P: FnOnce(Addresses) -> Done<()>,
+>(
+    rt: &R,
+    alloc: Global,
+    line: &Line,
+    manner: Manner,
+    record: Record<F>,
+    play: P,
+) -> Done<(u8, Vec<u8>)>
+    requires { P.IsAlwaysCallable play }
+{
     let doors = Doors::open(rt, alloc, line, 0, &Quiet)
         .ok()
         .ok_or(Missed::Door)?;
@@ -35,7 +77,7 @@ pub fn printed_with<
     };
     let (served, played) = thread::join(
         rt,
-        || served(rt, alloc, line, doors, manner),
+        || served(rt, alloc, line, doors, record, manner),
         || {
             let played = play(addresses);
             stop(rt, addresses)?;
@@ -43,21 +85,25 @@ pub fn printed_with<
         },
     );
     played?;
-    served
+    Ok(served)
 }
 
-fn served<R: Threads + Wait + Sync + Clock>(
+fn served<
+    R: Threads + Wait + Sync + Clock,
+    F: Write + Seek + OpenFile + Drop + Send,
+>(
     rt: &R,
     alloc: Global,
     line: &Line,
     doors: Doors,
+    record: Record<F>,
     manner: Manner,
-) -> Done<Vec<u8>> {
+) -> (u8, Vec<u8>) {
     let mut out = Vec::new(alloc);
-    serve(rt, alloc, line, doors, manner, &Quiet, &mut out)
-        .ok()
-        .ok_or(Missed::Print)?;
-    Ok(out)
+    match serve(rt, alloc, line, doors, record, manner, &Quiet, &mut out) {
+        Ok(()) => (0, out),
+        Err(fault) => (fault.status(), out),
+    }
 }
 
 // Says `stop`, unless it was said already: then the door is closed.

@@ -1,0 +1,18 @@
+//! The journals of running centres: what each centre commits is written down in the order of its log, what it answers
+//! waits until it is written, and centres go on from what was written.
+//!
+//! Bodies are free. The format of a journal is fixed by docs/FORMATS.md.
+#![tactic(auto)]
+
+mod batch;
+mod file;
+mod held;
+mod journal;
+mod keeping;
+mod resuming;
+
+pub use file::JournalFile;
+pub use held::Held;
+pub use journal::Journal;
+pub use keeping::{Keeper, keep_journal};
+pub use resuming::{ResumeFault, resume};

@@ -1,0 +1,107 @@
+use cli_journal::Entry;
+use rbc_centre::Event;
+use rbc_msgs::{MsgFault, decode_train};
+use rbc_node::{Node, Open, Share, ShareFault};
+use rbc_world::WorldEvent;
+use std::alloc::{AllocError, AllocFailed, Global};
+use std::sync::Wait;
+
+/// Why centres do not go on from journals.
+#[derive(Clone, Copy, Debug, PartialEq, Eq)]
+pub enum ResumeFault {
+    /// Memory ran out.
+    Memory,
+    /// The centre of this number would not have taken an event of its journal so: the number of the first one in the
+    /// journal, from 1. The journals are not of one run.
+    Unfit(u8, usize),
+}
+
+impl From<AllocError> for ResumeFault {
+    fn from(_error: AllocError) -> ResumeFault {
+        ResumeFault::Memory
+    }
+}
+
+impl<T: Drop> From<AllocFailed<T>> for ResumeFault {
+    fn from(_error: AllocFailed<T>) -> ResumeFault {
+        ResumeFault::Memory
+    }
+}
+
+/// Commits the events of the centres' journals again, in the order in which they are given, each at its centre's node.
+/// Each has to be answered under the stamp that it had. It gives the receipts, a share for each node.
+pub fn resume<R: Wait>(
+    rt: &R,
+    alloc: Global,
+    nodes: &[Node],
+    entries: &[Entry],
+) -> Result<Vec<Share>, ResumeFault> {
+    let mut shares = Vec::new(alloc);
+    for node in nodes {
+        shares.push(node.share())?;
+    }
+    for entry in entries {
+        commit_entry(rt, alloc, nodes, &mut shares, entry)?;
+    }
+    Ok(shares)
+}
+
+// Commits an event of a journal at its centre.
+fn commit_entry<R: Wait>(
+    rt: &R,
+    alloc: Global,
+    nodes: &[Node],
+    shares: &mut [Share],
+    entry: &Entry,
+) -> Result<(), ResumeFault> {
+    let at = centre_of(&entry.event);
+    let (Some(node), Some(share)) = (nodes.get(at as usize), shares.get_mut(at as usize)) else {
+        return Err(ResumeFault::Unfit(at, 1));
+    };
+    let number = share.receipts().len().saturating_add(1);
+    let Some(event) = event_of(rt, alloc, nodes, &entry.event)? else {
+        return Err(ResumeFault::Unfit(at, number));
+    };
+    match node.commit(rt, &Open, share, event) {
+        Ok(outcome) if outcome.stamp == entry.stamp => Ok(()),
+        Err(ShareFault::Memory) => Err(ResumeFault::Memory),
+        _ => Err(ResumeFault::Unfit(at, number)),
+    }
+}
+
+// The number of the centre that took the event.
+fn centre_of(event: &WorldEvent) -> u8 {
+    match event {
+        WorldEvent::Train { centre, .. }
+        | WorldEvent::Set { centre, .. }
+        | WorldEvent::Unset { centre, .. } => *centre,
+        WorldEvent::Deliver { to, .. } => *to,
+    }
+}
+
+// The event as its centre takes it. None where its bytes are no message, or its frame was not sent.
+fn event_of<R: Wait>(
+    rt: &R,
+    alloc: Global,
+    nodes: &[Node],
+    event: &WorldEvent,
+) -> Result<Option<Event>, ResumeFault> {
+    match event {
+        WorldEvent::Train { bytes, .. } => match decode_train(alloc, bytes) {
+            Ok(message) => Ok(Some(Event::Train(message))),
+            Err(MsgFault::Memory) => Err(ResumeFault::Memory),
+            Err(_) => Ok(None),
+        },
+        WorldEvent::Set { section, .. } => Ok(Some(Event::Set(*section))),
+        WorldEvent::Unset { section, .. } => Ok(Some(Event::Unset(*section))),
+        WorldEvent::Deliver { from, to, number } => {
+            let Some(node) = nodes.get(*from as usize) else {
+                return Ok(None);
+            };
+            match node.frame(rt, *to, *number) {
+                Some(frame) => Ok(Some(Event::Deliver { from: *from, frame })),
+                None => Ok(None),
+            }
+        }
+    }
+}

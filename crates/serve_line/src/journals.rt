@@ -1,0 +1,56 @@
+use cli_journal::Entry;
+use cli_print::name_of;
+use serve_hall::Hall;
+use serve_journal::{JournalFile, Keeper, keep_journal};
+use serve_show::Notes;
+use std::alloc::Global;
+use std::fs::OpenFile;
+use std::io::{Seek, Write};
+use std::sync::Wait;
+use std::time::Clock;
+
+/// What the centres write down, and what they go on from.
+#[derive(Drop)]
+pub struct Record<F: Drop> {
+    /// The journals, by the centres' numbers; none where none is kept.
+    pub files: Vec<JournalFile<F>>,
+    /// The events of the journals that the centres go on from, in the order in which they happened.
+    pub entries: Vec<Entry>,
+}
+
+impl<F: Drop> Record<F> {
+    /// Nothing is written down, and the line begins anew.
+    pub fn none(alloc: Global) -> Record<F> {
+        Record {
+            files: Vec::new(alloc),
+            entries: Vec::new(alloc),
+        }
+    }
+}
+
+/// Writes the journal of a centre, until nothing more is committed.
+pub(crate) fn keep<R: Wait + Clock, N: Notes, F: Write + Seek + OpenFile + Drop>(
+    rt: &R,
+    hall: &Hall<'_>,
+    notes: &N,
+    centre: u8,
+    mut file: JournalFile<F>,
+) {
+    let at = centre as usize;
+    let (Some(node), Some(journal)) = (hall.nodes.get(at), hall.journals.get(at)) else {
+        return;
+    };
+    let keeper = Keeper {
+        alloc: hall.alloc,
+        line: hall.line,
+        name: name_of(hall.line, centre),
+        node,
+        journal,
+        notes,
+        is_stopped: &hall.state.is_stopped,
+        is_over: &hall.state.is_done,
+    };
+    if !keep_journal(rt, &keeper, &mut file) {
+        hall.lose(rt, centre);
+    }
+}

@@ -1,0 +1,98 @@
+//! A file of a journal, in memory.
+
+use std::fs::{Metadata, OpenFile};
+use std::io;
+use std::io::{ErrorKind, Seek, SeekFrom, Write};
+use std::sync::atomic::{AtomicU8, AtomicUsize, Ordering};
+
+/// A file of which the bytes can be looked at while it is written. A cell behind its end has 0.
+#[derive(Clone, Copy)]
+pub struct Paper<'a> {
+    cells: &'a [AtomicU8],
+    /// How many bytes it may have now.
+    room: &'a AtomicUsize,
+}
+
+impl<'a> Paper<'a> {
+    /// A file in these cells, of so many bytes at most.
+    pub fn new(cells: &'a [AtomicU8], room: &'a AtomicUsize) -> Paper<'a> {
+        Paper { cells, room }
+    }
+
+    /// Whether these are its bytes.
+    pub fn has(&self, text: &[u8]) -> bool {
+        for (i, cell) in self.cells.iter().enumerate() {
+            let wanted = text.get(i).copied().unwrap_or(0);
+            if cell.load(Ordering::SeqCst) != wanted {
+                return false;
+            }
+        }
+        true
+    }
+
+    /// The file, opened for writing.
+    pub fn open(self) -> Sheet<'a> {
+        Sheet { paper: self, at: 0 }
+    }
+}
+
+/// Such a file that is written, and the place where it is written next.
+#[derive(Drop)]
+pub struct Sheet<'a> {
+    paper: Paper<'a>,
+    at: usize,
+}
+
+impl Write for Sheet<'_> {
+    fn write(&mut self, bytes: &[u8]) -> io::Result<usize> {
+        let room = self.paper.room.load(Ordering::SeqCst);
+        let mut count = 0usize;
+        for byte in bytes {
+            let (Some(cell), true) = (self.paper.cells.get(self.at), self.at < room) else {
+                break;
+            };
+            cell.store(*byte, Ordering::SeqCst);
+            self.at = self.at.saturating_add(1);
+            count += 1;
+        }
+        if count == 0 && !bytes.is_empty() {
+            return Err(io::Error::from(ErrorKind::StorageFull));
+        }
+        Ok(count)
+    }
+
+    fn flush(&mut self) -> io::Result<()> {
+        Ok(())
+    }
+}
+
+impl Seek for Sheet<'_> {
+    fn seek(&mut self, place: SeekFrom) -> io::Result<u64> {
+        let SeekFrom::Start(at) = place else {
+            return Err(io::Error::from(ErrorKind::Unsupported));
+        };
+        self.at = at as usize;
+        Ok(at)
+    }
+}
+
+impl OpenFile for Sheet<'_> {
+    fn metadata(&self) -> io::Result<Metadata> {
+        Err(io::Error::from(ErrorKind::Unsupported))
+    }
+
+    fn set_len(&self, size: u64) -> io::Result<()> {
+        for cell in self.paper.cells.iter().skip(size as usize) {
+            cell.store(0, Ordering::SeqCst);
+        }
+        Ok(())
+    }
+
+    fn sync_all(&self) -> io::Result<()> {
+        Ok(())
+    }
+
+    fn sync_data(&self) -> io::Result<()> {
+        Ok(())
+    }
+}
