@@ -1,15 +1,18 @@
-//! The audit of what `run` or `serve` printed.
+//! The audit of what `run` or `serve` printed, or of journals.
 
 use crate::files::{Files, Rows};
-use crate::run::line_in;
+use crate::journal::{journals_in, unfit};
+use crate::line_file::{LineFile, line_file_in};
 use cli_audit::Audit;
 use cli_compare::Verdict;
+use cli_rerun::first_unfit;
 use cli_status::Fault;
 use rbc_line::Line;
 use std::alloc::Global;
 use std::io::Write;
 
 /// Runs the events of a print again, and says whether the print is that of its events, or the first line that differs.
+/// Where the name is that of a folder, so it is done with the journals in it, and their stamps.
 pub fn audit_printed<'a, F: Files, O: Write>(
     alloc: Global,
     file: &'a str,
@@ -17,8 +20,11 @@ pub fn audit_printed<'a, F: Files, O: Write>(
     files: &F,
     out: &mut O,
 ) -> Result<(), Fault<'a>> {
-    let line = line_in(alloc, file, files)?;
-    let verdict = verdict_of(alloc, &line, printed, files)?;
+    let given = line_file_in(alloc, file, files)?;
+    if files.is_folder(printed) {
+        return audit_journals(alloc, &given, printed, files, out);
+    }
+    let verdict = verdict_of(alloc, &given.line, printed, files)?;
     writeln!(out, "{verdict}")?;
     out.flush()?;
     match verdict {
@@ -38,6 +44,44 @@ fn verdict_of<'a, F: Files>(
         return Err(Fault::CannotRead(printed));
     }
     rows.0.end()
+}
+
+// Says whether the journals in a folder are a run of the line, or the first line of theirs that differs from one.
+fn audit_journals<'a, F: Files, O: Write>(
+    alloc: Global,
+    given: &LineFile,
+    folder: &'a str,
+    files: &F,
+    out: &mut O,
+) -> Result<(), Fault<'a>> {
+    match events_of_run(alloc, given, folder, files) {
+        Ok(events) => {
+            writeln!(out, "{}", Verdict::Equal { events })?;
+            out.flush()?;
+            Ok(())
+        }
+        Err(Fault::Unfit { journal, row }) => {
+            writeln!(out, "audit: {journal} line {row} differs")?;
+            out.flush()?;
+            Err(Fault::Differs)
+        }
+        Err(fault) => Err(fault),
+    }
+}
+
+// Runs the events of the journals in a folder, holds each stamp against what the run answers, and counts them.
+fn events_of_run<'a, F: Files>(
+    alloc: Global,
+    given: &LineFile,
+    folder: &'a str,
+    files: &F,
+) -> Result<u64, Fault<'a>> {
+    let line = &given.line;
+    let entries = journals_in(alloc, line, given.text.as_str(), folder, files)?.entries;
+    match first_unfit(alloc, line, &entries)? {
+        None => Ok(entries.len() as u64),
+        Some(place) => Err(unfit(alloc, line, place.centre, place.row)?),
+    }
 }
 
 /// An audit to which the lines of a file come.

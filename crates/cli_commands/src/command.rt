@@ -5,6 +5,7 @@ use crate::diagram::draw_printed;
 use crate::explain::explain;
 use crate::files::Files;
 use crate::in_words::{show_message, tell_printed};
+use crate::printed::print_journals;
 use crate::run::{check, run};
 use crate::storm::run_storm;
 use crate::words::{Request, requested};
@@ -14,8 +15,8 @@ use std::convert::AsStr;
 use std::io::Write;
 
 /// Does what the words behind the program's name ask for, and gives the exit status: 0 done, 1 an audit that found a
-/// difference, 2 words refused (help too), 3 a file that can't be read or a script fault, 4 a line fault, 5 a refused
-/// step, 6 a refused write, or a command that wants sockets, 7 a fault of a message.
+/// difference, 2 words refused (help too), 3 a file that can't be read, a script fault or journals, 4 a line fault, 5 a
+/// refused step, 6 a refused write, or a command that wants sockets, 7 a fault of a message.
 pub fn command<S: AsStr, F: Files, O: Write, E: Write>(
     alloc: Global,
     words: &[S],
@@ -44,6 +45,7 @@ fn obey<'a, S: AsStr, F: Files, O: Write>(
         }
         // Here are files, and no sockets: the program itself does these two.
         Request::Serve { .. } | Request::Drive { .. } => Err(Fault::Socket),
+        Request::Print { file, folder } => print_journals(alloc, file, folder, files, out),
         Request::Audit { file, printed } => audit_printed(alloc, file, printed, files, out),
         Request::Message { digits } => show_message(alloc, digits, out),
         Request::Printed { file, printed } => tell_printed(alloc, file, printed, files, out),

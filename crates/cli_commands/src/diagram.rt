@@ -1,15 +1,16 @@
 //! The diagram of what `run` printed.
 
 use crate::files::Files;
-use crate::run::line_in;
+use crate::line_file::line_file_in;
+use crate::printed::printed_in;
 use cli_picture::picture;
 use cli_replay::{Cut, page_of};
 use cli_status::Fault;
 use std::alloc::Global;
 use std::io::Write;
 
-/// Draws what `run` or `serve` has printed for a line, as far as the cut says: the time-distance diagram as an SVG
-/// document, or an HTML page with the line behind each event.
+/// Draws what `run` or `serve` has printed for a line, or what its journals hold, as far as the cut says: the
+/// time-distance diagram as an SVG document, or an HTML page with the line behind each event.
 pub fn draw_printed<'a, F: Files, O: Write>(
     alloc: Global,
     file: &'a str,
@@ -19,14 +20,12 @@ pub fn draw_printed<'a, F: Files, O: Write>(
     files: &F,
     out: &mut O,
 ) -> Result<(), Fault<'a>> {
-    let line = line_in(alloc, file, files)?;
-    let Some(text) = files.text(printed) else {
-        return Err(Fault::CannotRead(printed));
-    };
+    let given = line_file_in(alloc, file, files)?;
+    let text = printed_in(alloc, &given, printed, files)?;
     let drawn = if is_html {
-        page_of(alloc, &line, text.as_str(), cut)?
+        page_of(alloc, &given.line, text.as_str(), cut)?
     } else {
-        picture(alloc, &line, text.as_str(), cut)?
+        picture(alloc, &given.line, text.as_str(), cut)?
     };
     out.write_all(drawn.as_bytes())?;
     out.flush()?;

@@ -16,6 +16,13 @@ impl<R: rt::Files + AllocGlobal> Files for Disk<'_, R> {
         fs::read_to_string(self.0, name).ok()
     }
 
+    fn is_folder(&self, name: &str) -> bool {
+        match fs::metadata(self.0, name) {
+            Ok(found) => found.is_dir(),
+            Err(_) => false,
+        }
+    }
+
     // A file of any length is read line by line, and no line is kept that is too long.
     fn each_row<T: Rows>(&self, alloc: Global, name: &str, rows: &mut T) -> Option<()> {
         let file = File::open(self.0, name).ok()?;

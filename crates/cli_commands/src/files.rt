@@ -9,6 +9,9 @@ pub trait Files {
     /// memory for its text.
     fn text(&self, name: &str) -> Option<String>;
 
+    /// Whether a folder has this name.
+    fn is_folder(&self, name: &str) -> bool;
+
     /// Gives each line of the file of this name, without the line feed that ends it; a last line needs none. Behind the
     /// first line of more than `MOST_ROW` bytes, which is told and not given, nothing is read. None where the file
     /// can't be read, though some lines were given then.

@@ -12,11 +12,14 @@ struct Form {
 
 const FILE: (&str, &str) = ("FILE", "The line file");
 
-const PRINTED: (&str, &str) = ("PRINTED", "What `run` printed");
+const PRINTED: (&str, &str) = (
+    "PRINTED",
+    "What `run` or `serve` printed, or the folder of the line's journals",
+);
 
 const SCRIPT: (&str, &str) = ("SCRIPT", "The script, one event a line");
 
-static FORMS: [Form; 9] = [
+static FORMS: [Form; 10] = [
     Form {
         name: "check",
         about: "Read a line file, and say how many centres, tracks, sections and trains it has",
@@ -67,9 +70,14 @@ static FORMS: [Form; 9] = [
         ],
     },
     Form {
+        name: "print",
+        about: "Print the run whose journals lie in a folder, as `serve` does after `stop`",
+        words: &[FILE, ("FOLDER", "The folder of the line's journals")],
+    },
+    Form {
         name: "audit",
         about: "Run the events of a print again, and say whether all its lines are equal, or which differs first",
-        words: &[FILE, ("PRINTED", "What `run` or `serve` printed")],
+        words: &[FILE, PRINTED],
     },
     Form {
         name: "words",

@@ -1,7 +1,8 @@
 //! Messages, and what `run` prints, in words.
 
 use crate::files::Files;
-use crate::run::line_in;
+use crate::line_file::line_file_in;
+use crate::printed::printed_in;
 use cli_status::Fault;
 use cli_words::{Field, fields_of, line_in_words, name_of, words_of_fault};
 use hex::FromHexError;
@@ -41,7 +42,7 @@ fn print_fields<O: Write>(out: &mut O, fields: &[Field]) -> io::Result<()> {
     out.flush()
 }
 
-/// Says what `run` has printed for a line in words, each line for itself.
+/// Says what `run` has printed for a line in words, each line for itself, or so the print of the line's journals.
 pub fn tell_printed<'a, F: Files, O: Write>(
     alloc: Global,
     file: &'a str,
@@ -49,14 +50,12 @@ pub fn tell_printed<'a, F: Files, O: Write>(
     files: &F,
     out: &mut O,
 ) -> Result<(), Fault<'a>> {
-    let line = line_in(alloc, file, files)?;
-    let Some(text) = files.text(printed) else {
-        return Err(Fault::CannotRead(printed));
-    };
+    let given = line_file_in(alloc, file, files)?;
+    let text = printed_in(alloc, &given, printed, files)?;
     let Ok(mut out) = BufWriter::new(alloc, out) else {
         return Err(AllocError.into());
     };
-    let done = print_told(alloc, &line, text.as_str(), &mut out);
+    let done = print_told(alloc, &given.line, text.as_str(), &mut out);
     out.flush()?;
     done
 }

@@ -1,8 +1,9 @@
 //! The journals of a line's centres, which lie in one folder.
 
 use crate::files::Files;
-use cli_journal::{Entry, JournalFault, in_order, read_journal, whole_length};
-use cli_print::name_of;
+use cli_journal::{
+    Entry, JournalFault, file_name, first_fallen, in_order, read_journal, whole_length,
+};
 use cli_status::Fault;
 use rbc_line::Line;
 use std::alloc::{AllocError, Global};
@@ -17,7 +18,8 @@ pub struct Found {
 }
 
 /// Reads the journals of all centres of a line in a folder. Of the text of the line file each has the digest. Where one
-/// can't be read, is of another centre, line or version, or has a damaged line, that is the fault.
+/// can't be read, is of another centre, line or version, or has a line that is damaged or whose stamp is not above that
+/// of the one before it, that is the fault.
 pub fn journals_in<'a, F: Files>(
     alloc: Global,
     line: &Line,
@@ -33,7 +35,7 @@ pub fn journals_in<'a, F: Files>(
             return Err(Fault::NoJournal(path));
         };
         lengths.push(whole_length(journal.as_str()))?;
-        journals.push(entries_in(alloc, line, centre, text, journal.as_str())?)?;
+        journals.push(rising_in(alloc, line, centre, text, journal.as_str())?)?;
     }
     Ok(Found {
         entries: in_order(alloc, journals)?,
@@ -48,8 +50,35 @@ pub fn journal_name(
     folder: &str,
     centre: u8,
 ) -> Result<String, AllocError> {
-    let name = name_of(line, centre);
-    format!(in alloc; "{folder}/{name}.journal")
+    let file = file_name(alloc, line, centre)?;
+    format!(in alloc; "{folder}/{file}")
+}
+
+/// The fault of journals of which a line of this centre's is the first that does not fit.
+pub(crate) fn unfit(
+    alloc: Global,
+    line: &Line,
+    centre: u8,
+    row: usize,
+) -> Result<Fault<'static>, AllocError> {
+    let journal = file_name(alloc, line, centre)?;
+    Ok(Fault::Unfit { journal, row })
+}
+
+// The entries of the journal of a centre, whose stamps rise.
+fn rising_in(
+    alloc: Global,
+    line: &Line,
+    centre: u8,
+    text: &str,
+    journal: &str,
+) -> Result<Vec<Entry>, Fault<'static>> {
+    let entries = entries_in(alloc, line, centre, text, journal)?;
+    match first_fallen(&entries) {
+        // The first line is no entry.
+        Some(at) => Err(unfit(alloc, line, centre, at + 2)?),
+        None => Ok(entries),
+    }
 }
 
 // The entries of the journal of a centre.
@@ -69,10 +98,4 @@ fn entries_in(
             row,
         }),
     }
-}
-
-// The name of the file that has the journal of a centre, in its folder.
-fn file_name(alloc: Global, line: &Line, centre: u8) -> Result<String, AllocError> {
-    let name = name_of(line, centre);
-    format!(in alloc; "{name}.journal")
 }

@@ -28,7 +28,12 @@ pub enum Request<'a> {
         script: &'a str,
         seed: u64,
     },
-    /// Run the events of a print again, and hold its lines against it.
+    /// Print the run whose journals lie in the folder.
+    Print {
+        file: &'a str,
+        folder: &'a str,
+    },
+    /// Run the events of a print or of the journals in a folder again, and hold its lines or their stamps against that.
     Audit {
         file: &'a str,
         printed: &'a str,
@@ -48,12 +53,12 @@ pub enum Request<'a> {
     Message {
         digits: &'a str,
     },
-    /// Say what `run` printed in words.
+    /// Say what `run` printed, or the journals in a folder, in words.
     Printed {
         file: &'a str,
         printed: &'a str,
     },
-    /// Draw this part of what `run` printed.
+    /// Draw this part of what `run` printed, or of the journals in a folder.
     Picture {
         file: &'a str,
         printed: &'a str,
@@ -119,6 +124,7 @@ fn named_of_file<'a>(command: &str, words: &ArgMatches<'a>) -> Option<Request<'a
         "explain" => Some(Request::Explain { file }),
         "run" => named_run(file, words),
         "storm" => named_storm(file, words),
+        "print" => named_print(file, words),
         _ => named_of_print(command, file, words),
     }
 }
@@ -132,6 +138,11 @@ fn named_storm<'a>(file: &'a str, words: &ArgMatches<'a>) -> Option<Request<'a>>
     let script = words.get_str("SCRIPT")?;
     let seed = seed_of(words.get_str("SEED")?)?;
     Some(Request::Storm { file, script, seed })
+}
+
+fn named_print<'a>(file: &'a str, words: &ArgMatches<'a>) -> Option<Request<'a>> {
+    let folder = words.get_str("FOLDER")?;
+    Some(Request::Print { file, folder })
 }
 
 fn named_of_print<'a>(command: &str, file: &'a str, words: &ArgMatches<'a>) -> Option<Request<'a>> {

@@ -74,7 +74,7 @@ start_feed : Lacks 10 (codes "journal 1 ")
 start_feed = (λ e. omega arith, (λ e. omega arith, (λ e. omega arith, (λ e. omega arith, (λ e. omega arith, (λ e. omega arith, (λ e. omega arith, (λ e. omega arith, (λ e. omega arith, (λ e. omega arith, tt))))))))))
 
 -- the first line is not ended where it is cut
-first_feed : (line : Line) → IsLine line → (c : ℕ) (file : List ℕ) → is_centre line c ≡ true → Lacks 10 (first_line line c file)
+pub first_feed : (line : Line) → IsLine line → (c : ℕ) (file : List ℕ) → is_centre line c ≡ true → Lacks 10 (first_line line c file)
 first_feed line good c file it =
     lacks_append 10 (codes "journal 1 ") (name_at line c ++ 32 ∷ digest file) (start_feed)
     (lacks_append 10 (name_at line c) (32 ∷ digest file) (name_is_word line good c it).feed (λ e. omega arith, (digest_is_word file).feed))

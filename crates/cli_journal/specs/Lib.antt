@@ -1,2 +1,4 @@
 pub mod Journal
+pub mod Order
 pub mod Reading
+pub mod Whole

@@ -1,6 +1,5 @@
 ghost use Rattle.std.specs.Prelude.{◌≡◌};
-ghost use Rattle.rbc_spec.specs.World.{centre_of};
-ghost use Rattle.rbc_world.specs.Views.{event_of};
+ghost use Rattle.cli_journal.specs.Order.{taken_at};
 
 use rbc_world::WorldEvent;
 
@@ -14,7 +13,7 @@ pub struct Entry {
 impl Entry {
     /// The centre that took the event.
     pub fn centre(&self) -> u8
-        ensures { result ≡ centre_of (event_of self.now.event) }
+        ensures { result ≡ taken_at self.now }
     {
         match &self.event {
             WorldEvent::Train { centre, .. } => *centre,

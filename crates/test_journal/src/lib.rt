@@ -1,10 +1,12 @@
-//! Tests of journals, over texts in memory: what is written, and what is read of a text that ends anywhere, or is
-//! damaged.
+//! Tests of journals, over texts in memory: what is written, what is read of a text that ends anywhere, or is damaged,
+//! and several journals in one order.
 //!
 //! Digests and checksums are those that `sha256sum` gives of the line file and of what stands behind the checksum.
 #![tactic(auto)]
 
 pub mod line;
+#[cfg(test)]
+mod order;
 #[cfg(test)]
 mod reading;
 #[cfg(test)]

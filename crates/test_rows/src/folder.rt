@@ -45,4 +45,14 @@ impl<R: rt::Files + AllocGlobal> Files for Folder<'_, R> {
         let path = format!(in self.rt.alloc(); "lines/{name}").ok()?;
         fs::read_to_string(self.rt, path.as_str()).ok()
     }
+
+    fn is_folder(&self, name: &str) -> bool {
+        let Ok(path) = format!(in self.rt.alloc(); "rows/{}/{name}", self.name) else {
+            return false;
+        };
+        match fs::metadata(self.rt, path.as_str()) {
+            Ok(found) => found.is_dir(),
+            Err(_) => false,
+        }
+    }
 }

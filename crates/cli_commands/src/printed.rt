@@ -1,0 +1,60 @@
+//! What is printed of a run that lies in journals, and the text of any print.
+
+use crate::files::Files;
+use crate::journal::{journals_in, unfit};
+use crate::line_file::{LineFile, line_file_in};
+use cli_rerun::{RerunFault, print_rerun};
+use cli_status::Fault;
+use std::alloc::{AllocError, Global};
+use std::io::{BufWriter, Write};
+
+/// Prints the run of a line whose journals lie in a folder. Where these are no run of the line, nothing is printed.
+pub fn print_journals<'a, F: Files, O: Write>(
+    alloc: Global,
+    file: &'a str,
+    folder: &'a str,
+    files: &F,
+    out: &mut O,
+) -> Result<(), Fault<'a>> {
+    let given = line_file_in(alloc, file, files)?;
+    let Ok(mut out) = BufWriter::new(alloc, out) else {
+        return Err(AllocError.into());
+    };
+    let done = print_found(alloc, &given, folder, files, &mut out);
+    out.flush()?;
+    done
+}
+
+/// The text of a print: that of the file of this name, or where a folder has it, the print of the journals in it.
+pub(crate) fn printed_in<'a, F: Files>(
+    alloc: Global,
+    given: &LineFile,
+    printed: &'a str,
+    files: &F,
+) -> Result<String, Fault<'a>> {
+    if files.is_folder(printed) {
+        let mut text = Vec::new(alloc);
+        print_found(alloc, given, printed, files, &mut text)?;
+        return String::from_utf8(text).map_err(|_| Fault::CannotRead(printed));
+    }
+    files.text(printed).ok_or(Fault::CannotRead(printed))
+}
+
+// Writes the print of the journals in a folder.
+fn print_found<'a, F: Files, W: Write>(
+    alloc: Global,
+    given: &LineFile,
+    folder: &'a str,
+    files: &F,
+    out: &mut W,
+) -> Result<(), Fault<'a>> {
+    let found = journals_in(alloc, &given.line, given.text.as_str(), folder, files)?;
+    match print_rerun(alloc, &given.line, found.entries, out) {
+        Ok(()) => Ok(()),
+        Err(RerunFault::Unfit(place)) => {
+            Err(unfit(alloc, &given.line, place.centre, place.row)?)
+        }
+        Err(RerunFault::Refused(fault)) => Err(fault.into()),
+        Err(RerunFault::Untold(fault)) => Err(fault),
+    }
+}

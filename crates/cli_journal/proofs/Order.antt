@@ -1,0 +1,25 @@
+-- A list that is sorted by stamp and centre is in order.
+use Rattle.std.proofs.Common.{◌≡◌, ℕ, ◌≤◌, List, [], ◌∷◌, length, Bool, false, arith}
+use Rattle.std.specs.List.Sorted.{IsSortedBy}
+use Rattle.std.specs.Ordering.{nat_cmp, ordering_then, is_lt}
+use Rattle.std.specs.Cmp.{IsStrictWeakOrder}
+use Rattle.std.proofs.lemmas.Cmp.{then_total, on_total, nat_cmp_total}
+use Rattle.std.proofs.lemmas.List.Sorted.{ranks_by, sorted_far}
+use Rattle.std.proofs.lemmas.Bool.Decides.{nat_tests}
+use Rattle.cli_journal.specs.Order.{AreInOrder, taken_at}
+use Rattle.cli_journal.specs.declared.entry.Entry.{Entry}
+
+abbrev pub earlier : ℕ → ℕ → ℕ → ℕ → Bool
+earlier s c t d = is_lt (ordering_then (nat_cmp s t) (nat_cmp c d))
+
+not_earlier : (s c t d : ℕ) → earlier s c t d ≡ false → (t ≤ s) × (t ≡ s → d ≤ c)
+not_earlier s c t d = grind (arith, nat_tests)
+
+abbrev pub entry_before : Entry → Entry → Bool
+entry_before a b = earlier a.stamp (taken_at a) b.stamp (taken_at b)
+
+entries_order : IsStrictWeakOrder entry_before
+entries_order = ranks_by (then_total (on_total (λ (e : Entry). e.stamp) nat_cmp_total) (on_total taken_at nat_cmp_total)) (λ (e : Entry). e)
+
+pub ordered : (es : List Entry) → IsSortedBy entry_before es → AreInOrder es
+ordered es up i j d under within = not_earlier _ _ _ _ (sorted_far entry_before entries_order es up i j d under within)
