@@ -46,49 +46,88 @@ fn request(alloc: Global, later: u32) -> Result<WorldEvent, Fail> {
 }
 
 // The world takes the event: how many frames its centre sends to the other one.
-fn sent(world: &mut World, event: &WorldEvent, to: u8) -> Result<usize, Fail> {
-    match world.step(event) {
+fn sent(world: &mut World, event: WorldEvent, to: u8) -> Result<usize, Fail> {
+    match world.step(&event) {
         Ok(Answer::Outcome(outcome)) => Ok(outcome.frames.to(to).len()),
         _ => Err("a centre takes the event".into()),
     }
 }
 
-// A world in which the train has its section at A, and asks at the border for the first time.
-fn at_the_border(alloc: Global) -> Result<World, Fail> {
+fn world_of_two(alloc: Global) -> Result<World, Fail> {
     let line = two_centres(alloc)?;
-    let mut world = World::new(alloc, &line)?;
-    sent(&mut world, &set(1), B)?;
+    Ok(World::new(alloc, &line)?)
+}
+
+// The train's message is taken.
+fn said(alloc: Global, world: &mut World, text: &str) -> Result<usize, Fail> {
+    let bytes = bytes_of(alloc, text)?;
+    sent(world, from_train(bytes), B)
+}
+
+// The train asks once more, so much later than the first time: how many frames A sends to B.
+fn requested(alloc: Global, world: &mut World, later: u32) -> Result<usize, Fail> {
+    let request = request(alloc, later)?;
+    sent(world, request, B)
+}
+
+// The train gets its section at A, and asks at the border for the first time.
+fn come_to_the_border(alloc: Global, world: &mut World) -> Result<(), Fail> {
+    sent(world, set(1), B)?;
     for text in &BEGIN {
-        let bytes = bytes_of(alloc, text)?;
-        sent(&mut world, &from_train(bytes), B)?;
+        said(alloc, world, text)?;
     }
-    sent(&mut world, &request(alloc, 0)?, B)?;
-    Ok(world)
+    requested(alloc, world, 0)?;
+    Ok(())
 }
 
 // Each time B answers that it lends nothing, and A asks again: how many frames A and B have sent.
 fn asked_again(alloc: Global, world: &mut World) -> Result<(usize, usize), Fail> {
     let (mut of_a, mut of_b) = (1usize, 0usize);
     for round in 1..=ROUNDS {
-        of_b = of_b.saturating_add(sent(world, &delivery(A, B, round), A)?);
-        sent(world, &delivery(B, A, round), B)?;
-        of_a = of_a.saturating_add(sent(world, &request(alloc, round)?, B)?);
+        of_b = of_b.saturating_add(sent(world, delivery(A, B, round), A)?);
+        sent(world, delivery(B, A, round), B)?;
+        of_a = of_a.saturating_add(requested(alloc, world, round)?);
     }
     Ok((of_a, of_b))
 }
 
+// Why the world does not take the event, if it does not.
+fn fault(world: &mut World, event: WorldEvent) -> Option<StepFault> {
+    world.step(&event).err()
+}
+
+// Why A takes none of the events that are still to come.
+fn refused(alloc: Global, world: &mut World) -> Result<[Option<StepFault>; 4], Fail> {
+    let request = request(alloc, 70_000)?;
+    Ok([
+        fault(world, delivery(B, A, 65_533)),
+        fault(world, set(0)),
+        fault(world, request),
+        fault(world, delivery(B, A, 1)),
+    ])
+}
+
+/// How many frames A and B have sent, how many B sends for the last of A, and why A takes no step then.
+type Filled = ((usize, usize), usize, [Option<StepFault>; 4]);
+
+// The train asks at the border until the link from A to B is full.
+fn fill_the_link(alloc: Global, world: &mut World) -> Result<Filled, Fail> {
+    come_to_the_border(alloc, world)?;
+    let counts = asked_again(alloc, world)?;
+    let last = sent(world, delivery(A, B, 65_533), A)?;
+    let refused = refused(alloc, world)?;
+    Ok((counts, last, refused))
+}
+
+fn filled(alloc: Global) -> Result<Filled, Fail> {
+    let mut world = world_of_two(alloc)?;
+    fill_the_link(alloc, &mut world)
+}
+
 #[test]
 fn a_centre_with_a_full_link_takes_no_step(rt: HostRuntime) -> Result<(), Fail> {
-    let mut world = at_the_border(rt.alloc())?;
-    let counts = asked_again(rt.alloc(), &mut world)?;
-    let last = sent(&mut world, &delivery(A, B, 65_533), A)?;
+    let (counts, last, refused) = filled(rt.alloc())?;
     assert!(rt; (counts, last) == ((65_533, 65_532), 1));
-    let refused = [
-        world.step(&delivery(B, A, 65_533)).err(),
-        world.step(&set(0)).err(),
-        world.step(&request(rt.alloc(), 70_000)?).err(),
-        world.step(&delivery(B, A, 1)).err(),
-    ];
     assert!(rt; refused == [Some(StepFault::LinkFull); 4]);
     Ok(())
 }

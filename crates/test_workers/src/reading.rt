@@ -1,6 +1,6 @@
 //! How a session ends with what it reads, and what it leaves at the centre.
 
-use crate::line::{A, ENGINE, ESTABLISHED, INITIATION, bytes_of, two_centres};
+use crate::line::{ENGINE, ESTABLISHED, INITIATION, bytes_of, node_of_a};
 use rbc_centre::Phase;
 use rbc_node::{Node, Open, Share};
 use serve_reading::Reads;
@@ -13,9 +13,9 @@ use std::test::*;
 
 /// Bytes in memory, and behind them the end, or a read that fails.
 #[derive(Drop)]
-pub struct Ending<'a> {
-    pub bytes: &'a [u8],
-    pub fails: bool,
+struct Ending<'a> {
+    bytes: &'a [u8],
+    fails: bool,
 }
 
 impl Read for Ending<'_> {
@@ -28,7 +28,7 @@ impl Read for Ending<'_> {
 }
 
 /// A session at the node over these bytes: how it ends.
-pub fn session<R: Wait>(
+fn session<R: Wait>(
     rt: &R,
     alloc: Global,
     node: &Node,
@@ -37,6 +37,22 @@ pub fn session<R: Wait>(
 ) -> SessionEnd {
     let mut source = Reads::new(bytes);
     run_session(rt, alloc, node, &Open, share, &mut source, &Closed)
+}
+
+/// A session at the node over this message and the end of the stream: how it ends.
+pub fn whole_session<R: Wait>(
+    rt: &R,
+    alloc: Global,
+    node: &Node,
+    share: &mut Share,
+    message: &str,
+) -> Result<SessionEnd, Fail> {
+    let bytes = bytes_of(alloc, message)?;
+    let bytes = Ending {
+        bytes: &bytes,
+        fails: false,
+    };
+    Ok(session(rt, alloc, node, share, bytes))
 }
 
 /// How many entries the node's log has, and how far the train's session at its centre has come.
@@ -49,14 +65,24 @@ pub fn left<R: Wait>(rt: &R, node: &Node) -> (usize, Phase) {
 /// How a session ends, how many receipts its share has, and what it leaves.
 type Ended = (SessionEnd, usize, (usize, Phase));
 
-// A session at a new node over the first bytes of the train's initiation.
-fn ended<R: Wait>(rt: &R, alloc: Global, count: usize, fails: bool) -> Result<Ended, Fail> {
-    let line = two_centres(alloc)?;
-    let node = Node::new(alloc, &line, A)?;
-    let mut share = node.share();
+// A session at the node over the first bytes of the train's initiation: how it ends.
+fn begun<R: Wait>(
+    rt: &R,
+    alloc: Global,
+    node: &Node,
+    share: &mut Share,
+    (count, fails): (usize, bool),
+) -> Result<SessionEnd, Fail> {
     let whole = bytes_of(alloc, INITIATION)?;
     let bytes = whole.get(..count).ok_or("it has so many bytes")?;
-    let end = session(rt, alloc, &node, &mut share, Ending { bytes, fails });
+    Ok(session(rt, alloc, node, share, Ending { bytes, fails }))
+}
+
+// The same at a new node.
+fn ended<R: Wait>(rt: &R, alloc: Global, count: usize, fails: bool) -> Result<Ended, Fail> {
+    let node = node_of_a(alloc)?;
+    let mut share = node.share();
+    let end = begun(rt, alloc, &node, &mut share, (count, fails))?;
     Ok((end, share.receipts().len(), left(rt, &node)))
 }
 
@@ -80,11 +106,9 @@ fn a_whole_message_is_kept_and_its_session_stays_open(rt: HostRuntime) -> Result
 
 // The train opens its session over one connection, whose read then fails, and goes on over another, of which the same
 // is so: what is left behind each.
-fn goes_on<R: Wait>(rt: &R, alloc: Global) -> Result<[(usize, Phase); 2], Fail> {
-    let line = two_centres(alloc)?;
-    let node = Node::new(alloc, &line, A)?;
-    let first = over_one(rt, alloc, &node, INITIATION)?;
-    let second = over_one(rt, alloc, &node, ESTABLISHED)?;
+fn goes_on<R: Wait>(rt: &R, alloc: Global, node: &Node) -> Result<[(usize, Phase); 2], Fail> {
+    let first = over_one(rt, alloc, node, INITIATION)?;
+    let second = over_one(rt, alloc, node, ESTABLISHED)?;
     Ok([first, second])
 }
 
@@ -106,7 +130,8 @@ fn over_one<R: Wait>(
 
 #[test]
 fn a_session_goes_on_over_another_connection(rt: HostRuntime) -> Result<(), Fail> {
-    let left = goes_on(&rt, rt.alloc())?;
+    let node = node_of_a(rt.alloc())?;
+    let left = goes_on(&rt, rt.alloc(), &node)?;
     assert!(rt; left == [(1, Phase::Opened), (2, Phase::Up)]);
     Ok(())
 }

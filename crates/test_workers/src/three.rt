@@ -1,11 +1,11 @@
 //! Three centres, whose logs are gathered and merged.
 
-ghost use Rattle.std.specs.Prelude.{◌≤◌, length, IfOk};
+ghost use Rattle.std.specs.Prelude.{◌<◌, ◌≤◌, length, IfOk};
 
 use rbc_centre::Event;
 use rbc_line::Line;
-use rbc_log::merge;
-use rbc_node::{Node, Open, Share, gather};
+use rbc_log::{Entry, merge};
+use rbc_node::{Family, Node, Open, Share, gather};
 use std::alloc::Global;
 use std::sync::Wait;
 use std::test::*;
@@ -44,24 +44,46 @@ fn three_centres(alloc: Global) -> Result<Line, &'static str>
     Ok(line)
 }
 
-// A node of each centre takes so many events, and a share has the receipts of them.
-fn taken<R: Wait>(
+// A node of one of the three centres.
+fn node_of(alloc: Global, centre: u8) -> Result<Node, Fail>
+    requires { centre < 3 }
+{
+    let line = three_centres(alloc)?;
+    Ok(Node::new(alloc, &line, centre)?)
+}
+
+// A node of each.
+fn nodes_of_three(alloc: Global) -> Result<Vec<Node>, Fail> {
+    let mut nodes = Vec::new(alloc);
+    for centre in 0..3u8 {
+        nodes.push(node_of(alloc, centre)?)?;
+    }
+    Ok(nodes)
+}
+
+// The node takes so many sets of the section, which are kept in a share.
+fn taken<R: Wait>(rt: &R, node: &Node, section: u16, count: u32) -> Result<Share, Fail> {
+    let mut share = node.share();
+    for _ in 0..count {
+        set(rt, node, &mut share, section)?;
+    }
+    Ok(share)
+}
+
+// The nodes take so many events each: a share of each, with the receipts of them.
+fn all_taken<R: Wait>(
     rt: &R,
     alloc: Global,
+    nodes: &[Node],
     counts: [u32; 3],
-) -> Result<(Vec<Node>, Vec<Share>), Fail> {
-    let line = three_centres(alloc)?;
-    let (mut nodes, mut shares) = (Vec::new(alloc), Vec::new(alloc));
+) -> Result<Vec<Share>, Fail> {
+    let mut shares = Vec::new(alloc);
     for centre in 0..3u8 {
-        let node = Node::new(alloc, &line, centre)?;
-        let mut share = node.share();
-        for _ in 0..counts[centre as usize] {
-            set(rt, &node, &mut share, u16::from(centre))?;
-        }
-        nodes.push(node)?;
+        let node = nodes.get(centre as usize).ok_or("there is a node of each")?;
+        let share = taken(rt, node, u16::from(centre), counts[centre as usize])?;
         shares.push(share)?;
     }
-    Ok((nodes, shares))
+    Ok(shares)
 }
 
 fn set<R: Wait>(rt: &R, node: &Node, share: &mut Share, section: u16) -> Result<(), Fail> {
@@ -71,22 +93,40 @@ fn set<R: Wait>(rt: &R, node: &Node, share: &mut Share, section: u16) -> Result<
     Ok(())
 }
 
-#[test]
-fn what_three_nodes_took_is_gathered_and_merged(rt: HostRuntime) -> Result<(), Fail> {
-    let (nodes, shares) = taken(&rt, rt.alloc(), [1, 3, 2])?;
-    let family = gather(rt.alloc(), nodes, shares)
-        .ok()
-        .ok_or("the logs are a family")?;
+// The logs of three centres, merged.
+fn merged(alloc: Global, family: &Family) -> Result<Vec<Entry>, Fail> {
     let [a, b, c] = family.logs() else {
         return Err("there is a log of each centre".into());
     };
-    let entries = merge(rt.alloc(), &[c, a, b])
+    Ok(merge(alloc, &[c, a, b]).ok().ok_or("the logs are merged")?)
+}
+
+// What the nodes took, gathered and merged.
+fn gathered(alloc: Global, nodes: Vec<Node>, shares: Vec<Share>) -> Result<Vec<Entry>, Fail> {
+    let family = gather(alloc, nodes, shares)
         .ok()
-        .ok_or("the logs are merged")?;
-    let mut centres = Vec::new(rt.alloc());
+        .ok_or("the logs are a family")?;
+    merged(alloc, &family)
+}
+
+// The stamp and the centre of each entry, where the three nodes took so many events.
+fn stamps_behind<R: Wait>(rt: &R, alloc: Global, counts: [u32; 3]) -> Result<Vec<(u32, u8)>, Fail> {
+    let nodes = nodes_of_three(alloc)?;
+    let shares = all_taken(rt, alloc, &nodes, counts)?;
+    stamps_of(alloc, gathered(alloc, nodes, shares)?)
+}
+
+fn stamps_of(alloc: Global, entries: Vec<Entry>) -> Result<Vec<(u32, u8)>, Fail> {
+    let mut stamps = Vec::new(alloc);
     for entry in &entries {
-        centres.push((entry.outcome.stamp, entry.centre))?;
+        stamps.push((entry.outcome.stamp, entry.centre))?;
     }
-    assert!(rt; centres.as_slice() == [(1, 0), (1, 1), (1, 2), (2, 1), (2, 2), (3, 1)].as_slice());
+    Ok(stamps)
+}
+
+#[test]
+fn what_three_nodes_took_is_gathered_and_merged(rt: HostRuntime) -> Result<(), Fail> {
+    let stamps = stamps_behind(&rt, rt.alloc(), [1, 3, 2])?;
+    assert!(rt; stamps.as_slice() == [(1, 0), (1, 1), (1, 2), (2, 1), (2, 2), (3, 1)].as_slice());
     Ok(())
 }

@@ -7,7 +7,7 @@ use std::sync::atomic::{AtomicBool, Ordering};
 pub const TURNS: usize = 3;
 
 /// Asks as `InOrder` does, notes each number that it asked for, and says behind the last turn that nothing new comes.
-#[derive(Debug, Drop)]
+#[derive(Drop)]
 pub struct Tried<'a> {
     inner: InOrder,
     asked: [u32; TURNS],

@@ -7,7 +7,7 @@ use std::sync::atomic::{AtomicBool, Ordering};
 pub const ASKED: usize = 8;
 
 /// Asks for the numbers of its list, whatever comes of them, and says behind the last that nothing new comes.
-#[derive(Debug, Drop)]
+#[derive(Drop)]
 pub struct Unruly<'a> {
     numbers: [u32; ASKED],
     next: usize,

@@ -1,9 +1,10 @@
 //! How a writer ends whose write fails, and what is left at the centre.
 
-use crate::line::{A, ESTABLISHED, INITIATION, bytes_of, two_centres};
-use crate::reading::{Ending, left, session};
-use crossbeam_channel::{Receiver, bounded};
+use crate::line::{ESTABLISHED, INITIATION, node_of_a};
+use crate::reading::{left, whole_session};
+use crossbeam_channel::{Receiver, Sender, bounded};
 use rbc_centre::Phase;
+use rbc_msgs::TrackMsg;
 use rbc_node::{Node, Share};
 use serve_writing::{Reply, WriteFailed, run_writer};
 use std::alloc::Global;
@@ -40,14 +41,22 @@ fn replies_to<R: Wait>(rt: &R, alloc: Global, share: &Share) -> Result<Receiver<
     let saying = receipt.outcome.sayings.first().ok_or("it is answered")?;
     let (sender, replies) = bounded(alloc, 2)?;
     for _ in 0..2 {
-        let reply = Reply::new(alloc, saying.message)
-            .ok()
-            .ok_or("it is a reply")?;
-        if sender.try_send(rt, reply).is_err() {
-            return Err("there is room for the reply".into());
-        }
+        put(rt, alloc, &sender, saying.message)?;
     }
     Ok(replies)
+}
+
+fn put<R: Wait>(
+    rt: &R,
+    alloc: Global,
+    sender: &Sender<Reply>,
+    message: TrackMsg,
+) -> Result<(), Fail> {
+    let reply = Reply::new(alloc, message).ok().ok_or("it is a reply")?;
+    if sender.try_send(rt, reply).is_err() {
+        return Err("there is room for the reply".into());
+    }
+    Ok(())
 }
 
 // The writer of what the share's first message is answered, over an output that takes so many bytes: how it ends, and
@@ -81,12 +90,7 @@ fn answered<R: Wait>(rt: &R, node: &Node) -> usize {
 // The train opens its session, and the writer of the answer fails at the first byte, and behind the fourth.
 fn failed<R: Wait>(rt: &R, alloc: Global, node: &Node) -> Result<Failed, Fail> {
     let mut share = node.share();
-    let bytes = bytes_of(alloc, INITIATION)?;
-    let bytes = Ending {
-        bytes: &bytes,
-        fails: false,
-    };
-    session(rt, alloc, node, &mut share, bytes);
+    whole_session(rt, alloc, node, &mut share, INITIATION)?;
     let at_once = written(rt, alloc, &share, 0)?;
     let later = written(rt, alloc, &share, 4)?;
     Ok(([at_once, later], answered(rt, node), left(rt, node)))
@@ -96,25 +100,24 @@ fn failed<R: Wait>(rt: &R, alloc: Global, node: &Node) -> Result<Failed, Fail> {
 fn a_failed_write_ends_the_writer_and_the_log_keeps_the_outcome(
     rt: HostRuntime,
 ) -> Result<(), Fail> {
-    let line = two_centres(rt.alloc())?;
-    let node = Node::new(rt.alloc(), &line, A)?;
+    let node = node_of_a(rt.alloc())?;
     let (writers, answered, left) = failed(&rt, rt.alloc(), &node)?;
     assert!(rt; writers == [(Err(WriteFailed), 1), (Err(WriteFailed), 5)]);
     assert!(rt; (answered, left) == (1, (1, Phase::Opened)));
     Ok(())
 }
 
+// The train confirms its session behind the failed writers: what is left at the centre.
+fn goes_on<R: Wait>(rt: &R, alloc: Global, node: &Node) -> Result<(usize, Phase), Fail> {
+    let _ends = failed(rt, alloc, node)?;
+    whole_session(rt, alloc, node, &mut node.share(), ESTABLISHED)?;
+    Ok(left(rt, node))
+}
+
 #[test]
 fn the_session_goes_on_behind_a_failed_write(rt: HostRuntime) -> Result<(), Fail> {
-    let line = two_centres(rt.alloc())?;
-    let node = Node::new(rt.alloc(), &line, A)?;
-    let _ends = failed(&rt, rt.alloc(), &node)?;
-    let bytes = bytes_of(rt.alloc(), ESTABLISHED)?;
-    let bytes = Ending {
-        bytes: &bytes,
-        fails: false,
-    };
-    session(&rt, rt.alloc(), &node, &mut node.share(), bytes);
-    assert!(rt; left(&rt, &node) == (2, Phase::Up));
+    let node = node_of_a(rt.alloc())?;
+    let left = goes_on(&rt, rt.alloc(), &node)?;
+    assert!(rt; left == (2, Phase::Up));
     Ok(())
 }
