@@ -7,7 +7,7 @@ use crate::nodes::{A, B, Held, both, node_of};
 use crate::world::run;
 use rbc_centre::{Body, Event, Frame};
 use rbc_log::{Entry, merge};
-use rbc_node::{GatherFault, Node, Open, Share, gather};
+use rbc_node::{Family, GatherFault, Node, Open, Share, gather};
 use rbc_world::{Answer, WorldEvent};
 use std::alloc::Global;
 use std::sync::Wait;
@@ -18,11 +18,21 @@ use std::thread::Threads;
 use test_codec::bytes::bytes_of;
 
 // Gathers the logs of two nodes, and merges them.
-fn merged(alloc: Global, a: Node, b: Node, shares: Vec<Share>) -> Result<Vec<Entry>, Fail> {
-    let nodes = vec![in alloc; b, a]?;
+fn merged(alloc: Global, a: (Node, Share), b: (Node, Share)) -> Result<Vec<Entry>, Fail> {
+    let nodes = vec![in alloc; b.0, a.0]?;
+    let shares = vec![in alloc; a.1, b.1]?;
+    gathered(alloc, nodes, shares)
+}
+
+fn gathered(alloc: Global, nodes: Vec<Node>, shares: Vec<Share>) -> Result<Vec<Entry>, Fail> {
     let family = gather(alloc, nodes, shares)
         .ok()
         .ok_or("the logs are a family")?;
+    entries_of(alloc, &family)
+}
+
+// Merges the logs of a family.
+fn entries_of(alloc: Global, family: &Family) -> Result<Vec<Entry>, Fail> {
     let (Some(first), Some(second)) = (family.logs().first(), family.logs().get(1)) else {
         return Err("there is a log of each centre".into());
     };
@@ -90,7 +100,7 @@ fn side_by_side<R: Threads + Wait + Sync>(
     let mut of_b = b.share();
     let gate = Held::new();
     let taken = set_side_by_side(rt, &gate, (&a, &mut of_a), (&b, &mut of_b));
-    let entries = merged(alloc, a, b, vec![in alloc; of_a, of_b]?)?;
+    let entries = merged(alloc, (a, of_a), (b, of_b))?;
     Ok((entries, gate.gave_up.load(Ordering::SeqCst), taken))
 }
 
@@ -103,12 +113,17 @@ fn sets_in_the_world(alloc: Global) -> Result<Vec<WorldEvent>, Fail> {
     Ok(events)
 }
 
+// Whether the entries are those of the two sets.
+fn are_the_sets(alloc: Global, entries: &[Entry]) -> Result<bool, Fail> {
+    let events = sets_in_the_world(alloc)?;
+    is_run_with(alloc, &events, entries, &[(A, 1), (B, 1)])
+}
+
 #[test]
 fn what_two_centres_take_side_by_side_is_one_run(rt: HostRuntime) -> Result<(), Fail> {
     let (entries, gave_up, taken) = side_by_side(&rt, rt.alloc())?;
     assert!(rt; (gave_up, taken) == (false, (true, true)));
-    let events = sets_in_the_world(rt.alloc())?;
-    assert!(rt; is_run_with(rt.alloc(), &events, &entries, &[(A, 1), (B, 1)])?);
+    assert!(rt; are_the_sets(rt.alloc(), &entries)?);
     Ok(())
 }
 
@@ -141,10 +156,15 @@ fn commit_all<R: Wait>(
     events: Vec<Event>,
 ) -> Result<(), Fail> {
     for event in events {
-        node.commit(rt, &Open, share, event)
-            .ok()
-            .ok_or("the centre takes the event")?;
+        commit(rt, node, share, event)?;
     }
+    Ok(())
+}
+
+fn commit<R: Wait>(rt: &R, node: &Node, share: &mut Share, event: Event) -> Result<(), Fail> {
+    node.commit(rt, &Open, share, event)
+        .ok()
+        .ok_or("the centre takes the event")?;
     Ok(())
 }
 
@@ -169,15 +189,13 @@ fn frames_to<R: Wait>(rt: &R, node: &Node, to: u8) -> Shown {
 // The node takes the frame, where there is one.
 fn take_frame<R: Wait>(
     rt: &R,
-    alloc: Global,
     node: (&Node, &mut Share),
     from: u8,
     frame: Option<Frame>,
 ) -> Result<(), Fail> {
     let (node, share) = node;
     let frame = frame.ok_or("the frame was sent")?;
-    let events = vec![in alloc; Event::Deliver { from, frame }]?;
-    commit_all(rt, node, share, events)
+    commit(rt, node, share, Event::Deliver { from, frame })
 }
 
 // The nodes take a start at A of a train that B registers, and the frames in which the right is asked for and given:
@@ -194,9 +212,9 @@ fn begun<R: Wait>(
     let asks = frames_to(rt, a, B);
     let own = frames_to(rt, a, A);
     let (b, of_b) = b;
-    take_frame(rt, alloc, (b, of_b), A, asks[1])?;
+    take_frame(rt, (b, of_b), A, asks[1])?;
     let gives = frames_to(rt, b, A);
-    take_frame(rt, alloc, (a, of_a), B, gives[1])?;
+    take_frame(rt, (a, of_a), B, gives[1])?;
     Ok([before, asks, own, gives])
 }
 
@@ -206,8 +224,15 @@ fn begun_and_merged<R: Wait>(rt: &R, alloc: Global) -> Result<([Shown; 4], Vec<E
     let mut of_a = a.share();
     let mut of_b = b.share();
     let frames = begun(rt, alloc, (&a, &mut of_a), (&b, &mut of_b))?;
-    let entries = merged(alloc, a, b, vec![in alloc; of_a, of_b]?)?;
+    let entries = merged(alloc, (a, of_a), (b, of_b))?;
     Ok((frames, entries))
+}
+
+// Whether the entries are those of the start.
+fn are_the_start(alloc: Global, entries: &[Entry]) -> Result<bool, Fail> {
+    let events = start_in_the_world(alloc)?;
+    let stamps = [(A, 1), (A, 2), (A, 3), (A, 4), (B, 5), (A, 6)];
+    is_run_with(alloc, &events, entries, &stamps)
 }
 
 #[test]
@@ -216,9 +241,7 @@ fn a_node_shows_the_frame_that_it_sent(rt: HostRuntime) -> Result<(), Fail> {
     let asks = Frame::new(1, 4, Body::AskRight { engine: 2 });
     let gives = Frame::new(1, 5, Body::GiveRight { engine: 2 });
     assert!(rt; frames == [NOTHING, first_alone(asks), NOTHING, first_alone(gives)]);
-    let events = start_in_the_world(rt.alloc())?;
-    let stamps = [(A, 1), (A, 2), (A, 3), (A, 4), (B, 5), (A, 6)];
-    assert!(rt; is_run_with(rt.alloc(), &events, &entries, &stamps)?);
+    assert!(rt; are_the_start(rt.alloc(), &entries)?);
     Ok(())
 }
 
@@ -231,25 +254,33 @@ fn fault_of(alloc: Global, nodes: Vec<Node>, shares: Vec<Share>) -> Result<Gathe
     )
 }
 
+fn fault_of_two(alloc: Global, a: Node, b: Node, shares: Vec<Share>) -> Result<GatherFault, Fail> {
+    let nodes = vec![in alloc; a, b]?;
+    fault_of(alloc, nodes, shares)
+}
+
 #[test]
 fn a_family_lacks_a_share(rt: HostRuntime) -> Result<(), Fail> {
-    let alloc = rt.alloc();
-    let (a, b) = both(alloc)?;
-    let set = vec![in alloc; Event::Set(0)]?;
-    commit_all(&rt, &a, &mut a.share(), set)?;
-    let fault = fault_of(alloc, vec![in alloc; a, b]?, Vec::new(alloc))?;
+    let (a, b) = both(rt.alloc())?;
+    commit(&rt, &a, &mut a.share(), Event::Set(0))?;
+    let fault = fault_of_two(rt.alloc(), a, b, Vec::new(rt.alloc()))?;
     assert!(rt; fault == GatherFault::Shares);
     Ok(())
 }
 
+// A share of the node, which takes a frame that A did not send.
+fn shared<R: Wait>(rt: &R, node: &Node) -> Result<Share, Fail> {
+    let mut share = node.share();
+    let frame = Frame::new(1, 4, Body::AskRight { engine: 2 });
+    take_frame(rt, (node, &mut share), A, Some(frame))?;
+    Ok(share)
+}
+
 #[test]
 fn a_family_has_a_frame_that_nobody_sent(rt: HostRuntime) -> Result<(), Fail> {
-    let alloc = rt.alloc();
-    let (a, b) = both(alloc)?;
-    let mut share = b.share();
-    let frame = Frame::new(1, 4, Body::AskRight { engine: 2 });
-    take_frame(&rt, alloc, (&b, &mut share), A, Some(frame))?;
-    let fault = fault_of(alloc, vec![in alloc; a, b]?, vec![in alloc; share]?)?;
+    let (a, b) = both(rt.alloc())?;
+    let share = shared(&rt, &b)?;
+    let fault = fault_of_two(rt.alloc(), a, b, vec![in rt.alloc(); share]?)?;
     assert!(rt; fault == GatherFault::Foreign);
     Ok(())
 }

@@ -37,17 +37,25 @@ pub fn stamps_of(alloc: Global, entries: &[Entry]) -> Result<Vec<(u8, u32)>, Fai
     Ok(stamps)
 }
 
-// Merges what A took, twice, and B.
-fn merged(alloc: Global) -> Result<Vec<Entry>, Fail> {
-    let (mut a, mut b) = both(alloc)?;
-    take(&mut b, Event::Set(5))?;
-    take(&mut a, Event::Set(0))?;
-    take(&mut a, Event::Set(1))?;
+// A takes two sets, and B one: what they took, merged.
+fn taken_and_merged(
+    alloc: Global,
+    a: &mut CentreLog,
+    b: &mut CentreLog,
+) -> Result<Vec<Entry>, Fail> {
+    take(b, Event::Set(5))?;
+    take(a, Event::Set(0))?;
+    take(a, Event::Set(1))?;
     Ok(
-        merge(alloc, &[&b, &a])
+        merge(alloc, &[b, a])
             .ok()
             .ok_or("the logs are of two centres of one line")?,
     )
+}
+
+fn merged(alloc: Global) -> Result<Vec<Entry>, Fail> {
+    let (mut a, mut b) = both(alloc)?;
+    taken_and_merged(alloc, &mut a, &mut b)
 }
 
 #[test]

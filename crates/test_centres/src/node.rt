@@ -15,11 +15,18 @@ fn taken_and_refused<R: Wait>(
     alloc: Global,
 ) -> Result<([u32; 2], (usize, usize, u32), ShareFault), Fail> {
     let (a, b) = both(alloc)?;
-    let mut share = a.share();
-    let first = stamp_of(rt, &a, &mut share, 0)?;
-    let second = stamp_of(rt, &a, &mut share, 0)?;
-    let third = refused(rt, &a, &mut b.share(), 0)?;
-    Ok(([first, second], last_of(&share)?, third))
+    taken_and_refused_at(rt, &a, (&mut a.share(), &mut b.share()))
+}
+
+fn taken_and_refused_at<R: Wait>(
+    rt: &R,
+    a: &Node,
+    (of_a, of_b): (&mut Share, &mut Share),
+) -> Result<([u32; 2], (usize, usize, u32), ShareFault), Fail> {
+    let first = stamp_of(rt, a, of_a, 0)?;
+    let second = stamp_of(rt, a, of_a, 0)?;
+    let third = refused(rt, a, of_b, 0)?;
+    Ok(([first, second], last_of(of_a)?, third))
 }
 
 #[test]
@@ -68,11 +75,21 @@ fn refused_where_a_begins_again<R: Wait>(
     let a = node_of(alloc, A)?;
     let begun_again = node_of(alloc, A)?;
     let mut share = a.share();
-    stamp_of(rt, &a, &mut share, 0)?;
-    let lacking = refused(rt, &begun_again, &mut share, 0)?;
-    stamp_of(rt, &begun_again, &mut begun_again.share(), 1)?;
-    let differing = refused(rt, &begun_again, &mut share, 0)?;
-    Ok(([lacking, differing], share.receipts().len()))
+    let faults = refused_again(rt, &a, &begun_again, &mut share)?;
+    Ok((faults, share.receipts().len()))
+}
+
+fn refused_again<R: Wait>(
+    rt: &R,
+    a: &Node,
+    begun_again: &Node,
+    share: &mut Share,
+) -> Result<[ShareFault; 2], Fail> {
+    stamp_of(rt, a, share, 0)?;
+    let lacking = refused(rt, begun_again, share, 0)?;
+    stamp_of(rt, begun_again, &mut begun_again.share(), 1)?;
+    let differing = refused(rt, begun_again, share, 0)?;
+    Ok([lacking, differing])
 }
 
 #[test]

@@ -68,13 +68,24 @@ type Again = (Option<LinkAnswer>, bool);
 // first again: the frame that asks, what centre 1 answers, how much centre 0 says to the train, and what comes of the
 // frame that comes again.
 fn played(alloc: Global) -> Result<(Option<Frame>, Answered, usize, Again), Fail> {
+    let mut world = world_of_two(alloc)?;
+    played_in(alloc, &mut world)
+}
+
+fn world_of_two(alloc: Global) -> Result<World, Fail> {
     let line = two_centres(alloc)?;
-    let mut world = World::new(alloc, &line)?;
-    let asked = asked_at(alloc, &mut world)?;
-    let given = answered(&mut world)?;
-    let accepts = taken(&mut world, &delivery(1, 0))?;
-    let again = again(&mut world)?;
-    Ok((asked, given, accepts.sayings.len(), again))
+    Ok(World::new(alloc, &line)?)
+}
+
+fn played_in(
+    alloc: Global,
+    world: &mut World,
+) -> Result<(Option<Frame>, Answered, usize, Again), Fail> {
+    let asked = asked_at(alloc, world)?;
+    let given = answered(world)?;
+    let said = said(world)?;
+    let again = again(world)?;
+    Ok((asked, given, said, again))
 }
 
 // Section 1 is set and the train starts at centre 0: the one frame to centre 1 in which that asks for the right.
@@ -83,25 +94,36 @@ fn asked_at(alloc: Global, world: &mut World) -> Result<Option<Frame>, Fail> {
         centre: 0,
         section: 1,
     };
-    taken(world, &set)?;
+    taken(world, set)?;
     let mut asked = None;
     for text in &START {
-        let bytes = bytes_of(alloc, text)?;
-        let outcome = taken(world, &WorldEvent::Train { centre: 0, bytes })?;
-        asked = only_frame(&outcome, 1);
+        asked = asked_behind(alloc, world, text)?;
     }
     Ok(asked)
 }
 
+// The train says this at centre 0: the one frame to centre 1 behind it.
+fn asked_behind(alloc: Global, world: &mut World, text: &str) -> Result<Option<Frame>, Fail> {
+    let bytes = bytes_of(alloc, text)?;
+    let outcome = taken(world, WorldEvent::Train { centre: 0, bytes })?;
+    Ok(only_frame(&outcome, 1))
+}
+
 // The first frame from centre 0 to centre 1 is delivered.
 fn answered(world: &mut World) -> Result<Answered, Fail> {
-    let outcome = taken(world, &delivery(0, 1))?;
+    let outcome = taken(world, delivery(0, 1))?;
     Ok((outcome.link, only_frame(&outcome, 0)))
+}
+
+// The first frame from centre 1 to centre 0 is delivered: how much that says to the train.
+fn said(world: &mut World) -> Result<usize, Fail> {
+    let outcome = taken(world, delivery(1, 0))?;
+    Ok(outcome.sayings.len())
 }
 
 // The first frame from centre 0 to centre 1 is delivered again.
 fn again(world: &mut World) -> Result<Again, Fail> {
-    let outcome = taken(world, &delivery(0, 1))?;
+    let outcome = taken(world, delivery(0, 1))?;
     Ok((outcome.link, outcome.frames.is_empty()))
 }
 
@@ -123,9 +145,9 @@ fn delivery(from: u8, to: u8) -> WorldEvent {
 }
 
 // Takes an event, and once more where memory ran out.
-fn taken(world: &mut World, event: &WorldEvent) -> Result<Outcome, Fail> {
-    let answer = match world.step(event) {
-        Err(StepFault::Memory) => world.step(event),
+fn taken(world: &mut World, event: WorldEvent) -> Result<Outcome, Fail> {
+    let answer = match world.step(&event) {
+        Err(StepFault::Memory) => world.step(&event),
         answer => answer,
     };
     match answer {
