@@ -39,11 +39,7 @@ impl Write for Centre<'_> {
 }
 
 // How a train ends that does these lines at the centre, and what it prints.
-fn driven(
-    alloc: Global,
-    lines: &str,
-    centre: &mut Centre<'_>,
-) -> Result<(Result<(), DriveFault>, Vec<u8>), Fail> {
+fn driven(alloc: Global, lines: &str, centre: &mut Centre<'_>) -> Result<Driven, Fail> {
     let steps = steps_of(alloc, lines).ok().ok_or("the lines have a form")?;
     let mut out = Vec::new(alloc);
     let end = drive(alloc, &steps, centre, &mut out);
@@ -52,26 +48,32 @@ fn driven(
 
 #[test]
 fn a_train_sends_its_lines_and_prints_what_is_answered(rt: HostRuntime) -> Result<(), Fail> {
-    let answers = bytes_of(rt.alloc(), VERSION)?;
-    let mut centre = Centre {
-        answers: &answers,
-        is_faulty: false,
-        heard: Vec::new(rt.alloc()),
-    };
-    let (end, printed) = driven(rt.alloc(), "9b02800000\nwait 1\n9B02", &mut centre)?;
-    assert!(rt; (end, printed.as_slice()) == (Ok(()), b"2002C00000005FFFFFE800\n".as_slice()));
-    let seen_off = see_off(&mut centre);
     let sent = bytes_of(rt.alloc(), "9B028000009B02")?;
-    assert!(rt; (centre.heard.as_slice(), seen_off) == (sent.as_slice(), Ok(())));
+    let ((end, printed), seen_off, heard) = seen_off_behind(rt.alloc())?;
+    assert!(rt; (end, printed.as_slice()) == (Ok(()), b"2002C00000005FFFFFE800\n".as_slice()));
+    assert!(rt; (heard.as_slice(), seen_off) == (sent.as_slice(), Ok(())));
     Ok(())
 }
 
+/// How a train ends, and what it prints.
+type Driven = (Result<(), DriveFault>, Vec<u8>);
+
+// How a train ends that waits for a message between its own and prints it, how it is seen off, and what the centre
+// heard.
+fn seen_off_behind(alloc: Global) -> Result<(Driven, Result<(), DriveFault>, Vec<u8>), Fail> {
+    let answers = bytes_of(alloc, VERSION)?;
+    let mut centre = Centre {
+        answers: &answers,
+        is_faulty: false,
+        heard: Vec::new(alloc),
+    };
+    let driven = driven(alloc, "9b02800000\nwait 1\n9B02", &mut centre)?;
+    let seen_off = see_off(&mut centre);
+    Ok((driven, seen_off, centre.heard))
+}
+
 // How a train ends that waits for two messages, where these bytes come, and what it prints.
-fn ended_behind(
-    alloc: Global,
-    digits: &str,
-    is_faulty: bool,
-) -> Result<(Result<(), DriveFault>, Vec<u8>), Fail> {
+fn ended_behind(alloc: Global, digits: &str, is_faulty: bool) -> Result<Driven, Fail> {
     let answers = bytes_of(alloc, digits)?;
     let mut centre = Centre {
         answers: &answers,
@@ -81,14 +83,23 @@ fn ended_behind(
     driven(alloc, "wait 2\n", &mut centre)
 }
 
+// The same, by how much it prints.
+fn counted_behind(
+    alloc: Global,
+    digits: &str,
+    is_faulty: bool,
+) -> Result<(Result<(), DriveFault>, usize), Fail> {
+    let (end, printed) = ended_behind(alloc, digits, is_faulty)?;
+    Ok((end, printed.len()))
+}
+
 #[test]
 fn an_answer_that_does_not_come_whole_ends_the_train(rt: HostRuntime) -> Result<(), Fail> {
-    let socket = Err(DriveFault::Socket);
-    let (early, one) = ended_behind(rt.alloc(), "2002C00000005FFFFFE8002002", false)?;
-    let (late, none) = ended_behind(rt.alloc(), "", true)?;
-    let (other, nothing) = ended_behind(rt.alloc(), HALF_AN_INITIATION, false)?;
-    assert!(rt; [early, late, other] == [socket, socket, socket]);
-    assert!(rt; (one.len(), none.len(), nothing.len()) == (23, 0, 0));
+    let (early, one) = counted_behind(rt.alloc(), "2002C00000005FFFFFE8002002", false)?;
+    let (late, none) = counted_behind(rt.alloc(), "", true)?;
+    let (other, nothing) = counted_behind(rt.alloc(), HALF_AN_INITIATION, false)?;
+    assert!(rt; [early, late, other] == [Err(DriveFault::Socket); 3]);
+    assert!(rt; (one, none, nothing) == (23, 0, 0));
     Ok(())
 }
 

@@ -1,9 +1,9 @@
 //! What `serve` may be asked for: how fast trains may be, words to the interlocking, and how much is used up.
 
 use crate::client::{Done, Missed, connect, heard, say};
-use crate::line::{MISSION_OF_ONE, REQUEST_OF_ONE, bytes_of, two_centres};
+use crate::line::{MISSION_OF_ONE, REQUEST_OF_ONE, bytes_of};
 use crate::play::{Act, Step, printed_behind};
-use crate::railway::{Addresses, printed_with};
+use crate::railway::{Addresses, printed_of_two_centres};
 use serve_line::Manner;
 use serve_reading::Rate;
 use std::alloc::Global;
@@ -29,8 +29,7 @@ fn slow() -> Manner {
 #[test]
 fn a_train_that_is_too_fast_is_held_back_and_loses_nothing(rt: HostRuntime) -> Result<(), Fail> {
     let took = AtomicU64::new(0);
-    let line = two_centres(rt.alloc())?;
-    let printed = printed_with(&rt, rt.alloc(), &line, slow(), |addresses| {
+    let printed = printed_of_two_centres(&rt, rt.alloc(), slow(), |addresses| {
         took.store(
             open_again_and_again(&rt, rt.alloc(), addresses)?,
             Ordering::SeqCst,
@@ -69,11 +68,16 @@ fn open_again_and_again<R: Net<Stream = TcpStream> + Clock>(
 ) -> Done<u64> {
     let begun = now(rt)?;
     let stream = connect(rt, addresses.centre)?;
-    for t_train in 1..=OPENED {
-        say(&stream, &opening(alloc, t_train)?)?;
-    }
-    heard(alloc, &stream, OPENED as usize * 11)?;
+    say_openings(alloc, &stream)?;
     Ok(now(rt)?.saturating_sub(begun))
+}
+
+fn say_openings(alloc: Global, stream: &TcpStream) -> Done<()> {
+    for t_train in 1..=OPENED {
+        say(stream, &opening(alloc, t_train)?)?;
+    }
+    heard(alloc, stream, OPENED as usize * 11)?;
+    Ok(())
 }
 
 // The message by which train 1 opens its session, with this T_TRAIN.

@@ -2,9 +2,9 @@
 //! train.
 
 use crate::client::{Done, Missed, TURNS, connect, say};
-use crate::line::{INITIATION_OF_ONE, VERSION, bytes_of, two_centres};
+use crate::line::{INITIATION_OF_ONE, VERSION, bytes_of};
 use crate::play::{Act, Step, play};
-use crate::railway::{Addresses, printed_with};
+use crate::railway::{Addresses, printed_of_two_centres};
 use rbc_msgs::{NID_LRBG_UNKNOWN, TrackBody, TrackMsg, decode_track};
 use serve_line::Manner;
 use serve_writing::{Order, Reply};
@@ -66,12 +66,18 @@ fn a_reply_waits_for_those_before_it(rt: HostRuntime) -> Result<(), Fail> {
 #[test]
 fn what_was_said_before_a_session_is_let_go(rt: HostRuntime) -> Result<(), Fail> {
     let mut order = Order::new(rt.alloc());
-    let early = handed_in(rt.alloc(), &mut order, &[4, 7])?;
-    order.begin(6);
-    let session = handed_in(rt.alloc(), &mut order, &[5, 6])?;
+    let (early, session) = begun_between(rt.alloc(), &mut order)?;
     assert!(rt; (early.as_slice(), session.as_slice()) == (&[], &[6, 7]));
     assert!(rt; order.waiting() == 0);
     Ok(())
+}
+
+// What the order lets out in front of a session with T_TRAIN 6, and in it.
+fn begun_between(alloc: Global, order: &mut Order) -> Result<(Vec<u32>, Vec<u32>), Fail> {
+    let early = handed_in(alloc, order, &[4, 7])?;
+    order.begin(6);
+    let session = handed_in(alloc, order, &[5, 6])?;
+    Ok((early, session))
 }
 
 /// What the two connections tell each other.
@@ -83,13 +89,12 @@ struct Told {
 
 #[test]
 fn a_train_hears_all_in_order_though_two_threads_commit(rt: HostRuntime) -> Result<(), Fail> {
-    let line = two_centres(rt.alloc())?;
     let told = Told {
         is_open: AtomicBool::new(false),
         is_said: AtomicBool::new(false),
     };
     let numbers = AtomicBool::new(false);
-    let printed = printed_with(&rt, rt.alloc(), &line, Manner::default(), |addresses| {
+    let printed = printed_of_two_centres(&rt, rt.alloc(), Manner::default(), |addresses| {
         let (opened, other) = thread::join(
             &rt,
             || open_and_start(&rt, rt.alloc(), addresses, &told),

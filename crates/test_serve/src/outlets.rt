@@ -1,9 +1,9 @@
 //! Where the answers of one centre go: to the train that each is for, over the connection that serves it.
 
 use crate::client::{Done, Missed, heard, say};
-use crate::line::{INITIATION_OF_ONE, MISSION_OF_ONE, REQUEST_OF_ONE, bytes_of, two_centres};
+use crate::line::{INITIATION_OF_ONE, MISSION_OF_ONE, REQUEST_OF_ONE, bytes_of};
 use crate::play::{Act, Step, begins_so, play};
-use crate::railway::{Addresses, printed_with};
+use crate::railway::{Addresses, printed_of_two_centres};
 use rbc_msgs::{TrackBody, TrackMsg, decode_track};
 use serve_line::Manner;
 use std::alloc::Global;
@@ -28,8 +28,7 @@ static ON_ITS_WAY: [Step<'_>; 7] = [
 
 #[test]
 fn a_train_hears_both_messages_of_one_step(rt: HostRuntime) -> Result<(), Fail> {
-    let line = two_centres(rt.alloc())?;
-    let printed = printed_with(&rt, rt.alloc(), &line, Manner::default(), |addresses| {
+    let printed = printed_of_two_centres(&rt, rt.alloc(), Manner::default(), |addresses| {
         ask_on_its_way(&rt, rt.alloc(), addresses)
     })?;
     assert!(rt; printed.starts_with(b"> set A 0\nA 0 Done\n"));
@@ -77,13 +76,18 @@ fn request(alloc: Global, t_train: u32) -> Done<Vec<u8>> {
 // The next message that comes.
 fn message(alloc: Global, train: &TcpStream) -> Done<TrackMsg> {
     let mut bytes = heard(alloc, train, 3)?;
-    let (Some(second), Some(third)) = (bytes.get(1), bytes.get(2)) else {
-        return Err(Missed::Read);
-    };
-    let length = usize::from(*second) * 4 + usize::from(*third) / 64;
+    let length = length_in(&bytes)?;
     let rest = heard(alloc, train, length.saturating_sub(3))?;
     bytes.extend_from_slice(&rest).ok().ok_or(Missed::Memory)?;
     decode_track(&bytes).ok().ok_or(Missed::Digits)
+}
+
+// L_MESSAGE, which begins behind the first byte.
+fn length_in(bytes: &[u8]) -> Done<usize> {
+    match bytes {
+        [_, second, third, ..] => Ok(usize::from(*second) * 4 + usize::from(*third) / 64),
+        _ => Err(Missed::Read),
+    }
 }
 
 // Section 1 is wished back: the train is asked that its authority ends 1 000 m behind the start of section 0, message 9

@@ -1,8 +1,8 @@
 //! What callers do at the doors of running centres, one step behind another.
 
 use crate::client::{Done, Missed, answers, connect, heard, is_ended, say};
-use crate::line::{bytes_of, two_centres};
-use crate::railway::{Addresses, printed_with};
+use crate::line::bytes_of;
+use crate::railway::{Addresses, printed_of_two_centres};
 use serve_line::Manner;
 use std::alloc::Global;
 use std::net::{Net, SocketAddr, TcpListener, TcpStream};
@@ -100,11 +100,10 @@ fn take(alloc: Global, stream: &TcpStream, count: usize) -> Done<()> {
 pub fn printed_behind<
     R: Threads + Wait + Sync + Net<Stream = TcpStream, Listener = TcpListener> + Clock,
 >(rt: &R, alloc: Global, manner: Manner, steps: &[Step<'_>]) -> Result<Vec<u8>, Fail> {
-    let line = two_centres(alloc)?;
-    Ok(printed_with(rt, alloc, &line, manner, |addresses| {
+    printed_of_two_centres(rt, alloc, manner, |addresses| {
         play(rt, alloc, addresses, steps)?;
         Ok(())
-    })?)
+    })
 }
 
 /// Whether the print begins so behind these steps, where nothing else is asked for.

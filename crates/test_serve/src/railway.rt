@@ -1,7 +1,7 @@
 //! The centres of a line, served while a play goes on.
 
 use crate::client::{Done, Missed, connect, say};
-use crate::line::CONTROL;
+use crate::line::{CONTROL, two_centres};
 use cli_audit::{Audit, Verdict};
 use rbc_line::Line;
 use serve_line::{Doors, Manner, Quiet, Record, serve};
@@ -10,6 +10,7 @@ use std::fs::{File, OpenFile};
 use std::io::{Seek, Write};
 use std::net::{Net, SocketAddr, TcpListener, TcpStream};
 use std::sync::Wait;
+use std::test::*;
 use std::thread;
 use std::thread::Threads;
 use std::time::Clock;
@@ -88,6 +89,17 @@ pub fn served_with<
     Ok(served)
 }
 
+/// The same, with the line of two centres.
+pub fn printed_of_two_centres<
+    R: Threads + Wait + Sync + Net<Stream = TcpStream, Listener = TcpListener> + Clock,
+    P: FnOnce(Addresses) -> Done<()>,
+>(rt: &R, alloc: Global, manner: Manner, play: P) -> Result<Vec<u8>, Fail>
+    requires { P.IsAlwaysCallable play }
+{
+    let line = two_centres(alloc)?;
+    Ok(printed_with(rt, alloc, &line, manner, play)?)
+}
+
 fn served<
     R: Threads + Wait + Sync + Clock,
     F: Write + Seek + OpenFile + Drop + Send,
@@ -120,5 +132,5 @@ pub fn audited(alloc: Global, line: &Line, printed: &str) -> Done<Verdict> {
     for row in printed.lines() {
         audit.row(row);
     }
-    Ok(audit.end().ok().ok_or(Missed::Audit)?)
+    audit.end().ok().ok_or(Missed::Audit)
 }

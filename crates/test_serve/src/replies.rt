@@ -91,22 +91,21 @@ fn written_now(pipe: &Pipe<Tape<'_>>, reply: &Reply) -> Answer {
 
 #[test]
 fn a_reply_is_written_at_once_where_none_waits(rt: HostRuntime) -> Result<(), Fail> {
-    let kept = Mutex::new(Vec::new(rt.alloc()));
-    let pipe = pipe_over(&kept, false);
     let version = reply_of(rt.alloc(), VERSION)?;
-    assert!(rt; written_now(&pipe, &version) == Some(Ok(())));
     let wanted = bytes_of(rt.alloc(), VERSION)?;
+    let kept = Mutex::new(Vec::new(rt.alloc()));
+    let answer = written_now(&pipe_over(&kept, false), &version);
+    assert!(rt; answer == Some(Ok(())));
     assert!(rt; kept.lock(&rt).as_slice() == wanted.as_slice());
     Ok(())
 }
 
 #[test]
 fn no_reply_overtakes_one_that_waits(rt: HostRuntime) -> Result<(), Fail> {
-    let kept = Mutex::new(Vec::new(rt.alloc()));
-    let pipe = pipe_over(&kept, false);
-    let now = overtaken(&rt, rt.alloc(), &pipe, &kept)?;
-    assert!(rt; now == (None, true, Ok(()), Some(Ok(()))));
     let wanted = row_of(rt.alloc(), ACCEPTED, VERSION)?;
+    let kept = Mutex::new(Vec::new(rt.alloc()));
+    let now = overtaken(&rt, rt.alloc(), &pipe_over(&kept, false), &kept)?;
+    assert!(rt; now == (None, true, Ok(()), Some(Ok(()))));
     assert!(rt; kept.lock(&rt).as_slice() == wanted.as_slice());
     Ok(())
 }
@@ -132,13 +131,22 @@ fn overtaken<R: Wait>(
 #[test]
 fn nothing_is_written_behind_a_failed_write(rt: HostRuntime) -> Result<(), Fail> {
     let kept = Mutex::new(Vec::new(rt.alloc()));
-    let pipe = pipe_over(&kept, true);
-    let version = reply_of(rt.alloc(), VERSION)?;
-    let now = [written_now(&pipe, &version), written_now(&pipe, &version)];
+    let (now, waiting) = failed(&rt, rt.alloc(), &pipe_over(&kept, true))?;
     assert!(rt; now == [Some(Err(WriteFailed)), Some(Err(WriteFailed))]);
-    pipe.expect(&version);
-    let (_sender, replies) = queued(&rt, rt.alloc(), version)?;
-    let waiting = run_writer(&rt, &replies, &mut pipe.end(&rt));
     assert!(rt; (waiting, kept.lock(&rt).len()) == (Err(WriteFailed), 5));
     Ok(())
+}
+
+// A version comes twice, and once more where the writer writes it: what the first two are answered, and how the writer
+// ends.
+fn failed<R: Wait>(
+    rt: &R,
+    alloc: Global,
+    pipe: &Pipe<Tape<'_>>,
+) -> Result<([Answer; 2], Result<(), WriteFailed>), Fail> {
+    let version = reply_of(alloc, VERSION)?;
+    let now = [written_now(pipe, &version), written_now(pipe, &version)];
+    pipe.expect(&version);
+    let (_sender, replies) = queued(rt, alloc, version)?;
+    Ok((now, run_writer(rt, &replies, &mut pipe.end(rt))))
 }

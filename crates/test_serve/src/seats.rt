@@ -1,9 +1,9 @@
 //! Doors at which all seats are taken: who makes room for a new connection.
 
 use crate::client::{Done, Missed};
-use crate::line::{INITIATION_OF_ONE, VERSION, two_centres};
+use crate::line::{INITIATION_OF_ONE, VERSION};
 use crate::play::{Act, Step, begins_so, play};
-use crate::railway::{Addresses, printed_with};
+use crate::railway::{Addresses, printed_of_two_centres};
 use serve_line::Manner;
 use std::alloc::Global;
 use std::net::{Net, TcpStream};
@@ -73,8 +73,7 @@ fn a_connection_that_serves_no_train_makes_room(rt: HostRuntime) -> Result<(), F
 
 #[test]
 fn a_seat_is_free_behind_each_connection(rt: HostRuntime) -> Result<(), Fail> {
-    let line = two_centres(rt.alloc())?;
-    let printed = printed_with(&rt, rt.alloc(), &line, Manner::default(), |addresses| {
+    let printed = printed_of_two_centres(&rt, rt.alloc(), Manner::default(), |addresses| {
         come_and_go(&rt, rt.alloc(), addresses)
     })?;
     assert!(rt; printed.starts_with(b"> train A 9B028000000040000040\n"));

@@ -23,14 +23,19 @@ impl Read for Broken<'_> {
     }
 }
 
+// A node of centre A.
+fn node_of_a(alloc: Global) -> Result<Node, Fail> {
+    let line = two_centres(alloc)?;
+    Ok(Node::new(alloc, &line, 0)?)
+}
+
 // How the session ends at a new node of centre A, and what it committed.
 fn ended<R: Wait, S: Read + Drop>(
     rt: &R,
     alloc: Global,
     reader: S,
 ) -> Result<(SessionEnd, Share), Fail> {
-    let line = two_centres(alloc)?;
-    let node = Node::new(alloc, &line, 0)?;
+    let node = node_of_a(alloc)?;
     let mut share = node.share();
     let mut source = Reads::new(reader);
     let end = run_session(rt, alloc, &node, &Open, &mut share, &mut source, &Closed);
@@ -52,9 +57,14 @@ fn a_whole_message_is_committed_in_front_of_the_end(rt: HostRuntime) -> Result<(
     let bytes = bytes_of(rt.alloc(), INITIATION_OF_ONE)?;
     let (end, share) = ended(&rt, rt.alloc(), bytes.as_slice())?;
     assert!(rt; (end, share.receipts().len()) == (SessionEnd::EndOfStream, 1));
-    let receipt = share.receipts().first().ok_or("there is a receipt")?;
-    assert!(rt; (receipt.place, receipt.outcome.sayings.len()) == (0, 1));
+    assert!(rt; first_in(&share) == Some((0, 1)));
     Ok(())
+}
+
+// The place of the first receipt, and how many answers its outcome has.
+fn first_in(share: &Share) -> Option<(usize, usize)> {
+    let receipt = share.receipts().first()?;
+    Some((receipt.place, receipt.outcome.sayings.len()))
 }
 
 #[test]

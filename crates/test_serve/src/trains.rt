@@ -45,18 +45,33 @@ struct Answered(AtomicBool);
 
 #[test]
 fn two_trains_are_served_and_the_print_is_audited(rt: HostRuntime) -> Result<(), Fail> {
-    let line = two_centres(rt.alloc())?;
-    let printed = printed_of_two(&rt, rt.alloc(), &line)?;
-    let printed = std::str::from_utf8(&printed)
+    let (begins, has_answer, events) = seen_of_two(&rt, rt.alloc())?;
+    assert!(rt; (begins, has_answer) == (true, true));
+    assert!(rt; events >= 7);
+    Ok(())
+}
+
+// Whether the print begins with the section that was set, whether it has the answer to train 2, and how many events
+// an audit finds in it.
+fn seen_of_two<R: Threads + Wait + Sync + Net<Stream = TcpStream, Listener = TcpListener> + Clock>(
+    rt: &R,
+    alloc: Global,
+) -> Result<(bool, bool, u64), Fail> {
+    let line = two_centres(alloc)?;
+    let printed = printed_of_two(rt, alloc, &line)?;
+    seen_in(alloc, &line, &printed)
+}
+
+fn seen_in(alloc: Global, line: &Line, printed: &[u8]) -> Result<(bool, bool, u64), Fail> {
+    let printed = std::str::from_utf8(printed)
         .ok()
         .ok_or("the print is text")?;
-    assert!(rt; printed.starts_with("> set A 1\nA 1 Done\n"));
-    assert!(rt; printed.contains("A -> 2 2902800000009FFFFFE0\n"));
-    match audited(rt.alloc(), &line, printed)? {
-        Verdict::Equal { events } => assert!(rt; events >= 7),
-        Verdict::Differs { .. } => return Err("the audit differs".into()),
+    let begins = printed.starts_with("> set A 1\nA 1 Done\n");
+    let has_answer = printed.contains("A -> 2 2902800000009FFFFFE0\n");
+    match audited(alloc, line, printed)? {
+        Verdict::Equal { events } => Ok((begins, has_answer, events)),
+        Verdict::Differs { .. } => Err("the audit differs".into()),
     }
-    Ok(())
 }
 
 // What is printed where both trains are served side by side.
