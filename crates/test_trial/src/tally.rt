@@ -8,7 +8,7 @@ use rbc_msgs::TrackBody;
 use rbc_world::{LineView, Supervisor, TrainView};
 
 /// How often the trial came to what it is for.
-#[derive(Debug, Drop)]
+#[derive(Clone, Copy, Debug)]
 pub struct Tally {
     accepted: u32,
     authorities: u32,

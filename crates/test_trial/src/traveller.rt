@@ -19,7 +19,7 @@ use std::test::*;
 const SECTION_METRES: u16 = 1000;
 
 /// What a train may say.
-#[derive(Clone, Copy, Debug, PartialEq, Eq)]
+#[derive(Clone, Copy)]
 pub enum Words {
     Open,
     Established,
@@ -40,7 +40,7 @@ const LENGTH_METRES: u16 = 100;
 const LONG_METRES: u16 = 1100;
 
 /// A train: its front is so many metres behind the start of a section.
-#[derive(Clone, Copy, Debug)]
+#[derive(Clone, Copy)]
 pub struct Traveller {
     pub nid_engine: u32,
     /// T_TRAIN of its last message.

@@ -21,17 +21,24 @@ const TRAINS: u16 = 10;
 
 #[test]
 fn ten_trains_run_over_borders_by_chance(rt: HostRuntime) -> Result<(), Fail> {
-    let alloc = rt.alloc();
-    let line = three_centres(alloc)?;
-    let mut play = Play::new(alloc, &line)?;
-    for turn in 0..TURNS {
-        let wrong = play.turn(alloc, &line)?;
-        assert!(rt; wrong == None, "at turn {turn}: {wrong:?}");
-    }
-    let tally = &play.tally;
+    let (wrong, tally) = tried(rt.alloc())?;
+    assert!(rt; wrong == None, "at turn {wrong:?}");
     let lacking = tally.lacks();
     assert!(rt; lacking == None, "never: {lacking:?} {tally:?}");
     Ok(())
+}
+
+/// The first turn at which something is wrong, with what it is, and what the trial came to.
+type Tried = (Option<(u32, &'static str)>, Tally);
+
+fn tried(alloc: Global) -> Result<Tried, Fail> {
+    let line = three_centres(alloc)?;
+    tried_on(alloc, &line)
+}
+
+fn tried_on(alloc: Global, line: &Line) -> Result<Tried, Fail> {
+    let mut play = Play::new(alloc, line)?;
+    play.run(alloc, line)
 }
 
 // The world, its trains and what is on the way.
@@ -69,21 +76,28 @@ impl Link {
 
 impl Play {
     fn new(alloc: Global, line: &Line) -> Result<Play, Fail> {
+        let travellers = travellers(alloc)?;
+        let links = links(alloc)?;
         let world = World::new(alloc, line)?;
         let view = world.view(alloc)?;
-        let mut travellers = Vec::new(alloc);
-        for number in 1..=TRAINS {
-            let is_long = number % 3 == 0;
-            travellers.push(Traveller::new(u32::from(number), number, is_long))?;
-        }
         Ok(Play {
             chance: Chance { seed: 20 },
             world,
             view,
             travellers,
-            links: links(alloc)?,
+            links,
             tally: Tally::new(),
         })
+    }
+
+    // Takes events until something is wrong: at which turn, and what it is.
+    fn run(&mut self, alloc: Global, line: &Line) -> Result<Tried, Fail> {
+        for turn in 0..TURNS {
+            if let Some(wrong) = self.turn(alloc, line)? {
+                return Ok((Some((turn, wrong)), self.tally));
+            }
+        }
+        Ok((None, self.tally))
     }
 
     // Takes an event, and says what is wrong then.
@@ -185,6 +199,15 @@ impl Play {
             }
         }
     }
+}
+
+fn travellers(alloc: Global) -> Result<Vec<Traveller>, Fail> {
+    let mut travellers = Vec::new(alloc);
+    for number in 1..=TRAINS {
+        let is_long = number % 3 == 0;
+        travellers.push(Traveller::new(u32::from(number), number, is_long))?;
+    }
+    Ok(travellers)
 }
 
 fn links(alloc: Global) -> Result<Vec<Link>, Fail> {
