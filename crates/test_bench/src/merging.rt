@@ -1,5 +1,7 @@
 //! How long it takes to merge the logs of a line's centres into one list.
 
+ghost use Rattle.std.specs.Prelude.{◌<◌, length};
+
 use crate::missions::line_in;
 use anyhow::bail;
 use rbc_centre::Event;
@@ -13,8 +15,12 @@ use std::time::Instant;
 pub fn measure_merge(rt: &HostRuntime, line: &str, entries: u32) -> anyhow::Result<()> {
     let line = line_in(rt, line)?;
     let logs = logs_of(rt.alloc(), &line, entries)?;
+    print_merged(rt, &logs)
+}
+
+fn print_merged(rt: &HostRuntime, logs: &[CentreLog]) -> anyhow::Result<()> {
     let mut lent = Vec::with_capacity(rt.alloc(), logs.len())?;
-    for log in &logs {
+    for log in logs {
         lent.push(log)?;
     }
     let (count, nanos) = merged(rt, lent.as_slice())?;
@@ -36,11 +42,18 @@ fn merged(rt: &HostRuntime, logs: &[&CentreLog]) -> anyhow::Result<(u128, u128)>
 fn logs_of(alloc: Global, line: &Line, entries: u32) -> anyhow::Result<Vec<CentreLog>> {
     let mut logs = Vec::with_capacity(alloc, line.centre_count() as usize)?;
     for c in 0..line.centre_count() {
-        let mut log = CentreLog::new(alloc, line, c)?;
-        fill(&mut log, entries)?;
-        logs.push(log)?;
+        logs.push(log_of(alloc, line, c, entries)?)?;
     }
     Ok(logs)
+}
+
+// A log of a centre, filled so.
+fn log_of(alloc: Global, line: &Line, centre: u8, entries: u32) -> anyhow::Result<CentreLog>
+    requires { centre < length line.now.centres }
+{
+    let mut log = CentreLog::new(alloc, line, centre)?;
+    fill(&mut log, entries)?;
+    Ok(log)
 }
 
 fn fill(log: &mut CentreLog, entries: u32) -> anyhow::Result<()> {

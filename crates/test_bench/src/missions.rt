@@ -16,47 +16,82 @@ use std::{fs, io};
 pub fn print_answers(rt: &HostRuntime, line: &str, script: &str) -> anyhow::Result<()> {
     let line = line_in(rt, line)?;
     let events = events_in(rt, &line, script)?;
+    print_all(rt, &line, &events)
+}
+
+fn print_all(rt: &HostRuntime, line: &Line, events: &[WorldEvent]) -> anyhow::Result<()> {
+    let mut world = World::new(rt.alloc(), line)?;
     let mut out = BufWriter::new(rt.alloc(), io::writer(rt))?;
-    print_each(rt.alloc(), &line, &events, &mut out)?;
-    out.flush()?;
-    Ok(())
+    print_each(rt.alloc(), &mut world, events, &mut out)
 }
 
 fn print_each<W: Write>(
     alloc: Global,
-    line: &Line,
+    world: &mut World,
     events: &[WorldEvent],
     out: &mut W,
 ) -> anyhow::Result<()> {
-    let mut world = World::new(alloc, line)?;
     for event in events {
-        match world.step(event) {
-            Ok(answer) => print_answer(alloc, out, &answer)?,
-            Err(fault) => bail!("step refused {}", fault.number()),
-        }
+        print_step(alloc, world, event, out)?;
     }
+    out.flush()?;
     Ok(())
+}
+
+fn print_step<W: Write>(
+    alloc: Global,
+    world: &mut World,
+    event: &WorldEvent,
+    out: &mut W,
+) -> anyhow::Result<()> {
+    match world.step(event) {
+        Ok(answer) => Ok(print_answer(alloc, out, &answer)?),
+        Err(fault) => bail!("step refused {}", fault.number()),
+    }
 }
 
 /// Plays a script on a line so often, each time in a new world, and prints how many events a second the fastest turn
 /// took and the bytes of its messages to trains. Only the steps and the writing of messages are timed.
 pub fn measure_steps(rt: &HostRuntime, line: &str, script: &str, turns: u32) -> anyhow::Result<()> {
-    let alloc = rt.alloc();
     let line = line_in(rt, line)?;
     let events = events_in(rt, &line, script)?;
+    measure_turns(rt, &line, &events, turns)
+}
+
+fn measure_turns(
+    rt: &HostRuntime,
+    line: &Line,
+    events: &[WorldEvent],
+    turns: u32,
+) -> anyhow::Result<()> {
     let mut nanos = u128::MAX;
     let mut bytes = 0;
     for _ in 0..turns {
-        let mut world = World::new(alloc, &line)?;
-        let start = Instant::now(rt)?;
-        bytes = play(alloc, &mut world, &events).context("the events were not taken")?;
-        nanos = nanos.min(start.elapsed(rt)?.as_nanos());
+        let (written, took) = turn(rt, line, events)?;
+        bytes = written;
+        nanos = nanos.min(took);
     }
     println!(rt;
         "{} {bytes}",
         events.len() as u128 * 1_000_000_000 / nanos.max(1)
     )?;
     Ok(())
+}
+
+// Plays the events in a new world: the bytes of its messages to trains, and how many nanoseconds it took.
+fn turn(rt: &HostRuntime, line: &Line, events: &[WorldEvent]) -> anyhow::Result<(usize, u128)> {
+    let mut world = World::new(rt.alloc(), line)?;
+    timed(rt, &mut world, events)
+}
+
+fn timed(
+    rt: &HostRuntime,
+    world: &mut World,
+    events: &[WorldEvent],
+) -> anyhow::Result<(usize, u128)> {
+    let start = Instant::now(rt)?;
+    let bytes = play(rt.alloc(), world, events).context("the events were not taken")?;
+    Ok((bytes, start.elapsed(rt)?.as_nanos()))
 }
 
 /// The line of a file.
