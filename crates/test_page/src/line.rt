@@ -8,27 +8,34 @@ use std::alloc::{AllocError, Global};
 
 /// Where its sections lie: two of 100 m in the home of A, two in that of B.
 pub fn layout(alloc: Global) -> Result<Layout, AllocError> {
-    let mut layout = Layout {
+    Ok(Layout {
         nid_c: 7,
-        centres: Vec::new(alloc),
-        ports: Vec::new(alloc),
-        tracks: Vec::new(alloc),
-        sections: Vec::new(alloc),
-    };
-    layout.centres.push(String::from_str(alloc, "A")?)?;
-    layout.centres.push(String::from_str(alloc, "B")?)?;
-    layout.ports.push(21_000)?;
-    layout.ports.push(21_001)?;
-    layout.tracks.push(String::from_str(alloc, "main")?)?;
+        centres: names(alloc, &["A", "B"])?,
+        ports: Vec::from_slice(alloc, &[21_000, 21_001])?,
+        tracks: names(alloc, &["main"])?,
+        sections: places(alloc)?,
+    })
+}
+
+fn names(alloc: Global, given: &[&str]) -> Result<Vec<String>, AllocError> {
+    let mut names = Vec::new(alloc);
+    for name in given {
+        names.push(String::from_str(alloc, name)?)?;
+    }
+    Ok(names)
+}
+
+fn places(alloc: Global) -> Result<Vec<Place>, AllocError> {
+    let mut places = Vec::new(alloc);
     for (home, start) in [(0u8, 0u32), (0, 100), (1, 200), (1, 300)] {
-        layout.sections.push(Place {
+        places.push(Place {
             track: 0,
             home,
             start,
             metres: 100,
         })?;
     }
-    Ok(layout)
+    Ok(places)
 }
 
 /// What its centres have of it behind five events: train 19 stands in section 0, section 2 is kept for it, and section
@@ -44,6 +51,17 @@ pub fn now(alloc: Global) -> Result<LineNow, AllocError> {
         links: Vec::new(alloc),
         last: Vec::new(alloc),
     };
+    add_all(alloc, &mut now)?;
+    Ok(now)
+}
+
+fn add_all(alloc: Global, now: &mut LineNow) -> Result<(), AllocError> {
+    add_train(now)?;
+    add_lives(now)?;
+    add_last(alloc, now)
+}
+
+fn add_train(now: &mut LineNow) -> Result<(), AllocError> {
     let given = Usage::Given { nid_engine: 19 };
     let kept = Usage::Kept { nid_engine: 19 };
     for usage in [given, given, kept, Usage::Shut] {
@@ -58,10 +76,13 @@ pub fn now(alloc: Global) -> Result<LineNow, AllocError> {
         centre: 0,
         phase: Phase::Up,
     })?;
-    add_lives(&mut now)?;
+    Ok(())
+}
+
+fn add_last(alloc: Global, now: &mut LineNow) -> Result<(), AllocError> {
     now.last
         .push(String::from_str(alloc, "4 · <b>\"A\\B\"</b> & more")?)?;
-    Ok(now)
+    Ok(())
 }
 
 // The mission of train 19, with sections 0 and 1 in its authority, which is announced to B.

@@ -1,13 +1,13 @@
 //! What each request is answered: the status of it.
 
-use crate::line::{layout, now};
-use serve_page::{Asked, MOST_REQUEST, Refusal, answer, asked_of, refusal};
+use crate::shown::answered;
+use serve_page::{Asked, MOST_REQUEST, Refusal, asked_of, refusal};
 use std::alloc::Global;
 use std::test::*;
 
 // The status of the answer to these bytes, 0 where more are waited for.
 fn status(alloc: Global, bytes: &[u8]) -> Result<u16, Fail> {
-    let text = answer(alloc, &layout(alloc)?, &now(alloc)?, asked_of(bytes))?;
+    let text = answered(alloc, asked_of(bytes))?;
     if text.is_empty() {
         return Ok(0);
     }
@@ -21,37 +21,41 @@ fn status_of(alloc: Global, method: &str, target: &str, host: &str) -> Result<u1
     status(alloc, text.as_bytes())
 }
 
+static ADDRESSES: [(&str, u16); 14] = [
+    ("/", 200),
+    ("/line.json", 200),
+    ("/now", 200),
+    ("/now?since=", 200),
+    ("/now?since=4", 200),
+    ("/now?since=5", 304),
+    ("/now?since=99999999999999999999", 200),
+    ("/now?since=-5", 200),
+    ("/nowhere", 404),
+    ("/line.json/", 404),
+    ("//", 404),
+    ("/../etc/passwd", 404),
+    ("http://localhost/", 404),
+    ("*", 404),
+];
+
 #[test]
 fn three_addresses_are_known(rt: HostRuntime) -> Result<(), Fail> {
-    for (target, expected) in [
-        ("/", 200),
-        ("/line.json", 200),
-        ("/now", 200),
-        ("/now?since=", 200),
-        ("/now?since=4", 200),
-        ("/now?since=5", 304),
-        ("/now?since=99999999999999999999", 200),
-        ("/now?since=-5", 200),
-        ("/nowhere", 404),
-        ("/line.json/", 404),
-        ("//", 404),
-        ("/../etc/passwd", 404),
-        ("http://localhost/", 404),
-        ("*", 404),
-    ] {
+    for (target, expected) in &ADDRESSES {
         assert!(rt;
-            status_of(rt.alloc(), "GET", target, "localhost:1")? == expected,
+            status_of(rt.alloc(), "GET", target, "localhost:1")? == *expected,
             "{target}"
         );
     }
     Ok(())
 }
 
+static METHODS: [&str; 8] = [
+    "POST", "PUT", "DELETE", "OPTIONS", "CONNECT", "TRACE", "get", "HEAD",
+];
+
 #[test]
 fn only_get_is_answered(rt: HostRuntime) -> Result<(), Fail> {
-    for method in [
-        "POST", "PUT", "DELETE", "OPTIONS", "CONNECT", "TRACE", "get", "HEAD",
-    ] {
+    for method in &METHODS {
         assert!(rt;
             status_of(rt.alloc(), method, "/", "localhost:1")? == 405,
             "{method}"
@@ -60,22 +64,24 @@ fn only_get_is_answered(rt: HostRuntime) -> Result<(), Fail> {
     Ok(())
 }
 
+static HOSTS: [(&str, u16); 10] = [
+    ("localhost", 200),
+    ("127.0.0.1", 200),
+    ("127.0.0.1:8080", 200),
+    ("example.com", 421),
+    ("localhost.example.com", 421),
+    ("127.0.0.1.example.com:80", 421),
+    ("127.0.0.10", 421),
+    ("a@localhost", 421),
+    ("0.0.0.0", 421),
+    ("", 421),
+];
+
 #[test]
 fn another_host_is_not_answered(rt: HostRuntime) -> Result<(), Fail> {
-    for (host, expected) in [
-        ("localhost", 200),
-        ("127.0.0.1", 200),
-        ("127.0.0.1:8080", 200),
-        ("example.com", 421),
-        ("localhost.example.com", 421),
-        ("127.0.0.1.example.com:80", 421),
-        ("127.0.0.10", 421),
-        ("a@localhost", 421),
-        ("0.0.0.0", 421),
-        ("", 421),
-    ] {
+    for (host, expected) in &HOSTS {
         assert!(rt;
-            status_of(rt.alloc(), "GET", "/now", host)? == expected,
+            status_of(rt.alloc(), "GET", "/now", host)? == *expected,
             "{host}"
         );
     }
@@ -93,16 +99,18 @@ fn a_request_names_one_host(rt: HostRuntime) -> Result<(), Fail> {
     Ok(())
 }
 
+static NO_REQUESTS: [&[u8]; 6] = [
+    b"GET /\r\n\r\n",
+    b"GET / HTTP/2.0\r\n\r\n",
+    b"\x16\x03\x01\x02\x00\x01\x00\x01\xfc\x03\x03",
+    b"\0\0\0\0",
+    b"GET / HTTP/1.1\r\nHost localhost\r\n\r\n",
+    b"GET / HTTP/1.1\r\nHost: local\0host\r\n\r\n",
+];
+
 #[test]
 fn what_is_no_request_is_refused(rt: HostRuntime) -> Result<(), Fail> {
-    for bytes in [
-        b"GET /\r\n\r\n".as_slice(),
-        b"GET / HTTP/2.0\r\n\r\n".as_slice(),
-        b"\x16\x03\x01\x02\x00\x01\x00\x01\xfc\x03\x03".as_slice(),
-        b"\0\0\0\0".as_slice(),
-        b"GET / HTTP/1.1\r\nHost localhost\r\n\r\n".as_slice(),
-        b"GET / HTTP/1.1\r\nHost: local\0host\r\n\r\n".as_slice(),
-    ] {
+    for bytes in &NO_REQUESTS {
         assert!(rt; status(rt.alloc(), bytes)? == 400, "{bytes:?}");
     }
     Ok(())
@@ -132,13 +140,17 @@ fn long(alloc: Global, count: usize, bytes: usize) -> Result<Vec<u8>, Fail> {
     Ok(text)
 }
 
+fn status_of_long(alloc: Global, count: usize, bytes: usize) -> Result<u16, Fail> {
+    let text = long(alloc, count, bytes)?;
+    status(alloc, &text)
+}
+
 #[test]
 fn a_long_request_is_refused(rt: HostRuntime) -> Result<(), Fail> {
-    let one = long(rt.alloc(), 1, MOST_REQUEST)?;
-    let many = long(rt.alloc(), 64, 1)?;
-    let few = long(rt.alloc(), 63, 1)?;
-    let (one, many) = (status(rt.alloc(), &one)?, status(rt.alloc(), &many)?);
-    assert!(rt; (one, many, status(rt.alloc(), &few)?) == (431, 431, 0));
+    let one = status_of_long(rt.alloc(), 1, MOST_REQUEST)?;
+    let many = status_of_long(rt.alloc(), 64, 1)?;
+    let few = status_of_long(rt.alloc(), 63, 1)?;
+    assert!(rt; (one, many, few) == (431, 431, 0));
     Ok(())
 }
 
