@@ -9,7 +9,7 @@ use crate::stretch::stretches_of;
 use cli_page::{Changes, Layout, LineNow, MissionNow, Part, Phase, RunSheet, SessionNow};
 use cli_status::Fault;
 use rbc_line::Line;
-use rbc_world::LineView;
+use rbc_world::{LineView, WorldEvent};
 use std::alloc::{AllocError, Global};
 
 /// How many events are shown at most.
@@ -31,28 +31,72 @@ pub fn page_of(
     let events = events_in(alloc, line, printed)?;
     let (first, behind) = cut.places(events.len()).ok_or(Fault::Words)?;
     let behind = behind.min(first.saturating_add(MOST_EVENTS));
-    let shown = events.get(..behind).unwrap_or(&events);
-    let run = play(alloc, line, shown, first)?;
     let part = Part {
         first: (first as u64).saturating_add(1),
         last: behind as u64,
         all: events.len() as u64,
         marked: cut.train,
     };
+    let shown = events.get(..behind).unwrap_or(&events);
+    page_of_part(alloc, line, shown, first, part)
+}
+
+// The page of the events from the first one on.
+fn page_of_part(
+    alloc: Global,
+    line: &Line,
+    events: &[WorldEvent],
+    first: usize,
+    part: Part,
+) -> Result<String, Fault<'static>> {
+    let run = play(alloc, line, events, first)?;
     Ok(written(alloc, line, part, &run)?)
 }
 
-// What changes, table by table, and the line as it is at last.
 fn written(alloc: Global, line: &Line, part: Part, run: &Played) -> Result<String, AllocError> {
     let layout = layout_of(alloc, line, Vec::new(alloc))?;
-    let mut sheet = RunSheet::new(alloc, &layout)?;
-    let before = part.first.saturating_sub(1);
-    add_events(&mut sheet, part.first, run)?;
-    add_sections(alloc, &mut sheet, line, before, run)?;
-    add_missions(&mut sheet, &layout, line, before, run)?;
-    add_sessions(&mut sheet, &layout, line, before, run)?;
+    let sheet = sheet_of(alloc, line, &layout, part.first, run)?;
+    finished(alloc, sheet, &layout, part, run)
+}
+
+// What changes, table by table.
+fn sheet_of(
+    alloc: Global,
+    line: &Line,
+    layout: &Layout,
+    first: u64,
+    run: &Played,
+) -> Result<RunSheet, AllocError> {
+    let mut sheet = RunSheet::new(alloc, layout)?;
+    add_tables(alloc, &mut sheet, line, layout, first, run)?;
+    Ok(sheet)
+}
+
+fn add_tables(
+    alloc: Global,
+    sheet: &mut RunSheet,
+    line: &Line,
+    layout: &Layout,
+    first: u64,
+    run: &Played,
+) -> Result<(), AllocError> {
+    let before = first.saturating_sub(1);
+    add_events(sheet, first, run)?;
+    add_sections(alloc, sheet, line, before, run)?;
+    add_missions(sheet, layout, line, before, run)?;
+    add_sessions(sheet, layout, line, before, run)
+}
+
+// The page, with the line as it is at last.
+fn finished(
+    alloc: Global,
+    sheet: RunSheet,
+    layout: &Layout,
+    part: Part,
+    run: &Played,
+) -> Result<String, AllocError> {
     let now = last_of(alloc, part, run)?;
-    sheet.page(alloc, &layout, part, &now)
+    sheet.page(alloc, layout, part, &now)
 }
 
 // The number of an event, by its place behind the one of the number `first`.
@@ -187,19 +231,22 @@ fn last_of(alloc: Global, part: Part, run: &Played) -> Result<LineNow, AllocErro
         links: Vec::new(alloc),
         last: Vec::new(alloc),
     };
+    add_last(alloc, &mut now, part.first, run)?;
+    Ok(now)
+}
+
+fn add_last(alloc: Global, now: &mut LineNow, first: u64, run: &Played) -> Result<(), AllocError> {
     if let Some(view) = run.views.last() {
-        add_view(&mut now, view)?;
+        add_view(now, view)?;
     }
     if let Some(missions) = run.missions.last() {
-        for mission in missions {
-            now.missions.push(*mission)?;
-        }
+        now.missions.extend_from_slice(missions)?;
     }
     for (e, words) in run.words.iter().enumerate().rev().take(TOLD) {
-        let event = number(part.first, e);
+        let event = number(first, e);
         now.last.push(format!(in alloc; "{event} · {words}")?)?;
     }
-    Ok(now)
+    Ok(())
 }
 
 // Adds the sections and the sessions of a view.

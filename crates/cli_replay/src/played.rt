@@ -28,27 +28,84 @@ pub(crate) fn play(
     events: &[WorldEvent],
     first: usize,
 ) -> Result<Played, Fault<'static>> {
-    let mut world = World::new(alloc, line)?;
-    let mut handovers = Handovers::new(alloc, line)?;
-    for event in events.iter().take(first) {
-        let answer = world.step(event)?;
-        hear(line, event, &answer, &mut handovers);
-    }
+    let mut centres = centres_at(alloc, line, events, first)?;
     let mut played = Played {
         views: Vec::new(alloc),
         missions: Vec::new(alloc),
         words: Vec::new(alloc),
     };
-    look(alloc, &world, &handovers, &mut played)?;
-    for event in events.iter().skip(first) {
-        let answer = world.step(event)?;
-        hear(line, event, &answer, &mut handovers);
-        played
-            .words
-            .push(event_in_words(alloc, line, event, &answer)?)?;
-        look(alloc, &world, &handovers, &mut played)?;
-    }
+    tell(alloc, line, events, first, &mut centres, &mut played)?;
     Ok(played)
+}
+
+/// The centres of the line, and the handovers that they have announced.
+#[derive(Drop)]
+struct Centres {
+    world: World,
+    handovers: Handovers,
+}
+
+// The centres as they are before the first event that is told.
+fn centres_at(
+    alloc: Global,
+    line: &Line,
+    events: &[WorldEvent],
+    first: usize,
+) -> Result<Centres, Fault<'static>> {
+    let world = World::new(alloc, line)?;
+    let handovers = Handovers::new(alloc, line)?;
+    let mut centres = Centres { world, handovers };
+    pass(line, events, first, &mut centres)?;
+    Ok(centres)
+}
+
+// Plays the events that come before the first one that is told.
+fn pass(
+    line: &Line,
+    events: &[WorldEvent],
+    first: usize,
+    centres: &mut Centres,
+) -> Result<(), Fault<'static>> {
+    for event in events.iter().take(first) {
+        step(line, event, centres)?;
+    }
+    Ok(())
+}
+
+// Plays those from the first one on, and tells them.
+fn tell(
+    alloc: Global,
+    line: &Line,
+    events: &[WorldEvent],
+    first: usize,
+    centres: &mut Centres,
+    played: &mut Played,
+) -> Result<(), Fault<'static>> {
+    look(alloc, centres, played)?;
+    for event in events.iter().skip(first) {
+        let words = told(alloc, line, event, centres)?;
+        played.words.push(words)?;
+        look(alloc, centres, played)?;
+    }
+    Ok(())
+}
+
+// Plays an event, and tells it in words.
+fn told(
+    alloc: Global,
+    line: &Line,
+    event: &WorldEvent,
+    centres: &mut Centres,
+) -> Result<String, Fault<'static>> {
+    let answer = step(line, event, centres)?;
+    event_in_words(alloc, line, event, &answer)
+}
+
+// Plays an event, and takes what the centres say of handovers in it.
+fn step(line: &Line, event: &WorldEvent, centres: &mut Centres) -> Result<Answer, Fault<'static>> {
+    let answer = centres.world.step(event)?;
+    hear(line, event, &answer, &mut centres.handovers);
+    Ok(answer)
 }
 
 // Takes what the centres say of handovers in an event.
@@ -61,13 +118,20 @@ fn hear(line: &Line, event: &WorldEvent, answer: &Answer, handovers: &mut Handov
 }
 
 // Adds the line as it stands.
-fn look(
+fn look(alloc: Global, centres: &Centres, played: &mut Played) -> Result<(), AllocError> {
+    let view = centres.world.view(alloc)?;
+    let missions = missions_in(alloc, &view, &centres.handovers)?;
+    played.missions.push(missions)?;
+    played.views.push(view)?;
+    Ok(())
+}
+
+// The mission of each train.
+fn missions_in(
     alloc: Global,
-    world: &World,
+    view: &LineView,
     handovers: &Handovers,
-    played: &mut Played,
-) -> Result<(), AllocError> {
-    let view = world.view(alloc)?;
+) -> Result<Vec<Option<MissionNow>>, AllocError> {
     let mut missions = Vec::new(alloc);
     for (train, seen) in view.trains.iter().enumerate() {
         missions.push(match seen.mission {
@@ -75,9 +139,7 @@ fn look(
             None => None,
         })?;
     }
-    played.missions.push(missions)?;
-    played.views.push(view)?;
-    Ok(())
+    Ok(missions)
 }
 
 // A mission, of which the lent sections are not told from others that are kept.
