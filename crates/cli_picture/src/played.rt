@@ -1,7 +1,7 @@
 //! A print is played again.
 
 use crate::heard::event_of;
-use crate::run::Run;
+use crate::run::{Event, Run};
 use cli_replay::{Cut, events_in, train_in};
 use cli_status::Fault;
 use rbc_line::Line;
@@ -18,10 +18,30 @@ pub fn played<'a>(
     let only = train_in(line, cut)?;
     let events = events_in(alloc, line, printed)?;
     let (first, behind) = cut.places(events.len()).ok_or(Fault::Words)?;
-    let mut world = World::new(alloc, line)?;
-    for event in events.iter().take(first) {
-        world.step(event)?;
-    }
+    part_of(alloc, line, &events, (first, behind), only)
+}
+
+// The events from the first one on, up to the last that is drawn.
+fn part_of<'a>(
+    alloc: Global,
+    line: &'a Line,
+    events: &[WorldEvent],
+    (first, behind): (usize, usize),
+    only: Option<u8>,
+) -> Result<Run<'a>, Fault<'static>> {
+    let mut world = world_at(alloc, line, events, first)?;
+    run_from(alloc, line, &mut world, events, (first, behind), only)
+}
+
+// The run from where the centres are.
+fn run_from<'a>(
+    alloc: Global,
+    line: &'a Line,
+    world: &mut World,
+    events: &[WorldEvent],
+    (first, behind): (usize, usize),
+    only: Option<u8>,
+) -> Result<Run<'a>, Fault<'static>> {
     let mut run = Run {
         line,
         event_count: events.len(),
@@ -31,20 +51,53 @@ pub fn played<'a>(
         before: world.view(alloc)?,
         views: Vec::new(alloc),
     };
-    for event in events.iter().take(behind).skip(first) {
-        play(alloc, &mut world, event, &mut run)?;
-    }
+    play(alloc, world, events, behind, &mut run)?;
     Ok(run)
 }
 
+// The centres of the line as they are before the first event that is drawn.
+fn world_at(
+    alloc: Global,
+    line: &Line,
+    events: &[WorldEvent],
+    first: usize,
+) -> Result<World, Fault<'static>> {
+    let mut world = World::new(alloc, line)?;
+    pass(&mut world, events, first)?;
+    Ok(world)
+}
+
+fn pass(world: &mut World, events: &[WorldEvent], first: usize) -> Result<(), Fault<'static>> {
+    for event in events.iter().take(first) {
+        world.step(event)?;
+    }
+    Ok(())
+}
+
+// Plays the events that are drawn.
 fn play(
     alloc: Global,
     world: &mut World,
-    event: &WorldEvent,
+    events: &[WorldEvent],
+    behind: usize,
     run: &mut Run<'_>,
 ) -> Result<(), Fault<'static>> {
-    let answer = world.step(event)?;
-    run.events.push(event_of(alloc, run.line, event, &answer)?)?;
-    run.views.push(world.view(alloc)?)?;
+    for event in events.iter().take(behind).skip(run.skipped) {
+        let what = told(alloc, world, run.line, event)?;
+        run.events.push(what)?;
+        let view = world.view(alloc)?;
+        run.views.push(view)?;
+    }
     Ok(())
+}
+
+// Plays an event, and tells it by what is answered to it.
+fn told(
+    alloc: Global,
+    world: &mut World,
+    line: &Line,
+    event: &WorldEvent,
+) -> Result<Event, Fault<'static>> {
+    let answer = world.step(event)?;
+    Ok(event_of(alloc, line, event, &answer)?)
 }
