@@ -28,6 +28,11 @@ fn add_location(fields: &mut Fields, location: &Location) -> Result<(), AllocErr
     add_distance(fields, "D_LRBG", location.d_lrbg.value(), scale)?;
     add_direction(fields, "Q_DIRLRBG", location.q_dirlrbg)?;
     add_direction(fields, "Q_DLRBG", location.q_dlrbg)?;
+    add_doubts(fields, location)
+}
+
+fn add_doubts(fields: &mut Fields, location: &Location) -> Result<(), AllocError> {
+    let scale = location.q_scale;
     add_distance(fields, "L_DOUBTOVER", location.l_doubtover.value(), scale)?;
     add_distance(fields, "L_DOUBTUNDER", location.l_doubtunder.value(), scale)
 }

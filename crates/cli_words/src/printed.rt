@@ -7,7 +7,7 @@ use crate::sections::section_in_words;
 use crate::told::Told;
 use hex::FromHexError;
 use rbc_line::Line;
-use rbc_msgs::{MsgFault, decode_track, decode_train};
+use rbc_msgs::{MsgFault, TrainMsg, decode_track, decode_train};
 use std::alloc::{AllocError, Global};
 
 /// A line of what `run` prints for this line, in words. None where it is no such line.
@@ -65,16 +65,24 @@ fn train_saying(
     bytes: &[u8],
 ) -> Result<(String, String), AllocError> {
     match decode_train(alloc, bytes) {
-        Ok(message) => {
-            let nid_engine = message.nid_engine();
-            let who = format!(in alloc; "train {nid_engine} -> {centre}")?;
-            Ok((who, train_in_words(alloc, line, message.body())?))
-        }
+        Ok(message) => said_by(alloc, line, centre, &message),
         Err(fault) => {
             let who = between(alloc, "a train", "->", centre)?;
             Ok((who, fault_in_words(alloc, fault)?))
         }
     }
+}
+
+fn said_by(
+    alloc: Global,
+    line: &Line,
+    centre: &str,
+    message: &TrainMsg,
+) -> Result<(String, String), AllocError> {
+    let nid_engine = message.nid_engine();
+    let who = format!(in alloc; "train {nid_engine} -> {centre}")?;
+    let what = train_in_words(alloc, line, message.body())?;
+    Ok((who, what))
 }
 
 /// A message to a train.
@@ -90,9 +98,19 @@ fn message_told(
     };
     let who = format!(in alloc; "{centre} -> train {nid_engine}")?;
     let what = centre_saying(alloc, line, &bytes)?;
-    let first = shortened(alloc, &bytes)?;
-    let line = format!(in alloc; "{centre} -> {nid_engine} {first}")?;
+    let line = message_line(alloc, centre, nid_engine, &bytes)?;
     Ok(Some(Told { who, what, line }))
+}
+
+/// The line of a message to a train, with the first bytes alone where there are many.
+fn message_line(
+    alloc: Global,
+    centre: &str,
+    nid_engine: u32,
+    bytes: &[u8],
+) -> Result<String, AllocError> {
+    let first = shortened(alloc, bytes)?;
+    format!(in alloc; "{centre} -> {nid_engine} {first}")
 }
 
 /// What a centre says to a train.

@@ -113,15 +113,25 @@ fn not_sent_of<'a>(words: &[&'a str]) -> Option<Row<'a>> {
 
 fn event_of<'a>(line: &Line, words: &[&'a str]) -> Option<Row<'a>> {
     match *words {
-        ["show"] => Some(Row::Show),
+        [verb] => show_of(verb),
         [verb, centre, word] => event_at(centre_of(line, centre)?, verb, word),
-        ["deliver", from, to, number] => Some(Row::Deliver {
-            from: centre_of(line, from)?,
-            to: centre_of(line, to)?,
-            number: number_of(number)?,
-        }),
+        [verb, from, to, number] if verb == "deliver" => delivery_of(line, from, to, number),
         _ => None,
     }
+}
+
+fn show_of<'a>(verb: &str) -> Option<Row<'a>> {
+    match verb {
+        "show" => Some(Row::Show),
+        _ => None,
+    }
+}
+
+fn delivery_of<'a>(line: &Line, from: &'a str, to: &'a str, number: &str) -> Option<Row<'a>> {
+    let from = centre_of(line, from)?;
+    let to = centre_of(line, to)?;
+    let number = number_of(number)?;
+    Some(Row::Deliver { from, to, number })
 }
 
 /// What comes to a centre from a train or from the interlocking.
@@ -145,25 +155,40 @@ fn event_at<'a>(centre: &'a str, verb: &str, word: &'a str) -> Option<Row<'a>> {
 
 fn answer_of<'a>(line: &Line, centre: &'a str, words: &[&'a str]) -> Option<Row<'a>> {
     match *words {
-        ["ok"] => Some(Row::Nothing { centre }),
-        [word] => {
-            let words = words_of_late(word)?;
-            Some(Row::NotNext { centre, words })
+        [word] => late_of(centre, word),
+        [first, second] => pair_of(centre, first, second),
+        [arrow, train, digits] if arrow == "->" => message_of(centre, train, digits),
+        [arrow, to, number, name] if arrow == "=>" => {
+            frame_of(centre, centre_of(line, to)?, number, name)
         }
-        ["=>", to, number, name] => frame_of(centre, centre_of(line, to)?, number, name),
-        ["->", train, digits] => {
-            let nid_engine = number_of(train)?;
-            Some(Row::Message {
-                centre,
-                nid_engine,
-                digits,
-            })
-        }
-        ["silent", number] => silent_of(centre, number),
-        ["fault", number] => fault_of(centre, number),
-        [number, word] => word_of(centre, number, word),
         _ => None,
     }
+}
+
+/// What comes of a frame that is not the next, or that there is nothing to say.
+fn late_of<'a>(centre: &'a str, word: &str) -> Option<Row<'a>> {
+    if word == "ok" {
+        return Some(Row::Nothing { centre });
+    }
+    let words = words_of_late(word)?;
+    Some(Row::NotNext { centre, words })
+}
+
+fn pair_of<'a>(centre: &'a str, first: &str, second: &str) -> Option<Row<'a>> {
+    match first {
+        "silent" => silent_of(centre, second),
+        "fault" => fault_of(centre, second),
+        _ => word_of(centre, first, second),
+    }
+}
+
+fn message_of<'a>(centre: &'a str, train: &str, digits: &'a str) -> Option<Row<'a>> {
+    let nid_engine = number_of(train)?;
+    Some(Row::Message {
+        centre,
+        nid_engine,
+        digits,
+    })
 }
 
 fn frame_of<'a>(from: &'a str, to: &'a str, number: &str, name: &str) -> Option<Row<'a>> {
@@ -214,9 +239,9 @@ fn section_of<'a>(line: &Line, words: &[&'a str]) -> Option<Row<'a>> {
 fn use_of<'a>(section: u16, word: &str, rest: &[&'a str]) -> Option<Row<'a>> {
     match *rest {
         [] => free_of(section, word, false),
-        ["wished"] => free_of(section, word, true),
+        [last] if last == "wished" => free_of(section, word, true),
         [train] => used_of(section, word, number_of(train)?, false),
-        [train, "wished"] => used_of(section, word, number_of(train)?, true),
+        [train, last] if last == "wished" => used_of(section, word, number_of(train)?, true),
         _ => None,
     }
 }
@@ -261,16 +286,17 @@ fn used_of<'a>(section: u16, word: &str, nid_engine: u32, is_wished: bool) -> Op
 
 fn supervisor_of<'a>(line: &Line, words: &[&'a str]) -> Option<Row<'a>> {
     match *words {
-        [train, "none"] => Some(Row::Supervisor {
-            nid_engine: number_of(train)?,
-            centre: None,
-        }),
-        [train, centre] => Some(Row::Supervisor {
-            nid_engine: number_of(train)?,
-            centre: Some(centre_of(line, centre)?),
-        }),
+        [train, name] => supervised(line, number_of(train)?, name),
         _ => None,
     }
+}
+
+fn supervised<'a>(line: &Line, nid_engine: u32, name: &'a str) -> Option<Row<'a>> {
+    let centre = match name {
+        "none" => None,
+        _ => Some(centre_of(line, name)?),
+    };
+    Some(Row::Supervisor { nid_engine, centre })
 }
 
 /// The name, where a centre of the line has it.

@@ -4,7 +4,7 @@ use crate::names::{name_of_number, number_of_track, number_of_train};
 use crate::places::{place_in_words, point_in_words};
 use rbc_line::Line;
 use rbc_msgs::{TrackBody, TrackMsg, TrainBody};
-use rbc_packets::{Position, Transition};
+use rbc_packets::{Authority, Position, SessionOrder, Transition};
 use std::alloc::{AllocError, Global};
 
 /// What a train says.
@@ -44,22 +44,43 @@ pub fn track_in_words(
 ) -> Result<String, AllocError> {
     let number = number_of_track(message.body());
     let name = name_of_number(number);
-    match message.body() {
+    match order_in_words(alloc, line, message)? {
+        Some(order) => format!(in alloc; "{number} {name}, {order}"),
+        None => format!(in alloc; "{number} {name}"),
+    }
+}
+
+/// What stands behind the number and the name, if anything does.
+fn order_in_words(
+    alloc: Global,
+    line: &Line,
+    message: &TrackMsg,
+) -> Result<Option<String>, AllocError> {
+    Ok(Some(match message.body() {
         TrackBody::Authority(authority) | TrackBody::ShorteningRequest(authority) => {
-            let metres = authority.l_endsection.value();
-            let end = point_in_words(alloc, line, message.nid_lrbg(), metres)?;
-            format!(in alloc; "{number} {name}, to {end}")
+            authority_in_words(alloc, line, message.nid_lrbg(), authority)?
         }
         TrackBody::Transition(transition) => {
-            let order = transition_in_words(alloc, line, message.nid_lrbg(), transition)?;
-            format!(in alloc; "{number} {name}, {order}")
+            transition_in_words(alloc, line, message.nid_lrbg(), transition)?
         }
-        TrackBody::EndSession(order) => {
-            let nid_rbc = order.nid_rbc.value();
-            format!(in alloc; "{number} {name}, the session with NID_RBC {nid_rbc} ends")
-        }
-        _ => format!(in alloc; "{number} {name}"),
-    }
+        TrackBody::EndSession(order) => end_in_words(alloc, order)?,
+        _ => return Ok(None),
+    }))
+}
+
+fn authority_in_words(
+    alloc: Global,
+    line: &Line,
+    nid_lrbg: u32,
+    authority: Authority,
+) -> Result<String, AllocError> {
+    let end = point_in_words(alloc, line, nid_lrbg, authority.l_endsection.value())?;
+    format!(in alloc; "to {end}")
+}
+
+fn end_in_words(alloc: Global, order: SessionOrder) -> Result<String, AllocError> {
+    let nid_rbc = order.nid_rbc.value();
+    format!(in alloc; "the session with NID_RBC {nid_rbc} ends")
 }
 
 fn transition_in_words(

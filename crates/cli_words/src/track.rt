@@ -66,11 +66,18 @@ fn add_authority(fields: &mut Fields, authority: Authority) -> Result<(), AllocE
     fields.words("END_TIME", 1023, "no limit")?;
     fields.words("N_ITER", 0, "one section")?;
     fields.metres("L_ENDSECTION", authority.l_endsection.value())?;
-    for name in ["Q_SECTIONTIMER", "Q_ENDTIMER", "Q_DANGERPOINT", "Q_OVERLAP"] {
-        fields.words(name, 0, "none")?;
+    add_none(fields)
+}
+
+// What an authority may have besides, and has not.
+fn add_none(fields: &mut Fields) -> Result<(), AllocError> {
+    for name in &NONE {
+        fields.words(*name, 0, "none")?;
     }
     Ok(())
 }
+
+static NONE: [&str; 4] = ["Q_SECTIONTIMER", "Q_ENDTIMER", "Q_DANGERPOINT", "Q_OVERLAP"];
 
 fn add_transition(fields: &mut Fields, transition: Transition) -> Result<(), AllocError> {
     let words = "RBC transition order";
