@@ -1,3 +1,8 @@
+ghost use Rattle.std.specs.Prelude.{◌≡◌, IfOk, IfSome, OnOk};
+ghost use Rattle.rbc_node.specs.Node.{centre_of};
+ghost use Rattle.serve_journal.specs.Noting.{taker, CommitsAgain};
+ghost use Rattle.serve_control.specs.Events.{IsCommitted};
+
 use cli_journal::Entry;
 use rbc_centre::Event;
 use rbc_msgs::{MsgFault, decode_train};
@@ -54,7 +59,7 @@ fn commit_entry<R: Wait>(
     shares: &mut [Share],
     entry: &Entry,
 ) -> Result<(), ResumeFault> {
-    let at = centre_of(&entry.event);
+    let at = taker_of(&entry.event);
     let (Some(node), Some(share)) = (nodes.get(at as usize), shares.get_mut(at as usize)) else {
         return Err(ResumeFault::Unfit(at, 1));
     };
@@ -62,15 +67,33 @@ fn commit_entry<R: Wait>(
     let Some(event) = event_of(rt, alloc, nodes, &entry.event)? else {
         return Err(ResumeFault::Unfit(at, number));
     };
+    match commit_again(rt, node, share, event, entry.stamp) {
+        Err(ResumeFault::Unfit(..)) => Err(ResumeFault::Unfit(at, number)),
+        done => done,
+    }
+}
+
+// Commits an event again, which has to be answered under this stamp.
+fn commit_again<R: Wait>(
+    rt: &R,
+    node: &Node,
+    share: &mut Share,
+    event: Event,
+    stamp: u32,
+) -> Result<(), ResumeFault>
+    ensures { OnOk result (CommitsAgain (centre_of node.now) share.old share.new event stamp) }
+{
     match node.commit(rt, &Open, share, event) {
-        Ok(outcome) if outcome.stamp == entry.stamp => Ok(()),
+        Ok(outcome) if outcome.stamp == stamp => Ok(()),
         Err(ShareFault::Memory) => Err(ResumeFault::Memory),
-        _ => Err(ResumeFault::Unfit(at, number)),
+        _ => Err(ResumeFault::Unfit(node.share().centre(), 1)),
     }
 }
 
 // The number of the centre that took the event.
-fn centre_of(event: &WorldEvent) -> u8 {
+fn taker_of(event: &WorldEvent) -> u8
+    ensures { result ≡ taker event.now }
+{
     match event {
         WorldEvent::Train { centre, .. }
         | WorldEvent::Set { centre, .. }
@@ -85,7 +108,9 @@ fn event_of<R: Wait>(
     alloc: Global,
     nodes: &[Node],
     event: &WorldEvent,
-) -> Result<Option<Event>, ResumeFault> {
+) -> Result<Option<Event>, ResumeFault>
+    ensures { IfOk result (λ found. IfSome found (λ e. IsCommitted (taker event.now) e event.now)) }
+{
     match event {
         WorldEvent::Train { bytes, .. } => match decode_train(alloc, bytes) {
             Ok(message) => Ok(Some(Event::Train(message))),
@@ -99,8 +124,10 @@ fn event_of<R: Wait>(
                 return Ok(None);
             };
             match node.frame(rt, *to, *number) {
-                Some(frame) => Ok(Some(Event::Deliver { from: *from, frame })),
-                None => Ok(None),
+                Some(frame) if frame.number() == *number => {
+                    Ok(Some(Event::Deliver { from: *from, frame }))
+                }
+                _ => Ok(None),
             }
         }
     }
