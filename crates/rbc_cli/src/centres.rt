@@ -109,7 +109,16 @@ fn run_noted<
         Some(journal) => opened(rt, line, text, journal, found, notes)?,
         None => Record::none(rt.alloc()),
     };
-    serve(rt, rt.alloc(), line, doors, record, manner_of(words), notes, out)
+    serve(
+        rt,
+        rt.alloc(),
+        line,
+        doors,
+        record,
+        manner_of(words),
+        notes,
+        out,
+    )
 }
 
 // What the words ask for.

@@ -6,11 +6,10 @@ use cli_journal::first_line;
 use rbc_line::Line;
 use serve_line::{JournalFile, Notes, Record, ServeFault};
 use std::alloc::AllocError;
-use std::fs;
 use std::fs::{File, OpenOptions};
-use std::io;
 use std::io::ErrorKind;
 use std::rt::Files;
+use std::{fs, io};
 
 /// Opens the journals of the centres: new ones, or those that were found, to go on behind their whole lines. Where one
 /// can't be opened, a note names it.
@@ -36,9 +35,7 @@ pub fn opened<R: Files<File = File> + AllocGlobal, N: Notes>(
     let mut files = Vec::new(alloc);
     for centre in 0..line.centre_count() {
         let length = found.lengths.get(centre as usize).copied();
-        files.push(opened_one(
-            rt, line, text, words, centre, length, notes,
-        )?)?;
+        files.push(opened_one(rt, line, text, words, centre, length, notes)?)?;
     }
     Ok(Record {
         files,
@@ -70,7 +67,14 @@ fn opened_one<R: Files<File = File> + AllocGlobal, N: Notes>(
 ) -> Result<JournalFile<File>, ServeFault> {
     let name = journal_name(rt.alloc(), line, words.folder, centre)?;
     let first = first_line(rt.alloc(), line, centre, text)?;
-    match begun(rt, &name, &first, length.unwrap_or(0), length.is_none(), words.is_synced) {
+    match begun(
+        rt,
+        &name,
+        &first,
+        length.unwrap_or(0),
+        length.is_none(),
+        words.is_synced,
+    ) {
         Ok(file) => Ok(file),
         Err(error) => {
             notes.note(format_args!("{name} can't be opened for writing: {error}"));

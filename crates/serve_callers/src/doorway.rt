@@ -72,7 +72,9 @@ fn next_caller<'a, R: Wait, N: Notes>(
     if let Caller::Trains(centre) = door.caller {
         if hall.is_stuck(rt, centre) {
             let name = hall.name(door.caller);
-            notes.note(format_args!("{name}: a connection is refused, the journal can't be written"));
+            notes.note(format_args!(
+                "{name}: a connection is refused, the journal can't be written"
+            ));
             return None;
         }
     }

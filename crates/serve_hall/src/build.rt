@@ -11,8 +11,8 @@ use serve_connections::Exchange;
 use serve_journal::Journal;
 use serve_workers::LinkEnds;
 use std::alloc::{AllocError, Global};
-use std::sync::{Mutex, Wait};
 use std::sync::atomic::{AtomicBool, AtomicU64};
+use std::sync::{Mutex, Wait};
 use std::thread::Parker;
 
 // How many connections a centre of the line serves at once.

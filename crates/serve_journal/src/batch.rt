@@ -34,7 +34,10 @@ fn entries_from(alloc: Global, log: &CentreLog, written: usize) -> Result<Vec<En
     ensures { IfOk result (λ next. AreNotesOf (take 256 (drop written log.now.entries)) next.items) }
 {
     let mut next = Vec::new(alloc);
-    let to = log.entries().len().min(written.saturating_add(MOST_AT_ONCE));
+    let to = log
+        .entries()
+        .len()
+        .min(written.saturating_add(MOST_AT_ONCE));
     let Some(entries) = log.entries().get(written..to) else {
         return Ok(next);
     };
@@ -51,11 +54,7 @@ fn entries_from(alloc: Global, log: &CentreLog, written: usize) -> Result<Vec<En
 }
 
 /// The lines of entries, each ended by a line feed.
-pub(crate) fn lines_of(
-    alloc: Global,
-    line: &Line,
-    entries: &[Entry],
-) -> Result<Vec<u8>, AllocError>
+pub(crate) fn lines_of(alloc: Global, line: &Line, entries: &[Entry]) -> Result<Vec<u8>, AllocError>
     ensures { IfOk result (λ text. text.items ≡ flat_map (entry_line line.now) entries.now) }
 {
     let mut text = Vec::new(alloc);

@@ -6,12 +6,11 @@ use rbc_node::Node;
 use serve_show::Notes;
 use std::alloc::Global;
 use std::fs::OpenFile;
-use std::io;
 use std::io::{ErrorKind, Seek, Write};
 use std::sync::Wait;
 use std::sync::atomic::{AtomicBool, Ordering};
-use std::thread;
 use std::time::{Clock, Duration};
+use std::{io, thread};
 
 /// How long the thread that writes rests behind a write that failed, in milliseconds.
 const STUCK_REST: u64 = 500;
@@ -90,7 +89,8 @@ impl<N: Notes> Keeper<'_, N> {
     fn note_written(&self, was_stuck: bool) {
         if was_stuck {
             let name = self.name;
-            self.notes.note(format_args!("{name}: the journal is written again"));
+            self.notes
+                .note(format_args!("{name}: the journal is written again"));
         }
     }
 

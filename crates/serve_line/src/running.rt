@@ -216,13 +216,7 @@ fn run_beside<
     R: Threads + Wait + Sync + Clock,
     N: Notes + Sync,
     F: Write + Seek + OpenFile + Drop + Send,
->(
-    rt: &R,
-    hall: &Hall<'_>,
-    page: Option<&PageDoor>,
-    files: Vec<JournalFile<F>>,
-    notes: &N,
-) {
+>(rt: &R, hall: &Hall<'_>, page: Option<&PageDoor>, files: Vec<JournalFile<F>>, notes: &N) {
     thread::scope(thread::scope_env(), rt, |scope| {
         if let Some(page) = page {
             if scope

@@ -49,10 +49,17 @@ fn what_is_answered_is_written_before(rt: HostRuntime) -> Result<(), Fail> {
     let room = AtomicUsize::new(256);
     let (a, b) = (Paper::new(&first, &room), Paper::new(&second, &room));
     let record = record(rt.alloc(), a, b, Vec::new(rt.alloc()))?;
-    let printed = printed_of(&rt, rt.alloc(), &line, Manner::default(), record, |addresses| {
-        ask_both_doors(&rt, rt.alloc(), addresses, a)
-    })?;
-    assert!(rt; printed.starts_with(b"> set A 1\nA 1 Done\n> train A 9B028000000040000040\nA -> 1 "));
+    let printed = printed_of(
+        &rt,
+        rt.alloc(),
+        &line,
+        Manner::default(),
+        record,
+        |addresses| { ask_both_doors(&rt, rt.alloc(), addresses, a) },
+    )?;
+    assert!(rt;
+        printed.starts_with(b"> set A 1\nA 1 Done\n> train A 9B028000000040000040\nA -> 1 ")
+    );
     assert!(rt; a.has(OPENED.as_bytes()) && b.has(b""));
     Ok(())
 }
@@ -90,10 +97,17 @@ fn nothing_is_answered_while_the_disk_is_full(rt: HostRuntime) -> Result<(), Fai
     let (little, much) = (AtomicUsize::new(5), AtomicUsize::new(256));
     let (a, b) = (Paper::new(&first, &little), Paper::new(&second, &much));
     let record = record(rt.alloc(), a, b, Vec::new(rt.alloc()))?;
-    let printed = printed_of(&rt, rt.alloc(), &line, Manner::default(), record, |addresses| {
-        wait_for_room(&rt, rt.alloc(), addresses, &little)
-    })?;
-    assert!(rt; printed.starts_with(b"> set A 1\nA 1 Done\n> set B 2\nB 2 Done\nsection 0 A shut\n"));
+    let printed = printed_of(
+        &rt,
+        rt.alloc(),
+        &line,
+        Manner::default(),
+        record,
+        |addresses| { wait_for_room(&rt, rt.alloc(), addresses, &little) },
+    )?;
+    assert!(rt;
+        printed.starts_with(b"> set A 1\nA 1 Done\n> set B 2\nB 2 Done\nsection 0 A shut\n")
+    );
     assert!(rt; a.has(SET_1.as_bytes()));
     Ok(())
 }
@@ -127,13 +141,26 @@ fn a_journal_that_stays_full_is_given_up(rt: HostRuntime) -> Result<(), Fail> {
     let room = AtomicUsize::new(0);
     let (a, b) = (Paper::new(&first, &room), Paper::new(&second, &room));
     let record = record(rt.alloc(), a, b, Vec::new(rt.alloc()))?;
-    let (status, printed) = served_with(&rt, rt.alloc(), &line, Manner::default(), record, |addresses| {
-        let control = connect(&rt, addresses.control)?;
-        say(&control, b"set A 1\n")?;
-        thread::sleep(&rt, Duration::from_millis(400));
-        Ok(())
-    })?;
-    assert!(rt; (status, printed.starts_with(b"> set A 1\nA 1 Done\n"), a.has(b"")) == (6, true, true));
+    let (status, printed) = served_with(
+        &rt,
+        rt.alloc(),
+        &line,
+        Manner::default(),
+        record,
+        |addresses| {
+            let control = connect(&rt, addresses.control)?;
+            say(&control, b"set A 1\n")?;
+            thread::sleep(&rt, Duration::from_millis(400));
+            Ok(())
+        },
+    )?;
+    assert!(rt;
+        (
+            status,
+            printed.starts_with(b"> set A 1\nA 1 Done\n"),
+            a.has(b"")
+        ) == (6, true, true)
+    );
     Ok(())
 }
 
@@ -141,7 +168,13 @@ fn a_journal_that_stays_full_is_given_up(rt: HostRuntime) -> Result<(), Fail> {
 // B the right to supervise it.
 fn before(alloc: Global) -> Result<Vec<Entry>, Fail> {
     let mut entries = Vec::new(alloc);
-    entries.push(noted(1, WorldEvent::Set { centre: 1, section: 2 }))?;
+    entries.push(noted(
+        1,
+        WorldEvent::Set {
+            centre: 1,
+            section: 2,
+        },
+    ))?;
     for (stamp, digits) in [
         (2, INITIATION_OF_ONE),
         (3, "9F028000000080000040"),
@@ -150,8 +183,22 @@ fn before(alloc: Global) -> Result<Vec<Entry>, Fail> {
         let bytes = bytes_of(alloc, digits)?;
         entries.push(noted(stamp, WorldEvent::Train { centre: 1, bytes }))?;
     }
-    entries.push(noted(5, WorldEvent::Deliver { from: 1, to: 0, number: 1 }))?;
-    entries.push(noted(6, WorldEvent::Deliver { from: 0, to: 1, number: 1 }))?;
+    entries.push(noted(
+        5,
+        WorldEvent::Deliver {
+            from: 1,
+            to: 0,
+            number: 1,
+        },
+    ))?;
+    entries.push(noted(
+        6,
+        WorldEvent::Deliver {
+            from: 0,
+            to: 1,
+            number: 1,
+        },
+    ))?;
     Ok(entries)
 }
 
@@ -166,36 +213,71 @@ fn centres_go_on_where_they_were(rt: HostRuntime) -> Result<(), Fail> {
     let room = AtomicUsize::new(256);
     let (a, b) = (Paper::new(&first, &room), Paper::new(&second, &room));
     let record = record(rt.alloc(), a, b, before(rt.alloc())?)?;
-    let printed = printed_of(&rt, rt.alloc(), &line, Manner::default(), record, |addresses| {
-        let control = connect(&rt, addresses.control)?;
-        let shown = "> show\nsection 0 A shut\nsection 1 A shut\nsection 2 B given 1\ntrain 1 B\n";
-        answers(rt.alloc(), &control, "show\n", shown)?;
-        answers(rt.alloc(), &control, "set A 0\n", "> set A 0\nA 0 Done\n")
-    })?;
+    let printed = printed_of(
+        &rt,
+        rt.alloc(),
+        &line,
+        Manner::default(),
+        record,
+        |addresses| {
+            let control = connect(&rt, addresses.control)?;
+            let shown =
+                "> show\nsection 0 A shut\nsection 1 A shut\nsection 2 B given 1\ntrain 1 B\n";
+            answers(rt.alloc(), &control, "show\n", shown)?;
+            answers(rt.alloc(), &control, "set A 0\n", "> set A 0\nA 0 Done\n")
+        },
+    )?;
     let Ok(text) = std::str::from_utf8(&printed) else {
         return Err("it is a text".into());
     };
     // The frames go over their links once more, and come to nobody twice.
-    assert!(rt; (text.matches("> deliver").count(), a.has(b"63d4e101 6 > set A 0\n"), b.has(b"")) == (2, true, true));
-    assert!(rt; matches!(audited(rt.alloc(), &line, text)?, Verdict::Equal { events: 7 }));
+    assert!(rt;
+        (
+            text.matches("> deliver").count(),
+            a.has(b"63d4e101 6 > set A 0\n"),
+            b.has(b"")
+        ) == (2, true, true)
+    );
+    assert!(rt;
+        matches!(
+            audited(rt.alloc(), &line, text)?,
+            Verdict::Equal { events: 7 }
+        )
+    );
     Ok(())
 }
 
 #[test]
 fn journals_of_another_run_are_refused(rt: HostRuntime) -> Result<(), Fail> {
     let line = two_centres(rt.alloc())?;
-    for taken in [4, 5] {
+    // Without the event by which the first frame is sent, and without its delivery.
+    for left_out in [3, 4] {
         let (first, second) = (cells(rt.alloc())?, cells(rt.alloc())?);
         let room = AtomicUsize::new(256);
         let (a, b) = (Paper::new(&first, &room), Paper::new(&second, &room));
-        let mut entries = before(rt.alloc())?;
-        // Without the event by which the frame is sent, or without its delivery.
-        entries.remove(taken - 1);
-        let record = record(rt.alloc(), a, b, entries)?;
-        let (status, printed) = served_with(&rt, rt.alloc(), &line, Manner::default(), record, |_| Ok(()))?;
+        let record = record(rt.alloc(), a, b, before_without(rt.alloc(), left_out)?)?;
+        let (status, printed) = served_with(
+            &rt,
+            rt.alloc(),
+            &line,
+            Manner::default(),
+            record,
+            |_| Ok(()),
+        )?;
         assert!(rt; (status, printed.is_empty()) == (6, true));
     }
     Ok(())
+}
+
+// The same without one event.
+fn before_without(alloc: Global, left_out: usize) -> Result<Vec<Entry>, Fail> {
+    let mut entries = Vec::new(alloc);
+    for (i, entry) in before(alloc)?.into_iter().enumerate() {
+        if i != left_out {
+            entries.push(entry)?;
+        }
+    }
+    Ok(entries)
 }
 
 #[test]
@@ -204,7 +286,11 @@ fn what_a_failed_write_left_is_taken_off(rt: HostRuntime) -> Result<(), Fail> {
     let room = AtomicUsize::new(5);
     let paper = Paper::new(&first, &room);
     let mut file = JournalFile::new(paper.open(), 0, true);
-    let short = (file.add(b"abc").is_ok(), file.add(b"defgh").is_ok(), paper.has(b"abcde"));
+    let short = (
+        file.add(b"abc").is_ok(),
+        file.add(b"defgh").is_ok(),
+        paper.has(b"abcde"),
+    );
     room.store(256, Ordering::SeqCst);
     let long = (file.add(b"xy").is_ok(), paper.has(b"abcxy"));
     assert!(rt; (short, long) == ((true, false, true), (true, true)));

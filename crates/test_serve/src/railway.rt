@@ -38,14 +38,7 @@ pub fn printed_of<
     R: Threads + Wait + Sync + Net<Stream = TcpStream, Listener = TcpListener> + Clock,
     F: Write + Seek + OpenFile + Drop + Send,
     P: FnOnce(Addresses) -> Done<()>,
->(
-    rt: &R,
-    alloc: Global,
-    line: &Line,
-    manner: Manner,
-    record: Record<F>,
-    play: P,
-) -> Done<Vec<u8>>
+>(rt: &R, alloc: Global, line: &Line, manner: Manner, record: Record<F>, play: P) -> Done<Vec<u8>>
     requires { P.IsAlwaysCallable play }
 {
     match served_with(rt, alloc, line, manner, record, play)? {
@@ -100,10 +93,7 @@ pub fn printed_of_two_centres<
     Ok(printed_with(rt, alloc, &line, manner, play)?)
 }
 
-fn served<
-    R: Threads + Wait + Sync + Clock,
-    F: Write + Seek + OpenFile + Drop + Send,
->(
+fn served<R: Threads + Wait + Sync + Clock, F: Write + Seek + OpenFile + Drop + Send>(
     rt: &R,
     alloc: Global,
     line: &Line,

@@ -53,7 +53,7 @@ impl Write for Sheet<'_> {
             };
             cell.store(*byte, Ordering::SeqCst);
             self.at = self.at.saturating_add(1);
-            count += 1;
+            count = count.saturating_add(1);
         }
         if count == 0 && !bytes.is_empty() {
             return Err(io::Error::from(ErrorKind::StorageFull));
