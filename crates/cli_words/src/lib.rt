@@ -17,6 +17,7 @@ mod printed;
 mod row;
 mod said;
 mod sections;
+mod shown;
 mod told;
 mod track;
 mod train;

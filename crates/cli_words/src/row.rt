@@ -3,6 +3,7 @@
 use crate::faults::{words_of_fault_number, words_of_reason, words_of_word};
 use crate::frames::{words_of_body, words_of_late};
 use crate::numbers::{number_of, section_number};
+use crate::shown::{section_of, supervisor_of};
 use rbc_line::Line;
 
 /// A line that `run` prints, by its form. Centres are named as in the line.
@@ -115,7 +116,7 @@ fn event_of<'a>(line: &Line, words: &[&'a str]) -> Option<Row<'a>> {
     match *words {
         [verb] => show_of(verb),
         [verb, centre, word] => event_at(centre_of(line, centre)?, verb, word),
-        [verb, from, to, number] if verb == "deliver" => delivery_of(line, from, to, number),
+        [verb, from, to, number] => delivery_of(line, verb, (from, to), number),
         _ => None,
     }
 }
@@ -127,7 +128,15 @@ fn show_of<'a>(verb: &str) -> Option<Row<'a>> {
     }
 }
 
-fn delivery_of<'a>(line: &Line, from: &'a str, to: &'a str, number: &str) -> Option<Row<'a>> {
+fn delivery_of<'a>(
+    line: &Line,
+    verb: &str,
+    (from, to): (&'a str, &'a str),
+    number: &str,
+) -> Option<Row<'a>> {
+    if verb != "deliver" {
+        return None;
+    }
     let from = centre_of(line, from)?;
     let to = centre_of(line, to)?;
     let number = number_of(number)?;
@@ -157,10 +166,8 @@ fn answer_of<'a>(line: &Line, centre: &'a str, words: &[&'a str]) -> Option<Row<
     match *words {
         [word] => late_of(centre, word),
         [first, second] => pair_of(centre, first, second),
-        [arrow, train, digits] if arrow == "->" => message_of(centre, train, digits),
-        [arrow, to, number, name] if arrow == "=>" => {
-            frame_of(centre, centre_of(line, to)?, number, name)
-        }
+        [arrow, train, digits] => message_of(centre, arrow, train, digits),
+        [arrow, to, number, name] => sent_of(line, centre, arrow, to, (number, name)),
         _ => None,
     }
 }
@@ -182,13 +189,29 @@ fn pair_of<'a>(centre: &'a str, first: &str, second: &str) -> Option<Row<'a>> {
     }
 }
 
-fn message_of<'a>(centre: &'a str, train: &str, digits: &'a str) -> Option<Row<'a>> {
+fn message_of<'a>(centre: &'a str, arrow: &str, train: &str, digits: &'a str) -> Option<Row<'a>> {
+    if arrow != "->" {
+        return None;
+    }
     let nid_engine = number_of(train)?;
     Some(Row::Message {
         centre,
         nid_engine,
         digits,
     })
+}
+
+fn sent_of<'a>(
+    line: &Line,
+    from: &'a str,
+    arrow: &str,
+    to: &'a str,
+    (number, name): (&str, &str),
+) -> Option<Row<'a>> {
+    if arrow != "=>" {
+        return None;
+    }
+    frame_of(from, centre_of(line, to)?, number, name)
 }
 
 fn frame_of<'a>(from: &'a str, to: &'a str, number: &str, name: &str) -> Option<Row<'a>> {
@@ -228,79 +251,8 @@ fn fault_of<'a>(centre: &'a str, number: &str) -> Option<Row<'a>> {
     })
 }
 
-fn section_of<'a>(line: &Line, words: &[&'a str]) -> Option<Row<'a>> {
-    match words {
-        [number, home, word, rest @ ..] => use_of(section_at(line, number, home)?, word, rest),
-        _ => None,
-    }
-}
-
-/// What a section is used for.
-fn use_of<'a>(section: u16, word: &str, rest: &[&'a str]) -> Option<Row<'a>> {
-    match *rest {
-        [] => free_of(section, word, false),
-        [last] if last == "wished" => free_of(section, word, true),
-        [train] => used_of(section, word, number_of(train)?, false),
-        [train, last] if last == "wished" => used_of(section, word, number_of(train)?, true),
-        _ => None,
-    }
-}
-
-/// The number of a section of the line, where the home is a centre of the line.
-fn section_at(line: &Line, number: &str, home: &str) -> Option<u16> {
-    centre_of(line, home)?;
-    let section = section_number(number)?;
-    line.section(section)?;
-    Some(section)
-}
-
-/// A section that no train uses.
-fn free_of<'a>(section: u16, word: &str, is_wished: bool) -> Option<Row<'a>> {
-    let mark = match word {
-        "shut" => "shut",
-        "open" => "open",
-        _ => return None,
-    };
-    Some(Row::Section {
-        section,
-        mark,
-        train: None,
-        is_wished,
-    })
-}
-
-/// A section that a train uses.
-fn used_of<'a>(section: u16, word: &str, nid_engine: u32, is_wished: bool) -> Option<Row<'a>> {
-    let mark = match word {
-        "kept" => "kept for",
-        "given" => "in the authority of",
-        _ => return None,
-    };
-    Some(Row::Section {
-        section,
-        mark,
-        train: Some(nid_engine),
-        is_wished,
-    })
-}
-
-fn supervisor_of<'a>(line: &Line, words: &[&'a str]) -> Option<Row<'a>> {
-    match *words {
-        [train, name] => supervised(line, number_of(train)?, name),
-        _ => None,
-    }
-}
-
-fn supervised<'a>(line: &Line, nid_engine: u32, name: &'a str) -> Option<Row<'a>> {
-    let centre = match name {
-        "none" => None,
-        _ => Some(centre_of(line, name)?),
-    };
-    Some(Row::Supervisor { nid_engine, centre })
-}
-
 /// The name, where a centre of the line has it.
-fn centre_of<'a>(line: &Line, name: &'a str) -> Option<&'a str> {
+pub fn centre_of<'a>(line: &Line, name: &'a str) -> Option<&'a str> {
     match line.centre_named(name) {
         Some(_) => Some(name),
         None => None,

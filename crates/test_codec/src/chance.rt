@@ -26,7 +26,7 @@ pub fn bytes_by_chance(alloc: Global, seed: u32, count: usize) -> Result<Vec<u8>
 }
 
 /// A row of numbers that look like chance.
-#[derive(Clone, Copy)]
+#[derive(Clone, Copy, Debug)]
 pub struct Chance {
     pub seed: u32,
 }

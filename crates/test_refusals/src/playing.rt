@@ -19,7 +19,7 @@ pub struct Played {
 }
 
 /// Why the scene was not played to its end.
-#[derive(Clone, Copy)]
+#[derive(Clone, Copy, Debug, PartialEq, Eq)]
 pub enum Stopped {
     /// `gather` was refused memory, and has dropped the nodes and the shares.
     AtGather,
