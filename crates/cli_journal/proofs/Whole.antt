@@ -1,6 +1,7 @@
 -- The whole lines of a text, and of what is left of a journal.
 use Rattle.std.proofs.Common.{◌≡◌, ◌≢◌, ◌⊎◌, ℕ, zero, suc, ◌+◌, ◌-◌, ◌<◌, ◌≤◌, true, List, [], ◌∷◌, ◌++◌, length, get_or, take, drop, inl, inr, refl, ap, sym, subst, ◌∙◌, arith, rules, append_assoc}
 use Rattle.std.specs.List.{flat_map, AllByRecursion}
+use Rattle.std.proofs.lemmas.List.{get_or-drop}
 use Rattle.cli_journal.specs.Reading.{Lacks}
 use Rattle.cli_journal.specs.Whole.{AreWhole}
 use Rattle.cli_journal.proofs.Letters.{lacks_at, lacks_from}
@@ -12,7 +13,7 @@ use Rattle.cli_journal.proofs.Lines.{lacks_take, line_of}
 use Rattle.cli_journal.proofs.Entries.{entry_line_is, first_feed}
 
 get_behind : (n : ℕ) (xs : List ℕ) (i : ℕ) → get_or (drop n xs) i 0 ≡ get_or xs (n + i) 0
-get_behind n xs i = search rules
+get_behind n xs i = get_or-drop n xs i 0
 
 pub whole_behind : (text : List ℕ) (at : ℕ) → at < length text → get_or text at 0 ≡ 10
     → ((i : ℕ) → at < i → i < length text → get_or text i 0 ≢ 10) → AreWhole text (at + 1)
