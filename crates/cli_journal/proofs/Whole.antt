@@ -77,10 +77,11 @@ lines_end : (line : Line) (es : List Entry) → (front : List ℕ) × (10 ∷ fl
 lines_end line [] = ([], refl)
 lines_end line (e ∷ es) =
     let more = lines_end line es in
-    let row = line_of line (noted_of e) in
-    ((10 ∷ row) ++ more.0,
+    let row = line_of line (noted_of e) in (
+      (10 ∷ row) ++ more.0,
       ap (λ (t : List ℕ). 10 ∷ (t ++ flat_map (entry_line line) es)) (entry_line_is line e)
-      ∙ ap (λ (t : List ℕ). 10 ∷ t) (append_assoc row (10 ∷ []) (flat_map (entry_line line) es) ∙ ap (λ (t : List ℕ). row ++ t) more.1 ∙ sym (append_assoc row more.0 (10 ∷ []))))
+          ∙ ap (λ (t : List ℕ). 10 ∷ t) (append_assoc row (10 ∷ []) (flat_map (entry_line line) es) ∙ ap (λ (t : List ℕ). row ++ t) more.1 ∙ sym (append_assoc row more.0 (10 ∷ []))),
+    )
 
 pub whole_journal : (line : Line) → IsLine line → (c : ℕ) (file text : List ℕ) (es : List Entry) (n : ℕ) → is_centre line c ≡ true →
     Begins line c file text es → AreWhole text n → 0 < n → take n text ≡ journal line c file es

@@ -18,9 +18,7 @@ mod writing;
 
 pub use entry::Entry;
 pub use fault::JournalFault;
-pub use laws::{
-    a_cut_leaves_a_beginning, a_text_begins_one_journal, whole_lines_are_a_journal,
-};
+pub use laws::{a_cut_leaves_a_beginning, a_text_begins_one_journal, whole_lines_are_a_journal};
 pub use length::whole_length;
 pub use name::file_name;
 pub use order::in_order;
