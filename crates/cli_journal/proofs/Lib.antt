@@ -2,5 +2,5 @@ pub mod Letters
 pub mod Asking
 pub mod Lines
 pub mod Entries
-pub mod Order
+pub mod Sorted
 pub mod Whole

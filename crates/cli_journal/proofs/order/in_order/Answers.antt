@@ -2,7 +2,7 @@ use Rattle.std.proofs.Common.{◌≡◌, ℕ, List, subst, rules, IsPermutation}
 use Rattle.std.proofs.lemmas.List.Sorted.{answers_always}
 use Rattle.cli_journal.specs.declared.entry.Entry.{Entry}
 use Rattle.cli_journal.specs.Order.{taken_at}
-use Rattle.cli_journal.proofs.Order.{ordered}
+use Rattle.cli_journal.proofs.Sorted.{ordered}
 use Rattle.cli_journal.proofs.order.in_order.Goals as goal
 
 pub returns-clause-once : goal.returns-clause-once
