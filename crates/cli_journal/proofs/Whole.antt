@@ -1,7 +1,8 @@
 -- The whole lines of a text, and of what is left of a journal.
 use Rattle.std.proofs.Common.{◌≡◌, ◌≢◌, ◌⊎◌, ℕ, zero, suc, ◌+◌, ◌-◌, ◌<◌, ◌≤◌, true, List, [], ◌∷◌, ◌++◌, length, get_or, take, drop, inl, inr, refl, ap, sym, subst, ◌∙◌, arith, rules, append_assoc}
 use Rattle.std.specs.List.{flat_map, AllByRecursion}
-use Rattle.std.proofs.lemmas.List.{get_or-drop}
+use Rattle.std.proofs.lemmas.Bool.{cases_lt}
+use Rattle.std.proofs.lemmas.List.{get_or-drop, length-drop}
 use Rattle.cli_journal.specs.Reading.{Lacks}
 use Rattle.cli_journal.specs.Whole.{AreWhole}
 use Rattle.cli_journal.proofs.Letters.{lacks_at, lacks_from}
@@ -17,11 +18,14 @@ get_behind n xs i = get_or-drop n xs i 0
 
 pub whole_behind : (text : List ℕ) (at : ℕ) → at < length text → get_or text at 0 ≡ 10
     → ((i : ℕ) → at < i → i < length text → get_or text i 0 ≢ 10) → AreWhole text (at + 1)
-whole_behind text at low is behind = record {
-  within = omega (arith, low);
-  ended = inr is;
-  unended = lacks_from 10 (drop (at + 1) text) (λ i l e. behind (at + 1 + i) (omega arith) (omega arith) (sym (get_behind (at + 1) text i) ∙ e));
-}
+whole_behind text at low is behind =
+    let same : at + 1 - 1 ≡ at = omega arith in
+    let long : length (drop (at + 1) text) ≡ length text - (at + 1) = length-drop (at + 1) text in
+    record {
+      within = omega (arith, low);
+      ended = inr (ap (λ (i : ℕ). get_or text i 0) same ∙ is);
+      unended = lacks_from 10 (drop (at + 1) text) (λ i l e. behind (at + 1 + i) (omega arith) (omega (arith, l, long)) (sym (get_behind (at + 1) text i) ∙ e));
+    }
 
 pub none_whole : (text : List ℕ) → ((i : ℕ) → i < length text → get_or text i 0 ≢ 10) → AreWhole text 0
 none_whole text none = record { within = omega arith; ended = inl refl; unended = lacks_from 10 text none }
@@ -51,7 +55,8 @@ not_sooner front rest n whole low =
     let text : List ℕ = front ++ 10 ∷ rest in
     let long : length text ≡ length front + 1 + length rest = many front rest in
     let at : n + (length front - n) ≡ length front = omega (arith, low) in
-    lacks_at 10 (drop n text) whole.unended (length front - n) (search rules)
+    let left : length (drop n text) ≡ length text - n = length-drop n text in
+    lacks_at 10 (drop n text) whole.unended (length front - n) (omega (arith, low, long, left))
     (get_behind n text (length front - n) ∙ ap (λ (i : ℕ). get_or text i 0) at ∙ last_at front rest)
 
 not_later : (front rest : List ℕ) (n : ℕ) → Lacks 10 rest → AreWhole (front ++ 10 ∷ rest) n → length front + 1 < n → ⊥
@@ -65,11 +70,15 @@ not_later front rest n clean whole high =
           (sym (behind_at front rest (n - (length front + 2))) ∙ ap (λ (i : ℕ). get_or text i 0) at ∙ feed)
     ]
 
+between : (n m : ℕ) → (n ≤ m → ⊥) → (m + 1 < n → ⊥) → n ≡ m + 1
+between n m low high = elim (cases_lt m n) [
+  | inl h ↦ elim (cases_lt (m + 1) n) [ inl k ↦ absurd (high k) | inr k ↦ omega (arith, h, k) ]
+  | inr h ↦ absurd (low h)
+]
+
 pub cut_whole : (front rest : List ℕ) (n : ℕ) → Lacks 10 rest → AreWhole (front ++ 10 ∷ rest) n → take n (front ++ 10 ∷ rest) ≡ front ++ 10 ∷ []
 cut_whole front rest n clean whole =
-    let low : n ≤ length front → ⊥ = not_sooner front rest n whole in
-    let high : length front + 1 < n → ⊥ = not_later front rest n clean whole in
-    let is : n ≡ length front + 1 = omega (arith, low, high) in
+    let is : n ≡ length front + 1 = between n (length front) (not_sooner front rest n whole) (not_later front rest n clean whole) in
     ap (λ (m : ℕ). take m (front ++ 10 ∷ rest)) is ∙ take_front front rest
 
 -- the line feed of a first line, and the lines behind it, end with a line feed

@@ -8,5 +8,5 @@ returns-in-Some c =
     let found = rfind_char 10 c.args.text.now (Some c.in-Some.at) c.in-Some.ensures.cases (omega arith) in
     whole_behind c.args.text.now c.in-Some.at found.0 found.1 found.2
 
-pub returns : goal.returns
-returns c = none_whole c.args.text.now (rfind_char 10 c.args.text.now None c.in-None.ensures.cases (omega arith))
+pub returns-in-None : goal.returns-in-None
+returns-in-None c = none_whole c.args.text.now (rfind_char 10 c.args.text.now None c.in-None.ensures.cases (omega arith))
