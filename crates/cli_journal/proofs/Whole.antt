@@ -104,6 +104,6 @@ whole_journal line good c file text es n it (torn rest e h) whole some =
 whole_journal line good c file text es n it (early m e none) whole some =
     let clean : Lacks 10 text = subst (Lacks 10) (sym e) (lacks_take 10 m (first_line line c file) (first_feed line good c file it)) in
     elim whole.ended [
-      | inl zero ↦ absurd (let never : ⊥ = omega (arith, zero, some) in never)
+      | inl nought ↦ absurd (let never : ⊥ = omega (arith, nought, some) in never)
       | inr feed ↦ absurd (lacks_at 10 text clean (n - 1) (omega (arith, some, whole.within)) feed)
     ]
