@@ -1,6 +1,6 @@
 // Clients of running centres, and a bare echo server beside them.
-// Words: line; echo PORT PORTS; release PORT; load centres|echo PORT SECONDS WINDOW TIME; soak PORT SECONDS; browse PORT
-// SECONDS; stop PORT; missing PRINTED HEARD; crash PORT TIME.
+// Words: line; echo PORT PORTS; release PORT; load centres|echo PORT SECONDS WINDOW TIME; soak PORT SECONDS; few PORT
+// SECONDS; browse PORT SECONDS; stop PORT; missing PRINTED HEARD; crash PORT TIME.
 
 #[path = "../peer/bits.rs"]
 #[allow(dead_code)]
@@ -10,6 +10,7 @@ mod bits;
 mod draw;
 mod crash;
 mod echo;
+mod few;
 mod heard;
 mod line;
 mod load;
@@ -20,6 +21,7 @@ mod said;
 mod train;
 mod trouble;
 
+use crate::heard::Heard;
 use crate::load::{Other, Plan};
 use crate::trouble::Soak;
 use std::error::Error;
@@ -44,24 +46,15 @@ fn main() -> Result<(), Box<dyn Error>> {
             let until = Instant::now() + Duration::from_secs(seconds.parse()?);
             let outcome = trouble::soak(Soak { first_port: first.parse()?, until })?;
             eprintln!("the train that reads nothing was cut {} times", outcome.cuts);
-            let out_of_order: u32 = outcome.heard.iter().map(|heard| heard.out_of_order).sum();
-            if out_of_order > 0 {
-                return Err(format!("{out_of_order} answers came out of order").into());
-            }
-            for line in outcome.heard.iter().flat_map(|heard| &heard.lines) {
-                println!("{line}");
-            }
+            print_heard(&outcome.heard)?;
         }
-        ["crash", first, time] => {
-            let heard = crash::run(first.parse()?, time.parse()?);
-            let out_of_order: u32 = heard.iter().map(|heard| heard.out_of_order).sum();
-            if out_of_order > 0 {
-                return Err(format!("{out_of_order} answers came out of order").into());
-            }
-            for line in heard.iter().flat_map(|heard| &heard.lines) {
-                println!("{line}");
-            }
+        ["few", first, seconds] => {
+            let until = Instant::now() + Duration::from_secs(seconds.parse()?);
+            let outcome = few::trains(first.parse()?, until)?;
+            eprintln!("{} missions, {} connections were refused", outcome.missions, outcome.refused);
+            print_heard(&outcome.heard)?;
         }
+        ["crash", first, time] => print_heard(&crash::run(first.parse()?, time.parse()?))?,
         ["browse", port, seconds] => {
             let until = Instant::now() + Duration::from_secs(seconds.parse()?);
             let browsed = page::trouble(port.parse()?, until)?;
@@ -76,6 +69,18 @@ fn main() -> Result<(), Box<dyn Error>> {
             }
         }
         _ => return Err("words refused".into()),
+    }
+    Ok(())
+}
+
+// Prints what was heard, where it came in order.
+fn print_heard(heard: &[Heard]) -> Result<(), Box<dyn Error>> {
+    let out_of_order: u32 = heard.iter().map(|heard| heard.out_of_order).sum();
+    if out_of_order > 0 {
+        return Err(format!("{out_of_order} answers came out of order").into());
+    }
+    for line in heard.iter().flat_map(|heard| &heard.lines) {
+        println!("{line}");
     }
     Ok(())
 }
