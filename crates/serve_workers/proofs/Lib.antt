@@ -1,2 +1,4 @@
 mod Joins
 mod Turns
+mod Carried
+mod Delivers

@@ -6,6 +6,7 @@
 
 mod desk;
 mod end;
+mod laws;
 mod links;
 mod order;
 mod outlet;
@@ -15,7 +16,8 @@ mod signals;
 
 pub use desk::Desk;
 pub use end::SessionEnd;
-pub use links::{receive_frames, send_frames};
+pub use laws::frames_are_committed_in_their_order;
+pub use links::{Sent, receive_frames, send_frames};
 pub use order::{InOrder, Order};
 pub use outlet::{Closed, Outlet};
 pub use passing::pass_over;

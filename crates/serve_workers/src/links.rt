@@ -1,3 +1,8 @@
+ghost use Rattle.std.specs.Prelude.{◌≡◌, ℕ, Bool, List, Option, Some};
+ghost use Rattle.rbc_spec.specs.Frame.{Frame};
+ghost use Rattle.rbc_node.specs.Node.{centre_of};
+ghost use Rattle.serve_workers.specs.Carried.{PutsInOrder, TakesTurn, TakesTurns};
+
 use crate::desk::Desk;
 use crate::order::Order;
 use crate::outlet::Outlet;
@@ -7,10 +12,19 @@ use rbc_centre::Event;
 use rbc_node::{Gate, Node, Share};
 use std::sync::Wait;
 
-/// Puts the frames that a centre sends to another on their link, in the order of their numbers. A frame that the link
-/// does not take is put again on the next turn. Once no session is left it ends where the centre has no further frame
-/// for the link, where the receiving worker has ended, or where that takes nothing for five seconds; what is not put
-/// stays with the centre.
+/// What a worker leaves that sent the frames of a link.
+#[derive(Drop)]
+pub struct Sent<S> {
+    /// What it knows of the link.
+    pub seen: S,
+    /// How many frames it put: those of the numbers from 1 to this one.
+    pub frames: u32,
+}
+
+/// Puts the frames that a centre sends to another on their link, in the order of their numbers from 1 on: none is left
+/// out, and each is what the centre has sent to the other under its number. A frame that the link does not take is put
+/// again on the next turn. Once no session is left it ends where the centre has no further frame for the link, where
+/// the receiving worker has ended, or where that takes nothing for five seconds; what is not put stays with the centre.
 pub fn send_frames<R: Wait, C: Carrier>(
     rt: &R,
     node: &Node,
@@ -18,17 +32,19 @@ pub fn send_frames<R: Wait, C: Carrier>(
     carrier: &C,
     mut seen: C::Seen,
     signals: Signals<'_>,
-) -> C::Seen
+) -> Sent<C::Seen>
     requires { C.is_of carrier.now seen }
-    ensures { C.is_of carrier.now result }
+    ensures link { C.is_of carrier.now result.seen }
+    ensures puts { PutsInOrder (C.known result.seen) (centre_of node.now) to result.frames }
 {
-    let mut number = 1;
+    let mut frames = 0;
     let mut patience = Patience::new();
     for _ in rt.forever() {
         let stage = signals.stage();
+        let number = frames + 1;
         if let Some(frame) = node.frame(rt, to, number) {
             if let Ok(()) = carrier.put(&mut seen, number, frame) {
-                number = frame.number() + 1;
+                frames = frame.number();
                 patience = Patience::new();
                 signals.pass_on();
                 continue;
@@ -41,12 +57,13 @@ pub fn send_frames<R: Wait, C: Carrier>(
         }
     }
     signals.end();
-    seen
+    Sent { seen, frames }
 }
 
 /// Gets the frames that come from a centre, under the numbers of the order, and commits each that it gets at this
-/// centre. Once no session is left it ends where a commit is refused, and where no frame is there and the sending
-/// worker has ended, or puts nothing for five seconds.
+/// centre: behind what it had the share has the receipts of these deliveries, in their order, and no others. Once no
+/// session is left it ends where a commit is refused, and where no frame is there and the sending worker has ended, or
+/// puts nothing for five seconds.
 pub fn receive_frames<R: Wait, C: Carrier, G: Gate, O: Outlet, N: Order>(
     rt: &R,
     desk: &Desk<'_, G, O>,
@@ -58,14 +75,14 @@ pub fn receive_frames<R: Wait, C: Carrier, G: Gate, O: Outlet, N: Order>(
     signals: Signals<'_>,
 ) -> C::Seen
     requires { C.is_of carrier.now seen }
-    ensures { C.is_of carrier.now result }
+    ensures link { C.is_of carrier.now result }
+    ensures takes { (turns : List (Option Bool)) × TakesTurns N.asks N.follows (C.known result)
+        (centre_of desk.now.node.now) from order.old order.new share.old share.new turns }
 {
     let mut patience = Patience::new();
     for _ in rt.forever() {
         let stage = signals.stage();
-        let came = deliver(rt, desk, share, from, carrier, &mut seen, order.number());
-        order.go_on(came == Some(true));
-        match came {
+        match take_turn(rt, desk, share, from, carrier, &mut seen, order) {
             Some(true) => {
                 patience = Patience::new();
                 signals.pass_on();
@@ -82,20 +99,35 @@ pub fn receive_frames<R: Wait, C: Carrier, G: Gate, O: Outlet, N: Order>(
     seen
 }
 
-// Gets the frame under a number and commits it: whether the commit was taken. None where no frame came.
-fn deliver<R: Wait, C: Carrier, G: Gate, O: Outlet>(
+// Gets the frame under the number that the order asks for, commits it, and lets the order go on: whether the commit was
+// taken. None where no frame came.
+fn take_turn<R: Wait, C: Carrier, G: Gate, O: Outlet, N: Order>(
     rt: &R,
     desk: &Desk<'_, G, O>,
     share: &mut Share,
     from: u8,
     carrier: &C,
     seen: &mut C::Seen,
-    number: u32,
+    order: &mut N,
 ) -> Option<bool>
     requires { C.is_of carrier.now seen.old }
-    ensures { C.is_of carrier.now seen.new }
+    ensures link { C.is_of carrier.now seen.new }
+    ensures keeps { (n : ℕ) (f : Frame) → C.known seen.old n ≡ Some f → C.known seen.new n ≡ Some f }
+    ensures takes { TakesTurn N.asks N.follows (C.known seen.new)
+        (centre_of desk.now.node.now) from order.old order.new share.old share.new result }
 {
-    let frame = carrier.get(seen, number)?;
-    let answer = desk.commit(rt, share, Event::Deliver { from, frame });
-    Some(answer.is_ok())
+    let Some(frame) = carrier.get(seen, order.number()) else {
+        order.go_on(false);
+        return None;
+    };
+    match desk.commit(rt, share, Event::Deliver { from, frame }) {
+        Ok(_) => {
+            order.go_on(true);
+            Some(true)
+        }
+        Err(_) => {
+            order.go_on(false);
+            Some(false)
+        }
+    }
 }

@@ -1,6 +1,6 @@
 ghost use Rattle.std.specs.Prelude.{◌≡◌};
 
-use crate::asking::{A, B, asking, node_of, withdrawing};
+use crate::asking::{A, B, FRAMES, asking, node_of, withdrawing};
 use crate::narrow::Narrow;
 use crate::tried::Tried;
 use crate::unruly::Unruly;
@@ -58,7 +58,10 @@ fn put_and_get<R: Wait>(
     let (queue, writer, reader) = QueueCarrier::new(rt, alloc)?;
     let (ends, bell) = (LinkEnds::new(), Parker::new());
     let is_said = AtomicBool::new(true);
-    send_frames(rt, a, B, &queue, writer, ends.of_sender(&bell, &is_said));
+    let sent = send_frames(rt, a, B, &queue, writer, ends.of_sender(&bell, &is_said));
+    if sent.frames != FRAMES {
+        return Err("three frames are put".into());
+    }
     let is_over = AtomicBool::new(false);
     let mut order = Unruly::new(numbers, &is_over);
     let desk = Desk {
@@ -135,14 +138,8 @@ fn carried_at_the_end<R: Threads + Wait + Sync, C: Carrier + Sync>(
         || -> C::Seen
             requires { C.is_of carrier.now writer }
         {
-            send_frames(
-                rt,
-                from,
-                receiver,
-                carrier,
-                writer,
-                ends.of_sender(&bell, &is_over),
-            )
+            let signals = ends.of_sender(&bell, &is_over);
+            send_frames(rt, from, receiver, carrier, writer, signals).seen
         },
         || -> C::Seen
             requires { C.is_of carrier.now reader }

@@ -1,4 +1,10 @@
+use Rattle.std.proofs.Common.{◌≤◌}
+use Rattle.rbc_node.specs.Node.{centre_of}
+use Rattle.serve_workers.specs.Carried.{PutsInOrder}
 use Rattle.serve_workers.proofs.links.send_frames.Given as goal
 
 abbrev pub invariant-loop : goal.invariant-loop
-invariant-loop g l = g.C.Carrier.is_of l.carrier l.seen
+invariant-loop g l =
+    g.C.Carrier.is_of l.carrier l.seen
+    × PutsInOrder (g.C.Carrier.known l.seen) (centre_of l.node) l.to l.frames
+    × (l.frames ≤ 65536)

@@ -1,0 +1,51 @@
+-- What a link carries, frame by frame and turn by turn.
+use Rattle.std.proofs.Common.{◌≡◌, ℕ, ◌+◌, ◌≤◌, List, [], ◌∷◌, ◌++◌, Bool, true, false, Option, Some, None, refl, sym, subst, arith, ⊎_elim}
+use Rattle.std.proofs.Math.Nat.{eq-or-lt_of_le}
+use Rattle.rbc_spec.specs.Frame.{Frame}
+use Rattle.rbc_node.specs.Receipts.{ShareValue}
+use Rattle.rbc_node.specs.Node.{IsFrameOf}
+use Rattle.serve_workers.specs.Carried.{IsPut, PutsInOrder, TakesTurn, TakesTurns}
+
+-- the second notes know what the first knew
+abbrev pub Keeps : (ℕ → Option Frame) → (ℕ → Option Frame) → Type 0
+Keeps old new = (n : ℕ) (f : Frame) → old n ≡ Some f → new n ≡ Some f
+
+-- ## What is sent
+
+pub puts-none : (known : ℕ → Option Frame) (c to : ℕ) → PutsInOrder known c to 0
+puts-none known c to = record { each = λ n least most. absurd (omega arith) }
+
+pub puts-keeps : (old new : ℕ → Option Frame) (c to count : ℕ) → PutsInOrder old c to count → Keeps old new → PutsInOrder new c to count
+puts-keeps old new c to count before keeps = record { each = λ n least most. let it = before.each n least most in (it.0, keeps n it.0 it.1, it.2) }
+
+-- one more frame is put, under the next number
+pub puts-one : (old new : ℕ → Option Frame) (c to count number : ℕ) (f : Frame) → number ≡ count + 1 → PutsInOrder old c to count → Keeps old new
+    → new number ≡ Some f → IsFrameOf c to number (Some f) → PutsInOrder new c to number
+puts-one old new c to count number f next before keeps known sent = record {
+  each = λ n least most. ⊎_elim
+      (λ last. subst (IsPut new c to) (sym last) (f, known, sent))
+      (λ below. let it = before.each n least (omega (arith, below, next)) in (it.0, keeps n it.0 it.1, it.2))
+      (eq-or-lt_of_le most);
+}
+
+-- ## What is received
+
+module _ {N : Type 0} (asks : N → ℕ) (follows : N → Bool → ℕ → Type 0) (c from : ℕ) where
+  -- a turn by notes that know more
+  pub turn-keeps : (old new : ℕ → Option Frame) (o p : N) (s t : ShareValue) (came : Option Bool) → Keeps old new
+      → TakesTurn asks follows old c from o p s t came → TakesTurn asks follows new c from o p s t came
+  turn-keeps old new o p s t (Some true) keeps (f, outcome, known, commits, goes) = (f, outcome, keeps (asks o) f known, commits, goes)
+  turn-keeps old new o p s t (Some false) keeps h = h
+  turn-keeps old new o p s t None keeps h = h
+
+  pub turns-none : (known : ℕ → Option Frame) (o : N) (s : ShareValue) → TakesTurns asks follows known c from o o s s []
+  turns-none known o s = (refl, refl)
+
+  -- a further turn, behind which the notes know more
+  pub turns-one : (old new : ℕ → Option Frame) (o p q : N) (r s t : ShareValue) (turns : List (Option Bool)) (came : Option Bool) → Keeps old new
+      → TakesTurns asks follows old c from o p r s turns → TakesTurn asks follows new c from p q s t came
+      → TakesTurns asks follows new c from o q r t (turns ++ came ∷ [])
+  turns-one old new o p q r s t [] came keeps (same, stays) turn =
+      (q, t, subst (λ (v : ShareValue). TakesTurn asks follows new c from o q v t came) stays (subst (λ (n : N). TakesTurn asks follows new c from n q s t came) same turn), (refl, refl))
+  turns-one old new o p q r s t (first ∷ turns) came keeps (n, mid, one, rest) turn =
+      (n, mid, turn-keeps old new o n r mid first keeps one, turns-one old new n p q mid s t turns came keeps rest turn)
