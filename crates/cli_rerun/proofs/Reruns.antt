@@ -1,5 +1,5 @@
 -- A rerun of entries as it goes on, one by one.
-use Rattle.std.proofs.Common.{◌≡◌, ◌≢◌, ℕ, zero, suc, ◌+◌, ◌<◌, List, [], ◌∷◌, ◌++◌, length, map, take, drop, get_or, Some, Result, Ok, Err, refl, sym, ap, subst, ◌∙◌, arith}
+use Rattle.std.proofs.Common.{◌≡◌, ◌≢◌, ℕ, zero, suc, ◌+◌, ◌<◌, ◌≤◌, List, [], ◌∷◌, ◌++◌, length, map, take, drop, get_or, Some, Result, Ok, Err, refl, sym, ap, subst, ◌∙◌, arith}
 use Rattle.std.proofs.lemmas.List.{map-append}
 use Rattle.rbc_spec.specs.Line.{Line}
 use Rattle.rbc_spec.specs.Step.{Refusal, ClockEnd as AtClockEnd, LinkFull as AtLinkFull}
@@ -48,11 +48,17 @@ one_more (y ∷ ys) (suc k) x low is =
     let next : suc k + 1 ≡ suc (k + 1) = omega arith in
     rw next (ap (λ zs. y ∷ zs) (one_more ys k x (omega arith) is))
 
+pub all_taken : {X : Type 0} (xs : List X) (k : ℕ) → length xs ≤ k → take k xs ≡ xs
+all_taken [] zero low = refl
+all_taken [] (suc k) low = refl
+all_taken (y ∷ ys) zero low = absurd (let never : ⊥ = omega arith in never)
+all_taken (y ∷ ys) (suc k) low = ap (λ zs. y ∷ zs) (all_taken ys k (omega arith))
+
 -- ## Steps that are refused
 
 refused_as : (line : Line) (es front rest : List Entry) (e : Entry) (w : World) (why : Refusal) → es ≡ front ++ e ∷ rest → IsRerun line front w
     → world_step line w (happened e) ≡ Err why → IsRefused line (new_world line) (map happened es) why
-refused_as line es front rest e w why cut so_far no = record {
+refused_as line es front rest e w why cut so_far refusal = record {
   front = map happened front;
   event = happened e;
   rest = map happened rest;
@@ -60,11 +66,11 @@ refused_as line es front rest e w why cut so_far no = record {
   reached = w;
   cut = ap (map happened) cut ∙ map-append happened front (e ∷ rest);
   answered = so_far.run;
-  refused = no;
+  refused = refusal;
 }
 
 pub refused : (line : Line) (es front rest : List Entry) (e : Entry) (w : World) (fault : StepFault) → es ≡ front ++ e ∷ rest → IsRerun line front w
     → IsRefusal fault (world_step line w (happened e)) → IsRefusedRun line (map happened es) fault
-refused line es front rest e w Memory cut so_far no = tt
-refused line es front rest e w LinkFull cut so_far no = refused_as line es front rest e w AtLinkFull cut so_far no
-refused line es front rest e w ClockEnd cut so_far no = refused_as line es front rest e w AtClockEnd cut so_far no
+refused line es front rest e w Memory cut so_far refusal = tt
+refused line es front rest e w LinkFull cut so_far refusal = refused_as line es front rest e w AtLinkFull cut so_far refusal
+refused line es front rest e w ClockEnd cut so_far refusal = refused_as line es front rest e w AtClockEnd cut so_far refusal

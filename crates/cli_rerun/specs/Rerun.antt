@@ -1,5 +1,5 @@
 -- Whether entries are one run of a line.
-use Rattle.std.specs.Prelude.{◌≡◌, ◌≢◌, ℕ, ◌+◌, ◌==◌, List, ◌∷◌, ◌++◌, length, map, filter, Option, Some, None, Result, Ok, Err}
+use Rattle.std.specs.Prelude.{◌≡◌, ◌≢◌, ℕ, ◌+◌, ◌==◌, List, ◌∷◌, ◌++◌, map, count_by, Option, Some, None, Result, Ok, Err}
 use Rattle.rbc_spec.specs.Line.{Line}
 use Rattle.rbc_spec.specs.World.{World, Event, Answer, Answered, NoCentre, NotSent, Fault, new_world, world_step, world_run}
 use Rattle.rbc_centre.specs.declared.fault.StepFault.{StepFault}
@@ -30,7 +30,7 @@ pub record IsRerun (line : Line) (es : List Entry) (last : World) : Type 0 where
 -- where an entry stands behind others: the journal's first line is no entry
 pub record IsPlaceBehind (others : List Entry) (e : Entry) (place : Place) : Type 0 where
   pub centre : place.centre ≡ taken_at e
-  pub row : place.row ≡ length (filter (λ d. taken_at d == taken_at e) others) + 2
+  pub row : place.row ≡ count_by (λ d. taken_at d == taken_at e) others + 2
 
 -- The entries in front of one are a run of the line, and there its event is answered with no stamp or another. The
 -- entry stands at this place.

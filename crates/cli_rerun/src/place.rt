@@ -1,4 +1,5 @@
-ghost use Rattle.cli_rerun.specs.Rerun.{IsPlaceBehind};
+ghost use Rattle.std.specs.Prelude.{◌≡◌, ◌==◌, ◌+◌, count_by, take};
+ghost use Rattle.cli_journal.specs.Order.{taken_at};
 
 use cli_journal::Entry;
 
@@ -9,17 +10,15 @@ pub struct Place {
     pub row: usize,
 }
 
-/// Where an entry stands behind others, of all centres. The first line of a journal is no entry.
-pub(crate) fn place_behind(others: &[Entry], entry: &Entry) -> Place
-    ensures { IsPlaceBehind others.now entry.now result }
+/// The line of a centre's journal that is next behind the first of these entries, which are of all centres. The first
+/// line of a journal is no entry.
+pub(crate) fn next_row(entries: &[Entry], at: usize, centre: u8) -> usize
+    ensures { result ≡ count_by (λ e. taken_at e == centre) (take at entries.now) + 2 }
 {
-    let centre = entry.centre();
-    let before = others
+    entries
         .iter()
-        .filter(|other| other.centre() == centre)
-        .count();
-    Place {
-        centre,
-        row: before + 2,
-    }
+        .take(at)
+        .filter(|entry| entry.centre() == centre)
+        .count()
+        + 2
 }

@@ -2,7 +2,7 @@ ghost use Rattle.std.specs.Prelude.{◌≡◌, ◌↔◌, Some, IsTrue};
 ghost use Rattle.rbc_world.specs.Views.{answer_of};
 ghost use Rattle.cli_rerun.specs.Rerun.{Finds, stamp_of};
 
-use crate::place::{Place, place_behind};
+use crate::place::{Place, next_row};
 use cli_journal::Entry;
 use rbc_centre::StepFault;
 use rbc_line::Line;
@@ -23,10 +23,13 @@ pub fn first_unfit(
     let mut at = 0;
     for entry in entries {
         let answer = world.step(&entry.event)?;
-        if !has_stamp(&answer, entry.stamp) {
-            return Ok(Some(place_behind(&entries[..at], entry)));
+        if has_stamp(&answer, entry.stamp) {
+            at += 1;
+        } else {
+            let centre = entry.centre();
+            let row = next_row(entries, at, centre);
+            return Ok(Some(Place { centre, row }));
         }
-        at += 1;
     }
     Ok(None)
 }
