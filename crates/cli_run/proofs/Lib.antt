@@ -1,1 +1,2 @@
 mod Prints
+mod Named

@@ -4,8 +4,11 @@
 //! Bodies are free. What is printed is fixed by docs/FORMATS.md.
 #![tactic(auto)]
 
+mod behind;
+mod buffered;
 mod played;
 mod printer;
 
+pub use buffered::print_buffered;
 pub use played::print_played;
 pub use printer::Printer;

@@ -1,0 +1,5 @@
+-- The bytes of a writer, behind the name that tells it from others.
+use Rattle.std.specs.Prelude.{ℕ, List, ◌∷◌, Option, option_map}
+
+abbrev pub named : ℕ → Option (List ℕ) → Option (List ℕ)
+named name known = option_map (λ bytes. name ∷ bytes) known
