@@ -1,12 +1,12 @@
 use crate::files::Files;
 use cli_print::print_counts;
-use cli_run::print_played;
+use cli_run::print_buffered;
 use cli_script::play::PlayFault;
 use cli_script::script::{Entry, script_of};
 use cli_status::Fault;
 use rbc_line::Line;
-use std::alloc::{AllocError, Global};
-use std::io::{BufWriter, Write};
+use std::alloc::Global;
+use std::io::Write;
 
 /// Runs a script on a line: prints each event and what it leads to, and at the end the line.
 pub fn run<'a, F: Files, O: Write>(
@@ -18,12 +18,7 @@ pub fn run<'a, F: Files, O: Write>(
 ) -> Result<(), Fault<'a>> {
     let line = line_in(alloc, file, files)?;
     let entries = entries_in(alloc, &line, script, files)?;
-    let Ok(mut out) = BufWriter::new(alloc, out) else {
-        return Err(AllocError.into());
-    };
-    let done = print_played(alloc, &line, &entries, &mut out);
-    out.flush()?;
-    match done {
+    match print_buffered(alloc, &line, &entries, out) {
         Ok(()) => Ok(()),
         Err(PlayFault::Refused(fault)) => Err(fault.into()),
         Err(PlayFault::Untold(fault)) => Err(fault),
