@@ -11,5 +11,5 @@ returns c =
     let test : Entry → Bool = λ e. taken_at e == c.args.centre in
     ap (λ (n : ℕ). n + 2)
     (count_from_yields_List _ c.count.result c.count.ensures.ran
-    (YieldsList-from_filter _ test (YieldsList-from_take c.args.at (YieldsList-from_slice c.args.entries.now cc) cc) cc (λ x b q k. search (rules, tests)))
+    (YieldsList-from_filter _ test (YieldsList-from_take c.args.at (YieldsList-from_slice c.args.entries.now cc) cc) (cc) (λ x b q k. search (rules, tests)))
     ∙ length-filter test (take c.args.at c.args.entries.now))
