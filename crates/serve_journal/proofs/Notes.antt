@@ -1,5 +1,5 @@
 -- Notes of entries, one behind another.
-use Rattle.std.proofs.Common.{List, [], ◌∷◌, ◌++◌, absurd}
+use Rattle.std.proofs.Common.{List, [], ◌∷◌, ◌++◌}
 use Rattle.rbc_log.specs.declared.entry.Entry as log
 use Rattle.cli_journal.specs.declared.entry.Entry as journal
 use Rattle.serve_journal.specs.Noting.{IsNoteOf, AreNotesOf}

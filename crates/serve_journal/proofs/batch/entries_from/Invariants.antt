@@ -3,4 +3,4 @@ use Rattle.serve_journal.specs.Noting.{AreNotesOf}
 use Rattle.serve_journal.proofs.batch.entries_from.Given as goal
 
 abbrev pub invariant-loop-entry : goal.invariant-loop-entry
-invariant-loop-entry l = AreNotesOf (take l.entry-index l.entry-items) l.next.items
+invariant-loop-entry l = AreNotesOf (take l.entry-index l.entries) l.next.items
