@@ -1,13 +1,37 @@
 -- Notes of entries, one behind another.
-use Rattle.std.proofs.Common.{List, [], ◌∷◌, ◌++◌}
+use Rattle.std.proofs.Common.{◌≡◌, ◌∙◌, ℕ, zero, suc, ◌+◌, ◌<◌, List, [], ◌∷◌, ◌++◌, length, take, get_or, subst, sym, ap}
+use Rattle.std.proofs.lemmas.List.{take_more}
 use Rattle.rbc_log.specs.declared.entry.Entry as log
 use Rattle.cli_journal.specs.declared.entry.Entry as journal
 use Rattle.serve_journal.specs.Noting.{IsNoteOf, AreNotesOf}
 
-pub notes_behind :
+notes_behind :
     (es : List log.Entry) (ns : List journal.Entry) (e : log.Entry) (n : journal.Entry)
     → AreNotesOf es ns → IsNoteOf e n → AreNotesOf (es ++ e ∷ []) (ns ++ n ∷ [])
 notes_behind [] [] e n are is = (is, are)
 notes_behind (e ∷ es) (n ∷ ns) f m are is = (are.0, notes_behind es ns f m are.1 is)
 notes_behind [] (n ∷ ns) f m are is = absurd are
 notes_behind (e ∷ es) [] f m are is = absurd are
+
+-- the note of the next entry behind those of the first
+pub notes_next :
+    (es : List log.Entry) (i : ℕ) (ns ms : List journal.Entry) (e : log.Entry) (n : journal.Entry)
+    → i < length es → e ≡ get_or es i e → ms ≡ ns ++ n ∷ [] → AreNotesOf (take i es) ns → IsNoteOf e n
+    → AreNotesOf (take (i + 1) es) ms
+notes_next es i ns ms e n low is put are note =
+    let front : take (i + 1) es ≡ take i es ++ e ∷ [] =
+    take_more es i e low ∙ ap (λ (x : log.Entry). take i es ++ x ∷ []) (sym is)
+    in
+    subst (λ (xs : List journal.Entry). AreNotesOf (take (i + 1) es) xs) (sym put)
+    (subst (λ (xs : List log.Entry). AreNotesOf xs (ns ++ n ∷ [])) (sym front) (notes_behind (take i es) ns e n are note))
+
+-- as many entries as there are notes
+pub notes_front :
+    (k : ℕ) (es : List log.Entry) (ns : List journal.Entry) → AreNotesOf (take k es) ns
+    → AreNotesOf (take (length ns) es) ns
+notes_front zero es [] are = are
+notes_front zero es (n ∷ ns) are = absurd are
+notes_front (suc k) [] [] are = are
+notes_front (suc k) [] (n ∷ ns) are = absurd are
+notes_front (suc k) (e ∷ es) [] are = absurd are
+notes_front (suc k) (e ∷ es) (n ∷ ns) are = (are.0, notes_front k es ns are.1)

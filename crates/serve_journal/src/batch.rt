@@ -1,4 +1,4 @@
-ghost use Rattle.std.specs.Prelude.{◌≡◌, take, drop, IfOk};
+ghost use Rattle.std.specs.Prelude.{◌≡◌, take, drop, vec_len, IfOk};
 ghost use Rattle.std.specs.List.{flat_map};
 ghost use Rattle.cli_journal.specs.Journal.{entry_line};
 ghost use Rattle.rbc_log.specs.Log.{LogValue};
@@ -16,7 +16,7 @@ use std::sync::Wait;
 /// How many events are written at once at most. The centre takes no step while they are copied.
 const MOST_AT_ONCE: usize = 256;
 
-/// The events of a centre behind the first `written`, in the order of its log: so many as are written at once.
+/// The next events of a centre behind the first `written`, in the order of its log. How many they are is not claimed.
 pub(crate) fn next_entries<R: Wait>(
     rt: &R,
     alloc: Global,
@@ -24,14 +24,14 @@ pub(crate) fn next_entries<R: Wait>(
     written: usize,
 ) -> Result<Vec<Entry>, AllocError>
     ensures { IfOk result (λ next. (l : LogValue) × IsLogOf (centre_of node.now) l
-        × AreNotesOf (take 256 (drop written l.entries)) next.items) }
+        × AreNotesOf (take (vec_len next) (drop written l.entries)) next.items) }
 {
     let look = node.look(rt);
-    entries_from(alloc, look.log(), written)
+    Ok(entries_from(alloc, look.log(), written)?)
 }
 
 fn entries_from(alloc: Global, log: &CentreLog, written: usize) -> Result<Vec<Entry>, AllocError>
-    ensures { IfOk result (λ next. AreNotesOf (take 256 (drop written log.now.entries)) next.items) }
+    ensures { IfOk result (λ next. AreNotesOf (take (vec_len next) (drop written log.now.entries)) next.items) }
 {
     let mut next = Vec::new(alloc);
     let to = log
