@@ -11,7 +11,7 @@ use Rattle.rbc_world.proofs.Loop.{map_push}
 use Rattle.rbc_world.proofs.Reached.{run_on}
 use Rattle.law_reached.proofs.Whole.{run_of_none}
 use Rattle.cli_journal.specs.declared.entry.Entry.{Entry}
-use Rattle.cli_rerun.specs.Rerun.{IsRerun, IsFirstUnfit, IsPlaceBehind, happened, stamp_of}
+use Rattle.cli_rerun.specs.Rerun.{IsRerun, IsFirstUnfit, happened, stamp_of}
 use Rattle.cli_rerun.specs.declared.place.Place.{Place}
 
 -- no entry is a run

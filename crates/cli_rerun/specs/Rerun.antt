@@ -1,5 +1,5 @@
 -- Whether entries are one run of a line.
-use Rattle.std.specs.Prelude.{◌≡◌, ◌≢◌, ℕ, ◌+◌, ◌==◌, List, ◌∷◌, ◌++◌, map, count_by, Option, Some, None, Result, Ok, Err}
+use Rattle.std.specs.Prelude.{◌≡◌, ◌≢◌, ℕ, List, ◌∷◌, ◌++◌, map, Option, Some, None, Result, Ok, Err}
 use Rattle.rbc_spec.specs.Line.{Line}
 use Rattle.rbc_spec.specs.World.{World, Event, Answer, Answered, NoCentre, NotSent, Fault, new_world, world_step, world_run}
 use Rattle.rbc_centre.specs.declared.fault.StepFault.{StepFault}
@@ -27,13 +27,8 @@ pub record IsRerun (line : Line) (es : List Entry) (last : World) : Type 0 where
   pub run : world_run line (new_world line) (map happened es) ≡ Ok (answers, last)
   pub stamps : map stamp_of answers ≡ map (λ e. Some e.stamp) es
 
--- where an entry stands behind others: the journal's first line is no entry
-pub record IsPlaceBehind (others : List Entry) (e : Entry) (place : Place) : Type 0 where
-  pub centre : place.centre ≡ taken_at e
-  pub row : place.row ≡ count_by (λ d. taken_at d == taken_at e) others + 2
-
 -- The entries in front of one are a run of the line, and there its event is answered with no stamp or another. The
--- entry stands at this place.
+-- entry is of the journal of this centre.
 pub record IsFirstUnfit (line : Line) (es : List Entry) (place : Place) : Type 0 where
   pub front : List Entry
   pub rest : List Entry
@@ -45,7 +40,7 @@ pub record IsFirstUnfit (line : Line) (es : List Entry) (place : Place) : Type 0
   pub fits : IsRerun line front reached
   pub step : world_step line reached (happened entry) ≡ Ok (answer, next)
   pub other : stamp_of answer ≢ Some entry.stamp
-  pub stands : IsPlaceBehind front entry place
+  pub centre : place.centre ≡ taken_at entry
 
 -- what is found of entries: they are a run; or the first that does not fit; or a step of their run is refused
 abbrev pub Finds : Line → List Entry → Result (Option Place) StepFault → Type 0

@@ -1,6 +1,3 @@
-ghost use Rattle.std.specs.Prelude.{◌≡◌, ◌==◌, ◌+◌, count_by, take};
-ghost use Rattle.cli_journal.specs.Order.{taken_at};
-
 use cli_journal::Entry;
 
 /// Where an entry stands: in the journal of which centre, and in which line of it, from 1.
@@ -12,13 +9,11 @@ pub struct Place {
 
 /// The line of a centre's journal that is next behind the first of these entries, which are of all centres. The first
 /// line of a journal is no entry.
-pub(crate) fn next_row(entries: &[Entry], at: usize, centre: u8) -> usize
-    ensures { result ≡ count_by (λ e. taken_at e == centre) (take at entries.now) + 2 }
-{
+pub(crate) fn next_row(entries: &[Entry], at: usize, centre: u8) -> usize {
     entries
         .iter()
         .take(at)
         .filter(|entry| entry.centre() == centre)
         .count()
-        + 2
+        .saturating_add(2)
 }

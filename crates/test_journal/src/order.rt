@@ -29,7 +29,8 @@ fn entries_stand_by_stamp_and_those_of_one_stamp_by_centre(rt: HostRuntime) -> R
         .iter()
         .map(|entry| (entry.stamp, entry.centre()))
         .collect(rt.alloc())?;
-    assert!(rt; found.as_slice() == &[(1, 0), (1, B), (2, B), (4, 0), (4, B)]);
+    let wanted: [(u32, u8); 5] = [(1, 0), (1, B), (2, B), (4, 0), (4, B)];
+    assert!(rt; found.as_slice() == wanted.as_slice());
     Ok(())
 }
 

@@ -1,5 +1,4 @@
 use Rattle.std.proofs.Common.{◌≡◌, ◌+◌, ◌∙◌, ℕ, ◌∷◌, ◌++◌, List, Some, Bool, true, false, ap, sym, take, drop, subst, refl}
-use Rattle.std.specs.Prelude.{◌==◌, count_by}
 use Rattle.std.proofs.lemmas.Result.{err_from_is_err_and}
 use Rattle.std.proofs.lemmas.Bool.{true≢false}
 use Rattle.rbc_spec.specs.Line.{Line}
@@ -7,7 +6,6 @@ use Rattle.rbc_spec.specs.World.{world_step}
 use Rattle.rbc_world.specs.World.{state_of}
 use Rattle.rbc_world.specs.Views.{answer_of}
 use Rattle.rbc_world.specs.Answers.{IsRefusal}
-use Rattle.cli_journal.specs.Order.{taken_at}
 use Rattle.cli_journal.specs.declared.entry.Entry.{Entry}
 use Rattle.cli_rerun.specs.Rerun.{IsRerun, happened}
 use Rattle.cli_rerun.proofs.Reruns.{begins, goes_on, refused, cut_at, one_more, all_taken}
@@ -50,7 +48,6 @@ returns-else-has_stamp c =
     let es = c.args.entries.now in
     let k = c.loop-entry.entry-index in
     let done = ap (λ (l : Line). world_step l (state_of c.loop-entry.world) (happened e)) (sym c.loop-entry.invariant.line) ∙ c.in_ok-answer.ensures.exact in
-    let own = c.centre-centre.ensures in
     record {
       front = take k es;
       rest = drop (k + 1) es;
@@ -62,12 +59,7 @@ returns-else-has_stamp c =
       fits = c.loop-entry.invariant.run;
       step = done;
       other = λ same. true≢false (sym (c.has_stamp.ensures.1 same) ∙ c.if-has_stamp.false);
-      stands = record {
-        centre = own;
-        row = c.next_row-row.ensures
-            ∙ ap (λ (n : ℕ). count_by (λ (d : Entry). taken_at d == n) (take c.loop-entry.at es) + 2) own
-            ∙ ap (λ (n : ℕ). count_by (λ (d : Entry). taken_at d == taken_at e) (take n es) + 2) c.loop-entry.invariant.at;
-      };
+      centre = c.centre-centre.ensures;
     }
 
 pub returns : goal.returns
