@@ -1,4 +1,4 @@
-use Rattle.std.proofs.Common.{◌-◌, ◌∙◌, List, drop, subst, refl, arith}
+use Rattle.std.proofs.Common.{◌-◌, ◌∙◌, List, length, take, drop, subst, refl, arith}
 use Rattle.std.proofs.lemmas.List.{take_all}
 use Rattle.rbc_log.specs.declared.entry.Entry as log
 use Rattle.serve_journal.specs.Noting.{AreNotesOf}
@@ -13,7 +13,9 @@ loop-entry-preserved c =
 
 pub returns : goal.returns
 returns c =
-    notes_front (c.min-to.result - c.args.written) (drop c.args.written c.args.log.now.entries) c.loop-entry.next.items
-    (subst (λ (es : List log.Entry). AreNotesOf es c.loop-entry.next.items)
+    let ns = c.loop-entry.next.items in
+    subst (λ (es : List log.Entry). AreNotesOf (take (length ns) (drop c.args.written es)) ns) c.entries-2.ensures.value
+    (notes_front (c.min-to.result - c.args.written) (drop c.args.written c.entries-2.result.now) ns
+    (subst (λ (es : List log.Entry). AreNotesOf es ns)
     (take_all c.loop-entry.entry-index c.in-Some.entries.now (omega arith) ∙ c.in-Some.ensures.lookup.0.2)
-    c.loop-entry.invariant)
+    c.loop-entry.invariant))
