@@ -1,4 +1,4 @@
-ghost use Rattle.std.specs.Prelude.{◌≡◌, take, drop, vec_len, IfOk};
+ghost use Rattle.std.specs.Prelude.{◌≡◌, take, drop, length, IfOk};
 ghost use Rattle.std.specs.List.{flat_map};
 ghost use Rattle.cli_journal.specs.Journal.{entry_line};
 ghost use Rattle.rbc_log.specs.Log.{LogValue};
@@ -24,14 +24,14 @@ pub(crate) fn next_entries<R: Wait>(
     written: usize,
 ) -> Result<Vec<Entry>, AllocError>
     ensures { IfOk result (λ next. (l : LogValue) × IsLogOf (centre_of node.now) l
-        × AreNotesOf (take (vec_len next) (drop written l.entries)) next.items) }
+        × AreNotesOf (take (length next.items) (drop written l.entries)) next.items) }
 {
     let look = node.look(rt);
     Ok(entries_from(alloc, look.log(), written)?)
 }
 
 fn entries_from(alloc: Global, log: &CentreLog, written: usize) -> Result<Vec<Entry>, AllocError>
-    ensures { IfOk result (λ next. AreNotesOf (take (vec_len next) (drop written log.now.entries)) next.items) }
+    ensures { IfOk result (λ next. AreNotesOf (take (length next.items) (drop written log.now.entries)) next.items) }
 {
     let mut next = Vec::new(alloc);
     let to = log
