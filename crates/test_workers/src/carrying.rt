@@ -160,8 +160,8 @@ fn carried_at_the_end<R: Threads + Wait + Sync, C: Carrier + Sync>(
 }
 
 // The same over a queue.
-fn carried_by_a_queue(
-    rt: &HostRuntime,
+fn carried_by_a_queue<R: Threads + Wait + Sync>(
+    rt: &R,
     alloc: Global,
     from: &Node,
     to: &Node,
@@ -171,8 +171,8 @@ fn carried_by_a_queue(
 }
 
 // The same over a queue that is full with one frame.
-fn carried_by_a_narrow_queue(
-    rt: &HostRuntime,
+fn carried_by_a_narrow_queue<R: Threads + Wait + Sync>(
+    rt: &R,
     alloc: Global,
     from: &Node,
     to: &Node,
