@@ -1,5 +1,7 @@
 //! The journals of a line's centres, which lie in one folder.
 
+ghost use Rattle.std.specs.Prelude.{◌<◌, length};
+
 use crate::files::Files;
 use cli_journal::{
     Entry, JournalFault, file_name, first_fallen, in_order, read_journal, whole_length,
@@ -72,7 +74,9 @@ fn rising_in(
     centre: u8,
     text: &str,
     journal: &str,
-) -> Result<Vec<Entry>, Fault<'static>> {
+) -> Result<Vec<Entry>, Fault<'static>>
+    requires { centre < length line.now.centres }
+{
     let entries = entries_in(alloc, line, centre, text, journal)?;
     match first_fallen(&entries) {
         // The first line is no entry.
@@ -88,7 +92,9 @@ fn entries_in(
     centre: u8,
     text: &str,
     journal: &str,
-) -> Result<Vec<Entry>, Fault<'static>> {
+) -> Result<Vec<Entry>, Fault<'static>>
+    requires { centre < length line.now.centres }
+{
     match read_journal(alloc, line, centre, text, journal) {
         Ok(entries) => Ok(entries),
         Err(JournalFault::Memory) => Err(AllocError.into()),
