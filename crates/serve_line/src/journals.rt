@@ -1,9 +1,12 @@
 use cli_journal::Entry;
 use cli_print::name_of;
+use rbc_line::Line;
+use rbc_node::{Node, Share};
+use serve_control::ServeFault;
 use serve_hall::Hall;
-use serve_journal::{JournalFile, Keeper, keep_journal};
+use serve_journal::{JournalFile, Keeper, ResumeFault, keep_journal, resume};
 use serve_show::Notes;
-use std::alloc::Global;
+use std::alloc::{AllocError, Global};
 use std::fs::OpenFile;
 use std::io::{Seek, Write};
 use std::sync::Wait;
@@ -24,6 +27,35 @@ impl<F: Drop> Record<F> {
         Record {
             files: Vec::new(alloc),
             entries: Vec::new(alloc),
+        }
+    }
+}
+
+/// Lets the centres go on from what their journals have, and says so.
+pub(crate) fn resume_noted<R: Wait, N: Notes>(
+    rt: &R,
+    alloc: Global,
+    line: &Line,
+    nodes: &[Node],
+    entries: Vec<Entry>,
+    notes: &N,
+) -> Result<Vec<Share>, ServeFault> {
+    match resume(rt, alloc, nodes, &entries) {
+        Ok(shares) => {
+            for share in &shares {
+                let count = share.receipts().len();
+                if count > 0 {
+                    let name = name_of(line, share.centre());
+                    notes.note(format_args!("{name}: goes on behind {count} events"));
+                }
+            }
+            Ok(shares)
+        }
+        Err(ResumeFault::Memory) => Err(AllocError.into()),
+        Err(ResumeFault::Unfit(centre, number)) => {
+            let name = name_of(line, centre);
+            notes.note(format_args!("{name}: event {number} of the journal does not fit"));
+            Err(ServeFault::Journal)
         }
     }
 }

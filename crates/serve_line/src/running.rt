@@ -1,9 +1,7 @@
-use crate::journals::{Record, keep};
+use crate::journals::{Record, keep, resume_noted};
 use crate::links::carry;
 use crate::pages::{PageDoor, run_pages};
 use crate::tally::Tally;
-use cli_journal::Entry;
-use cli_print::name_of;
 use crossbeam_channel::bounded;
 use rbc_line::Line;
 use rbc_node::{Family, Node, Share, gather};
@@ -13,7 +11,7 @@ use serve_hall::{
     DirectedLink, Door, Doors, Hall, Manner, Seat, State, bells_of, doors_of, exchanges_of,
     journals_of, links_of, nodes_of, tellers_of,
 };
-use serve_journal::{JournalFile, ResumeFault, resume};
+use serve_journal::JournalFile;
 use serve_show::{Notes, Queued, write_notes};
 use std::alloc::{AllocError, Global};
 use std::fs::OpenFile;
@@ -111,35 +109,6 @@ fn serve_noted<
         Ok(())
     } else {
         Err(ServeFault::Journal)
-    }
-}
-
-// Lets the centres go on from what their journals have, and says so.
-fn resume_noted<R: Wait, N: Notes>(
-    rt: &R,
-    alloc: Global,
-    line: &Line,
-    nodes: &[Node],
-    entries: Vec<Entry>,
-    notes: &N,
-) -> Result<Vec<Share>, ServeFault> {
-    match resume(rt, alloc, nodes, &entries) {
-        Ok(shares) => {
-            for share in &shares {
-                let count = share.receipts().len();
-                if count > 0 {
-                    let name = name_of(line, share.centre());
-                    notes.note(format_args!("{name}: goes on behind {count} events"));
-                }
-            }
-            Ok(shares)
-        }
-        Err(ResumeFault::Memory) => Err(AllocError.into()),
-        Err(ResumeFault::Unfit(centre, number)) => {
-            let name = name_of(line, centre);
-            notes.note(format_args!("{name}: event {number} of the journal does not fit"));
-            Err(ServeFault::Journal)
-        }
     }
 }
 
