@@ -195,7 +195,12 @@ fn run_beside<
                 notes.note("page: no thread could be made");
             }
         }
-        for (file, centre) in files.into_iter().zip(0..hall.line.centre_count()) {
+        let mut left = files;
+        left.reverse();
+        for centre in 0..hall.line.centre_count() {
+            let Some(file) = left.pop() else {
+                break;
+            };
             if scope
                 .spawn(move || keep(rt, hall, notes, centre, file))
                 .is_err()
