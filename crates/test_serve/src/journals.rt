@@ -1,7 +1,7 @@
 //! Centres that keep journals: what is answered is written before, a full disk, and centres that go on from journals.
 //! Checksums are those that `sha256sum` gives of what stands behind them.
 
-use crate::client::{Done, Missed, answers, connect, heard, is_ended, say};
+use crate::client::{Done, Missed, TURNS, answers, connect, heard, is_ended, say};
 use crate::line::{INITIATION_OF_ONE, VERSION, bytes_of, two_centres};
 use crate::railway::{Addresses, audited, printed_of, served_with};
 use crate::sheet::{Paper, Sheet};
@@ -103,7 +103,7 @@ fn nothing_is_answered_while_the_disk_is_full(rt: HostRuntime) -> Result<(), Fai
         &line,
         Manner::default(),
         record,
-        |addresses| { wait_for_room(&rt, rt.alloc(), addresses, &little) },
+        |addresses| { wait_for_room(&rt, rt.alloc(), addresses, (a, &little)) },
     )?;
     assert!(rt;
         printed.starts_with(b"> set A 1\nA 1 Done\n> set B 2\nB 2 Done\nsection 0 A shut\n")
@@ -117,14 +117,14 @@ fn wait_for_room<R: Net<Stream = TcpStream> + Clock>(
     rt: &R,
     alloc: Global,
     addresses: Addresses,
-    room: &AtomicUsize,
+    (paper, room): (Paper<'_>, &AtomicUsize),
 ) -> Done<()> {
     let (one, two) = (
         connect(rt, addresses.control)?,
         connect(rt, addresses.control)?,
     );
     say(&one, b"set A 1\n")?;
-    thread::sleep(rt, Duration::from_millis(400));
+    until_full(rt, paper)?;
     answers(alloc, &two, "set A 0\n", "journal fault\n")?;
     if !is_ended(&connect(rt, addresses.centre)?) {
         return Err(Missed::StillOpen);
@@ -134,11 +134,24 @@ fn wait_for_room<R: Net<Stream = TcpStream> + Clock>(
     answers(alloc, &one, "", "> set A 1\nA 1 Done\n")
 }
 
+// Waits until the first five bytes of an entry were written, and no more could be; and then a while, for the centre to
+// know it.
+fn until_full<R: Clock>(rt: &R, paper: Paper<'_>) -> Done<()> {
+    for _ in 0..TURNS {
+        if paper.has(b"c4ee5") {
+            thread::sleep(rt, Duration::from_millis(400));
+            return Ok(());
+        }
+        thread::yield_now();
+    }
+    Err(Missed::Entry)
+}
+
 #[test]
 fn a_journal_that_stays_full_is_given_up(rt: HostRuntime) -> Result<(), Fail> {
     let line = two_centres(rt.alloc())?;
     let (first, second) = (cells(rt.alloc())?, cells(rt.alloc())?);
-    let room = AtomicUsize::new(0);
+    let room = AtomicUsize::new(5);
     let (a, b) = (Paper::new(&first, &room), Paper::new(&second, &room));
     let record = record(rt.alloc(), a, b, Vec::new(rt.alloc()))?;
     let (status, printed) = served_with(
@@ -150,15 +163,14 @@ fn a_journal_that_stays_full_is_given_up(rt: HostRuntime) -> Result<(), Fail> {
         |addresses| {
             let control = connect(&rt, addresses.control)?;
             say(&control, b"set A 1\n")?;
-            thread::sleep(&rt, Duration::from_millis(400));
-            Ok(())
+            until_full(&rt, a)
         },
     )?;
     assert!(rt;
         (
             status,
             printed.starts_with(b"> set A 1\nA 1 Done\n"),
-            a.has(b"")
+            a.has(b"c4ee5")
         ) == (6, true, true)
     );
     Ok(())
