@@ -4,14 +4,14 @@
 use crate::client::{Done, Missed, TURNS, answers, connect, heard, is_ended, say};
 use crate::line::{INITIATION_OF_ONE, VERSION, bytes_of, two_centres};
 use crate::railway::{Addresses, audited, printed_of, served_with};
-use crate::sheet::{Paper, Sheet};
+use crate::sheet::{Paper, Sheet, cells};
 use cli_audit::Verdict;
 use cli_journal::Entry;
 use rbc_world::WorldEvent;
 use serve_line::{JournalFile, Manner, Record};
 use std::alloc::Global;
 use std::net::{Net, TcpStream};
-use std::sync::atomic::{AtomicU8, AtomicUsize, Ordering};
+use std::sync::atomic::{AtomicUsize, Ordering};
 use std::test::*;
 use std::thread;
 use std::time::{Clock, Duration};
@@ -19,15 +19,6 @@ use std::time::{Clock, Duration};
 const SET_1: &str = "c4ee5feb 1 > set A 1\n";
 
 const OPENED: &str = "c4ee5feb 1 > set A 1\nb89d5030 2 > train A 9B028000000040000040\n";
-
-// Cells for a file of so many bytes at most.
-fn cells(alloc: Global) -> Result<Vec<AtomicU8>, Fail> {
-    let mut cells = Vec::new(alloc);
-    for _ in 0..256 {
-        cells.push(AtomicU8::new(0))?;
-    }
-    Ok(cells)
-}
 
 // Journals of the two centres, of which the first is written on this paper.
 fn record<'a>(
@@ -290,23 +281,4 @@ fn before_without(alloc: Global, left_out: usize) -> Result<Vec<Entry>, Fail> {
         }
     }
     Ok(entries)
-}
-
-#[test]
-fn what_a_failed_write_left_is_taken_off(rt: HostRuntime) -> Result<(), Fail> {
-    let first = cells(rt.alloc())?;
-    let room = AtomicUsize::new(5);
-    let paper = Paper::new(&first, &room);
-    let mut file = JournalFile::new(paper.open(), 0, true);
-    let short = (
-        file.add(b"abc").is_ok(),
-        file.add(b"defgh").is_ok(),
-        paper.has(b"abcde"),
-    );
-    room.store(256, Ordering::SeqCst);
-    let long = (file.add(b"xy").is_ok(), paper.has(b"abcxy"));
-    assert!(rt; (short, long) == ((true, false, true), (true, true)));
-    let mut again = JournalFile::new(paper.open(), 2, false);
-    assert!(rt; (again.add(b"z").is_ok(), paper.has(b"abz")) == (true, true));
-    Ok(())
 }

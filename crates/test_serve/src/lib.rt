@@ -31,4 +31,6 @@ mod sessions;
 #[cfg(test)]
 mod sheet;
 #[cfg(test)]
+mod torn;
+#[cfg(test)]
 mod trains;

@@ -1,9 +1,19 @@
 //! A file of a journal, in memory.
 
+use std::alloc::{AllocError, Global};
 use std::fs::{Metadata, OpenFile};
 use std::io;
 use std::io::{ErrorKind, Seek, SeekFrom, Write};
 use std::sync::atomic::{AtomicU8, AtomicUsize, Ordering};
+
+/// Cells for a file of 256 bytes at most.
+pub fn cells(alloc: Global) -> Result<Vec<AtomicU8>, AllocError> {
+    let mut cells = Vec::new(alloc);
+    for _ in 0..256 {
+        cells.push(AtomicU8::new(0))?;
+    }
+    Ok(cells)
+}
 
 /// A file of which the bytes can be looked at while it is written. A cell behind its end has 0.
 #[derive(Clone, Copy)]
