@@ -56,17 +56,15 @@ pub struct Sheet<'a> {
 impl Write for Sheet<'_> {
     fn write(&mut self, bytes: &[u8]) -> io::Result<usize> {
         let room = self.paper.room.load(Ordering::SeqCst);
-        let mut count = 0usize;
-        for byte in bytes {
-            let (Some(cell), true) = (self.paper.cells.get(self.at), self.at < room) else {
-                break;
-            };
-            cell.store(*byte, Ordering::SeqCst);
-            self.at = self.at.saturating_add(1);
-            count = count.saturating_add(1);
-        }
+        let count = bytes.len().min(room.saturating_sub(self.at));
         if count == 0 && !bytes.is_empty() {
             return Err(io::Error::from(ErrorKind::StorageFull));
+        }
+        for byte in bytes.iter().take(count) {
+            if let Some(cell) = self.paper.cells.get(self.at) {
+                cell.store(*byte, Ordering::SeqCst);
+            }
+            self.at = self.at.saturating_add(1);
         }
         Ok(count)
     }
