@@ -1,7 +1,8 @@
-ghost use Rattle.std.specs.Prelude.{◌≡◌, IfOk, IfSome, OnOk};
+ghost use Rattle.std.specs.Prelude.{◌≡◌, map, IfOk, IfSome, OnOk};
 ghost use Rattle.rbc_node.specs.Node.{centre_of};
-ghost use Rattle.serve_journal.specs.Noting.{taker, CommitsAgain};
+ghost use Rattle.cli_journal.specs.Order.{taken_at};
 ghost use Rattle.serve_control.specs.Events.{IsCommitted};
+ghost use Rattle.serve_journal.specs.Resuming.{first_share, AreResumed, CommitsAgain, IsResumed};
 
 use cli_journal::Entry;
 use rbc_centre::Event;
@@ -34,21 +35,46 @@ impl<T: Drop> From<AllocFailed<T>> for ResumeFault {
 }
 
 /// Commits the events of the centres' journals again, in the order in which they are given, each at its centre's node.
-/// Each has to be answered under the stamp that it had. It gives the receipts, a share for each node.
+/// Each has to be answered under the stamp that it had. It gives the receipts, a share for each node. An error leaves
+/// what was committed in the nodes.
 pub fn resume<R: Wait>(
     rt: &R,
     alloc: Global,
     nodes: &[Node],
     entries: &[Entry],
-) -> Result<Vec<Share>, ResumeFault> {
+) -> Result<Vec<Share>, ResumeFault>
+    ensures { IfOk result (λ shares. AreResumed nodes.now entries.now (map first_share nodes.now) shares.items) }
+{
+    let mut shares = first_shares(alloc, nodes)?;
+    commit_all(rt, alloc, nodes, &mut shares, entries)?;
+    Ok(shares)
+}
+
+// A share for each node.
+fn first_shares(alloc: Global, nodes: &[Node]) -> Result<Vec<Share>, AllocError>
+    ensures { IfOk result (λ shares. shares.items ≡ map first_share nodes.now) }
+{
     let mut shares = Vec::new(alloc);
     for node in nodes {
         shares.push(node.share())?;
     }
-    for entry in entries {
-        commit_entry(rt, alloc, nodes, &mut shares, entry)?;
-    }
     Ok(shares)
+}
+
+// Commits the events, each at its centre.
+fn commit_all<R: Wait>(
+    rt: &R,
+    alloc: Global,
+    nodes: &[Node],
+    shares: &mut [Share],
+    entries: &[Entry],
+) -> Result<(), ResumeFault>
+    ensures { OnOk result (AreResumed nodes.now entries.now shares.old shares.new) }
+{
+    for entry in entries {
+        commit_entry(rt, alloc, nodes, shares, entry)?;
+    }
+    Ok(())
 }
 
 // Commits an event of a journal at its centre.
@@ -58,13 +84,15 @@ fn commit_entry<R: Wait>(
     nodes: &[Node],
     shares: &mut [Share],
     entry: &Entry,
-) -> Result<(), ResumeFault> {
-    let at = taker_of(&entry.event);
+) -> Result<(), ResumeFault>
+    ensures { OnOk result (IsResumed nodes.now entry.now shares.old shares.new) }
+{
+    let at = entry.centre();
     let (Some(node), Some(share)) = (nodes.get(at as usize), shares.get_mut(at as usize)) else {
         return Err(ResumeFault::Unfit(at, 1));
     };
     let number = share.receipts().len().saturating_add(1);
-    let Some(event) = event_of(rt, alloc, nodes, &entry.event)? else {
+    let Some(event) = event_of(rt, alloc, nodes, entry)? else {
         return Err(ResumeFault::Unfit(at, number));
     };
     match commit_again(rt, node, share, event, entry.stamp) {
@@ -90,28 +118,16 @@ fn commit_again<R: Wait>(
     }
 }
 
-// The number of the centre that took the event.
-fn taker_of(event: &WorldEvent) -> u8
-    ensures { result ≡ taker event.now }
-{
-    match event {
-        WorldEvent::Train { centre, .. }
-        | WorldEvent::Set { centre, .. }
-        | WorldEvent::Unset { centre, .. } => *centre,
-        WorldEvent::Deliver { to, .. } => *to,
-    }
-}
-
 // The event as its centre takes it. None where its bytes are no message, or its frame was not sent.
 fn event_of<R: Wait>(
     rt: &R,
     alloc: Global,
     nodes: &[Node],
-    event: &WorldEvent,
+    entry: &Entry,
 ) -> Result<Option<Event>, ResumeFault>
-    ensures { IfOk result (λ found. IfSome found (λ e. IsCommitted (taker event.now) e event.now)) }
+    ensures { IfOk result (λ found. IfSome found (λ e. IsCommitted (taken_at entry.now) e entry.now.event)) }
 {
-    match event {
+    match &entry.event {
         WorldEvent::Train { bytes, .. } => match decode_train(alloc, bytes) {
             Ok(message) => Ok(Some(Event::Train(message))),
             Err(MsgFault::Memory) => Err(ResumeFault::Memory),

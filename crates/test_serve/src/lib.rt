@@ -23,6 +23,8 @@ mod play;
 #[cfg(test)]
 mod railway;
 #[cfg(test)]
+mod refusing;
+#[cfg(test)]
 mod replies;
 #[cfg(test)]
 mod seats;

@@ -1,0 +1,26 @@
+-- Entries that are committed again, one behind another.
+use Rattle.std.proofs.Common.{◌≡◌, ◌∙◌, ℕ, ◌+◌, ◌<◌, List, [], ◌∷◌, ◌++◌, length, take, get_or, subst, refl, sym, ap}
+use Rattle.std.proofs.lemmas.List.{take_more}
+use Rattle.rbc_node.specs.Receipts.{ShareValue}
+use Rattle.rbc_node.specs.declared.node.Node.{Node}
+use Rattle.cli_journal.specs.declared.entry.Entry.{Entry}
+use Rattle.serve_journal.specs.Resuming.{IsResumed, AreResumed}
+
+module _ (nodes : List Node) where
+  resumed_behind :
+      (es : List Entry) (e : Entry) (old mid new : List ShareValue)
+      → AreResumed nodes es old mid → IsResumed nodes e mid new → AreResumed nodes (es ++ e ∷ []) old new
+  resumed_behind [] e old mid new same is = (new, subst (λ (s : List ShareValue). IsResumed nodes e s new) same is, refl)
+  resumed_behind (d ∷ es) e old mid new (next, is, are) last = (next, is, resumed_behind es e next mid new are last)
+
+  -- the next entry behind the first
+  pub resumed_next :
+      (es : List Entry) (i : ℕ) (e : Entry) (old mid new : List ShareValue)
+      → i < length es → e ≡ get_or es i e → AreResumed nodes (take i es) old mid → IsResumed nodes e mid new
+      → AreResumed nodes (take (i + 1) es) old new
+  resumed_next es i e old mid new low is are last =
+      let front : take (i + 1) es ≡ take i es ++ e ∷ [] =
+      take_more es i e low ∙ ap (λ (x : Entry). take i es ++ x ∷ []) (sym is)
+      in
+      subst (λ (xs : List Entry). AreResumed nodes xs old new) (sym front)
+      (resumed_behind (take i es) e old mid new are last)

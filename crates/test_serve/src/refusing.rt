@@ -1,0 +1,108 @@
+//! What the interlocking is answered where a centre takes no event any more.
+
+use crate::client::{Done, Missed, answers, connect};
+use crate::line::two_centres;
+use rbc_centre::{Body, Event, Frame};
+use rbc_line::Line;
+use rbc_node::{Node, Open};
+use serve_callers::run_door;
+use serve_hall::{Hall, State, bells_of, doors_of, exchanges_of, nodes_of, tellers_of};
+use serve_line::{Doors, Manner, Quiet};
+use std::alloc::Global;
+use std::net::{Net, SocketAddr, TcpListener, TcpStream};
+use std::sync::Wait;
+use std::test::*;
+use std::thread;
+use std::thread::Threads;
+use std::time::Clock;
+
+// The last stamp that a step may have.
+const LAST_STAMP: u32 = 1_073_741_823;
+
+// The clock of centre A is at its end: 3 is the number of that fault. Centre B goes on.
+static LINES: [(&str, &str); 4] = [
+    ("set A 0\n", "refused 3\n"),
+    ("unset A 0\n", "refused 3\n"),
+    ("set B 2\n", "> set B 2\nB 2 Done\n"),
+    (
+        "show\n",
+        "> show\nsection 0 A shut\nsection 1 A shut\nsection 2 B open\n",
+    ),
+];
+
+// The centres. To A came a frame of so late a step that its own has the last stamp.
+fn nodes_at_the_end<R: Wait>(rt: &R, alloc: Global, line: &Line) -> Done<Vec<Node>> {
+    let nodes = nodes_of(alloc, line).ok().ok_or(Missed::Memory)?;
+    let first = nodes.first().ok_or(Missed::Door)?;
+    let frame = Frame::new(1, LAST_STAMP - 1, Body::AskRight { engine: 1 });
+    let event = Event::Deliver { from: 1, frame };
+    let mut share = first.share();
+    match first.commit(rt, &Open, &mut share, event) {
+        Ok(outcome) if outcome.stamp == LAST_STAMP => Ok(nodes),
+        _ => Err(Missed::Clock),
+    }
+}
+
+// The lines are said over one connection, each behind the answer to the one before.
+fn ask_all<R: Net<Stream = TcpStream>>(rt: &R, alloc: Global, door: SocketAddr) -> Done<()> {
+    let stream = connect(rt, door)?;
+    for (said, wanted) in &LINES {
+        answers(alloc, &stream, said, wanted)?;
+    }
+    Ok(())
+}
+
+// The same, while the control door is open, which is the last.
+fn ask_at_the_door<R: Threads + Wait + Sync + Net<Stream = TcpStream> + Clock>(
+    rt: &R,
+    hall: &Hall<'_>,
+) -> Done<()> {
+    let door = hall.doors.last().ok_or(Missed::Door)?;
+    let ((), asked) = thread::join(
+        rt,
+        || run_door(rt, hall, &Quiet, door),
+        || {
+            let asked = ask_all(rt, hall.alloc, door.address);
+            hall.stop();
+            asked
+        },
+    );
+    asked
+}
+
+fn asked<R: Threads + Wait + Sync + Net<Stream = TcpStream, Listener = TcpListener> + Clock>(
+    rt: &R,
+    alloc: Global,
+    line: &Line,
+    nodes: &[Node],
+) -> Result<(), Fail> {
+    let doors = Doors::open(rt, alloc, line, 0, &Quiet)
+        .ok()
+        .ok_or(Missed::Door)?;
+    let (listening, _) = doors.all();
+    let doors = doors_of(alloc, line, nodes, listening)?;
+    let bells = bells_of(alloc, line)?;
+    let exchanges = exchanges_of(alloc, line, &bells)?;
+    let tellers = tellers_of(alloc, line, &exchanges, &doors, &[], Manner::default())?;
+    let state = State::new(line.centre_count());
+    let hall = Hall {
+        alloc,
+        line,
+        nodes,
+        tellers: &tellers,
+        doors: &doors,
+        links: &[],
+        bells: &bells,
+        journals: &[],
+        state: &state,
+        manner: Manner::default(),
+    };
+    Ok(ask_at_the_door(rt, &hall)?)
+}
+
+#[test]
+fn an_event_that_is_refused_is_answered_by_its_fault(rt: HostRuntime) -> Result<(), Fail> {
+    let line = two_centres(rt.alloc())?;
+    let nodes = nodes_at_the_end(&rt, rt.alloc(), &line)?;
+    asked(&rt, rt.alloc(), &line, &nodes)
+}
