@@ -1,5 +1,5 @@
 -- Notes of entries, one behind another.
-use Rattle.std.proofs.Common.{◌≡◌, ◌∙◌, ℕ, zero, suc, ◌+◌, ◌<◌, List, [], ◌∷◌, ◌++◌, length, take, get_or, subst, sym, ap}
+use Rattle.std.proofs.Common.{◌≡◌, ◌∙◌, ℕ, ◌+◌, ◌<◌, List, [], ◌∷◌, ◌++◌, length, take, get_or, subst, sym, ap}
 use Rattle.std.proofs.lemmas.List.{take_more}
 use Rattle.rbc_log.specs.declared.entry.Entry as log
 use Rattle.cli_journal.specs.declared.entry.Entry as journal
@@ -24,14 +24,3 @@ notes_next es i ns ms e n low is put are note =
     in
     subst (λ (xs : List journal.Entry). AreNotesOf (take (i + 1) es) xs) (sym put)
     (subst (λ (xs : List log.Entry). AreNotesOf xs (ns ++ n ∷ [])) (sym front) (notes_behind (take i es) ns e n are note))
-
--- as many entries as there are notes
-pub notes_front :
-    (k : ℕ) (es : List log.Entry) (ns : List journal.Entry) → AreNotesOf (take k es) ns
-    → AreNotesOf (take (length ns) es) ns
-notes_front zero es [] are = are
-notes_front zero es (n ∷ ns) are = absurd are
-notes_front (suc k) [] [] are = are
-notes_front (suc k) [] (n ∷ ns) are = absurd are
-notes_front (suc k) (e ∷ es) [] are = absurd are
-notes_front (suc k) (e ∷ es) (n ∷ ns) are = (are.0, notes_front k es ns are.1)

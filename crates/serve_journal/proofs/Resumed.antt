@@ -1,10 +1,14 @@
 -- Entries that are committed again, one behind another.
-use Rattle.std.proofs.Common.{◌≡◌, ◌∙◌, ℕ, ◌+◌, ◌<◌, List, [], ◌∷◌, ◌++◌, length, take, get_or, subst, refl, sym, ap}
+use Rattle.std.proofs.Common.{◌≡◌, ◌∙◌, ℕ, ◌+◌, ◌<◌, List, [], ◌∷◌, ◌++◌, length, take, get_or, slice_get, slice_set, Some, Result, Ok, Err, OnOk, subst, refl, sym, ap}
 use Rattle.std.proofs.lemmas.List.{take_more}
+use Rattle.rbc_centre.specs.declared.event.Event.{Event}
+use Rattle.rbc_node.specs.Node.{centre_of}
 use Rattle.rbc_node.specs.Receipts.{ShareValue}
 use Rattle.rbc_node.specs.declared.node.Node.{Node}
+use Rattle.cli_journal.specs.Order.{taken_at}
 use Rattle.cli_journal.specs.declared.entry.Entry.{Entry}
-use Rattle.serve_journal.specs.Resuming.{IsResumed, AreResumed}
+use Rattle.serve_control.specs.Events.{IsCommitted}
+use Rattle.serve_journal.specs.Resuming.{CommitsAgain, IsResumed, AreResumed}
 
 module _ (nodes : List Node) where
   resumed_behind :
@@ -24,3 +28,25 @@ module _ (nodes : List Node) where
       in
       subst (λ (xs : List Entry). AreResumed nodes xs old new) (sym front)
       (resumed_behind (take i es) e old mid new are last)
+
+  -- one entry, where the commit through the share in its place ends well
+  pub resumes :
+      {F : Type 0} (e : Entry) (at : ℕ) (old : List ShareValue) (node : Node) (before after : ShareValue) (event : Event) (r : Result (Unit {0}) F)
+      → at ≡ taken_at e → slice_get nodes at ≡ Some node → slice_get old at ≡ Some before → IsCommitted (taken_at e) event e.event
+      → OnOk r (CommitsAgain (centre_of node) before after event e.stamp)
+      → OnOk r (IsResumed nodes e old (slice_set old at after))
+  resumes e at old node before after event (Ok done) same there share its committed =
+      subst (λ k. slice_get nodes k ≡ Some node → slice_get old k ≡ Some before → IsResumed nodes e old (slice_set old k after)) (sym same)
+      (λ n s. record {
+        node = node;
+        before = before;
+        after = after;
+        event = event;
+        there = n;
+        share = s;
+        its = its;
+        committed = committed;
+        others = refl;
+      })
+      there share
+  resumes e at old node before after event (Err why) same there share its committed = tt

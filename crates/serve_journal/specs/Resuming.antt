@@ -1,5 +1,5 @@
 -- How centres go on from journals: each event is committed again at its centre.
-use Rattle.std.specs.Prelude.{◌≡◌, ℕ, List, [], ◌∷◌, map, slice_get, slice_set, Some}
+use Rattle.std.specs.Prelude.{◌≡◌, ℕ, List, [], ◌∷◌, slice_get, slice_set, Some}
 use Rattle.rbc_spec.specs.Outcome.{Outcome}
 use Rattle.rbc_centre.specs.declared.event.Event.{Event}
 use Rattle.rbc_node.specs.Node.{centre_of, CommitsAt}

@@ -1,4 +1,4 @@
-ghost use Rattle.std.specs.Prelude.{◌≡◌, take, drop, length, IfOk};
+ghost use Rattle.std.specs.Prelude.{◌≡◌, take, drop, IfOk};
 ghost use Rattle.std.specs.List.{flat_map};
 ghost use Rattle.cli_journal.specs.Journal.{entry_line};
 ghost use Rattle.rbc_log.specs.Log.{LogValue};
@@ -7,7 +7,7 @@ ghost use Rattle.serve_journal.specs.Noting.{AreNotesOf};
 
 use cli_journal::{Entry, add_entry};
 use rbc_line::Line;
-use rbc_log::CentreLog;
+use rbc_log::{CentreLog, Entry as Committed};
 use rbc_node::Node;
 use serve_control::world_event;
 use std::alloc::{AllocError, Global};
@@ -16,7 +16,7 @@ use std::sync::Wait;
 /// How many events are written at once at most. The centre takes no step while they are copied.
 const MOST_AT_ONCE: usize = 256;
 
-/// The next events of a centre behind the first `written`, in the order of its log. How many they are is not claimed.
+/// The next events of a centre behind the first `written`, in the order of its log: all of them, and 256 at most.
 pub(crate) fn next_entries<R: Wait>(
     rt: &R,
     alloc: Global,
@@ -24,23 +24,30 @@ pub(crate) fn next_entries<R: Wait>(
     written: usize,
 ) -> Result<Vec<Entry>, AllocError>
     ensures { IfOk result (λ next. (l : LogValue) × IsLogOf (centre_of node.now) l
-        × AreNotesOf (take (length next.items) (drop written l.entries)) next.items) }
+        × AreNotesOf (take 256 (drop written l.entries)) next.items) }
 {
     let look = node.look(rt);
     Ok(entries_from(alloc, look.log(), written)?)
 }
 
-fn entries_from(alloc: Global, log: &CentreLog, written: usize) -> Result<Vec<Entry>, AllocError>
-    ensures { IfOk result (λ next. AreNotesOf (take (length next.items) (drop written log.now.entries)) next.items) }
+// What is left of a row behind its first, so much as is written at once.
+fn next_of(entries: &[Committed], written: usize) -> &[Committed]
+    ensures { result.now ≡ take 256 (drop written entries.now) }
 {
-    let mut next = Vec::new(alloc);
-    let to = log
-        .entries()
-        .len()
-        .min(written.saturating_add(MOST_AT_ONCE));
-    let Some(entries) = log.entries().get(written..to) else {
-        return Ok(next);
+    let Some(left) = entries.get(written..) else {
+        return &[];
     };
+    match left.get(..MOST_AT_ONCE) {
+        Some(first) => first,
+        None => left,
+    }
+}
+
+fn entries_from(alloc: Global, log: &CentreLog, written: usize) -> Result<Vec<Entry>, AllocError>
+    ensures { IfOk result (λ next. AreNotesOf (take 256 (drop written log.now.entries)) next.items) }
+{
+    let entries = next_of(log.entries(), written);
+    let mut next = Vec::new(alloc);
     for entry in entries {
         let Ok(event) = world_event(alloc, entry) else {
             return Err(AllocError);

@@ -88,9 +88,14 @@ fn commit_entry<R: Wait>(
     ensures { OnOk result (IsResumed nodes.now entry.now shares.old shares.new) }
 {
     let at = entry.centre();
-    let (Some(node), Some(share)) = (nodes.get(at as usize), shares.get_mut(at as usize)) else {
+    let place = at as usize;
+    let Some(node) = nodes.get(place) else {
         return Err(ResumeFault::Unfit(at, 1));
     };
+    if place >= shares.len() {
+        return Err(ResumeFault::Unfit(at, 1));
+    }
+    let share = &mut shares[place];
     let number = share.receipts().len().saturating_add(1);
     let Some(event) = event_of(rt, alloc, nodes, entry)? else {
         return Err(ResumeFault::Unfit(at, number));

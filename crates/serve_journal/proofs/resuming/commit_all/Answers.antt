@@ -1,7 +1,3 @@
-use Rattle.std.proofs.Common.{◌∙◌, List, length, take, subst, refl, arith}
-use Rattle.std.proofs.lemmas.List.{take_all}
-use Rattle.cli_journal.specs.declared.entry.Entry.{Entry}
-use Rattle.serve_journal.specs.Resuming.{AreResumed}
 use Rattle.serve_journal.proofs.Resumed.{resumed_next}
 use Rattle.serve_journal.proofs.resuming.commit_all.Goals as goal
 

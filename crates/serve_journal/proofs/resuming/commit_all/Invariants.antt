@@ -3,4 +3,4 @@ use Rattle.serve_journal.specs.Resuming.{AreResumed}
 use Rattle.serve_journal.proofs.resuming.commit_all.Given as goal
 
 abbrev pub invariant-loop-entry : goal.invariant-loop-entry
-invariant-loop-entry l = AreResumed l.nodes (take l.entry-index l.entries) l.fn.shares l.shares
+invariant-loop-entry g l = AreResumed l.nodes (take l.entry-index l.entries) l.fn.shares l.shares
