@@ -8,6 +8,7 @@
 
 mod answer;
 mod book;
+mod change;
 mod claim;
 mod edits;
 mod moves;

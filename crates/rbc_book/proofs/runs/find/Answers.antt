@@ -4,7 +4,7 @@ use Rattle.rbc_spec.specs.SectionRuns.{within}
 use Rattle.rbc_book.specs.Runs.{sections_of}
 use Rattle.rbc_book.specs.declared.run.Run.{Run}
 use Rattle.rbc_book.proofs.Rows.{at_holds, firsts_rise, found_none, none_begins}
-use Rattle.rbc_book.proofs.runs.search.Goals as goal
+use Rattle.rbc_book.proofs.runs.find.Goals as goal
 
 pub returns-then-later-eq0-clause-none : goal.returns-then-later-eq0-clause-none
 returns-then-later-eq0-clause-none c _ =
