@@ -84,10 +84,6 @@ page-map (x ∷ xs) (suc k) = page-map xs k
 pub page_of_sheet : (sheet : Sheet) (k : ℕ) → page_of (pages_on sheet) k ≡ page_on sheet k
 page_of_sheet sheet k = page-map sheet k
 
-pub own_on : (sheet : Sheet) (s : ℕ) → is_own (pages_on sheet) s ≡ true → is_some (page_on sheet s) ≡ true
-unfolding is_own
-own_on sheet s own = ap is_some (sym (page_of_sheet sheet s)) ∙ own
-
 -- what is written on a sheet is written in the book
 pub sheet_writes : (old new : Sheet) (s : ℕ) (page : Page) → is_own (pages_on old) s ≡ true → ((k : ℕ) → page_on new k ≡ put (page_on old) s (Some page) k) → IsWritten (pages_on old) (pages_on new) s page
 sheet_writes old new s page own written = writes (pages_on old) (pages_on new) s page own

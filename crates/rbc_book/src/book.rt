@@ -80,6 +80,7 @@ impl Book {
     }
 
     // Changes the page of a section. The page that it had, where it is of this book's home.
+    #[inline]
     fn change(&mut self, s: u16, change: Change) -> Option<Page>
         ensures own { is_some result ≡ is_own self.old s }
         ensures page { IfSome result (λ page. IsPageOf self.old s page) }

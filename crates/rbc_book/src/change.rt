@@ -21,6 +21,7 @@ impl Change {
     ghost use Rattle.rbc_book.specs.Changes.{IsAfter};
 
     /// The page of the section from then on.
+    #[inline]
     pub(crate) fn of(self, page: Page) -> Page
         ensures { IsAfter self page result }
     {

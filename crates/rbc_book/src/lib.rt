@@ -11,8 +11,8 @@ mod book;
 mod change;
 mod claim;
 mod edits;
-mod moves;
 mod page;
+mod parts;
 mod run;
 mod runs;
 

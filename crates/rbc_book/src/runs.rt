@@ -91,6 +91,7 @@ impl Runs {
     }
 
     /// Changes the page of a section. The page that it had, where it has one.
+    #[inline]
     pub(crate) fn change(&mut self, s: u16, change: Change) -> Option<Page>
         ensures page { result ≡ page_on self.old s }
         ensures pages { IfSome result (λ old. (new : Page) × IsAfter change old new
@@ -114,21 +115,26 @@ impl Runs {
     }
 }
 
-// The place of the run that has the section, by the first sections of all runs.
+// The place of the run that has the section: the half is cut off that stands before it or behind.
 fn find(runs: &[Run], s: u16) -> Option<usize>
     requires { AreInOrder 0 runs.now }
     ensures some { IfSome result (λ i. At (λ r. within (sections_of r) s ≡ true) i runs.now) }
     ensures none { result ≡ None → spot_at runs.now s ≡ None }
 {
-    let later = runs.partition_point(|run| run.first <= s);
-    if later == 0 {
-        return None;
+    let mut low = 0;
+    let mut high = runs.len();
+    while low < high {
+        let middle = (low + high) / 2;
+        let run = runs[middle];
+        if s < run.first {
+            high = middle;
+        } else if u32::from(s) < run.behind() {
+            return Some(middle);
+        } else {
+            low = middle + 1;
+        }
     }
-    if runs[later - 1].contains(s) {
-        Some(later - 1)
-    } else {
-        None
-    }
+    None
 }
 
 // The first section of the first run that is in use for the train.

@@ -1,23 +1,26 @@
-use Rattle.std.proofs.Common.{rules, ◌≡◌, ◌-◌, nat_le, true, sym, ◌∙◌, arith}
-use Rattle.std.proofs.lemmas.List.Sorted.{IsPartitionedBy-leb, IsPartitionPoint-from_clause}
+use Rattle.std.proofs.Common.{◌≡◌, ◌+◌, ◌<◌, ◌≤◌, ◌/◌, true, subst, arith}
 use Rattle.rbc_spec.specs.SectionRuns.{within}
+use Rattle.law_base.proofs.Runs.{within_from}
 use Rattle.rbc_book.specs.Runs.{sections_of}
-use Rattle.rbc_book.specs.declared.run.Run.{Run}
-use Rattle.rbc_book.proofs.Rows.{at_holds, firsts_rise, found_none, none_begins}
+use Rattle.rbc_book.proofs.Rows.{at_holds}
+use Rattle.rbc_book.proofs.Searches.{lower, raise, found_none}
 use Rattle.rbc_book.proofs.runs.find.Goals as goal
 
-pub returns-then-later-eq0-clause-none : goal.returns-then-later-eq0-clause-none
-returns-then-later-eq0-clause-none c _ =
-    let point = IsPartitionPoint-from_clause (λ (r : Run). nat_le r.first c.args.s) c.args.runs.now c.partition_point-later.result c.partition_point-later.ensures.partitioned
-    (IsPartitionedBy-leb (λ (r : Run). r.first) c.args.runs.now c.args.s (firsts_rise c.args.runs.now c.requires)) (λ a r f k. search rules) in
-    none_begins c.args.runs.now c.args.s c.partition_point-later.result c.requires c.if-later-eq0.true point
+pub loop-low-preserved-then-s-run : goal.loop-low-preserved-then-s-run
+loop-low-preserved-then-s-run c = lower c.args.runs.now c.args.s c.loop-low.low c.loop-low.high ((c.loop-low.low + c.loop-low.high) / 2) _ c.requires c.loop-low.invariant
+    (omega (arith, c.loop-low-test.true)) (omega (arith, c.loop-low-test.true)) c.if-s-run.true
 
-pub returns-then-contains-clause-some : goal.returns-then-contains-clause-some
-returns-then-contains-clause-some c = at_holds (λ r. within (sections_of r) c.args.s ≡ true) c.args.runs.now (c.partition_point-later.result - 1) _
-    (omega (arith, c.if-later-eq0.false, c.partition_point-later.ensures.bound)) (sym c.contains.ensures ∙ c.if-contains.true)
+pub returns-then-from-behind-clause-some : goal.returns-then-from-behind-clause-some
+returns-then-from-behind-clause-some c =
+    let ends = subst (λ n. c.args.s < n) c.behind.ensures (subst (λ n. n < c.behind.result) c.from.ensures c.if-from-behind.true) in
+    at_holds (λ r. within (sections_of r) c.args.s ≡ true) c.args.runs.now ((c.loop-low.low + c.loop-low.high) / 2) _
+    (omega (arith, c.loop-low-test.true, c.loop-low.invariant.bound)) (within_from _ c.args.s c.if-s-run.false ends)
 
-pub returns-else-contains-clause-none : goal.returns-else-contains-clause-none
-returns-else-contains-clause-none c _ =
-    let point = IsPartitionPoint-from_clause (λ (r : Run). nat_le r.first c.args.s) c.args.runs.now c.partition_point-later.result c.partition_point-later.ensures.partitioned
-    (IsPartitionedBy-leb (λ (r : Run). r.first) c.args.runs.now c.args.s (firsts_rise c.args.runs.now c.requires)) (λ a r f k. search rules) in
-    found_none c.args.runs.now c.args.s c.partition_point-later.result _ c.requires point c.partition_point-later.ensures.bound (λ some. sym c.contains.ensures ∙ c.if-contains.false)
+pub loop-low-preserved : goal.loop-low-preserved
+loop-low-preserved c =
+    let ends = subst (λ n. n ≤ c.args.s) c.behind.ensures (subst (λ n. c.behind.result ≤ n) c.from.ensures c.if-from-behind.false) in
+    raise c.args.runs.now c.args.s c.loop-low.low c.loop-low.high ((c.loop-low.low + c.loop-low.high) / 2) _ c.requires c.loop-low.invariant
+    (omega (arith, c.loop-low-test.true)) (omega (arith, c.loop-low-test.true)) ends
+
+pub returns-clause-none : goal.returns-clause-none
+returns-clause-none c _ = found_none c.args.runs.now c.args.s c.loop-low.low c.loop-low.high c.loop-low.invariant c.loop-low-test.false
