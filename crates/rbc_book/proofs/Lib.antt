@@ -8,3 +8,6 @@ pub mod Appends
 pub mod Opens
 pub mod Uses
 pub mod Sheets
+pub mod Searches
+pub mod Places
+pub mod Alone

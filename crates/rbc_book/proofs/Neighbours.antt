@@ -6,13 +6,14 @@ use Rattle.rbc_spec.specs.SectionRuns.{within}
 use Rattle.law_base.proofs.Runs.{within_from, within_behind}
 use Rattle.rbc_book.specs.Sheet.{page_in}
 use Rattle.rbc_book.specs.Runs.{At, AreInOrder, AreApart, GoesOn, GoesOnAt, sections_of}
-use Rattle.rbc_book.specs.Edits.{before, from, is_inside, split_at, joined, joined_at, with_page, IsSingledOut, IsWritten}
+use Rattle.rbc_book.specs.Edits.{joined, joined_at, with_page, changed_at, resized, IsFirst, IsLast, IsWritten}
 use Rattle.rbc_book.specs.declared.page.Page.{Page}
 use Rattle.rbc_book.specs.declared.run.Run.{Run}
-use Rattle.rbc_book.proofs.Rows.{at_is, spot_of_run}
-use Rattle.rbc_book.proofs.Splits.{inside_from, split-outside, at_first, at_second, single_first, single_inside}
+use Rattle.rbc_book.proofs.Rows.{at_is, at_next, spot_of_run}
+use Rattle.rbc_book.proofs.Splits.{before, from, is_inside, split_at, IsSingledOut, inside_from, split-outside, at_first, at_second, single_first, single_inside}
 use Rattle.rbc_book.proofs.Joins.{goes_on_at}
 use Rattle.rbc_book.proofs.Writes.{written_behind}
+use Rattle.rbc_book.proofs.Places.{changed_is, set_before}
 
 -- ## The page is the same
 
@@ -62,10 +63,10 @@ ahead-off zero s (x ∷ []) r m next inside other = absurd next
 ahead-off zero s (x ∷ y ∷ ys) r m next inside other = rw next (rw inside (λ h. other h.2))
 ahead-off (suc a) s (x ∷ xs) r m next inside other = ahead-off a s xs r m next inside other
 
-first-is : (s : ℕ) (page : Page) (r : Run) → r.first ≡ s → with_page page (before (s + 1) r) ≡ first_of page r
+pub first-is : (s : ℕ) (page : Page) (r : Run) → r.first ≡ s → with_page page (before (s + 1) r) ≡ first_of page r
 first-is s page r first = let one : s + 1 - r.first ≡ 1 = omega (arith, first) in λ i. record { first = r.first; count = one i; track = r.track; page = page }
 
-rest-is : (s : ℕ) (r : Run) → r.first ≡ s → from (s + 1) r ≡ without_first s r
+pub rest-is : (s : ℕ) (r : Run) → r.first ≡ s → from (s + 1) r ≡ without_first s r
 rest-is s r first = let rest : r.count - (s + 1 - r.first) ≡ r.count - 1 = omega (arith, first) in λ i. record { first = s + 1; count = rest i; track = r.track; page = r.page }
 
 module _ (a s : ℕ) (page : Page) (runs : List Run) (q r : Run) (at : At (λ p. p ≡ q) a runs) (next : At (λ p. p ≡ r) (suc a) runs) (first : r.first ≡ s) (some : 1 < r.count)
@@ -101,6 +102,20 @@ module _ (a s : ℕ) (page : Page) (runs : List Run) (q r : Run) (at : At (λ p.
       (subst (λ x. IsWritten s page runs (set (set runs a (joined q x)) (suc a) (without_first s r))) (first-is s page r first)
       (subst (λ x. IsWritten s page runs (set (set runs a (joined q m)) (suc a) x)) (rest-is s r first) moved))
 
+-- as the code changes the row
+pub first_joined : (i s : ℕ) (page : Page) (runs mid new : List Run) (q r : Run) → At (λ p. p ≡ r) i runs → IsFirst s page r → 0 < i → At (λ p. p ≡ q) (i - 1) runs → GoesOn q (first_of page r)
+    → AreInOrder 0 runs → AreApart runs → mid ≡ changed_at (resized q.first (q.count + 1)) (i - 1) runs → new ≡ changed_at (resized (s + 1) (r.count - 1)) i mid → IsWritten s page runs new
+first_joined i s page runs mid new q r at is some ahead on order apart one two =
+    let back : suc (i - 1) ≡ i = omega (arith, some) in
+    let again : i - 1 + 1 ≡ i = omega (arith, some) in
+    let next : At (λ p. p ≡ r) (suc (i - 1)) runs = subst (λ n. At (λ p. p ≡ r) n runs) (sym back) at in
+    let mid_is : mid ≡ set runs (i - 1) (joined q (first_of page r)) = one ∙ changed_is (resized q.first (q.count + 1)) (i - 1) runs q ahead in
+    let at_mid : At (λ p. p ≡ r) i mid = subst (λ xs. At (λ p. p ≡ r) i xs) (sym mid_is)
+    (subst (λ n. At (λ p. p ≡ r) n (set runs (i - 1) (joined q (first_of page r)))) back (set_before (λ p. p ≡ r) (i - 1) runs (joined q (first_of page r)) next)) in
+    let new_is : new ≡ set (set runs (i - 1) (joined q (first_of page r))) i (without_first s r) = two ∙ changed_is (resized (s + 1) (r.count - 1)) i mid r at_mid ∙ ap (λ xs. set xs i (without_first s r)) mid_is in
+    subst (IsWritten s page runs) (sym new_is) (subst (λ n. IsWritten s page runs (set (set runs (i - 1) (joined q (first_of page r))) n (without_first s r))) again
+    (moved_ahead (i - 1) s page runs q r ahead next is.0 is.1 on order apart))
+
 -- ## To the run behind
 
 -- the last section of a run, as it is used from now on
@@ -128,7 +143,7 @@ behind-off zero s (x ∷ []) r n m at next inside other = absurd next
 behind-off zero s (x ∷ y ∷ ys) r n m at next inside other = rw (at, next) (rw inside (λ h. other h.2))
 behind-off (suc i) s (x ∷ xs) r n m at next inside other = behind-off i s xs r n m at next inside other
 
-last-is : (s : ℕ) (page : Page) (r : Run) → s + 1 ≡ r.first + r.count → 1 < r.count → with_page page (from s r) ≡ last_of s page r
+pub last-is : (s : ℕ) (page : Page) (r : Run) → s + 1 ≡ r.first + r.count → 1 < r.count → with_page page (from s r) ≡ last_of s page r
 last-is s page r last some = let one : r.count - (s - r.first) ≡ 1 = omega (arith, last, some) in λ i. record { first = s; count = one i; track = r.track; page = page }
 
 module _ (i s : ℕ) (page : Page) (runs : List Run) (r n : Run) (at : At (λ p. p ≡ r) i runs) (next : At (λ p. p ≡ n) (suc i) runs) (last : s + 1 ≡ r.first + r.count) (some : 1 < r.count)
@@ -165,3 +180,17 @@ module _ (i s : ℕ) (page : Page) (runs : List Run) (r n : Run) (at : At (λ p.
       let here : suc i ≡ i + 1 = omega arith in
       subst (λ k. IsWritten s page runs (set (set runs i (before s r)) k (joined (last_of s page r) n))) here
       (subst (λ x. IsWritten s page runs (set (set runs i (before s r)) (suc i) (joined x n))) (last-is s page r last some) shifted)
+
+-- as the code changes the row
+pub last_joined : (i s : ℕ) (page : Page) (runs mid new : List Run) (r n : Run) → At (λ p. p ≡ r) i runs → IsLast s page r → At (λ p. p ≡ n) (i + 1) runs → GoesOn (last_of s page r) n
+    → AreInOrder 0 runs → AreApart runs → mid ≡ changed_at (resized r.first (s - r.first)) i runs → new ≡ changed_at (resized s (1 + n.count)) (i + 1) mid → IsWritten s page runs new
+last_joined i s page runs mid new r n at is behind on order apart one two =
+    let back : suc i ≡ i + 1 = omega arith in
+    let next : At (λ p. p ≡ n) (suc i) runs = at_next (λ p. p ≡ n) runs i behind in
+    let mid_is : mid ≡ set runs i (before s r) = one ∙ changed_is (resized r.first (s - r.first)) i runs r at in
+    let at_mid : At (λ p. p ≡ n) (i + 1) mid = subst (λ xs. At (λ p. p ≡ n) (i + 1) xs) (sym mid_is)
+    (subst (λ k. At (λ p. p ≡ n) k (set runs i (before s r))) back (set_before (λ p. p ≡ n) i runs (before s r) next)) in
+    let run_is : resized s (1 + n.count) n ≡ joined (last_of s page r) n = (λ j. record { first = s; count = 1 + n.count; track = sym on.1 j; page = sym on.2 j }) in
+    let new_is : new ≡ set (set runs i (before s r)) (i + 1) (joined (last_of s page r) n) = two ∙ changed_is (resized s (1 + n.count)) (i + 1) mid n at_mid
+    ∙ ap (λ x. set mid (i + 1) x) run_is ∙ ap (λ xs. set xs (i + 1) (joined (last_of s page r) n)) mid_is in
+    subst (IsWritten s page runs) (sym new_is) (moved_behind i s page runs r n at next is.0 is.1 on order apart)

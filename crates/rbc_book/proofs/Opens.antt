@@ -28,10 +28,6 @@ opens_more sheet first count more r run opened end so_far = record {
   bound = omega (arith, end, run.bound);
 }
 
--- and there are more of them than before
-pub opens_on : (sheet : Sheet) (first count more : ℕ) (r : Run) → IsRunOf sheet (first + count) r → first + more ≡ r.first + r.count → count < more
-opens_on sheet first count more r run end = let ends = within_true (sections_of r) (first + count) run.has in omega (arith, ends.1, end)
-
 -- the next one is not open
 pub stops : (sheet : Sheet) (first most count : ℕ) → count < most → is_open_on sheet (first + count) ≡ false → HasOpened sheet first count → count ≡ longest (is_open_on sheet) first most
 stops sheet first most count less shut so_far =

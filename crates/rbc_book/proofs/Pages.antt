@@ -1,5 +1,5 @@
 -- Laws of the pages of a book.
-use Rattle.std.proofs.Common.{if◌then◌else◌, ◌≡◌, ℕ, ◌==◌, zero, suc, List, [], ◌∷◌, map, slice_get, option_and_then, cond, inl, inr, Bool, true, false, Option, Some, None, is_some, unwrap_or, option_map, refl, ap, sym, ◌∙◌}
+use Rattle.std.proofs.Common.{if◌then◌else◌, ◌≡◌, ℕ, ◌==◌, zero, suc, List, [], ◌∷◌, map, slice_get, option_and_then, cond, inl, inr, Bool, true, false, Option, Some, None, IfSome, is_some, unwrap_or, option_map, refl, ap, sym, ◌∙◌}
 use Rattle.std.specs.Option.{option_map_or}
 use Rattle.std.proofs.lemmas.Bool.{false≢true}
 use Rattle.std.proofs.lemmas.Bool.Decides.{eqb_tells}
@@ -11,6 +11,8 @@ use Rattle.rbc_spec.specs.Centre.{Shut, is_open}
 use Rattle.rbc_spec.specs.SectionRuns.{longest}
 use Rattle.rbc_book.specs.Entries.{entry_of}
 use Rattle.rbc_book.specs.Book.{Pages, page_of, is_own, entry_at, wish_at}
+use Rattle.rbc_book.specs.Changes.{IsPageOf, IsAfter, entry_after, wish_after}
+use Rattle.rbc_book.specs.declared.change.Change.{Change}
 use Rattle.rbc_book.specs.declared.page.Page.{Page}
 
 -- ## Sections of another home
@@ -82,10 +84,6 @@ page-map (x ∷ xs) (suc k) = page-map xs k
 pub page_of_sheet : (sheet : Sheet) (k : ℕ) → page_of (pages_on sheet) k ≡ page_on sheet k
 page_of_sheet sheet k = page-map sheet k
 
-pub own_on : (sheet : Sheet) (s : ℕ) → is_own (pages_on sheet) s ≡ true → is_some (page_on sheet s) ≡ true
-unfolding is_own
-own_on sheet s own = ap is_some (sym (page_of_sheet sheet s)) ∙ own
-
 -- what is written on a sheet is written in the book
 pub sheet_writes : (old new : Sheet) (s : ℕ) (page : Page) → is_own (pages_on old) s ≡ true → ((k : ℕ) → page_on new k ≡ put (page_on old) s (Some page) k) → IsWritten (pages_on old) (pages_on new) s page
 sheet_writes old new s page own written = writes (pages_on old) (pages_on new) s page own
@@ -137,3 +135,53 @@ open_on sheet s = by_spot (spot_on sheet s) ∙ ap (λ o. is_open (option_map_or
 
 pub longest_open : (sheet : Sheet) (first most : ℕ) → longest (is_open_on sheet) first most ≡ longest (λ s. is_open (entry_at (pages_on sheet) s)) first most
 longest_open sheet first most = ap (λ (test : ℕ → Bool). longest test first most) (λ i s. open_on sheet s i)
+
+-- ## A page is changed
+
+-- what is said of the pages of a book after a change of one of its sections
+pub record IsChanged (old new : Pages) (s : ℕ) (change : Change) (was : Option Page) : Type 0 where
+  pub own : is_some was ≡ is_own old s
+  pub page : IfSome was (λ page. IsPageOf old s page)
+  pub homes : (k : ℕ) → is_own new k ≡ is_own old k
+  pub entry : is_own old s ≡ true → (k : ℕ) → entry_at new k ≡ put (entry_at old) s (entry_after change (entry_at old s) (wish_at old s)) k
+  pub wish : is_own old s ≡ true → (k : ℕ) → wish_at new k ≡ put (wish_at old) s (wish_after change (entry_at old s) (wish_at old s)) k
+  pub shut : was ≡ None → entry_at old s ≡ Shut
+
+of_page : (pages : Pages) (s : ℕ) (page : Page) → Some page ≡ page_of pages s → IsPageOf pages s page
+unfolding entry_at wish_at
+of_page pages s page is = record {
+  entry = ap (λ o. option_map_or (λ (q : Page). entry_of q.entry) o Shut) is;
+  wish = ap (λ o. option_map_or (λ (q : Page). q.is_wished) o false) is;
+}
+
+owns : (pages : Pages) (s : ℕ) (was : Option Page) → was ≡ page_of pages s → is_some was ≡ is_own pages s
+unfolding is_own
+owns pages s was is = ap is_some is
+
+pub changes : (old new : Sheet) (s : ℕ) (change : Change) (was : Option Page) → was ≡ page_on old s
+    → IfSome was (λ page. (next : Page) × IsAfter change page next × ((k : ℕ) → page_on new k ≡ put (page_on old) s (Some next) k))
+    → (was ≡ None → new ≡ old) → IsChanged (pages_on old) (pages_on new) s change was
+changes old new s change None is written same =
+    let not_own = owns (pages_on old) s None (is ∙ sym (page_of_sheet old s)) in
+    record {
+      own = not_own;
+      page = tt;
+      homes = λ k. ap (λ sheet. is_own (pages_on sheet) k) (same refl);
+      entry = λ own. absurd (false≢true (not_own ∙ own));
+      wish = λ own. absurd (false≢true (not_own ∙ own));
+      shut = λ _. foreign_is_shut (pages_on old) s (sym not_own);
+    }
+changes old new s change (Some page) is written same =
+    let at = is ∙ sym (page_of_sheet old s) in
+    let own = owns (pages_on old) s (Some page) at in
+    let read = of_page (pages_on old) s page at in
+    let next = written.0 in
+    let done = sheet_writes old new s next (sym own) written.2 in
+    record {
+      own = own;
+      page = read;
+      homes = done.homes;
+      entry = λ _ k. done.entry k ∙ ap (λ e. put (entry_at (pages_on old)) s e k) (written.1.entry ∙ ap (λ e. entry_after change e page.is_wished) read.entry ∙ ap (entry_after change (entry_at (pages_on old) s)) read.wish);
+      wish = λ _ k. done.wish k ∙ ap (λ w. put (wish_at (pages_on old)) s w k) (written.1.wish ∙ ap (λ e. wish_after change e page.is_wished) read.entry ∙ ap (wish_after change (entry_at (pages_on old) s)) read.wish);
+      shut = λ none. absurd (false≢true (sym (ap is_some none)));
+    }

@@ -1,9 +1,7 @@
 -- Laws of rows of runs: what stands at a place, what is said of a section, and where it is found.
-use Rattle.std.proofs.Common.{if◌then◌else◌, subst, ◌≡◌, ℕ, zero, suc, ◌+◌, ◌-◌, ◌<◌, ◌≤◌, inl, inr, true, false, List, [], ◌∷◌, length, get_or, map, slice_get, nat_lt, nat_le, Some, None, option_and_then, refl, ap, sym, ◌∙◌, arith}
+use Rattle.std.proofs.Common.{if◌then◌else◌, subst, ◌≡◌, ℕ, zero, suc, ◌+◌, ◌<◌, ◌≤◌, inl, inr, true, false, List, [], ◌∷◌, length, get_or, map, slice_get, nat_lt, Some, None, option_and_then, refl, ap, sym, ◌∙◌, arith}
 use Rattle.std.specs.List.{range_with_len}
-use Rattle.std.specs.List.Sorted.{IsNonDecreasingBy, IsPartitionPoint}
-use Rattle.std.proofs.lemmas.Bool.{cases_lt, cases_order, lt-ltb, le-ltb, leb-true, leb-false}
-use Rattle.std.proofs.lemmas.List.{get_or_default}
+use Rattle.std.proofs.lemmas.Bool.{cases_lt, lt-ltb, le-ltb}
 use Rattle.rbc_spec.specs.SectionRuns.{within}
 use Rattle.law_base.proofs.Runs.{within_true, within_before, within_behind}
 use Rattle.rbc_book.specs.Sheet.{spot_on}
@@ -80,11 +78,11 @@ pub few : (from : ℕ) (runs : List Run) → AreInOrder from runs → length run
 few from [] order = omega arith
 few from (q ∷ qs) order = omega (arith, order.1, few (q.first + q.count) qs order.3)
 
--- and fewer where one of them has two
-pub fewer : (from : ℕ) (runs : List Run) (i : ℕ) → AreInOrder from runs → At (λ q. 1 < q.count) i runs → length runs < sections_in runs
-fewer from [] i order at = absurd at
-fewer from (q ∷ qs) zero order at = omega (arith, at, few (q.first + q.count) qs order.3)
-fewer from (q ∷ qs) (suc i) order at = omega (arith, order.1, fewer (q.first + q.count) qs i order.3 at)
+-- and fewer where one of them has more
+pub spare : (n from : ℕ) (runs : List Run) (i : ℕ) → AreInOrder from runs → At (λ q. n < q.count) i runs → length runs + n ≤ sections_in runs
+spare n from [] i order at = absurd at
+spare n from (q ∷ qs) zero order at = omega (arith, at, few (q.first + q.count) qs order.3)
+spare n from (q ∷ qs) (suc i) order at = omega (arith, order.1, spare n (q.first + q.count) qs i order.3 at)
 
 first_from : (from : ℕ) (runs : List Run) (i : ℕ) (d : Run) → AreInOrder from runs → i < length runs → from ≤ (get_or runs i d).first
 first_from from [] i d order lt = absurd (let no : ⊥ = omega arith in no)
@@ -97,16 +95,6 @@ one_behind_another from [] i j d order less lt = absurd (let no : ⊥ = omega ar
 one_behind_another from (q ∷ qs) i zero d order less lt = absurd (let no : ⊥ = omega arith in no)
 one_behind_another from (q ∷ qs) zero (suc j) d order less lt = first_from (q.first + q.count) qs j d order.3 (omega arith)
 one_behind_another from (q ∷ qs) (suc i) (suc j) d order less lt = one_behind_another (q.first + q.count) qs i j d order.3 (omega arith) (omega arith)
-
--- the first sections do not fall
-pub firsts_rise : (runs : List Run) → AreInOrder 0 runs → IsNonDecreasingBy (λ r. r.first) runs
-firsts_rise runs order i j d le lt = elim (cases_order i j) [
-  | inl same ↦ rw same (omega arith)
-  | inr other ↦ elim other [
-    | inl less ↦ omega (arith, one_behind_another 0 runs i j d order less lt)
-    | inr more ↦ absurd (let no : ⊥ = omega arith in no)
-  ]
-]
 
 -- ## What is said of a section
 
@@ -126,23 +114,9 @@ spot_of_run from (q ∷ qs) (suc i) k r order at has =
     rw (within_behind (sections_of q) k (omega (arith, later, ends.0))) (spot_of_run (q.first + q.count) qs i k r order.3 at has)
 
 -- nothing where no run has it
-spot_none : (runs : List Run) (s : ℕ) → ((i : ℕ) (d : Run) → i < length runs → within (sections_of (get_or runs i d)) s ≡ false) → spot_at runs s ≡ None
+pub spot_none : (runs : List Run) (s : ℕ) → ((i : ℕ) (d : Run) → i < length runs → within (sections_of (get_or runs i d)) s ≡ false) → spot_at runs s ≡ None
 spot_none [] s none = refl
 spot_none (r ∷ rs) s none = rw (none 0 r (omega arith)) (spot_none rs s (λ i d lt. none (suc i) d (omega arith)))
-
--- nothing where the last run that does not begin behind it has it not
-pub spot_not_found : (runs : List Run) (s later : ℕ) → AreInOrder 0 runs
-    → ((i : ℕ) (d : Run) → i < later → i < length runs → (get_or runs i d).first ≤ s)
-    → ((i : ℕ) (d : Run) → later ≤ i → i < length runs → s < (get_or runs i d).first)
-    → ((i : ℕ) (d : Run) → suc i ≡ later → i < length runs → within (sections_of (get_or runs i d)) s ≡ false)
-    → later ≤ length runs → spot_at runs s ≡ None
-spot_not_found runs s later order low high last bound = spot_none runs s (λ i d lt. elim (cases_lt i later) [
-  | inr behind ↦ within_before (sections_of (get_or runs i d)) s (high i d behind lt)
-  | inl before ↦ elim (cases_lt (suc i) later) [
-    | inr at ↦ last i d (omega arith) lt
-    | inl earlier ↦ within_behind (sections_of (get_or runs i d)) s (omega (arith, one_behind_another 0 runs i (suc i) d order (omega arith) (omega arith), low (suc i) d earlier (omega arith)))
-  ]
-])
 
 pub most_is : most ≡ 65535
 unfolding most
@@ -182,25 +156,7 @@ run_stands runs i s r order has is =
       bound = omega (arith, stands.bound, most_is);
     }
 
--- where a search by the first sections finds none
-pub found_none : (runs : List Run) (s later : ℕ) (d : Run) → AreInOrder 0 runs
-    → IsPartitionPoint (λ r. nat_le r.first s ≡ true) (λ r. nat_le r.first s ≡ false) runs later → later ≤ length runs
-    → (0 < later → within (sections_of (get_or runs (later - 1) d)) s ≡ false) → spot_at runs s ≡ None
-found_none runs s later d order point bound last = spot_not_found runs s later order
-    (λ i e before lt. leb-true (get_or runs i e).first s (point.0 i e (omega arith) before))
-    (λ i e behind lt. leb-false (get_or runs i e).first s (point.1 i e behind lt))
-    (λ i e at lt. ap (λ r. within (sections_of r) s) (get_or_default runs i e d lt ∙ ap (λ n. get_or runs n d) (let here : i ≡ later - 1 = omega (arith, at) in here)) ∙ last (omega (arith, at)))
-    bound
-
 pub bound_at : (n : ℕ) (runs : List Run) (i s : ℕ) → AreInOrder n runs → At (λ r. within (sections_of r) s ≡ true) i runs → s + 1 ≤ 65535
 bound_at n [] i s order has = absurd has
 bound_at n (q ∷ qs) zero s order has = omega (arith, (within_true (sections_of q) s has).1, order.2, most_is)
 bound_at n (q ∷ qs) (suc i) s order has = bound_at (q.first + q.count) qs i s order.3 has
-
-pub none_begins : (runs : List Run) (s later : ℕ) → AreInOrder 0 runs → later ≡ 0
-    → IsPartitionPoint (λ r. nat_le r.first s ≡ true) (λ r. nat_le r.first s ≡ false) runs later → spot_at runs s ≡ None
-none_begins runs s later order none point = spot_not_found runs s later order
-    (λ i e before lt. absurd (let no : ⊥ = omega (arith, before, none) in no))
-    (λ i e behind lt. leb-false (get_or runs i e).first s (point.1 i e behind lt))
-    (λ i e at lt. absurd (let no : ⊥ = omega (arith, at, none) in no))
-    (omega (arith, none))

@@ -1,10 +1,9 @@
 -- Laws of the sheet of a row of runs.
-use Rattle.std.proofs.Common.{◌≡◌, ℕ, inl, inr, List, Some, None, is_some, true, refl, ap, sym, ◌∙◌}
-use Rattle.std.proofs.lemmas.Bool.{false≢true}
+use Rattle.std.proofs.Common.{◌≡◌, ℕ, inl, inr, List, Some, refl, ap, sym, ◌∙◌}
 use Rattle.std.proofs.lemmas.Bool.Decides.{eqb_tells}
 use Rattle.rbc_spec.specs.Maps.{put}
 use Rattle.rbc_book.specs.Sheet.{page_in, track_in, page_on, track_on}
-use Rattle.rbc_book.specs.Runs.{AreInOrder, spot_at, sheet_of}
+use Rattle.rbc_book.specs.Runs.{AreInOrder, sheet_of}
 use Rattle.rbc_book.specs.Edits.{IsWritten}
 use Rattle.rbc_book.specs.declared.page.Page.{Page}
 use Rattle.rbc_book.specs.declared.run.Run.{Run}
@@ -19,7 +18,3 @@ written_pages s page old new order written k = ap page_in (sheet_says new writte
 
 pub written_tracks : (s : ℕ) (page : Page) (old new : List Run) → AreInOrder 0 old → IsWritten s page old new → (k : ℕ) → track_on (sheet_of new) k ≡ track_on (sheet_of old) k
 written_tracks s page old new order written k = ap track_in (sheet_says new written.order k) ∙ written.tracks k ∙ ap track_in (sym (sheet_says old order k))
-
--- a section with a page has a run
-pub page_is_somewhere : (runs : List Run) (s : ℕ) → AreInOrder 0 runs → is_some (page_on (sheet_of runs) s) ≡ true → spot_at runs s ≡ None → ⊥
-page_is_somewhere runs s order some none = false≢true (sym (ap (λ o. is_some (page_in o)) (sheet_says runs order s ∙ none)) ∙ some)

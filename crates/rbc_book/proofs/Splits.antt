@@ -1,13 +1,39 @@
 -- Laws of runs that are divided.
-use Rattle.std.proofs.Common.{◌⊎◌, subst, ◌≡◌, ℕ, zero, suc, ◌+◌, ◌-◌, ◌<◌, ◌≤◌, ◌||◌, nat_lt, inl, inr, Bool, true, false, cond, List, [], ◌∷◌, length, set, get_or, Some, refl, ap, sym, ◌∙◌, arith}
-use Rattle.std.specs.List.{insert}
+use Rattle.std.proofs.Common.{◌⊎◌, ◌&&◌, if◌then◌else◌, subst, ◌≡◌, ℕ, zero, suc, ◌+◌, ◌-◌, ◌<◌, ◌≤◌, ◌||◌, nat_lt, inl, inr, Bool, true, false, cond, List, [], ◌∷◌, Some, refl, ap, sym, ◌∙◌, arith}
 use Rattle.std.proofs.lemmas.Bool.{cases_lt, cases_Bool, and_parts, and_from, and_left, ltb-true, lt-ltb, le-ltb, or_left, or_right, or_cases, both_ways}
 use Rattle.rbc_spec.specs.SectionRuns.{within}
 use Rattle.law_base.proofs.Runs.{within_true, within_from, same_tests}
 use Rattle.rbc_book.specs.Runs.{At, AreInOrder, AreApart, GoesOn, IsFollowed, GoesOnAt, sections_of, sections_in, spot_of, spot_at}
-use Rattle.rbc_book.specs.Edits.{before, from, is_inside, split_at, IsSingledOut}
 use Rattle.rbc_book.specs.declared.run.Run.{Run}
-use Rattle.rbc_book.proofs.Rows.{at_is, at_read, at_from, at_within, order_at, fewer}
+use Rattle.rbc_book.proofs.Rows.{at_from, order_at}
+
+-- ## The definitions
+
+-- the part of a run before a section, and the part from it on
+abbrev pub before : ℕ → Run → Run
+before s r = record { first = r.first; count = s - r.first; track = r.track; page = r.page }
+
+abbrev pub from : ℕ → Run → Run
+from s r = record { first = s; count = r.count - (s - r.first); track = r.track; page = r.page }
+
+-- the section is in the run, behind its first
+abbrev pub is_inside : ℕ → Run → Bool
+is_inside s r = nat_lt r.first s && within (sections_of r) s
+
+-- the run at a place divided in front of a section, where that is inside it
+abbrev pub split_at : ℕ → ℕ → List Run → List Run
+split_at i s [] = []
+split_at zero s (r ∷ rs) = if is_inside s r then before s r ∷ from s r ∷ rs else r ∷ rs
+split_at (suc i) s (r ∷ rs) = r ∷ split_at i s rs
+
+-- a section is a run of its own, at this place; nothing else is said of the sections, and only that run could go on with the one before
+-- or the next with it
+pub record IsSingledOut (s : ℕ) (old new : List Run) (place : ℕ) : Type 0 where
+  pub spots : (k : ℕ) → spot_at new k ≡ spot_at old k
+  pub alone : At (λ r. (r.first ≡ s) × (r.count ≡ 1)) place new
+  pub order : AreInOrder 0 new
+  pub count : sections_in new ≡ sections_in old
+  pub seams : (j : ℕ) → GoesOnAt j new → (j ≡ place) ⊎ (suc j ≡ place)
 
 -- ## One run
 
@@ -132,17 +158,6 @@ split-outside i s [] r at outside = refl
 split-outside zero s (q ∷ qs) r at outside = rw at (rw outside refl)
 split-outside (suc i) s (q ∷ qs) r at outside = ap (λ xs. q ∷ xs) (split-outside i s qs r at outside)
 
-pub split-past : (i s : ℕ) (runs : List Run) → length runs ≤ i → split_at i s runs ≡ runs
-split-past i s [] past = refl
-split-past zero s (q ∷ qs) past = absurd (let no : ⊥ = omega arith in no)
-split-past (suc i) s (q ∷ qs) past = ap (λ xs. q ∷ xs) (split-past i s qs (omega arith))
-
--- as the row is changed
-pub split-inside : (i s : ℕ) (runs : List Run) (r : Run) → At (λ q. q ≡ r) i runs → is_inside s r ≡ true → insert (set runs i (before s r)) (suc i) (from s r) ≡ split_at i s runs
-split-inside i s [] r at inside = absurd at
-split-inside zero s (q ∷ qs) r at inside = rw at (rw inside refl)
-split-inside (suc i) s (q ∷ qs) r at inside = ap (λ xs. q ∷ xs) (split-inside i s qs r at inside)
-
 -- ## A section is singled out
 
 no_seam : (runs : List Run) → AreApart runs → (i j : ℕ) → Seam i runs j → j ≡ i
@@ -200,25 +215,3 @@ single_first s i runs r at has low order apart =
     let outside : is_inside s r ≡ false = and_left (nat_lt r.first s) (within (sections_of r) s) (le-ltb r.first s low) in
     subst (λ mid. IsSingledOut s runs (split_at i (s + 1) mid) i) (sym (split-outside i s runs r at outside))
     (second s i runs runs r (omega (arith, ends.0)) (order_at 0 runs i r order at).some at order (λ k. refl) refl (λ j h. absurd (apart j h)))
-
--- ## The code
-
--- what stands behind the place is put there
-pub split-put : (i s : ℕ) (runs : List Run) (r : Run) → At (λ q. q ≡ r) i runs → is_inside s r ≡ true → insert (set runs i (before s r)) (i + 1) (from s r) ≡ split_at i s runs
-split-put i s runs r at inside = ap (λ n. insert (set runs i (before s r)) n (from s r)) (let e : i + 1 ≡ suc i = omega arith in e) ∙ split-inside i s runs r at inside
-
--- there is room for it
-pub room_for : (i s : ℕ) (runs : List Run) (r : Run) → AreInOrder 0 runs → At (λ q. q ≡ r) i runs → is_inside s r ≡ true → length runs < sections_in runs
-room_for i s runs r order at inside = let is = inside_true s r inside in fewer 0 runs i order (at_from (λ q. 1 < q.count) runs i r (omega (arith, is.behind_first, is.before_end)) at)
-
--- a section is singled out, at this place or the next
-pub singled_out : (s i place : ℕ) (runs mid new : List Run) (r : Run) → At (λ q. within (sections_of q) s ≡ true) i runs → r ≡ get_or runs i r → AreInOrder 0 runs → AreApart runs
-    → mid ≡ split_at i s runs → new ≡ split_at place (s + 1) mid → ((r.first < s) × (place ≡ i + 1)) ⊎ ((s ≤ r.first) × (place ≡ i)) → IsSingledOut s runs new place
-singled_out s i place runs mid new r has is order apart one two where_it_is =
-    let at = at_read runs i r (at_within (λ q. within (sections_of q) s ≡ true) runs i has) is in
-    let here = at_is (λ q. within (sections_of q) s ≡ true) runs i r has at in
-    let whole : new ≡ split_at place (s + 1) (split_at i s runs) = two ∙ ap (split_at place (s + 1)) one in
-    subst (λ xs. IsSingledOut s runs xs place) (sym whole) (elim where_it_is [
-      | inl later ↦ subst (λ n. IsSingledOut s runs (split_at n (s + 1) (split_at i s runs)) n) (let e : suc i ≡ place = omega (arith, later.1) in e) (single_inside s i runs r at here later.0 order apart)
-      | inr first ↦ subst (λ n. IsSingledOut s runs (split_at n (s + 1) (split_at i s runs)) n) (sym first.1) (single_first s i runs r at here first.0 order apart)
-    ])

@@ -7,9 +7,10 @@ use Rattle.law_base.proofs.Runs.{within_from, within_before, within_behind}
 use Rattle.std.proofs.lemmas.Bool.{cases_lt}
 use Rattle.rbc_book.specs.Sheet.{page_in, track_in}
 use Rattle.rbc_book.specs.Runs.{At, AreInOrder, AreApart, GoesOnAt, sections_of, sections_in, spot_of, spot_at}
-use Rattle.rbc_book.specs.Edits.{with_page, IsJoined, IsSingledOut, IsWritten}
+use Rattle.rbc_book.specs.Edits.{with_page, IsJoined, IsWritten}
 use Rattle.rbc_book.specs.declared.page.Page.{Page}
 use Rattle.rbc_book.specs.declared.run.Run.{Run}
+use Rattle.rbc_book.proofs.Splits.{IsSingledOut}
 use Rattle.rbc_book.proofs.Rows.{at_is, order_from, spot_of_run}
 use Rattle.rbc_book.proofs.Joins.{joined_spots, joined_order, joined_count, joined_behind, joined_apart}
 
@@ -121,3 +122,10 @@ module _ (s place : ℕ) (page : Page) (old single : List Run) (r : Run) (out : 
       (joined_apart ahead mid new two (λ j h. omega (arith, before, joined_behind place used mid one seams j h)))
       (joined_count ahead mid new two ∙ joined_count place used mid one)
       (λ k. joined_spots ahead mid new k two ∙ joined_spots place used mid k one)
+
+  -- apart from both
+  pub written_apart : ¬ GoesOnAt place used → ((ahead : ℕ) → suc ahead ≡ place → ¬ GoesOnAt ahead used) → IsWritten s page old used
+  written_apart behind ahead = written used used_order (λ j h. elim (seams j h) [
+    | inl here ↦ behind (subst (λ n. GoesOnAt n used) here h)
+    | inr before ↦ ahead j before h
+  ]) refl (λ k. refl)

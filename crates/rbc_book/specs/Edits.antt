@@ -1,29 +1,11 @@
 -- Changes of a row of runs.
-use Rattle.std.specs.Prelude.{◌≡◌, ℕ, zero, suc, ◌+◌, ◌⊎◌, ◌-◌, ◌≤◌, ◌==◌, Some, Bool, ◌&&◌, nat_lt, List, [], ◌∷◌, if◌then◌else◌}
+use Rattle.std.specs.Prelude.{◌≡◌, ◌≢◌, ℕ, zero, suc, ◌+◌, ◌⊎◌, ◌<◌, ◌≤◌, ◌==◌, Some, List, [], ◌∷◌, if◌then◌else◌}
 use Rattle.std.specs.List.{All}
-use Rattle.rbc_spec.specs.SectionRuns.{within}
-use Rattle.rbc_book.specs.Runs.{GoesOnAt, At, AreInOrder, AreApart, sections_of, sections_in, spot_at}
+use Rattle.rbc_book.specs.Runs.{GoesOnAt, AreInOrder, AreApart, sections_in, spot_at}
 use Rattle.rbc_spec.specs.Maps.{put}
 use Rattle.rbc_book.specs.Sheet.{Spot, page_in, track_in}
 use Rattle.rbc_book.specs.declared.page.Page.{Page}
 use Rattle.rbc_book.specs.declared.run.Run.{Run}
-
--- the part of a run before a section, and the part from it on
-abbrev pub before : ℕ → Run → Run
-before s r = record { first = r.first; count = s - r.first; track = r.track; page = r.page }
-
-abbrev pub from : ℕ → Run → Run
-from s r = record { first = s; count = r.count - (s - r.first); track = r.track; page = r.page }
-
--- the section is in the run, behind its first
-abbrev pub is_inside : ℕ → Run → Bool
-is_inside s r = nat_lt r.first s && within (sections_of r) s
-
--- the run at a place divided in front of a section, where that is inside it
-abbrev pub split_at : ℕ → ℕ → List Run → List Run
-split_at i s [] = []
-split_at zero s (r ∷ rs) = if is_inside s r then before s r ∷ from s r ∷ rs else r ∷ rs
-split_at (suc i) s (r ∷ rs) = r ∷ split_at i s rs
 
 -- a run and the next as one
 abbrev pub joined : Run → Run → Run
@@ -43,18 +25,35 @@ joined_at (suc i) (r ∷ rs) = r ∷ joined_at i rs
 abbrev pub IsJoined : ℕ → List Run → List Run → Type 0
 IsJoined i old new = ((new ≡ old) × ¬ GoesOnAt i old) ⊎ ((new ≡ joined_at i old) × GoesOnAt i old)
 
+-- the run at a place as another
+abbrev pub changed_at : (Run → Run) → ℕ → List Run → List Run
+changed_at f i [] = []
+changed_at f zero (r ∷ rs) = f r ∷ rs
+changed_at f (suc i) (r ∷ rs) = r ∷ changed_at f i rs
+
+-- the run with other ends
+abbrev pub resized : ℕ → ℕ → Run → Run
+resized first count r = record { first = first; count = count; track = r.track; page = r.page }
+
 -- the run with another page
 abbrev pub with_page : Page → Run → Run
 with_page page r = record { first = r.first; count = r.count; track = r.track; page = page }
 
--- a section is a run of its own, at this place; nothing else is said of the sections, and only that run could go on with the one before
--- or the next with it
-pub record IsSingledOut (s : ℕ) (old new : List Run) (place : ℕ) : Type 0 where
-  pub spots : (k : ℕ) → spot_at new k ≡ spot_at old k
-  pub alone : At (λ r. (r.first ≡ s) × (r.count ≡ 1)) place new
-  pub order : AreInOrder 0 new
-  pub count : sections_in new ≡ sections_in old
-  pub seams : (j : ℕ) → GoesOnAt j new → (j ≡ place) ⊎ (suc j ≡ place)
+-- the section is the whole run
+abbrev pub IsWhole : ℕ → Run → Type 0
+IsWhole s r = (r.first ≡ s) × (r.count ≡ 1)
+
+-- the section is the first of a run of more, which has another page
+abbrev pub IsFirst : ℕ → Page → Run → Type 0
+IsFirst s page r = (r.first ≡ s) × (1 < r.count) × (r.page ≢ page)
+
+-- the section is the last of a run of more, which has another page
+abbrev pub IsLast : ℕ → Page → Run → Type 0
+IsLast s page r = (s + 1 ≡ r.first + r.count) × (1 < r.count) × (r.page ≢ page)
+
+-- the section is one of a run, and not at its ends, and the run has another page
+abbrev pub IsInner : ℕ → Page → Run → Type 0
+IsInner s page r = (r.first < s) × (s + 1 < r.first + r.count) × (r.page ≢ page)
 
 -- all runs end in front of a section
 abbrev pub AreBefore : ℕ → List Run → Type 0

@@ -5,3 +5,4 @@ pub mod Edits
 pub mod Book
 pub mod Claim
 pub mod Answers
+pub mod Changes

@@ -1,12 +1,13 @@
-ghost use Rattle.std.specs.Prelude.{◌≡◌, ℕ, ◌==◌, ◌&&◌, not, true, false, if◌then◌else◌, IfOk, OnErr, MatchResult, IfSome, None};
+ghost use Rattle.std.specs.Prelude.{◌≡◌, ℕ, ◌==◌, ◌&&◌, not, true, false, if◌then◌else◌, IfOk, OnErr, MatchResult, IfSome, None, is_some};
 ghost use Rattle.rbc_spec.specs.Centre as spec;
 ghost use Rattle.rbc_spec.specs.Line.{is_home};
 ghost use Rattle.rbc_spec.specs.SectionRuns.{longest};
 ghost use Rattle.rbc_spec.specs.Maps.{put};
 
 use crate::answer::{Back, NotHome, Unset};
+use crate::change::Change;
 use crate::claim::Claim;
-use crate::page::{Entry, Page};
+use crate::page::Page;
 use crate::runs::Runs;
 use rbc_line::Line;
 use std::alloc::{AllocError, Global};
@@ -34,6 +35,7 @@ impl Book {
     ghost use Rattle.rbc_book.specs.Book.{is_own, entry_at, wish_at};
     ghost use Rattle.rbc_book.specs.Claim.{section_of, train_of, claim_if, is_taken_by};
     ghost use Rattle.rbc_book.specs.Answers.{unset_answer, back_answer};
+    ghost use Rattle.rbc_book.specs.Changes.{IsPageOf, entry_after, wish_after};
 
     /// The book of a centre of the line at its beginning: every section is shut, and none is wished back.
     pub fn new(alloc: Global, line: &Line, centre: u8) -> Result<Book, AllocError>
@@ -77,21 +79,20 @@ impl Book {
         self.runs.section_in_use(nid_engine)
     }
 
-    // Finds a section, so that what reads or writes it next has it at once.
-    fn seek(&mut self, s: u16)
-        ensures { self.new ≡ self.old }
-    {
-        self.runs.seek(s);
-    }
-
-    // Writes the page of a section of this book's home.
-    fn write(&mut self, s: u16, entry: Entry, is_wished: bool)
-        requires { is_own self.old s ≡ true }
+    // Changes the page of a section. The page that it had, where it is of this book's home.
+    #[inline]
+    fn change(&mut self, s: u16, change: Change) -> Option<Page>
+        ensures own { is_some result ≡ is_own self.old s }
+        ensures page { IfSome result (λ page. IsPageOf self.old s page) }
         ensures homes { (k : ℕ) → is_own self.new k ≡ is_own self.old k }
-        ensures entry { (k : ℕ) → entry_at self.new k ≡ put (entry_at self.old) s (entry_of entry) k }
-        ensures wish { (k : ℕ) → wish_at self.new k ≡ put (wish_at self.old) s is_wished k }
+        ensures entry { is_own self.old s ≡ true → (k : ℕ) → entry_at self.new k
+            ≡ put (entry_at self.old) s (entry_after change (entry_at self.old s) (wish_at self.old s)) k }
+        ensures wish { is_own self.old s ≡ true → (k : ℕ) → wish_at self.new k
+            ≡ put (wish_at self.old) s (wish_after change (entry_at self.old s) (wish_at self.old s)) k }
+        ensures foreign { result ≡ None → self.new ≡ self.old }
+        ensures shut { result ≡ None → entry_at self.old s ≡ spec.Shut }
     {
-        self.runs.write(s, Page { entry, is_wished });
+        self.runs.change(s, change)
     }
 
     /// The interlocking releases a section: one that is in no use becomes open, and a wish to have it back ends.
@@ -105,18 +106,10 @@ impl Book {
             ≡ (if is_own self.old s && (k == s) then false else wish_at self.old k) }
         ensures err { OnErr result (self.new ≡ self.old) }
     {
-        self.seek(s);
-        if !self.has(s) {
-            return Err(NotHome);
+        match self.change(s, Change::Set) {
+            Some(_) => Ok(()),
+            None => Err(NotHome),
         }
-        let page = self.page(s);
-        let entry = if page.entry.is_unused() {
-            Entry::Open
-        } else {
-            page.entry
-        };
-        self.write(s, entry, false);
-        Ok(())
     }
 
     /// The interlocking takes a section back: one that is in no use becomes shut; of one that is in use the wish is
@@ -132,16 +125,12 @@ impl Book {
             ≡ (if is_own self.old s && (k == s) then not (is_unused (entry_at self.old s)) else wish_at self.old k) }
         ensures err { OnErr result (self.new ≡ self.old) }
     {
-        self.seek(s);
-        if !self.has(s) {
+        let Some(page) = self.change(s, Change::Unset) else {
             return Err(NotHome);
-        }
-        let page = self.page(s);
+        };
         if page.entry.is_unused() {
-            self.write(s, Entry::Shut, false);
             Ok(Unset::Done)
         } else {
-            self.write(s, page.entry, true);
             Ok(Unset::Asked)
         }
     }
@@ -154,12 +143,10 @@ impl Book {
             ≡ (if is_open (entry_at self.old s) && (k == s) then spec.Taken nid_engine else entry_at self.old k) }
         ensures wish { (k : ℕ) → wish_at self.new k ≡ wish_at self.old k }
     {
-        self.seek(s);
-        let page = self.page(s);
+        let page = self.change(s, Change::Take { nid_engine })?;
         if !page.entry.is_open() {
             return None;
         }
-        self.write(s, Entry::Taken { nid_engine }, page.is_wished);
         Some(Claim {
             section: s,
             nid_engine,
@@ -181,16 +168,12 @@ impl Book {
             section,
             nid_engine,
         } = claim;
-        self.seek(section);
-        let page = self.page(section);
-        if !page.entry.is_taken_for(nid_engine) {
+        let Some(page) = self.change(section, Change::GiveBack { nid_engine }) else {
             return Back::Open;
-        }
-        if page.is_wished {
-            self.write(section, Entry::Shut, false);
+        };
+        if page.is_wished && page.entry.is_taken_for(nid_engine) {
             Back::Told
         } else {
-            self.write(section, Entry::Open, false);
             Back::Open
         }
     }
@@ -208,11 +191,7 @@ impl Book {
             section,
             nid_engine,
         } = claim;
-        self.seek(section);
-        let page = self.page(section);
-        if page.entry.is_taken_for(nid_engine) {
-            self.write(section, Entry::Out { nid_engine }, page.is_wished);
-        }
+        self.change(section, Change::Lend { nid_engine });
     }
 
     /// Takes a section of a train back from another centre. None exactly where it is not out for it.
@@ -224,12 +203,10 @@ impl Book {
             then spec.Taken nid_engine else entry_at self.old k) }
         ensures wish { (k : ℕ) → wish_at self.new k ≡ wish_at self.old k }
     {
-        self.seek(s);
-        let page = self.page(s);
+        let page = self.change(s, Change::Reclaim { nid_engine })?;
         if !page.entry.is_out_for(nid_engine) {
             return None;
         }
-        self.write(s, Entry::Taken { nid_engine }, page.is_wished);
         Some(Claim {
             section: s,
             nid_engine,

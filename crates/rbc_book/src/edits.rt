@@ -3,10 +3,10 @@ ghost use Rattle.std.specs.Prelude.{◌≡◌, ◌+◌, ◌<◌, ◌≤◌, leng
 ghost use Rattle.std.specs.List.{insert};
 ghost use Rattle.rbc_spec.specs.SectionRuns.{within};
 ghost use Rattle.rbc_book.specs.Runs.{most, At, AreInOrder, AreApart, sections_of, sections_in};
-ghost use Rattle.rbc_book.specs.Edits.{split_at, IsJoined, IsSingledOut, IsWritten, AreBefore, IsAppended};
+ghost use Rattle.rbc_book.specs.Edits.{changed_at, resized, IsJoined, IsWritten, AreBefore, IsAppended};
 
-use crate::moves::{move_ahead, move_behind};
 use crate::page::Page;
+use crate::parts::{write_first, write_inside, write_last, write_whole};
 use crate::run::Run;
 use std::alloc::AllocError;
 
@@ -19,8 +19,19 @@ pub(crate) fn run_at(runs: &[Run], i: usize) -> Option<Run>
     runs.get(i).copied()
 }
 
+// Gives the run at a place other ends.
+pub(crate) fn resize(runs: &mut Vec<Run>, i: usize, first: u16, count: u16)
+    requires { i < length runs.old.items }
+    ensures items { runs.new.items ≡ changed_at (resized first count) i runs.old.items }
+    ensures capacity { vec_capacity runs.old ≤ vec_capacity runs.new }
+{
+    let run = &mut runs[i];
+    run.first = first;
+    run.count = count;
+}
+
 // Puts a run at a place of the row, which has room.
-fn put(runs: &mut Vec<Run>, i: usize, run: Run)
+pub(crate) fn put(runs: &mut Vec<Run>, i: usize, run: Run)
     requires within { i ≤ length runs.old.items }
     requires room { length runs.old.items < vec_capacity runs.old }
     ensures items { runs.new.items ≡ insert runs.old.items i run }
@@ -30,31 +41,9 @@ fn put(runs: &mut Vec<Run>, i: usize, run: Run)
     prove!(inserted.is_ok());
 }
 
-// Divides a run in front of a section. One that does not have that section behind its first stays as it is.
-fn split(runs: &mut Vec<Run>, i: usize, s: u16)
-    requires order { AreInOrder 0 runs.old.items }
-    requires room { sections_in runs.old.items ≤ vec_capacity runs.old }
-    ensures items { runs.new.items ≡ split_at i s runs.old.items }
-    ensures capacity { vec_capacity runs.old ≤ vec_capacity runs.new }
-{
-    let Some(run) = run_at(runs, i) else {
-        return;
-    };
-    if !run.has_inside(s) {
-        return;
-    }
-    let count = s - run.first;
-    runs[i] = Run { count, ..run };
-    let rest = Run {
-        first: s,
-        count: run.count - count,
-        ..run
-    };
-    put(runs, i + 1, rest);
-}
-
 // Joins a run and the next, where that goes on with it.
-fn join(runs: &mut Vec<Run>, i: usize)
+#[inline(always)]
+pub(crate) fn join(runs: &mut Vec<Run>, i: usize)
     requires { AreInOrder 0 runs.old.items }
     ensures joined { IsJoined i runs.old.items runs.new.items }
     ensures capacity { vec_capacity runs.old ≤ vec_capacity runs.new }
@@ -68,29 +57,13 @@ fn join(runs: &mut Vec<Run>, i: usize)
     if !run.goes_on(next) {
         return;
     }
-    let count = run.count + next.count;
-    runs[i] = Run { count, ..run };
+    resize(runs, i, run.first, run.count + next.count);
     runs.remove(i + 1);
-}
-
-// Makes a section of a run a run of its own. The place of that run.
-fn single_out(runs: &mut Vec<Run>, i: usize, s: u16) -> usize
-    requires here { At (λ r. within (sections_of r) s ≡ true) i runs.old.items }
-    requires order { AreInOrder 0 runs.old.items }
-    requires apart { AreApart runs.old.items }
-    requires room { sections_in runs.old.items ≤ vec_capacity runs.old }
-    ensures alone { IsSingledOut s runs.old.items runs.new.items result }
-    ensures capacity { vec_capacity runs.old ≤ vec_capacity runs.new }
-{
-    let run = runs[i];
-    let place = if run.first < s { i + 1 } else { i };
-    split(runs, i, s);
-    split(runs, place, s + 1);
-    place
 }
 
 // Writes the page of a section of the run at a place: in that run, or in the one before or behind, or in a run of its
 // own.
+#[inline(never)]
 pub(crate) fn write_at(runs: &mut Vec<Run>, i: usize, s: u16, page: Page)
     requires here { At (λ r. within (sections_of r) s ≡ true) i runs.old.items }
     requires order { AreInOrder 0 runs.old.items }
@@ -103,30 +76,14 @@ pub(crate) fn write_at(runs: &mut Vec<Run>, i: usize, s: u16, page: Page)
     if run.page == page {
         return;
     }
-    if move_ahead(runs, i, s, page) {
-        return;
-    }
-    if move_behind(runs, i, s, page) {
-        return;
-    }
-    write_apart(runs, i, s, page);
-}
-
-// Writes the page of a section of the run at a place, as a run of its own that is joined with its neighbours.
-fn write_apart(runs: &mut Vec<Run>, i: usize, s: u16, page: Page)
-    requires here { At (λ r. within (sections_of r) s ≡ true) i runs.old.items }
-    requires order { AreInOrder 0 runs.old.items }
-    requires apart { AreApart runs.old.items }
-    requires room { sections_in runs.old.items ≤ vec_capacity runs.old }
-    ensures written { IsWritten s page runs.old.items runs.new.items }
-    ensures capacity { vec_capacity runs.old ≤ vec_capacity runs.new }
-{
-    let place = single_out(runs, i, s);
-    let run = runs[place];
-    runs[place] = Run { page, ..run };
-    join(runs, place);
-    if place > 0 {
-        join(runs, place - 1);
+    if run.count == 1 {
+        write_whole(runs, i, s, page);
+    } else if run.first == s {
+        write_first(runs, i, s, page);
+    } else if run.behind() == u32::from(s) + 1 {
+        write_last(runs, i, s, page);
+    } else {
+        write_inside(runs, i, s, page);
     }
 }
 

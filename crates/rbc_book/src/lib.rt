@@ -8,10 +8,11 @@
 
 mod answer;
 mod book;
+mod change;
 mod claim;
 mod edits;
-mod moves;
 mod page;
+mod parts;
 mod run;
 mod runs;
 

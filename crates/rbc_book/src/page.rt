@@ -76,4 +76,10 @@ impl Page {
         entry: Entry::Shut,
         is_wished: false,
     };
+
+    pub(crate) fn new(entry: Entry, is_wished: bool) -> Page
+        ensures { result ≡ record { entry = entry; is_wished = is_wished } }
+    {
+        Page { entry, is_wished }
+    }
 }

@@ -18,7 +18,6 @@ pub(crate) struct Run {
 impl Run {
     ghost use Rattle.rbc_spec.specs.SectionRuns.{within};
     ghost use Rattle.rbc_book.specs.Runs.{sections_of, GoesOn};
-    ghost use Rattle.rbc_book.specs.Edits.{is_inside};
 
     /// The number behind its last section.
     pub(crate) fn behind(self) -> u32
@@ -33,13 +32,6 @@ impl Run {
         ensures { result ≡ within (sections_of self) s }
     {
         self.first <= s && u32::from(s) < self.behind()
-    }
-
-    /// Whether the section is one of them, and not the first.
-    pub(crate) fn has_inside(self, s: u16) -> bool
-        ensures { result ≡ is_inside s self }
-    {
-        self.first < s && self.contains(s)
     }
 
     /// Whether the next run goes on where this one ends, on its track and used alike: the two are one run then.

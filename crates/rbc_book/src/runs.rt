@@ -1,10 +1,12 @@
-ghost use Rattle.std.specs.Prelude.{◌≡◌, ℕ, IfOk, IfSome, Option, None, Some, option_map, length, is_some, true, false};
+ghost use Rattle.std.specs.Prelude.{◌≡◌, ℕ, IfOk, IfSome, Option, None, Some, option_map, length, true, false};
 ghost use Rattle.rbc_spec.specs.SectionRuns.{longest, within};
 ghost use Rattle.rbc_spec.specs.Maps.{put};
 ghost use Rattle.rbc_book.specs.Sheet.{spot_on, page_on, track_on, is_open_on, is_used_in, is_used_on, home_track};
+ghost use Rattle.rbc_book.specs.Changes.{IsAfter};
 ghost use Rattle.rbc_book.specs.Runs.{At, AreInOrder, IsRunOf, sections_of, spot_at};
 
-use crate::edits::{append, run_at, write_at};
+use crate::change::Change;
+use crate::edits::{append, write_at};
 use crate::page::Page;
 use crate::run::Run;
 use rbc_line::Line;
@@ -17,8 +19,6 @@ use std::marker::Model;
 #[derive(Debug, Drop)]
 pub(crate) struct Runs {
     runs: Vec<Run>,
-    /// The place of the run that was found last: the next section is looked for there and behind it first.
-    last: usize,
 }
 
 impl Model for Runs {
@@ -54,7 +54,7 @@ impl Runs {
             }
         }
         runs.reserve(homes - runs.len())?;
-        Ok(Runs { runs, last: 0 })
+        Ok(Runs { runs })
     }
 
     /// The page of a section, where there is one.
@@ -90,25 +90,19 @@ impl Runs {
         first_in_use(&self.runs, nid_engine)
     }
 
-    /// Finds a section, so that what reads or writes it next has it at once.
-    pub(crate) fn seek(&mut self, s: u16)
-        ensures { self.new ≡ self.old }
+    /// Changes the page of a section. The page that it had, where it has one.
+    #[inline]
+    pub(crate) fn change(&mut self, s: u16, change: Change) -> Option<Page>
+        ensures page { result ≡ page_on self.old s }
+        ensures pages { IfSome result (λ old. (new : Page) × IsAfter change old new
+            × ((k : ℕ) → page_on self.new k ≡ put (page_on self.old) s (Some new) k)) }
+        ensures tracks { (k : ℕ) → track_on self.new k ≡ track_on self.old k }
+        ensures none { result ≡ None → self.new ≡ self.old }
     {
-        if let Some(found) = find(&self.runs, s, self.last) {
-            self.last = found;
-        }
-    }
-
-    /// Writes the page of a section that has one.
-    pub(crate) fn write(&mut self, s: u16, page: Page)
-        requires { is_some (page_on self.old s) ≡ true }
-        ensures page { (k : ℕ) → page_on self.new k ≡ put (page_on self.old) s (Some page) k }
-        ensures track { (k : ℕ) → track_on self.new k ≡ track_on self.old k }
-    {
-        let Some(found) = find(&self.runs, s, self.last) else {
-            return;
-        };
-        write_at(&mut self.runs, found, s, page);
+        let place = find(&self.runs, s)?;
+        let page = self.runs[place].page;
+        write_at(&mut self.runs, place, s, change.of(page));
+        Some(page)
     }
 
     // The run that has the section.
@@ -116,50 +110,31 @@ impl Runs {
         ensures some { IfSome result (λ r. IsRunOf self.now s r) }
         ensures none { result ≡ None → spot_on self.now s ≡ None }
     {
-        let place = find(&self.runs, s, self.last)?;
+        let place = find(&self.runs, s)?;
         Some(self.runs[place])
     }
 }
 
-// The place of the run that has the section. It is looked for where a run was found last and behind that, and then in
-// all runs.
-fn find(runs: &[Run], s: u16, last: usize) -> Option<usize>
+// The place of the run that has the section: the half is cut off that stands before it or behind.
+fn find(runs: &[Run], s: u16) -> Option<usize>
     requires { AreInOrder 0 runs.now }
     ensures some { IfSome result (λ i. At (λ r. within (sections_of r) s ≡ true) i runs.now) }
     ensures none { result ≡ None → spot_at runs.now s ≡ None }
 {
-    if let Some(found) = found_at(runs, last, s) {
-        return Some(found);
+    let mut low = 0;
+    let mut high = runs.len();
+    while low < high {
+        let middle = (low + high) / 2;
+        let run = runs[middle];
+        if s < run.first {
+            high = middle;
+        } else if u32::from(s) < run.behind() {
+            return Some(middle);
+        } else {
+            low = middle + 1;
+        }
     }
-    if let Some(found) = found_at(runs, last.wrapping_add(1), s) {
-        return Some(found);
-    }
-    search(runs, s)
-}
-
-// The place, where a run that has the section stands there.
-fn found_at(runs: &[Run], i: usize, s: u16) -> Option<usize>
-    ensures { IfSome result (λ i. At (λ r. within (sections_of r) s ≡ true) i runs.now) }
-{
-    let run = run_at(runs, i)?;
-    if run.contains(s) { Some(i) } else { None }
-}
-
-// The place of the run that has the section, by the first sections of all runs.
-fn search(runs: &[Run], s: u16) -> Option<usize>
-    requires { AreInOrder 0 runs.now }
-    ensures some { IfSome result (λ i. At (λ r. within (sections_of r) s ≡ true) i runs.now) }
-    ensures none { result ≡ None → spot_at runs.now s ≡ None }
-{
-    let later = runs.partition_point(|run| run.first <= s);
-    if later == 0 {
-        return None;
-    }
-    if runs[later - 1].contains(s) {
-        Some(later - 1)
-    } else {
-        None
-    }
+    None
 }
 
 // The first section of the first run that is in use for the train.

@@ -1,0 +1,26 @@
+use Rattle.std.proofs.Common.{◌≡◌, ◌+◌, ◌<◌, ◌≤◌, ◌/◌, true, subst, arith}
+use Rattle.rbc_spec.specs.SectionRuns.{within}
+use Rattle.law_base.proofs.Runs.{within_from}
+use Rattle.rbc_book.specs.Runs.{sections_of}
+use Rattle.rbc_book.proofs.Rows.{at_holds}
+use Rattle.rbc_book.proofs.Searches.{lower, raise, found_none}
+use Rattle.rbc_book.proofs.runs.find.Goals as goal
+
+pub loop-low-preserved-then-s-run : goal.loop-low-preserved-then-s-run
+loop-low-preserved-then-s-run c = lower c.args.runs.now c.args.s c.loop-low.low c.loop-low.high ((c.loop-low.low + c.loop-low.high) / 2) _ c.requires c.loop-low.invariant
+    (omega (arith, c.loop-low-test.true)) (omega (arith, c.loop-low-test.true)) c.if-s-run.true
+
+pub returns-then-from-behind-clause-some : goal.returns-then-from-behind-clause-some
+returns-then-from-behind-clause-some c =
+    let ends = subst (λ n. c.args.s < n) c.behind.ensures (subst (λ n. n < c.behind.result) c.from.ensures c.if-from-behind.true) in
+    at_holds (λ r. within (sections_of r) c.args.s ≡ true) c.args.runs.now ((c.loop-low.low + c.loop-low.high) / 2) _
+    (omega (arith, c.loop-low-test.true, c.loop-low.invariant.bound)) (within_from _ c.args.s c.if-s-run.false ends)
+
+pub loop-low-preserved : goal.loop-low-preserved
+loop-low-preserved c =
+    let ends = subst (λ n. n ≤ c.args.s) c.behind.ensures (subst (λ n. c.behind.result ≤ n) c.from.ensures c.if-from-behind.false) in
+    raise c.args.runs.now c.args.s c.loop-low.low c.loop-low.high ((c.loop-low.low + c.loop-low.high) / 2) _ c.requires c.loop-low.invariant
+    (omega (arith, c.loop-low-test.true)) (omega (arith, c.loop-low-test.true)) ends
+
+pub returns-clause-none : goal.returns-clause-none
+returns-clause-none c _ = found_none c.args.runs.now c.args.s c.loop-low.low c.loop-low.high c.loop-low.invariant c.loop-low-test.false
