@@ -13,11 +13,11 @@ pub struct Disk<'a, R>(pub &'a R);
 
 impl<R: rt::Files + AllocGlobal> Files for Disk<'_, R> {
     fn text(&self, name: &str) -> Option<String> {
-        fs::read_to_string(self.0, name).ok()
+        fs::read_to_string(self.0, path_of(name)).ok()
     }
 
     fn is_folder(&self, name: &str) -> bool {
-        match fs::metadata(self.0, name) {
+        match fs::metadata(self.0, path_of(name)) {
             Ok(found) => found.is_dir(),
             Err(_) => false,
         }
@@ -25,7 +25,7 @@ impl<R: rt::Files + AllocGlobal> Files for Disk<'_, R> {
 
     // A file of any length is read line by line, and no line is kept that is too long.
     fn each_row<T: Rows>(&self, alloc: Global, name: &str, rows: &mut T) -> Option<()> {
-        let file = File::open(self.0, name).ok()?;
+        let file = File::open(self.0, path_of(name)).ok()?;
         let mut reader = BufReader::new(alloc, file).ok()?;
         let mut row = Vec::new(alloc);
         for _ in 0..u64::MAX {
@@ -45,6 +45,14 @@ impl<R: rt::Files + AllocGlobal> Files for Disk<'_, R> {
         }
         Some(())
     }
+}
+
+/// The name of standard input, which `-` is short for.
+const STANDARD_INPUT: &str = "/dev/stdin";
+
+// The path that a name stands for.
+fn path_of(name: &str) -> &str {
+    if name == "-" { STANDARD_INPUT } else { name }
 }
 
 /// The words behind the program's name.

@@ -1,3 +1,5 @@
+ghost use Rattle.std.specs.Prelude.{ℕ, List, Option, option_map, string_bytes};
+
 use std::alloc::Global;
 
 /// How many bytes a line has at most, where a file is given line by line, without the line feed that ends it.
@@ -5,9 +7,14 @@ pub const MOST_ROW: usize = 4_096;
 
 /// Where the program reads its files.
 pub trait Files {
+    /// Holds of a name and each answer that `text` may give for it. Of files that others may change, as those of the
+    /// system, nothing is known: for each name they may give any text, or none.
+    ghost may_give: { Self → List ℕ → Option (List ℕ) → Type 0 } = { λ _ _ _. Unit {0} };
+
     /// The text of the file of this name; none where it can't be read: it is not there, it is not UTF-8, or there is no
     /// memory for its text.
-    fn text(&self, name: &str) -> Option<String>;
+    fn text(&self, name: &str) -> Option<String>
+        ensures { may_give self.now name.now (option_map string_bytes result) };
 
     /// Whether a folder has this name.
     fn is_folder(&self, name: &str) -> bool;

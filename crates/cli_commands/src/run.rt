@@ -1,9 +1,13 @@
+ghost use Rattle.std.specs.Prelude.{IfErr, IfOk};
+ghost use Rattle.cli_commands.specs.Runs.{GivesEntries, GivesLine, GivesNoEntries, GivesNoLine, LeavesCheck, LeavesRun};
+
 use crate::files::Files;
 use cli_print::print_counts;
 use cli_run::print_buffered;
 use cli_script::play::PlayFault;
-use cli_script::script::{Entry, script_of};
+use cli_script::script::{Entry, ScriptFault, script_of};
 use cli_status::Fault;
+use rbc_centre::StepFault;
 use rbc_line::Line;
 use std::alloc::Global;
 use std::io::Write;
@@ -15,13 +19,17 @@ pub fn run<'a, F: Files, O: Write>(
     script: &'a str,
     files: &F,
     out: &mut O,
-) -> Result<(), Fault<'a>> {
+) -> Result<(), Fault<'a>>
+    ensures { LeavesRun (F.may_give files.now) file.now script.now result (O.contents out.old) (O.contents out.new) }
+{
     let line = line_in(alloc, file, files)?;
     let entries = entries_in(alloc, &line, script, files)?;
     match print_buffered(alloc, &line, &entries, out) {
         Ok(()) => Ok(()),
-        Err(PlayFault::Refused(fault)) => Err(fault.into()),
-        Err(PlayFault::Untold(fault)) => Err(fault),
+        Err(PlayFault::Refused(fault)) => Err(Fault::Step(fault)),
+        Err(PlayFault::Untold(Fault::Write)) => Err(Fault::Write),
+        // What is printed is kept back by a write that is refused, or by want of memory.
+        Err(PlayFault::Untold(_)) => Err(Fault::Step(StepFault::Memory)),
     }
 }
 
@@ -31,19 +39,28 @@ pub fn check<'a, F: Files, O: Write>(
     file: &'a str,
     files: &F,
     out: &mut O,
-) -> Result<(), Fault<'a>> {
+) -> Result<(), Fault<'a>>
+    ensures { LeavesCheck (F.may_give files.now) file.now result (O.contents out.old) (O.contents out.new) }
+{
     let line = line_in(alloc, file, files)?;
-    print_counts(out, &line)?;
-    out.flush()?;
+    if print_counts(out, &line).is_err() || out.flush().is_err() {
+        return Err(Fault::Write);
+    }
     Ok(())
 }
 
 /// The line of a line file.
-pub fn line_in<'a, F: Files>(alloc: Global, file: &'a str, files: &F) -> Result<Line, Fault<'a>> {
+pub fn line_in<'a, F: Files>(alloc: Global, file: &'a str, files: &F) -> Result<Line, Fault<'a>>
+    ensures line { IfOk result (GivesLine (F.may_give files.now) file.now) }
+    ensures fault { IfErr result (GivesNoLine (F.may_give files.now) file.now) }
+{
     let Some(text) = files.text(file) else {
         return Err(Fault::CannotRead(file));
     };
-    Ok(Line::from_toml(alloc, text.as_str())?)
+    match Line::from_toml(alloc, text.as_str()) {
+        Ok(line) => Ok(line),
+        Err(fault) => Err(Fault::Line(fault)),
+    }
 }
 
 /// What the script of this name asks for.
@@ -52,9 +69,17 @@ pub(crate) fn entries_in<'a, F: Files>(
     line: &Line,
     script: &'a str,
     files: &F,
-) -> Result<Vec<Entry>, Fault<'a>> {
+) -> Result<Vec<Entry>, Fault<'a>>
+    ensures entries { IfOk result
+        (λ entries. GivesEntries (F.may_give files.now) line.now script.now entries.items) }
+    ensures fault { IfErr result (GivesNoEntries (F.may_give files.now) line.now script.now) }
+{
     let Some(text) = files.text(script) else {
         return Err(Fault::CannotRead(script));
     };
-    Ok(script_of(alloc, line, text.as_str())?)
+    match script_of(alloc, line, text.as_str()) {
+        Ok(entries) => Ok(entries),
+        Err(ScriptFault::Form(row)) => Err(Fault::Script(row)),
+        Err(ScriptFault::Memory) => Err(Fault::Step(StepFault::Memory)),
+    }
 }

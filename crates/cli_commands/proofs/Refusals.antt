@@ -1,0 +1,26 @@
+-- What `run` leaves where a step is refused.
+use Rattle.std.proofs.Common.{◌≡◌, ℕ, List, Option, Err, subst}
+use Rattle.rbc_spec.specs.Line.{Line}
+use Rattle.rbc_centre.specs.declared.fault.StepFault.{StepFault}
+use Rattle.rbc_centre.specs.declared.fault.StepFault.TheVariants.{Memory, LinkFull, ClockEnd}
+use Rattle.cli_status.specs.declared.fault.Fault.TheVariants.{Step}
+use Rattle.cli_script.specs.declared.script.Entry.{Entry}
+use Rattle.cli_script.specs.declared.play.PlayFault.{PlayFault}
+use Rattle.cli_script.specs.declared.play.PlayFault.TheVariants.{Refused}
+use Rattle.cli_run.specs.Printed.{LeavesPrint}
+use Rattle.cli_commands.specs.Runs.{GivesLine, GivesEntries, LeavesRun}
+
+module _ (F : Type 0) (gives : List ℕ → Option (List ℕ) → Type 0) (file script : List ℕ) (line : Line) (entries : List Entry) (before after : Option (List ℕ)) where
+  of_refused : (why : StepFault) → GivesLine gives file line → GivesEntries gives line script entries → LeavesPrint {F = F} line entries (Err (Refused why)) before after
+      → LeavesRun gives file script (Err (Step why)) before after
+  of_refused Memory given asked printed = tt
+  of_refused LinkFull given asked printed = (line, entries, (given, asked), printed)
+  of_refused ClockEnd given asked printed = (line, entries, (given, asked), printed)
+
+  pub leaves_refused : (held : List Entry) (fault : PlayFault F) (why : StepFault) → held ≡ entries → fault ≡ Refused why → GivesLine gives file line → GivesEntries gives line script entries
+      → LeavesPrint {F = F} line held (Err fault) before after → LeavesRun gives file script (Err (Step why)) before after
+  leaves_refused held fault why same is given asked printed =
+      of_refused why given asked (
+      subst (λ (f : PlayFault F). LeavesPrint {F = F} line entries (Err f) before after) is
+      (subst (λ (es : List Entry). LeavesPrint {F = F} line es (Err fault) before after) same printed)
+      )
