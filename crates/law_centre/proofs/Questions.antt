@@ -47,20 +47,20 @@ none_before : (s : ℕ) (pool : SectionRun) → is_empty pool ≡ true → is_em
 none_before s pool none = let no : pool.count ≡ 0 = eqb-true pool.count 0 none in eq-eqb (part_before s pool).count 0 (omega (arith, no))
 
 module _ (line : Line) (c : ℕ) where
-  turned : (t : ℕ) (o : Option Mission) (k : Centre) → AsksForEmptyPools k → Turn line t k o → (first : ℕ) → k.route_ask t ≡ Some first → HasEmptyPool o
-  turned t _ k h closes first asks = tt
-  turned t _ k h (mission_begins place) first asks = refl
-  turned t _ k h (grows m place r has) first asks =
+  turned : (may : Bool) (was : Centre) (t : ℕ) (o : Option Mission) (k : Centre) → AsksForEmptyPools k → Turn line c may was t k o → (first : ℕ) → k.route_ask t ≡ Some first → HasEmptyPool o
+  turned may was t _ k h closes first asks = tt
+  turned may was t _ k h (mission_begins place why) first asks = refl
+  turned may was t _ k h (grows m place r so has) first asks =
       ap is_empty (cond-true (is_empty m.pool) m.pool (part_from (behind r) m.pool) (h t first m asks has)) ∙ h t first m asks has
-  turned t _ k h (clears m place r has) first asks = h t first m asks has
-  turned t _ k h (cuts m last_kept) first asks = refl
-  turned t _ k h (comes place hand has_data is_ended) first asks = refl
+  turned may was t _ k h (clears m place r position has placed) first asks = h t first m asks has
+  turned may was t _ k h (cuts m n last_kept has same) first asks = refl
+  turned may was t _ k h (comes d number place hand has_data is_ended so) first asks = refl
 
-  changed : (t : ℕ) (f : Mission → Mission) (k : Centre) → Change t k f → (first : ℕ) (m : Mission) → k.route_ask t ≡ Some first → is_empty m.pool ≡ true → is_empty (f m).pool ≡ true
-  changed t _ k no_pool first m asks empty = refl
-  changed t _ k (less_pool s) first m asks empty = none_before s m.pool empty
-  changed t _ k (pools r none) first m asks empty = absurd (none_asked first (sym none ∙ asks))
-  changed t f k change first m asks empty = empty
+  changed : (may : Bool) (was : Centre) (t : ℕ) (f : Mission → Mission) (k : Centre) → Change line may was t k f → (first : ℕ) (m : Mission) → k.route_ask t ≡ Some first → is_empty m.pool ≡ true → is_empty (f m).pool ≡ true
+  changed may was t _ k no_pool first m asks empty = refl
+  changed may was t _ k (less_pool s) first m asks empty = none_before s m.pool empty
+  changed may was t _ k (pools r none) first m asks empty = absurd (none_asked first (sym none ∙ asks))
+  changed may was t f k change first m asks empty = empty
 
   -- a question is asked where the pool is empty
   asked : (t next : ℕ) (m : Mission) (k : Centre) → k.mission t ≡ Some m → is_empty m.pool ≡ true → AsksForEmptyPools k → AsksForEmptyPools (record k { route_ask = put k.route_ask t (Some next) })
@@ -77,19 +77,19 @@ module _ (line : Line) (c : ℕ) where
 
   -- ## Each small move, and so each step
 
-  moves : (may : Bool) (k : Centre) (q : Reply) → Move line c may k q → Keeps k q
-  moves may _ _ (asks_route t next m k has empty) h = asked t next m k has empty h
-  moves may _ _ (told_route t k) h = ended t k h
-  moves may _ _ (sets t o k turn) h = set_at t o k h (turned t o k h turn)
-  moves may _ _ (changes t f k change) h = change_at t f k h (changed t f k change)
-  moves may k q move h = h
+  moves : (may : Bool) (was k : Centre) (q : Reply) → Move line c may was k q → Keeps k q
+  moves may was _ _ (asks_route t next m k has empty) h = asked t next m k has empty h
+  moves may was _ _ (told_route t k) h = ended t k h
+  moves may was _ _ (sets t o k turn) h = set_at t o k h (turned may was t o k h turn)
+  moves may was _ _ (changes t f k change) h = change_at t f k h (changed may was t f k change)
+  moves may was k q move h = h
 
   joins : (a b : Act) (k : Centre) → Keeps k (a k) → Keeps (a k).state (b (a k).state) → Keeps k ((a >> b) k)
   unfolding ◌>>◌
   joins a b k one two h = two (one h)
 
   pub step_keeps : (event : Event) (k : Centre) → AsksForEmptyPools k → AsksForEmptyPools (taken line c event k).1
-  step_keeps event k h = of_effect line c Keeps (λ may. record { moves = moves may; joins = joins }) (λ d number j is. is) event (ticked (stamp_of k event) k) h
+  step_keeps event k h = of_effect line c Keeps (λ may was. record { moves = moves may was; joins = joins }) (λ d number j is. is) event (ticked (stamp_of k event) k) h
 
 pub begins : (line : Line) (c : ℕ) → AsksForEmptyPools (beginning line c)
 unfolding beginning

@@ -16,9 +16,9 @@ unfolding ◌>>◌
 joins a b k one two = two ∙ one
 
 module _ (line : Line) (c : ℕ) where
-  moves : (may : Bool) (k : Centre) (q : Reply) → Move line c may k q → KeepsClock k q
-  moves may _ _ (rests k) = refl
-  moves may k q move = refl
+  moves : (may : Bool) (was k : Centre) (q : Reply) → Move line c may was k q → KeepsClock k q
+  moves may was _ _ (rests k) = refl
+  moves may was k q move = refl
 
   pub clock_kept : (event : Event) (k : Centre) → (effect line c k event).reply.state.clock ≡ k.clock
-  clock_kept = of_effect line c KeepsClock (λ may. record { moves = moves may; joins = joins }) (λ d number k. refl)
+  clock_kept = of_effect line c KeepsClock (λ may was. record { moves = moves may was; joins = joins }) (λ d number k. refl)

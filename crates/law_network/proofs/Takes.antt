@@ -1,5 +1,5 @@
 -- No act of a centre but the taking of a frame changes how many frames it has taken of each other.
-use Rattle.std.proofs.Common.{◌≡◌, ℕ, Bool, false, refl, ◌∙◌}
+use Rattle.std.proofs.Common.{◌≡◌, ℕ, Bool, refl, ◌∙◌}
 use Rattle.rbc_spec.specs.Maps.{put}
 use Rattle.rbc_spec.specs.Line.{Line}
 use Rattle.rbc_spec.specs.Message.{TrainMessage}
@@ -21,29 +21,29 @@ pub record Keeps (act : Act) : Type 0 where
   pub each : (k : Centre) → KeepsTaken k (act k)
 
 module _ (line : Line) (c : ℕ) where
-  moves : (may : Bool) (k : Centre) (q : Reply) → Move line c may k q → KeepsTaken k q
-  moves may _ _ (rests k) = refl
-  moves may k q move = refl
+  moves : (may : Bool) (was k : Centre) (q : Reply) → Move line c may was k q → KeepsTaken k q
+  moves may was _ _ (rests k) = refl
+  moves may was k q move = refl
 
   joins : (a b : Act) (k : Centre) → KeepsTaken k (a k) → KeepsTaken (a k).state (b (a k).state) → KeepsTaken k ((a >> b) k)
   unfolding ◌>>◌
   joins a b k one two = two ∙ one
 
-  closed : (may : Bool) → Closed line c may KeepsTaken
-  closed may = record { moves = moves may; joins = joins }
+  closed : (may : Bool) (was : Centre) → Closed line c may was KeepsTaken
+  closed may was = record { moves = moves may was; joins = joins }
 
   pub set_keeps : (s : ℕ) → Keeps (set line c s)
-  set_keeps s = record { each = of_set line c KeepsTaken (closed false) s }
+  set_keeps s = record { each = of_set line c KeepsTaken closed s }
 
   pub unset_keeps : (s : ℕ) → Keeps (unset line c s)
-  unset_keeps s = record { each = of_unset line c KeepsTaken (closed false) s }
+  unset_keeps s = record { each = of_unset line c KeepsTaken closed s }
 
   pub train_keeps : (m : TrainMessage) (k : Centre) → (effect line c k (Train m)).reply.state.taken ≡ k.taken
   train_keeps = of_train line c KeepsTaken closed
 
   deliver_keeps : (d : ℕ) (f : Frame) (answer : outcome.Taken) (k : Centre) → (taken_by line c d f answer k).state.taken ≡ taken_after d f answer k
   unfolding ◌>>◌
-  deliver_keeps d f Next k = of_frame line c KeepsTaken (closed false) d f.body (record k { taken = put k.taken d f.number })
+  deliver_keeps d f Next k = of_frame line c KeepsTaken closed d f.body (record k { taken = put k.taken d f.number })
   deliver_keeps d f Old k = refl
   deliver_keeps d f Early k = refl
   deliver_keeps d f NoLink k = refl

@@ -3,13 +3,16 @@ use Rattle.std.proofs.Common.{◌≡◌, ℕ, Bool, false, refl, ◌∙◌}
 use Rattle.rbc_spec.specs.Line.{Line}
 use Rattle.rbc_spec.specs.Message.{TrainMessage, TrainBody, Request}
 use Rattle.rbc_spec.specs.Frame.{Frame}
-use Rattle.rbc_spec.specs.Outcome as outcome
+use Rattle.rbc_spec.specs.Outcome.{Taken as LinkAnswer, Next, Old, Early, NoLink}
 use Rattle.rbc_spec.specs.Centre.{Centre}
-use Rattle.rbc_spec.specs.Acts.{Act, Reply, ◌>>◌}
+use Rattle.rbc_spec.specs.Acts.{hear, Act, Reply, ◌>>◌}
+use Rattle.rbc_spec.specs.Maps.{put}
+use Rattle.rbc_spec.specs.Links.{received}
 use Rattle.rbc_spec.specs.Step.{hear_and_answer, taken_by}
-use Rattle.law_walk.proofs.Moves.{Move, counts, Closed, of_walk}
+use Rattle.law_walk.proofs.Moves.{Move, counts, Walk, of_walk}
 use Rattle.law_walk.proofs.Messages.{may_announce}
-use Rattle.law_walk.proofs.Steps.{heard_walks, of_taken}
+use Rattle.law_walk.proofs.Frames.{received_walks}
+use Rattle.law_walk.proofs.Steps.{heard_walks}
 use Rattle.law_progress.specs.Ends.{IsSessionOrReport}
 
 -- what an act leaves of a centre, which was k, has announced no more
@@ -21,24 +24,29 @@ module _ (line : Line) (c : ℕ) where
   abbrev Keeps : Act → Type 0
   Keeps act = (k : Centre) → Same k (act k)
 
-  moves : (may : Bool) → may ≡ false → (k : Centre) (q : Reply) → Move line c may k q → Same k q
-  moves may never _ _ (counts number k so) = cc
-  moves may never k q move = record { law = refl }
+  moves : (may : Bool) (was : Centre) → may ≡ false → (k : Centre) (q : Reply) → Move line c may was k q → Same k q
+  moves may was never _ _ (counts number k so) = cc
+  moves may was never k q move = record { law = refl }
 
   joins : (a b : Act) (k : Centre) → Same k (a k) → Same (a k).state (b (a k).state) → Same k ((a >> b) k)
   unfolding ◌>>◌
   joins a b k one two = record { law = two.law ∙ one.law }
 
-  closed : (may : Bool) → may ≡ false → Closed line c may Same
-  closed may never = record { moves = moves may never; joins = joins }
+  of_moves : (may : Bool) (was : Centre) → may ≡ false → (k : Centre) (q : Reply) → Walk line c may was k q → Same k q
+  of_moves may was never = of_walk line c may was Same (record { moves = moves may was never; joins = joins })
 
   -- whatever the link says
-  pub taken_keeps : (d : ℕ) (f : Frame) (answer : outcome.Taken) → Keeps (taken_by line c d f answer)
-  taken_keeps = of_taken line c Same (closed false refl) (λ d number k. record { law = refl })
+  pub taken_keeps : (d : ℕ) (f : Frame) (answer : LinkAnswer) → Keeps (taken_by line c d f answer)
+  unfolding ◌>>◌
+  taken_keeps d f Next k = let counted = record k { taken = put k.taken d f.number } in
+      record { law = (of_moves false counted refl counted (received line c d f.body counted) (received_walks line c d counted f.body)).law }
+  taken_keeps d f Old k = record { law = refl }
+  taken_keeps d f Early k = record { law = refl }
+  taken_keeps d f NoLink k = record { law = refl }
 
   no_request : (body : TrainBody) → IsSessionOrReport body → may_announce body ≡ false
   no_request (Request position) is = absurd is
   no_request body is = refl
 
   pub heard_keeps : (m : TrainMessage) → IsSessionOrReport m.body → Keeps (hear_and_answer line c m)
-  heard_keeps m is k = of_walk line c (may_announce m.body) Same (closed (may_announce m.body) (no_request m.body is)) k (hear_and_answer line c m k) (heard_walks line c m k)
+  heard_keeps m is k = of_moves (may_announce m.body) (hear m k).state (no_request m.body is) k (hear_and_answer line c m k) (heard_walks line c m k)
