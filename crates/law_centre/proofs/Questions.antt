@@ -1,5 +1,5 @@
 -- While a question for sections stands, the pool of its train's mission is empty: each step of a centre keeps that.
-use Rattle.std.proofs.Common.{◌≡◌, ◌≢◌, ℕ, ◌==◌, Bool, true, not, ◌&&◌, Option, Some, None, option_map, refl, sym, ap, ◌∙◌, subst, ⊎_elim, arith, eq-eqb, eqb-true}
+use Rattle.std.proofs.Common.{◌≡◌, ◌≢◌, ℕ, ◌==◌, true, not, ◌&&◌, Option, Some, None, option_map, refl, sym, ap, ◌∙◌, subst, ⊎_elim, arith, eq-eqb, eqb-true}
 use Rattle.std.proofs.lemmas.Bool.{cases_eq, cond-true}
 use Rattle.std.proofs.lemmas.Option.{same_Some}
 use Rattle.std.proofs.Math.Bool.{and-true}
@@ -12,7 +12,7 @@ use Rattle.rbc_spec.specs.Acts.{Act, Reply, ◌>>◌, set_mission, change_missio
 use Rattle.rbc_spec.specs.Links.{is_wanted}
 use Rattle.rbc_spec.specs.Step.{Event, taken, stamp_of, ticked}
 use Rattle.law_base.proofs.Puts.{put_here, put_other}
-use Rattle.law_walk.proofs.Moves.{Turn, closes, begins as mission_begins, grows, clears, cuts, comes, Change, no_pool, less_pool, pools, Move, asks_route, told_route, sets, changes}
+use Rattle.law_walk.proofs.Moves.{May, Turn, closes, begins as mission_begins, grows, clears, cuts, comes, Change, no_pool, less_pool, pools, Move, asks_route, told_route, sets, changes}
 use Rattle.law_walk.proofs.Steps.{of_effect}
 use Rattle.law_centre.specs.Asks.{AsksForEmptyPools, follows_hand}
 
@@ -47,7 +47,7 @@ none_before : (s : ℕ) (pool : SectionRun) → is_empty pool ≡ true → is_em
 none_before s pool none = let no : pool.count ≡ 0 = eqb-true pool.count 0 none in eq-eqb (part_before s pool).count 0 (omega (arith, no))
 
 module _ (line : Line) (c : ℕ) where
-  turned : (may : Bool) (was : Centre) (t : ℕ) (o : Option Mission) (k : Centre) → AsksForEmptyPools k → Turn line c may was t k o → (first : ℕ) → k.route_ask t ≡ Some first → HasEmptyPool o
+  turned : (may : May) (was : Centre) (t : ℕ) (o : Option Mission) (k : Centre) → AsksForEmptyPools k → Turn line c may was t k o → (first : ℕ) → k.route_ask t ≡ Some first → HasEmptyPool o
   turned may was t _ k h closes first asks = tt
   turned may was t _ k h (mission_begins place why) first asks = refl
   turned may was t _ k h (grows m place r so has) first asks =
@@ -56,7 +56,7 @@ module _ (line : Line) (c : ℕ) where
   turned may was t _ k h (cuts m n last_kept has same) first asks = refl
   turned may was t _ k h (comes d number place hand has_data is_ended so) first asks = refl
 
-  changed : (may : Bool) (was : Centre) (t : ℕ) (f : Mission → Mission) (k : Centre) → Change line may was t k f → (first : ℕ) (m : Mission) → k.route_ask t ≡ Some first → is_empty m.pool ≡ true → is_empty (f m).pool ≡ true
+  changed : (may : May) (was : Centre) (t : ℕ) (f : Mission → Mission) (k : Centre) → Change line may was t k f → (first : ℕ) (m : Mission) → k.route_ask t ≡ Some first → is_empty m.pool ≡ true → is_empty (f m).pool ≡ true
   changed may was t _ k no_pool first m asks empty = refl
   changed may was t _ k (less_pool s) first m asks empty = none_before s m.pool empty
   changed may was t _ k (pools r none) first m asks empty = absurd (none_asked first (sym none ∙ asks))
@@ -77,7 +77,7 @@ module _ (line : Line) (c : ℕ) where
 
   -- ## Each small move, and so each step
 
-  moves : (may : Bool) (was k : Centre) (q : Reply) → Move line c may was k q → Keeps k q
+  moves : (may : May) (was k : Centre) (q : Reply) → Move line c may was k q → Keeps k q
   moves may was _ _ (asks_route t next m k has empty) h = asked t next m k has empty h
   moves may was _ _ (told_route t k) h = ended t k h
   moves may was _ _ (sets t o k turn) h = set_at t o k h (turned may was t o k h turn)

@@ -1,10 +1,10 @@
 -- No step touches its centre's clock beyond its stamp.
-use Rattle.std.proofs.Common.{◌≡◌, ℕ, Bool, refl, ◌∙◌}
+use Rattle.std.proofs.Common.{◌≡◌, ℕ, refl, ◌∙◌}
 use Rattle.rbc_spec.specs.Line.{Line}
 use Rattle.rbc_spec.specs.Centre.{Centre}
 use Rattle.rbc_spec.specs.Acts.{Act, Reply, ◌>>◌}
 use Rattle.rbc_spec.specs.Step.{Event, effect}
-use Rattle.law_walk.proofs.Moves.{Move, rests}
+use Rattle.law_walk.proofs.Moves.{May, Move, rests}
 use Rattle.law_walk.proofs.Steps.{of_effect}
 
 -- what an act leaves has the clock that there was
@@ -16,7 +16,7 @@ unfolding ◌>>◌
 joins a b k one two = two ∙ one
 
 module _ (line : Line) (c : ℕ) where
-  moves : (may : Bool) (was k : Centre) (q : Reply) → Move line c may was k q → KeepsClock k q
+  moves : (may : May) (was k : Centre) (q : Reply) → Move line c may was k q → KeepsClock k q
   moves may was _ _ (rests k) = refl
   moves may was k q move = refl
 

@@ -1,5 +1,5 @@
 -- No act of a centre but the taking of a frame changes how many frames it has taken of each other.
-use Rattle.std.proofs.Common.{◌≡◌, ℕ, Bool, refl, ◌∙◌}
+use Rattle.std.proofs.Common.{◌≡◌, ℕ, refl, ◌∙◌}
 use Rattle.rbc_spec.specs.Maps.{put}
 use Rattle.rbc_spec.specs.Line.{Line}
 use Rattle.rbc_spec.specs.Message.{TrainMessage}
@@ -11,7 +11,7 @@ use Rattle.rbc_spec.specs.Acts.{Act, Reply, ◌>>◌}
 use Rattle.rbc_spec.specs.Step as step
 use Rattle.rbc_spec.specs.Step.{Train, effect, set, unset, link_answer, taken_by}
 use Rattle.law_network.specs.Numbers.{taken_after}
-use Rattle.law_walk.proofs.Moves.{Move, rests, Closed}
+use Rattle.law_walk.proofs.Moves.{May, Move, rests, Closed}
 use Rattle.law_walk.proofs.Steps.{of_train, of_set, of_unset, of_frame}
 
 abbrev KeepsTaken : Centre → Reply → Type 0
@@ -21,7 +21,7 @@ pub record Keeps (act : Act) : Type 0 where
   pub each : (k : Centre) → KeepsTaken k (act k)
 
 module _ (line : Line) (c : ℕ) where
-  moves : (may : Bool) (was k : Centre) (q : Reply) → Move line c may was k q → KeepsTaken k q
+  moves : (may : May) (was k : Centre) (q : Reply) → Move line c may was k q → KeepsTaken k q
   moves may was _ _ (rests k) = refl
   moves may was k q move = refl
 
@@ -29,7 +29,7 @@ module _ (line : Line) (c : ℕ) where
   unfolding ◌>>◌
   joins a b k one two = two ∙ one
 
-  closed : (may : Bool) (was : Centre) → Closed line c may was KeepsTaken
+  closed : (may : May) (was : Centre) → Closed line c may was KeepsTaken
   closed may was = record { moves = moves may was; joins = joins }
 
   pub set_keeps : (s : ℕ) → Keeps (set line c s)

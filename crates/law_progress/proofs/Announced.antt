@@ -9,9 +9,9 @@ use Rattle.rbc_spec.specs.Acts.{hear, Act, Reply, ◌>>◌}
 use Rattle.rbc_spec.specs.Maps.{put}
 use Rattle.rbc_spec.specs.Links.{received}
 use Rattle.rbc_spec.specs.Step.{hear_and_answer, taken_by}
-use Rattle.law_walk.proofs.Moves.{Move, counts, Walk, of_walk}
-use Rattle.law_walk.proofs.Messages.{may_announce}
-use Rattle.law_walk.proofs.Frames.{received_walks}
+use Rattle.law_walk.proofs.Moves.{May, Move, counts, Walk, of_walk}
+use Rattle.law_walk.proofs.Messages.{may_announce, may_do}
+use Rattle.law_walk.proofs.Frames.{frame_may, received_walks}
 use Rattle.law_walk.proofs.Steps.{heard_walks}
 use Rattle.law_progress.specs.Ends.{IsSessionOrReport}
 
@@ -24,7 +24,7 @@ module _ (line : Line) (c : ℕ) where
   abbrev Keeps : Act → Type 0
   Keeps act = (k : Centre) → Same k (act k)
 
-  moves : (may : Bool) (was : Centre) → may ≡ false → (k : Centre) (q : Reply) → Move line c may was k q → Same k q
+  moves : (may : May) (was : Centre) → may.announces ≡ false → (k : Centre) (q : Reply) → Move line c may was k q → Same k q
   moves may was never _ _ (counts number k so) = cc
   moves may was never k q move = record { law = refl }
 
@@ -32,14 +32,14 @@ module _ (line : Line) (c : ℕ) where
   unfolding ◌>>◌
   joins a b k one two = record { law = two.law ∙ one.law }
 
-  of_moves : (may : Bool) (was : Centre) → may ≡ false → (k : Centre) (q : Reply) → Walk line c may was k q → Same k q
+  of_moves : (may : May) (was : Centre) → may.announces ≡ false → (k : Centre) (q : Reply) → Walk line c may was k q → Same k q
   of_moves may was never = of_walk line c may was Same (record { moves = moves may was never; joins = joins })
 
   -- whatever the link says
   pub taken_keeps : (d : ℕ) (f : Frame) (answer : LinkAnswer) → Keeps (taken_by line c d f answer)
   unfolding ◌>>◌
   taken_keeps d f Next k = let counted = record k { taken = put k.taken d f.number } in
-      record { law = (of_moves false counted refl counted (received line c d f.body counted) (received_walks line c d counted f.body)).law }
+      record { law = (of_moves (frame_may f.body) counted refl counted (received line c d f.body counted) (received_walks line c d counted f.body)).law }
   taken_keeps d f Old k = record { law = refl }
   taken_keeps d f Early k = record { law = refl }
   taken_keeps d f NoLink k = record { law = refl }
@@ -49,4 +49,4 @@ module _ (line : Line) (c : ℕ) where
   no_request body is = refl
 
   pub heard_keeps : (m : TrainMessage) → IsSessionOrReport m.body → Keeps (hear_and_answer line c m)
-  heard_keeps m is k = of_moves (may_announce m.body) (hear m k).state (no_request m.body is) k (hear_and_answer line c m k) (heard_walks line c m k)
+  heard_keeps m is k = of_moves (may_do m.body) (hear m k).state (no_request m.body is) k (hear_and_answer line c m k) (heard_walks line c m k)

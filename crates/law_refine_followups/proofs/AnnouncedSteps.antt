@@ -18,9 +18,9 @@ use Rattle.rbc_spec.specs.Step as step
 use Rattle.rbc_spec.specs.Step.{Event, Train, Set, Unset, Deliver, stamp_of, link_answer, taken_by, set, unset, hear_and_answer}
 use Rattle.law_base.proofs.Runs.{each_within}
 use Rattle.law_local.proofs.Ordered.{is_ordered}
-use Rattle.law_walk.proofs.Moves.{MayBegin, waited, all_free, Turn, closes, begins, grows, clears, cuts, comes, Change, no_mission, recalls, hands, restarts, Move, sets, changes, Walk, of_walk}
-use Rattle.law_walk.proofs.Messages.{ask_if_walks, answered_walks}
-use Rattle.law_walk.proofs.Frames.{received_walks}
+use Rattle.law_walk.proofs.Moves.{May, still, speaking, MayBegin, waited, all_free, Turn, closes, begins, grows, clears, cuts, comes, Change, no_mission, recalls, hands, restarts, Move, sets, changes, Walk, of_walk}
+use Rattle.law_walk.proofs.Messages.{may_do, ask_if_walks, answered_walks}
+use Rattle.law_walk.proofs.Frames.{frame_may, received_walks}
 use Rattle.law_walk.proofs.Steps.{set_walks, unset_walks}
 use Rattle.law_centre.proofs.Places.{placed_on}
 use Rattle.law_network.specs.Counts.{wait_has}
@@ -47,7 +47,7 @@ module _ (line : Line) (ok : IsLine line) (c : ℕ) where
 
   -- ## Each small move but those of a request
 
-  module _ (was : Centre) (facts : Facts was) where
+  module _ (may : May) (quiet : may.announces ≡ false) (was : Centre) (facts : Facts was) where
     own_covered : (t : ℕ) (place : Place) → MayBegin line c t was place → (s : ℕ) → within (covered line place) s ≡ true → is_home line c s ≡ true
     own_covered t place (waited at) s has = facts.1 t s (ap (λ o. wait_has line o s) at ∙ has)
     own_covered t place (all_free free) s has = (and_parts (is_home line c s) (is_open (was.book s)) (each_within (is_free line c was) (covered line place) free s has)).0
@@ -60,7 +60,7 @@ module _ (line : Line) (ok : IsLine line) (c : ℕ) where
     FitsOption None = Unit {0}
     FitsOption (Some m) = F m
 
-    turned : (t : ℕ) (o : Option Mission) (k : Centre) → H k → Turn line c false was t k o → FitsOption o
+    turned : (t : ℕ) (o : Option Mission) (k : Centre) → H k → Turn line c may was t k o → FitsOption o
     turned t _ k old closes = tt
     turned t _ k old (begins place why) = unhanded line ok c (begun line place) refl (own_hand line ok c (begun line place) (own_covered t place why))
     turned t _ k old (grows m place r so has) = cc
@@ -74,7 +74,7 @@ module _ (line : Line) (ok : IsLine line) (c : ℕ) where
     set_to : (t : ℕ) (o : Option Mission) (k : Centre) → H k → FitsOption o → H (set_mission t o k).state
     set_to t o k old fits = set_all line ok c t o k (λ m is. subst FitsOption is fits) old
 
-    changed : (t : ℕ) (f : Mission → Mission) (k : Centre) → Change line false was t k f → (m : Mission) → k.mission t ≡ Some m → F m → F (f m)
+    changed : (t : ℕ) (f : Mission → Mission) (k : Centre) → Change line may was t k f → (m : Mission) → k.mission t ≡ Some m → F m → F (f m)
     changed t _ k (no_mission none) m at fits = let wrong : ◌≡◌ {A = Option Mission} None (Some m) = sym none ∙ at in cc
     changed t _ k (hands h so) m at fits = cc
     changed t _ k (recalls n h has stands empty) m at fits =
@@ -88,7 +88,7 @@ module _ (line : Line) (ok : IsLine line) (c : ℕ) where
         moved line ok c m _ (same_track line n.place place n.hand (facts.0 t n had) covers all ∙ ap (λ (q : Mission). q.place.track) (same_Some n m (sym has ∙ at))) refl (λ s there. there) fits
     changed t f k change m at fits = record { announced = fits.announced; onward = fits.onward }
 
-    moves : (k : Centre) (q : Reply) → Move line c false was k q → Keeps k q
+    moves : (k : Centre) (q : Reply) → Move line c may was k q → Keeps k q
     moves _ _ (sets t o k turn) old = set_to t o k old (turned t o k old turn)
     moves _ _ (changes t f k change) old = change_all line ok c t f k (changed t f k change) old
     moves k q move old = old
@@ -97,16 +97,17 @@ module _ (line : Line) (ok : IsLine line) (c : ℕ) where
     unfolding ◌>>◌
     joins a b k one two old = two (one old)
 
-    of_moves : (k : Centre) (q : Reply) → Walk line c false was k q → Keeps k q
-    of_moves = of_walk line c false was Keeps (record { moves = moves; joins = joins })
+    of_moves : (k : Centre) (q : Reply) → Walk line c may was k q → Keeps k q
+    of_moves = of_walk line c may was Keeps (record { moves = moves; joins = joins })
 
-    -- ## Messages
+  -- ## Messages
 
+  module _ (was : Centre) (facts : Facts was) where
     message_all : (m : TrainMessage) (body : TrainBody) → Keeps was (answered line c m body was)
     message_all m (Request position) old = by_mission (was.mission m.nid_engine) refl
       where
         asks : (e : ℕ) (i : Centre) → H i → H (ask_route_if_due line m.nid_engine e i).state
-        asks e i = of_moves i (ask_route_if_due line m.nid_engine e i) (ask_if_walks line c false was m.nid_engine e i)
+        asks e i = of_moves still refl was facts i (ask_route_if_due line m.nid_engine e i) (ask_if_walks line c still was m.nid_engine e i)
 
         by_place : (n : Mission) → was.mission m.nid_engine ≡ Some n → (o : Option Place) → place_on line n.place.track position ≡ o
             → H (option_map_or (λ place. grant line c m.nid_engine (record n { place = place })) o rest was).state
@@ -117,7 +118,7 @@ module _ (line : Line) (ok : IsLine line) (c : ℕ) where
             → H (option_map_or (λ n. option_map_or (λ place. grant line c m.nid_engine (record n { place = place })) (place_on line n.place.track position) rest was) o (rest was)).state
         by_mission None none = old
         by_mission (Some n) at = by_place n at (place_on line n.place.track position) refl
-    message_all m body old = of_moves was (answered line c m body was) (answered_walks line c was m body) old
+    message_all m body old = of_moves (may_do body) refl was facts was (answered line c m body was) (answered_walks line c was m body) old
 
   -- ## A step
 
@@ -129,7 +130,7 @@ module _ (line : Line) (ok : IsLine line) (c : ℕ) where
 
   taken_all : (d : ℕ) (f : Frame) (answer : LinkAnswer) (k : Centre) → Facts k → H k → H (taken_by line c d f answer k).state
   unfolding ◌>>◌
-  taken_all d f Next k facts old = let j = record k { taken = put k.taken d f.number } in of_moves j facts j (received line c d f.body j) (received_walks line c d j f.body) old
+  taken_all d f Next k facts old = let j = record k { taken = put k.taken d f.number } in of_moves (frame_may f.body) refl j facts j (received line c d f.body j) (received_walks line c d j f.body) old
   taken_all d f Old k facts old = old
   taken_all d f Early k facts old = old
   taken_all d f NoLink k facts old = old
@@ -139,8 +140,8 @@ module _ (line : Line) (ok : IsLine line) (c : ℕ) where
 
   step_fits : (k : Centre) (event : Event) → IsCentreSound line c k → H k → H (left_by line c k event)
   step_fits k (Train m) sound old = train_all m (step.ticked (stamp_of k (Train m)) k) (facts_of k sound) old (step.silence line c (step.ticked (stamp_of k (Train m)) k) m)
-  step_fits k (Set s) sound old = let j = step.ticked (stamp_of k (Set s)) k in of_moves j (facts_of k sound) j (set line c s j) (set_walks line c j s j) old
-  step_fits k (Unset s) sound old = let j = step.ticked (stamp_of k (Unset s)) k in of_moves j (facts_of k sound) j (unset line c s j) (unset_walks line c j s j) old
+  step_fits k (Set s) sound old = let j = step.ticked (stamp_of k (Set s)) k in of_moves speaking refl j (facts_of k sound) j (set line c s j) (set_walks line c speaking j refl s j) old
+  step_fits k (Unset s) sound old = let j = step.ticked (stamp_of k (Unset s)) k in of_moves speaking refl j (facts_of k sound) j (unset line c s j) (unset_walks line c speaking j refl s j) old
   step_fits k (Deliver d f) sound old = let j = step.ticked (stamp_of k (Deliver d f)) k in taken_all d f (link_answer line c j d f) j (facts_of k sound) old
 
   pub step_announces : (k : Centre) (event : Event) → IsCentreSound line c k → AnnouncesAll line c k → AnnouncesAll line c (left_by line c k event)

@@ -1,5 +1,5 @@
 -- The acts that several rules share are walks.
-use Rattle.std.proofs.Common.{Option, Some, None, refl, ◌≡◌, ℕ, ◌+◌, ◌-◌, ◌==◌, ◌&&◌, Bool, true, Some, None}
+use Rattle.std.proofs.Common.{Option, Some, None, refl, ◌≡◌, ℕ, ◌+◌, ◌-◌, ◌==◌, ◌&&◌, true, Some, None}
 use Rattle.std.specs.Option.{option_map_or}
 use Rattle.rbc_spec.specs.Maps.{put}
 use Rattle.rbc_spec.specs.SectionRuns.{SectionRun, no_run, is_empty}
@@ -13,14 +13,14 @@ use Rattle.rbc_spec.specs.Acts.{Act, become, rest, ◌>>◌, where_so, with_some
 use Rattle.rbc_spec.specs.Rules.{drop_wait, set_phase, close_session, accept, reject, begin}
 use Rattle.rbc_spec.specs.Links.{taking_over}
 use Rattle.law_base.proofs.Puts.{put_there}
-use Rattle.law_walk.proofs.Moves.{MayBegin, Change, Walk, joined, says, sends, returns, books, frees, phases, waits, rights, counts, sets, changes, closes, begins, no_proposal, proposes, no_mission, hands, no_pool, Walks, step, resting, both, branch, if_some, when, with}
+use Rattle.law_walk.proofs.Moves.{May, MayBegin, Change, Walk, joined, says, sends, returns, books, frees, phases, waits, rights, counts, sets, changes, closes, begins, no_proposal, proposes, no_mission, hands, no_pool, Walks, step, resting, both, branch, if_some, when, with}
 
-module _ (line : Line) (c : ℕ) (may : Bool) (was : Centre) (t : ℕ) where
+module _ (line : Line) (c : ℕ) (may : May) (was : Centre) (t : ℕ) where
   abbrev Goes : Act → Type 0
   Goes act = Walks line c may was act
 
-  pub leave_walks : (track : ℕ) (r : SectionRun) → Goes (leave line c t track r)
-  leave_walks track r = both line c may was (freed line c (is_taken_for t) r) (returned line c t track r) (λ k. step line c may was (frees (is_taken_for t) r k)) (λ k. step line c may was (returns t track r k))
+  pub leave_walks : may.speaks ≡ true → (track : ℕ) (r : SectionRun) → Goes (leave line c t track r)
+  leave_walks so track r = both line c may was (freed line c (is_taken_for t) r) (returned line c t track r) (λ k. step line c may was (frees (is_taken_for t) r k so)) (λ k. step line c may was (returns t track r k))
 
   pub return_pool_walks : (m : Mission) → Goes (return_pool line c t m)
   return_pool_walks m = both line c may was _ _ (λ k. step line c may was (returns t m.place.track m.pool k)) (λ k. step line c may was (changes t (λ n. record n { pool = no_run }) k no_pool))
@@ -50,7 +50,7 @@ module _ (line : Line) (c : ℕ) (may : Bool) (was : Centre) (t : ℕ) where
   pub propose_if_walks : (s : ℕ) → Goes (propose_if_so line t s)
   propose_if_walks s = with line c may was (λ k. k.mission t) (λ m. where_so (may_propose line t s m) (propose line t s m)) (λ k m has. when line c may was (may_propose line t s m) (propose line t s m) (propose_walks s m) k)
 
-  pub announce_walks : may ≡ true → (group d : ℕ) (m : Mission) → Goes (announce line t group d m)
+  pub announce_walks : may.announces ≡ true → (group d : ℕ) (m : Mission) → Goes (announce line t group d m)
   announce_walks so group d m k =
       let number = k.announced + 1 in
       let border = (part_at line d m.place.track m.hand).first in
@@ -79,14 +79,14 @@ module _ (line : Line) (c : ℕ) (may : Bool) (was : Centre) (t : ℕ) where
 
   -- ## Sessions and starts
 
-  pub drop_wait_walks : Goes (drop_wait line c t)
-  drop_wait_walks = with line c may was (λ k. k.wait t) (λ place. freed line c (is_taken_for t) (covered line place) >> become (λ k. record k { wait = put k.wait t None }))
+  pub drop_wait_walks : may.speaks ≡ true → Goes (drop_wait line c t)
+  drop_wait_walks so = with line c may was (λ k. k.wait t) (λ place. freed line c (is_taken_for t) (covered line place) >> become (λ k. record k { wait = put k.wait t None }))
       (λ k place some. both line c may was (freed line c (is_taken_for t) (covered line place)) (become (λ k. record k { wait = put k.wait t None }))
-      (λ j. step line c may was (frees (is_taken_for t) (covered line place) j)) (λ j. step line c may was (waits t None j)) k)
+      (λ j. step line c may was (frees (is_taken_for t) (covered line place) j so)) (λ j. step line c may was (waits t None j)) k)
 
-  pub close_session_walks : Goes (close_session line c t)
-  close_session_walks = both line c may was (set_phase t Closed >> change_mission t (λ m. record m { proposal = None })) (drop_wait line c t)
-      (both line c may was (set_phase t Closed) (change_mission t (λ m. record m { proposal = None })) (λ k. step line c may was (phases t Closed k)) (λ k. step line c may was (changes t (λ m. record m { proposal = None }) k no_proposal))) drop_wait_walks
+  pub close_session_walks : may.speaks ≡ true → Goes (close_session line c t)
+  close_session_walks so = both line c may was (set_phase t Closed >> change_mission t (λ m. record m { proposal = None })) (drop_wait line c t)
+      (both line c may was (set_phase t Closed) (change_mission t (λ m. record m { proposal = None })) (λ k. step line c may was (phases t Closed k)) (λ k. step line c may was (changes t (λ m. record m { proposal = None }) k no_proposal))) (drop_wait_walks so)
 
   pub accept_walks : Goes (accept t)
   accept_walks k = step line c may was (says t unknown_group TrainAccepted k)

@@ -15,10 +15,10 @@ use Rattle.rbc_spec.specs.Acts.{Act, become, rest, ◌>>◌, where_so, with_some
 use Rattle.rbc_spec.specs.Rules.{accept, reject, begin, restart, start_here, start_waiting, start_new, start_mission, authority, extension, extended_by, announce_if_due, ask_route_if_due, at_border, grant, request, cleared, clear, report_here, take_over, report, cut, granted, answer_granted, stand_still, end_mission, close_session, set_phase, answered}
 use Rattle.law_base.proofs.Puts.{put_there}
 use Rattle.law_base.proofs.Standstill.{rests_or_cuts}
-use Rattle.law_walk.proofs.Moves.{MayBegin, all_free, recalls, joined, says, sends, takes_over, books, phases, waits, rights, asks_right, asks_route, sets, changes, grows, clears, cuts, no_proposal, data_known, ends, restarts, Walk, Walks, step, resting, both, by_bool, by_option, branch, if_some, chosen, when, with}
+use Rattle.law_walk.proofs.Moves.{May, still, asking, speaking, MayBegin, all_free, recalls, joined, says, sends, takes_over, books, phases, waits, rights, asks_right, asks_route, sets, changes, grows, clears, cuts, no_proposal, data_known, ends, restarts, Walk, Walks, step, resting, both, by_bool, by_option, branch, if_some, chosen, when, with}
 use Rattle.law_walk.proofs.Acts.{leave_walks, return_pool_walks, cancel_walks, close_walks, announce_walks, close_session_walks, accept_walks, reject_walks, begin_walks}
 
-module _ (line : Line) (c : ℕ) (may : Bool) (was : Centre) (t : ℕ) where
+module _ (line : Line) (c : ℕ) (may : May) (was : Centre) (t : ℕ) where
   abbrev Goes : Act → Type 0
   Goes act = Walks line c may was act
 
@@ -59,7 +59,7 @@ module _ (line : Line) (c : ℕ) (may : Bool) (was : Centre) (t : ℕ) where
 
   -- ## Requests
 
-  announce_if_walks : may ≡ true → (d : ℕ) → Goes (announce_if_due line t d)
+  announce_if_walks : may.announces ≡ true → (d : ℕ) → Goes (announce_if_due line t d)
   announce_if_walks so d = with line c may was (λ k. k.mission t) (λ m. where_so (λ k. is_none m.handing && not (is_empty (part_at line d m.place.track m.hand))) (announce line t m.place.group d m))
       (λ k m has. when line c may was (λ k. is_none m.handing && not (is_empty (part_at line d m.place.track m.hand))) (announce line t m.place.group d m) (announce_walks line c may was t so m.place.group d m) k)
 
@@ -76,7 +76,7 @@ module _ (line : Line) (c : ℕ) (may : Bool) (was : Centre) (t : ℕ) where
   ask_if_walks d = with line c may was (λ k. k.mission t) (λ m. where_so (may_ask d m) (ask_route t d m))
       (λ k m has. by_bool line c may was (may_ask d m k) (ask_route t d m k) (rest k) k (λ due. ask_walks d m k has due) (λ undue. resting line c may was k))
 
-  grant_walks : may ≡ true → (m : Mission) (place : Place) (k : Centre) → k.mission t ≡ Some m → Walk line c may was k (grant line c t (record m { place = place }) k)
+  grant_walks : may.announces ≡ true → (m : Mission) (place : Place) (k : Centre) → k.mission t ≡ Some m → Walk line c may was k (grant line c t (record m { place = place }) k)
   unfolding ◌>>◌
   grant_walks so m place k has =
       let n = record m { place = place } in
@@ -87,7 +87,7 @@ module _ (line : Line) (c : ℕ) (may : Bool) (was : Centre) (t : ℕ) where
       (step line c may was (says t n.place.group (Authority (authority line (extended_by r n))) _)))
       (if_some line c may was (next_centre line c n.place.track) (at_border line c t) rest (λ d. both line c may was (announce_if_due line t d) (ask_route_if_due line t d) (announce_if_walks so d) (ask_if_walks d)) (resting line c may was) _)
 
-  request_walks : may ≡ true → (position : Position) → Goes (request line c t position)
+  request_walks : may.announces ≡ true → (position : Position) → Goes (request line c t position)
   request_walks so position = with line c may was (λ k. k.mission t) (λ m. option_map_or (λ place. grant line c t (record m { place = place })) (place_on line m.place.track position) rest)
       (λ k m has. by_place k m has (place_on line m.place.track position))
     where
@@ -97,26 +97,26 @@ module _ (line : Line) (c : ℕ) (may : Bool) (was : Centre) (t : ℕ) where
 
   -- ## Reports
 
-  clear_walks : (m : Mission) (place : Place) (position : Position) (k : Centre) → k.mission t ≡ Some m → place_on line m.place.track position ≡ Some place → Walk line c may was k (clear line c t m place k)
+  clear_walks : may.speaks ≡ true → (m : Mission) (place : Place) (position : Position) (k : Centre) → k.mission t ≡ Some m → place_on line m.place.track position ≡ Some place → Walk line c may was k (clear line c t m place k)
   unfolding ◌>>◌
-  clear_walks m place position k has placed = of_count ((cleared line place m).count == m.hand.count)
+  clear_walks so m place position k has placed = of_count ((cleared line place m).count == m.hand.count)
     where
       of_count : (b : Bool) → Walk line c may was k ((if b then (leave line c t m.place.track (joined_runs m.hand m.pool) >> close line c t m)
           else (leave line c t m.place.track (cleared line place m) >> set_mission t (Some (record m { place = place; hand = part_from (behind (cleared line place m)) m.hand })))) k)
-      of_count true = joined (leave line c t m.place.track (joined_runs m.hand m.pool)) (close line c t m) k (leave_walks line c may was t m.place.track (joined_runs m.hand m.pool) k) (close_walks line c may was t m _)
+      of_count true = joined (leave line c t m.place.track (joined_runs m.hand m.pool)) (close line c t m) k (leave_walks line c may was t so m.place.track (joined_runs m.hand m.pool) k) (close_walks line c may was t m _)
       of_count false = joined (leave line c t m.place.track (cleared line place m)) (set_mission t (Some (record m { place = place; hand = part_from (behind (cleared line place m)) m.hand }))) k
-          (leave_walks line c may was t m.place.track (cleared line place m) k)
+          (leave_walks line c may was t so m.place.track (cleared line place m) k)
           (step line c may was (sets t (Some (record m { place = place; hand = part_from (behind (cleared line place m)) m.hand })) (leave line c t m.place.track (cleared line place m) k).state (clears m place (cleared line place m) position has placed)))
 
-  report_here_walks : (position : Position) (m : Mission) (k : Centre) → k.mission t ≡ Some m → Walk line c may was k (report_here line c t position m k)
-  report_here_walks position m k has = by_place (place_on line m.place.track position) refl
+  report_here_walks : may.speaks ≡ true → (position : Position) (m : Mission) (k : Centre) → k.mission t ≡ Some m → Walk line c may was k (report_here line c t position m k)
+  report_here_walks so position m k has = by_place (place_on line m.place.track position) refl
     where
       by_place : (o : Option Place) → place_on line m.place.track position ≡ o → Walk line c may was k (option_map_or (clear line c t m) o rest k)
       by_place None none = resting line c may was k
-      by_place (Some place) placed = clear_walks m place position k has placed
+      by_place (Some place) placed = clear_walks so m place position k has placed
 
-  report_walks : (position : Position) → Goes (report line c t position)
-  report_walks position k = by_option line c may was (k.mission t) (λ m. report_here line c t position m k) (take_over line t k) k (λ m has. report_here_walks position m k has) (step line c may was (takes_over t k))
+  report_walks : may.speaks ≡ true → (position : Position) → Goes (report line c t position)
+  report_walks so position k = by_option line c may was (k.mission t) (λ m. report_here line c t position m k) (take_over line t k) k (λ m has. report_here_walks so position m k has) (step line c may was (takes_over t k))
 
   -- ## Shortening
 
@@ -127,10 +127,10 @@ module _ (line : Line) (c : ℕ) (may : Bool) (was : Centre) (t : ℕ) where
   cancels m last_kept o = option_map_or (λ h. if is_empty (part_at line h.to m.place.track (kept_by last_kept m).hand) then cancel t (kept_by last_kept m) else rest) o rest
 
   -- a mission that was m, but for its request to shorten, is cut
-  cut_walks : (last_kept : ℕ) (m n : Mission) (k : Centre) → k.mission t ≡ Some n → record n { proposal = None } ≡ record m { proposal = None } → Walk line c may was k (cut line c t last_kept m k)
+  cut_walks : may.speaks ≡ true → (last_kept : ℕ) (m n : Mission) (k : Centre) → k.mission t ≡ Some n → record n { proposal = None } ≡ record m { proposal = None } → Walk line c may was k (cut line c t last_kept m k)
   unfolding ◌>>◌
-  cut_walks last_kept m n k has same = joined (leave line c t m.place.track (joined_runs tail m.pool)) (if tail.count == m.hand.count then close line c t m else (set_mission t (Some kept) >> cancels m last_kept m.handing)) k
-      (leave_walks line c may was t m.place.track (joined_runs tail m.pool) k) (by_count (tail.count == m.hand.count))
+  cut_walks so last_kept m n k has same = joined (leave line c t m.place.track (joined_runs tail m.pool)) (if tail.count == m.hand.count then close line c t m else (set_mission t (Some kept) >> cancels m last_kept m.handing)) k
+      (leave_walks line c may was t so m.place.track (joined_runs tail m.pool) k) (by_count (tail.count == m.hand.count))
     where
       tail : SectionRun
       tail = part_from (last_kept + 1) m.hand
@@ -154,8 +154,8 @@ module _ (line : Line) (c : ℕ) (may : Bool) (was : Centre) (t : ℕ) where
       by_count true = close_walks line c may was t m left
       by_count false = joined (set_mission t (Some kept)) (cancels m last_kept m.handing) left (step line c may was (sets t (Some kept) left (cuts m n last_kept has same))) (by_handing m.handing refl)
 
-  granted_walks : (position : Position) (m : Mission) (p : Proposal) (k : Centre) → k.mission t ≡ Some m → Walk line c may was k (granted line c t position m p k)
-  granted_walks position m p k has = joined (change_mission t (λ n. record n { proposal = None }))
+  granted_walks : may.speaks ≡ true → (position : Position) (m : Mission) (p : Proposal) (k : Centre) → k.mission t ≡ Some m → Walk line c may was k (granted line c t position m p k)
+  granted_walks so position m p k has = joined (change_mission t (λ n. record n { proposal = None }))
       (option_map_or (λ place. if nat_le place.front (10 * end line p.last_kept) then cut line c t p.last_kept m else rest) (place_on line m.place.track position) rest) k
       (step line c may was (changes t (λ n. record n { proposal = None }) k no_proposal)) (by_place (place_on line m.place.track position))
     where
@@ -166,25 +166,25 @@ module _ (line : Line) (c : ℕ) (may : Bool) (was : Centre) (t : ℕ) where
       unproposed = put_there k.mission t (option_map (λ (n : Mission). record n { proposal = None }) (k.mission t)) ∙ ap (option_map (λ (n : Mission). record n { proposal = None })) has
 
       by_front : (b : Bool) → Walk line c may was left ((if b then cut line c t p.last_kept m else rest) left)
-      by_front true = cut_walks p.last_kept m (record m { proposal = None }) left unproposed refl
+      by_front true = cut_walks so p.last_kept m (record m { proposal = None }) left unproposed refl
       by_front false = resting line c may was left
 
       by_place : (o : Option Place) → Walk line c may was left (option_map_or (λ place. if nat_le place.front (10 * end line p.last_kept) then cut line c t p.last_kept m else rest) o rest left)
       by_place None = resting line c may was left
       by_place (Some place) = by_front (nat_le place.front (10 * end line p.last_kept))
 
-  answer_granted_walks : (position : Position) → Goes (answer_granted line c t position)
-  answer_granted_walks position = with line c may was (λ k. k.mission t) (λ m. with_some (λ k. m.proposal) (granted line c t position m))
-      (λ k m has. by_option line c may was m.proposal (λ p. granted line c t position m p k) (rest k) k (λ p some. granted_walks position m p k has) (resting line c may was k))
+  answer_granted_walks : may.speaks ≡ true → (position : Position) → Goes (answer_granted line c t position)
+  answer_granted_walks so position = with line c may was (λ k. k.mission t) (λ m. with_some (λ k. m.proposal) (granted line c t position m))
+      (λ k m has. by_option line c may was m.proposal (λ p. granted line c t position m p k) (rest k) k (λ p some. granted_walks so position m p k has) (resting line c may was k))
 
   -- ## End of mission
 
-  end_mission_walks : (position : Position) → Goes (end_mission line c t position)
-  end_mission_walks position = both line c may was _ _
+  end_mission_walks : may.speaks ≡ true → (position : Position) → Goes (end_mission line c t position)
+  end_mission_walks so position = both line c may was _ _
       (both line c may was (with_some (λ k. k.mission t) (report_here line c t position)) (with_some (λ k. k.mission t) (stand_still line c t position))
-      (with line c may was (λ k. k.mission t) (report_here line c t position) (λ k m has. report_here_walks position m k has))
+      (with line c may was (λ k. k.mission t) (report_here line c t position) (λ k m has. report_here_walks so position m k has))
       (with line c may was (λ k. k.mission t) (stand_still line c t position)
-      (λ k m has. rests_or_cuts (λ act. Walk line c may was k (act k)) line c t position m (resting line c may was k) (λ n some fits. cut_walks (m.hand.first + n - 1) m m k has refl))))
+      (λ k m has. rests_or_cuts (λ act. Walk line c may was k (act k)) line c t position m (resting line c may was k) (λ n some fits. cut_walks so (m.hand.first + n - 1) m m k has refl))))
       (with line c may was (λ k. k.mission t) (λ m. return_pool line c t m >> change_mission t (λ n. record n { is_ended = true; proposal = None }))
       (λ k m has. both line c may was (return_pool line c t m) (change_mission t (λ n. record n { is_ended = true; proposal = None })) (return_pool_walks line c may was t m)
       (λ j. step line c may was (changes t (λ n. record n { is_ended = true; proposal = None }) j ends)) k))
@@ -196,19 +196,31 @@ abbrev pub may_announce : TrainBody → Bool
 may_announce (Request position) = true
 may_announce body = false
 
+-- the interlocking is told something where sections may leave a train
+abbrev pub may_speak : TrainBody → Bool
+may_speak (Report position) = true
+may_speak (ShorteningGranted stamp position) = true
+may_speak (EndOfMission position) = true
+may_speak InitiationOfSession = true
+may_speak TerminationOfSession = true
+may_speak body = false
+
+abbrev pub may_do : TrainBody → May
+may_do body = record { announces = may_announce body; speaks = may_speak body }
+
 module _ (line : Line) (c : ℕ) (was : Centre) where
-  pub answered_walks : (m : TrainMessage) (body : TrainBody) → Walk line c (may_announce body) was was (answered line c m body was)
+  pub answered_walks : (m : TrainMessage) (body : TrainBody) → Walk line c (may_do body) was was (answered line c m body was)
   answered_walks m (TrainData position) = joined (change_mission m.nid_engine (λ n. record n { has_data = true })) (say m.nid_engine unknown_group (DataAcknowledged m.t_train)) was
-      (step line c false was (changes m.nid_engine (λ n. record n { has_data = true }) was data_known)) (step line c false was (says m.nid_engine unknown_group (DataAcknowledged m.t_train) _))
-  answered_walks m (Request position) = request_walks line c true was m.nid_engine refl position was
-  answered_walks m (Report position) = report_walks line c false was m.nid_engine position was
-  answered_walks m (ShorteningGranted stamp position) = answer_granted_walks line c false was m.nid_engine position was
-  answered_walks m (ShorteningRejected stamp position) = step line c false was (changes m.nid_engine (λ n. record n { proposal = None }) was no_proposal)
-  answered_walks m (EndOfMission position) = end_mission_walks line c false was m.nid_engine position was
-  answered_walks m InitiationOfSession = both line c false was (close_session line c m.nid_engine >> set_phase m.nid_engine Opened) (say m.nid_engine unknown_group SystemVersion)
-      (both line c false was (close_session line c m.nid_engine) (set_phase m.nid_engine Opened) (close_session_walks line c false was m.nid_engine) (λ k. step line c false was (phases m.nid_engine Opened k)))
-      (λ k. step line c false was (says m.nid_engine unknown_group SystemVersion k)) was
-  answered_walks m TerminationOfSession = both line c false was (close_session line c m.nid_engine) (say m.nid_engine unknown_group TerminationAcknowledged) (close_session_walks line c false was m.nid_engine)
-      (λ k. step line c false was (says m.nid_engine unknown_group TerminationAcknowledged k)) was
-  answered_walks m (StartOfMission is_valid position) = start_mission_walks line c false was m.nid_engine is_valid position
-  answered_walks m SessionEstablished = step line c false was (phases m.nid_engine Up was)
+      (step line c still was (changes m.nid_engine (λ n. record n { has_data = true }) was data_known)) (step line c still was (says m.nid_engine unknown_group (DataAcknowledged m.t_train) _))
+  answered_walks m (Request position) = request_walks line c asking was m.nid_engine refl position was
+  answered_walks m (Report position) = report_walks line c speaking was m.nid_engine refl position was
+  answered_walks m (ShorteningGranted stamp position) = answer_granted_walks line c speaking was m.nid_engine refl position was
+  answered_walks m (ShorteningRejected stamp position) = step line c still was (changes m.nid_engine (λ n. record n { proposal = None }) was no_proposal)
+  answered_walks m (EndOfMission position) = end_mission_walks line c speaking was m.nid_engine refl position was
+  answered_walks m InitiationOfSession = both line c speaking was (close_session line c m.nid_engine >> set_phase m.nid_engine Opened) (say m.nid_engine unknown_group SystemVersion)
+      (both line c speaking was (close_session line c m.nid_engine) (set_phase m.nid_engine Opened) (close_session_walks line c speaking was m.nid_engine refl) (λ k. step line c speaking was (phases m.nid_engine Opened k)))
+      (λ k. step line c speaking was (says m.nid_engine unknown_group SystemVersion k)) was
+  answered_walks m TerminationOfSession = both line c speaking was (close_session line c m.nid_engine) (say m.nid_engine unknown_group TerminationAcknowledged) (close_session_walks line c speaking was m.nid_engine refl)
+      (λ k. step line c speaking was (says m.nid_engine unknown_group TerminationAcknowledged k)) was
+  answered_walks m (StartOfMission is_valid position) = start_mission_walks line c still was m.nid_engine is_valid position
+  answered_walks m SessionEstablished = step line c still was (phases m.nid_engine Up was)
