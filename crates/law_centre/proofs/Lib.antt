@@ -13,5 +13,4 @@ pub mod SentFrames
 pub mod SentEvents
 pub mod SentTaken
 pub mod Questions
-pub mod QuestionSteps
 pub mod Counted

@@ -1,6 +1,3 @@
-pub mod Clocks
-pub mod Answers
-pub mod Received
 pub mod Effects
 pub mod Stamps
 pub mod Parts

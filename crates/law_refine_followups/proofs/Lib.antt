@@ -9,5 +9,4 @@ pub mod Yields
 pub mod Laying
 pub mod Ended
 pub mod Announced
-pub mod AnnouncedEvents
 pub mod AnnouncedSteps

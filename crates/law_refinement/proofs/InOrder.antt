@@ -1,5 +1,5 @@
 -- What a step tells the interlocking it tells by the order of sections.
-use Rattle.std.proofs.Common.{ℕ, ◌+◌, Bool, true, false, not, ◌&&◌, if◌then◌else◌, Option, Some, None, is_none, is_some, nat_lt, nat_le, length, ◌*◌, refl, sym, ap, subst, ◌∙◌, List, ◌++◌, append-nil, ◌≡◌, ◌≢◌, ◌-◌, ◌<◌, ◌≤◌, ◌==◌, [], map, arith, filter}
+use Rattle.std.proofs.Common.{ℕ, ◌+◌, Bool, true, false, not, ◌&&◌, if◌then◌else◌, Option, Some, None, is_none, is_some, nat_le, ◌*◌, refl, sym, ap, subst, ◌∙◌, List, ◌++◌, append-nil, ◌≡◌, ◌≢◌, ◌-◌, ◌<◌, ◌≤◌, ◌==◌, [], map, arith, filter}
 use Rattle.std.specs.Option.{option_map_or}
 use Rattle.std.specs.List.{range_with_len}
 use Rattle.std.proofs.lemmas.Bool.{cond-false, ne_eqb}
@@ -10,19 +10,21 @@ use Rattle.rbc_spec.specs.Maps.{put}
 use Rattle.rbc_spec.specs.SectionRuns.{SectionRun, all_of, within, no_run, is_empty, part_before, part_from, joined, behind}
 use Rattle.rbc_spec.specs.Line.{Line, section, end, is_home}
 use Rattle.rbc_spec.specs.Place.{Position, covered, place_on, Place}
-use Rattle.rbc_spec.specs.Message.{TrainMessage, TrainBody, TrainData, Request, Report, ShorteningGranted, ShorteningRejected, EndOfMission, InitiationOfSession, TerminationOfSession, StartOfMission, SessionEstablished}
-use Rattle.rbc_spec.specs.Frame.{Frame, Body, AskRight, GiveRight, RefuseRight, ReturnRight, RouteAsk, RouteInfo, RouteWithdraw, RouteReturn, Announce, Cancel, TakingOver, Yield, carried_place}
+use Rattle.rbc_spec.specs.Message.{TrainMessage, TrainBody, Report, ShorteningGranted, EndOfMission, InitiationOfSession, TerminationOfSession}
+use Rattle.rbc_spec.specs.Frame.{Frame, Body, RefuseRight, RouteReturn}
 use Rattle.rbc_spec.specs.Outcome.{Word, Reason, Done, Asked, NotHome, Next, Old, Early, NoLink, Told}
 use Rattle.rbc_spec.specs.Outcome as outcome
 use Rattle.rbc_spec.specs.Centre.{is_taken_for, is_out_for, Centre, Entry, Shut, Open, Mission, Handing, Proposal, is_unused, uses_some, is_expected}
 use Rattle.rbc_spec.specs.Acts.{Act, become, freed, part_at, rest, ◌>>◌, leave, cancel, end_order, Reply, returned, set_mission, close, with_mission}
 use Rattle.rbc_spec.specs.Rules.{tell, drop_wait, close_session, report_here, take_over, report, end_mission, cut, granted, answered, reject, stand_still, cleared, clear}
-use Rattle.rbc_spec.specs.Links.{received, of_train, is_train, expect, is_under, may_take, right_asked, right_given, right_refused, right_returned, route_asked, route_told, route_withdrawn, route_returned, announced, cancelled, taking_over, yielded}
+use Rattle.rbc_spec.specs.Links.{received, of_train, is_train, right_refused, route_returned}
 use Rattle.rbc_spec.specs.Step as step
 use Rattle.rbc_spec.specs.Step.{Train, taken, link_answer, taken_by, effect, set, unset, wished, make, hear_and_answer}
 use Rattle.rbc_spec.specs.Run.{TellsInOrder}
 use Rattle.law_runs.proofs.InOrder.{none_in_order, one_in_order, range_in_order, ranges_in_order}
-use Rattle.law_refinement.proofs.Words.{Tells, IsNone, IsSilent, both, branch, when, of_some, of_option, cancel_silent, close_silent, end_silent, start_silent, request_silent, given_silent, told_silent, take_silent, asked_silent, returned_silent, lent_silent, withdrawn_silent, wished_silent, over_silent}
+use Rattle.law_walk.proofs.Messages.{may_do, answered_walks}
+use Rattle.law_walk.proofs.Frames.{frame_may, received_walks}
+use Rattle.law_refinement.proofs.Words.{Tells, IsNone, IsSilent, silent, both, branch, when, of_some, of_option, cancel_silent, close_silent, end_silent, wished_silent}
 
 abbrev pub IsOrdered : Act → Type 0
 IsOrdered act = Tells TellsInOrder act
@@ -177,23 +179,16 @@ module _ (line : Line) (c t : ℕ) where
 
 module _ (line : Line) (c : ℕ) where
   answered_in_order : (m : TrainMessage) (body : TrainBody) → IsOrdered (answered line c m body)
-  answered_in_order m (TrainData position) = quiet _ (both _ _ (record { each = λ k. refl }) (record { each = λ k. refl }))
-  answered_in_order m (Request position) = quiet _ (request_silent line c m.nid_engine position)
   answered_in_order m (Report position) = report_in_order line c m.nid_engine position
   answered_in_order m (ShorteningGranted stamp position) = of_some TellsInOrder none_in_order _ _
       (λ n. of_some TellsInOrder none_in_order (λ k. n.proposal) _ (λ p. granted_in_order line c m.nid_engine position n p))
-  answered_in_order m (ShorteningRejected stamp position) = quiet _ (record { each = λ k. refl })
   answered_in_order m (EndOfMission position) = end_in_order line c m.nid_engine position
   answered_in_order m InitiationOfSession = then_none _ _ (then_none _ _ (close_session_in_order line c m.nid_engine) (record { each = λ k. refl })) (record { each = λ k. refl })
   answered_in_order m TerminationOfSession = then_none _ _ (close_session_in_order line c m.nid_engine) (record { each = λ k. refl })
-  answered_in_order m (StartOfMission is_valid position) = quiet _ (start_silent line c m.nid_engine is_valid position)
-  answered_in_order m SessionEstablished = quiet _ (record { each = λ k. refl })
+  answered_in_order m body = quiet (answered line c m body) (record { each = λ k. silent line c (may_do body) refl k k (answered line c m body k) (answered_walks line c k m body) })
 
   trains : (t : ℕ) (act : Act) → IsOrdered act → IsOrdered (of_train line t act)
   trains t act tells = branch TellsInOrder none_in_order (is_train line t) act rest tells (quiet rest (record { each = λ k. refl }))
-
-  wordless : (t : ℕ) (act : Act) → IsSilent act → IsOrdered (of_train line t act)
-  wordless t act silent = trains t act (quiet act silent)
 
   refused_in_order : (t : ℕ) → IsOrdered (right_refused line c t)
   refused_in_order t = when TellsInOrder none_in_order (λ k. k.has_asked t) _ (none_then _ _ (record { each = λ k. refl })
@@ -204,24 +199,10 @@ module _ (line : Line) (c : ℕ) where
       (when IsNone refl (λ k. not (uses_some line c k t) && ((is_none (k.mission t) && is_none (k.wait t)) && not (is_expected line k t))) (end_order line c t) (end_silent line c t))
 
   received_in_order : (d : ℕ) (body : Body) → IsOrdered (received line c d body)
-  received_in_order d (AskRight t) = wordless t (right_asked line c d t) (asked_silent line c d t)
-  received_in_order d (GiveRight t) = wordless t (right_given line c t) (given_silent line c t)
   received_in_order d (RefuseRight t) = trains t (right_refused line c t) (refused_in_order t)
-  received_in_order d (ReturnRight t) = wordless t (right_returned line c t) (returned_silent line c t)
-  received_in_order d (RouteAsk t first most) = wordless t (route_asked line c d t first most) (lent_silent line c d t first most)
-  received_in_order d (RouteInfo t r) = wordless t (route_told line c d t r) (told_silent line c t d r)
-  received_in_order d (RouteWithdraw t s) = wordless t (if is_some (section line s) then route_withdrawn line c t s else rest)
-      (branch IsNone refl (is_some (section line s)) (route_withdrawn line c t s) rest (withdrawn_silent line c t s) (record { each = λ k. refl }))
   received_in_order d (RouteReturn t r) = trains t (if all_of (λ s. is_some (section line s)) r then route_returned line c t r else rest)
       (branch TellsInOrder none_in_order (all_of (λ s. is_some (section line s)) r) (route_returned line c t r) rest (home_in_order d t r) (quiet rest (record { each = λ k. refl })))
-  received_in_order d (Announce number t track) = wordless t (if nat_lt track (length line.tracks) then announced d number t else rest)
-      (branch IsNone refl (nat_lt track (length line.tracks)) (announced d number t) rest
-      (when IsNone refl (λ k. is_none (k.expects d t)) (expect d t (Some (record { number = number; is_taking = false }))) (record { each = λ k. refl })) (record { each = λ k. refl }))
-  received_in_order d (Cancel number t) = wordless t (cancelled d number t) (when IsNone refl (λ k. is_under number (k.expects d t)) (expect d t None) (record { each = λ k. refl }))
-  received_in_order d (TakingOver number t) = wordless t (taking_over line c d number t) (over_silent line c t d number)
-  received_in_order d (Yield number t heard has_data is_ended place hand) = wordless t (option_map_or (yielded line c d number t hand heard has_data is_ended) (carried_place place) rest)
-      (of_option IsNone refl (carried_place place) (yielded line c d number t hand heard has_data is_ended) rest
-      (λ at. when IsNone refl (λ k. may_take line c k d number t at hand) _ (take_silent line c t d heard _)) (record { each = λ k. refl }))
+  received_in_order d body = quiet (received line c d body) (record { each = λ k. silent line c (frame_may body) refl k k (received line c d body k) (received_walks line c d k body) })
 
   set_in_order : (s : ℕ) → IsOrdered (set line c s)
   set_in_order s = record { each = λ k. by_home k (not (is_home line c s)) }

@@ -1,4 +1,4 @@
-use Rattle.law_centre.proofs.QuestionSteps.{begins, step_keeps, wanted_is}
+use Rattle.law_centre.proofs.Questions.{begins, step_keeps, wanted_is}
 use Rattle.law_centre.proofs.asks.a_question_stands_for_an_empty_pool.Goals as goal
 
 pub returns-clause-beginning : goal.returns-clause-beginning

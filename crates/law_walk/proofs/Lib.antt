@@ -1,0 +1,5 @@
+pub mod Moves
+pub mod Acts
+pub mod Messages
+pub mod Frames
+pub mod Steps

@@ -1,0 +1,145 @@
+-- The small moves that each act of a centre is made of, and walks: one move after another.
+use Rattle.std.proofs.Common.{◌≡◌, ℕ, ◌+◌, Bool, true, false, if◌then◌else◌, Option, Some, None, refl}
+use Rattle.std.specs.Option.{option_map_or}
+use Rattle.rbc_spec.specs.Maps.{put}
+use Rattle.rbc_spec.specs.SectionRuns.{SectionRun, no_run, within, is_empty, behind, part_before, part_from, all_of}
+use Rattle.rbc_spec.specs.Line.{Line}
+use Rattle.rbc_spec.specs.Place.{Place, Position, covered, place_on, fit_place}
+use Rattle.rbc_spec.specs.Message.{TrackBody}
+use Rattle.rbc_spec.specs.Frame.{Body}
+use Rattle.rbc_spec.specs.Outcome.{Word}
+use Rattle.rbc_spec.specs.Centre.{Centre, Entry, Phase, Mission, Handing, Proposal, Expectation, is_free}
+use Rattle.rbc_spec.specs.Acts.{Act, Reply, become, rest, ◌>>◌, where_so, with_some, send, say, booked, freed, returned, set_mission, change_mission, begun, part_at}
+use Rattle.rbc_spec.specs.Rules.{tell, choose, set_phase, take_over, extended_by}
+use Rattle.rbc_spec.specs.Links.{expect, may_take}
+use Rattle.rbc_spec.specs.Step.{withdraw, make}
+
+-- what an event may do: announce a handover, and tell the interlocking something
+pub record May : Type 0 where
+  pub announces : Bool
+  pub speaks : Bool
+
+abbrev pub still : May
+still = record { announces = false; speaks = false }
+
+abbrev pub asking : May
+asking = record { announces = true; speaks = false }
+
+abbrev pub speaking : May
+speaking = record { announces = false; speaks = true }
+
+-- why a mission may begin at a place: its start waited for the right, or the sections of the place were free
+pub data MayBegin (line : Line) (c t : ℕ) (was : Centre) (place : Place) : Type 0 where
+  waited : was.wait t ≡ Some place → MayBegin line c t was place
+  all_free : all_of (is_free line c was) (covered line place) ≡ true → MayBegin line c t was place
+
+-- what becomes of the mission of train t where one is set, with what is known of the state and of the event's start
+pub data Turn (line : Line) (c : ℕ) (may : May) (was : Centre) (t : ℕ) (k : Centre) : Option Mission → Type 0 where
+  closes : Turn line c may was t k None
+  begins : (place : Place) → MayBegin line c t was place → Turn line c may was t k (Some (begun line place))
+  grows : (m : Mission) (place : Place) (r : SectionRun) → may.announces ≡ true → k.mission t ≡ Some m → Turn line c may was t k (Some (extended_by r (record m { place = place })))
+  clears : (m : Mission) (place : Place) (r : SectionRun) (position : Position) → k.mission t ≡ Some m → place_on line m.place.track position ≡ Some place
+      → Turn line c may was t k (Some (record m { place = place; hand = part_from (behind r) m.hand }))
+  cuts : (m n : Mission) (last_kept : ℕ) → k.mission t ≡ Some n → record n { proposal = None } ≡ record m { proposal = None }
+      → Turn line c may was t k (Some (record m { hand = part_before (last_kept + 1) m.hand; pool = no_run; proposal = None }))
+  comes : (d number : ℕ) (place : Place) (hand : SectionRun) (has_data is_ended : Bool) → may_take line c was d number t place hand ≡ true
+      → Turn line c may was t k (Some (record { place = place; hand = hand; pool = no_run; has_data = has_data; is_ended = is_ended; proposal = None; handing = None }))
+
+-- how the mission of train t changes, where it has one
+pub data Change (line : Line) (may : May) (was : Centre) (t : ℕ) (k : Centre) : (Mission → Mission) → Type 0 where
+  no_proposal : Change line may was t k (λ m. record m { proposal = None })
+  proposes : (p : Proposal) → Change line may was t k (λ m. record m { proposal = Some p })
+  no_mission : k.mission t ≡ None → Change line may was t k (λ m. record m { handing = None })
+  recalls : (m : Mission) (h : Handing) → k.mission t ≡ Some m → m.handing ≡ Some h → is_empty (part_at line h.to m.place.track m.hand) ≡ true
+      → Change line may was t k (λ n. record n { handing = None })
+  hands : (h : Handing) → may.announces ≡ true → Change line may was t k (λ m. record m { handing = Some h })
+  no_pool : Change line may was t k (λ m. record m { pool = no_run })
+  less_pool : (s : ℕ) → Change line may was t k (λ m. record m { pool = part_before s m.pool })
+  pools : (r : SectionRun) → k.route_ask t ≡ None → Change line may was t k (λ m. record m { pool = r })
+  data_known : Change line may was t k (λ m. record m { has_data = true })
+  ends : Change line may was t k (λ m. record m { is_ended = true; proposal = None })
+  restarts : (m : Mission) (place : Place) (is_valid : Bool) (position : Position) → k.mission t ≡ Some m → was.mission t ≡ Some m → fit_place line is_valid position ≡ Some place
+      → all_of (within m.hand) (covered line place) ≡ true → Change line may was t k (λ n. record n { place = place; has_data = false; is_ended = false; proposal = None })
+
+-- the small moves of centre c, in an event that began at `was` and may do so much
+pub data Move (line : Line) (c : ℕ) (may : May) (was : Centre) : Centre → Reply → Type 0 where
+  rests : (k : Centre) → Move line c may was k (rest k)
+  says : (t group : ℕ) (body : TrackBody) (k : Centre) → Move line c may was k (say t group body k)
+  sends : (d : ℕ) (body : Body) (k : Centre) → Move line c may was k (send d body k)
+  tells : (word : Word) (k : Centre) → may.speaks ≡ true → Move line c may was k (tell word k)
+  returns : (t track : ℕ) (r : SectionRun) (k : Centre) → Move line c may was k (returned line c t track r k)
+  withdraws : (t s : ℕ) (k : Centre) → Move line c may was k (withdraw line c t s k)
+  takes_over : (t : ℕ) (k : Centre) → Move line c may was k (take_over line t k)
+  books : (is_meant : Entry → Bool) (entry : Entry) (r : SectionRun) (k : Centre) → Move line c may was k (booked is_meant entry r k)
+  frees : (is_meant : Entry → Bool) (r : SectionRun) (k : Centre) → may.speaks ≡ true → Move line c may was k (freed line c is_meant r k)
+  makes : (s : ℕ) (entry : Entry) (wish : Bool) (k : Centre) → Move line c may was k (make s entry wish k)
+  wishes : (s : ℕ) (wish : Bool) (k : Centre) → Move line c may was k (become (λ j. record j { wish = put j.wish s wish }) k)
+  expects : (d t : ℕ) (e : Option Expectation) (k : Centre) → Move line c may was k (expect d t e k)
+  hears : (t : ℕ) (x : Option ℕ) (k : Centre) → Move line c may was k (become (λ j. record j { heard = put j.heard t x }) k)
+  phases : (t : ℕ) (phase : Phase) (k : Centre) → Move line c may was k (set_phase t phase k)
+  waits : (t : ℕ) (place : Option Place) (k : Centre) → Move line c may was k (become (λ j. record j { wait = put j.wait t place }) k)
+  rights : (t : ℕ) (here : Bool) (k : Centre) → Move line c may was k (become (λ j. record j { has_right = put j.has_right t here }) k)
+  asks_right : (t : ℕ) (asked : Bool) (k : Centre) → Move line c may was k (become (λ j. record j { has_asked = put j.has_asked t asked }) k)
+  asks_route : (t first : ℕ) (m : Mission) (k : Centre) → k.mission t ≡ Some m → is_empty m.pool ≡ true
+      → Move line c may was k (become (λ j. record j { route_ask = put j.route_ask t (Some first) }) k)
+  told_route : (t : ℕ) (k : Centre) → Move line c may was k (become (λ j. record j { route_ask = put j.route_ask t None }) k)
+  counts : (number : ℕ) (k : Centre) → may.announces ≡ true → Move line c may was k (become (λ j. record j { announced = number }) k)
+  sets : (t : ℕ) (o : Option Mission) (k : Centre) → Turn line c may was t k o → Move line c may was k (set_mission t o k)
+  changes : (t : ℕ) (f : Mission → Mission) (k : Centre) → Change line may was t k f → Move line c may was k (change_mission t f k)
+
+-- one move after another
+pub data Walk (line : Line) (c : ℕ) (may : May) (was : Centre) : Centre → Reply → Type 0 where
+  one : (k : Centre) (q : Reply) → Move line c may was k q → Walk line c may was k q
+  joined : (a b : Act) (k : Centre) → Walk line c may was k (a k) → Walk line c may was (a k).state (b (a k).state) → Walk line c may was k ((a >> b) k)
+
+-- what holds of each small move, and of two acts in a row where it holds of both
+pub record Closed (line : Line) (c : ℕ) (may : May) (was : Centre) (P : Centre → Reply → Type 0) : Type 0 where
+  pub moves : (k : Centre) (q : Reply) → Move line c may was k q → P k q
+  pub joins : (a b : Act) (k : Centre) → P k (a k) → P (a k).state (b (a k).state) → P k ((a >> b) k)
+
+-- holds of each walk
+pub of_walk : (line : Line) (c : ℕ) (may : May) (was : Centre) (P : Centre → Reply → Type 0) → Closed line c may was P → (k : Centre) (q : Reply) → Walk line c may was k q → P k q
+of_walk line c may was P closed _ _ (one k q move) = closed.moves k q move
+of_walk line c may was P closed _ _ (joined a b k first second) =
+    closed.joins a b k (of_walk line c may was P closed k (a k) first) (of_walk line c may was P closed (a k).state (b (a k).state) second)
+
+-- ## How walks are put together
+
+module _ (line : Line) (c : ℕ) (may : May) (was : Centre) where
+  -- an act is a walk from whatever state
+  abbrev pub Walks : Act → Type 0
+  Walks act = (k : Centre) → Walk line c may was k (act k)
+
+  pub step : {k : Centre} {q : Reply} → Move line c may was k q → Walk line c may was k q
+  step move = one _ _ move
+
+  pub resting : Walks rest
+  resting k = one k (rest k) (rests k)
+
+  pub both : (a b : Act) → Walks a → Walks b → Walks (a >> b)
+  both a b first second k = joined a b k (first k) (second (a k).state)
+
+  pub by_bool : (b : Bool) (p q : Reply) (k : Centre) → (b ≡ true → Walk line c may was k p) → (b ≡ false → Walk line c may was k q) → Walk line c may was k (if b then p else q)
+  by_bool true p q k yes_walk no_walk = yes_walk refl
+  by_bool false p q k yes_walk no_walk = no_walk refl
+
+  pub by_option : {X : Type 0} (o : Option X) (f : X → Reply) (q : Reply) (k : Centre) → ((x : X) → o ≡ Some x → Walk line c may was k (f x)) → Walk line c may was k q → Walk line c may was k (option_map_or f o q)
+  by_option None f q k some none = none
+  by_option (Some x) f q k some none = some x refl
+
+  pub branch : (b : Bool) (f g : Act) → Walks f → Walks g → Walks (if b then f else g)
+  branch true f g yes_walk no_walk = yes_walk
+  branch false f g yes_walk no_walk = no_walk
+
+  pub if_some : {X : Type 0} (o : Option X) (f : X → Act) (g : Act) → ((x : X) → Walks (f x)) → Walks g → Walks (option_map_or f o g)
+  if_some None f g some none = none
+  if_some (Some x) f g some none = some x
+
+  pub chosen : (test : Centre → Bool) (f g : Act) → Walks f → Walks g → Walks (choose test f g)
+  chosen test f g yes_walk no_walk k = by_bool (test k) (f k) (g k) k (λ so. yes_walk k) (λ so. no_walk k)
+
+  pub when : (test : Centre → Bool) (act : Act) → Walks act → Walks (where_so test act)
+  when test act walks = chosen test act rest walks resting
+
+  pub with : {X : Type 0} (value : Centre → Option X) (act : X → Act) → ((k : Centre) (x : X) → value k ≡ Some x → Walk line c may was k (act x k)) → Walks (with_some value act)
+  with value act walks k = by_option (value k) (λ x. act x k) (rest k) k (walks k) (resting k)
