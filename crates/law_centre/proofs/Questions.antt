@@ -7,12 +7,13 @@ use Rattle.rbc_spec.specs.Maps.{put}
 use Rattle.rbc_spec.specs.SectionRuns.{SectionRun, behind, is_empty, part_before, part_from}
 use Rattle.rbc_spec.specs.Line.{Line}
 use Rattle.rbc_spec.specs.Sections.{is_on}
+use Rattle.rbc_spec.specs.Frame.{Body}
 use Rattle.rbc_spec.specs.Centre.{Centre, Mission, beginning}
 use Rattle.rbc_spec.specs.Acts.{Act, Reply, ◌>>◌, set_mission, change_mission}
 use Rattle.rbc_spec.specs.Links.{is_wanted}
 use Rattle.rbc_spec.specs.Step.{Event, taken, stamp_of, ticked}
 use Rattle.law_base.proofs.Puts.{put_here, put_other}
-use Rattle.law_walk.proofs.Moves.{May, Turn, closes, begins as mission_begins, grows, clears, cuts, comes, Change, no_pool, less_pool, pools, Move, asks_route, told_route, sets, changes}
+use Rattle.law_walk.proofs.Moves.{May, Turn, closes, begins as mission_begins, grows, clears, cuts, comes, Change, no_pool, less_pool, pools, Move, asks_route, sets, changes, Answer, told}
 use Rattle.law_walk.proofs.Steps.{of_effect}
 use Rattle.law_centre.specs.Asks.{AsksForEmptyPools, follows_hand}
 
@@ -78,18 +79,21 @@ module _ (line : Line) (c : ℕ) where
   -- ## Each small move, and so each step
 
   moves : (may : May) (was k : Centre) (q : Reply) → Move line c may was k q → Keeps k q
-  moves may was _ _ (asks_route t next m k has empty) h = asked t next m k has empty h
-  moves may was _ _ (told_route t k) h = ended t k h
+  moves may was _ _ (asks_route t d m k its has empty home none) h = asked t (behind m.hand) m k has empty h
   moves may was _ _ (sets t o k turn) h = set_at t o k h (turned may was t o k h turn)
   moves may was _ _ (changes t f k change) h = change_at t f k h (changed may was t f k change)
   moves may was k q move h = h
+
+  answers : (may : May) (was : Centre) (d : ℕ) (body : Body) (q : Reply) → Answer line c may was d body q → Keeps was q
+  answers may was d _ _ (told t r so) h = ended t was h
+  answers may was d body q answer h = h
 
   joins : (a b : Act) (k : Centre) → Keeps k (a k) → Keeps (a k).state (b (a k).state) → Keeps k ((a >> b) k)
   unfolding ◌>>◌
   joins a b k one two h = two (one h)
 
   pub step_keeps : (event : Event) (k : Centre) → AsksForEmptyPools k → AsksForEmptyPools (taken line c event k).1
-  step_keeps event k h = of_effect line c Keeps (λ may was. record { moves = moves may was; joins = joins }) (λ d number j is. is) event (ticked (stamp_of k event) k) h
+  step_keeps event k h = of_effect line c Keeps (λ may was. record { moves = moves may was; joins = joins }) answers (λ d number j is. is) event (ticked (stamp_of k event) k) h
 
 pub begins : (line : Line) (c : ℕ) → AsksForEmptyPools (beginning line c)
 unfolding beginning

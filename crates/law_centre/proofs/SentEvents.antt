@@ -13,6 +13,7 @@ use Rattle.rbc_spec.specs.Acts.{Act, Reply, rest, become, ◌>>◌, where_so, wi
 use Rattle.rbc_spec.specs.Rules.{drop_wait, begin, reject}
 use Rattle.rbc_spec.specs.Links.{received, right_asked, right_given, right_refused, right_returned, answered_ask, route_asked, lendable, route_told, route_withdrawn, route_returned, taking_over, yielded, take_mission, is_train, expect, announced}
 use Rattle.rbc_spec.specs.Step.{taken_by}
+use Rattle.law_walk.specs.Trains.{train_of}
 use Rattle.law_centre.specs.Sending.{HoldsFew, BringsFew, GoInOrder}
 use Rattle.law_centre.proofs.Sends.{Sends, side_below, sends_none, sends_quiet, sends_then}
 use Rattle.law_centre.proofs.SentActs.{sends_one, home_any, freed_sends, right_sends, over_sends, propose_sends, end_order_sends}
@@ -119,20 +120,6 @@ module _ (d : ℕ) (line : Line) (c : ℕ) where
   of_train_few : (t : ℕ) (b : Bool) (act : Act) (k : Centre) → Few d line c t (act k) → Few d line c t ((if b then act else rest) k)
   of_train_few t true act k sends = sends
   of_train_few t false act k sends = quiet d line c t (rest k) refl (omega arith) (omega arith)
-
-  abbrev train_of : Body → ℕ
-  train_of (AskRight t) = t
-  train_of (GiveRight t) = t
-  train_of (RefuseRight t) = t
-  train_of (ReturnRight t) = t
-  train_of (RouteAsk t first most) = t
-  train_of (RouteInfo t r) = t
-  train_of (RouteWithdraw t s) = t
-  train_of (RouteReturn t r) = t
-  train_of (Announce number t track) = t
-  train_of (Cancel number t) = t
-  train_of (TakingOver number t) = t
-  train_of (Yield number t heard has_data is_ended place hand) = t
 
   received_few : (e : ℕ) (body : Body) (k : Centre) → HoldsFew line k → BringsFew body → Few d line c (train_of body) (received line c e body k)
   received_few e (AskRight t) k h few = of_train_few t (is_train line t) _ k (asked_right d line c t e k)

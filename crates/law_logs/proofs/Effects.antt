@@ -1,10 +1,11 @@
 -- No step touches its centre's clock beyond its stamp.
 use Rattle.std.proofs.Common.{◌≡◌, ℕ, refl, ◌∙◌}
 use Rattle.rbc_spec.specs.Line.{Line}
+use Rattle.rbc_spec.specs.Frame.{Body}
 use Rattle.rbc_spec.specs.Centre.{Centre}
 use Rattle.rbc_spec.specs.Acts.{Act, Reply, ◌>>◌}
 use Rattle.rbc_spec.specs.Step.{Event, effect}
-use Rattle.law_walk.proofs.Moves.{May, Move, rests}
+use Rattle.law_walk.proofs.Moves.{May, Move, rests, Answer, nothing_waits}
 use Rattle.law_walk.proofs.Steps.{of_effect}
 
 -- what an act leaves has the clock that there was
@@ -20,5 +21,9 @@ module _ (line : Line) (c : ℕ) where
   moves may was _ _ (rests k) = refl
   moves may was k q move = refl
 
+  answers : (may : May) (was : Centre) (d : ℕ) (body : Body) (q : Reply) → Answer line c may was d body q → KeepsClock was q
+  answers may was d _ _ (nothing_waits t asked none) = refl
+  answers may was d body q answer = refl
+
   pub clock_kept : (event : Event) (k : Centre) → (effect line c k event).reply.state.clock ≡ k.clock
-  clock_kept = of_effect line c KeepsClock (λ may was. record { moves = moves may was; joins = joins }) (λ d number k. refl)
+  clock_kept = of_effect line c KeepsClock (λ may was. record { moves = moves may was; joins = joins }) answers (λ d number k. refl)

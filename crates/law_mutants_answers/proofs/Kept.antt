@@ -1,5 +1,5 @@
 -- The rules keep rights, questions and tokens.
-use Rattle.std.proofs.Common.{◌≡◌, ℕ, ◌+◌, ◌≤◌, ◌==◌, not, Bool, true, false, if◌then◌else◌, List, [], ◌∷◌, ◌++◌, Option, Some, None, Ok, refl, sym, ap, ◌∙◌, subst, arith, ltb-true}
+use Rattle.std.proofs.Common.{◌≡◌, ℕ, ◌+◌, ◌<◌, ◌≤◌, ◌==◌, not, Bool, true, false, if◌then◌else◌, List, [], ◌∷◌, ◌++◌, Option, Some, None, Ok, refl, sym, ap, ◌∙◌, subst, arith, ltb-true}
 use Rattle.std.specs.Option.{option_map_or}
 use Rattle.std.proofs.lemmas.Bool.{eqb-true}
 use Rattle.law_counting.specs.Network.{took, TakesHead, IsCounted}
@@ -9,7 +9,7 @@ use Rattle.law_counting.proofs.Resource.{placed_sound, placed_sound_took, placed
 use Rattle.rbc_spec.specs.Maps.{put}
 use Rattle.rbc_spec.specs.Line.{Line, IsLine, is_centre, registrar}
 use Rattle.rbc_spec.specs.Place.{Place, covered}
-use Rattle.rbc_spec.specs.Frame.{AskRight}
+use Rattle.rbc_spec.specs.Frame.{AskRight, RefuseRight}
 use Rattle.rbc_spec.specs.Centre.{Centre, Taken, is_open, is_registrar_of}
 use Rattle.rbc_spec.specs.Acts.{Act, Reply, rest, become, ◌>>◌, where_so, send, booked}
 use Rattle.rbc_spec.specs.Rules.{start_waiting}
@@ -17,17 +17,19 @@ use Rattle.rbc_spec.specs.Links.{right_asked, is_train}
 use Rattle.rbc_spec.specs.World.{World, Event, Answer, new_world, world_step, world_run}
 use Rattle.law_base.proofs.Puts.{itself}
 use Rattle.law_network.specs.Counts.{rights, tokens}
+use Rattle.law_walk.proofs.Moves.{still as still_for, Answer as TakenUp, gives, refuses}
 use Rattle.law_network.specs.Flow.{Flow, flow_of, centre_count}
 use Rattle.law_network.specs.Leads.{replied}
 use Rattle.law_no_copy.proofs.Tally.{IsTally, Fair}
 use Rattle.law_no_copy.proofs.Comes.{fair_asked}
 use Rattle.law_no_copy.proofs.Rights.{rights_tally, rights_counted}
 use Rattle.law_no_unasked.specs.Asked.{Question, OfRight, OfRoute, questions}
-use Rattle.law_no_unasked.proofs.Asking.{Goes, none_comes, still, goes_rest, goes_taken, goes_then, goes_if, sends_one, ends_one}
-use Rattle.law_no_unasked.proofs.Messages.{more_stands}
-use Rattle.law_no_unasked.proofs.Rights.{comes_asked}
+use Rattle.law_no_unasked.proofs.Asking.{Comes, Goes, comes_with, none_comes, still, goes_rest, goes_taken, goes_then, goes_if, sends_one, ends_one}
+use Rattle.law_no_unasked.proofs.Moves as asking
+use Rattle.law_no_unasked.proofs.Moves.{more_stands}
 use Rattle.law_no_loss.proofs.Worlds.{step_loses_nothing, never_lost}
-use Rattle.law_no_stray.proofs.Rights as answering
+use Rattle.law_no_stray.proofs.Acts as answering
+use Rattle.law_no_stray.proofs.Moves as answering_moves
 use Rattle.law_no_stray.proofs.Worlds.{each_reached}
 
 -- ## Rights
@@ -49,12 +51,31 @@ given_once line c t w a u counted from to takes within =
 
 -- ## Questions
 
+by_bool : (P : Reply → Type 0) (b : Bool) (p q : Reply) → (b ≡ true → P p) → (b ≡ false → P q) → P (if b then p else q)
+by_bool P true p q one other = one refl
+by_bool P false p q one other = other refl
+
+-- the registrar answers a question that comes: once, and so that none is lost
+asked : (line : Line) → IsLine line → (c d t : ℕ) (k : Centre) → is_train line t ≡ true → is_registrar_of line c t ≡ true
+    → Comes line c (comes_with d c (AskRight t)) k (right_asked line c d t k)
+    × (d < centre_count line → answering.Comes line c (comes_with d c (AskRight t)) k (right_asked line c d t k))
+unfolding ◌>>◌
+asked line ok c d t k known here = (
+  of_right (Comes line c (comes_with d c (AskRight t)) k) (λ q answer. asking.answered line ok c (still_for t) k d (AskRight t) q known (record {}) answer),
+  λ below. of_right (answering.Comes line c (comes_with d c (AskRight t)) k) (λ q answer. answering_moves.answered line ok c (still_for t) k d (AskRight t) q below known here answer),
+)
+  where
+    of_right : (P : Reply → Type 0) → ((q : Reply) → TakenUp line c (still_for t) k d (AskRight t) q → P q) → P (right_asked line c d t k)
+    of_right P each = by_bool P (is_registrar_of line c t) _ (rest k)
+        (λ so. by_bool P (k.has_right t) _ (send d (RefuseRight t) k) (λ has. each _ (gives t so has)) (λ none. each _ (refuses t so)))
+        (λ away. absurd (let wrong : true ≡ false = sym here ∙ away in cc))
+
 pub answered : (line : Line) → IsLine line → (w : Flow) (a c t : ℕ) → IsCounted w → is_centre line a ≡ true → is_centre line c ≡ true → TakesHead w a c (AskRight t) → is_train line t ≡ true
     → is_registrar_of line c t ≡ true → (x : Question) (d : ℕ) → IsAtCap (questions x d) (centre_count line) w → IsAtCap (questions x d) (centre_count line) (replied (took w a c) c (right_asked line c a t (w.at c)))
 answered line ok w a c t counted from to takes known here x d full =
     placed_exact_took (questions x d) (centre_count line) w a c (AskRight t) (right_asked line c a t (w.at c)).state (right_asked line c a t (w.at c)).frames counted
     (ltb-true a (centre_count line) from) (ltb-true c (centre_count line) to) takes
-    (record { law = omega (arith, ((comes_asked line ok c a t (w.at c)).fair x d).law, (answering.comes_asked line c a t (w.at c) known (ltb-true a (centre_count line) from) here).law x d) }) full
+    (record { law = omega (arith, ((asked line ok c a t (w.at c) known here).0.fair x d).law, ((asked line ok c a t (w.at c) known here).1 (ltb-true a (centre_count line) from)).law x d) }) full
 
 module _ (line : Line) (ok : IsLine line) (c : ℕ) where
   -- the right of a start that waits is asked for, of the registrar, where it was not

@@ -3,7 +3,7 @@ use Rattle.std.proofs.Common.{◌≡◌, ℕ, refl, ◌∙◌}
 use Rattle.rbc_spec.specs.Maps.{put}
 use Rattle.rbc_spec.specs.Line.{Line}
 use Rattle.rbc_spec.specs.Message.{TrainMessage}
-use Rattle.rbc_spec.specs.Frame.{Frame}
+use Rattle.rbc_spec.specs.Frame.{Frame, Body}
 use Rattle.rbc_spec.specs.Outcome.{Next, Old, Early, NoLink}
 use Rattle.rbc_spec.specs.Outcome as outcome
 use Rattle.rbc_spec.specs.Centre.{Centre}
@@ -11,7 +11,7 @@ use Rattle.rbc_spec.specs.Acts.{Act, Reply, ◌>>◌}
 use Rattle.rbc_spec.specs.Step as step
 use Rattle.rbc_spec.specs.Step.{Train, effect, set, unset, link_answer, taken_by}
 use Rattle.law_network.specs.Numbers.{taken_after}
-use Rattle.law_walk.proofs.Moves.{May, Move, rests, Closed}
+use Rattle.law_walk.proofs.Moves.{May, Move, rests, Answer, nothing_waits, Closed}
 use Rattle.law_walk.proofs.Steps.{of_train, of_set, of_unset, of_frame}
 
 abbrev KeepsTaken : Centre → Reply → Type 0
@@ -24,6 +24,10 @@ module _ (line : Line) (c : ℕ) where
   moves : (may : May) (was k : Centre) (q : Reply) → Move line c may was k q → KeepsTaken k q
   moves may was _ _ (rests k) = refl
   moves may was k q move = refl
+
+  answers : (may : May) (was : Centre) (d : ℕ) (body : Body) (q : Reply) → Answer line c may was d body q → KeepsTaken was q
+  answers may was d _ _ (nothing_waits t asked none) = refl
+  answers may was d body q answer = refl
 
   joins : (a b : Act) (k : Centre) → KeepsTaken k (a k) → KeepsTaken (a k).state (b (a k).state) → KeepsTaken k ((a >> b) k)
   unfolding ◌>>◌
@@ -43,7 +47,7 @@ module _ (line : Line) (c : ℕ) where
 
   deliver_keeps : (d : ℕ) (f : Frame) (answer : outcome.Taken) (k : Centre) → (taken_by line c d f answer k).state.taken ≡ taken_after d f answer k
   unfolding ◌>>◌
-  deliver_keeps d f Next k = of_frame line c KeepsTaken closed d f.body (record k { taken = put k.taken d f.number })
+  deliver_keeps d f Next k = of_frame line c KeepsTaken closed answers d f.body (record k { taken = put k.taken d f.number })
   deliver_keeps d f Old k = refl
   deliver_keeps d f Early k = refl
   deliver_keeps d f NoLink k = refl

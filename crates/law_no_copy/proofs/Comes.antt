@@ -8,7 +8,8 @@ use Rattle.rbc_spec.specs.Centre.{Centre, Entry, Shut, Open, Taken, Out, is_unus
 use Rattle.rbc_spec.specs.Acts.{Reply, rest, become, ◌>>◌, send}
 use Rattle.rbc_spec.specs.Links.{right_asked, right_returned, is_train}
 use Rattle.law_network.specs.Flow.{centre_count}
-use Rattle.law_no_copy.specs.Stray.{is_plain, train_of, has_place_for}
+use Rattle.law_walk.specs.Trains.{train_of}
+use Rattle.law_no_copy.specs.Stray.{is_plain, has_place_for}
 use Rattle.law_no_copy.proofs.Tally.{Tally, IsTally, HasRegistrar, Fair, fair_rest, fair_then, eased, fair_if}
 use Rattle.law_no_copy.proofs.Leaving.{Makes, gives_back, returns_back, sends_plain, sends, fair_return_right}
 use Rattle.law_no_copy.proofs.Starts.{fair_right_taken}

@@ -14,7 +14,8 @@ use Rattle.rbc_spec.specs.Acts.{Act, rest, become, ◌>>◌, with_some, booked, 
 use Rattle.rbc_spec.specs.Links.{right_asked, right_given, right_refused, right_returned, route_asked, route_told, route_withdrawn, route_returned, expect, announced, cancelled, is_under, taking_over, may_arrive, may_take, take_mission, yielded, is_train, of_train, received}
 use Rattle.law_base.proofs.Lists.{none_is}
 use Rattle.law_base.proofs.Runs.{each_within, all_within}
-use Rattle.law_no_copy.specs.Stray.{is_plain, train_of, has_place_for}
+use Rattle.law_walk.specs.Trains.{train_of}
+use Rattle.law_no_copy.specs.Stray.{is_plain, has_place_for}
 use Rattle.law_no_copy.proofs.Tally.{Tally, IsTally, part, mission_of, fair_rest, fair_then, fair_both, eased, fair_if, fair_or, fair_set, fair_booked, fair_plain, mission_put, mission_back}
 use Rattle.law_no_copy.proofs.Parts.{none_part}
 use Rattle.law_no_copy.proofs.Leaving.{gives_back, fair_yield_over}

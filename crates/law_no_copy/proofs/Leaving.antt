@@ -15,7 +15,8 @@ use Rattle.rbc_spec.specs.Acts.{Reply, rest, become, ◌>>◌, send, say, booked
 use Rattle.law_network.specs.Flow.{centre_count}
 use Rattle.law_no_copy.proofs.Ready.{Ready, may_yield, cancel_rights}
 use Rattle.law_no_copy.proofs.Tally.{Tally, IsTally, HasRegistrar, MayYield, Fair, right_of, part, whole, mission_of, gone, back, fair_rest, fair_then, fair_both, eased, fair_if, fair_or, fair_set, fair_change, fair_booked, fair_freed, sent_le, sent_is, fair_say, mission_put, mission_back}
-use Rattle.law_no_copy.specs.Stray.{is_plain, train_of}
+use Rattle.law_walk.specs.Trains.{train_of}
+use Rattle.law_no_copy.specs.Stray.{is_plain}
 use Rattle.law_no_copy.proofs.Parts.{gone_here, gone_other, away_part, freed_here, freed_other, used_taken, part_gone, freed_back, taken_here}
 use Rattle.law_counting.specs.Network.{to_one}
 use Rattle.law_counting.specs.Resource.{sent_by}

@@ -16,7 +16,8 @@ use Rattle.law_network.specs.Flow.{centre_count}
 use Rattle.law_network.specs.Counts.{rights}
 use Rattle.law_base.proofs.Puts.{itself}
 use Rattle.law_no_copy.proofs.Ready.{Ready}
-use Rattle.law_no_copy.specs.Stray.{is_plain, train_of}
+use Rattle.law_walk.specs.Trains.{train_of}
+use Rattle.law_no_copy.specs.Stray.{is_plain}
 use Rattle.law_no_copy.proofs.Tally.{Tally, IsTally, wait_of, mission_of}
 
 pub no_number : (b : Bool) → ◌≡◌ {A = ℕ} (if b then 0 else 0) 0

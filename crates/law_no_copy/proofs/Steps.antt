@@ -17,7 +17,8 @@ use Rattle.rbc_spec.specs.Step.{Event, Train, Set, Unset, Deliver, Effect, hear_
 use Rattle.law_network.specs.Counts.{wait_has}
 use Rattle.law_network.specs.Sound.{IsCentreSound}
 use Rattle.law_no_copy.specs.Steps.{came_by, came_to, done, IsFairStep, IsExactStep}
-use Rattle.law_no_copy.specs.Stray.{is_plain, train_of, has_place_for, is_looked_for}
+use Rattle.law_walk.specs.Trains.{train_of}
+use Rattle.law_no_copy.specs.Stray.{is_plain, has_place_for, is_looked_for}
 use Rattle.law_no_copy.proofs.Tally.{Tally, IsTally, Fair, fair_rest, fair_then, fair_both, eased, fair_plain}
 use Rattle.law_no_copy.proofs.Ready.{Ready, ready_again}
 use Rattle.law_no_copy.proofs.Leaving.{Makes}

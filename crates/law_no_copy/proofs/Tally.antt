@@ -18,7 +18,8 @@ use Rattle.rbc_spec.specs.Centre.{Centre, Entry, Taken, Out, Mission, is_open, i
 use Rattle.rbc_spec.specs.Acts.{Act, Reply, rest, ◌>>◌, say, booked, freed, returned, set_mission, change_mission}
 use Rattle.rbc_spec.specs.Links.{is_train}
 use Rattle.law_network.specs.Flow.{centre_count}
-use Rattle.law_no_copy.specs.Stray.{is_plain, train_of}
+use Rattle.law_walk.specs.Trains.{train_of}
+use Rattle.law_no_copy.specs.Stray.{is_plain}
 
 -- the train's registrar is a centre of the line
 pub record HasRegistrar (line : Line) (t : ℕ) : Type 0 where

@@ -16,7 +16,8 @@ use Rattle.law_network.specs.Counts.{tokens, wait_has, pool_has}
 use Rattle.law_base.proofs.Puts.{itself}
 use Rattle.law_network.proofs.Begins.{no_use}
 use Rattle.law_no_copy.proofs.Ready.{Ready}
-use Rattle.law_no_copy.specs.Stray.{is_plain, train_of}
+use Rattle.law_walk.specs.Trains.{train_of}
+use Rattle.law_no_copy.specs.Stray.{is_plain}
 use Rattle.law_no_copy.proofs.Tally.{Tally, IsTally, wait_of, mission_of, part, gone}
 use Rattle.law_no_copy.proofs.Rights.{no_number}
 use Rattle.law_no_copy.proofs.Homes.{home_goes_once}

@@ -6,6 +6,7 @@ use Rattle.rbc_spec.specs.Line.{Line, is_home}
 use Rattle.rbc_spec.specs.Frame.{Body, carried_place, AskRight, GiveRight, RefuseRight, ReturnRight, RouteAsk, RouteInfo, RouteWithdraw, RouteReturn, Announce, Cancel, TakingOver, Yield}
 use Rattle.rbc_spec.specs.Centre.{Centre, is_out_for, is_registrar_of}
 use Rattle.rbc_spec.specs.Links.{is_of_line, is_train, may_take}
+use Rattle.law_walk.specs.Trains.{train_of}
 
 -- a body that has neither a right nor a section inside
 abbrev pub is_plain : Body → Bool
@@ -17,20 +18,6 @@ is_plain (Announce number t track) = true
 is_plain (Cancel number t) = true
 is_plain (TakingOver number t) = true
 is_plain body = false
-
-abbrev pub train_of : Body → ℕ
-train_of (AskRight t) = t
-train_of (GiveRight t) = t
-train_of (RefuseRight t) = t
-train_of (ReturnRight t) = t
-train_of (RouteAsk t first most) = t
-train_of (RouteInfo t r) = t
-train_of (RouteWithdraw t s) = t
-train_of (RouteReturn t r) = t
-train_of (Announce number t track) = t
-train_of (Cancel number t) = t
-train_of (TakingOver number t) = t
-train_of (Yield number t heard has_data is_ended place hand) = t
 
 -- centre c, which is k, has a place for what comes from centre d: a right was asked for, and is not here; it comes back to the registrar,
 -- where neither right nor mission is; sections that centre d lends are those that were asked for; sections that come home are out at

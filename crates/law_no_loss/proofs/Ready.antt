@@ -16,7 +16,8 @@ use Rattle.law_network.specs.Flow.{centre_count}
 use Rattle.law_network.specs.Sound.{IsCentreSound}
 use Rattle.law_centre_sound.proofs.Leaving.{next_is_centre}
 use Rattle.law_centre_sound.proofs.Events.{linked_apart}
-use Rattle.law_no_copy.specs.Stray.{is_plain, train_of}
+use Rattle.law_walk.specs.Trains.{train_of}
+use Rattle.law_no_copy.specs.Stray.{is_plain}
 use Rattle.law_no_copy.proofs.Tally.{Tally, IsTally, HasRegistrar}
 use Rattle.law_no_copy.proofs.Ready.{Ready}
 use Rattle.law_no_copy.proofs.Steps as steps

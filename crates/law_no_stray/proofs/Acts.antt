@@ -1,5 +1,5 @@
 -- Acts by which no question is lost, one after another, and the smallest of them.
-use Rattle.std.proofs.Common.{◌≡◌, ◌≢◌, ℕ, ◌+◌, ◌<◌, ◌≤◌, ◌==◌, ◌&&◌, ◌||◌, Bool, true, false, if◌then◌else◌, List, [], ◌∷◌, Option, Some, None, is_some, refl, sym, ap, ◌∙◌, subst, arith, ⊎_elim, All}
+use Rattle.std.proofs.Common.{◌≡◌, ◌≢◌, ℕ, ◌+◌, ◌<◌, ◌≤◌, ◌==◌, ◌&&◌, ◌||◌, Bool, true, false, if◌then◌else◌, List, [], ◌∷◌, Option, None, is_some, refl, sym, ap, ◌∙◌, subst, arith, ⊎_elim, All}
 use Rattle.std.specs.Option.{option_map_or}
 use Rattle.std.proofs.lemmas.Bool.{cases_eq}
 use Rattle.std.proofs.lemmas.List.Elements.{All-nil, All-cons, All-append}
@@ -14,10 +14,9 @@ use Rattle.rbc_spec.specs.SectionRuns.{SectionRun, is_empty, shared}
 use Rattle.rbc_spec.specs.Line.{Line}
 use Rattle.rbc_spec.specs.Sections.{home_run}
 use Rattle.rbc_spec.specs.Place.{Place}
-use Rattle.rbc_spec.specs.Message.{TrackBody}
 use Rattle.rbc_spec.specs.Frame.{Body, RouteReturn}
-use Rattle.rbc_spec.specs.Centre.{Centre, Entry, Shut, Open, Taken, Mission, is_out_for}
-use Rattle.rbc_spec.specs.Acts.{Act, Reply, rest, ◌>>◌, send, say, booked, freed, returned, set_mission, change_mission}
+use Rattle.rbc_spec.specs.Centre.{Centre, Entry, Shut, Open, is_out_for}
+use Rattle.rbc_spec.specs.Acts.{Act, Reply, rest, ◌>>◌, send, freed, returned}
 use Rattle.rbc_spec.specs.Links.{is_train}
 use Rattle.law_network.specs.Flow.{centre_count}
 use Rattle.law_no_unasked.specs.Asked.{Question, OfRight, OfRoute, stands, questions}
@@ -70,22 +69,10 @@ module _ (line : Line) (c : ℕ) where
   pub goes_rest : (k : Centre) → Goes k (rest k)
   goes_rest k = still k k refl refl refl (λ s t out. out)
 
-  pub goes_say : (t group : ℕ) (body : TrackBody) (k : Centre) → Goes k (say t group body k)
-  goes_say t group body k = still k (say t group body k).state refl refl refl (λ s u out. out)
-
-  pub goes_set : (t : ℕ) (o : Option Mission) (k : Centre) → Goes k (set_mission t o k)
-  goes_set t o k = still k (set_mission t o k).state refl refl refl (λ s u out. out)
-
-  pub goes_change : (t : ℕ) (f : Mission → Mission) (k : Centre) → Goes k (change_mission t f k)
-  goes_change t f k = still k (change_mission t f k).state refl refl refl (λ s u out. out)
-
   -- an entry that may become another, which is not out
   pub stays_in : (b : Bool) (g e : Entry) (t : ℕ) → is_out_for t g ≡ false → is_out_for t (if b then g else e) ≡ true → is_out_for t e ≡ true
   stays_in true g e t none out = absurd (let wrong : false ≡ true = sym none ∙ out in cc)
   stays_in false g e t none out = out
-
-  pub goes_taken : (test : Entry → Bool) (t : ℕ) (r : SectionRun) (k : Centre) → Goes k (booked test (Taken t) r k)
-  goes_taken test t r k = still k (booked test (Taken t) r k).state refl refl refl (λ s u out. stays_in _ (Taken t) (k.book s) u refl out)
 
   pub freed_less : (test : Entry → Bool) (r : SectionRun) (k : Centre) → LendsNoMore k (freed line c test r k).state
   freed_less test r k = λ s u out. stays_in _ (if k.wish s then Shut else Open) (k.book s) u (by_wish (k.wish s) u) out
@@ -93,9 +80,6 @@ module _ (line : Line) (c : ℕ) where
       by_wish : (b : Bool) (u : ℕ) → is_out_for u (if b then Shut else Open) ≡ false
       by_wish true u = refl
       by_wish false u = refl
-
-  pub goes_freed : (test : Entry → Bool) (r : SectionRun) (k : Centre) → Goes k (record (freed line c test r k) { words = [] })
-  goes_freed test r k = still k (freed line c test r k).state refl refl refl (freed_less test r k)
 
   to_only : (d : ℕ) (body : Body) → IsBodyKnown line c d body → (e : ℕ) → All (IsBodyKnown line c e) (to_one d (body ∷ []) e)
   to_only d body is e = ⊎_elim
@@ -120,9 +104,6 @@ module _ (line : Line) (c : ℕ) where
       by_part true = All-nil (IsBodyKnown line c d)
       by_part false = All-cons (IsBodyKnown line c d) (RouteReturn t part) [] (record { known = known; sent = record {} }) (All-nil (IsBodyKnown line c d))
 
-  pub goes_returned : (t track : ℕ) (r : SectionRun) (k : Centre) → is_train line t ≡ true → Goes k (returned line c t track r k)
-  goes_returned t track r k known = aside k k (returned line c t track r k).frames refl refl refl (λ old. old) (returned_known t track r k known)
-
   -- ## One after another
 
   pub comes_then : (came : Question → ℕ → ℕ) (a b : Act) (k : Centre) → Comes came k (a k) → Goes (a k).state (b (a k).state) → Comes came k ((a >> b) k)
@@ -136,24 +117,6 @@ module _ (line : Line) (c : ℕ) where
 
   pub goes_then : (a b : Act) (k : Centre) → Goes k (a k) → Goes (a k).state (b (a k).state) → Goes k ((a >> b) k)
   goes_then a b k one two = comes_then none_comes a b k one two
-
-  pub goes_if : {came : Question → ℕ → ℕ} (b : Bool) (k : Centre) (p q : Reply) → (b ≡ true → Comes came k p) → (b ≡ false → Comes came k q) → Comes came k (if b then p else q)
-  goes_if true k p q one two = one refl
-  goes_if false k p q one two = two refl
-
-  pub goes_or : {X : Type 0} {came : Question → ℕ → ℕ} (o : Option X) (f : X → Reply) (k : Centre) (q : Reply) → ((x : X) → o ≡ Some x → Comes came k (f x)) → (o ≡ None → Comes came k q)
-      → Comes came k (option_map_or f o q)
-  goes_or None f k q some none = none refl
-  goes_or (Some x) f k q some none = some x refl
-
-  pub goes_if_act : {came : Question → ℕ → ℕ} (b : Bool) (f g : Act) (k : Centre) → (b ≡ true → Comes came k (f k)) → (b ≡ false → Comes came k (g k)) → Comes came k ((if b then f else g) k)
-  goes_if_act true f g k one two = one refl
-  goes_if_act false f g k one two = two refl
-
-  pub goes_or_act : {X : Type 0} {came : Question → ℕ → ℕ} (o : Option X) (f : X → Act) (g : Act) (k : Centre) → ((x : X) → o ≡ Some x → Comes came k (f x k)) →
-      (o ≡ None → Comes came k (g k)) → Comes came k (option_map_or f o g k)
-  goes_or_act None f g k some none = none refl
-  goes_or_act (Some x) f g k some none = some x refl
 
   -- ## Questions
 

@@ -22,7 +22,8 @@ use Rattle.law_network.specs.Pairs.{follows, is_number}
 use Rattle.law_network.specs.Sound.{IsFlowSound, IsBodySound}
 use Rattle.law_network.proofs.Basics.{some_cap}
 use Rattle.law_network.proofs.Taken.{body_sound, is_taken}
-use Rattle.law_no_copy.specs.Stray.{train_of, has_place_for}
+use Rattle.law_walk.specs.Trains.{train_of}
+use Rattle.law_no_copy.specs.Stray.{has_place_for}
 use Rattle.law_no_unasked.specs.Asked.{Question, OfRight, questions, IsBodyAsked, IsAsked}
 use Rattle.law_no_loss.proofs.Brings.{right_comes}
 use Rattle.law_no_loss.proofs.Looked.{looked_for}

@@ -1,9 +1,5 @@
 pub mod Acts
-pub mod Handing
-pub mod Messages
-pub mod Answers
-pub mod Rights
-pub mod Frames
+pub mod Moves
 pub mod Steps
 pub mod Heads
 pub mod Worlds

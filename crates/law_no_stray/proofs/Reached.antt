@@ -11,7 +11,7 @@ use Rattle.rbc_spec.specs.Links.{is_train, may_take}
 use Rattle.rbc_spec.specs.Step.{link_answer}
 use Rattle.rbc_spec.specs.World.{World, Event, Answer, Delivery, new_world, frame_sent, world_step, world_run}
 use Rattle.law_base.proofs.Runs.{each_within}
-use Rattle.law_no_copy.specs.Stray.{train_of}
+use Rattle.law_walk.specs.Trains.{train_of}
 use Rattle.law_no_stray.specs.Due.{IsDue, IsFrameDue, IsTakenOver}
 use Rattle.law_no_stray.specs.Questions.{IsAnswered}
 use Rattle.law_no_stray.proofs.Counts.{is_answered}

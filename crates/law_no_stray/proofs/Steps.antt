@@ -10,21 +10,23 @@ use Rattle.rbc_spec.specs.Outcome.{Reason, Next, Old, Early, NoLink}
 use Rattle.rbc_spec.specs.Outcome as outcome
 use Rattle.rbc_spec.specs.Centre.{Centre}
 use Rattle.rbc_spec.specs.Acts.{rest, become, ◌>>◌, hear}
-use Rattle.rbc_spec.specs.Rules.{answered}
 use Rattle.rbc_spec.specs.Links.{is_train, received}
 use Rattle.rbc_spec.specs.Step as step
-use Rattle.rbc_spec.specs.Step.{Event, Train, Set, Unset, Deliver, Effect, effect, hear_and_answer, taken_by, link_answer, stamp_of, ticked, state_after}
+use Rattle.rbc_spec.specs.Step.{Event, Train, Set, Unset, Deliver, Effect, effect, set, unset, hear_and_answer, taken_by, link_answer, stamp_of, ticked, state_after}
+use Rattle.law_walk.proofs.Moves.{setting}
+use Rattle.law_walk.proofs.Messages.{may_do}
+use Rattle.law_walk.proofs.Frames.{received_taking}
+use Rattle.law_walk.proofs.Steps.{heard_walks, set_walks, unset_walks}
 use Rattle.law_network.specs.Flow.{centre_count}
-use Rattle.law_no_copy.specs.Stray.{train_of}
+use Rattle.law_walk.specs.Trains.{train_of}
 use Rattle.law_handover.specs.Steps.{IsByItself, left_by, sent_by}
 use Rattle.law_no_unasked.specs.Asked.{Question, OfRight, OfRoute, questions}
-use Rattle.law_no_unasked.proofs.Asking.{none_comes, comes_with}
-use Rattle.law_no_unasked.proofs.Steps.{heard_train}
+use Rattle.law_no_unasked.proofs.Asking.{of_line, none_comes, comes_with}
+use Rattle.law_no_unasked.proofs.Steps.{heard_train, of_no_train}
 use Rattle.law_no_stray.specs.Due.{IsDue}
 use Rattle.law_no_stray.specs.Questions.{HasKnownOuts}
-use Rattle.law_no_stray.proofs.Acts.{IsAnswering, Comes, Goes, still, goes_rest, goes_then}
-use Rattle.law_no_stray.proofs.Answers.{goes_answered}
-use Rattle.law_no_stray.proofs.Frames.{comes_received, goes_section_set, goes_section_unset}
+use Rattle.law_no_stray.proofs.Acts.{IsAnswering, Comes, Goes, goes_rest}
+use Rattle.law_no_stray.proofs.Moves.{of_moves, comes_taken}
 
 -- what is due does not look at the clock, nor at what was taken
 same_due : (line : Line) (a c stamp : ℕ) (taken : ℕ → ℕ) (k : Centre) (f : Body) → IsDue line a c k f → IsDue line a c (record k { clock = stamp; taken = taken }) f
@@ -44,12 +46,12 @@ same_due line a c stamp taken k (Yield number t heard has_data is_ended place ha
 module _ (line : Line) (ok : IsLine line) (c : ℕ) where
   -- ## By itself
 
-  goes_message : (m : TrainMessage) (k : Centre) (o : Option Reason) → step.silence line c k m ≡ o
+  goes_message : (m : TrainMessage) (k : Centre) (o : Option Reason) → step.silence line c k m ≡ o → HasKnownOuts line k
       → Goes line c k (option_map_or {U = Effect} (λ why. record { reply = rest k; link = None; silence = Some why }) o
       (record { reply = hear_and_answer line c m k; link = None; silence = None })).reply
-  goes_message m k (Some why) is = goes_rest line c k
-  goes_message m k None is = goes_then line c (hear m) (answered line c m m.body) k (still line c k _ refl refl refl (λ s t out. out))
-      (goes_answered line ok c m m.body _ (heard_train line c k m is))
+  goes_message m k (Some why) is outs = goes_rest line c k
+  goes_message m k None is outs = of_moves line ok c (may_do m.nid_engine m.body) (of_line line (may_do m.nid_engine m.body) m.nid_engine refl (heard_train line c k m is)) (hear m k).state k
+      (hear_and_answer line c m k) (heard_walks line c m k) outs
 
   goes_frame : (d : ℕ) (f : Frame) (k : Centre) (answer : outcome.Taken) → answer ≢ Next → Goes line c k (taken_by line c d f answer k)
   goes_frame d f k Next other = absurd (other refl)
@@ -58,9 +60,9 @@ module _ (line : Line) (ok : IsLine line) (c : ℕ) where
   goes_frame d f k NoLink other = goes_rest line c k
 
   goes_event : (event : Event) (k : Centre) → IsByItself line c k event → HasKnownOuts line k → Goes line c k (effect line c k event).reply
-  goes_event (Train m) k by_itself outs = goes_message m k (step.silence line c k m) refl
-  goes_event (Set s) k by_itself outs = goes_section_set line ok c s k
-  goes_event (Unset s) k by_itself outs = goes_section_unset line ok c s k outs
+  goes_event (Train m) k by_itself outs = goes_message m k (step.silence line c k m) refl outs
+  goes_event (Set s) k by_itself outs = of_moves line ok c setting (of_no_train line) k k (set line c s k) (set_walks line c setting k refl s k) outs
+  goes_event (Unset s) k by_itself outs = of_moves line ok c setting (of_no_train line) k k (unset line c s k) (unset_walks line c setting k refl s k) outs
   goes_event (Deliver d f) k by_itself outs = goes_frame d f k (link_answer line c k d f) by_itself
 
   same_itself : (event : Event) (stamp : ℕ) (k : Centre) → IsByItself line c k event → IsByItself line c (ticked stamp k) event
@@ -84,9 +86,10 @@ module _ (line : Line) (ok : IsLine line) (c : ℕ) where
   -- ## At the head of a link
 
   module _ (a : ℕ) (f : Frame) (small : a < centre_count line) (known : is_train line (train_of f.body) ≡ true) where
-    comes_next : (k : Centre) → IsDue line a c k f.body → Comes line c (comes_with a c f.body) k (taken_by line c a f Next k)
+    comes_next : (k : Centre) → IsDue line a c k f.body → HasKnownOuts line k → Comes line c (comes_with a c f.body) k (taken_by line c a f Next k)
     unfolding ◌>>◌
-    comes_next k due = counted (comes_received line ok c a f.body j small known (same_due line a c k.clock (put k.taken a f.number) k f.body due))
+    comes_next k due outs = counted (comes_taken line ok c a f.body j (received line c a f.body j) small known (same_due line a c k.clock (put k.taken a f.number) k f.body due) (record { each = outs.each })
+        (received_taking line c a j f.body))
       where
         j : Centre
         j = (become (λ i. record i { taken = put i.taken a f.number }) k).state
@@ -99,13 +102,13 @@ module _ (line : Line) (ok : IsLine line) (c : ℕ) where
             by_question (OfRight t) d = comes.law (OfRight t) d
             by_question (OfRoute t first) d = comes.law (OfRoute t first) d
 
-    pub taken_answering : (k : Centre) → link_answer line c k a f ≡ Next → IsDue line a c k f.body
+    pub taken_answering : (k : Centre) → link_answer line c k a f ≡ Next → IsDue line a c k f.body → HasKnownOuts line k
         → IsAnswering line c (comes_with a c f.body) k (left_by line c k (Deliver a f)) (sent_by line c k (Deliver a f))
-    taken_answering k next due = of_step (comes_with a c f.body) k (stamp_of k (Deliver a f)) (effect line c (ticked (stamp_of k (Deliver a f)) k) (Deliver a f))
+    taken_answering k next due outs = of_step (comes_with a c f.body) k (stamp_of k (Deliver a f)) (effect line c (ticked (stamp_of k (Deliver a f)) k) (Deliver a f))
         (by_answer (link_answer line c k a f) next)
       where
         by_answer : (answer : outcome.Taken) → answer ≡ Next → Comes line c (comes_with a c f.body) (ticked (stamp_of k (Deliver a f)) k) (taken_by line c a f answer (ticked (stamp_of k (Deliver a f)) k))
-        by_answer Next at = comes_next (ticked (stamp_of k (Deliver a f)) k) (same_due line a c (stamp_of k (Deliver a f)) k.taken k f.body due)
+        by_answer Next at = comes_next (ticked (stamp_of k (Deliver a f)) k) (same_due line a c (stamp_of k (Deliver a f)) k.taken k f.body due) (record { each = outs.each })
         by_answer Old at = cc
         by_answer Early at = cc
         by_answer NoLink at = cc

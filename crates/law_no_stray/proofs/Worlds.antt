@@ -97,7 +97,7 @@ module _ (line : Line) (ok : IsLine line) (w : World) (sound : IsWorldSound line
       (λ a c from to f head next. answered_taken line (flow_of w) sound.flow.counted c to (left_by line c (w.at c) (centre.Deliver a f)) (sent_by line c (w.at c) (centre.Deliver a f)) a f.body from head
       (taken_asking line ok c a f (w.at c) next (each_head (IsBodyAsked line) (flow_of w) a c f.body head asked.bodies)).fair
       (taken_answering line ok c a f (ltb-true a (centre_count line) from) (known_head line (flow_of w) old.bodies a c f.body head).known (w.at c) next
-      (due_head line ok (flow_of w) sound.flow asked old.bodies a c from to f.body head)) old)
+      (due_head line ok (flow_of w) sound.flow asked old.bodies a c from to f.body head) (old.outs c)) old)
 
   -- the next frame of a link is due
   pub frame_due : (a b number : ℕ) (f : Frame) → frame_sent w a b number ≡ Some f → link_answer line b (w.at b) a f ≡ Next → IsFrameDue line w a b f

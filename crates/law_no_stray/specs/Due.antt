@@ -8,7 +8,7 @@ use Rattle.rbc_spec.specs.Frame.{Body, Frame, yielded_place, AskRight, GiveRight
 use Rattle.rbc_spec.specs.Centre.{Centre, Mission, is_out_for, is_registrar_of}
 use Rattle.rbc_spec.specs.Links.{is_of_line, is_train, is_under, may_take}
 use Rattle.rbc_spec.specs.World.{World}
-use Rattle.law_no_copy.specs.Stray.{train_of}
+use Rattle.law_walk.specs.Trains.{train_of}
 
 -- what the body finds that comes from centre a to centre b, which is k. A TakingOver may meet a handover that was cancelled meanwhile, and has no effect then
 abbrev pub IsDue : Line → ℕ → ℕ → Centre → Body → Type 0

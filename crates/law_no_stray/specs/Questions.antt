@@ -10,7 +10,7 @@ use Rattle.rbc_spec.specs.Centre.{Centre, is_out_for, is_registrar_of}
 use Rattle.rbc_spec.specs.Links.{is_train}
 use Rattle.rbc_spec.specs.World.{World, way}
 use Rattle.rbc_spec.specs.ReadOff.{centres_of}
-use Rattle.law_no_copy.specs.Stray.{train_of}
+use Rattle.law_walk.specs.Trains.{train_of}
 use Rattle.law_no_unasked.specs.Asked.{Question, asks, answers, stands, questions}
 use Rattle.law_network.specs.Flow.{Flow, centre_count}
 

@@ -1,7 +1,8 @@
 -- Acts that keep what is asked for, one after another, and the smallest of them.
-use Rattle.std.proofs.Common.{◌≡◌, ◌≢◌, ℕ, ◌+◌, ◌<◌, ◌≤◌, ◌==◌, ◌&&◌, ◌||◌, Bool, true, false, if◌then◌else◌, List, [], ◌∷◌, Option, Some, None, refl, sym, ap, ◌∙◌, subst, arith, ⊎_elim, All}
+use Rattle.std.proofs.Common.{◌≡◌, ◌≢◌, ℕ, ◌+◌, ◌<◌, ◌≤◌, ◌==◌, ◌&&◌, ◌||◌, Bool, true, false, if◌then◌else◌, List, [], ◌∷◌, Option, Some, refl, sym, ap, ◌∙◌, subst, arith, ⊎_elim, All}
 use Rattle.std.specs.Option.{option_map_or}
 use Rattle.std.proofs.lemmas.Bool.{cases_lt, cases_eq, and_parts}
+use Rattle.std.proofs.lemmas.Option.{same_Some}
 use Rattle.std.proofs.lemmas.List.Elements.{All-nil, All-cons, All-append, All-weaker, All-head, All-tail}
 use Rattle.law_counting.specs.Sums.{one_if}
 use Rattle.law_counting.specs.Network.{to_one}
@@ -12,15 +13,16 @@ use Rattle.law_counting.proofs.Resource.{carried_none, carried_more, sent_single
 use Rattle.rbc_spec.specs.SectionRuns.{SectionRun, within, is_empty, shared, all_of}
 use Rattle.rbc_spec.specs.Line.{Line, IsLine, is_home}
 use Rattle.rbc_spec.specs.Sections.{home_run, is_on}
-use Rattle.rbc_spec.specs.Message.{TrackBody}
-use Rattle.rbc_spec.specs.Frame.{Body, RouteReturn}
-use Rattle.rbc_spec.specs.Centre.{Centre, Entry, Taken, Mission}
-use Rattle.rbc_spec.specs.Acts.{Act, Reply, rest, ◌>>◌, send, say, booked, freed, returned, set_mission, change_mission}
+use Rattle.rbc_spec.specs.Frame.{Body, AskRight, GiveRight, RefuseRight, RouteAsk, RouteInfo, RouteReturn}
+use Rattle.rbc_spec.specs.Centre.{Centre, Entry, Taken}
+use Rattle.rbc_spec.specs.Acts.{Act, Reply, rest, ◌>>◌, send, booked, returned}
 use Rattle.rbc_spec.specs.Links.{is_train}
 use Rattle.rbc_spec.proofs.Places.{homes_run}
 use Rattle.law_base.proofs.Runs.{within_shared, all_within}
+use Rattle.law_walk.proofs.Moves.{May}
+use Rattle.law_walk.proofs.Frames.{is_question}
 use Rattle.law_network.specs.Flow.{centre_count}
-use Rattle.law_no_unasked.specs.Asked.{Question, OfRight, OfRoute, asks, answers, stands, questions, IsBodyAsked}
+use Rattle.law_no_unasked.specs.Asked.{Question, OfRight, OfRoute, stands, questions, IsBodyAsked}
 
 -- ## What frames have inside
 
@@ -63,6 +65,23 @@ comes_with a c f x d = (questions x d).inside a c f
 abbrev pub none_comes : Question → ℕ → ℕ
 none_comes x d = 0
 
+-- a body that neither asks nor answers has nothing inside
+pub none_inside : (a c : ℕ) (f : Body) → is_question f ≡ false → (x : Question) (d : ℕ) → comes_with a c f x d ≡ 0
+none_inside a c (AskRight t) is x d = cc
+none_inside a c (GiveRight t) is x d = cc
+none_inside a c (RefuseRight t) is x d = cc
+none_inside a c (RouteAsk t first most) is x d = cc
+none_inside a c (RouteInfo t r) is x d = cc
+none_inside a c body is (OfRight u) d = refl
+none_inside a c body is (OfRoute u n) d = refl
+
+-- the train of the event is of the line
+abbrev pub IsOfLine : Line → May → Type 0
+IsOfLine line may = (t : ℕ) → may.train ≡ Some t → is_train line t ≡ true
+
+pub of_line : (line : Line) (may : May) (t : ℕ) → may.train ≡ Some t → is_train line t ≡ true → IsOfLine line may
+of_line line may t its known u is = subst (λ v. is_train line v ≡ true) (same_Some t u (sym its ∙ is)) known
+
 module _ (line : Line) (c : ℕ) where
   -- an act of centre c, which was k, leaves it as y and sends these frames: no more questions and answers are sent than then stand anew, or came
   pub record IsAsking (came : Question → ℕ → ℕ) (k y : Centre) (frames : ℕ → List Body) : Type 0 where
@@ -79,12 +98,8 @@ module _ (line : Line) (c : ℕ) where
 
   -- a body that neither asks nor answers, and is as it has to be
   pub record IsAside (d : ℕ) (f : Body) : Type 0 where
-    pub asks : (x : Question) → asks x f ≡ false
-    pub answers : (x : Question) → answers x f ≡ false
+    pub none : is_question f ≡ false
     pub body : IsBodyAsked line c d f
-
-  no_inside : (x : Question) (e d : ℕ) (f : Body) → IsAside d f → (questions x e).inside c d f ≡ 0
-  no_inside x e d f none = omega (arith, ap (λ b. one_if (b && (c == e))) (none.asks x), ap (λ b. one_if (b && (d == e))) (none.answers x))
 
   same_stands : (k y : Centre) → y.has_asked ≡ k.has_asked → y.route_ask ≡ k.route_ask → (x : Question) → stands x y ≡ stands x k
   same_stands k y rights routes (OfRight t) = ap (λ (f : ℕ → Bool). f t) rights
@@ -96,11 +111,11 @@ module _ (line : Line) (c : ℕ) where
     fair = λ x d. record {
       law = omega (
         arith,
-        nothing_sent (questions x d) (centre_count line) c frames (λ e. All-weaker (IsAside e) (λ f. (questions x d).inside c e f ≡ 0) (λ f none. no_inside x d e f none) (frames e) (sends e)),
+        nothing_sent (questions x d) (centre_count line) c frames (λ e. All-weaker (IsAside e) (λ f. (questions x d).inside c e f ≡ 0) (λ f aside. none_inside c e f aside.none x d) (frames e) (sends e)),
         ap (λ b. one_if ((c == d) && b)) (same_stands k y rights routes x),
       );
     };
-    bodies = λ d. All-weaker (IsAside d) (IsBodyAsked line c d) (λ f none. none.body) (frames d) (sends d);
+    bodies = λ d. All-weaker (IsAside d) (IsBodyAsked line c d) (λ f aside. aside.body) (frames d) (sends d);
   }
 
   -- what was asked for stays, and nothing is sent
@@ -110,20 +125,8 @@ module _ (line : Line) (c : ℕ) where
   pub goes_rest : (k : Centre) → Goes k (rest k)
   goes_rest k = still k k refl refl
 
-  pub goes_say : (t group : ℕ) (body : TrackBody) (k : Centre) → Goes k (say t group body k)
-  goes_say t group body k = still k (say t group body k).state refl refl
-
-  pub goes_set : (t : ℕ) (o : Option Mission) (k : Centre) → Goes k (set_mission t o k)
-  goes_set t o k = still k (set_mission t o k).state refl refl
-
-  pub goes_change : (t : ℕ) (f : Mission → Mission) (k : Centre) → Goes k (change_mission t f k)
-  goes_change t f k = still k (change_mission t f k).state refl refl
-
   pub goes_taken : (test : Entry → Bool) (t : ℕ) (r : SectionRun) (k : Centre) → Goes k (booked test (Taken t) r k)
   goes_taken test t r k = still k (booked test (Taken t) r k).state refl refl
-
-  pub goes_freed : (test : Entry → Bool) (r : SectionRun) (k : Centre) → Goes k (record (freed line c test r k) { words = [] })
-  goes_freed test r k = still k (freed line c test r k).state refl refl
 
   pub goes_send : (d : ℕ) (body : Body) (k : Centre) → IsAside d body → Goes k (send d body k)
   goes_send d body k none = aside k k (send d body k).frames refl refl (λ e. by_one e)
@@ -138,19 +141,8 @@ module _ (line : Line) (c : ℕ) where
           at_d true = All-cons (IsAside d) body [] none (All-nil (IsAside d))
           at_d false = All-nil (IsAside d)
 
-  return_aside : (d t : ℕ) (r : SectionRun) → is_train line t ≡ true → is_empty r ≡ false → all_of (is_home line d) r ≡ true → IsAside d (RouteReturn t r)
-  return_aside d t r known some home = record { asks = no_ask; answers = no_answer; body = (known, some, home) }
-    where
-      no_ask : (x : Question) → asks x (RouteReturn t r) ≡ false
-      no_ask (OfRight u) = refl
-      no_ask (OfRoute u first) = refl
-
-      no_answer : (x : Question) → answers x (RouteReturn t r) ≡ false
-      no_answer (OfRight u) = refl
-      no_answer (OfRoute u first) = refl
-
-  pub goes_home : (d t : ℕ) (r : SectionRun) (k : Centre) → is_train line t ≡ true → is_empty r ≡ false → all_of (is_home line d) r ≡ true → Goes k (send d (RouteReturn t r) k)
-  goes_home d t r k known some home = goes_send d (RouteReturn t r) k (return_aside d t r known some home)
+  pub return_aside : (d t : ℕ) (r : SectionRun) → is_train line t ≡ true → is_empty r ≡ false → all_of (is_home line d) r ≡ true → IsAside d (RouteReturn t r)
+  return_aside d t r known some home = record { none = refl; body = (known, some, home) }
 
   pub returned_aside : IsLine line → (t track : ℕ) (r : SectionRun) (k : Centre) → is_train line t ≡ true → (d : ℕ) → All (IsAside d) ((returned line c t track r k).frames d)
   returned_aside ok t track r k known d = by_part (d == c) (is_empty part) refl
@@ -167,9 +159,6 @@ module _ (line : Line) (c : ℕ) where
       by_part true none is = All-nil (IsAside d)
       by_part false true is = All-nil (IsAside d)
       by_part false false is = All-cons (IsAside d) (RouteReturn t part) [] (return_aside d t part known is homes) (All-nil (IsAside d))
-
-  pub goes_returned : IsLine line → (t track : ℕ) (r : SectionRun) (k : Centre) → is_train line t ≡ true → Goes k (returned line c t track r k)
-  goes_returned ok t track r k known = aside k k (returned line c t track r k).frames refl refl (returned_aside ok t track r k known)
 
   -- ## One after another
 
@@ -193,20 +182,6 @@ module _ (line : Line) (c : ℕ) where
   pub goes_if : {came : Question → ℕ → ℕ} (b : Bool) (k : Centre) (p q : Reply) → (b ≡ true → Comes came k p) → (b ≡ false → Comes came k q) → Comes came k (if b then p else q)
   goes_if true k p q one two = one refl
   goes_if false k p q one two = two refl
-
-  pub goes_or : {X : Type 0} {came : Question → ℕ → ℕ} (o : Option X) (f : X → Reply) (k : Centre) (q : Reply) → ((x : X) → o ≡ Some x → Comes came k (f x)) → (o ≡ None → Comes came k q)
-      → Comes came k (option_map_or f o q)
-  goes_or None f k q some none = none refl
-  goes_or (Some x) f k q some none = some x refl
-
-  pub goes_if_act : {came : Question → ℕ → ℕ} (b : Bool) (f g : Act) (k : Centre) → (b ≡ true → Comes came k (f k)) → (b ≡ false → Comes came k (g k)) → Comes came k ((if b then f else g) k)
-  goes_if_act true f g k one two = one refl
-  goes_if_act false f g k one two = two refl
-
-  pub goes_or_act : {X : Type 0} {came : Question → ℕ → ℕ} (o : Option X) (f : X → Act) (g : Act) (k : Centre) → ((x : X) → o ≡ Some x → Comes came k (f x k)) →
-      (o ≡ None → Comes came k (g k)) → Comes came k (option_map_or f o g k)
-  goes_or_act None f g k some none = none refl
-  goes_or_act (Some x) f g k some none = some x refl
 
   -- ## Questions
 

@@ -1,9 +1,5 @@
 pub mod Asking
-pub mod Handing
-pub mod Messages
-pub mod Answers
-pub mod Rights
-pub mod Frames
+pub mod Moves
 pub mod Steps
 pub mod Split
 pub mod Worlds

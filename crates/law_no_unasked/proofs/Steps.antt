@@ -14,17 +14,19 @@ use Rattle.rbc_spec.specs.Outcome.{Reason, ForeignEngine, reasons_of, Next, Old,
 use Rattle.rbc_spec.specs.Outcome as outcome
 use Rattle.rbc_spec.specs.Centre.{Centre}
 use Rattle.rbc_spec.specs.Acts.{rest, become, ◌>>◌, hear}
-use Rattle.rbc_spec.specs.Rules.{answered}
 use Rattle.rbc_spec.specs.Links.{is_train, received}
 use Rattle.rbc_spec.specs.Step as step
-use Rattle.rbc_spec.specs.Step.{Event, Train, Set, Unset, Deliver, Effect, effect, hear_and_answer, taken_by, link_answer, stamp_of, ticked, state_after}
+use Rattle.rbc_spec.specs.Step.{Event, Train, Set, Unset, Deliver, Effect, effect, set, unset, hear_and_answer, taken_by, link_answer, stamp_of, ticked, state_after}
 use Rattle.law_centre.proofs.Reasons.{not_for}
+use Rattle.law_walk.proofs.Moves.{setting}
+use Rattle.law_walk.proofs.Messages.{may_do}
+use Rattle.law_walk.proofs.Frames.{received_taking}
+use Rattle.law_walk.proofs.Steps.{heard_walks, set_walks, unset_walks}
 use Rattle.law_network.specs.Flow.{Flow, centre_count}
 use Rattle.law_handover.specs.Steps.{IsByItself, left_by, sent_by}
 use Rattle.law_no_unasked.specs.Asked.{Question, OfRight, OfRoute, questions, IsBodyAsked, IsAsked}
-use Rattle.law_no_unasked.proofs.Asking.{IsAsking, Comes, Goes, none_comes, comes_with, still, goes_rest, goes_then}
-use Rattle.law_no_unasked.proofs.Answers.{goes_answered}
-use Rattle.law_no_unasked.proofs.Frames.{comes_received, goes_section_set, goes_section_unset}
+use Rattle.law_no_unasked.proofs.Asking.{IsOfLine, of_line, IsAsking, Comes, Goes, none_comes, comes_with, goes_rest}
+use Rattle.law_no_unasked.proofs.Moves.{of_moves, comes_taken}
 
 -- a message that is answered is of a train of the line
 pub heard_train : (line : Line) (c : ℕ) (k : Centre) (m : TrainMessage) → step.silence line c k m ≡ None → is_train line m.nid_engine ≡ true
@@ -46,6 +48,10 @@ heard_train line c k m heard = known (train_number line m.nid_engine) (not_for l
     known None is = cc
     known (Some n) is = refl
 
+-- a word of the interlocking is of no train
+pub of_no_train : (line : Line) → IsOfLine line setting
+of_no_train line t its = cc
+
 module _ (line : Line) (ok : IsLine line) (c : ℕ) where
   -- ## By itself
 
@@ -53,8 +59,8 @@ module _ (line : Line) (ok : IsLine line) (c : ℕ) where
       → Goes line c k (option_map_or {U = Effect} (λ why. record { reply = rest k; link = None; silence = Some why }) o
       (record { reply = hear_and_answer line c m k; link = None; silence = None })).reply
   goes_message m k (Some why) is = goes_rest line c k
-  goes_message m k None is = goes_then line c (hear m) (answered line c m m.body) k (still line c k _ refl refl)
-      (goes_answered line ok c m m.body _ (heard_train line c k m is))
+  goes_message m k None is = of_moves line ok c (may_do m.nid_engine m.body) (of_line line (may_do m.nid_engine m.body) m.nid_engine refl (heard_train line c k m is)) (hear m k).state k
+      (hear_and_answer line c m k) (heard_walks line c m k)
 
   goes_frame : (d : ℕ) (f : Frame) (k : Centre) (answer : outcome.Taken) → answer ≢ Next → Goes line c k (taken_by line c d f answer k)
   goes_frame d f k Next other = absurd (other refl)
@@ -64,8 +70,8 @@ module _ (line : Line) (ok : IsLine line) (c : ℕ) where
 
   goes_event : (event : Event) (k : Centre) → IsByItself line c k event → Goes line c k (effect line c k event).reply
   goes_event (Train m) k by_itself = goes_message m k (step.silence line c k m) refl
-  goes_event (Set s) k by_itself = goes_section_set line ok c s k
-  goes_event (Unset s) k by_itself = goes_section_unset line ok c s k
+  goes_event (Set s) k by_itself = of_moves line ok c setting (of_no_train line) k k (set line c s k) (set_walks line c setting k refl s k)
+  goes_event (Unset s) k by_itself = of_moves line ok c setting (of_no_train line) k k (unset line c s k) (unset_walks line c setting k refl s k)
   goes_event (Deliver d f) k by_itself = goes_frame d f k (link_answer line c k d f) by_itself
 
   same_itself : (event : Event) (stamp : ℕ) (k : Centre) → IsByItself line c k event → IsByItself line c (ticked stamp k) event
@@ -90,7 +96,7 @@ module _ (line : Line) (ok : IsLine line) (c : ℕ) where
 
   comes_next : (a : ℕ) (f : Frame) (k : Centre) → IsBodyAsked line a c f.body → Comes line c (comes_with a c f.body) k (taken_by line c a f Next k)
   unfolding ◌>>◌
-  comes_next a f k is = counted (comes_received line ok c a f.body j is)
+  comes_next a f k is = counted (comes_taken line ok c a f.body j (received line c a f.body j) is (received_taking line c a j f.body))
     where
       j : Centre
       j = (become (λ i. record i { taken = put i.taken a f.number }) k).state

@@ -1,17 +1,17 @@
 -- What announces no handover: the taking of a frame, and each message of a train but a request.
-use Rattle.std.proofs.Common.{◌≡◌, ℕ, Bool, false, refl, ◌∙◌}
+use Rattle.std.proofs.Common.{◌≡◌, ℕ, false, refl, ◌∙◌}
 use Rattle.rbc_spec.specs.Line.{Line}
 use Rattle.rbc_spec.specs.Message.{TrainMessage, TrainBody, Request}
-use Rattle.rbc_spec.specs.Frame.{Frame}
+use Rattle.rbc_spec.specs.Frame.{Frame, Body}
 use Rattle.rbc_spec.specs.Outcome.{Taken as LinkAnswer, Next, Old, Early, NoLink}
 use Rattle.rbc_spec.specs.Centre.{Centre}
 use Rattle.rbc_spec.specs.Acts.{hear, Act, Reply, ◌>>◌}
 use Rattle.rbc_spec.specs.Maps.{put}
 use Rattle.rbc_spec.specs.Links.{received}
 use Rattle.rbc_spec.specs.Step.{hear_and_answer, taken_by}
-use Rattle.law_walk.proofs.Moves.{May, Move, counts, Walk, of_walk}
+use Rattle.law_walk.proofs.Moves.{May, Move, counts, Answer, nothing_waits, Walk, of_walk}
 use Rattle.law_walk.proofs.Messages.{may_announce, may_do}
-use Rattle.law_walk.proofs.Frames.{frame_may, received_walks}
+use Rattle.law_walk.proofs.Frames.{frame_may, of_taking, received_taking}
 use Rattle.law_walk.proofs.Steps.{heard_walks}
 use Rattle.law_progress.specs.Ends.{IsSessionOrReport}
 
@@ -35,11 +35,19 @@ module _ (line : Line) (c : ℕ) where
   of_moves : (may : May) (was : Centre) → may.announces ≡ false → (k : Centre) (q : Reply) → Walk line c may was k q → Same k q
   of_moves may was never = of_walk line c may was Same (record { moves = moves may was never; joins = joins })
 
+  -- no answer announces anything
+  answers : (may : May) (was : Centre) (d : ℕ) (body : Body) (q : Reply) → Answer line c may was d body q → Same was q
+  answers may was d _ _ (nothing_waits t asked none) = record { law = refl }
+  answers may was d body q answer = record { law = refl }
+
   -- whatever the link says
   pub taken_keeps : (d : ℕ) (f : Frame) (answer : LinkAnswer) → Keeps (taken_by line c d f answer)
   unfolding ◌>>◌
   taken_keeps d f Next k = let counted = record k { taken = put k.taken d f.number } in
-      record { law = (of_moves (frame_may f.body) counted refl counted (received line c d f.body counted) (received_walks line c d counted f.body)).law }
+      record {
+        law = (of_taking line c d counted f.body Same (record { moves = moves (frame_may f.body) counted refl; joins = joins }) (answers (frame_may f.body) counted d f.body)
+            (received line c d f.body counted) (received_taking line c d counted f.body)).law;
+      }
   taken_keeps d f Old k = record { law = refl }
   taken_keeps d f Early k = record { law = refl }
   taken_keeps d f NoLink k = record { law = refl }
@@ -49,4 +57,4 @@ module _ (line : Line) (c : ℕ) where
   no_request body is = refl
 
   pub heard_keeps : (m : TrainMessage) → IsSessionOrReport m.body → Keeps (hear_and_answer line c m)
-  heard_keeps m is k = of_moves (may_do m.body) (hear m k).state (no_request m.body is) k (hear_and_answer line c m k) (heard_walks line c m k)
+  heard_keeps m is k = of_moves (may_do m.nid_engine m.body) (hear m k).state (no_request m.body is) k (hear_and_answer line c m k) (heard_walks line c m k)

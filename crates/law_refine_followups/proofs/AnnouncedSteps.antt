@@ -8,7 +8,7 @@ use Rattle.rbc_spec.specs.SectionRuns.{SectionRun, no_run, within, behind, is_em
 use Rattle.rbc_spec.specs.Line.{Line, IsLine, next_centre, is_home}
 use Rattle.rbc_spec.specs.Place.{Place, covered, group_start, place_on}
 use Rattle.rbc_spec.specs.Message.{TrainMessage, TrainBody, Request}
-use Rattle.rbc_spec.specs.Frame.{Frame}
+use Rattle.rbc_spec.specs.Frame.{Frame, Body}
 use Rattle.rbc_spec.specs.Outcome.{Reason, Taken as LinkAnswer, Next, Old, Early, NoLink}
 use Rattle.rbc_spec.specs.Centre.{Centre, Mission, beginning, is_free, is_open}
 use Rattle.rbc_spec.specs.Acts.{Act, Reply, hear, rest, begun, part_at, set_mission, ◌>>◌}
@@ -18,9 +18,9 @@ use Rattle.rbc_spec.specs.Step as step
 use Rattle.rbc_spec.specs.Step.{Event, Train, Set, Unset, Deliver, stamp_of, link_answer, taken_by, set, unset, hear_and_answer}
 use Rattle.law_base.proofs.Runs.{each_within}
 use Rattle.law_local.proofs.Ordered.{is_ordered}
-use Rattle.law_walk.proofs.Moves.{May, still, speaking, MayBegin, waited, all_free, Turn, closes, begins, grows, clears, cuts, comes, Change, no_mission, recalls, hands, restarts, Move, sets, changes, Walk, of_walk}
+use Rattle.law_walk.proofs.Moves.{May, still, setting, MayBegin, waited, all_free, Turn, closes, begins, grows, clears, cuts, comes, Change, no_mission, recalls, hands, restarts, Move, sets, changes, Answer, nothing_waits, Closed, Walk, of_walk}
 use Rattle.law_walk.proofs.Messages.{may_do, ask_if_walks, answered_walks}
-use Rattle.law_walk.proofs.Frames.{frame_may, received_walks}
+use Rattle.law_walk.proofs.Frames.{frame_may, of_taking, received_taking}
 use Rattle.law_walk.proofs.Steps.{set_walks, unset_walks}
 use Rattle.law_centre.proofs.Places.{placed_on}
 use Rattle.law_network.specs.Counts.{wait_has}
@@ -97,8 +97,16 @@ module _ (line : Line) (ok : IsLine line) (c : ℕ) where
     unfolding ◌>>◌
     joins a b k one two old = two (one old)
 
+    closed : Closed line c may was Keeps
+    closed = record { moves = moves; joins = joins }
+
     of_moves : (k : Centre) (q : Reply) → Walk line c may was k q → Keeps k q
-    of_moves = of_walk line c may was Keeps (record { moves = moves; joins = joins })
+    of_moves = of_walk line c may was Keeps closed
+
+    -- no answer touches a mission
+    answers : (d : ℕ) (body : Body) (q : Reply) → Answer line c may was d body q → Keeps was q
+    answers d _ _ (nothing_waits t asked none) old = old
+    answers d body q answer old = old
 
   -- ## Messages
 
@@ -107,7 +115,7 @@ module _ (line : Line) (ok : IsLine line) (c : ℕ) where
     message_all m (Request position) old = by_mission (was.mission m.nid_engine) refl
       where
         asks : (e : ℕ) (i : Centre) → H i → H (ask_route_if_due line m.nid_engine e i).state
-        asks e i = of_moves still refl was facts i (ask_route_if_due line m.nid_engine e i) (ask_if_walks line c still was m.nid_engine e i)
+        asks e i = of_moves (still m.nid_engine) refl was facts i (ask_route_if_due line m.nid_engine e i) (ask_if_walks line c (still m.nid_engine) was m.nid_engine refl e i)
 
         by_place : (n : Mission) → was.mission m.nid_engine ≡ Some n → (o : Option Place) → place_on line n.place.track position ≡ o
             → H (option_map_or (λ place. grant line c m.nid_engine (record n { place = place })) o rest was).state
@@ -118,7 +126,7 @@ module _ (line : Line) (ok : IsLine line) (c : ℕ) where
             → H (option_map_or (λ n. option_map_or (λ place. grant line c m.nid_engine (record n { place = place })) (place_on line n.place.track position) rest was) o (rest was)).state
         by_mission None none = old
         by_mission (Some n) at = by_place n at (place_on line n.place.track position) refl
-    message_all m body old = of_moves (may_do body) refl was facts was (answered line c m body was) (answered_walks line c was m body) old
+    message_all m body old = of_moves (may_do m.nid_engine body) refl was facts was (answered line c m body was) (answered_walks line c was m body) old
 
   -- ## A step
 
@@ -130,7 +138,8 @@ module _ (line : Line) (ok : IsLine line) (c : ℕ) where
 
   taken_all : (d : ℕ) (f : Frame) (answer : LinkAnswer) (k : Centre) → Facts k → H k → H (taken_by line c d f answer k).state
   unfolding ◌>>◌
-  taken_all d f Next k facts old = let j = record k { taken = put k.taken d f.number } in of_moves (frame_may f.body) refl j facts j (received line c d f.body j) (received_walks line c d j f.body) old
+  taken_all d f Next k facts old = let j = record k { taken = put k.taken d f.number } in
+      of_taking line c d j f.body Keeps (closed (frame_may f.body) refl j facts) (answers (frame_may f.body) refl j facts d f.body) (received line c d f.body j) (received_taking line c d j f.body) old
   taken_all d f Old k facts old = old
   taken_all d f Early k facts old = old
   taken_all d f NoLink k facts old = old
@@ -140,8 +149,8 @@ module _ (line : Line) (ok : IsLine line) (c : ℕ) where
 
   step_fits : (k : Centre) (event : Event) → IsCentreSound line c k → H k → H (left_by line c k event)
   step_fits k (Train m) sound old = train_all m (step.ticked (stamp_of k (Train m)) k) (facts_of k sound) old (step.silence line c (step.ticked (stamp_of k (Train m)) k) m)
-  step_fits k (Set s) sound old = let j = step.ticked (stamp_of k (Set s)) k in of_moves speaking refl j (facts_of k sound) j (set line c s j) (set_walks line c speaking j refl s j) old
-  step_fits k (Unset s) sound old = let j = step.ticked (stamp_of k (Unset s)) k in of_moves speaking refl j (facts_of k sound) j (unset line c s j) (unset_walks line c speaking j refl s j) old
+  step_fits k (Set s) sound old = let j = step.ticked (stamp_of k (Set s)) k in of_moves setting refl j (facts_of k sound) j (set line c s j) (set_walks line c setting j refl s j) old
+  step_fits k (Unset s) sound old = let j = step.ticked (stamp_of k (Unset s)) k in of_moves setting refl j (facts_of k sound) j (unset line c s j) (unset_walks line c setting j refl s j) old
   step_fits k (Deliver d f) sound old = let j = step.ticked (stamp_of k (Deliver d f)) k in taken_all d f (link_answer line c j d f) j (facts_of k sound) old
 
   pub step_announces : (k : Centre) (event : Event) → IsCentreSound line c k → AnnouncesAll line c k → AnnouncesAll line c (left_by line c k event)

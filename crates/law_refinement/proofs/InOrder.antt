@@ -23,8 +23,7 @@ use Rattle.rbc_spec.specs.Step.{Train, taken, link_answer, taken_by, effect, set
 use Rattle.rbc_spec.specs.Run.{TellsInOrder}
 use Rattle.law_runs.proofs.InOrder.{none_in_order, one_in_order, range_in_order, ranges_in_order}
 use Rattle.law_walk.proofs.Messages.{may_do, answered_walks}
-use Rattle.law_walk.proofs.Frames.{frame_may, received_walks}
-use Rattle.law_refinement.proofs.Words.{Tells, IsNone, IsSilent, silent, both, branch, when, of_some, of_option, cancel_silent, close_silent, end_silent, wished_silent}
+use Rattle.law_refinement.proofs.Words.{Tells, IsNone, IsSilent, silent, silent_frame, both, branch, when, of_some, of_option, cancel_silent, close_silent, end_silent, wished_silent}
 
 abbrev pub IsOrdered : Act → Type 0
 IsOrdered act = Tells TellsInOrder act
@@ -185,7 +184,7 @@ module _ (line : Line) (c : ℕ) where
   answered_in_order m (EndOfMission position) = end_in_order line c m.nid_engine position
   answered_in_order m InitiationOfSession = then_none _ _ (then_none _ _ (close_session_in_order line c m.nid_engine) (record { each = λ k. refl })) (record { each = λ k. refl })
   answered_in_order m TerminationOfSession = then_none _ _ (close_session_in_order line c m.nid_engine) (record { each = λ k. refl })
-  answered_in_order m body = quiet (answered line c m body) (record { each = λ k. silent line c (may_do body) refl k k (answered line c m body k) (answered_walks line c k m body) })
+  answered_in_order m body = quiet (answered line c m body) (record { each = λ k. silent line c (may_do m.nid_engine body) refl k k (answered line c m body k) (answered_walks line c k m body) })
 
   trains : (t : ℕ) (act : Act) → IsOrdered act → IsOrdered (of_train line t act)
   trains t act tells = branch TellsInOrder none_in_order (is_train line t) act rest tells (quiet rest (record { each = λ k. refl }))
@@ -202,7 +201,7 @@ module _ (line : Line) (c : ℕ) where
   received_in_order d (RefuseRight t) = trains t (right_refused line c t) (refused_in_order t)
   received_in_order d (RouteReturn t r) = trains t (if all_of (λ s. is_some (section line s)) r then route_returned line c t r else rest)
       (branch TellsInOrder none_in_order (all_of (λ s. is_some (section line s)) r) (route_returned line c t r) rest (home_in_order d t r) (quiet rest (record { each = λ k. refl })))
-  received_in_order d body = quiet (received line c d body) (record { each = λ k. silent line c (frame_may body) refl k k (received line c d body k) (received_walks line c d k body) })
+  received_in_order d body = quiet (received line c d body) (silent_frame line c d body refl)
 
   set_in_order : (s : ℕ) → IsOrdered (set line c s)
   set_in_order s = record { each = λ k. by_home k (not (is_home line c s)) }

@@ -2,13 +2,15 @@
 use Rattle.std.proofs.Common.{◌≡◌, ℕ, Bool, true, false, if◌then◌else◌, Option, Some, None, refl, ap, ◌∙◌, List, [], ◌++◌}
 use Rattle.std.specs.Option.{option_map_or}
 use Rattle.rbc_spec.specs.Line.{Line}
+use Rattle.rbc_spec.specs.Frame.{Body}
 use Rattle.rbc_spec.specs.Outcome.{Word}
-use Rattle.rbc_spec.specs.Centre.{Centre, Entry, Mission}
-use Rattle.rbc_spec.specs.Acts.{Act, Reply, rest, ◌>>◌, where_so, with_some, cancel, close, end_order}
+use Rattle.rbc_spec.specs.Centre.{Centre, Entry, Shut, Open, Taken, Out, Mission}
+use Rattle.rbc_spec.specs.Acts.{Act, Reply, rest, ◌>>◌, where_so, with_some, cancel, close, propose_if_so, end_order}
+use Rattle.rbc_spec.specs.Links.{received}
 use Rattle.rbc_spec.specs.Step.{wished}
-use Rattle.law_walk.proofs.Moves.{May, still, Move, tells, frees, Walk, of_walk}
-use Rattle.law_walk.proofs.Acts.{close_walks, end_order_walks}
-use Rattle.law_walk.proofs.Steps.{wished_walks}
+use Rattle.law_walk.proofs.Moves.{May, still, Move, tells, frees, Answer, drops, Walk, of_walk}
+use Rattle.law_walk.proofs.Acts.{close_walks, end_order_walks, propose_if_walks}
+use Rattle.law_walk.proofs.Frames.{frame_speaks, frame_may, of_taking, received_taking}
 
 -- each of its words, whatever the centre is in, is as P says
 pub record Tells (P : List Word → Type 0) (act : Act) : Type 0 where
@@ -67,14 +69,27 @@ module _ (line : Line) (c : ℕ) where
   pub silent : (may : May) → may.speaks ≡ false → (was k : Centre) (q : Reply) → Walk line c may was k q → IsNone q.words
   silent may quiet was = of_walk line c may was NoWords (record { moves = moves may quiet was; joins = joins })
 
+  -- and so is an answer
+  answers : (may : May) → may.speaks ≡ false → (was : Centre) (d : ℕ) (body : Body) (q : Reply) → Answer line c may was d body q → NoWords was q
+  answers may quiet was d _ _ (drops t place so asked waits) = cc
+  answers may quiet was d body q answer = refl
+
+  pub silent_frame : (d : ℕ) (body : Body) → frame_speaks body ≡ false → IsSilent (received line c d body)
+  silent_frame d body quiet = record {
+    each = λ k. of_taking line c d k body NoWords (record { moves = moves (frame_may body) quiet k; joins = joins }) (answers (frame_may body) quiet k d body) (received line c d body k) (received_taking line c d k body);
+  }
+
   pub close_silent : (t : ℕ) (m : Mission) → IsSilent (close line c t m)
-  close_silent t m = record { each = λ k. silent still refl k k (close line c t m k) (close_walks line c still k t m k) }
+  close_silent t m = record { each = λ k. silent (still t) refl k k (close line c t m k) (close_walks line c (still t) k t refl m k) }
 
   pub cancel_silent : (t : ℕ) (m : Mission) → IsSilent (cancel t m)
   cancel_silent t m = of_option IsNone refl m.handing _ _ (λ h. both _ _ (record { each = λ k. refl }) (record { each = λ k. refl })) (record { each = λ k. refl })
 
   pub end_silent : (t : ℕ) → IsSilent (end_order line c t)
-  end_silent t = record { each = λ k. silent still refl k k (end_order line c t k) (end_order_walks line c still k t k) }
+  end_silent t = record { each = λ k. silent (still t) refl k k (end_order line c t k) (end_order_walks line c (still t) k t k) }
 
   pub wished_silent : (s : ℕ) (e : Entry) → IsSilent (wished line c s e)
-  wished_silent s e = record { each = λ k. silent still refl k k (wished line c s e k) (wished_walks line c still k s e k) }
+  wished_silent s Shut = record { each = λ k. refl }
+  wished_silent s Open = record { each = λ k. refl }
+  wished_silent s (Taken t) = record { each = λ k. silent (still t) refl k k (propose_if_so line t s k) (propose_if_walks line c (still t) k t s k) }
+  wished_silent s (Out t) = record { each = λ k. refl }

@@ -1,5 +1,5 @@
 -- What a train's message comes to is a walk.
-use Rattle.std.proofs.Common.{◌≡◌, ℕ, ◌+◌, ◌-◌, ◌*◌, ◌==◌, ◌&&◌, Bool, true, false, not, if◌then◌else◌, Option, Some, None, is_none, nat_lt, nat_le, min, option_map, refl, sym, ap, ◌∙◌, subst}
+use Rattle.std.proofs.Common.{◌≡◌, ℕ, ◌+◌, ◌-◌, ◌*◌, ◌==◌, ◌&&◌, Bool, true, false, not, if◌then◌else◌, Option, Some, None, is_none, nat_lt, nat_le, option_map, refl, sym, ap, ◌∙◌, subst}
 use Rattle.std.specs.Option.{option_map_or}
 use Rattle.std.proofs.lemmas.Bool.{and_parts}
 use Rattle.std.proofs.lemmas.Option.{same_Some}
@@ -9,16 +9,17 @@ use Rattle.rbc_spec.specs.Line.{Line, is_home, end, next_centre, registrar}
 use Rattle.rbc_spec.specs.Sections.{is_on}
 use Rattle.rbc_spec.specs.Place.{Place, Position, covered, place_on, fit_place}
 use Rattle.rbc_spec.specs.Message.{TrainMessage, TrainBody, TrainData, Request, Report, ShorteningGranted, ShorteningRejected, EndOfMission, InitiationOfSession, TerminationOfSession, StartOfMission, SessionEstablished, Authority, DataAcknowledged, SystemVersion, TerminationAcknowledged, unknown_group}
-use Rattle.rbc_spec.specs.Frame.{RouteAsk, AskRight}
+use Rattle.rbc_spec.specs.Frame.{AskRight}
 use Rattle.rbc_spec.specs.Centre.{Centre, Handing, Taken, Opened, Up, Mission, Proposal, is_open, is_free, is_registrar_of}
 use Rattle.rbc_spec.specs.Acts.{Act, become, rest, ◌>>◌, where_so, with_some, send, say, booked, leave, set_mission, change_mission, return_pool, cancel, close, part_at, announce, ask_route}
 use Rattle.rbc_spec.specs.Rules.{accept, reject, begin, restart, start_here, start_waiting, start_new, start_mission, authority, extension, extended_by, announce_if_due, ask_route_if_due, at_border, grant, request, cleared, clear, report_here, take_over, report, cut, granted, answer_granted, stand_still, end_mission, close_session, set_phase, answered}
+use Rattle.law_base.proofs.Lists.{none_is}
 use Rattle.law_base.proofs.Puts.{put_there}
 use Rattle.law_base.proofs.Standstill.{rests_or_cuts}
-use Rattle.law_walk.proofs.Moves.{May, still, asking, speaking, MayBegin, all_free, recalls, joined, says, sends, takes_over, books, phases, waits, rights, asks_right, asks_route, sets, changes, grows, clears, cuts, no_proposal, data_known, ends, restarts, Walk, Walks, step, resting, both, by_bool, by_option, branch, if_some, chosen, when, with}
+use Rattle.law_walk.proofs.Moves.{May, still, asking, speaking, MayBegin, all_free, recalls, joined, says, takes_over, books, phases, waits, rights, asks_right, asks_route, sets, changes, grows, clears, cuts, no_proposal, data_known, ends, restarts, Walk, Walks, step, resting, both, by_bool, by_option, branch, if_some, chosen, when, with}
 use Rattle.law_walk.proofs.Acts.{leave_walks, return_pool_walks, cancel_walks, close_walks, announce_walks, close_session_walks, accept_walks, reject_walks, begin_walks}
 
-module _ (line : Line) (c : ℕ) (may : May) (was : Centre) (t : ℕ) where
+module _ (line : Line) (c : ℕ) (may : May) (was : Centre) (t : ℕ) (its : may.train ≡ Some t) where
   abbrev Goes : Act → Type 0
   Goes act = Walks line c may was act
 
@@ -37,16 +38,26 @@ module _ (line : Line) (c : ℕ) (may : May) (was : Centre) (t : ℕ) where
   start_here_walks place why = chosen line c may was (λ k. k.has_right t) ((booked is_open (Taken t) (covered line place) >> become (λ k. record k { has_right = put k.has_right t false })) >> begin line t place) (reject t)
       (both line c may was (booked is_open (Taken t) (covered line place) >> become (λ k. record k { has_right = put k.has_right t false })) (begin line t place)
       (both line c may was (booked is_open (Taken t) (covered line place)) (become (λ k. record k { has_right = put k.has_right t false }))
-      (λ k. step line c may was (books is_open (Taken t) (covered line place) k)) (λ k. step line c may was (rights t false k))) (begin_walks line c may was t place why)) (reject_walks line c may was t)
+      (λ k. step line c may was (books is_open t (covered line place) k)) (λ k. step line c may was (rights t false k))) (begin_walks line c may was t place why)) (reject_walks line c may was t)
+
+  -- a start waits at a place; the right is asked for, where it was not
+  abbrev waits_at : Place → Act
+  waits_at place = become (λ k. record k { wait = put k.wait t (Some place) })
+
+  abbrev asking_for : Option ℕ → Act
+  asking_for to = option_map_or (λ r. send r (AskRight t)) to rest >> become (λ k. record k { has_asked = put k.has_asked t true })
+
+  waits_walks : (place : Place) (k : Centre) (b : Bool) → k.has_asked t ≡ b → (to : Option ℕ) → registrar line t ≡ to
+      → Walk line c may was k ((waits_at place >> where_so (λ j. not (j.has_asked t)) (asking_for to)) k)
+  unfolding ◌>>◌
+  waits_walks place k true asked to is = rw asked (step line c may was (waits t place k asked))
+  waits_walks place k false unasked None is = rw unasked (step line c may was (asks_right t place None k its is unasked))
+  waits_walks place k false unasked (Some r) is = rw unasked (step line c may was (asks_right t place (Some r) k its is unasked))
 
   start_waiting_walks : (place : Place) → Goes (start_waiting line t place)
-  start_waiting_walks place = both line c may was (booked is_open (Taken t) (covered line place) >> become (λ k. record k { wait = put k.wait t (Some place) }))
-      (where_so (λ k. not (k.has_asked t)) (option_map_or (λ r. send r (AskRight t)) (registrar line t) rest >> become (λ k. record k { has_asked = put k.has_asked t true })))
-      (both line c may was (booked is_open (Taken t) (covered line place)) (become (λ k. record k { wait = put k.wait t (Some place) }))
-      (λ k. step line c may was (books is_open (Taken t) (covered line place) k)) (λ k. step line c may was (waits t (Some place) k)))
-      (when line c may was (λ k. not (k.has_asked t)) (option_map_or (λ r. send r (AskRight t)) (registrar line t) rest >> become (λ k. record k { has_asked = put k.has_asked t true }))
-      (both line c may was (option_map_or (λ r. send r (AskRight t)) (registrar line t) rest) (become (λ k. record k { has_asked = put k.has_asked t true }))
-      (if_some line c may was (registrar line t) (λ r. send r (AskRight t)) rest (λ r k. step line c may was (sends r (AskRight t) k)) (resting line c may was)) (λ k. step line c may was (asks_right t true k))))
+  unfolding ◌>>◌
+  start_waiting_walks place k = joined (booked is_open (Taken t) (covered line place)) (waits_at place >> where_so (λ j. not (j.has_asked t)) (asking_for (registrar line t))) k
+      (step line c may was (books is_open t (covered line place) k)) (waits_walks place (booked is_open (Taken t) (covered line place) k).state (k.has_asked t) refl (registrar line t) refl)
 
   start_new_walks : (place : Place) → Walk line c may was was (start_new line c t place was)
   start_new_walks place = by_bool line c may was (all_of (is_free line c was) (covered line place)) ((if is_registrar_of line c t then start_here line t place else start_waiting line t place) was) (reject t was) was
@@ -61,16 +72,19 @@ module _ (line : Line) (c : ℕ) (may : May) (was : Centre) (t : ℕ) where
 
   announce_if_walks : may.announces ≡ true → (d : ℕ) → Goes (announce_if_due line t d)
   announce_if_walks so d = with line c may was (λ k. k.mission t) (λ m. where_so (λ k. is_none m.handing && not (is_empty (part_at line d m.place.track m.hand))) (announce line t m.place.group d m))
-      (λ k m has. when line c may was (λ k. is_none m.handing && not (is_empty (part_at line d m.place.track m.hand))) (announce line t m.place.group d m) (announce_walks line c may was t so m.place.group d m) k)
+      (λ k m has. when line c may was (λ k. is_none m.handing && not (is_empty (part_at line d m.place.track m.hand))) (announce line t m.place.group d m) (announce_walks line c may was t its so m.place.group d m) k)
 
   abbrev may_ask : ℕ → Mission → Centre → Bool
   may_ask d m k = ((is_home line d (behind m.hand) && is_on line m.place.track (behind m.hand)) && nat_lt m.hand.count most_in_hand) && (is_empty m.pool && is_none (k.route_ask t))
 
   -- more sections are asked for where the pool is empty
   ask_walks : (d : ℕ) (m : Mission) (k : Centre) → k.mission t ≡ Some m → may_ask d m k ≡ true → Walk line c may was k (ask_route t d m k)
-  ask_walks d m k has due = joined (send d (RouteAsk t (behind m.hand) (min (most_in_hand - m.hand.count) (512 - behind m.hand)))) (become (λ j. record j { route_ask = put j.route_ask t (Some (behind m.hand)) })) k
-      (step line c may was (sends d (RouteAsk t (behind m.hand) (min (most_in_hand - m.hand.count) (512 - behind m.hand))) k))
-      (step line c may was (asks_route t (behind m.hand) m k has (and_parts (is_empty m.pool) (is_none (k.route_ask t)) (and_parts _ (is_empty m.pool && is_none (k.route_ask t)) due).1).0))
+  unfolding ◌>>◌
+  ask_walks d m k has due =
+      let both = and_parts ((is_home line d (behind m.hand) && is_on line m.place.track (behind m.hand)) && nat_lt m.hand.count most_in_hand) (is_empty m.pool && is_none (k.route_ask t)) due in
+      let none = and_parts (is_empty m.pool) (is_none (k.route_ask t)) both.1 in
+      let there = and_parts (is_home line d (behind m.hand)) (is_on line m.place.track (behind m.hand)) (and_parts _ (nat_lt m.hand.count most_in_hand) both.0).0 in
+      step line c may was (asks_route t d m k its has none.0 there.0 (none_is (k.route_ask t) none.1))
 
   pub ask_if_walks : (d : ℕ) → Goes (ask_route_if_due line t d)
   ask_if_walks d = with line c may was (λ k. k.mission t) (λ m. where_so (may_ask d m) (ask_route t d m))
@@ -83,7 +97,7 @@ module _ (line : Line) (c : ℕ) (may : May) (was : Centre) (t : ℕ) where
       let r = extension line c k n in
       joined ((booked is_open (Taken t) r >> set_mission t (Some (extended_by r n))) >> say t n.place.group (Authority (authority line (extended_by r n)))) (option_map_or (at_border line c t) (next_centre line c n.place.track) rest) k
       (joined (booked is_open (Taken t) r >> set_mission t (Some (extended_by r n))) (say t n.place.group (Authority (authority line (extended_by r n)))) k
-      (joined (booked is_open (Taken t) r) (set_mission t (Some (extended_by r n))) k (step line c may was (books is_open (Taken t) r k)) (step line c may was (sets t (Some (extended_by r n)) (booked is_open (Taken t) r k).state (grows m place r so has))))
+      (joined (booked is_open (Taken t) r) (set_mission t (Some (extended_by r n))) k (step line c may was (books is_open t r k)) (step line c may was (sets t (Some (extended_by r n)) (booked is_open (Taken t) r k).state (grows m place r so has))))
       (step line c may was (says t n.place.group (Authority (authority line (extended_by r n))) _)))
       (if_some line c may was (next_centre line c n.place.track) (at_border line c t) rest (λ d. both line c may was (announce_if_due line t d) (ask_route_if_due line t d) (announce_if_walks so d) (ask_if_walks d)) (resting line c may was) _)
 
@@ -103,9 +117,9 @@ module _ (line : Line) (c : ℕ) (may : May) (was : Centre) (t : ℕ) where
     where
       of_count : (b : Bool) → Walk line c may was k ((if b then (leave line c t m.place.track (joined_runs m.hand m.pool) >> close line c t m)
           else (leave line c t m.place.track (cleared line place m) >> set_mission t (Some (record m { place = place; hand = part_from (behind (cleared line place m)) m.hand })))) k)
-      of_count true = joined (leave line c t m.place.track (joined_runs m.hand m.pool)) (close line c t m) k (leave_walks line c may was t so m.place.track (joined_runs m.hand m.pool) k) (close_walks line c may was t m _)
+      of_count true = joined (leave line c t m.place.track (joined_runs m.hand m.pool)) (close line c t m) k (leave_walks line c may was t its so m.place.track (joined_runs m.hand m.pool) k) (close_walks line c may was t its m _)
       of_count false = joined (leave line c t m.place.track (cleared line place m)) (set_mission t (Some (record m { place = place; hand = part_from (behind (cleared line place m)) m.hand }))) k
-          (leave_walks line c may was t so m.place.track (cleared line place m) k)
+          (leave_walks line c may was t its so m.place.track (cleared line place m) k)
           (step line c may was (sets t (Some (record m { place = place; hand = part_from (behind (cleared line place m)) m.hand })) (leave line c t m.place.track (cleared line place m) k).state (clears m place (cleared line place m) position has placed)))
 
   report_here_walks : may.speaks ≡ true → (position : Position) (m : Mission) (k : Centre) → k.mission t ≡ Some m → Walk line c may was k (report_here line c t position m k)
@@ -116,7 +130,7 @@ module _ (line : Line) (c : ℕ) (may : May) (was : Centre) (t : ℕ) where
       by_place (Some place) placed = clear_walks so m place position k has placed
 
   report_walks : may.speaks ≡ true → (position : Position) → Goes (report line c t position)
-  report_walks so position k = by_option line c may was (k.mission t) (λ m. report_here line c t position m k) (take_over line t k) k (λ m has. report_here_walks so position m k has) (step line c may was (takes_over t k))
+  report_walks so position k = by_option line c may was (k.mission t) (λ m. report_here line c t position m k) (take_over line t k) k (λ m has. report_here_walks so position m k has) (step line c may was (takes_over t k its))
 
   -- ## Shortening
 
@@ -130,7 +144,7 @@ module _ (line : Line) (c : ℕ) (may : May) (was : Centre) (t : ℕ) where
   cut_walks : may.speaks ≡ true → (last_kept : ℕ) (m n : Mission) (k : Centre) → k.mission t ≡ Some n → record n { proposal = None } ≡ record m { proposal = None } → Walk line c may was k (cut line c t last_kept m k)
   unfolding ◌>>◌
   cut_walks so last_kept m n k has same = joined (leave line c t m.place.track (joined_runs tail m.pool)) (if tail.count == m.hand.count then close line c t m else (set_mission t (Some kept) >> cancels m last_kept m.handing)) k
-      (leave_walks line c may was t so m.place.track (joined_runs tail m.pool) k) (by_count (tail.count == m.hand.count))
+      (leave_walks line c may was t its so m.place.track (joined_runs tail m.pool) k) (by_count (tail.count == m.hand.count))
     where
       tail : SectionRun
       tail = part_from (last_kept + 1) m.hand
@@ -142,7 +156,7 @@ module _ (line : Line) (c : ℕ) (may : May) (was : Centre) (t : ℕ) where
       left = (leave line c t m.place.track (joined_runs tail m.pool) k).state
 
       by_part : (h : Handing) → m.handing ≡ Some h → (b : Bool) → is_empty (part_at line h.to m.place.track kept.hand) ≡ b → Walk line c may was (set_mission t (Some kept) left).state ((if b then cancel t kept else rest) (set_mission t (Some kept) left).state)
-      by_part h stands true none = cancel_walks line c may was t kept (set_mission t (Some kept) left).state
+      by_part h stands true none = cancel_walks line c may was t its kept (set_mission t (Some kept) left).state
           (λ g is. recalls kept g (put_there left.mission t (Some kept)) is (subst (λ (x : Handing). is_empty (part_at line x.to m.place.track kept.hand) ≡ true) (same_Some h g (sym stands ∙ is)) none))
       by_part h stands false some = resting line c may was (set_mission t (Some kept) left).state
 
@@ -151,7 +165,7 @@ module _ (line : Line) (c : ℕ) (may : May) (was : Centre) (t : ℕ) where
       by_handing (Some h) stands = by_part h stands (is_empty (part_at line h.to m.place.track kept.hand)) refl
 
       by_count : (b : Bool) → Walk line c may was left ((if b then close line c t m else (set_mission t (Some kept) >> cancels m last_kept m.handing)) left)
-      by_count true = close_walks line c may was t m left
+      by_count true = close_walks line c may was t its m left
       by_count false = joined (set_mission t (Some kept)) (cancels m last_kept m.handing) left (step line c may was (sets t (Some kept) left (cuts m n last_kept has same))) (by_handing m.handing refl)
 
   granted_walks : may.speaks ≡ true → (position : Position) (m : Mission) (p : Proposal) (k : Centre) → k.mission t ≡ Some m → Walk line c may was k (granted line c t position m p k)
@@ -186,7 +200,7 @@ module _ (line : Line) (c : ℕ) (may : May) (was : Centre) (t : ℕ) where
       (with line c may was (λ k. k.mission t) (stand_still line c t position)
       (λ k m has. rests_or_cuts (λ act. Walk line c may was k (act k)) line c t position m (resting line c may was k) (λ n some fits. cut_walks so (m.hand.first + n - 1) m m k has refl))))
       (with line c may was (λ k. k.mission t) (λ m. return_pool line c t m >> change_mission t (λ n. record n { is_ended = true; proposal = None }))
-      (λ k m has. both line c may was (return_pool line c t m) (change_mission t (λ n. record n { is_ended = true; proposal = None })) (return_pool_walks line c may was t m)
+      (λ k m has. both line c may was (return_pool line c t m) (change_mission t (λ n. record n { is_ended = true; proposal = None })) (return_pool_walks line c may was t its m)
       (λ j. step line c may was (changes t (λ n. record n { is_ended = true; proposal = None }) j ends)) k))
 
 -- ## A train's message
@@ -205,22 +219,22 @@ may_speak InitiationOfSession = true
 may_speak TerminationOfSession = true
 may_speak body = false
 
-abbrev pub may_do : TrainBody → May
-may_do body = record { announces = may_announce body; speaks = may_speak body }
+abbrev pub may_do : ℕ → TrainBody → May
+may_do t body = record { announces = may_announce body; speaks = may_speak body; train = Some t }
 
 module _ (line : Line) (c : ℕ) (was : Centre) where
-  pub answered_walks : (m : TrainMessage) (body : TrainBody) → Walk line c (may_do body) was was (answered line c m body was)
+  pub answered_walks : (m : TrainMessage) (body : TrainBody) → Walk line c (may_do m.nid_engine body) was was (answered line c m body was)
   answered_walks m (TrainData position) = joined (change_mission m.nid_engine (λ n. record n { has_data = true })) (say m.nid_engine unknown_group (DataAcknowledged m.t_train)) was
-      (step line c still was (changes m.nid_engine (λ n. record n { has_data = true }) was data_known)) (step line c still was (says m.nid_engine unknown_group (DataAcknowledged m.t_train) _))
-  answered_walks m (Request position) = request_walks line c asking was m.nid_engine refl position was
-  answered_walks m (Report position) = report_walks line c speaking was m.nid_engine refl position was
-  answered_walks m (ShorteningGranted stamp position) = answer_granted_walks line c speaking was m.nid_engine refl position was
-  answered_walks m (ShorteningRejected stamp position) = step line c still was (changes m.nid_engine (λ n. record n { proposal = None }) was no_proposal)
-  answered_walks m (EndOfMission position) = end_mission_walks line c speaking was m.nid_engine refl position was
-  answered_walks m InitiationOfSession = both line c speaking was (close_session line c m.nid_engine >> set_phase m.nid_engine Opened) (say m.nid_engine unknown_group SystemVersion)
-      (both line c speaking was (close_session line c m.nid_engine) (set_phase m.nid_engine Opened) (close_session_walks line c speaking was m.nid_engine refl) (λ k. step line c speaking was (phases m.nid_engine Opened k)))
-      (λ k. step line c speaking was (says m.nid_engine unknown_group SystemVersion k)) was
-  answered_walks m TerminationOfSession = both line c speaking was (close_session line c m.nid_engine) (say m.nid_engine unknown_group TerminationAcknowledged) (close_session_walks line c speaking was m.nid_engine refl)
-      (λ k. step line c speaking was (says m.nid_engine unknown_group TerminationAcknowledged k)) was
-  answered_walks m (StartOfMission is_valid position) = start_mission_walks line c still was m.nid_engine is_valid position
-  answered_walks m SessionEstablished = step line c still was (phases m.nid_engine Up was)
+      (step line c (still m.nid_engine) was (changes m.nid_engine (λ n. record n { has_data = true }) was data_known)) (step line c (still m.nid_engine) was (says m.nid_engine unknown_group (DataAcknowledged m.t_train) _))
+  answered_walks m (Request position) = request_walks line c (asking m.nid_engine) was m.nid_engine refl refl position was
+  answered_walks m (Report position) = report_walks line c (speaking m.nid_engine) was m.nid_engine refl refl position was
+  answered_walks m (ShorteningGranted stamp position) = answer_granted_walks line c (speaking m.nid_engine) was m.nid_engine refl refl position was
+  answered_walks m (ShorteningRejected stamp position) = step line c (still m.nid_engine) was (changes m.nid_engine (λ n. record n { proposal = None }) was no_proposal)
+  answered_walks m (EndOfMission position) = end_mission_walks line c (speaking m.nid_engine) was m.nid_engine refl refl position was
+  answered_walks m InitiationOfSession = both line c (speaking m.nid_engine) was (close_session line c m.nid_engine >> set_phase m.nid_engine Opened) (say m.nid_engine unknown_group SystemVersion)
+      (both line c (speaking m.nid_engine) was (close_session line c m.nid_engine) (set_phase m.nid_engine Opened) (close_session_walks line c (speaking m.nid_engine) was m.nid_engine refl) (λ k. step line c (speaking m.nid_engine) was (phases m.nid_engine Opened k)))
+      (λ k. step line c (speaking m.nid_engine) was (says m.nid_engine unknown_group SystemVersion k)) was
+  answered_walks m TerminationOfSession = both line c (speaking m.nid_engine) was (close_session line c m.nid_engine) (say m.nid_engine unknown_group TerminationAcknowledged) (close_session_walks line c (speaking m.nid_engine) was m.nid_engine refl)
+      (λ k. step line c (speaking m.nid_engine) was (says m.nid_engine unknown_group TerminationAcknowledged k)) was
+  answered_walks m (StartOfMission is_valid position) = start_mission_walks line c (still m.nid_engine) was m.nid_engine refl is_valid position
+  answered_walks m SessionEstablished = step line c (still m.nid_engine) was (phases m.nid_engine Up was)

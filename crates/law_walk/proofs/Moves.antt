@@ -1,32 +1,37 @@
 -- The small moves that each act of a centre is made of, and walks: one move after another.
-use Rattle.std.proofs.Common.{◌≡◌, ℕ, ◌+◌, Bool, true, false, if◌then◌else◌, Option, Some, None, refl}
+use Rattle.std.proofs.Common.{◌≡◌, ℕ, ◌+◌, ◌-◌, ◌==◌, Bool, true, false, if◌then◌else◌, min, List, [], ◌∷◌, ◌++◌, ◌&&◌, Option, Some, None, is_some, is_none, refl}
 use Rattle.std.specs.Option.{option_map_or}
-use Rattle.rbc_spec.specs.Maps.{put}
-use Rattle.rbc_spec.specs.SectionRuns.{SectionRun, no_run, within, is_empty, behind, part_before, part_from, all_of}
-use Rattle.rbc_spec.specs.Line.{Line}
+use Rattle.rbc_spec.specs.Maps.{put, has}
+use Rattle.rbc_spec.specs.SectionRuns.{SectionRun, no_run, most_in_hand, within, is_empty, behind, part_before, part_from, all_of}
+use Rattle.rbc_spec.specs.Line.{Line, is_home, section, registrar}
 use Rattle.rbc_spec.specs.Place.{Place, Position, covered, place_on, fit_place}
 use Rattle.rbc_spec.specs.Message.{TrackBody}
-use Rattle.rbc_spec.specs.Frame.{Body}
+use Rattle.rbc_spec.specs.Frame.{Body, YieldedPlace, AskRight, GiveRight, RefuseRight, ReturnRight, RouteAsk, RouteInfo, RouteReturn, Announce, Cancel, Yield}
 use Rattle.rbc_spec.specs.Outcome.{Word}
-use Rattle.rbc_spec.specs.Centre.{Centre, Entry, Phase, Mission, Handing, Proposal, Expectation, is_free}
+use Rattle.rbc_spec.specs.Centre.{Centre, Entry, Taken, Out, Phase, Mission, Handing, Proposal, Expectation, is_free, is_open, is_taken_for, is_out_for, is_registrar_of}
 use Rattle.rbc_spec.specs.Acts.{Act, Reply, become, rest, ◌>>◌, where_so, with_some, send, say, booked, freed, returned, set_mission, change_mission, begun, part_at}
 use Rattle.rbc_spec.specs.Rules.{tell, choose, set_phase, take_over, extended_by}
-use Rattle.rbc_spec.specs.Links.{expect, may_take}
+use Rattle.rbc_spec.specs.Links.{expect, may_take, answered_ask, is_of_line, lendable}
 use Rattle.rbc_spec.specs.Step.{withdraw, make}
 
--- what an event may do: announce a handover, and tell the interlocking something
+-- what an event may do: announce a handover, and tell the interlocking something; and the train that it is of, where it is of one
 pub record May : Type 0 where
   pub announces : Bool
   pub speaks : Bool
+  pub train : Option ℕ
 
-abbrev pub still : May
-still = record { announces = false; speaks = false }
+abbrev pub still : ℕ → May
+still t = record { announces = false; speaks = false; train = Some t }
 
-abbrev pub asking : May
-asking = record { announces = true; speaks = false }
+abbrev pub asking : ℕ → May
+asking t = record { announces = true; speaks = false; train = Some t }
 
-abbrev pub speaking : May
-speaking = record { announces = false; speaks = true }
+abbrev pub speaking : ℕ → May
+speaking t = record { announces = false; speaks = true; train = Some t }
+
+-- of a word of the interlocking
+abbrev pub setting : May
+setting = record { announces = false; speaks = true; train = None }
 
 -- why a mission may begin at a place: its start waited for the right, or the sections of the place were free
 pub data MayBegin (line : Line) (c t : ℕ) (was : Centre) (place : Place) : Type 0 where
@@ -61,28 +66,60 @@ pub data Change (line : Line) (may : May) (was : Centre) (t : ℕ) (k : Centre) 
   restarts : (m : Mission) (place : Place) (is_valid : Bool) (position : Position) → k.mission t ≡ Some m → was.mission t ≡ Some m → fit_place line is_valid position ≡ Some place
       → all_of (within m.hand) (covered line place) ≡ true → Change line may was t k (λ n. record n { place = place; has_data = false; is_ended = false; proposal = None })
 
+-- why a body may go to centre d. Questions go with what is kept of them (`asks_right`, `asks_route`), their answers are acts of their own (`Answer`),
+-- and three bodies go to many centres at once (`returns`, `withdraws`, `takes_over`)
+pub data MaySend (line : Line) (may : May) (d : ℕ) : Body → Type 0 where
+  goes_back : (t : ℕ) → may.train ≡ Some t → registrar line t ≡ Some d → MaySend line may d (ReturnRight t)
+  goes_home : (t : ℕ) (r : SectionRun) → may.train ≡ Some t → is_empty r ≡ false → all_of (is_home line d) r ≡ true → MaySend line may d (RouteReturn t r)
+  announces : (number t track : ℕ) → may.train ≡ Some t → may.announces ≡ true → MaySend line may d (Announce number t track)
+  cancels : (number t : ℕ) → may.train ≡ Some t → MaySend line may d (Cancel number t)
+  yields : (number t heard : ℕ) (has_data is_ended : Bool) (place : YieldedPlace) (hand : SectionRun) → may.train ≡ Some t
+      → MaySend line may d (Yield number t heard has_data is_ended place hand)
+
+-- sections that were asked for, of one track of the line and each of home d
+abbrev pub has_place_for_route : Line → ℕ → SectionRun → Option ℕ → Bool
+has_place_for_route line d r asked = (has (λ first. first == r.first) asked && (is_of_line line r && is_home line d r.first)) && all_of (is_home line d) r
+
+-- the body goes to a centre, where there is one
+abbrev pub to_some : Option ℕ → Body → ℕ → List Body
+to_some to body e = option_map_or (λ d. if e == d then body ∷ [] else []) to []
+
 -- the small moves of centre c, in an event that began at `was` and may do so much
 pub data Move (line : Line) (c : ℕ) (may : May) (was : Centre) : Centre → Reply → Type 0 where
   rests : (k : Centre) → Move line c may was k (rest k)
   says : (t group : ℕ) (body : TrackBody) (k : Centre) → Move line c may was k (say t group body k)
-  sends : (d : ℕ) (body : Body) (k : Centre) → Move line c may was k (send d body k)
+  sends : (d : ℕ) (body : Body) (k : Centre) → MaySend line may d body → Move line c may was k (send d body k)
   tells : (word : Word) (k : Centre) → may.speaks ≡ true → Move line c may was k (tell word k)
-  returns : (t track : ℕ) (r : SectionRun) (k : Centre) → Move line c may was k (returned line c t track r k)
-  withdraws : (t s : ℕ) (k : Centre) → Move line c may was k (withdraw line c t s k)
-  takes_over : (t : ℕ) (k : Centre) → Move line c may was k (take_over line t k)
-  books : (is_meant : Entry → Bool) (entry : Entry) (r : SectionRun) (k : Centre) → Move line c may was k (booked is_meant entry r k)
+  returns : (t track : ℕ) (r : SectionRun) (k : Centre) → may.train ≡ Some t → Move line c may was k (returned line c t track r k)
+  withdraws : (t s : ℕ) (k : Centre) → is_home line c s ≡ true → k.book s ≡ Out t → Move line c may was k (withdraw line c t s k)
+  takes_over : (t : ℕ) (k : Centre) → may.train ≡ Some t → Move line c may was k (take_over line t k)
+  books : (is_meant : Entry → Bool) (t : ℕ) (r : SectionRun) (k : Centre) → Move line c may was k (booked is_meant (Taken t) r k)
+  lends : (is_meant : Entry → Bool) (t : ℕ) (r : SectionRun) (k : Centre) → may.train ≡ Some t → Move line c may was k (booked is_meant (Out t) r k)
   frees : (is_meant : Entry → Bool) (r : SectionRun) (k : Centre) → may.speaks ≡ true → Move line c may was k (freed line c is_meant r k)
-  makes : (s : ℕ) (entry : Entry) (wish : Bool) (k : Centre) → Move line c may was k (make s entry wish k)
+  makes : (s : ℕ) (entry : Entry) (wish : Bool) (k : Centre) → ((t : ℕ) → is_out_for t entry ≡ false) → Move line c may was k (make s entry wish k)
   wishes : (s : ℕ) (wish : Bool) (k : Centre) → Move line c may was k (become (λ j. record j { wish = put j.wish s wish }) k)
   expects : (d t : ℕ) (e : Option Expectation) (k : Centre) → Move line c may was k (expect d t e k)
   hears : (t : ℕ) (x : Option ℕ) (k : Centre) → Move line c may was k (become (λ j. record j { heard = put j.heard t x }) k)
   phases : (t : ℕ) (phase : Phase) (k : Centre) → Move line c may was k (set_phase t phase k)
-  waits : (t : ℕ) (place : Option Place) (k : Centre) → Move line c may was k (become (λ j. record j { wait = put j.wait t place }) k)
+  waits : (t : ℕ) (place : Place) (k : Centre) → k.has_asked t ≡ true → Move line c may was k (become (λ j. record j { wait = put j.wait t (Some place) }) k)
+  waits_no_more : (t : ℕ) (k : Centre) → Move line c may was k (become (λ j. record j { wait = put j.wait t None }) k)
   rights : (t : ℕ) (here : Bool) (k : Centre) → Move line c may was k (become (λ j. record j { has_right = put j.has_right t here }) k)
-  asks_right : (t : ℕ) (asked : Bool) (k : Centre) → Move line c may was k (become (λ j. record j { has_asked = put j.has_asked t asked }) k)
-  asks_route : (t first : ℕ) (m : Mission) (k : Centre) → k.mission t ≡ Some m → is_empty m.pool ≡ true
-      → Move line c may was k (become (λ j. record j { route_ask = put j.route_ask t (Some first) }) k)
-  told_route : (t : ℕ) (k : Centre) → Move line c may was k (become (λ j. record j { route_ask = put j.route_ask t None }) k)
+  -- a start waits, and the right is asked for
+  asks_right : (t : ℕ) (place : Place) (to : Option ℕ) (k : Centre) → may.train ≡ Some t → registrar line t ≡ to → k.has_asked t ≡ false
+      → Move line c may was k (record {
+        state = record k { wait = put k.wait t (Some place); has_asked = put k.has_asked t true };
+        frames = λ e. to_some to (AskRight t) e ++ [];
+        sayings = [];
+        words = [];
+      })
+  -- sections behind the hand are asked for, of the home of the first
+  asks_route : (t d : ℕ) (m : Mission) (k : Centre) → may.train ≡ Some t → k.mission t ≡ Some m → is_empty m.pool ≡ true → is_home line d (behind m.hand) ≡ true → k.route_ask t ≡ None
+      → Move line c may was k (record {
+        state = record k { route_ask = put k.route_ask t (Some (behind m.hand)) };
+        frames = λ e. to_some (Some d) (RouteAsk t (behind m.hand) (min (most_in_hand - m.hand.count) (512 - behind m.hand))) e ++ [];
+        sayings = [];
+        words = [];
+      })
   counts : (number : ℕ) (k : Centre) → may.announces ≡ true → Move line c may was k (become (λ j. record j { announced = number }) k)
   sets : (t : ℕ) (o : Option Mission) (k : Centre) → Turn line c may was t k o → Move line c may was k (set_mission t o k)
   changes : (t : ℕ) (f : Mission → Mission) (k : Centre) → Change line may was t k f → Move line c may was k (change_mission t f k)
@@ -91,6 +128,38 @@ pub data Move (line : Line) (c : ℕ) (may : May) (was : Centre) : Centre → Re
 pub data Walk (line : Line) (c : ℕ) (may : May) (was : Centre) : Centre → Reply → Type 0 where
   one : (k : Centre) (q : Reply) → Move line c may was k q → Walk line c may was k q
   joined : (a b : Act) (k : Centre) → Walk line c may was k (a k) → Walk line c may was (a k).state (b (a k).state) → Walk line c may was k ((a >> b) k)
+
+-- what centre c, which was `was`, does at once with a frame of centre d that asks or answers
+pub data Answer (line : Line) (c : ℕ) (may : May) (was : Centre) (d : ℕ) : Body → Reply → Type 0 where
+  gives : (t : ℕ) → is_registrar_of line c t ≡ true → was.has_right t ≡ true → Answer line c may was d (AskRight t) (record {
+    state = record was { has_right = put was.has_right t false };
+    frames = λ e. to_some (Some d) (GiveRight t) e;
+    sayings = [];
+    words = [];
+  })
+  refuses : (t : ℕ) → is_registrar_of line c t ≡ true → Answer line c may was d (AskRight t) (send d (RefuseRight t) was)
+  begins_at : (t : ℕ) (place : Place) → was.has_asked t ≡ true → was.wait t ≡ Some place → Answer line c may was d (GiveRight t) (record {
+    state = record was { has_asked = put was.has_asked t false; wait = put was.wait t None };
+    frames = λ e. [];
+    sayings = [];
+    words = [];
+  })
+  -- nothing waits for the right, or the train has a mission
+  not_needed : (t : ℕ) → was.has_asked t ≡ true → (is_some (was.wait t) && is_none (was.mission t)) ≡ false → Answer line c may was d (GiveRight t) (answered_ask t was)
+  drops : (t : ℕ) (place : Place) → may.speaks ≡ true → was.has_asked t ≡ true → was.wait t ≡ Some place → Answer line c may was d (RefuseRight t) (record {
+    state = record (freed line c (is_taken_for t) (covered line place) was).state { has_asked = put was.has_asked t false; wait = put was.wait t None };
+    frames = λ e. [];
+    sayings = [];
+    words = (freed line c (is_taken_for t) (covered line place) was).words ++ [];
+  })
+  nothing_waits : (t : ℕ) → was.has_asked t ≡ true → was.wait t ≡ None → Answer line c may was d (RefuseRight t) (answered_ask t was)
+  lends_some : (t first most : ℕ) → is_some (section line first) ≡ true → Answer line c may was d (RouteAsk t first most) (record {
+    state = (booked is_open (Out t) (lendable line c was first most) was).state;
+    frames = λ e. to_some (Some d) (RouteInfo t (lendable line c was first most)) e;
+    sayings = [];
+    words = [];
+  })
+  told : (t : ℕ) (r : SectionRun) → has_place_for_route line d r (was.route_ask t) ≡ true → Answer line c may was d (RouteInfo t r) (become (λ j. record j { route_ask = put j.route_ask t None }) was)
 
 -- what holds of each small move, and of two acts in a row where it holds of both
 pub record Closed (line : Line) (c : ℕ) (may : May) (was : Centre) (P : Centre → Reply → Type 0) : Type 0 where
