@@ -1,5 +1,5 @@
 -- While a question for sections stands, the pool of its train's mission is empty: each step of a centre keeps that.
-use Rattle.std.proofs.Common.{◌≡◌, ◌≢◌, ℕ, ◌==◌, true, not, ◌&&◌, Option, Some, None, option_map, refl, sym, ap, ◌∙◌, subst, ⊎_elim, arith, eq-eqb, eqb-true}
+use Rattle.std.proofs.Common.{◌≡◌, ◌≢◌, ℕ, ◌+◌, ◌==◌, true, not, ◌&&◌, Option, Some, None, option_map, refl, sym, ap, ◌∙◌, subst, ⊎_elim, arith, eq-eqb, eqb-true}
 use Rattle.std.proofs.lemmas.Bool.{cases_eq, cond-true}
 use Rattle.std.proofs.lemmas.Option.{same_Some}
 use Rattle.std.proofs.Math.Bool.{and-true}
@@ -13,7 +13,7 @@ use Rattle.rbc_spec.specs.Acts.{Act, Reply, ◌>>◌, set_mission, change_missio
 use Rattle.rbc_spec.specs.Links.{is_wanted}
 use Rattle.rbc_spec.specs.Step.{Event, taken, stamp_of, ticked}
 use Rattle.law_base.proofs.Puts.{put_here, put_other}
-use Rattle.law_walk.proofs.Moves.{May, Turn, closes, begins as mission_begins, grows, clears, cuts, comes, Change, no_pool, less_pool, pools, Move, asks_route, sets, changes, Answer, told}
+use Rattle.law_walk.proofs.Moves.{May, Turn, begins as mission_begins, grows, clears, cuts, comes, Change, no_pool, less_pool, pools, hand_to, no_handover, Move, asks_route, announces, recalls, closes, closes_handed, yields, sets, changes, Answer, told}
 use Rattle.law_walk.proofs.Steps.{of_effect}
 use Rattle.law_centre.specs.Asks.{AsksForEmptyPools, follows_hand}
 
@@ -49,13 +49,12 @@ none_before s pool none = let no : pool.count ≡ 0 = eqb-true pool.count 0 none
 
 module _ (line : Line) (c : ℕ) where
   turned : (may : May) (was : Centre) (t : ℕ) (o : Option Mission) (k : Centre) → AsksForEmptyPools k → Turn line c may was t k o → (first : ℕ) → k.route_ask t ≡ Some first → HasEmptyPool o
-  turned may was t _ k h closes first asks = tt
-  turned may was t _ k h (mission_begins place why) first asks = refl
+  turned may was t _ k h (mission_begins place why none) first asks = refl
   turned may was t _ k h (grows m place r so has) first asks =
       ap is_empty (cond-true (is_empty m.pool) m.pool (part_from (behind r) m.pool) (h t first m asks has)) ∙ h t first m asks has
   turned may was t _ k h (clears m place r position has placed) first asks = h t first m asks has
   turned may was t _ k h (cuts m n last_kept has same) first asks = refl
-  turned may was t _ k h (comes d number place hand has_data is_ended so) first asks = refl
+  turned may was t _ k h (comes d number place hand has_data is_ended so taken_so) first asks = refl
 
   changed : (may : May) (was : Centre) (t : ℕ) (f : Mission → Mission) (k : Centre) → Change line may was t k f → (first : ℕ) (m : Mission) → k.route_ask t ≡ Some first → is_empty m.pool ≡ true → is_empty (f m).pool ≡ true
   changed may was t _ k no_pool first m asks empty = refl
@@ -80,6 +79,11 @@ module _ (line : Line) (c : ℕ) where
 
   moves : (may : May) (was k : Centre) (q : Reply) → Move line c may was k q → Keeps k q
   moves may was _ _ (asks_route t d m k its has empty home none) h = asked t (behind m.hand) m k has empty h
+  moves may was _ _ (announces t d m k its so has none) h = change_at t (hand_to d (k.announced + 1)) k h (λ first n asks empty. empty)
+  moves may was _ _ (recalls t m x k its has stands none) h = change_at t no_handover k h (λ first n asks empty. empty)
+  moves may was _ _ (closes t m k has none) h = set_at t None k h (λ first asks. tt)
+  moves may was _ _ (closes_handed t m x k its has stands) h = change_at t no_handover (set_mission t None k).state (set_at t None k h (λ first asks. tt)) (λ first n asks empty. empty)
+  moves may was _ _ (yields t m x k its so has stands) h = set_at t None k h (λ first asks. tt)
   moves may was _ _ (sets t o k turn) h = set_at t o k h (turned may was t o k h turn)
   moves may was _ _ (changes t f k change) h = change_at t f k h (changed may was t f k change)
   moves may was k q move h = h

@@ -13,10 +13,9 @@ use Rattle.rbc_spec.specs.Maps.{put}
 use Rattle.rbc_spec.specs.SectionRuns.{SectionRun, is_empty, shared}
 use Rattle.rbc_spec.specs.Line.{Line}
 use Rattle.rbc_spec.specs.Sections.{home_run}
-use Rattle.rbc_spec.specs.Message.{TrackBody}
 use Rattle.rbc_spec.specs.Frame.{Body, RouteReturn}
 use Rattle.rbc_spec.specs.Centre.{Centre, Mission, Handing, Expectation}
-use Rattle.rbc_spec.specs.Acts.{Act, Reply, rest, ◌>>◌, send, say, returned, set_mission, change_mission}
+use Rattle.rbc_spec.specs.Acts.{Act, Reply, rest, ◌>>◌, send, returned, set_mission, change_mission}
 use Rattle.law_network.specs.Pairs.{follows, handing_to, count_if, announces, takes_over, yields}
 use Rattle.law_network.specs.Keeping.{IsNeutral, IsApart}
 use Rattle.law_network.proofs.Kept.{count_append, count_none}
@@ -48,9 +47,6 @@ module _ where
 
   pub goes_rest : (k : Centre) → Goes k (rest k)
   goes_rest k = still k k refl refl refl
-
-  pub goes_say : (t group : ℕ) (body : TrackBody) (k : Centre) → Goes k (say t group body k)
-  goes_say t group body k = still k (say t group body k).state refl refl refl
 
   pub goes_send : (d : ℕ) (body : Body) (k : Centre) → IsNeutral body → Goes k (send d body k)
   goes_send d body k neutral = apart k k (send d body k).frames (record { expects = λ a t. refl; announced = refl; handing = λ b t. refl }) (λ e. by_one (e == d))
@@ -143,21 +139,9 @@ module _ where
   pub goes_then : (a b : Act) (k : Centre) → Goes k (a k) → Goes (a k).state (b (a k).state) → Goes k ((a >> b) k)
   goes_then a b k one two = goes_then_with none_allowed a b k one two
 
-  pub goes_if : (b : Bool) (k : Centre) (p q : Reply) → (b ≡ true → Goes k p) → (b ≡ false → Goes k q) → Goes k (if b then p else q)
-  goes_if true k p q one two = one refl
-  goes_if false k p q one two = two refl
-
   pub goes_or : {X : Type 0} (o : Option X) (f : X → Reply) (k : Centre) (q : Reply) → ((x : X) → o ≡ Some x → Goes k (f x)) → (o ≡ None → Goes k q) → Goes k (option_map_or f o q)
   goes_or None f k q some none = none refl
   goes_or (Some x) f k q some none = some x refl
-
-  pub goes_if_act : (b : Bool) (f g : Act) (k : Centre) → (b ≡ true → Goes k (f k)) → (b ≡ false → Goes k (g k)) → Goes k ((if b then f else g) k)
-  goes_if_act true f g k one two = one refl
-  goes_if_act false f g k one two = two refl
-
-  pub goes_or_act : {X : Type 0} (o : Option X) (f : X → Act) (g : Act) (k : Centre) → ((x : X) → o ≡ Some x → Goes k (f x k)) → (o ≡ None → Goes k (g k)) → Goes k (option_map_or f o g k)
-  goes_or_act None f g k some none = none refl
-  goes_or_act (Some x) f g k some none = some x refl
 
   -- ## A frame about one handover
 

@@ -9,16 +9,18 @@ use Rattle.law_counting.proofs.Chain.{chain_took}
 use Rattle.rbc_spec.specs.Maps.{put}
 use Rattle.rbc_spec.specs.Line.{Line, IsLine, is_centre}
 use Rattle.rbc_spec.specs.Message.{TrainMessage}
-use Rattle.rbc_spec.specs.Frame.{Frame, Body, AskRight, GiveRight, RefuseRight, ReturnRight, RouteAsk, RouteInfo, RouteWithdraw, RouteReturn, Announce, Cancel, TakingOver, Yield}
+use Rattle.rbc_spec.specs.Frame.{Frame, Body, AskRight, Announce, Cancel, Yield}
 use Rattle.rbc_spec.specs.Outcome.{Reason, Next, Old, Early, NoLink}
 use Rattle.rbc_spec.specs.Outcome as outcome
 use Rattle.rbc_spec.specs.Centre.{Centre, Expectation}
 use Rattle.rbc_spec.specs.Acts.{rest, become, ◌>>◌, hear}
-use Rattle.rbc_spec.specs.Rules.{answered}
 use Rattle.rbc_spec.specs.Links.{is_under}
 use Rattle.rbc_spec.specs.Step as step
-use Rattle.rbc_spec.specs.Step.{Event, Train, Set, Unset, Deliver, Effect, effect, hear_and_answer, taken_by, link_answer, stamp_of, ticked, state_after}
+use Rattle.rbc_spec.specs.Step.{Event, Train, Set, Unset, Deliver, Effect, effect, set, unset, hear_and_answer, taken_by, link_answer, stamp_of, ticked, state_after}
 use Rattle.law_base.proofs.Puts.{itself}
+use Rattle.law_walk.proofs.Moves.{setting}
+use Rattle.law_walk.proofs.Messages.{may_do}
+use Rattle.law_walk.proofs.Steps.{heard_walks, set_walks, unset_walks}
 use Rattle.law_network.specs.Flow.{Flow, centre_count}
 use Rattle.law_network.specs.Pairs.{IsPaired, follows, is_number, before, takes_over}
 use Rattle.law_network.specs.Sound.{IsFlowSound, IsBodySound, ArePaired}
@@ -27,9 +29,9 @@ use Rattle.law_network.proofs.Taken as taken
 use Rattle.law_handover.specs.Orderly.{number_expected, IsTakenWith, IsOrderly, IsOrderlyWith, none_allowed, allowed_by}
 use Rattle.law_handover.specs.Steps.{IsByItself, left_by, sent_by}
 use Rattle.law_handover.proofs.Kept.{orderly_pairs, taking_pairs, taken_over}
-use Rattle.law_handover.proofs.Orderly.{Goes, still, goes_rest, goes_then}
-use Rattle.law_handover.proofs.Messages.{goes_answered}
-use Rattle.law_handover.proofs.Frames.{Fits, goes_received, goes_section_set, goes_section_unset}
+use Rattle.law_handover.proofs.Orderly.{Goes, goes_rest}
+use Rattle.law_handover.proofs.Moves.{of_moves}
+use Rattle.law_handover.proofs.Frames.{Fits, goes_received}
 
 module _ (line : Line) (c : ℕ) where
   -- ## By itself
@@ -37,7 +39,7 @@ module _ (line : Line) (c : ℕ) where
   goes_message : (m : TrainMessage) (k : Centre) (o : Option Reason)
       → Goes k (option_map_or {U = Effect} (λ why. record { reply = rest k; link = None; silence = Some why }) o (record { reply = hear_and_answer line c m k; link = None; silence = None })).reply
   goes_message m k (Some why) = goes_rest k
-  goes_message m k None = goes_then (hear m) (answered line c m m.body) k (still k _ refl refl refl) (goes_answered line c m m.body _)
+  goes_message m k None = of_moves line c (may_do m.nid_engine m.body) refl (hear m k).state refl k (hear_and_answer line c m k) (heard_walks line c m k)
 
   goes_frame : (d : ℕ) (f : Frame) (k : Centre) (answer : outcome.Taken) → answer ≢ Next → Goes k (taken_by line c d f answer k)
   goes_frame d f k Next other = absurd (other refl)
@@ -47,8 +49,8 @@ module _ (line : Line) (c : ℕ) where
 
   goes_event : (event : Event) (k : Centre) → IsByItself line c k event → Goes k (effect line c k event).reply
   goes_event (Train m) k by_itself = goes_message m k (step.silence line c k m)
-  goes_event (Set s) k by_itself = goes_section_set line c s k
-  goes_event (Unset s) k by_itself = goes_section_unset line c s k
+  goes_event (Set s) k by_itself = of_moves line c setting refl k refl k (set line c s k) (set_walks line c setting k refl s k)
+  goes_event (Unset s) k by_itself = of_moves line c setting refl k refl k (unset line c s k) (unset_walks line c setting k refl s k)
   goes_event (Deliver d f) k by_itself = goes_frame d f k (link_answer line c k d f) by_itself
 
   same_itself : (event : Event) (stamp : ℕ) (k : Centre) → IsByItself line c k event → IsByItself line c (ticked stamp k) event
@@ -88,14 +90,6 @@ none_expected h (Some e) mid is = cc
 
 module _ (line : Line) (ok : IsLine line) (w : Flow) (sound : IsFlowSound line w) (a c : ℕ) (from : is_centre line a ≡ true) (to : is_centre line c ≡ true) where
   pub fits_head : (f : Body) → TakesHead w a c f → Fits line c a f (w.at c)
-  fits_head (AskRight t) head = record {}
-  fits_head (GiveRight t) head = record {}
-  fits_head (RefuseRight t) head = record {}
-  fits_head (ReturnRight t) head = record {}
-  fits_head (RouteAsk t first most) head = record {}
-  fits_head (RouteInfo t r) head = record {}
-  fits_head (RouteWithdraw t s) head = record {}
-  fits_head (RouteReturn t r) head = record {}
   fits_head (Announce h t track) head =
       let next = chain_took (follows t) w a c (Announce h t track) _ _ head (sound.pairs a c t from to).chain in
       let known = each_head (IsBodySound line) w a c (Announce h t track) head sound.bodies in (
@@ -111,7 +105,6 @@ module _ (line : Line) (ok : IsLine line) (w : Flow) (sound : IsFlowSound line w
         under_expected h ((w.at c).expects a t) next.0
             (sym (ap (λ b. if b then (if is_number h (number_expected ((w.at c).expects a t)) then Some None else None) else Some (number_expected ((w.at c).expects a t))) (itself t)) ∙ next.1),
       )
-  fits_head (TakingOver h t) head = record {}
   fits_head (Yield h t heard has_data is_ended carried hand) head =
       let small = ltb-true a (centre_count line) from in
       let below = ltb-true c (centre_count line) to in (
@@ -122,6 +115,7 @@ module _ (line : Line) (ok : IsLine line) (w : Flow) (sound : IsFlowSound line w
           taken.is_taken line w sound a c h t heard has_data is_ended carried hand from to small below head,
         ),
       )
+  fits_head f head = record {}
 
   pub step_taken : (f : Frame) → TakesHead w a c f.body → link_answer line c (w.at c) a f ≡ Next
       → IsTakenWith a f.body (w.at c) (left_by line c (w.at c) (Deliver a f)) (sent_by line c (w.at c) (Deliver a f))
@@ -132,17 +126,7 @@ module _ (line : Line) (ok : IsLine line) (w : Flow) (sound : IsFlowSound line w
 
       as_before : (g : Body) → Fits line c a g (w.at c) → Fits line c a g (become (λ j. record j { taken = put j.taken a f.number }) k).state
       as_before (AskRight t) fits = fits
-      as_before (GiveRight t) fits = fits
-      as_before (RefuseRight t) fits = fits
-      as_before (ReturnRight t) fits = fits
-      as_before (RouteAsk t first most) fits = fits
-      as_before (RouteInfo t r) fits = fits
-      as_before (RouteWithdraw t s) fits = fits
-      as_before (RouteReturn t r) fits = fits
-      as_before (Announce h t track) fits = fits
-      as_before (Cancel h t) fits = fits
-      as_before (TakingOver h t) fits = fits
-      as_before (Yield h t heard has_data is_ended carried hand) fits = fits
+      as_before g fits = fits
 
       by_answer : (answer : outcome.Taken) → answer ≡ Next
           → IsTakenWith a f.body (w.at c) (state_after (stamp_of (w.at c) (Deliver a f)) (w.at c) (record { reply = taken_by line c a f answer k; link = Some answer; silence = None })) (taken_by line c a f answer k).frames

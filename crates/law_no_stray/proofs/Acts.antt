@@ -81,7 +81,7 @@ module _ (line : Line) (c : ℕ) where
       by_wish true u = refl
       by_wish false u = refl
 
-  to_only : (d : ℕ) (body : Body) → IsBodyKnown line c d body → (e : ℕ) → All (IsBodyKnown line c e) (to_one d (body ∷ []) e)
+  pub to_only : (d : ℕ) (body : Body) → IsBodyKnown line c d body → (e : ℕ) → All (IsBodyKnown line c e) (to_one d (body ∷ []) e)
   to_only d body is e = ⊎_elim
       (λ (here : e ≡ d). subst (λ x. All (IsBodyKnown line c x) (to_one d (body ∷ []) x)) (sym here) (at_d (d == d)))
       (λ (other : e ≢ d). subst (All (IsBodyKnown line c e)) (sym (to_one_other d (body ∷ []) e other)) (All-nil (IsBodyKnown line c e)))

@@ -2,14 +2,14 @@
 use Rattle.std.proofs.Common.{◌≡◌, ◌≢◌, ℕ, ◌+◌, ◌-◌, ◌<◌, ◌≤◌, ◌==◌, ◌&&◌, not, Bool, true, false, if◌then◌else◌, min, [], ◌∷◌, ◌++◌, All, Option, Some, None, is_some, is_none, refl, sym, ap, ◌∙◌, subst, arith, ⊎_elim, ltb-true}
 use Rattle.std.specs.Option.{option_map_or}
 use Rattle.std.proofs.lemmas.Bool.{cases_eq, and_from, and_parts, eqb-true}
-use Rattle.std.proofs.lemmas.List.Elements.{All-nil, All-cons}
+use Rattle.std.proofs.lemmas.List.Elements.{All-nil, All-cons, All-append}
 use Rattle.law_counting.specs.Sums.{one_if}
 use Rattle.law_counting.proofs.Sums.{put_same, put_other}
 use Rattle.rbc_spec.specs.Maps.{put, has}
 use Rattle.rbc_spec.specs.SectionRuns.{SectionRun, most_in_hand, behind}
 use Rattle.rbc_spec.specs.Line.{Line, IsLine, Section, section, registrar, is_home, is_linked, is_centre}
 use Rattle.rbc_spec.specs.Place.{Place, covered}
-use Rattle.rbc_spec.specs.Frame.{Body, AskRight, GiveRight, RefuseRight, RouteAsk, RouteInfo, RouteWithdraw, TakingOver}
+use Rattle.rbc_spec.specs.Frame.{Body, AskRight, GiveRight, RefuseRight, RouteAsk, RouteInfo, RouteWithdraw, Announce, Cancel, TakingOver, Yield, yielded_place}
 use Rattle.rbc_spec.specs.Centre.{Centre, Entry, Taken, Out, Expectation, is_open, is_out_for, is_taken_for}
 use Rattle.rbc_spec.specs.Acts.{Act, Reply, ◌>>◌, booked, freed, returned}
 use Rattle.rbc_spec.specs.Rules.{take_over}
@@ -17,7 +17,7 @@ use Rattle.rbc_spec.specs.Links.{is_train, lendable}
 use Rattle.rbc_spec.specs.Step.{withdraw, make}
 use Rattle.law_base.proofs.Puts.{itself}
 use Rattle.law_walk.specs.Trains.{train_of}
-use Rattle.law_walk.proofs.Moves.{May, MaySend, goes_back, goes_home, announces, cancels, yields, to_some, Walk, of_walk}
+use Rattle.law_walk.proofs.Moves.{May, MaySend, goes_back, goes_home, to_some, announces, recalls, closes_handed, yields, Walk, of_walk}
 use Rattle.law_walk.proofs.Moves.{Move, sends, returns, withdraws, takes_over, books, lends, frees, makes, waits as start_waits, waits_no_more as none_waits, asks_right, asks_route}
 use Rattle.law_walk.proofs.Moves.{Answer, gives, refuses, begins_at, not_needed, drops, nothing_waits, lends_some, told}
 use Rattle.law_walk.proofs.Frames.{frame_may, Idle, no_registrar, not_asked, not_refused, no_section, no_place, Taking, foreign, idle, walks, answers, answers_then}
@@ -31,7 +31,7 @@ use Rattle.law_no_unasked.proofs.Asking.{IsOfLine, of_line, none_comes, comes_wi
 use Rattle.law_no_unasked.proofs.Moves.{put_apart, named, other_named, one_alone, refused_too}
 use Rattle.law_no_stray.specs.Due.{IsDue}
 use Rattle.law_no_stray.specs.Questions.{HasAsked, IsBodyKnown, HasKnownOuts}
-use Rattle.law_no_stray.proofs.Acts.{IsAnswering, Comes, Goes, aside, still, stays_in, freed_less, goes_send, returned_known, comes_then, goes_then, sends_one, ends_one, waits_no_more}
+use Rattle.law_no_stray.proofs.Acts.{IsAnswering, Comes, Goes, aside, still, stays_in, freed_less, to_only, goes_send, returned_known, comes_then, goes_then, sends_one, ends_one, waits_no_more}
 
 -- a question that did not stand, and does, is asked
 stands_anew : (z e o n : Bool) → (z ≡ false → n ≡ o) → 0 + one_if (e && n) ≤ (one_if (z && e) + 0) + one_if (e && o)
@@ -85,9 +85,9 @@ module _ (line : Line) (ok : IsLine line) (c : ℕ) where
   sent_known : (may : May) → IsOfLine line may → (d : ℕ) (body : Body) → MaySend line may d body → IsBodyKnown line c d body
   sent_known may known d _ (goes_back t its is) = record { known = known t its; sent = record {} }
   sent_known may known d _ (goes_home t r its some home) = record { known = known t its; sent = record {} }
-  sent_known may known d _ (announces number t track its so) = record { known = known t its; sent = record {} }
-  sent_known may known d _ (cancels number t its) = record { known = known t its; sent = record {} }
-  sent_known may known d _ (yields number t heard has_data is_ended place hand its) = record { known = known t its; sent = record {} }
+
+  alone_known : (d : ℕ) (body : Body) → IsBodyKnown line c d body → (e : ℕ) → All (IsBodyKnown line c e) (to_some (Some d) body e ++ [])
+  alone_known d body is e = All-append (IsBodyKnown line c e) (to_some (Some d) body e) [] (to_only line c d body is e) (All-nil (IsBodyKnown line c e))
 
   goes_withdraw : (t s : ℕ) (k : Centre) → is_home line c s ≡ true → is_train line t ≡ true → Goes line c k (withdraw line c t s k)
   goes_withdraw t s k home known = aside line c k k (withdraw line c t s k).frames refl refl refl (λ old. old) (λ d. by_link d (is_linked line c d))
@@ -178,6 +178,14 @@ module _ (line : Line) (ok : IsLine line) (c : ℕ) where
   moves may known was _ _ (asks_right t place to k its is none) old = right_asked_for t place to k (known t its) is none
   moves may known was _ _ (asks_route t d m k its has empty home none) old =
       route_asked_for t d (behind m.hand) (min (most_in_hand - m.hand.count) (512 - behind m.hand)) k (known t its) home none
+  moves may known was _ _ (announces t d m k its so has none) old = aside line c k _ _ refl refl refl (λ outs. record { each = outs.each })
+      (λ e. All-append (IsBodyKnown line c e) (to_some (Some d) (Announce (k.announced + 1) t m.place.track) e ++ []) [] (alone_known d (Announce (k.announced + 1) t m.place.track) (record { known = known t its; sent = record {} }) e) (All-nil (IsBodyKnown line c e)))
+  moves may known was _ _ (recalls t m h k its has stands none) old =
+      aside line c k _ _ refl refl refl (λ outs. record { each = outs.each }) (alone_known h.to (Cancel h.number t) (record { known = known t its; sent = record {} }))
+  moves may known was _ _ (closes_handed t m h k its has stands) old =
+      aside line c k _ _ refl refl refl (λ outs. record { each = outs.each }) (alone_known h.to (Cancel h.number t) (record { known = known t its; sent = record {} }))
+  moves may known was _ _ (yields t m h k its so has stands) old = aside line c k _ _ refl refl refl (λ outs. record { each = outs.each })
+      (to_only line c h.to (Yield h.number t (option_map_or (λ n. n) (k.heard t) 0) m.has_data m.is_ended (yielded_place m.place) m.hand) (record { known = known t its; sent = record {} }))
   moves may known was k q move old = still line c k q.state refl refl refl (λ s u out. out)
 
   joins : (a b : Act) (k : Centre) → Holds k (a k) → Holds (a k).state (b (a k).state) → Holds k ((a >> b) k)
@@ -228,7 +236,7 @@ module _ (line : Line) (ok : IsLine line) (c : ℕ) where
       counts : (x : Question) (e : ℕ) → (questions x e).inside d c (AskRight t) + (questions x e).cap c was ≤ (questions x e).inside c d (RefuseRight t) + (questions x e).cap c was
       counts (OfRight u) e = omega arith
       counts (OfRoute u n) e = omega arith
-  answered may was d _ _ below known due (begins_at t place asked waits) =
+  answered may was d _ _ below known due (begins_at t place asked waits none) =
       right_ends t was asked (comes_with d c (GiveRight t)) d _ (λ x e. refl) refl refl (λ s u out. out) (waits_no_more t was.wait)
   answered may was d _ _ below known due (not_needed t asked none) =
       right_ends t was asked (comes_with d c (GiveRight t)) d _ (λ x e. refl) refl refl (λ s u out. out) (no_start t was asked (no_wait (was.wait t) none))
@@ -285,7 +293,7 @@ module _ (line : Line) (ok : IsLine line) (c : ℕ) where
   comes_taken d body was _ below known due outs (foreign away) = absurd (let wrong : true ≡ false = sym known ∙ away in cc)
   comes_taken d body was _ below known due outs (idle why) = absurd (due_acts d was body due why)
   comes_taken d body was _ below known due outs (walks q so none walk) = comes_aside (comes_with d c body) was q (none_inside d c body none)
-      (of_moves (frame_may body) (of_line line (frame_may body) (train_of body) refl known) was was q walk outs)
-  comes_taken d body was _ below known due outs (answers q so answer) = answered (frame_may body) was d body q below known due answer
-  comes_taken d body was _ below known due outs (answers_then a b so answer walk) = let first = answered (frame_may body) was d body (a was) below known due answer in
-      comes_then line c (comes_with d c body) a b was first (of_moves (frame_may body) (of_line line (frame_may body) (train_of body) refl known) was (a was).state (b (a was).state) walk (first.outs outs))
+      (of_moves (frame_may d body) (of_line line (frame_may d body) (train_of body) refl known) was was q walk outs)
+  comes_taken d body was _ below known due outs (answers q so answer) = answered (frame_may d body) was d body q below known due answer
+  comes_taken d body was _ below known due outs (answers_then a b so answer walk) = let first = answered (frame_may d body) was d body (a was) below known due answer in
+      comes_then line c (comes_with d c body) a b was first (of_moves (frame_may d body) (of_line line (frame_may d body) (train_of body) refl known) was (a was).state (b (a was).state) walk (first.outs outs))

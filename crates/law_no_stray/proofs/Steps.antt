@@ -5,7 +5,7 @@ use Rattle.law_counting.specs.Resource.{sent_by as all_sent}
 use Rattle.rbc_spec.specs.Maps.{put}
 use Rattle.rbc_spec.specs.Line.{Line, IsLine}
 use Rattle.rbc_spec.specs.Message.{TrainMessage}
-use Rattle.rbc_spec.specs.Frame.{Frame, Body, AskRight, GiveRight, RefuseRight, ReturnRight, RouteAsk, RouteInfo, RouteWithdraw, RouteReturn, Announce, Cancel, TakingOver, Yield}
+use Rattle.rbc_spec.specs.Frame.{Frame, Body, AskRight}
 use Rattle.rbc_spec.specs.Outcome.{Reason, Next, Old, Early, NoLink}
 use Rattle.rbc_spec.specs.Outcome as outcome
 use Rattle.rbc_spec.specs.Centre.{Centre}
@@ -31,17 +31,7 @@ use Rattle.law_no_stray.proofs.Moves.{of_moves, comes_taken}
 -- what is due does not look at the clock, nor at what was taken
 same_due : (line : Line) (a c stamp : ℕ) (taken : ℕ → ℕ) (k : Centre) (f : Body) → IsDue line a c k f → IsDue line a c (record k { clock = stamp; taken = taken }) f
 same_due line a c stamp taken k (AskRight t) is = is
-same_due line a c stamp taken k (GiveRight t) is = is
-same_due line a c stamp taken k (RefuseRight t) is = is
-same_due line a c stamp taken k (ReturnRight t) is = is
-same_due line a c stamp taken k (RouteAsk t first most) is = is
-same_due line a c stamp taken k (RouteInfo t r) is = is
-same_due line a c stamp taken k (RouteWithdraw t s) is = is
-same_due line a c stamp taken k (RouteReturn t r) is = is
-same_due line a c stamp taken k (Announce number t track) is = is
-same_due line a c stamp taken k (Cancel number t) is = is
-same_due line a c stamp taken k (TakingOver number t) is = is
-same_due line a c stamp taken k (Yield number t heard has_data is_ended place hand) is = is
+same_due line a c stamp taken k f is = is
 
 module _ (line : Line) (ok : IsLine line) (c : ℕ) where
   -- ## By itself

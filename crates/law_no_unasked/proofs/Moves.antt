@@ -2,7 +2,7 @@
 use Rattle.std.proofs.Common.{◌≡◌, ◌≢◌, ℕ, ◌+◌, ◌-◌, ◌≤◌, ◌==◌, ◌&&◌, not, Bool, true, false, if◌then◌else◌, min, [], ◌∷◌, ◌++◌, All, Option, Some, None, is_some, refl, sym, ap, ◌∙◌, subst, arith, ⊎_elim}
 use Rattle.std.specs.Option.{option_map_or}
 use Rattle.std.proofs.lemmas.Bool.{cases_eq, and_parts, eqb-true}
-use Rattle.std.proofs.lemmas.List.Elements.{All-nil, All-cons}
+use Rattle.std.proofs.lemmas.List.Elements.{All-nil, All-cons, All-append}
 use Rattle.law_counting.specs.Sums.{one_if}
 use Rattle.law_counting.proofs.Sums.{put_same, put_other}
 use Rattle.rbc_spec.specs.Maps.{put, has}
@@ -10,7 +10,7 @@ use Rattle.rbc_spec.specs.SectionRuns.{most_in_hand, behind, all_of}
 use Rattle.rbc_spec.specs.Line.{Line, IsLine, Section, section, is_home, is_linked, is_centre}
 use Rattle.rbc_spec.specs.Sections.{is_on, is_on_track}
 use Rattle.rbc_spec.specs.Place.{Place}
-use Rattle.rbc_spec.specs.Frame.{Body, AskRight, GiveRight, RefuseRight, RouteAsk, RouteInfo, RouteWithdraw, TakingOver}
+use Rattle.rbc_spec.specs.Frame.{Body, AskRight, GiveRight, RefuseRight, RouteAsk, RouteInfo, RouteWithdraw, Announce, Cancel, TakingOver, Yield, yielded_place}
 use Rattle.rbc_spec.specs.Centre.{Centre, Out, Expectation, is_open, is_free}
 use Rattle.rbc_spec.specs.Acts.{Reply, rest, booked, returned}
 use Rattle.rbc_spec.specs.Rules.{take_over}
@@ -20,7 +20,7 @@ use Rattle.law_base.proofs.Puts.{itself}
 use Rattle.law_base.proofs.Runs.{all_within}
 use Rattle.law_base.proofs.Longest.{longest_is}
 use Rattle.law_walk.specs.Trains.{train_of}
-use Rattle.law_walk.proofs.Moves.{May, MaySend, goes_back, goes_home, announces, cancels, yields, to_some, Move, sends, returns, withdraws, takes_over, asks_right, asks_route}
+use Rattle.law_walk.proofs.Moves.{May, MaySend, goes_back, goes_home, to_some, Move, announces, recalls, closes_handed, yields, sends, returns, withdraws, takes_over, asks_right, asks_route}
 use Rattle.law_walk.proofs.Moves.{Answer, gives, refuses, begins_at, not_needed, drops, nothing_waits, lends_some, told, Walk, of_walk}
 use Rattle.law_walk.proofs.Frames.{frame_may, Taking, foreign, idle, walks, answers, answers_then}
 use Rattle.law_no_unasked.specs.Asked.{Question, OfRight, OfRoute, questions, IsBodyAsked}
@@ -69,9 +69,17 @@ module _ (line : Line) (ok : IsLine line) (c : ℕ) where
   sent_aside : (may : May) → IsOfLine line may → (d : ℕ) (body : Body) → MaySend line may d body → IsAside line c d body
   sent_aside may known d _ (goes_back t its is) = record { none = refl; body = ap (has (λ r. r == d)) is ∙ itself d }
   sent_aside may known d _ (goes_home t r its some home) = return_aside line c d t r (known t its) some home
-  sent_aside may known d _ (announces number t track its so) = record { none = refl; body = record {} }
-  sent_aside may known d _ (cancels number t its) = record { none = refl; body = record {} }
-  sent_aside may known d _ (yields number t heard has_data is_ended place hand its) = record { none = refl; body = record {} }
+
+  -- a body to one centre
+  to_one_aside : (d : ℕ) (body : Body) → IsAside line c d body → (e : ℕ) → All (IsAside line c e) (to_some (Some d) body e)
+  to_one_aside d body aside e = by_same (e == d) refl
+    where
+      by_same : (b : Bool) → (e == d) ≡ b → All (IsAside line c e) (if b then body ∷ [] else [])
+      by_same true is = All-cons (IsAside line c e) body [] (subst (λ x. IsAside line c x body) (sym (eqb-true e d is)) aside) (All-nil (IsAside line c e))
+      by_same false is = All-nil (IsAside line c e)
+
+  alone_aside : (d : ℕ) (body : Body) → IsAside line c d body → (e : ℕ) → All (IsAside line c e) (to_some (Some d) body e ++ [])
+  alone_aside d body aside e = All-append (IsAside line c e) (to_some (Some d) body e) [] (to_one_aside d body aside e) (All-nil (IsAside line c e))
 
   goes_withdraw : (t s : ℕ) (k : Centre) → Goes line c k (withdraw line c t s k)
   goes_withdraw t s k = aside line c k k (withdraw line c t s k).frames refl refl (λ d. by_link d (is_linked line c d))
@@ -136,6 +144,12 @@ module _ (line : Line) (ok : IsLine line) (c : ℕ) where
   moves may known was _ _ (asks_right t place to k its is none) = right_asked_for t place to k none
   moves may known was _ _ (asks_route t d m k its has empty home none) =
       route_asked_for t d (behind m.hand) (min (most_in_hand - m.hand.count) (512 - behind m.hand)) k home none
+  moves may known was _ _ (announces t d m k its so has none) = aside line c k _ _ refl refl
+      (λ e. All-append (IsAside line c e) (to_some (Some d) (Announce (k.announced + 1) t m.place.track) e ++ []) [] (alone_aside d (Announce (k.announced + 1) t m.place.track) (record { none = refl; body = record {} }) e) (All-nil (IsAside line c e)))
+  moves may known was _ _ (recalls t m h k its has stands none) = aside line c k _ _ refl refl (alone_aside h.to (Cancel h.number t) (record { none = refl; body = record {} }))
+  moves may known was _ _ (closes_handed t m h k its has stands) = aside line c k _ _ refl refl (alone_aside h.to (Cancel h.number t) (record { none = refl; body = record {} }))
+  moves may known was _ _ (yields t m h k its so has stands) = aside line c k _ _ refl refl
+      (to_one_aside h.to (Yield h.number t (option_map_or (λ n. n) (k.heard t) 0) m.has_data m.is_ended (yielded_place m.place) m.hand) (record { none = refl; body = record {} }))
   moves may known was k q move = still line c k q.state refl refl
 
   pub of_moves : (may : May) → IsOfLine line may → (was k : Centre) (q : Reply) → Walk line c may was k q → Goes line c k q
@@ -184,7 +198,7 @@ module _ (line : Line) (ok : IsLine line) (c : ℕ) where
       counts : (x : Question) (e : ℕ) → (questions x e).inside c d (RefuseRight t) + (questions x e).cap c was ≤ (questions x e).inside d c (AskRight t) + (questions x e).cap c was
       counts (OfRight u) e = omega arith
       counts (OfRoute u n) e = omega arith
-  answered may was d _ _ known is (begins_at t place asked waits) = right_ends (comes_with d c (GiveRight t)) d t was _ (λ x e. refl) refl refl
+  answered may was d _ _ known is (begins_at t place asked waits none) = right_ends (comes_with d c (GiveRight t)) d t was _ (λ x e. refl) refl refl
   answered may was d _ _ known is (not_needed t asked none) = right_ends (comes_with d c (GiveRight t)) d t was _ (λ x e. refl) refl refl
   answered may was d _ _ known is (drops t place so asked waits) = right_ends (comes_with d c (RefuseRight t)) d t was _ (refused_too d t) refl refl
   answered may was d _ _ known is (nothing_waits t asked none) = right_ends (comes_with d c (RefuseRight t)) d t was _ (refused_too d t) refl refl
@@ -222,7 +236,7 @@ module _ (line : Line) (ok : IsLine line) (c : ℕ) where
   comes_taken d body was _ is (foreign away) = comes_too line c (comes_with d c body) was (rest was) (goes_rest line c was)
   comes_taken d body was _ is (idle why) = comes_too line c (comes_with d c body) was (rest was) (goes_rest line c was)
   comes_taken d body was _ is (walks q known none walk) =
-      comes_too line c (comes_with d c body) was q (of_moves (frame_may body) (of_line line (frame_may body) (train_of body) refl known) was was q walk)
-  comes_taken d body was _ is (answers q known answer) = answered (frame_may body) was d body q known is answer
-  comes_taken d body was _ is (answers_then a b known answer walk) = comes_then line c (comes_with d c body) a b was (answered (frame_may body) was d body (a was) known is answer)
-      (of_moves (frame_may body) (of_line line (frame_may body) (train_of body) refl known) was (a was).state (b (a was).state) walk)
+      comes_too line c (comes_with d c body) was q (of_moves (frame_may d body) (of_line line (frame_may d body) (train_of body) refl known) was was q walk)
+  comes_taken d body was _ is (answers q known answer) = answered (frame_may d body) was d body q known is answer
+  comes_taken d body was _ is (answers_then a b known answer walk) = comes_then line c (comes_with d c body) a b was (answered (frame_may d body) was d body (a was) known is answer)
+      (of_moves (frame_may d body) (of_line line (frame_may d body) (train_of body) refl known) was (a was).state (b (a was).state) walk)

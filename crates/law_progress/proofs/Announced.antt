@@ -9,7 +9,7 @@ use Rattle.rbc_spec.specs.Acts.{hear, Act, Reply, ◌>>◌}
 use Rattle.rbc_spec.specs.Maps.{put}
 use Rattle.rbc_spec.specs.Links.{received}
 use Rattle.rbc_spec.specs.Step.{hear_and_answer, taken_by}
-use Rattle.law_walk.proofs.Moves.{May, Move, counts, Answer, nothing_waits, Walk, of_walk}
+use Rattle.law_walk.proofs.Moves.{May, Move, announces, Answer, nothing_waits, Walk, of_walk}
 use Rattle.law_walk.proofs.Messages.{may_announce, may_do}
 use Rattle.law_walk.proofs.Frames.{frame_may, of_taking, received_taking}
 use Rattle.law_walk.proofs.Steps.{heard_walks}
@@ -25,7 +25,7 @@ module _ (line : Line) (c : ℕ) where
   Keeps act = (k : Centre) → Same k (act k)
 
   moves : (may : May) (was : Centre) → may.announces ≡ false → (k : Centre) (q : Reply) → Move line c may was k q → Same k q
-  moves may was never _ _ (counts number k so) = cc
+  moves may was never _ _ (announces t d m k its so has none) = cc
   moves may was never k q move = record { law = refl }
 
   joins : (a b : Act) (k : Centre) → Same k (a k) → Same (a k).state (b (a k).state) → Same k ((a >> b) k)
@@ -45,7 +45,7 @@ module _ (line : Line) (c : ℕ) where
   unfolding ◌>>◌
   taken_keeps d f Next k = let counted = record k { taken = put k.taken d f.number } in
       record {
-        law = (of_taking line c d counted f.body Same (record { moves = moves (frame_may f.body) counted refl; joins = joins }) (answers (frame_may f.body) counted d f.body)
+        law = (of_taking line c d counted f.body Same (record { moves = moves (frame_may d f.body) counted refl; joins = joins }) (answers (frame_may d f.body) counted d f.body)
             (received line c d f.body counted) (received_taking line c d counted f.body)).law;
       }
   taken_keeps d f Old k = record { law = refl }

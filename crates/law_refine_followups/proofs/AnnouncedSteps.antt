@@ -10,15 +10,16 @@ use Rattle.rbc_spec.specs.Place.{Place, covered, group_start, place_on}
 use Rattle.rbc_spec.specs.Message.{TrainMessage, TrainBody, Request}
 use Rattle.rbc_spec.specs.Frame.{Frame, Body}
 use Rattle.rbc_spec.specs.Outcome.{Reason, Taken as LinkAnswer, Next, Old, Early, NoLink}
-use Rattle.rbc_spec.specs.Centre.{Centre, Mission, beginning, is_free, is_open}
+use Rattle.rbc_spec.specs.Centre.{Centre, Mission, Handing, beginning, is_free, is_open}
 use Rattle.rbc_spec.specs.Acts.{Act, Reply, hear, rest, begun, part_at, set_mission, ◌>>◌}
 use Rattle.rbc_spec.specs.Rules.{ask_route_if_due, grant, answered}
 use Rattle.rbc_spec.specs.Links.{may_take, may_arrive, received}
 use Rattle.rbc_spec.specs.Step as step
 use Rattle.rbc_spec.specs.Step.{Event, Train, Set, Unset, Deliver, stamp_of, link_answer, taken_by, set, unset, hear_and_answer}
+use Rattle.law_base.proofs.Puts.{put_there}
 use Rattle.law_base.proofs.Runs.{each_within}
 use Rattle.law_local.proofs.Ordered.{is_ordered}
-use Rattle.law_walk.proofs.Moves.{May, still, setting, MayBegin, waited, all_free, Turn, closes, begins, grows, clears, cuts, comes, Change, no_mission, recalls, hands, restarts, Move, sets, changes, Answer, nothing_waits, Closed, Walk, of_walk}
+use Rattle.law_walk.proofs.Moves.{May, still, setting, MayBegin, waited, all_free, Turn, begins, grows, clears, cuts, comes, Change, restarts, no_handover, Move, announces, recalls, closes, closes_handed, yields, sets, changes, Answer, nothing_waits, Closed, Walk, of_walk}
 use Rattle.law_walk.proofs.Messages.{may_do, ask_if_walks, answered_walks}
 use Rattle.law_walk.proofs.Frames.{frame_may, of_taking, received_taking}
 use Rattle.law_walk.proofs.Steps.{set_walks, unset_walks}
@@ -61,27 +62,27 @@ module _ (line : Line) (ok : IsLine line) (c : ℕ) where
     FitsOption (Some m) = F m
 
     turned : (t : ℕ) (o : Option Mission) (k : Centre) → H k → Turn line c may was t k o → FitsOption o
-    turned t _ k old closes = tt
-    turned t _ k old (begins place why) = unhanded line ok c (begun line place) refl (own_hand line ok c (begun line place) (own_covered t place why))
+    turned t _ k old (begins place why none) = unhanded line ok c (begun line place) refl (own_hand line ok c (begun line place) (own_covered t place why))
     turned t _ k old (grows m place r so has) = cc
     turned t _ k old (clears m place r position has placed) = moved line ok c m _ (placed_on line m.place.track position place placed).track_is refl (from_part line ok c (behind r) m.hand) (old t m has)
     turned t _ k old (cuts m n last_kept has same) = moved line ok c n _ (ap (λ (q : Mission). q.place.track) (sym same)) (ap (λ (q : Mission). q.handing) (sym same))
         (λ s kept. subst (λ (q : Mission). within q.hand s ≡ true) (sym same) (before_part line ok c (last_kept + 1) m.hand s kept)) (old t n has)
-    turned t _ k old (comes d number place hand has_data is_ended may) =
+    turned t _ k old (comes d number place hand has_data is_ended so may) =
         let m : Mission = record { place = place; hand = hand; pool = no_run; has_data = has_data; is_ended = is_ended; proposal = None; handing = None } in
         unhanded line ok c m refl (came_fits line ok c t was d place m refl (arrives d number t hand place may))
 
     set_to : (t : ℕ) (o : Option Mission) (k : Centre) → H k → FitsOption o → H (set_mission t o k).state
     set_to t o k old fits = set_all line ok c t o k (λ m is. subst FitsOption is fits) old
 
-    changed : (t : ℕ) (f : Mission → Mission) (k : Centre) → Change line may was t k f → (m : Mission) → k.mission t ≡ Some m → F m → F (f m)
-    changed t _ k (no_mission none) m at fits = let wrong : ◌≡◌ {A = Option Mission} None (Some m) = sym none ∙ at in cc
-    changed t _ k (hands h so) m at fits = cc
-    changed t _ k (recalls n h has stands empty) m at fits =
+    -- a mission whose handover ends, where its hand has nothing of the next centre
+    recalled : (t : ℕ) (n : Mission) (h : Handing) (k : Centre) → k.mission t ≡ Some n → n.handing ≡ Some h → is_empty (part_at line h.to n.place.track n.hand) ≡ true → (m : Mission) → k.mission t ≡ Some m → F m → F (no_handover m)
+    recalled t n h k has stands empty m at fits =
         let same : n ≡ m = same_Some n m (sym has ∙ at) in
         let to : next_centre line c m.place.track ≡ Some h.to = fits.onward h (ap (λ (q : Mission). q.handing) (sym same) ∙ stands) in
         unhanded line ok c _ refl (λ d none next. subst (λ (q : Mission). is_empty (part_at line d q.place.track q.hand) ≡ true) same
         (subst (λ x. is_empty (part_at line x n.place.track n.hand) ≡ true) (same_Some h.to d (sym to ∙ next)) empty))
+
+    changed : (t : ℕ) (f : Mission → Mission) (k : Centre) → Change line may was t k f → (m : Mission) → k.mission t ≡ Some m → F m → F (f m)
     changed t _ k (restarts n place is_valid position has had fit all) m at fits =
         let fit_at = fit_is line is_valid position place fit in
         let covers : IsHandAt line place (covered line place) = fit_hand line (is_ordered line ok) place fit_at.0 (reported line position place fit_at.1) in
@@ -89,6 +90,12 @@ module _ (line : Line) (ok : IsLine line) (c : ℕ) where
     changed t f k change m at fits = record { announced = fits.announced; onward = fits.onward }
 
     moves : (k : Centre) (q : Reply) → Move line c may was k q → Keeps k q
+    moves _ _ (announces t d m k its so has none) old = cc
+    moves _ _ (recalls t n h k its has stands empty) old = change_all line ok c t no_handover k (recalled t n h k has stands empty) old
+    moves _ _ (closes t m k has none) old = set_to t None k old tt
+    moves _ _ (closes_handed t m h k its has stands) old = change_all line ok c t no_handover (set_mission t None k).state
+        (λ n at. let wrong : ◌≡◌ {A = Option Mission} None (Some n) = sym (put_there k.mission t None) ∙ at in cc) (set_to t None k old tt)
+    moves _ _ (yields t m h k its so has stands) old = set_to t None k old tt
     moves _ _ (sets t o k turn) old = set_to t o k old (turned t o k old turn)
     moves _ _ (changes t f k change) old = change_all line ok c t f k (changed t f k change) old
     moves k q move old = old
@@ -139,7 +146,7 @@ module _ (line : Line) (ok : IsLine line) (c : ℕ) where
   taken_all : (d : ℕ) (f : Frame) (answer : LinkAnswer) (k : Centre) → Facts k → H k → H (taken_by line c d f answer k).state
   unfolding ◌>>◌
   taken_all d f Next k facts old = let j = record k { taken = put k.taken d f.number } in
-      of_taking line c d j f.body Keeps (closed (frame_may f.body) refl j facts) (answers (frame_may f.body) refl j facts d f.body) (received line c d f.body j) (received_taking line c d j f.body) old
+      of_taking line c d j f.body Keeps (closed (frame_may d f.body) refl j facts) (answers (frame_may d f.body) refl j facts d f.body) (received line c d f.body j) (received_taking line c d j f.body) old
   taken_all d f Old k facts old = old
   taken_all d f Early k facts old = old
   taken_all d f NoLink k facts old = old

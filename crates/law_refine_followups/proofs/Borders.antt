@@ -34,7 +34,7 @@ use Rattle.law_centre_sound.proofs.Sends.{Sound, rest_sound, if_reply, or_reply}
 use Rattle.law_centre_sound.proofs.Leaving.{next_is_centre}
 use Rattle.law_centre_sound.proofs.Requests.{announce_sound, ask_sound, place_stays, all_next}
 use Rattle.law_no_copy.proofs.Borders.{fair_announce_if, fair_ask_if}
-use Rattle.law_handover.proofs.Messages.{goes_announce_if, goes_ask_if}
+use Rattle.law_handover.proofs.Moves.{goes_announce_if, goes_ask_if}
 use Rattle.law_refine_followups.specs.Borders.{MayOrder, MayAnnounce, IsNextOf}
 use Rattle.law_refine_followups.proofs.Keeps.{act_sound}
 use Rattle.law_refine_followups.proofs.Moves.{Moves, leading, moves_if, moves_or, leads_or_act, rest_moves, unseen_moves, said_moves}

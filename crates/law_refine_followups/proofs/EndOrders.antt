@@ -31,7 +31,7 @@ use Rattle.law_network.proofs.Frames.{carried_some}
 use Rattle.law_abstraction.specs.After.{IsUnseen}
 use Rattle.law_centre_sound.proofs.Leaving.{ordered_end}
 use Rattle.law_no_copy.proofs.Leaving.{fair_end_order}
-use Rattle.law_handover.proofs.Handing.{goes_end_order}
+use Rattle.law_handover.proofs.Moves.{goes_end_order}
 use Rattle.law_refine_followups.proofs.Keeps.{act_sound}
 use Rattle.law_refine_followups.proofs.Moves.{Moves, leading, moves_if, rest_moves, said_moves}
 use Rattle.law_refine_followups.proofs.Proposals.{up_is}

@@ -28,7 +28,7 @@ use Rattle.law_abstraction.proofs.Marks.{hand_at_centre}
 use Rattle.law_abstraction.proofs.Shows.{part_stays, part_changes}
 use Rattle.law_centre_sound.proofs.Leaving.{next_is_centre, yielded_over}
 use Rattle.law_no_copy.proofs.Leaving.{fair_yield_over}
-use Rattle.law_handover.proofs.Handing.{goes_taking_over}
+use Rattle.law_handover.proofs.Moves.{goes_taking_over}
 use Rattle.law_refine_followups.proofs.Keeps.{act_sound_with}
 use Rattle.law_refine_followups.proofs.Moves.{Moves, leading, moves_if, moves_or, one_quiet, rest_moves}
 use Rattle.law_refine_followups.proofs.Proposals.{up_is}

@@ -24,7 +24,7 @@ use Rattle.law_abstraction.proofs.Marks.{hand_at_centre}
 use Rattle.law_abstraction.proofs.Shows.{part_changes}
 use Rattle.law_centre_sound.proofs.Interlocking.{propose_sound}
 use Rattle.law_no_copy.proofs.Borders.{fair_propose_if}
-use Rattle.law_handover.proofs.Messages.{goes_propose_if}
+use Rattle.law_handover.proofs.Moves.{goes_propose_if}
 use Rattle.law_refine_followups.proofs.Keeps.{act_sound}
 use Rattle.law_refine_followups.proofs.Moves.{Moves, leading, moves_if, moves_or, one_quiet, rest_moves, changed_shown}
 

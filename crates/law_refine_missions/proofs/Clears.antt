@@ -21,7 +21,7 @@ use Rattle.law_network.specs.Flow.{Flow}
 use Rattle.law_network.specs.Sound.{IsFlowSound, IsMissionAt}
 use Rattle.law_network.specs.Shows.{Shows}
 use Rattle.law_network.specs.Leads.{said_by, replied}
-use Rattle.law_handover.proofs.Messages.{goes_report_here}
+use Rattle.law_handover.proofs.Moves.{goes_report_here}
 use Rattle.law_centre_sound.proofs.Reports.{joined_without, not_away, report_here_sound}
 use Rattle.law_no_copy.proofs.Tally.{mission_of}
 use Rattle.law_no_copy.proofs.Messages.{fair_report_here, standing}

@@ -25,7 +25,7 @@ use Rattle.law_centre_sound.proofs.Reports.{joined_without, not_away, tail_behin
 use Rattle.law_no_copy.proofs.Tally.{mission_of, fair_change, fair_rest}
 use Rattle.law_no_copy.proofs.Messages.{fair_cut, standing}
 use Rattle.law_handover.proofs.Orderly.{goes_change, goes_rest}
-use Rattle.law_handover.proofs.Messages.{goes_cut}
+use Rattle.law_handover.proofs.Moves.{goes_cut}
 use Rattle.law_refine_missions.specs.Parts.{Answers, cut_in_time, own_granted}
 use Rattle.law_refine_missions.proofs.Keeps.{act_sound}
 use Rattle.law_refine_missions.proofs.Heard.{Reaches, state_then, reaches_then}

@@ -41,7 +41,7 @@ use Rattle.law_centre_sound.proofs.Places.{reported}
 use Rattle.law_centre_sound.proofs.Requests.{extend_sound}
 use Rattle.law_no_copy.proofs.Tally.{mission_of}
 use Rattle.law_no_copy.proofs.Borders.{fair_extend}
-use Rattle.law_handover.proofs.Messages.{goes_extend}
+use Rattle.law_handover.proofs.Moves.{goes_extend}
 use Rattle.law_refine_missions.specs.Parts.{Answers, extend, own_request}
 use Rattle.law_refine_missions.proofs.Keeps.{act_sound}
 use Rattle.law_refine_missions.proofs.Reports.{track_is}

@@ -5,11 +5,11 @@ use Rattle.rbc_spec.specs.Line.{Line}
 use Rattle.rbc_spec.specs.Frame.{Body}
 use Rattle.rbc_spec.specs.Outcome.{Word}
 use Rattle.rbc_spec.specs.Centre.{Centre, Entry, Shut, Open, Taken, Out, Mission}
-use Rattle.rbc_spec.specs.Acts.{Act, Reply, rest, ◌>>◌, where_so, with_some, cancel, close, propose_if_so, end_order}
+use Rattle.rbc_spec.specs.Acts.{Act, Reply, rest, ◌>>◌, where_so, with_some, cancel, return_right, close, propose_if_so, end_order}
 use Rattle.rbc_spec.specs.Links.{received}
 use Rattle.rbc_spec.specs.Step.{wished}
 use Rattle.law_walk.proofs.Moves.{May, still, Move, tells, frees, Answer, drops, Walk, of_walk}
-use Rattle.law_walk.proofs.Acts.{close_walks, end_order_walks, propose_if_walks}
+use Rattle.law_walk.proofs.Acts.{return_right_walks, end_order_walks, propose_if_walks}
 use Rattle.law_walk.proofs.Frames.{frame_speaks, frame_may, of_taking, received_taking}
 
 -- each of its words, whatever the centre is in, is as P says
@@ -76,14 +76,14 @@ module _ (line : Line) (c : ℕ) where
 
   pub silent_frame : (d : ℕ) (body : Body) → frame_speaks body ≡ false → IsSilent (received line c d body)
   silent_frame d body quiet = record {
-    each = λ k. of_taking line c d k body NoWords (record { moves = moves (frame_may body) quiet k; joins = joins }) (answers (frame_may body) quiet k d body) (received line c d body k) (received_taking line c d k body);
+    each = λ k. of_taking line c d k body NoWords (record { moves = moves (frame_may d body) quiet k; joins = joins }) (answers (frame_may d body) quiet k d body) (received line c d body k) (received_taking line c d k body);
   }
-
-  pub close_silent : (t : ℕ) (m : Mission) → IsSilent (close line c t m)
-  close_silent t m = record { each = λ k. silent (still t) refl k k (close line c t m k) (close_walks line c (still t) k t refl m k) }
 
   pub cancel_silent : (t : ℕ) (m : Mission) → IsSilent (cancel t m)
   cancel_silent t m = of_option IsNone refl m.handing _ _ (λ h. both _ _ (record { each = λ k. refl }) (record { each = λ k. refl })) (record { each = λ k. refl })
+
+  pub close_silent : (t : ℕ) (m : Mission) → IsSilent (close line c t m)
+  close_silent t m = both _ _ (both _ _ (record { each = λ k. refl }) (cancel_silent t m)) (record { each = λ k. silent (still t) refl k k (return_right line c t k) (return_right_walks line c (still t) k t refl k) })
 
   pub end_silent : (t : ℕ) → IsSilent (end_order line c t)
   end_silent t = record { each = λ k. silent (still t) refl k k (end_order line c t k) (end_order_walks line c (still t) k t k) }

@@ -1,6 +1,7 @@
 -- The acts that several rules share are walks.
-use Rattle.std.proofs.Common.{Option, Some, None, refl, ◌≡◌, ℕ, ◌+◌, ◌-◌, ◌==◌, ◌&&◌, true, Some, None}
+use Rattle.std.proofs.Common.{sym, subst, if◌then◌else◌, Option, Some, None, refl, ◌≡◌, ℕ, ◌+◌, ◌-◌, ◌==◌, ◌&&◌, true, Some, None}
 use Rattle.std.specs.Option.{option_map_or}
+use Rattle.std.proofs.lemmas.Bool.{and_parts, eqb-true}
 use Rattle.rbc_spec.specs.Maps.{put}
 use Rattle.rbc_spec.specs.SectionRuns.{SectionRun, no_run, is_empty}
 use Rattle.rbc_spec.specs.Line.{Line, registrar, start}
@@ -12,8 +13,7 @@ use Rattle.rbc_spec.specs.Centre.{Centre, Out, Mission, Handing, Closed, is_up, 
 use Rattle.rbc_spec.specs.Acts.{Act, become, rest, ◌>>◌, where_so, with_some, send, say, booked, freed, returned, leave, set_mission, change_mission, return_pool, cancel, return_right, close, begun, may_propose, propose, propose_if_so, part_at, announce, end_order, yield}
 use Rattle.rbc_spec.specs.Rules.{drop_wait, set_phase, close_session, accept, reject, begin}
 use Rattle.rbc_spec.specs.Links.{taking_over}
-use Rattle.law_base.proofs.Puts.{put_there}
-use Rattle.law_walk.proofs.Moves.{May, MayBegin, Change, goes_back, announces, cancels, yields, Walk, joined, says, sends, returns, lends, frees, phases, waits_no_more, rights, counts, sets, changes, closes, begins, no_proposal, proposes, no_mission, hands, no_pool, Walks, step, resting, both, branch, when, with}
+use Rattle.law_walk.proofs.Moves.{May, MayBegin, goes_back, hand_to, no_handover, Walk, joined, says, sends, returns, lends, frees, phases, waits_no_more, rights, sets, changes, begins, no_proposal, proposes, no_pool, announces, recalls, closes, closes_handed, yields, Walks, step, resting, both, by_bool, by_option, branch, when, with}
 
 module _ (line : Line) (c : ℕ) (may : May) (was : Centre) (t : ℕ) where
   abbrev Goes : Act → Type 0
@@ -47,8 +47,8 @@ module _ (line : Line) (c : ℕ) (may : May) (was : Centre) (t : ℕ) where
   pub reject_walks : Goes (reject t)
   reject_walks k = step line c may was (says t unknown_group TrainRejected k)
 
-  pub begin_walks : (place : Place) → MayBegin line c t was place → Goes (begin line t place)
-  begin_walks place why = both line c may was (set_mission t (Some (begun line place))) (accept t) (λ k. step line c may was (sets t (Some (begun line place)) k (begins place why))) accept_walks
+  pub begin_walks : (place : Place) → MayBegin line c t was place → (k : Centre) → k.mission t ≡ None → Walk line c may was k (begin line t place k)
+  begin_walks place why k none = joined (set_mission t (Some (begun line place))) (accept t) k (step line c may was (sets t (Some (begun line place)) k (begins place why none))) (accept_walks _)
 
 -- ## Of the train of the event
 
@@ -62,13 +62,14 @@ module _ (line : Line) (c : ℕ) (may : May) (was : Centre) (t : ℕ) (its : may
   pub return_pool_walks : (m : Mission) → Its (return_pool line c t m)
   return_pool_walks m = both line c may was _ _ (λ k. step line c may was (returns t m.place.track m.pool k its)) (λ k. step line c may was (changes t (λ n. record n { pool = no_run }) k no_pool))
 
-  pub cancel_walks : (m : Mission) (k : Centre) → ((h : Handing) → m.handing ≡ Some h → Change line may was t k (λ n. record n { handing = None })) → Walk line c may was k (cancel t m k)
-  cancel_walks m k why = by_handing m.handing refl
+  -- the handover of a mission is cancelled, where the hand has nothing of the next centre
+  pub recall_walks : (m : Mission) (k : Centre) → k.mission t ≡ Some m → ((h : Handing) → m.handing ≡ Some h → is_empty (part_at line h.to m.place.track m.hand) ≡ true) → Walk line c may was k (cancel t m k)
+  unfolding ◌>>◌
+  recall_walks m k has none = by_handing m.handing refl
     where
-      by_handing : (o : Option Handing) → m.handing ≡ o → Walk line c may was k (option_map_or (λ h. send h.to (Cancel h.number t) >> change_mission t (λ n. record n { handing = None })) o rest k)
-      by_handing None none = resting line c may was k
-      by_handing (Some h) some = joined (send h.to (Cancel h.number t)) (change_mission t (λ n. record n { handing = None })) k
-          (step line c may was (sends h.to (Cancel h.number t) k (cancels h.number t its))) (step line c may was (changes t (λ n. record n { handing = None }) k (why h some)))
+      by_handing : (o : Option Handing) → m.handing ≡ o → Walk line c may was k (option_map_or (λ h. send h.to (Cancel h.number t) >> change_mission t no_handover) o rest k)
+      by_handing None stands = resting line c may was k
+      by_handing (Some h) stands = step line c may was (recalls t m h k its has stands (none h stands))
 
   pub return_right_walks : Its (return_right line c t)
   return_right_walks = branch line c may was (is_registrar_of line c t) (become (λ k. record k { has_right = put k.has_right t true })) (option_map_or (λ r. send r (ReturnRight t)) (registrar line t) rest)
@@ -78,31 +79,41 @@ module _ (line : Line) (c : ℕ) (may : May) (was : Centre) (t : ℕ) (its : may
       by_registrar None none k = resting line c may was k
       by_registrar (Some r) is k = step line c may was (sends r (ReturnRight t) k (goes_back t its is))
 
-  pub close_walks : (m : Mission) → Its (close line c t m)
-  close_walks m = both line c may was (set_mission t None >> cancel t m) (return_right line c t)
-      (λ k. joined (set_mission t None) (cancel t m) k (step line c may was (sets t None k closes)) (cancel_walks m (set_mission t None k).state (λ h is. no_mission (put_there k.mission t None)))) return_right_walks
+  -- a mission closes that was m, but for its request to shorten
+  pub close_walks : (m n : Mission) (k : Centre) → k.mission t ≡ Some n → n.handing ≡ m.handing → Walk line c may was k (close line c t m k)
+  unfolding ◌>>◌
+  close_walks m n k has same = joined (set_mission t None >> cancel t m) (return_right line c t) k (by_handing m.handing same) (return_right_walks _)
+    where
+      by_handing : (o : Option Handing) → n.handing ≡ o → Walk line c may was k ((set_mission t None >> option_map_or (λ h. send h.to (Cancel h.number t) >> change_mission t no_handover) o rest) k)
+      by_handing None none = step line c may was (closes t n k has none)
+      by_handing (Some h) stands = step line c may was (closes_handed t n h k its has stands)
 
-  pub announce_walks : may.announces ≡ true → (group d : ℕ) (m : Mission) → Its (announce line t group d m)
-  announce_walks so group d m k =
-      let number = k.announced + 1 in
-      let border = (part_at line d m.place.track m.hand).first in
-      both line c may was ((send d (Announce number t m.place.track) >> become (λ j. record j { announced = number })) >> change_mission t (λ n. record n { handing = Some (record { number = number; to = d }) }))
-      (say t group (Transition (start line border - group_start line m.place) line.nid_c (nid_rbc line d)))
-      (both line c may was (send d (Announce number t m.place.track) >> become (λ j. record j { announced = number })) (change_mission t (λ n. record n { handing = Some (record { number = number; to = d }) }))
-      (both line c may was (send d (Announce number t m.place.track)) (become (λ j. record j { announced = number })) (λ j. step line c may was (sends d (Announce number t m.place.track) j (announces number t m.place.track its so))) (λ j. step line c may was (counts number j so)))
-      (λ j. step line c may was (changes t (λ n. record n { handing = Some (record { number = number; to = d }) }) j (hands (record { number = number; to = d }) so))))
-      (λ j. step line c may was (says t group (Transition (start line border - group_start line m.place) line.nid_c (nid_rbc line d)) j)) k
+  pub announce_walks : may.announces ≡ true → (group d : ℕ) (m : Mission) (k : Centre) → k.mission t ≡ Some m → m.handing ≡ None → Walk line c may was k (announce line t group d m k)
+  unfolding ◌>>◌
+  announce_walks so group d m k has none = joined ((send d (Announce (k.announced + 1) t m.place.track) >> become (λ j. record j { announced = k.announced + 1 })) >> change_mission t (hand_to d (k.announced + 1)))
+      (say t group (Transition (start line (part_at line d m.place.track m.hand).first - group_start line m.place) line.nid_c (nid_rbc line d))) k
+      (step line c may was (announces t d m k its so has none))
+      (step line c may was (says t group (Transition (start line (part_at line d m.place.track m.hand).first - group_start line m.place) line.nid_c (nid_rbc line d)) _))
 
-  yield_walks : (m : Mission) (h : Handing) → Its (yield line c t m h)
-  yield_walks m h k = both line c may was _ _
-      (both line c may was (returned line c t m.place.track m.pool >> booked (is_taken_for t) (Out t) m.hand) _
-      (both line c may was _ _ (λ j. step line c may was (returns t m.place.track m.pool j its)) (λ j. step line c may was (lends (is_taken_for t) t m.hand j its)))
-      (both line c may was (set_mission t None) _ (λ j. step line c may was (sets t None j closes))
-      (λ j. step line c may was (sends h.to (Yield h.number t (option_map_or (λ n. n) (k.heard t) 0) m.has_data m.is_ended (yielded_place m.place) m.hand) j
-      (yields h.number t (option_map_or (λ n. n) (k.heard t) 0) m.has_data m.is_ended (yielded_place m.place) m.hand its)))))
-      (branch line c may was (is_empty (part_at line c m.place.track m.hand)) (end_order line c t) rest (end_order_walks line c may was t) (resting line c may was)) k
+  yield_walks : (m : Mission) (h : Handing) (k : Centre) → may.yields ≡ Some h → k.mission t ≡ Some m → m.handing ≡ Some h → Walk line c may was k (yield line c t m h k)
+  unfolding ◌>>◌
+  yield_walks m h k may_yield has stands = joined (goes >> gives) (if is_empty (part_at line c m.place.track m.hand) then end_order line c t else rest) k
+      (joined goes gives k (joined (returned line c t m.place.track m.pool) (booked (is_taken_for t) (Out t) m.hand) k (step line c may was (returns t m.place.track m.pool k its)) (step line c may was (lends (is_taken_for t) t m.hand k its)))
+      (step line c may was (yields t m h (goes k).state its may_yield has stands)))
+      (branch line c may was (is_empty (part_at line c m.place.track m.hand)) (end_order line c t) rest (end_order_walks line c may was t) (resting line c may was) _)
+    where
+      goes : Act
+      goes = returned line c t m.place.track m.pool >> booked (is_taken_for t) (Out t) m.hand
 
-  pub taking_over_walks : (d number : ℕ) → Its (taking_over line c d number t)
-  taking_over_walks d number = with line c may was (λ k. k.mission t) (λ m. with_some (λ k. m.handing) (λ h. where_so (λ k. (h.number == number) && (h.to == d)) (yield line c t m h)))
-      (λ k m has. with line c may was (λ k. m.handing) (λ h. where_so (λ k. (h.number == number) && (h.to == d)) (yield line c t m h))
-      (λ k h some. when line c may was (λ k. (h.number == number) && (h.to == d)) (yield line c t m h) (yield_walks m h) k) k)
+      gives : Act
+      gives = set_mission t None >> send h.to (Yield h.number t (option_map_or (λ n. n) (k.heard t) 0) m.has_data m.is_ended (yielded_place m.place) m.hand)
+
+  pub taking_over_walks : (d number : ℕ) → may.yields ≡ Some (record { number = number; to = d }) → Its (taking_over line c d number t)
+  taking_over_walks d number so = with line c may was (λ k. k.mission t) (λ m. with_some (λ k. m.handing) (λ h. where_so (λ k. (h.number == number) && (h.to == d)) (yield line c t m h)))
+      (λ k m has. by_option line c may was m.handing (λ h. where_so (λ j. (h.number == number) && (h.to == d)) (yield line c t m h) k) (rest k) k
+      (λ h stands. by_bool line c may was ((h.number == number) && (h.to == d)) (yield line c t m h k) (rest k) k
+      (λ due. yield_walks m h k (this h due) has stands) (λ other. resting line c may was k)) (resting line c may was k))
+    where
+      this : (h : Handing) → ((h.number == number) && (h.to == d)) ≡ true → may.yields ≡ Some h
+      this h due = let both = and_parts (h.number == number) (h.to == d) due in
+          subst (λ x. may.yields ≡ Some (record { number = x; to = h.to })) (sym (eqb-true h.number number both.0)) (subst (λ x. may.yields ≡ Some (record { number = number; to = x })) (sym (eqb-true h.to d both.1)) so)

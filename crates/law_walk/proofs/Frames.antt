@@ -8,10 +8,11 @@ use Rattle.rbc_spec.specs.SectionRuns.{SectionRun, no_run, within, is_empty, par
 use Rattle.rbc_spec.specs.Line.{Line, is_home, section}
 use Rattle.rbc_spec.specs.Place.{Place, covered}
 use Rattle.rbc_spec.specs.Frame.{Body, AskRight, GiveRight, RefuseRight, ReturnRight, RouteAsk, RouteInfo, RouteWithdraw, RouteReturn, Announce, Cancel, TakingOver, Yield, carried_place}
-use Rattle.rbc_spec.specs.Centre.{Centre, Taken, Mission, is_out_for, is_taken_for, uses_some, is_expected, is_registrar_of}
+use Rattle.rbc_spec.specs.Centre.{Centre, Handing, Taken, Mission, is_out_for, is_taken_for, uses_some, is_expected, is_registrar_of}
 use Rattle.rbc_spec.specs.Acts.{Act, Reply, become, rest, ◌>>◌, with_some, send, booked, freed, returned, set_mission, change_mission, return_right, propose_if_so, end_order}
 use Rattle.rbc_spec.specs.Rules.{choose, begin, reject}
 use Rattle.rbc_spec.specs.Links.{right_asked, answered_ask, right_given, right_refused, right_returned, route_asked, is_wanted, route_told, route_withdrawn, route_returned, expect, announced, is_under, cancelled, may_take, take_mission, yielded, is_train, of_train, received}
+use Rattle.law_base.proofs.Lists.{none_is}
 use Rattle.law_base.proofs.Puts.{put_there}
 use Rattle.law_walk.specs.Trains.{train_of}
 use Rattle.law_walk.proofs.Moves.{May, Walk, Answer, Closed, of_walk, has_place_for_route, gives, refuses, begins_at, not_needed, drops, nothing_waits, lends_some, told, waited, goes_home, rests, sends, returns, books, frees, expects, hears, sets, changes, comes, less_pool, pools, Walks, step, resting, both, by_bool, branch, when, with}
@@ -38,21 +39,21 @@ module _ (line : Line) (c d : ℕ) (may : May) (was : Centre) (t : ℕ) (its : m
   home_walks so r = both line c may was (freed line c (is_out_for t) r) _ (λ k. step line c may was (frees (is_out_for t) r k so))
       (when line c may was (λ k. not (uses_some line c k t) && ((is_none (k.mission t) && is_none (k.wait t)) && not (is_expected line k t))) (end_order line c t) (end_order_walks line c may was t))
 
-  announced_walks : (number : ℕ) → Goes (announced d number t)
-  announced_walks number = when line c may was (λ k. is_none (k.expects d t)) (expect d t (Some (record { number = number; is_taking = false }))) (λ k. step line c may was (expects d t (Some (record { number = number; is_taking = false })) k))
+  announced_walks : may.expects ≡ true → (number : ℕ) → Goes (announced d number t)
+  announced_walks so number = when line c may was (λ k. is_none (k.expects d t)) (expect d t (Some (record { number = number; is_taking = false }))) (λ k. step line c may was (expects d t (Some (record { number = number; is_taking = false })) k so))
 
-  cancelled_walks : (number : ℕ) → Goes (cancelled d number t)
-  cancelled_walks number = when line c may was (λ k. is_under number (k.expects d t)) (expect d t None) (λ k. step line c may was (expects d t None k))
+  cancelled_walks : may.expects ≡ true → (number : ℕ) → Goes (cancelled d number t)
+  cancelled_walks so number = when line c may was (λ k. is_under number (k.expects d t)) (expect d t None) (λ k. step line c may was (expects d t None k so))
 
-  yielded_walks : (number : ℕ) (hand : SectionRun) (heard : ℕ) (has_data is_ended : Bool) (place : Place) → Walk line c may was was (yielded line c d number t hand heard has_data is_ended place was)
-  yielded_walks number hand heard has_data is_ended place =
+  yielded_walks : may.expects ≡ true → (number : ℕ) (hand : SectionRun) (heard : ℕ) (has_data is_ended : Bool) (place : Place) → Walk line c may was was (yielded line c d number t hand heard has_data is_ended place was)
+  yielded_walks so number hand heard has_data is_ended place =
       let m : Mission = record { place = place; hand = hand; pool = no_run; has_data = has_data; is_ended = is_ended; proposal = None; handing = None } in
       by_bool line c may was (may_take line c was d number t place hand) (take_mission line c d t heard m was) (rest was) was
       (λ taken. both line c may was _ (with_some (λ k. find (λ s. is_home line c s && k.wish s) (range_with_len hand.first hand.count)) (propose_if_so line t))
       (both line c may was (booked (is_out_for t) (Taken t) hand >> set_mission t (Some m)) (become (λ k. record k { heard = put k.heard t (Some (option_map_or (max heard) (k.heard t) heard)) }) >> expect d t None)
-      (both line c may was (booked (is_out_for t) (Taken t) hand) (set_mission t (Some m)) (λ k. step line c may was (books (is_out_for t) t hand k)) (λ k. step line c may was (sets t (Some m) k (comes d number place hand has_data is_ended taken))))
+      (both line c may was (booked (is_out_for t) (Taken t) hand) (set_mission t (Some m)) (λ k. step line c may was (books (is_out_for t) t hand k)) (λ k. step line c may was (sets t (Some m) k (comes d number place hand has_data is_ended so taken))))
       (both line c may was (become (λ k. record k { heard = put k.heard t (Some (option_map_or (max heard) (k.heard t) heard)) })) (expect d t None)
-      (λ k. step line c may was (hears t (Some (option_map_or (max heard) (k.heard t) heard)) k)) (λ k. step line c may was (expects d t None k))))
+      (λ k. step line c may was (hears t (Some (option_map_or (max heard) (k.heard t) heard)) k)) (λ k. step line c may was (expects d t None k so))))
       (with line c may was (λ k. find (λ s. is_home line c s && k.wish s) (range_with_len hand.first hand.count)) (propose_if_so line t) (λ k s found. propose_if_walks line c may was t s k)) was)
       (λ left. resting line c may was was)
 
@@ -73,8 +74,20 @@ frame_speaks (RefuseRight t) = true
 frame_speaks (RouteReturn t r) = true
 frame_speaks body = false
 
-abbrev pub frame_may : Body → May
-frame_may body = record { announces = false; speaks = frame_speaks body; train = Some (train_of body) }
+-- a frame of the centre that hands over may change what is expected
+abbrev pub frame_expects : Body → Bool
+frame_expects (Announce number t track) = true
+frame_expects (Cancel number t) = true
+frame_expects (Yield number t heard has_data is_ended place hand) = true
+frame_expects body = false
+
+-- a frame of the centre that takes over may have the handover to it yielded
+abbrev pub frame_yields : ℕ → Body → Option Handing
+frame_yields d (TakingOver number t) = Some (record { number = number; to = d })
+frame_yields d body = None
+
+abbrev pub frame_may : ℕ → Body → May
+frame_may d body = record { announces = false; speaks = frame_speaks body; expects = frame_expects body; train = Some (train_of body); yields = frame_yields d body }
 
 -- why a question or an answer that comes has no effect
 pub data Idle (line : Line) (c d : ℕ) (was : Centre) : Body → Type 0 where
@@ -88,20 +101,20 @@ pub data Idle (line : Line) (c d : ℕ) (was : Centre) : Body → Type 0 where
 pub data Taking (line : Line) (c d : ℕ) (was : Centre) (body : Body) : Reply → Type 0 where
   foreign : is_train line (train_of body) ≡ false → Taking line c d was body (rest was)
   idle : Idle line c d was body → Taking line c d was body (rest was)
-  walks : (q : Reply) → is_train line (train_of body) ≡ true → is_question body ≡ false → Walk line c (frame_may body) was was q → Taking line c d was body q
-  answers : (q : Reply) → is_train line (train_of body) ≡ true → Answer line c (frame_may body) was d body q → Taking line c d was body q
-  answers_then : (a b : Act) → is_train line (train_of body) ≡ true → Answer line c (frame_may body) was d body (a was) → Walk line c (frame_may body) was (a was).state (b (a was).state)
+  walks : (q : Reply) → is_train line (train_of body) ≡ true → is_question body ≡ false → Walk line c (frame_may d body) was was q → Taking line c d was body q
+  answers : (q : Reply) → is_train line (train_of body) ≡ true → Answer line c (frame_may d body) was d body q → Taking line c d was body q
+  answers_then : (a b : Act) → is_train line (train_of body) ≡ true → Answer line c (frame_may d body) was d body (a was) → Walk line c (frame_may d body) was (a was).state (b (a was).state)
       → Taking line c d was body ((a >> b) was)
 
 -- what holds of each small move and each answer, and of two acts in a row
-pub of_taking : (line : Line) (c d : ℕ) (was : Centre) (body : Body) (P : Centre → Reply → Type 0) → Closed line c (frame_may body) was P → ((q : Reply) → Answer line c (frame_may body) was d body q → P was q)
+pub of_taking : (line : Line) (c d : ℕ) (was : Centre) (body : Body) (P : Centre → Reply → Type 0) → Closed line c (frame_may d body) was P → ((q : Reply) → Answer line c (frame_may d body) was d body q → P was q)
     → (q : Reply) → Taking line c d was body q → P was q
 of_taking line c d was body P closed answered _ (foreign away) = closed.moves was (rest was) (rests was)
 of_taking line c d was body P closed answered _ (idle why) = closed.moves was (rest was) (rests was)
-of_taking line c d was body P closed answered _ (walks q known none walk) = of_walk line c (frame_may body) was P closed was q walk
+of_taking line c d was body P closed answered _ (walks q known none walk) = of_walk line c (frame_may d body) was P closed was q walk
 of_taking line c d was body P closed answered _ (answers q known answer) = answered q answer
 of_taking line c d was body P closed answered _ (answers_then a b known answer walk) =
-    closed.joins a b was (answered (a was) answer) (of_walk line c (frame_may body) was P closed (a was).state (b (a was).state) walk)
+    closed.joins a b was (answered (a was) answer) (of_walk line c (frame_may d body) was P closed (a was).state (b (a was).state) walk)
 
 module _ (line : Line) (c d : ℕ) (was : Centre) where
   of_train_taking : (body : Body) (act : Act) → (is_train line (train_of body) ≡ true → Taking line c d was body (act was)) → Taking line c d was body (of_train line (train_of body) act was)
@@ -139,13 +152,13 @@ module _ (line : Line) (c d : ℕ) (was : Centre) where
       chosen_of o b j = if is_some o && b then starts o else return_right line c t j
 
       returns_it : was.has_asked t ≡ true → (is_some (was.wait t) && is_none (was.mission t)) ≡ false → Taking line c d was (GiveRight t) ((answered_ask t >> return_right line c t) was)
-      returns_it asked none = answers_then (answered_ask t) (return_right line c t) known (not_needed t asked none) (return_right_walks line c (frame_may (GiveRight t)) was t refl answered)
+      returns_it asked none = answers_then (answered_ask t) (return_right line c t) known (not_needed t asked none) (return_right_walks line c (frame_may d (GiveRight t)) was t refl answered)
 
       by_start : was.has_asked t ≡ true → (o : Option Place) → was.wait t ≡ o → (b : Bool) → is_none (was.mission t) ≡ b → Taking line c d was (GiveRight t) ((answered_ask t >> chosen_of o b) was)
       by_start asked None waits b at = returns_it asked (ap (λ z. is_some z && is_none (was.mission t)) waits)
       by_start asked (Some place) waits false at = returns_it asked (ap (λ z. is_some z && is_none (was.mission t)) waits ∙ at)
-      by_start asked (Some place) waits true at = answers_then ends (begin line t place) known (begins_at t place asked waits)
-          (begin_walks line c (frame_may (GiveRight t)) was t place (waited waits) (ends was).state)
+      by_start asked (Some place) waits true at = answers_then ends (begin line t place) known (begins_at t place asked waits (none_is (was.mission t) at))
+          (begin_walks line c (frame_may d (GiveRight t)) was t place (waited waits) (ends was).state (none_is (was.mission t) at))
 
   refused_taking : (t : ℕ) → is_train line t ≡ true → Taking line c d was (RefuseRight t) (right_refused line c t was)
   unfolding ◌>>◌
@@ -168,7 +181,7 @@ module _ (line : Line) (c d : ℕ) (was : Centre) where
 
       by_wait : was.has_asked t ≡ true → (o : Option Place) → was.wait t ≡ o → Taking line c d was (RefuseRight t) ((answered_ask t >> (λ j. if is_some o then (drops_of o >> reject t) j else rest j)) was)
       by_wait asked None waits = answers _ known (nothing_waits t asked waits)
-      by_wait asked (Some place) waits = answers_then (ends place) (reject t) known (drops t place refl asked waits) (reject_walks line c (frame_may (RefuseRight t)) was t (ends place was).state)
+      by_wait asked (Some place) waits = answers_then (ends place) (reject t) known (drops t place refl asked waits) (reject_walks line c (frame_may d (RefuseRight t)) was t (ends place was).state)
 
   lent_taking : (t first most : ℕ) → is_train line t ≡ true → Taking line c d was (RouteAsk t first most) (route_asked line c d t first most was)
   unfolding ◌>>◌
@@ -184,7 +197,7 @@ module _ (line : Line) (c d : ℕ) (was : Centre) where
       (λ away. idle (no_place t r away))
     where
       may : May
-      may = frame_may (RouteInfo t r)
+      may = frame_may d (RouteInfo t r)
 
       ended : Centre
       ended = record was { route_ask = put was.route_ask t None }
@@ -195,29 +208,29 @@ module _ (line : Line) (c d : ℕ) (was : Centre) where
 
   -- ## A frame
 
-  of_walks : (body : Body) (act : Act) → is_question body ≡ false → Walk line c (frame_may body) was was (act was) → Taking line c d was body (of_train line (train_of body) act was)
+  of_walks : (body : Body) (act : Act) → is_question body ≡ false → Walk line c (frame_may d body) was was (act was) → Taking line c d was body (of_train line (train_of body) act was)
   of_walks body act none walk = of_train_taking body act (λ known. walks (act was) known none walk)
 
-  so_or_rests : (body : Body) (b : Bool) (act : Act) → Walks line c (frame_may body) was act → Walk line c (frame_may body) was was ((if b then act else rest) was)
-  so_or_rests body b act walk = branch line c (frame_may body) was b act rest walk (resting line c (frame_may body) was) was
+  so_or_rests : (body : Body) (b : Bool) (act : Act) → Walks line c (frame_may d body) was act → Walk line c (frame_may d body) was was ((if b then act else rest) was)
+  so_or_rests body b act walk = branch line c (frame_may d body) was b act rest walk (resting line c (frame_may d body) was) was
 
   pub received_taking : (body : Body) → Taking line c d was body (received line c d body was)
   received_taking (AskRight t) = of_train_taking (AskRight t) _ (asked_taking t)
   received_taking (GiveRight t) = of_train_taking (GiveRight t) _ (given_taking t)
   received_taking (RefuseRight t) = of_train_taking (RefuseRight t) _ (refused_taking t)
-  received_taking (ReturnRight t) = of_walks (ReturnRight t) _ refl (returned_walks line c d (frame_may (ReturnRight t)) was t refl was)
+  received_taking (ReturnRight t) = of_walks (ReturnRight t) _ refl (returned_walks line c d (frame_may d (ReturnRight t)) was t refl was)
   received_taking (RouteAsk t first most) = of_train_taking (RouteAsk t first most) _ (lent_taking t first most)
   received_taking (RouteInfo t r) = of_train_taking (RouteInfo t r) _ (told_taking t r)
-  received_taking (RouteWithdraw t s) = of_walks (RouteWithdraw t s) _ refl (so_or_rests (RouteWithdraw t s) (is_some (section line s)) (route_withdrawn line c t s) (withdrawn_walks line c d (frame_may (RouteWithdraw t s)) was t refl s))
-  received_taking (RouteReturn t r) = of_walks (RouteReturn t r) _ refl (so_or_rests (RouteReturn t r) (all_of (λ s. is_some (section line s)) r) (route_returned line c t r) (home_walks line c d (frame_may (RouteReturn t r)) was t refl refl r))
-  received_taking (Announce number t track) = of_walks (Announce number t track) _ refl (so_or_rests (Announce number t track) (nat_lt track (length line.tracks)) (announced d number t) (announced_walks line c d (frame_may (Announce number t track)) was t refl number))
-  received_taking (Cancel number t) = of_walks (Cancel number t) _ refl (cancelled_walks line c d (frame_may (Cancel number t)) was t refl number was)
-  received_taking (TakingOver number t) = of_walks (TakingOver number t) _ refl (taking_over_walks line c (frame_may (TakingOver number t)) was t refl d number was)
+  received_taking (RouteWithdraw t s) = of_walks (RouteWithdraw t s) _ refl (so_or_rests (RouteWithdraw t s) (is_some (section line s)) (route_withdrawn line c t s) (withdrawn_walks line c d (frame_may d (RouteWithdraw t s)) was t refl s))
+  received_taking (RouteReturn t r) = of_walks (RouteReturn t r) _ refl (so_or_rests (RouteReturn t r) (all_of (λ s. is_some (section line s)) r) (route_returned line c t r) (home_walks line c d (frame_may d (RouteReturn t r)) was t refl refl r))
+  received_taking (Announce number t track) = of_walks (Announce number t track) _ refl (so_or_rests (Announce number t track) (nat_lt track (length line.tracks)) (announced d number t) (announced_walks line c d (frame_may d (Announce number t track)) was t refl refl number))
+  received_taking (Cancel number t) = of_walks (Cancel number t) _ refl (cancelled_walks line c d (frame_may d (Cancel number t)) was t refl refl number was)
+  received_taking (TakingOver number t) = of_walks (TakingOver number t) _ refl (taking_over_walks line c (frame_may d (TakingOver number t)) was t refl d number refl was)
   received_taking (Yield number t heard has_data is_ended place hand) = of_walks (Yield number t heard has_data is_ended place hand) _ refl (by_place (carried_place place))
     where
       may : May
-      may = frame_may (Yield number t heard has_data is_ended place hand)
+      may = frame_may d (Yield number t heard has_data is_ended place hand)
 
       by_place : (o : Option Place) → Walk line c may was was (option_map_or (yielded line c d number t hand heard has_data is_ended) o rest was)
       by_place None = resting line c may was was
-      by_place (Some at) = yielded_walks line c d may was t refl number hand heard has_data is_ended at
+      by_place (Some at) = yielded_walks line c d may was t refl refl number hand heard has_data is_ended at

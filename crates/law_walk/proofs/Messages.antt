@@ -16,8 +16,8 @@ use Rattle.rbc_spec.specs.Rules.{accept, reject, begin, restart, start_here, sta
 use Rattle.law_base.proofs.Lists.{none_is}
 use Rattle.law_base.proofs.Puts.{put_there}
 use Rattle.law_base.proofs.Standstill.{rests_or_cuts}
-use Rattle.law_walk.proofs.Moves.{May, still, asking, speaking, MayBegin, all_free, recalls, joined, says, takes_over, books, phases, waits, rights, asks_right, asks_route, sets, changes, grows, clears, cuts, no_proposal, data_known, ends, restarts, Walk, Walks, step, resting, both, by_bool, by_option, branch, if_some, chosen, when, with}
-use Rattle.law_walk.proofs.Acts.{leave_walks, return_pool_walks, cancel_walks, close_walks, announce_walks, close_session_walks, accept_walks, reject_walks, begin_walks}
+use Rattle.law_walk.proofs.Moves.{May, still, asking, speaking, MayBegin, all_free, joined, says, takes_over, books, phases, waits, rights, asks_right, asks_route, sets, changes, grows, clears, cuts, no_proposal, data_known, ends, restarts, Walk, Walks, step, resting, both, by_bool, by_option, if_some, with}
+use Rattle.law_walk.proofs.Acts.{leave_walks, return_pool_walks, recall_walks, close_walks, announce_walks, close_session_walks, accept_walks, reject_walks, begin_walks}
 
 module _ (line : Line) (c : ℕ) (may : May) (was : Centre) (t : ℕ) (its : may.train ≡ Some t) where
   abbrev Goes : Act → Type 0
@@ -34,11 +34,13 @@ module _ (line : Line) (c : ℕ) (may : May) (was : Centre) (t : ℕ) (its : may
           (step line c may was (changes t (λ n. record n { place = place; has_data = false; is_ended = false; proposal = None }) was (restarts m place is_valid position has has fits all))) (accept_walks line c may was t _)
       by_test false some = reject_walks line c may was t was
 
-  start_here_walks : (place : Place) → MayBegin line c t was place → Goes (start_here line t place)
-  start_here_walks place why = chosen line c may was (λ k. k.has_right t) ((booked is_open (Taken t) (covered line place) >> become (λ k. record k { has_right = put k.has_right t false })) >> begin line t place) (reject t)
-      (both line c may was (booked is_open (Taken t) (covered line place) >> become (λ k. record k { has_right = put k.has_right t false })) (begin line t place)
-      (both line c may was (booked is_open (Taken t) (covered line place)) (become (λ k. record k { has_right = put k.has_right t false }))
-      (λ k. step line c may was (books is_open t (covered line place) k)) (λ k. step line c may was (rights t false k))) (begin_walks line c may was t place why)) (reject_walks line c may was t)
+  start_here_walks : (place : Place) → MayBegin line c t was place → (k : Centre) → k.mission t ≡ None → Walk line c may was k (start_here line t place k)
+  unfolding ◌>>◌
+  start_here_walks place why k none = by_bool line c may was (k.has_right t) ((((booked is_open (Taken t) (covered line place) >> become (λ j. record j { has_right = put j.has_right t false })) >> begin line t place) k)) (reject t k) k
+      (λ has. joined (booked is_open (Taken t) (covered line place) >> become (λ j. record j { has_right = put j.has_right t false })) (begin line t place) k
+      (joined (booked is_open (Taken t) (covered line place)) (become (λ j. record j { has_right = put j.has_right t false })) k
+      (step line c may was (books is_open t (covered line place) k)) (step line c may was (rights t false _))) (begin_walks line c may was t place why _ none))
+      (λ has_not. reject_walks line c may was t k)
 
   -- a start waits at a place; the right is asked for, where it was not
   abbrev waits_at : Place → Act
@@ -59,20 +61,30 @@ module _ (line : Line) (c : ℕ) (may : May) (was : Centre) (t : ℕ) (its : may
   start_waiting_walks place k = joined (booked is_open (Taken t) (covered line place)) (waits_at place >> where_so (λ j. not (j.has_asked t)) (asking_for (registrar line t))) k
       (step line c may was (books is_open t (covered line place) k)) (waits_walks place (booked is_open (Taken t) (covered line place) k).state (k.has_asked t) refl (registrar line t) refl)
 
-  start_new_walks : (place : Place) → Walk line c may was was (start_new line c t place was)
-  start_new_walks place = by_bool line c may was (all_of (is_free line c was) (covered line place)) ((if is_registrar_of line c t then start_here line t place else start_waiting line t place) was) (reject t was) was
-      (λ free. branch line c may was (is_registrar_of line c t) (start_here line t place) (start_waiting line t place) (start_here_walks place (all_free free)) (start_waiting_walks place) was)
+  start_new_walks : (place : Place) → was.mission t ≡ None → Walk line c may was was (start_new line c t place was)
+  start_new_walks place none = by_bool line c may was (all_of (is_free line c was) (covered line place)) ((if is_registrar_of line c t then start_here line t place else start_waiting line t place) was) (reject t was) was
+      (λ free. by_registrar (all_free free) (is_registrar_of line c t))
       (λ used. reject_walks line c may was t was)
+    where
+      by_registrar : MayBegin line c t was place → (b : Bool) → Walk line c may was was ((if b then start_here line t place else start_waiting line t place) was)
+      by_registrar why true = start_here_walks place why was none
+      by_registrar why false = start_waiting_walks place was
 
   start_mission_walks : (is_valid : Bool) (position : Position) → Walk line c may was was (start_mission line c t is_valid position was)
   start_mission_walks is_valid position = by_option line c may was (fit_place line is_valid position) (λ place. option_map_or (λ m. restart line t place m was) (was.mission t) (start_new line c t place was)) (reject t was) was
-      (λ place fits. by_option line c may was (was.mission t) (λ m. restart line t place m was) (start_new line c t place was) was (λ m has. restart_walks is_valid position place m has fits) (start_new_walks place)) (reject_walks line c may was t was)
+      (λ place fits. by_mission place fits (was.mission t) refl) (reject_walks line c may was t was)
+    where
+      by_mission : (place : Place) → fit_place line is_valid position ≡ Some place → (o : Option Mission) → was.mission t ≡ o → Walk line c may was was (option_map_or (λ m. restart line t place m was) o (start_new line c t place was))
+      by_mission place fits None none = start_new_walks place none
+      by_mission place fits (Some m) has = restart_walks is_valid position place m has fits
 
   -- ## Requests
 
-  announce_if_walks : may.announces ≡ true → (d : ℕ) → Goes (announce_if_due line t d)
+  pub announce_if_walks : may.announces ≡ true → (d : ℕ) → Goes (announce_if_due line t d)
   announce_if_walks so d = with line c may was (λ k. k.mission t) (λ m. where_so (λ k. is_none m.handing && not (is_empty (part_at line d m.place.track m.hand))) (announce line t m.place.group d m))
-      (λ k m has. when line c may was (λ k. is_none m.handing && not (is_empty (part_at line d m.place.track m.hand))) (announce line t m.place.group d m) (announce_walks line c may was t its so m.place.group d m) k)
+      (λ k m has. by_bool line c may was (is_none m.handing && not (is_empty (part_at line d m.place.track m.hand))) (announce line t m.place.group d m k) (rest k) k
+      (λ due. announce_walks line c may was t its so m.place.group d m k has (none_is m.handing (and_parts (is_none m.handing) (not (is_empty (part_at line d m.place.track m.hand))) due).0))
+      (λ undue. resting line c may was k))
 
   abbrev may_ask : ℕ → Mission → Centre → Bool
   may_ask d m k = ((is_home line d (behind m.hand) && is_on line m.place.track (behind m.hand)) && nat_lt m.hand.count most_in_hand) && (is_empty m.pool && is_none (k.route_ask t))
@@ -117,12 +129,12 @@ module _ (line : Line) (c : ℕ) (may : May) (was : Centre) (t : ℕ) (its : may
     where
       of_count : (b : Bool) → Walk line c may was k ((if b then (leave line c t m.place.track (joined_runs m.hand m.pool) >> close line c t m)
           else (leave line c t m.place.track (cleared line place m) >> set_mission t (Some (record m { place = place; hand = part_from (behind (cleared line place m)) m.hand })))) k)
-      of_count true = joined (leave line c t m.place.track (joined_runs m.hand m.pool)) (close line c t m) k (leave_walks line c may was t its so m.place.track (joined_runs m.hand m.pool) k) (close_walks line c may was t its m _)
+      of_count true = joined (leave line c t m.place.track (joined_runs m.hand m.pool)) (close line c t m) k (leave_walks line c may was t its so m.place.track (joined_runs m.hand m.pool) k) (close_walks line c may was t its m m _ has refl)
       of_count false = joined (leave line c t m.place.track (cleared line place m)) (set_mission t (Some (record m { place = place; hand = part_from (behind (cleared line place m)) m.hand }))) k
           (leave_walks line c may was t its so m.place.track (cleared line place m) k)
           (step line c may was (sets t (Some (record m { place = place; hand = part_from (behind (cleared line place m)) m.hand })) (leave line c t m.place.track (cleared line place m) k).state (clears m place (cleared line place m) position has placed)))
 
-  report_here_walks : may.speaks ≡ true → (position : Position) (m : Mission) (k : Centre) → k.mission t ≡ Some m → Walk line c may was k (report_here line c t position m k)
+  pub report_here_walks : may.speaks ≡ true → (position : Position) (m : Mission) (k : Centre) → k.mission t ≡ Some m → Walk line c may was k (report_here line c t position m k)
   report_here_walks so position m k has = by_place (place_on line m.place.track position) refl
     where
       by_place : (o : Option Place) → place_on line m.place.track position ≡ o → Walk line c may was k (option_map_or (clear line c t m) o rest k)
@@ -141,7 +153,7 @@ module _ (line : Line) (c : ℕ) (may : May) (was : Centre) (t : ℕ) (its : may
   cancels m last_kept o = option_map_or (λ h. if is_empty (part_at line h.to m.place.track (kept_by last_kept m).hand) then cancel t (kept_by last_kept m) else rest) o rest
 
   -- a mission that was m, but for its request to shorten, is cut
-  cut_walks : may.speaks ≡ true → (last_kept : ℕ) (m n : Mission) (k : Centre) → k.mission t ≡ Some n → record n { proposal = None } ≡ record m { proposal = None } → Walk line c may was k (cut line c t last_kept m k)
+  pub cut_walks : may.speaks ≡ true → (last_kept : ℕ) (m n : Mission) (k : Centre) → k.mission t ≡ Some n → record n { proposal = None } ≡ record m { proposal = None } → Walk line c may was k (cut line c t last_kept m k)
   unfolding ◌>>◌
   cut_walks so last_kept m n k has same = joined (leave line c t m.place.track (joined_runs tail m.pool)) (if tail.count == m.hand.count then close line c t m else (set_mission t (Some kept) >> cancels m last_kept m.handing)) k
       (leave_walks line c may was t its so m.place.track (joined_runs tail m.pool) k) (by_count (tail.count == m.hand.count))
@@ -156,8 +168,8 @@ module _ (line : Line) (c : ℕ) (may : May) (was : Centre) (t : ℕ) (its : may
       left = (leave line c t m.place.track (joined_runs tail m.pool) k).state
 
       by_part : (h : Handing) → m.handing ≡ Some h → (b : Bool) → is_empty (part_at line h.to m.place.track kept.hand) ≡ b → Walk line c may was (set_mission t (Some kept) left).state ((if b then cancel t kept else rest) (set_mission t (Some kept) left).state)
-      by_part h stands true none = cancel_walks line c may was t its kept (set_mission t (Some kept) left).state
-          (λ g is. recalls kept g (put_there left.mission t (Some kept)) is (subst (λ (x : Handing). is_empty (part_at line x.to m.place.track kept.hand) ≡ true) (same_Some h g (sym stands ∙ is)) none))
+      by_part h stands true none = recall_walks line c may was t its kept (set_mission t (Some kept) left).state (put_there left.mission t (Some kept))
+          (λ g is. subst (λ (x : Handing). is_empty (part_at line x.to m.place.track kept.hand) ≡ true) (same_Some h g (sym stands ∙ is)) none)
       by_part h stands false some = resting line c may was (set_mission t (Some kept) left).state
 
       by_handing : (o : Option Handing) → m.handing ≡ o → Walk line c may was (set_mission t (Some kept) left).state (cancels m last_kept o (set_mission t (Some kept) left).state)
@@ -165,7 +177,7 @@ module _ (line : Line) (c : ℕ) (may : May) (was : Centre) (t : ℕ) (its : may
       by_handing (Some h) stands = by_part h stands (is_empty (part_at line h.to m.place.track kept.hand)) refl
 
       by_count : (b : Bool) → Walk line c may was left ((if b then close line c t m else (set_mission t (Some kept) >> cancels m last_kept m.handing)) left)
-      by_count true = close_walks line c may was t its m left
+      by_count true = close_walks line c may was t its m n left has (ap (λ (q : Mission). q.handing) same)
       by_count false = joined (set_mission t (Some kept)) (cancels m last_kept m.handing) left (step line c may was (sets t (Some kept) left (cuts m n last_kept has same))) (by_handing m.handing refl)
 
   granted_walks : may.speaks ≡ true → (position : Position) (m : Mission) (p : Proposal) (k : Centre) → k.mission t ≡ Some m → Walk line c may was k (granted line c t position m p k)
@@ -220,7 +232,7 @@ may_speak TerminationOfSession = true
 may_speak body = false
 
 abbrev pub may_do : ℕ → TrainBody → May
-may_do t body = record { announces = may_announce body; speaks = may_speak body; train = Some t }
+may_do t body = record { announces = may_announce body; speaks = may_speak body; expects = false; train = Some t; yields = None }
 
 module _ (line : Line) (c : ℕ) (was : Centre) where
   pub answered_walks : (m : TrainMessage) (body : TrainBody) → Walk line c (may_do m.nid_engine body) was was (answered line c m body was)

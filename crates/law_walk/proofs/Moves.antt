@@ -1,37 +1,40 @@
 -- The small moves that each act of a centre is made of, and walks: one move after another.
-use Rattle.std.proofs.Common.{◌≡◌, ℕ, ◌+◌, ◌-◌, ◌==◌, Bool, true, false, if◌then◌else◌, min, List, [], ◌∷◌, ◌++◌, ◌&&◌, Option, Some, None, is_some, is_none, refl}
+use Rattle.std.proofs.Common.{◌≡◌, ℕ, ◌+◌, ◌-◌, ◌==◌, Bool, true, false, if◌then◌else◌, min, List, [], ◌∷◌, ◌++◌, ◌&&◌, Option, Some, None, option_map, is_some, is_none, refl}
 use Rattle.std.specs.Option.{option_map_or}
 use Rattle.rbc_spec.specs.Maps.{put, has}
 use Rattle.rbc_spec.specs.SectionRuns.{SectionRun, no_run, most_in_hand, within, is_empty, behind, part_before, part_from, all_of}
 use Rattle.rbc_spec.specs.Line.{Line, is_home, section, registrar}
 use Rattle.rbc_spec.specs.Place.{Place, Position, covered, place_on, fit_place}
 use Rattle.rbc_spec.specs.Message.{TrackBody}
-use Rattle.rbc_spec.specs.Frame.{Body, YieldedPlace, AskRight, GiveRight, RefuseRight, ReturnRight, RouteAsk, RouteInfo, RouteReturn, Announce, Cancel, Yield}
+use Rattle.rbc_spec.specs.Frame.{Body, yielded_place, AskRight, GiveRight, RefuseRight, ReturnRight, RouteAsk, RouteInfo, RouteReturn, Announce, Cancel, Yield}
 use Rattle.rbc_spec.specs.Outcome.{Word}
 use Rattle.rbc_spec.specs.Centre.{Centre, Entry, Taken, Out, Phase, Mission, Handing, Proposal, Expectation, is_free, is_open, is_taken_for, is_out_for, is_registrar_of}
 use Rattle.rbc_spec.specs.Acts.{Act, Reply, become, rest, ◌>>◌, where_so, with_some, send, say, booked, freed, returned, set_mission, change_mission, begun, part_at}
-use Rattle.rbc_spec.specs.Rules.{tell, choose, set_phase, take_over, extended_by}
+use Rattle.rbc_spec.specs.Rules.{tell, set_phase, take_over, extended_by}
 use Rattle.rbc_spec.specs.Links.{expect, may_take, answered_ask, is_of_line, lendable}
 use Rattle.rbc_spec.specs.Step.{withdraw, make}
 
--- what an event may do: announce a handover, and tell the interlocking something; and the train that it is of, where it is of one
+-- what an event may do: announce a handover, tell the interlocking something, and change what is expected from another centre; the train that it is
+-- of, where it is of one, and the handover that it may yield
 pub record May : Type 0 where
   pub announces : Bool
   pub speaks : Bool
+  pub expects : Bool
   pub train : Option ℕ
+  pub yields : Option Handing
 
 abbrev pub still : ℕ → May
-still t = record { announces = false; speaks = false; train = Some t }
+still t = record { announces = false; speaks = false; expects = false; train = Some t; yields = None }
 
 abbrev pub asking : ℕ → May
-asking t = record { announces = true; speaks = false; train = Some t }
+asking t = record { announces = true; speaks = false; expects = false; train = Some t; yields = None }
 
 abbrev pub speaking : ℕ → May
-speaking t = record { announces = false; speaks = true; train = Some t }
+speaking t = record { announces = false; speaks = true; expects = false; train = Some t; yields = None }
 
 -- of a word of the interlocking
 abbrev pub setting : May
-setting = record { announces = false; speaks = true; train = None }
+setting = record { announces = false; speaks = true; expects = false; train = None; yields = None }
 
 -- why a mission may begin at a place: its start waited for the right, or the sections of the place were free
 pub data MayBegin (line : Line) (c t : ℕ) (was : Centre) (place : Place) : Type 0 where
@@ -40,24 +43,19 @@ pub data MayBegin (line : Line) (c t : ℕ) (was : Centre) (place : Place) : Typ
 
 -- what becomes of the mission of train t where one is set, with what is known of the state and of the event's start
 pub data Turn (line : Line) (c : ℕ) (may : May) (was : Centre) (t : ℕ) (k : Centre) : Option Mission → Type 0 where
-  closes : Turn line c may was t k None
-  begins : (place : Place) → MayBegin line c t was place → Turn line c may was t k (Some (begun line place))
+  begins : (place : Place) → MayBegin line c t was place → k.mission t ≡ None → Turn line c may was t k (Some (begun line place))
   grows : (m : Mission) (place : Place) (r : SectionRun) → may.announces ≡ true → k.mission t ≡ Some m → Turn line c may was t k (Some (extended_by r (record m { place = place })))
   clears : (m : Mission) (place : Place) (r : SectionRun) (position : Position) → k.mission t ≡ Some m → place_on line m.place.track position ≡ Some place
       → Turn line c may was t k (Some (record m { place = place; hand = part_from (behind r) m.hand }))
   cuts : (m n : Mission) (last_kept : ℕ) → k.mission t ≡ Some n → record n { proposal = None } ≡ record m { proposal = None }
       → Turn line c may was t k (Some (record m { hand = part_before (last_kept + 1) m.hand; pool = no_run; proposal = None }))
-  comes : (d number : ℕ) (place : Place) (hand : SectionRun) (has_data is_ended : Bool) → may_take line c was d number t place hand ≡ true
+  comes : (d number : ℕ) (place : Place) (hand : SectionRun) (has_data is_ended : Bool) → may.expects ≡ true → may_take line c was d number t place hand ≡ true
       → Turn line c may was t k (Some (record { place = place; hand = hand; pool = no_run; has_data = has_data; is_ended = is_ended; proposal = None; handing = None }))
 
 -- how the mission of train t changes, where it has one
 pub data Change (line : Line) (may : May) (was : Centre) (t : ℕ) (k : Centre) : (Mission → Mission) → Type 0 where
   no_proposal : Change line may was t k (λ m. record m { proposal = None })
   proposes : (p : Proposal) → Change line may was t k (λ m. record m { proposal = Some p })
-  no_mission : k.mission t ≡ None → Change line may was t k (λ m. record m { handing = None })
-  recalls : (m : Mission) (h : Handing) → k.mission t ≡ Some m → m.handing ≡ Some h → is_empty (part_at line h.to m.place.track m.hand) ≡ true
-      → Change line may was t k (λ n. record n { handing = None })
-  hands : (h : Handing) → may.announces ≡ true → Change line may was t k (λ m. record m { handing = Some h })
   no_pool : Change line may was t k (λ m. record m { pool = no_run })
   less_pool : (s : ℕ) → Change line may was t k (λ m. record m { pool = part_before s m.pool })
   pools : (r : SectionRun) → k.route_ask t ≡ None → Change line may was t k (λ m. record m { pool = r })
@@ -66,15 +64,12 @@ pub data Change (line : Line) (may : May) (was : Centre) (t : ℕ) (k : Centre) 
   restarts : (m : Mission) (place : Place) (is_valid : Bool) (position : Position) → k.mission t ≡ Some m → was.mission t ≡ Some m → fit_place line is_valid position ≡ Some place
       → all_of (within m.hand) (covered line place) ≡ true → Change line may was t k (λ n. record n { place = place; has_data = false; is_ended = false; proposal = None })
 
--- why a body may go to centre d. Questions go with what is kept of them (`asks_right`, `asks_route`), their answers are acts of their own (`Answer`),
--- and three bodies go to many centres at once (`returns`, `withdraws`, `takes_over`)
+-- why a body may go to centre d by itself. Questions and what is said of a handover go with what is kept of them (`asks_right`, `asks_route`, `announces`,
+-- `recalls`, `closes_handed`, `yields`), answers are acts of their own (`Answer`), and three bodies go to many centres at once (`returns`, `withdraws`,
+-- `takes_over`)
 pub data MaySend (line : Line) (may : May) (d : ℕ) : Body → Type 0 where
   goes_back : (t : ℕ) → may.train ≡ Some t → registrar line t ≡ Some d → MaySend line may d (ReturnRight t)
   goes_home : (t : ℕ) (r : SectionRun) → may.train ≡ Some t → is_empty r ≡ false → all_of (is_home line d) r ≡ true → MaySend line may d (RouteReturn t r)
-  announces : (number t track : ℕ) → may.train ≡ Some t → may.announces ≡ true → MaySend line may d (Announce number t track)
-  cancels : (number t : ℕ) → may.train ≡ Some t → MaySend line may d (Cancel number t)
-  yields : (number t heard : ℕ) (has_data is_ended : Bool) (place : YieldedPlace) (hand : SectionRun) → may.train ≡ Some t
-      → MaySend line may d (Yield number t heard has_data is_ended place hand)
 
 -- sections that were asked for, of one track of the line and each of home d
 abbrev pub has_place_for_route : Line → ℕ → SectionRun → Option ℕ → Bool
@@ -83,6 +78,13 @@ has_place_for_route line d r asked = (has (λ first. first == r.first) asked && 
 -- the body goes to a centre, where there is one
 abbrev pub to_some : Option ℕ → Body → ℕ → List Body
 to_some to body e = option_map_or (λ d. if e == d then body ∷ [] else []) to []
+
+-- the mission with a handover, and with none
+abbrev pub hand_to : ℕ → ℕ → Mission → Mission
+hand_to d number m = record m { handing = Some (record { number = number; to = d }) }
+
+abbrev pub no_handover : Mission → Mission
+no_handover m = record m { handing = None }
 
 -- the small moves of centre c, in an event that began at `was` and may do so much
 pub data Move (line : Line) (c : ℕ) (may : May) (was : Centre) : Centre → Reply → Type 0 where
@@ -98,7 +100,7 @@ pub data Move (line : Line) (c : ℕ) (may : May) (was : Centre) : Centre → Re
   frees : (is_meant : Entry → Bool) (r : SectionRun) (k : Centre) → may.speaks ≡ true → Move line c may was k (freed line c is_meant r k)
   makes : (s : ℕ) (entry : Entry) (wish : Bool) (k : Centre) → ((t : ℕ) → is_out_for t entry ≡ false) → Move line c may was k (make s entry wish k)
   wishes : (s : ℕ) (wish : Bool) (k : Centre) → Move line c may was k (become (λ j. record j { wish = put j.wish s wish }) k)
-  expects : (d t : ℕ) (e : Option Expectation) (k : Centre) → Move line c may was k (expect d t e k)
+  expects : (d t : ℕ) (e : Option Expectation) (k : Centre) → may.expects ≡ true → Move line c may was k (expect d t e k)
   hears : (t : ℕ) (x : Option ℕ) (k : Centre) → Move line c may was k (become (λ j. record j { heard = put j.heard t x }) k)
   phases : (t : ℕ) (phase : Phase) (k : Centre) → Move line c may was k (set_phase t phase k)
   waits : (t : ℕ) (place : Place) (k : Centre) → k.has_asked t ≡ true → Move line c may was k (become (λ j. record j { wait = put j.wait t (Some place) }) k)
@@ -120,7 +122,34 @@ pub data Move (line : Line) (c : ℕ) (may : May) (was : Centre) : Centre → Re
         sayings = [];
         words = [];
       })
-  counts : (number : ℕ) (k : Centre) → may.announces ≡ true → Move line c may was k (become (λ j. record j { announced = number }) k)
+  -- a handover to d is announced, where none stands
+  announces : (t d : ℕ) (m : Mission) (k : Centre) → may.train ≡ Some t → may.announces ≡ true → k.mission t ≡ Some m → m.handing ≡ None
+      → Move line c may was k (record {
+        state = record k { announced = k.announced + 1; mission = put k.mission t (option_map (hand_to d (k.announced + 1)) (k.mission t)) };
+        frames = λ e. (to_some (Some d) (Announce (k.announced + 1) t m.place.track) e ++ []) ++ [];
+        sayings = [];
+        words = [];
+      })
+  -- a handover is cancelled, where the hand has nothing of the next centre
+  recalls : (t : ℕ) (m : Mission) (h : Handing) (k : Centre) → may.train ≡ Some t → k.mission t ≡ Some m → m.handing ≡ Some h → is_empty (part_at line h.to m.place.track m.hand) ≡ true
+      → Move line c may was k (record { state = (change_mission t no_handover k).state; frames = λ e. to_some (Some h.to) (Cancel h.number t) e ++ []; sayings = []; words = [] })
+  -- a mission closes, and its handover with it
+  closes : (t : ℕ) (m : Mission) (k : Centre) → k.mission t ≡ Some m → m.handing ≡ None → Move line c may was k (set_mission t None k)
+  closes_handed : (t : ℕ) (m : Mission) (h : Handing) (k : Centre) → may.train ≡ Some t → k.mission t ≡ Some m → m.handing ≡ Some h
+      → Move line c may was k (record {
+        state = (change_mission t no_handover (set_mission t None k).state).state;
+        frames = λ e. to_some (Some h.to) (Cancel h.number t) e ++ [];
+        sayings = [];
+        words = [];
+      })
+  -- a mission goes to the centre that it was announced to
+  yields : (t : ℕ) (m : Mission) (h : Handing) (k : Centre) → may.train ≡ Some t → may.yields ≡ Some h → k.mission t ≡ Some m → m.handing ≡ Some h
+      → Move line c may was k (record {
+        state = (set_mission t None k).state;
+        frames = λ e. to_some (Some h.to) (Yield h.number t (option_map_or (λ n. n) (k.heard t) 0) m.has_data m.is_ended (yielded_place m.place) m.hand) e;
+        sayings = [];
+        words = [];
+      })
   sets : (t : ℕ) (o : Option Mission) (k : Centre) → Turn line c may was t k o → Move line c may was k (set_mission t o k)
   changes : (t : ℕ) (f : Mission → Mission) (k : Centre) → Change line may was t k f → Move line c may was k (change_mission t f k)
 
@@ -138,7 +167,7 @@ pub data Answer (line : Line) (c : ℕ) (may : May) (was : Centre) (d : ℕ) : B
     words = [];
   })
   refuses : (t : ℕ) → is_registrar_of line c t ≡ true → Answer line c may was d (AskRight t) (send d (RefuseRight t) was)
-  begins_at : (t : ℕ) (place : Place) → was.has_asked t ≡ true → was.wait t ≡ Some place → Answer line c may was d (GiveRight t) (record {
+  begins_at : (t : ℕ) (place : Place) → was.has_asked t ≡ true → was.wait t ≡ Some place → was.mission t ≡ None → Answer line c may was d (GiveRight t) (record {
     state = record was { has_asked = put was.has_asked t false; wait = put was.wait t None };
     frames = λ e. [];
     sayings = [];
@@ -204,11 +233,8 @@ module _ (line : Line) (c : ℕ) (may : May) (was : Centre) where
   if_some None f g some none = none
   if_some (Some x) f g some none = some x
 
-  pub chosen : (test : Centre → Bool) (f g : Act) → Walks f → Walks g → Walks (choose test f g)
-  chosen test f g yes_walk no_walk k = by_bool (test k) (f k) (g k) k (λ so. yes_walk k) (λ so. no_walk k)
-
   pub when : (test : Centre → Bool) (act : Act) → Walks act → Walks (where_so test act)
-  when test act walks = chosen test act rest walks resting
+  when test act walks k = by_bool (test k) (act k) (rest k) k (λ so. walks k) (λ so. resting k)
 
   pub with : {X : Type 0} (value : Centre → Option X) (act : X → Act) → ((k : Centre) (x : X) → value k ≡ Some x → Walk line c may was k (act x k)) → Walks (with_some value act)
   with value act walks k = by_option (value k) (λ x. act x k) (rest k) k (walks k) (resting k)

@@ -84,7 +84,7 @@ module _ (line : Line) (c : ℕ) (P : Centre → Reply → Type 0) (closed : (ma
 
   module _ (answered : (may : May) (was : Centre) (d : ℕ) (body : Body) (q : Reply) → Answer line c may was d body q → P was q) where
     pub of_frame : (d : ℕ) (body : Body) (k : Centre) → P k (received line c d body k)
-    of_frame d body k = of_taking line c d k body P (closed (frame_may body) k) (answered (frame_may body) k d body) (received line c d body k) (received_taking line c d k body)
+    of_frame d body k = of_taking line c d k body P (closed (frame_may d body) k) (answered (frame_may d body) k d body) (received line c d body k) (received_taking line c d k body)
 
     -- the count of the frames that were taken is no small move
     module _ (counted : (d number : ℕ) (k : Centre) → P k (become (λ j. record j { taken = put j.taken d number }) k)) where
