@@ -39,7 +39,6 @@ pub fn encode_track(alloc: Global, message: &TrackMsg) -> Result<Vec<u8>, Encode
     let body = message.body();
     let number = track_writing::number_of(body);
     let l_message = track_writing::length_of(body);
-    let writer = track_writing::header(alloc, number, l_message, message)?;
-    let writer = track_writing::body(writer, body)?;
-    Ok(writer.finish()?)
+    let row = track_writing::header(number, l_message, message);
+    track_writing::bytes(alloc, row, body)
 }
