@@ -1,6 +1,6 @@
 -- What a writer has: whole bytes, and fewer than 64 bits behind them.
 use Rattle.std.proofs.Common.{◌≡◌, ℕ, ◌+◌, ◌-◌, ◌*◌, ◌/◌, ◌%◌, ◌^◌, ◌<◌, ◌≤◌, false, List, ◌++◌, length, take, replicate, sym, ap, ◌∙◌, append_assoc, length-append, arith}
-use Rattle.std.specs.Int.{w64, to_be_bytes}
+use Rattle.std.specs.Int.{w64, to_be_bytes, bytes_high_first}
 use Rattle.std.specs.Prelude.{bit_and, bit_or}
 use Rattle.std.proofs.Math.Nat.{mul_assoc}
 use Rattle.std.proofs.lemmas.List.{append-nil, take_at}
@@ -72,34 +72,34 @@ filled-whole bytes held count none_held =
     let whole : filling (length bits) ≡ 0 = omega (arith, length-bits_of bytes) in
     rw (none, whole) (sym (append-nil bits))
 
--- the bits that are held, moved to the top of a word, begin its bytes
-top_bytes : (held count k : ℕ) → k ≤ 8 → count ≤ 8 * k → bits_of (take k (to_be_bytes w64 (held * 2 ^ (64 - count) + 0))) ≡ field count held ++ replicate (8 * k - count) false
-top_bytes held count k few room =
+-- the bits that are held, moved to the top of a word of b bytes, begin its bytes
+top_bytes : (b held count k : ℕ) → k ≤ b → count ≤ 8 * k → bits_of (take k (bytes_high_first b (held * 2 ^ (8 * b - count) + 0))) ≡ field count held ++ replicate (8 * k - count) false
+top_bytes b held count k few room =
     let r = 8 * k - count in
-    let low = 64 - 8 * k in
-    let number = held * 2 ^ (64 - count) + 0 in
+    let low = 8 * b - 8 * k in
+    let number = held * 2 ^ (8 * b - count) + 0 in
     let high = held * 2 ^ r + 0 in
-    let split : 64 - count ≡ r + low = omega arith in
+    let split : 8 * b - count ≡ r + low = omega arith in
     let number-is : number ≡ high * 2 ^ low + 0 = rw (split, pow-add 2 r low)
     (ap (λ x. x + 0) (sym (mul_assoc held (2 ^ r) (2 ^ low)) ∙ ap (λ x. x * 2 ^ low) (let z : held * 2 ^ r ≡ held * 2 ^ r + 0 = omega arith in z))) in
     let shifted : number / 2 ^ low ≡ high = ap (λ x. x / 2 ^ low) number-is ∙ shr_high high low 0 (pow_pos low) in
-    let e64 : 64 ≡ 8 * k + low = omega arith in
+    let whole : 8 * b ≡ 8 * k + low = omega arith in
     let e8 : 8 * k ≡ count + r = omega arith in
-    let word : bits_of (to_be_bytes w64 number) ≡ field (8 * k) high ++ field low number =
-    bits_of-bytes_high_first 8 number ∙ ap (λ w. field w number) e64 ∙ field-add (8 * k) low number ∙ ap (λ x. field (8 * k) x ++ field low number) shifted in
-    sym (take-bits_of k (to_be_bytes w64 number) (omega (arith, length-bytes_high_first 8 number))) ∙ ap (take (8 * k)) word
+    let word : bits_of (bytes_high_first b number) ≡ field (8 * k) high ++ field low number =
+    bits_of-bytes_high_first b number ∙ ap (λ w. field w number) whole ∙ field-add (8 * k) low number ∙ ap (λ x. field (8 * k) x ++ field low number) shifted in
+    sym (take-bits_of k (bytes_high_first b number) (omega (arith, length-bytes_high_first b number))) ∙ ap (take (8 * k)) word
     ∙ take_at (field (8 * k) high) (field low number) (8 * k) (length-field (8 * k) high)
     ∙ ap (λ w. field w high) e8 ∙ sym (field-append count r held 0 (pow_pos r)) ∙ ap (λ t. field count held ++ t) (field-zero r)
 
-pub filled-part : (bytes new : List ℕ) (held count : ℕ) → 0 < count → count < 64 → held < 2 ^ count
-    → new ≡ bytes ++ take ((count + 7) / 8) (to_be_bytes w64 (held * 2 ^ (64 - count) % 2 ^ 64)) → bits_of new ≡ filled (bits_of bytes ++ field count held)
+pub filled-part : (b : ℕ) (bytes new : List ℕ) (held count : ℕ) → 0 < count → count ≤ 8 * b → held < 2 ^ count
+    → new ≡ bytes ++ take ((count + 7) / 8) (bytes_high_first b (held * 2 ^ (8 * b - count) % 2 ^ (8 * b))) → bits_of new ≡ filled (bits_of bytes ++ field count held)
 unfolding filled
-filled-part bytes new held count some small fits new-is =
+filled-part b bytes new held count some small fits new-is =
     let bits = bits_of bytes in
     let k = (count + 7) / 8 in
     let r = 8 * k - count in
-    let kept : held * 2 ^ (64 - count) % 2 ^ 64 ≡ held * 2 ^ (64 - count) + 0 = shl_whole held count (64 - count) 64 fits (omega arith) ∙ (omega arith) in
+    let kept : held * 2 ^ (8 * b - count) % 2 ^ (8 * b) ≡ held * 2 ^ (8 * b - count) + 0 = shl_whole held count (8 * b - count) (8 * b) fits (omega arith) ∙ (omega arith) in
     let l : length (bits ++ field count held) ≡ 8 * length bytes + count = omega (arith, length-append bits (field count held), length-bits_of bytes, length-field count held) in
     let fill : filling (length (bits ++ field count held)) ≡ r = rw l (omega arith) in
-    rw (new-is, kept, bits_of-append bytes (take k (to_be_bytes w64 (held * 2 ^ (64 - count) + 0))), top_bytes held count k (omega arith) (omega arith), fill)
+    rw (new-is, kept, bits_of-append bytes (take k (bytes_high_first b (held * 2 ^ (8 * b - count) + 0))), top_bytes b held count k (omega arith) (omega arith), fill)
     (sym (append_assoc bits (field count held) (replicate r false)))

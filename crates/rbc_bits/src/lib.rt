@@ -7,10 +7,12 @@
 mod fault;
 mod part;
 mod reader;
+mod row;
 mod word;
 mod writer;
 
 pub use fault::BitFault;
 pub use part::BitPart;
 pub use reader::BitReader;
+pub use row::BitRow;
 pub use writer::BitWriter;

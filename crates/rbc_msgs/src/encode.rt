@@ -36,10 +36,8 @@ pub fn encode_track(alloc: Global, message: &TrackMsg) -> Result<Vec<u8>, Encode
     ensures spelled { IfOk result (λ bytes. SpellsTrack bytes.items message.now) }
     ensures memory { IsOkUnless result EncodeFault.Memory }
 {
-    let body = message.body();
-    let number = track_writing::number_of(body);
-    let l_message = track_writing::length_of(body);
-    let writer = track_writing::header(alloc, number, l_message, message)?;
-    let writer = track_writing::body(writer, body)?;
-    Ok(writer.finish()?)
+    let number = track_writing::number_of(message.body());
+    let l_message = track_writing::length_of(message.body());
+    let row = track_writing::header(number, l_message, message);
+    track_writing::bytes(alloc, row, message.body())
 }

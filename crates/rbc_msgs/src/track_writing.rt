@@ -1,6 +1,7 @@
 //! The parts of a centre's message, written one behind the other, and how long they are.
 
-ghost use Rattle.std.specs.Prelude.{◌≡◌, ◌<◌, ◌++◌, ◌^◌, ◌∷◌, [], IfOk, OnOk, IsOkUnless};
+ghost use Rattle.std.specs.Prelude.{◌≡◌, ◌<◌, ◌++◌, ◌^◌, ◌∷◌, [], length, IfOk, IsOkUnless};
+ghost use Rattle.rbc_bits.specs.Bits.{bits_of, filled};
 ghost use Rattle.rbc_packets.specs.Layout.{joined};
 ghost use Rattle.rbc_spec.specs.Message.{unknown_time};
 ghost use Rattle.rbc_msgs.specs.Bodies.{track_body};
@@ -10,7 +11,7 @@ ghost use Rattle.rbc_msgs.specs.TrackSpelling.{track_number, track_body_fields, 
 use crate::fault::EncodeFault;
 use crate::number::TrackNumber;
 use crate::track::{TrackBody, TrackMsg, VERSION_2_0};
-use rbc_bits::BitWriter;
+use rbc_bits::BitRow;
 use rbc_packets::{Authority, SessionOrder, Transition};
 use std::alloc::Global;
 
@@ -57,52 +58,57 @@ pub(crate) fn number_of(body: TrackBody) -> u64
 /// The header of a message of this NID_MESSAGE and L_MESSAGE.
 #[tactic(auto, unfolding(rbc_packets::specs::Layout::joined))]
 #[inline(always)]
-pub(crate) fn header(
-    alloc: Global,
-    number: u64,
-    l_message: u64,
-    message: &TrackMsg,
-) -> Result<BitWriter, EncodeFault>
+pub(crate) fn header(number: u64, l_message: u64, message: &TrackMsg) -> BitRow
     requires number { number < 2 ^ 8 }
     requires length { l_message < length_limit }
-    ensures ok { IfOk result
-        (λ w. w ≡ joined ((8, number) ∷ (10, l_message) ∷ (32, message.now.t_train) ∷ (1, 0)
-        ∷ (24, message.now.nid_lrbg) ∷ [])) }
-    ensures fits { OnOk result ((message.now.t_train < unknown_time) × (message.now.nid_lrbg < 2 ^ 24)) }
-    ensures memory { IsOkUnless result EncodeFault.Memory }
+    ensures ok { result
+        ≡ joined ((8, number) ∷ (10, l_message) ∷ (32, message.now.t_train) ∷ (1, 0)
+        ∷ (24, message.now.nid_lrbg) ∷ []) }
+    ensures length { length result ≡ 75 }
+    ensures fits { (message.now.t_train < unknown_time) × (message.now.nid_lrbg < 2 ^ 24) }
 {
-    let mut writer = BitWriter::with_capacity(alloc, l_message as usize)?;
-    writer.put(number, 8)?;
-    writer.put(l_message, 10)?;
-    writer.put(message.t_train().into(), 32)?;
-    writer.put(0, 1)?;
-    writer.put(message.nid_lrbg().into(), 24)?;
-    Ok(writer)
+    let mut row = BitRow::new();
+    row.put(number, 8);
+    row.put(l_message, 10);
+    row.put(message.t_train().into(), 32);
+    row.put(0, 1);
+    row.put(message.nid_lrbg().into(), 24);
+    row
 }
 
-/// What stands behind the header.
+/// The bytes of a message of this header and this body. Each body is finished by itself: so the place of each field is
+/// known before it is written.
 #[tactic(auto, unfolding(rbc_packets::specs::Layout::joined))]
 #[inline(always)]
-pub(crate) fn body(mut writer: BitWriter, body: TrackBody) -> Result<BitWriter, EncodeFault>
-    ensures ok { IfOk result (λ w. w ≡ writer ++ joined (track_body_fields (track_body body))) }
-    ensures fits { OnOk result (TrackBodyFits (track_body body)) }
+pub(crate) fn bytes(alloc: Global, mut row: BitRow, body: TrackBody) -> Result<Vec<u8>, EncodeFault>
+    requires { length row ≡ 75 }
+    ensures ok { IfOk result
+        (λ bytes. bits_of bytes.items ≡ filled (row ++ joined (track_body_fields (track_body body)))) }
+    ensures fits { TrackBodyFits (track_body body) }
     ensures memory { IsOkUnless result EncodeFault.Memory }
 {
     match body {
         TrackBody::Authority(authority) | TrackBody::ShorteningRequest(authority) => {
-            Ok(authority.write_packet(writer)?)
+            authority.write_packet(&mut row);
+            Ok(row.finish(alloc)?)
         }
         TrackBody::DataAcknowledged(t_train) => {
-            writer.put(t_train.value(), 32)?;
-            Ok(writer)
+            row.put(t_train.value(), 32);
+            Ok(row.finish(alloc)?)
         }
-        TrackBody::Transition(transition) => Ok(transition.write_packet(writer)?),
-        TrackBody::EndSession(order) => Ok(order.write_packet(writer)?),
+        TrackBody::Transition(transition) => {
+            transition.write_packet(&mut row);
+            Ok(row.finish(alloc)?)
+        }
+        TrackBody::EndSession(order) => {
+            order.write_packet(&mut row);
+            Ok(row.finish(alloc)?)
+        }
         TrackBody::SystemVersion => {
-            writer.put(VERSION_2_0, 7)?;
-            Ok(writer)
+            row.put(VERSION_2_0, 7);
+            Ok(row.finish(alloc)?)
         }
         TrackBody::TerminationAcknowledged | TrackBody::TrainRejected | TrackBody::TrainAccepted =>
-            Ok(writer),
+            Ok(row.finish(alloc)?),
     }
 }

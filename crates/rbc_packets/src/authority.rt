@@ -1,4 +1,4 @@
-ghost use Rattle.std.specs.Prelude.{◌≡◌, ◌++◌, ◌∷◌, [], IfOk, OnOk, IsOkUnless, Bool, List, Ok};
+ghost use Rattle.std.specs.Prelude.{◌≡◌, ◌+◌, ◌≤◌, ◌++◌, ◌∷◌, [], length, IfOk, OnOk, Bool, List, Ok};
 ghost use Rattle.rbc_packets.specs.Layout.{joined, track_packet};
 ghost use Rattle.rbc_packets.specs.Steps.{Takes};
 ghost use Rattle.rbc_packets.specs.TrackSpelling.{authority_fields, AuthorityFits};
@@ -7,7 +7,7 @@ ghost use Rattle.rbc_packets.specs.TrackReading.{authority_at, authority_fields_
 use crate::fault::PacketFault;
 use crate::reading::{end, take, take_fixed, track_part};
 use crate::writing::put_track_header;
-use rbc_bits::{BitPart, BitReader, BitWriter};
+use rbc_bits::{BitPart, BitReader, BitRow};
 use rbc_vars::LEndsection;
 
 /// Packet 15, Level 2/3 Movement Authority, of one section and without timers, danger point or overlap (7.4.2.4,
@@ -67,19 +67,18 @@ impl Authority {
         Ok(Authority { l_endsection })
     }
 
-    /// Writes the packet. A refusal leaves nothing of the writer.
+    /// Writes the packet.
     #[tactic(auto, unfolding(crate::specs::Layout::joined))]
     #[inline(always)]
-    pub fn write_packet(&self, mut writer: BitWriter) -> Result<BitWriter, PacketFault>
-        ensures ok { IfOk result (λ w. w ≡ writer ++ joined ((8, 15) ∷ track_packet (authority_fields self.now))) }
-        ensures fits { OnOk result (AuthorityFits self.now) }
-        ensures memory { IsOkUnless result PacketFault.Memory }
+    pub fn write_packet(&self, row: &mut BitRow)
+        requires room { length row.old + 66 ≤ 256 }
+        ensures ok { row.new ≡ row.old ++ joined ((8, 15) ∷ track_packet (authority_fields self.now)) }
+        ensures fits { AuthorityFits self.now }
     {
-        put_track_header(&mut writer, Authority::NID_PACKET, Authority::L_PACKET)?;
-        put_sections(&mut writer)?;
-        writer.put(self.l_endsection.value(), 15)?;
-        put_no_more(&mut writer)?;
-        Ok(writer)
+        put_track_header(row, Authority::NID_PACKET, Authority::L_PACKET);
+        put_sections(row);
+        row.put(self.l_endsection.value(), 15);
+        put_no_more(row);
     }
 }
 
@@ -112,21 +111,20 @@ fn take_no_more(part: &mut BitPart) -> Result<(), PacketFault>
 // The four fields are one of 24 bits.
 #[tactic(auto, unfolding(rbc_bits::specs::Bits::field, crate::specs::Layout::joined))]
 #[inline(always)]
-fn put_sections(writer: &mut BitWriter) -> Result<(), PacketFault>
-    ensures ok { OnOk result (writer.new ≡ writer.old ++ joined ((2, 1) ∷ (7, 0) ∷ (10, 1023) ∷ (5, 0) ∷ [])) }
-    ensures memory { IsOkUnless result PacketFault.Memory }
+fn put_sections(row: &mut BitRow)
+    requires room { length row.old + 24 ≤ 256 }
+    ensures ok { row.new ≡ row.old ++ joined ((2, 1) ∷ (7, 0) ∷ (10, 1023) ∷ (5, 0) ∷ []) }
+    ensures length { length row.new ≡ length row.old + 24 }
 {
-    writer.put(4_227_040, 24)?;
-    Ok(())
+    row.put(4_227_040, 24);
 }
 
 // The four fields are one of 4 bits.
 #[tactic(auto, unfolding(rbc_bits::specs::Bits::field, crate::specs::Layout::joined))]
 #[inline(always)]
-fn put_no_more(writer: &mut BitWriter) -> Result<(), PacketFault>
-    ensures ok { OnOk result (writer.new ≡ writer.old ++ joined ((1, 0) ∷ (1, 0) ∷ (1, 0) ∷ (1, 0) ∷ [])) }
-    ensures memory { IsOkUnless result PacketFault.Memory }
+fn put_no_more(row: &mut BitRow)
+    requires room { length row.old + 4 ≤ 256 }
+    ensures ok { row.new ≡ row.old ++ joined ((1, 0) ∷ (1, 0) ∷ (1, 0) ∷ (1, 0) ∷ []) }
 {
-    writer.put(0, 4)?;
-    Ok(())
+    row.put(0, 4);
 }

@@ -1,4 +1,4 @@
-ghost use Rattle.std.specs.Prelude.{◌≡◌, ◌++◌, ◌∷◌, IfOk, OnOk, IsOkUnless, Bool, List, Ok};
+ghost use Rattle.std.specs.Prelude.{◌≡◌, ◌+◌, ◌≤◌, ◌++◌, ◌∷◌, length, IfOk, Bool, List, Ok};
 ghost use Rattle.rbc_packets.specs.Layout.{joined, track_packet};
 ghost use Rattle.rbc_packets.specs.Steps.{Takes};
 ghost use Rattle.rbc_packets.specs.TrackSpelling.{session_order_fields, SessionOrderFits};
@@ -7,7 +7,7 @@ ghost use Rattle.rbc_packets.specs.TrackReading.{session_order_at, session_order
 use crate::fault::PacketFault;
 use crate::reading::{end, take, take_fixed, take_radio, track_part};
 use crate::writing::{put_radio, put_track_header};
-use rbc_bits::{BitPart, BitReader, BitWriter};
+use rbc_bits::{BitPart, BitReader, BitRow};
 use rbc_vars::{NidC, NidRbc};
 
 /// Packet 42, session management: the session with this centre is to be terminated (7.4.2.11, profile).
@@ -71,23 +71,18 @@ impl SessionOrder {
         Ok(SessionOrder { nid_c, nid_rbc })
     }
 
-    /// Writes the packet. A refusal leaves nothing of the writer.
+    /// Writes the packet.
     #[tactic(auto, unfolding(crate::specs::Layout::joined))]
     #[inline(always)]
-    pub fn write_packet(&self, mut writer: BitWriter) -> Result<BitWriter, PacketFault>
-        ensures ok { IfOk result (λ w. w ≡ writer ++ joined ((8, 42) ∷ track_packet (session_order_fields self.now))) }
-        ensures fits { OnOk result (SessionOrderFits self.now) }
-        ensures memory { IsOkUnless result PacketFault.Memory }
+    pub fn write_packet(&self, row: &mut BitRow)
+        requires room { length row.old + 113 ≤ 256 }
+        ensures ok { row.new ≡ row.old ++ joined ((8, 42) ∷ track_packet (session_order_fields self.now)) }
+        ensures fits { SessionOrderFits self.now }
     {
-        put_track_header(
-            &mut writer,
-            SessionOrder::NID_PACKET,
-            SessionOrder::L_PACKET,
-        )?;
-        writer.put(0, 1)?;
-        writer.put(self.nid_c.value(), 10)?;
-        writer.put(self.nid_rbc.value(), 14)?;
-        put_radio(&mut writer)?;
-        Ok(writer)
+        put_track_header(row, SessionOrder::NID_PACKET, SessionOrder::L_PACKET);
+        row.put(0, 1);
+        row.put(self.nid_c.value(), 10);
+        row.put(self.nid_rbc.value(), 14);
+        put_radio(row);
     }
 }

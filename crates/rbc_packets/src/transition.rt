@@ -1,4 +1,4 @@
-ghost use Rattle.std.specs.Prelude.{◌≡◌, ◌++◌, ◌∷◌, IfOk, OnOk, IsOkUnless, Bool, List, Ok};
+ghost use Rattle.std.specs.Prelude.{◌≡◌, ◌+◌, ◌≤◌, ◌++◌, ◌∷◌, length, IfOk, Bool, List, Ok};
 ghost use Rattle.rbc_packets.specs.Layout.{joined, track_packet};
 ghost use Rattle.rbc_packets.specs.Steps.{Takes};
 ghost use Rattle.rbc_packets.specs.TrackSpelling.{transition_fields, TransitionFits};
@@ -7,7 +7,7 @@ ghost use Rattle.rbc_packets.specs.TrackReading.{transition_at, transition_field
 use crate::fault::PacketFault;
 use crate::reading::{end, take, take_fixed, take_radio, track_part};
 use crate::writing::{put_radio, put_track_header};
-use rbc_bits::{BitPart, BitReader, BitWriter};
+use rbc_bits::{BitPart, BitReader, BitRow};
 use rbc_vars::{DRbctr, NidC, NidRbc};
 
 /// Packet 131, RBC transition order: where another centre takes over, and which one (7.4.2.38, profile).
@@ -76,20 +76,19 @@ impl Transition {
         })
     }
 
-    /// Writes the packet. A refusal leaves nothing of the writer.
+    /// Writes the packet.
     #[tactic(auto, unfolding(crate::specs::Layout::joined))]
     #[inline(always)]
-    pub fn write_packet(&self, mut writer: BitWriter) -> Result<BitWriter, PacketFault>
-        ensures ok { IfOk result (λ w. w ≡ writer ++ joined ((8, 131) ∷ track_packet (transition_fields self.now))) }
-        ensures fits { OnOk result (TransitionFits self.now) }
-        ensures memory { IsOkUnless result PacketFault.Memory }
+    pub fn write_packet(&self, row: &mut BitRow)
+        requires room { length row.old + 129 ≤ 256 }
+        ensures ok { row.new ≡ row.old ++ joined ((8, 131) ∷ track_packet (transition_fields self.now)) }
+        ensures fits { TransitionFits self.now }
     {
-        put_track_header(&mut writer, Transition::NID_PACKET, Transition::L_PACKET)?;
-        writer.put(1, 2)?;
-        writer.put(self.d_rbctr.value(), 15)?;
-        writer.put(self.nid_c.value(), 10)?;
-        writer.put(self.nid_rbc.value(), 14)?;
-        put_radio(&mut writer)?;
-        Ok(writer)
+        put_track_header(row, Transition::NID_PACKET, Transition::L_PACKET);
+        row.put(1, 2);
+        row.put(self.d_rbctr.value(), 15);
+        row.put(self.nid_c.value(), 10);
+        row.put(self.nid_rbc.value(), 14);
+        put_radio(row);
     }
 }

@@ -1,12 +1,12 @@
 //! The headers of packets.
 
-ghost use Rattle.std.specs.Prelude.{◌≡◌, ◌^◌, ◌<◌, ◌++◌, ◌∷◌, [], OnOk, IsOkUnless};
+ghost use Rattle.std.specs.Prelude.{◌≡◌, ◌+◌, ◌^◌, ◌<◌, ◌≤◌, ◌++◌, ◌∷◌, [], length, OnOk, IsOkUnless};
 ghost use Rattle.rbc_packets.specs.Layout.{joined};
 ghost use Rattle.rbc_packets.specs.TrackSpelling.{no_radio};
 
 use crate::fault::PacketFault;
 use crate::reading::NO_RADIO;
-use rbc_bits::BitWriter;
+use rbc_bits::{BitRow, BitWriter};
 
 /// NID_PACKET and L_PACKET of a train's packet.
 #[tactic(auto, unfolding(crate::specs::Layout::joined))]
@@ -29,28 +29,23 @@ pub(crate) fn put_train_header(
 /// NID_PACKET, Q_DIR (nominal) and L_PACKET of a packet of a centre, as one field of 23 bits.
 #[tactic(auto, unfolding(crate::specs::Layout::joined))]
 #[inline(always)]
-pub(crate) fn put_track_header(
-    writer: &mut BitWriter,
-    nid_packet: u64,
-    l_packet: u64,
-) -> Result<(), PacketFault>
+pub(crate) fn put_track_header(row: &mut BitRow, nid_packet: u64, l_packet: u64)
     requires number { nid_packet < 2 ^ 8 }
     requires length { l_packet < 2 ^ 13 }
-    ensures ok { OnOk result (writer.new ≡ writer.old ++ joined ((8, nid_packet) ∷ (2, 1) ∷ (13, l_packet) ∷ [])) }
-    ensures memory { IsOkUnless result PacketFault.Memory }
+    requires room { length row.old + 23 ≤ 256 }
+    ensures ok { row.new ≡ row.old ++ joined ((8, nid_packet) ∷ (2, 1) ∷ (13, l_packet) ∷ []) }
+    ensures length { length row.new ≡ length row.old + 23 }
 {
-    writer.put(32_768 * nid_packet + 8_192 + l_packet, 23)?;
-    Ok(())
+    row.put(32_768 * nid_packet + 8_192 + l_packet, 23);
 }
 
 /// NID_RADIO, without a number, and Q_SLEEPSESSION, which is not asked for.
 #[tactic(auto, unfolding(crate::specs::Layout::joined))]
 #[inline(always)]
-pub(crate) fn put_radio(writer: &mut BitWriter) -> Result<(), PacketFault>
-    ensures ok { OnOk result (writer.new ≡ writer.old ++ joined ((64, no_radio) ∷ (1, 0) ∷ [])) }
-    ensures memory { IsOkUnless result PacketFault.Memory }
+pub(crate) fn put_radio(row: &mut BitRow)
+    requires room { length row.old + 65 ≤ 256 }
+    ensures ok { row.new ≡ row.old ++ joined ((64, no_radio) ∷ (1, 0) ∷ []) }
 {
-    writer.put(NO_RADIO, 64)?;
-    writer.put(0, 1)?;
-    Ok(())
+    row.put(NO_RADIO, 64);
+    row.put(0, 1);
 }

@@ -4,4 +4,4 @@ use Rattle.rbc_packets.proofs.writing.put_track_header.Goals as goal
 
 pub returns-clause-ok : goal.returns-clause-ok
 returns-clause-ok c =
-    c.in_ok-put.ensures.ok ∙ ap (λ t. c.args.writer.now ++ t) (track_header-at_once c.args.nid_packet c.args.l_packet c.requires.length)
+    c.put.ensures.value ∙ ap (λ t. c.args.row.now ++ t) (track_header-at_once c.args.nid_packet c.args.l_packet c.requires.length)

@@ -1,0 +1,111 @@
+-- What a row has: up to 128 bits in a word, and up to 128 behind them in another.
+use Rattle.std.proofs.Common.{◌≡◌, ◌⊎◌, inl, inr, ℕ, ◌+◌, ◌-◌, ◌*◌, ◌/◌, ◌%◌, ◌^◌, ◌<◌, ◌≤◌, Bool, List, [], ◌++◌, length, refl, sym, ap, subst, ◌∙◌, append_assoc, length-append, arith}
+use Rattle.std.specs.Prelude.{bit_and, bit_or}
+use Rattle.std.proofs.lemmas.List.{append-nil}
+use Rattle.std.proofs.lemmas.Nat.{pow_pos, mod_below, shr_below}
+use Rattle.rbc_bits.specs.Bits.{field, bits_of, filled}
+use Rattle.rbc_bits.specs.RowView.{IsRow}
+use Rattle.rbc_bits.proofs.Fields.{length-field, field-none, field-add, field-mod, field-append}
+use Rattle.rbc_bits.proofs.Written.{masked, joined, joined_fits, filled-whole}
+
+module _ (front back first second : ℕ) (row : IsRow front back first second) where
+  pub length-row : length (field first front ++ field second back) ≡ first + second
+  length-row = length-append (field first front) (field second back) ∙ ap (λ k. k + length (field second back)) (length-field first front) ∙ ap (λ k. first + k) (length-field second back)
+
+  no_back : (n : ℕ) → 1 ≤ n → first + n ≤ 128 → (second ≡ 0) ⊎ (first ≡ 128) → second ≡ 0
+  no_back n some room (inl none) = none
+  no_back n some room (inr whole) = absurd (omega (arith, whole))
+
+  -- ---- a field that has room in the first word
+
+  module _ (n value : ℕ) (some : 1 ≤ n) (room : first + n ≤ 128) (fits : value < 2 ^ n) where
+    pub near-row : IsRow (bit_or (front * 2 ^ n % 2 ^ 128) value) back (first + n) second
+    near-row = record {
+      first-few = room;
+      second-few = row.second-few;
+      front-fits = joined_fits 128 front first n value row.front-fits room fits;
+      back-fits = row.back-fits;
+      full = inl (no_back n some room row.full);
+    }
+
+    pub near-written : field (first + n) (bit_or (front * 2 ^ n % 2 ^ 128) value) ++ field second back ≡ (field first front ++ field second back) ++ field n value
+    near-written =
+        let e : field second back ≡ [] = ap (λ k. field k back) (no_back n some room row.full) ∙ field-none back in
+        let word : field (first + n) (bit_or (front * 2 ^ n % 2 ^ 128) value) ≡ field first front ++ field n value =
+        ap (field (first + n)) (joined 128 front first n value row.front-fits room fits) ∙ sym (field-append first n front value fits) in
+        ap (λ t. field (first + n) (bit_or (front * 2 ^ n % 2 ^ 128) value) ++ t) e ∙ append-nil _ ∙ word ∙ ap (λ t. t ++ field n value) (sym (append-nil (field first front)) ∙ ap (λ t. field first front ++ t) (sym e))
+
+  -- ---- a field that has not
+
+  swapped : (a b c d : List Bool) → (c ≡ []) ⊎ (b ≡ []) → (a ++ b) ++ (c ++ d) ≡ (a ++ c) ++ (b ++ d)
+  swapped a b c d (inl none) = rw (none, append-nil a) (append_assoc a b d)
+  swapped a b c d (inr none) = rw (none, append-nil a) (sym (append_assoc a c d))
+
+  one_empty : (room high : ℕ) → first + room ≡ 128 → (second ≡ 0) ⊎ (first ≡ 128) → (field second back ≡ []) ⊎ (field room high ≡ [])
+  one_empty room high whole (inl none) = inl (ap (λ k. field k back) none ∙ field-none back)
+  one_empty room high whole (inr full) =
+      let none : room ≡ 0 = omega (arith, whole, full) in
+      inr (ap (λ k. field k high) none ∙ field-none high)
+
+  module _ (n value : ℕ) (width : n ≤ 64) (over : 128 < first + n) (enough : first + second + n ≤ 256) (fits : value < 2 ^ n) where
+    abbrev pub room : ℕ
+    room = 128 - first
+
+    abbrev pub after : ℕ
+    after = n - room
+
+    whole : first + room ≡ 128
+    whole = let h = row.first-few in omega arith
+
+    split : n ≡ room + after
+    split = omega (arith, row.first-few)
+
+    high-fits : value / 2 ^ after < 2 ^ room
+    high-fits = shr_below value room after (rw (← split) fits)
+
+    low-fits : value % 2 ^ after < 2 ^ after
+    low-fits = mod_below value (2 ^ after) (pow_pos after)
+
+    back-room : (second ≡ 0) ⊎ (first ≡ 128) → second + after ≤ 128
+    back-room (inl none) = omega (arith, none)
+    back-room (inr full) = omega (arith, full)
+
+    low-is : bit_and value (1 * 2 ^ after % 2 ^ 128 - 1) ≡ value % 2 ^ after
+    low-is = masked after value (omega arith)
+
+    pub far-row : IsRow (bit_or (front * 2 ^ room % 2 ^ 128) (value / 2 ^ after)) (bit_or (back * 2 ^ after % 2 ^ 128) (bit_and value (1 * 2 ^ after % 2 ^ 128 - 1))) 128 (second + after)
+    far-row = record {
+      first-few = omega arith;
+      second-few = back-room row.full;
+      front-fits = subst (λ k. bit_or (front * 2 ^ room % 2 ^ 128) (value / 2 ^ after) < 2 ^ k) whole (joined_fits 128 front first room (value / 2 ^ after) row.front-fits (omega (arith, whole)) high-fits);
+      back-fits = rw low-is (joined_fits 128 back second after (value % 2 ^ after) row.back-fits (back-room row.full) low-fits);
+      full = inr refl;
+    }
+
+    pub far-written : field 128 (bit_or (front * 2 ^ room % 2 ^ 128) (value / 2 ^ after)) ++ field (second + after) (bit_or (back * 2 ^ after % 2 ^ 128) (bit_and value (1 * 2 ^ after % 2 ^ 128 - 1))) ≡ (field first front ++ field second back) ++ field n value
+    far-written =
+        let high = value / 2 ^ after in
+        let low = value % 2 ^ after in
+        let one : field 128 (bit_or (front * 2 ^ room % 2 ^ 128) high) ≡ field first front ++ field room high =
+        ap (λ k. field k (bit_or (front * 2 ^ room % 2 ^ 128) high)) (sym whole) ∙ ap (field (first + room)) (joined 128 front first room high row.front-fits (omega (arith, whole)) high-fits)
+        ∙ sym (field-append first room front high high-fits) in
+        let two : field (second + after) (bit_or (back * 2 ^ after % 2 ^ 128) (bit_and value (1 * 2 ^ after % 2 ^ 128 - 1))) ≡ field second back ++ field after value =
+        ap (λ v. field (second + after) (bit_or (back * 2 ^ after % 2 ^ 128) v)) low-is ∙ ap (field (second + after)) (joined 128 back second after low row.back-fits (back-room row.full) low-fits)
+        ∙ sym (field-append second after back low low-fits) ∙ ap (λ t. field second back ++ t) (field-mod after value) in
+        let all : field n value ≡ field room high ++ field after value = ap (λ k. field k value) split ∙ field-add room after value in
+        ap (λ t. t ++ field (second + after) (bit_or (back * 2 ^ after % 2 ^ 128) (bit_and value (1 * 2 ^ after % 2 ^ 128 - 1)))) one ∙ ap (λ t. (field first front ++ field room high) ++ t) two
+        ∙ swapped (field first front) (field room high) (field second back) (field after value) (one_empty room high whole row.full) ∙ ap (λ t. (field first front ++ field second back) ++ t) (sym all)
+
+  -- ---- the bytes
+
+  filled-full : first ≡ 128 → filled (field first front) ≡ field first front
+  unfolding filled
+  filled-full full = rw (length-field first front, full) (append-nil (field 128 front))
+
+  -- the bytes of both words, one behind the other
+  pub row-filled : (bytes new : List ℕ) → bits_of bytes ≡ filled (field first front) → bits_of new ≡ filled (bits_of bytes ++ field second back) → (second ≡ 0) ⊎ (first ≡ 128)
+      → bits_of new ≡ filled (field first front ++ field second back)
+  row-filled bytes new one two (inl none) =
+      let e : field second back ≡ [] = ap (λ k. field k back) none ∙ field-none back in
+      two ∙ sym (filled-whole bytes back second (omega (arith, none))) ∙ one ∙ ap filled (sym (append-nil (field first front)) ∙ ap (λ t. field first front ++ t) (sym e))
+  row-filled bytes new one two (inr full) = two ∙ ap (λ t. filled (t ++ field second back)) (one ∙ filled-full full)

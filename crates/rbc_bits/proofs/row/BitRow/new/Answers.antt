@@ -1,0 +1,7 @@
+use Rattle.std.proofs.Common.{refl}
+use Rattle.rbc_bits.specs.Bits.{field}
+use Rattle.rbc_bits.proofs.row.BitRow.new.Goals as goal
+
+pub returns : goal.returns
+unfolding field
+returns c = refl

@@ -1,0 +1,10 @@
+-- What a row of bits holds in its two words.
+use Rattle.std.specs.Prelude.{◌≡◌, ◌⊎◌, ℕ, ◌^◌, ◌<◌, ◌≤◌}
+
+-- each word has its bits and none above them, and the second has some only where the first is full
+pub record IsRow (front back first second : ℕ) : Type 0 where
+  pub first-few : first ≤ 128
+  pub second-few : second ≤ 128
+  pub front-fits : front < 2 ^ first
+  pub back-fits : back < 2 ^ second
+  pub full : (second ≡ 0) ⊎ (first ≡ 128)
