@@ -14,7 +14,7 @@ use Rattle.rbc_allocation.specs.Sections.{rest_of, is_held_as, IsHeldAt, IsHeldB
 use Rattle.rbc_mission.specs.Supervisions.{SupervisionState, HasRouteForm, hand_of, handing_in, without_front, right_left, handover_left}
 use Rattle.rbc_handover.specs.Handings.{handover_name}
 use Rattle.rbc_mission.specs.declared.held.HeldRight.TheVariants.{Nothing, Held}
-use Rattle.rbc_train.specs.Desk.{IsKeptAt, IsHeld}
+use Rattle.rbc_train.specs.Desk.{IsKeptAt, IsHeld, KeepsState}
 use Rattle.rbc_train.specs.declared.train.TrainState.{TrainState}
 use Rattle.rbc_train.proofs.Desk.{with_mission}
 
@@ -137,3 +137,14 @@ held_hand line c p left book engine hand homes held =
 -- and back
 pub held_again : (line : Line) (c t : ℕ) (q : TrainState) (book : Pages) → t ≡ q.supervision.engine → ((s : ℕ) → is_own book s ≡ is_home line c s) → IsHeldBy t q.supervision.hand book → IsHeld line c q
 held_again line c t q book engine homes held = held_as t q.supervision.engine (is_own book) (is_home line c) q.supervision.hand engine (λ s. sym (homes s)) held
+
+-- of the train whether it was heard and its supervision have changed, and it is the same train
+pub keeps_state : (line : Line) (c : ℕ) (p : TrainState) (heard : Option ℕ) (left : SupervisionState)
+    → left.number ≡ p.supervision.number → left.engine ≡ p.supervision.engine → IsHeld line c (record p { supervision = left })
+    → KeepsState line c p (record p { heard = heard; supervision = left })
+keeps_state line c p heard left number engine held = record {
+  train = record { number = number; engine = engine; waiting = refl; said = omega arith };
+  held = held;
+  covers = λ covers. covers;
+  expected = refl;
+}

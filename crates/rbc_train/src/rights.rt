@@ -7,7 +7,7 @@ ghost use Rattle.rbc_spec.specs.Links as links;
 ghost use Rattle.rbc_book.specs.Book.{Pages, is_own};
 ghost use Rattle.rbc_right.specs.Rights.{Rights};
 ghost use Rattle.rbc_pending_start.specs.Waits.{IsCovered};
-ghost use Rattle.rbc_train.specs.Desk.{HasParts, IsHeld, KeepsTrain, KeepsRights, with_parts, reply_left};
+ghost use Rattle.rbc_train.specs.Desk.{HasParts, IsHeld, KeepsTrain, KeepsRights, unsaid, with_parts, reply_left};
 ghost use Rattle.rbc_train.specs.Homes.{GoesHome};
 ghost use Rattle.rbc_train.specs.Letters.{cancel_of, mail_home};
 
@@ -144,11 +144,8 @@ impl TrainState {
         track: u8,
         released: Released,
     ) -> Heard
-        ensures saying { result.saying ≡ None }
-        ensures order { result.order ≡ None }
-        ensures told { result.told ≡ released.told }
-        ensures mail { result.mail
-            ≡ mail_home track released.returned (cancel_of released.cancelled) result.mail.letter }
+        ensures heard { result ≡ unsaid
+            (mail_home track released.returned (cancel_of released.cancelled) result.mail.letter) released.told }
         ensures right { GoesHome line.now centre self.now.supervision.engine released.right result.mail.letter
             registrar.old registrar.new }
     {

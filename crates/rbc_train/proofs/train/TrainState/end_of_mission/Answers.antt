@@ -6,6 +6,7 @@ use Rattle.rbc_spec.specs.Centre.{Mission}
 use Rattle.rbc_mission.specs.Supervisions.{SupervisionState, hand_of, mission_of, handing_in}
 use Rattle.rbc_train.specs.Desk.{with_parts, reply_left}
 use Rattle.rbc_train.specs.Desks.{mission_by}
+use Rattle.rbc_train.specs.declared.heard.Heard.{Heard}
 use Rattle.rbc_train.specs.Standstill.{left_ahead}
 use Rattle.rbc_train.proofs.Desk.{by_reply}
 use Rattle.rbc_train.proofs.Turns.{parts_heard}
@@ -40,9 +41,10 @@ returns-in-Some-ahead-clause-exact c = λ k h.
     ends_ahead line n k c.args.t_train old c.args.book.now c.args.registrar.now (position_of c.args.position.now) h
     m report.new.self report.new.book report.new.registrar report.result
     (sym c.known-known.ensures.phase ∙ ap phase_of c.in-Up.is) at c.if-mission.false
-    report.ensures.kept.engine report.ensures.desk.homes kept (report.ensures.exact m at refl) report.ensures.order report.ensures.mail report.ensures.letter (λ x stands. report.ensures.track m x at refl stands) report.ensures.front
+    report.ensures.keeps.train.engine report.ensures.desk.homes kept (report.ensures.exact m at refl) report.ensures.sends.order report.ensures.sends.mail report.ensures.sends.letter (λ x stands. report.ensures.track m x at refl stands) report.ensures.front
     c.in-Some-ahead.field-0.keep c.in-Some-ahead.field-0.told c.in-Some-ahead.ensures.some cut.new.self cut.new.book cut.new.registrar cut.result
-    cut.ensures.exact cut.ensures.stays cut.ensures.saying cut.ensures.order cut.ensures.told cut.ensures.mail cut.ensures.pool cut.ensures.left cut.ensures.kept.engine cut.ensures.desk.homes
+    cut.ensures.exact cut.ensures.stays (ap (λ (x : Heard). x.saying) cut.ensures.heard) (ap (λ (x : Heard). x.order) cut.ensures.heard) (ap (λ (x : Heard). x.told) cut.ensures.heard) (ap (λ (x : Heard). x.mail) cut.ensures.heard)
+    cut.ensures.pool cut.ensures.left cut.ensures.keeps.train.engine cut.ensures.desk.homes
     ∙ (λ i. by_reply (reply_left line n old.supervision.engine (with_parts (record cut.new.self { supervision = sym c.end_mission.ensures i }) cut.new.book cut.new.registrar k) (sym c.and_ahead.ensures i)))
 
 pub returns-in-None-clause-exact : goal.returns-in-None-clause-exact
@@ -60,7 +62,7 @@ returns-in-None-clause-exact c = λ k h.
     ends line n k c.args.t_train old c.args.book.now c.args.registrar.now (position_of c.args.position.now) h
     m mid report.new.book report.new.registrar report.result
     (sym c.known-known.ensures.phase ∙ ap phase_of c.in-Up.is) at c.if-mission.false
-    report.ensures.kept.engine report.ensures.desk.homes kept (report.ensures.exact m at refl) report.ensures.order report.ensures.mail report.ensures.letter (λ x stands. report.ensures.track m x at refl stands) report.ensures.front
+    report.ensures.keeps.train.engine report.ensures.desk.homes kept (report.ensures.exact m at refl) report.ensures.sends.order report.ensures.sends.mail report.ensures.sends.letter (λ x stands. report.ensures.track m x at refl stands) report.ensures.front
     c.return_pool-pool.result c.return_pool-pool.ensures.run
     ((λ i. left_ahead line m.place.track (position_of c.args.position.now) (hand_of (record old.supervision { mission = sym at i }))) ∙ c.ahead-ahead.ensures.none c.in-None.is)
     ∙ (λ i. by_reply (reply_left line n old.supervision.engine (with_parts (record mid { supervision = sym done i }) report.new.book report.new.registrar k) (sym c.with_second.ensures i)))

@@ -6,7 +6,7 @@ use Rattle.rbc_right.specs.declared.right.Right.{Right}
 use Rattle.rbc_place.specs.Places.{place_of}
 use Rattle.rbc_mission.specs.declared.held.HeldRight.TheVariants.{Held}
 use Rattle.rbc_mission.specs.Supervisions.{claims_on}
-use Rattle.rbc_train.specs.Desk.{with_parts}
+use Rattle.rbc_train.specs.Desk.{with_parts, unsaid}
 use Rattle.rbc_train.specs.Homes.{GoesHome}
 use Rattle.rbc_train.specs.Letters.{mail_home, no_sections}
 use Rattle.rbc_train.specs.declared.mail.Notice.TheVariants as notice
@@ -40,4 +40,4 @@ returns-clause-exact c = λ book k has.
     given_in_vain c.args.line.now c.args.centre k p book c.args.registrar.now has c.released.result.mail.letter c.released.new.registrar c.note_answer.new.self (sym c.has_asked.ensures ∙ c.if-not-has_asked.false) busy c.requires.number
     (subst (λ (r : Right). GoesHome c.args.line.now c.args.centre p.supervision.engine (Held r) c.released.result.mail.letter c.args.registrar.now c.released.new.registrar) (c.arrive-right.ensures ∙ ap right_of c.number.ensures) c.released.ensures.right)
     c.note_answer.ensures
-    ∙ sym (released_as c.args.line.now c.args.centre p.supervision.engine (with_parts (record p { waiting = c.note_answer.new.self }) book c.released.new.registrar k) c.released.result [] (mail_home 0 no_sections notice.Nothing c.released.result.mail.letter) c.released.ensures.saying c.released.ensures.order c.released.ensures.mail (c.released.ensures.told ∙ c.nothing-2.ensures))
+    ∙ sym (released_as c.args.line.now c.args.centre p.supervision.engine (with_parts (record p { waiting = c.note_answer.new.self }) book c.released.new.registrar k) c.released.result [] (mail_home 0 no_sections notice.Nothing c.released.result.mail.letter) (c.released.ensures.heard ∙ ap (unsaid (mail_home 0 no_sections notice.Nothing c.released.result.mail.letter)) c.nothing-2.ensures))

@@ -12,14 +12,13 @@ use Rattle.rbc_allocation.specs.Sections.{hand_front}
 use Rattle.rbc_mission.specs.Supervisions.{SupervisionState, mission_of, right_left, handing_in}
 use Rattle.rbc_train.specs.Desks.{mission_by}
 use Rattle.rbc_train.specs.Desk.{with_parts, reply_left}
-use Rattle.rbc_train.specs.Letters.{cancel_of, mail_home}
 use Rattle.rbc_train.specs.declared.train.TrainState.{TrainState}
 use Rattle.rbc_train.proofs.Desk.{by_reply}
-use Rattle.rbc_train.proofs.Kept.{held_as, still_held}
+use Rattle.rbc_train.proofs.Kept.{held_as, still_held, keeps_state}
 use Rattle.rbc_train.proofs.Letters.{goes_as}
 use Rattle.rbc_train.proofs.Shortened.{asked_is, kept_is, keeps_all, gives_back}
 use Rattle.rbc_train.proofs.train.TrainState.shortening_granted.Goals as goal
-use Rattle.rbc_train.proofs.train.TrainState.shortening_granted.Goals.{After-front_on-front, After-released}
+use Rattle.rbc_train.proofs.train.TrainState.shortening_granted.Goals.{After-front_on-front}
 
 -- the mission of the train
 there : (c : After-front_on-front) → c.args.self.now.supervision.mission ≡ Some (mission_of (run_of c.known-known.result.hand) (run_of c.known-known.result.pool) (handing_in c.args.self.now.supervision) c.in-Some.mission)
@@ -29,21 +28,6 @@ pub shorten-released-requires-clause-held : goal.shorten-released-requires-claus
 shorten-released-requires-clause-held c =
     let old = c.args.self.now in
     held_as old.supervision.engine old.supervision.engine (is_home c.args.line.now c.args.centre) (is_own c.args.book.now) old.supervision.hand refl c.requires.book c.requires.held
-
--- what was released
-heard_is : (c : After-released) → c.released.result
-    ≡ record {
-      saying = None;
-      order = None;
-      mail = mail_home c.in-Some.mission.place.track c.shorten-released.result.returned (cancel_of c.shorten-released.result.cancelled) c.released.result.mail.letter;
-      told = c.shorten-released.result.told;
-    }
-heard_is c = λ i. record {
-  saying = c.released.ensures.saying i;
-  order = c.released.ensures.order i;
-  mail = c.released.ensures.mail i;
-  told = c.released.ensures.told i;
-}
 
 pub returns-in-Ok-Keep-clause-exact : goal.returns-in-Ok-Keep-clause-exact
 returns-in-Ok-Keep-clause-exact c = λ k h.
@@ -68,7 +52,7 @@ returns-in-Ok-Keep-clause-exact c = λ k h.
     c.shorten-released.ensures.supervision c.shorten-released.ensures.book c.shorten-released.ensures.told c.shorten-released.ensures.returned c.shorten-released.ensures.cancelled
     (goes_as line c.args.centre old.supervision.engine left.engine c.shorten-released.result.right (right_left old.supervision left) c.released.result.mail.letter c.args.registrar.now c.released.new.registrar
     (ap (λ (x : SupervisionState). x.engine) c.shorten-released.ensures.supervision) c.shorten-released.ensures.right c.released.ensures.right)
-    c.released.result (heard_is (goal.at.returns-in-Ok-Keep-clause-exact c).After-released)
+    c.released.result c.released.ensures.heard
 
 pub returns-in-Ok-Nothing-clause-exact : goal.returns-in-Ok-Nothing-clause-exact
 returns-in-Ok-Nothing-clause-exact c = λ k h.
@@ -89,15 +73,19 @@ returns-in-Ok-Nothing-clause-exact c = λ k h.
     ∙ ap (act_of line c.args.centre old.supervision.engine m p) c.in-Ok-Nothing.field-0-is)
     ∙ (λ i. by_reply (reply_left line c.args.centre old.supervision.engine (with_parts (record heard { supervision = sym c.forget_proposal.ensures i }) c.args.book.now c.args.registrar.now k) (sym c.nothing.ensures i)))
 
-pub returns-in-Ok-Keep-clause-held : goal.returns-in-Ok-Keep-clause-held
-returns-in-Ok-Keep-clause-held c =
+pub returns-in-Ok-Keep-clause-keeps : goal.returns-in-Ok-Keep-clause-keeps
+returns-in-Ok-Keep-clause-keeps c =
     let old = c.args.self.now in
     let left = c.shorten-released.new.self in
-    held_as old.supervision.engine left.engine (is_own c.shorten-released.new.book) (is_home c.args.line.now c.args.centre) left.hand (sym (ap (λ (x : SupervisionState). x.engine) c.shorten-released.ensures.supervision))
-    (λ s. sym (c.shorten-released.ensures.book.homes s ∙ c.requires.book s)) c.shorten-released.ensures.held
+    let engine = ap (λ (x : SupervisionState). x.engine) c.shorten-released.ensures.supervision in
+    keeps_state c.args.line.now c.args.centre old (Some c.args.t_train) left (ap (λ (x : SupervisionState). x.number) c.shorten-released.ensures.supervision) engine
+    (held_as old.supervision.engine left.engine (is_own c.shorten-released.new.book) (is_home c.args.line.now c.args.centre) left.hand (sym engine)
+    (λ s. sym (c.shorten-released.ensures.book.homes s ∙ c.requires.book s)) c.shorten-released.ensures.held)
 
-pub returns-in-Ok-Nothing-clause-held : goal.returns-in-Ok-Nothing-clause-held
-returns-in-Ok-Nothing-clause-held c =
+pub returns-in-Ok-Nothing-clause-keeps : goal.returns-in-Ok-Nothing-clause-keeps
+returns-in-Ok-Nothing-clause-keeps c =
     let old = c.args.self.now in
-    still_held c.args.line.now c.args.centre old (record old { heard = Some c.args.t_train; supervision = c.forget_proposal.new.self })
-    (ap (λ (x : SupervisionState). x.engine) c.forget_proposal.ensures) (ap (λ (x : SupervisionState). x.hand) c.forget_proposal.ensures) c.requires.held
+    let left = c.forget_proposal.new.self in
+    let engine = ap (λ (x : SupervisionState). x.engine) c.forget_proposal.ensures in
+    keeps_state c.args.line.now c.args.centre old (Some c.args.t_train) left (ap (λ (x : SupervisionState). x.number) c.forget_proposal.ensures) engine
+    (still_held c.args.line.now c.args.centre old (record old { supervision = left }) engine (ap (λ (x : SupervisionState). x.hand) c.forget_proposal.ensures) c.requires.held)

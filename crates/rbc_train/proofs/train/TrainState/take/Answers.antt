@@ -2,6 +2,7 @@ use Rattle.std.proofs.Common.{◌∙◌, ap, sym, ℕ}
 use Rattle.rbc_spec.specs.Message.{is_stale}
 use Rattle.rbc_msgs.specs.StepMessage.{step_message, step_body, position_of}
 use Rattle.rbc_train.specs.Desk.{with_parts}
+use Rattle.rbc_train.specs.declared.train.TrainState.{TrainState}
 use Rattle.rbc_train.proofs.Kept.{still_held}
 use Rattle.rbc_train.proofs.Takes.{stale_left, heard_same, heard_as}
 use Rattle.rbc_train.proofs.train.TrainState.take.Goals as goal
@@ -89,4 +90,4 @@ pub returns-in-TrainData-clause-held : goal.returns-in-TrainData-clause-held
 returns-in-TrainData-clause-held c = still_held c.args.line.now c.args.centre c.args.self.now c.train_data.new.self c.train_data.ensures.kept.engine c.train_data.ensures.hand c.requires.held
 
 pub returns-in-ShorteningRejected-clause-held : goal.returns-in-ShorteningRejected-clause-held
-returns-in-ShorteningRejected-clause-held c = still_held c.args.line.now c.args.centre c.args.self.now c.shortening_rejected.new.self c.shortening_rejected.ensures.kept.engine c.shortening_rejected.ensures.hand c.requires.held
+returns-in-ShorteningRejected-clause-held c = still_held c.args.line.now c.args.centre c.args.self.now c.shortening_rejected.new.self (ap (λ (p : TrainState). p.supervision.engine) c.shortening_rejected.ensures.left) (ap (λ (p : TrainState). p.supervision.hand) c.shortening_rejected.ensures.left) c.requires.held
