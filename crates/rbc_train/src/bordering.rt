@@ -15,7 +15,7 @@ ghost use Rattle.rbc_place.specs.Places.{place_of};
 ghost use Rattle.rbc_handover.specs.Giving.{with_count};
 ghost use Rattle.rbc_mission.specs.Supervisions.{HasSupervision, with_supervision};
 ghost use Rattle.rbc_train.specs.Bordering.{IsNear, KeepsHand};
-ghost use Rattle.rbc_train.specs.Desk.{counted_to, posted, replied};
+ghost use Rattle.rbc_train.specs.Desk.{counted_to, last_said, posted, replied};
 ghost use Rattle.rbc_train.specs.Letters.{letters, notices};
 ghost use Rattle.rbc_train.specs.Sayings.{sayings_of};
 
@@ -53,7 +53,7 @@ impl TrainState {
         count: &mut HandoverCount,
         track: u8,
     ) -> Bordering
-        requires said { self.old.said < 4294967294 }
+        requires said { self.old.said < last_said }
         requires announced { count.old < 1073741823 }
         requires near { IsNear line.now self.old.supervision }
         ensures exact { (e : ℕ → Option spec.Expectation) (k : spec.Centre) → HasSupervision k self.old.supervision
@@ -93,7 +93,7 @@ impl TrainState {
         count: &mut HandoverCount,
         to: u8,
     ) -> (Option<Saying>, Notice)
-        requires said { self.old.said < 4294967294 }
+        requires said { self.old.said < last_said }
         requires announced { count.old < 1073741823 }
         requires near { IsNear line.now self.old.supervision }
         ensures exact { (e : ℕ → Option spec.Expectation) (k : spec.Centre) → HasSupervision k self.old.supervision

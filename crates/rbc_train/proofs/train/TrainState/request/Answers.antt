@@ -1,4 +1,4 @@
-use Rattle.std.proofs.Common.{◌≡◌, ℕ, ◌+◌, ◌-◌, ◌≤◌, ◌∙◌, ◌++◌, true, [], ◌∷◌, ap, sym, refl, subst, Option, Some, option_map, Ok}
+use Rattle.std.proofs.Common.{◌≡◌, ℕ, ◌+◌, ◌-◌, ◌≤◌, ◌∙◌, ◌++◌, true, [], ◌∷◌, arith, length, ap, sym, refl, subst, Option, Some, option_map, Ok}
 use Rattle.std.specs.Option.{option_map_or}
 use Rattle.std.proofs.lemmas.Option.{same_Some}
 use Rattle.rbc_spec.specs.SectionRuns.{no_run, behind, within}
@@ -25,7 +25,7 @@ use Rattle.rbc_train.specs.declared.train.TrainState.{TrainState}
 use Rattle.rbc_train.proofs.Runs.{follows_same}
 use Rattle.rbc_train.proofs.Fits.{grows, and_left}
 use Rattle.rbc_train.proofs.Desk.{by_reply}
-use Rattle.rbc_train.proofs.Kept.{held_as, still_held}
+use Rattle.rbc_train.proofs.Kept.{held_as, still_held, keeps_by}
 use Rattle.rbc_train.proofs.Reports.{on_track}
 use Rattle.rbc_train.proofs.Yields.{told_both}
 use Rattle.rbc_train.proofs.Borders.{near_enough}
@@ -45,7 +45,7 @@ lengthen-requires c = λ x is.
     let grant = c.answer_request-grant.ensures in
     subst (λ (y : spec.Mission). MayGrow y sections c.args.book.now) (same_Some m x (sym there ∙ is))
     (grows line c.args.book.now (place_of c.in-Some-place_on.place) m sections grant.line (c.known-known.ensures.route m known) (c.requires.kept.pool.follows m there)
-    (λ s here. c.requires.book s ∙ c.requires.kept.pool.away m there s here) grant.room grant.each)
+    (λ s here. c.requires.at.book s ∙ c.requires.kept.pool.away m there s here) grant.room grant.each)
 
 pub at_border-order-requires-clause-near : goal.at_border-order-requires-clause-near
 at_border-order-requires-clause-near c = λ x stands s here.
@@ -110,14 +110,25 @@ returns-clause-exact c = λ rights k h so_many.
     ∙ (λ i. by_reply (posted (λ d. notices t (λ e. at.expects e t) told.notice d ++ letters told.letter d) (replied at (told_both (Some c.answer-saying.result) told.order i) [])))
     ∙ ap (λ (x : Heard). effect_left line c.args.centre t at (Ok x)) (sym c.bordering.ensures)
 
-pub returns-clause-held : goal.returns-clause-held
-returns-clause-held c =
+pub returns-clause-keeps : goal.returns-clause-keeps
+returns-clause-keeps c =
     let line = c.args.line.now in
     let old = c.args.self.now in
     let left = c.lengthen.new.self in
+    let new = c.at_border-order.new.self in
+    let number = ap (λ (x : SupervisionState). x.number) c.lengthen.ensures.supervision in
     let engine = ap (λ (x : SupervisionState). x.engine) c.lengthen.ensures.supervision in
-    let same = ap (λ (p : TrainState). p.supervision) c.answer-saying.ensures.counted in
-    let keeps = c.at_border-order.ensures.supervision in
-    still_held line c.args.centre (record old { supervision = left }) c.at_border-order.new.self (keeps.engine ∙ ap (λ (x : SupervisionState). x.engine) same) (keeps.hand ∙ ap (λ (x : SupervisionState). x.hand) same)
-    (held_as old.supervision.engine left.engine (is_own c.lengthen.new.book) (is_home line c.args.centre) left.hand (sym engine) (λ s. sym (c.lengthen.ensures.book.homes s ∙ c.requires.book s))
-    (c.lengthen.ensures.held (held_as old.supervision.engine old.supervision.engine (is_home line c.args.centre) (is_own c.args.book.now) old.supervision.hand refl c.requires.book c.requires.held)))
+    let answered = c.answer-saying.ensures.counted in
+    let same = ap (λ (p : TrainState). p.supervision) answered in
+    let bordering = c.at_border-order.ensures in
+    let keeps = bordering.supervision in
+    let train = keeps.engine ∙ ap (λ (x : SupervisionState). x.engine) same in
+    let once = ap (λ (p : TrainState). p.said) answered in
+    let twice = bordering.counted.1 in
+    keeps_by line c.args.centre old new (keeps.number ∙ ap (λ (x : SupervisionState). x.number) same ∙ number) (train ∙ engine)
+    (ap (λ (p : TrainState). p.waiting) (bordering.left ∙ ap (λ (p : TrainState). record p { said = new.said; supervision = new.supervision }) answered))
+    (omega (arith, once, twice))
+    (ap (λ (p : TrainState). length p.expectations) (bordering.left ∙ ap (λ (p : TrainState). record p { said = new.said; supervision = new.supervision }) answered))
+    (still_held line c.args.centre (record old { supervision = left }) new train (keeps.hand ∙ ap (λ (x : SupervisionState). x.hand) same)
+    (held_as old.supervision.engine left.engine (is_own c.lengthen.new.book) (is_home line c.args.centre) left.hand (sym engine) (λ s. sym (c.lengthen.ensures.book.homes s ∙ c.requires.at.book s))
+    (c.lengthen.ensures.held (held_as old.supervision.engine old.supervision.engine (is_home line c.args.centre) (is_own c.args.book.now) old.supervision.hand refl c.requires.at.book c.requires.at.held))))

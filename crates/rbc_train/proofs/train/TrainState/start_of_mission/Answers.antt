@@ -21,25 +21,25 @@ returns-in-Accepted-clause-exact c = λ k h.
     let old = c.args.self.now in
     starts_answered c.args.line.now c.args.centre k c.args.t_train old c.args.book.now c.args.registrar.now h (is_valid c.args.q_status) (position_of c.args.position.now)
     c.start.result c.start.new.self c.start.new.book c.start.new.registrar (sym c.known-known.ensures.phase ∙ ap phase_of c.in-Up.is)
-    (sym c.place.ensures ∙ none_there place_of c.place.result (sym c.is_some.ensures ∙ c.if-is_some.false)) c.start.ensures.kept.engine c.start.ensures.exact
+    (sym c.place.ensures ∙ none_there place_of c.place.result (sym c.is_some.ensures ∙ c.if-is_some.false)) c.start.ensures.keeps.train.engine c.start.ensures.exact
     TrainAccepted c.answered.new.self c.answered.result (λ (j : Centre). ap (λ (s : Start). started old.supervision.engine s j) c.in-Accepted.is)
-    c.answered.ensures.counted c.answered.ensures.said c.answered.ensures.order c.answered.ensures.mail c.answered.ensures.told
+    c.answered.ensures.counted c.answered.ensures.said c.answered.ensures.heard
 
 pub returns-in-Rejected-clause-exact : goal.returns-in-Rejected-clause-exact
 returns-in-Rejected-clause-exact c = λ k h.
     let old = c.args.self.now in
     starts_answered c.args.line.now c.args.centre k c.args.t_train old c.args.book.now c.args.registrar.now h (is_valid c.args.q_status) (position_of c.args.position.now)
     c.start.result c.start.new.self c.start.new.book c.start.new.registrar (sym c.known-known.ensures.phase ∙ ap phase_of c.in-Up.is)
-    (sym c.place.ensures ∙ none_there place_of c.place.result (sym c.is_some.ensures ∙ c.if-is_some.false)) c.start.ensures.kept.engine c.start.ensures.exact
+    (sym c.place.ensures ∙ none_there place_of c.place.result (sym c.is_some.ensures ∙ c.if-is_some.false)) c.start.ensures.keeps.train.engine c.start.ensures.exact
     TrainRejected c.answered-in-Rejected.new.self c.answered-in-Rejected.result (λ (j : Centre). ap (λ (s : Start). started old.supervision.engine s j) c.in-Rejected.is)
-    c.answered-in-Rejected.ensures.counted c.answered-in-Rejected.ensures.said c.answered-in-Rejected.ensures.order c.answered-in-Rejected.ensures.mail c.answered-in-Rejected.ensures.told
+    c.answered-in-Rejected.ensures.counted c.answered-in-Rejected.ensures.said c.answered-in-Rejected.ensures.heard
 
 pub returns-in-Waiting-clause-exact : goal.returns-in-Waiting-clause-exact
 returns-in-Waiting-clause-exact c = λ k h.
     let old = c.args.self.now in
     starts_waiting c.args.line.now c.args.centre k c.args.t_train old c.args.book.now c.args.registrar.now h (is_valid c.args.q_status) (position_of c.args.position.now)
     c.start.result c.start.new.self c.start.new.book c.start.new.registrar (sym c.known-known.ensures.phase ∙ ap phase_of c.in-Up.is)
-    (sym c.place.ensures ∙ none_there place_of c.place.result (sym c.is_some.ensures ∙ c.if-is_some.false)) c.start.ensures.kept.engine c.start.ensures.exact
+    (sym c.place.ensures ∙ none_there place_of c.place.result (sym c.is_some.ensures ∙ c.if-is_some.false)) c.start.ensures.keeps.train.engine c.start.ensures.exact
     c.in-Waiting.letter c.in-Waiting.is
     ∙ ap (λ (mail : Mail). by_reply (posted (mail_to c.args.line.now c.args.centre old.supervision.engine (λ d. (with_parts c.start.new.self c.start.new.book c.start.new.registrar k).expects d old.supervision.engine) mail) (replied (with_parts c.start.new.self c.start.new.book c.start.new.registrar k) [] []))) (sym c.of.ensures)
     ∙ ap (λ (told : List ℕ). by_reply (posted (mail_to c.args.line.now c.args.centre old.supervision.engine (λ d. (with_parts c.start.new.self c.start.new.book c.start.new.registrar k).expects d old.supervision.engine) c.of.result) (replied (with_parts c.start.new.self c.start.new.book c.start.new.registrar k) [] told))) (sym c.nothing.ensures)
