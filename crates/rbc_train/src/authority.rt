@@ -23,7 +23,6 @@ use rbc_line::Line;
 use rbc_msgs::{NID_LRBG_UNKNOWN, TrackBody};
 use rbc_packets::{Authority, Position};
 use rbc_place::place_on;
-use rbc_session::Phase;
 use rbc_vars::{LEndsection, TTrain};
 
 impl TrainState {
@@ -48,15 +47,8 @@ impl TrainState {
         } }
         ensures counted { self.new.said ≤ self.old.said + 1 }
     {
-        let known = self.known();
-        match known.phase {
-            Phase::Closed => return Err(Reason::NoSession),
-            Phase::Opened => return Err(Reason::WrongPhase),
-            Phase::Up => {}
-        }
-        let Some(mission) = known.mission else {
-            return Err(Reason::NotSupervised);
-        };
+        self.up()?;
+        let mission = self.supervised()?;
         if mission.is_ended {
             return Err(Reason::MissionEnded);
         }
@@ -104,15 +96,8 @@ impl TrainState {
         ensures announced { (count.old ≤ count.new) × (count.new ≤ count.old + 1) }
         ensures homes { (s : ℕ) → is_own book.new s ≡ is_own book.old s }
     {
-        let known = self.known();
-        match known.phase {
-            Phase::Closed => return Err(Reason::NoSession),
-            Phase::Opened => return Err(Reason::WrongPhase),
-            Phase::Up => {}
-        }
-        let Some(mission) = known.mission else {
-            return Err(Reason::NotSupervised);
-        };
+        self.up()?;
+        let mission = self.supervised()?;
         if mission.is_ended {
             return Err(Reason::MissionEnded);
         }
@@ -125,10 +110,11 @@ impl TrainState {
         let Some(place) = place_on(line, mission.place.track, position) else {
             return Err(Reason::NoPlace);
         };
-        if !may_request(line, known.hand, &place) {
+        let hand = self.hand();
+        if !may_request(line, hand, &place) {
             return Err(Reason::NoPlace);
         }
-        let grant = answer_request(line, book, known.pool, known.hand, &place);
+        let grant = answer_request(line, book, self.supervision.pool(), hand, &place);
         self.heard = Some(t_train);
         self.supervision.lengthen(place, grant.sections, book);
         let authority = TrackBody::Authority(Authority {

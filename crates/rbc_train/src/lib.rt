@@ -11,6 +11,7 @@ mod authority;
 mod bordering;
 mod expecting;
 mod front;
+mod guards;
 mod handing_over;
 mod heard;
 mod hearing;

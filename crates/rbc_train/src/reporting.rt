@@ -27,7 +27,6 @@ use rbc_mission::Told;
 use rbc_packets::Position;
 use rbc_place::{Place, cleared, place_on};
 use rbc_right::Registrar;
-use rbc_session::Phase;
 use rbc_shorten::{Cut, cut_at_standstill};
 
 // What lies ahead of a train at standstill: how many of the first sections that are left of its hand are kept; and
@@ -68,13 +67,8 @@ impl TrainState {
         ensures keeps { KeepsState line.now centre self.old self.new }
         ensures desk { KeepsDesk self.old.supervision.number book.old book.new registrar.old registrar.new }
     {
-        let known = self.known();
-        match known.phase {
-            Phase::Closed => return Err(Reason::NoSession),
-            Phase::Opened => return Err(Reason::WrongPhase),
-            Phase::Up => {}
-        }
-        let Some(mission) = known.mission else {
+        self.up()?;
+        let Some(mission) = self.supervision.mission() else {
             return self.report_elsewhere(line, centre, t_train, position);
         };
         let Some(place) = place_on(line, mission.place.track, position) else {
@@ -110,15 +104,8 @@ impl TrainState {
         ensures keeps { KeepsState line.now centre self.old self.new }
         ensures desk { KeepsDesk self.old.supervision.number book.old book.new registrar.old registrar.new }
     {
-        let known = self.known();
-        match known.phase {
-            Phase::Closed => return Err(Reason::NoSession),
-            Phase::Opened => return Err(Reason::WrongPhase),
-            Phase::Up => {}
-        }
-        let Some(mission) = known.mission else {
-            return Err(Reason::NotSupervised);
-        };
+        self.up()?;
+        let mission = self.supervised()?;
         if mission.is_ended {
             return Err(Reason::MissionEnded);
         }

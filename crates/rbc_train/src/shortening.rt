@@ -19,7 +19,6 @@ use rbc_line::Line;
 use rbc_packets::Position;
 use rbc_place::place_on;
 use rbc_right::Registrar;
-use rbc_session::Phase;
 use rbc_shorten::{Cut, granted, rejected};
 use rbc_vars::TTrain;
 
@@ -51,21 +50,14 @@ impl TrainState {
         ensures keeps { KeepsState line.now centre self.old self.new }
         ensures desk { KeepsDesk self.old.supervision.number book.old book.new registrar.old registrar.new }
     {
-        let known = self.known();
-        match known.phase {
-            Phase::Closed => return Err(Reason::NoSession),
-            Phase::Opened => return Err(Reason::WrongPhase),
-            Phase::Up => {}
-        }
-        let Some(mission) = known.mission else {
-            return Err(Reason::NotSupervised);
-        };
+        self.up()?;
+        let mission = self.supervised()?;
         let front = front_on(line, mission.place.track, position);
         match granted(
             line,
             mission.proposal,
             request.value() as u32,
-            known.hand,
+            self.hand(),
             front,
         ) {
             Ok(Cut::Keep(keep)) => {
@@ -105,15 +97,8 @@ impl TrainState {
           supervision = record self.old.supervision { mission = self.new.supervision.mission };
         } }
     {
-        let known = self.known();
-        match known.phase {
-            Phase::Closed => return Err(Reason::NoSession),
-            Phase::Opened => return Err(Reason::WrongPhase),
-            Phase::Up => {}
-        }
-        let Some(mission) = known.mission else {
-            return Err(Reason::NotSupervised);
-        };
+        self.up()?;
+        let mission = self.supervised()?;
         if rejected(mission.proposal, request.value() as u32).is_err() {
             return Err(Reason::Unasked);
         }

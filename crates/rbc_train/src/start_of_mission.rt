@@ -32,7 +32,6 @@ use rbc_msgs::TrackBody;
 use rbc_packets::Position;
 use rbc_place::{Place, covered};
 use rbc_right::{Asked, Registrar};
-use rbc_session::Phase;
 use rbc_vars::QStatus;
 
 impl TrainState {
@@ -68,12 +67,7 @@ impl TrainState {
         ensures keeps { KeepsState line.now centre self.old self.new }
         ensures desk { KeepsDesk self.old.supervision.number book.old book.new registrar.old registrar.new }
     {
-        let known = self.known();
-        match known.phase {
-            Phase::Closed => return Err(Reason::NoSession),
-            Phase::Opened => return Err(Reason::WrongPhase),
-            Phase::Up => {}
-        }
+        self.up()?;
         if self.waiting.place().is_some() {
             return Err(Reason::WrongPhase);
         }
