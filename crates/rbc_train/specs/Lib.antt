@@ -1,6 +1,5 @@
 pub mod Reasons
 pub mod Desks
-pub mod Asking
 pub mod Tellings
 pub mod SessionStates
 pub mod Sayings

@@ -15,7 +15,6 @@ mod guards;
 mod handing_over;
 mod heard;
 mod hearing;
-mod known;
 mod laws;
 mod letter;
 mod mail;
@@ -33,10 +32,8 @@ mod starting;
 mod taking_up;
 mod train;
 
-pub use asking::{Asking, ask_back};
 pub use heard::Heard;
 pub use hearing::tells_others;
-pub use known::Train;
 pub use laws::{a_section_is_released, a_section_is_taken_back};
 pub use letter::Letter;
 pub use mail::{Mail, Notice};

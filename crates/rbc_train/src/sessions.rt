@@ -93,14 +93,14 @@ impl TrainState {
         ensures stands { Enters sessions.old sessions.new self.new.session_state self.old.supervision.engine
             (session_phase self.new.session_state) }
     {
-        let known = self.known();
-        match known.phase {
+        match self.session_state.phase() {
             Phase::Closed => return Err(Reason::NoSession),
             Phase::Opened => {}
             Phase::Up => return Err(Reason::WrongPhase),
         }
         self.heard = Some(t_train);
-        establish(&mut self.session_state, sessions, known.nid_engine);
+        let nid_engine = self.nid_engine();
+        establish(&mut self.session_state, sessions, nid_engine);
         Ok(Heard::nothing())
     }
 
@@ -137,13 +137,13 @@ impl TrainState {
         ensures stands { Enters sessions.old sessions.new self.new.session_state self.old.supervision.engine
             (session_phase self.new.session_state) }
     {
-        let known = self.known();
-        match known.phase {
+        match self.session_state.phase() {
             Phase::Closed => return Err(Reason::NoSession),
             Phase::Opened | Phase::Up => {}
         }
         self.heard = Some(t_train);
-        close(&mut self.session_state, sessions, known.nid_engine);
+        let nid_engine = self.nid_engine();
+        close(&mut self.session_state, sessions, nid_engine);
         self.supervision.forget_proposal();
         let told = self.waiting.drop_start(book);
         let saying = self.answer(NID_LRBG_UNKNOWN, TrackBody::TerminationAcknowledged);
