@@ -18,7 +18,7 @@ use Rattle.rbc_mission.specs.Supervisions.{SupervisionState, HasSupervision, wit
 use Rattle.rbc_session.specs.SessionStates.{session_phase}
 use Rattle.rbc_session.specs.declared.session.SessionState.{SessionState}
 use Rattle.rbc_handover.specs.Expectations.{expected_from, HasExpectations, with_expectations}
-use Rattle.rbc_train.specs.Desk.{HasParts, with_parts, replied, posted, reply_left}
+use Rattle.rbc_train.specs.Desk.{HasParts, with_parts, replied, reply_left}
 use Rattle.rbc_train.specs.Letters.{mail_of}
 use Rattle.rbc_train.specs.Trains.{HasTrain, asked}
 use Rattle.rbc_train.specs.Sayings.{sayings_of}

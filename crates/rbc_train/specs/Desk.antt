@@ -161,8 +161,8 @@ pub record KeepsDesk (i : ℕ) (book book' : Pages) (from to : Rights) : Type 0 
   pub homes : (s : ℕ) → is_own book' s ≡ is_own book s
   pub rights : KeepsRights i from to
 
--- it is the same train at centre c: its hand is held, what is claimed for a start that waits is what its place covers where it was, and of
--- each centre of the line it is known whether the train is expected from there
+-- it is the same train at centre c: its hand is held, what is claimed for a start that waits is what its place covers
+-- where it was, and of each centre of the line it is known whether the train is expected from there
 pub record KeepsState (line : Line) (c : ℕ) (old new : TrainState) : Type 0 where
   pub train : KeepsTrain old new
   pub held : IsHeld line c new

@@ -31,7 +31,8 @@ pub record LeavesFront (line : Line) (place : Place) (old new : SupervisionState
   pub told : words ≡ wished old.engine (front_of (cleared_count line place (hand_of old)) (hand_of old)) from
   pub book : FreesRun old.engine (front_of (cleared_count line place (hand_of old)) (hand_of old)) from to
 
--- what a report comes to that leaves this: no order, sections of this track that go home, and neither a letter nor a notice while a mission stands
+-- what a report comes to that leaves this: no order, sections of this track that go home, and neither a letter nor a
+-- notice while a mission stands
 pub record SendsHome (track : ℕ) (left : SupervisionState) (h : Heard) : Type 0 where
   pub order : h.order ≡ None
   pub mail : h.mail ≡ mail_home track h.mail.first h.mail.notice h.mail.letter

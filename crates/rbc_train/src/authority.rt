@@ -12,7 +12,6 @@ ghost use Rattle.rbc_train.specs.Desk.{HearsTrain, IsAtBook, IsKeptAt, IsOnTrack
 ghost use Rattle.rbc_msgs.specs.StepMessage.{position_of};
 ghost use Rattle.rbc_handover.specs.Giving.{with_count};
 
-use crate::bordering::Bordering;
 use crate::heard::Heard;
 use crate::reason::Reason;
 use crate::train::TrainState;
@@ -121,11 +120,6 @@ impl TrainState {
             l_endsection: LEndsection::new(u64::from(grant.end)),
         });
         let saying = self.answer(place.group, authority);
-        let Bordering {
-            order,
-            notice,
-            letter,
-        } = self.at_border(line, centre, count, place.track);
-        Ok(Heard::bordering(saying, order, notice, letter))
+        Ok(self.at_border(line, centre, count, place.track, saying))
     }
 }

@@ -17,6 +17,7 @@ ghost use Rattle.rbc_mission.specs.Supervisions.{hand_of, pool_of};
 ghost use Rattle.rbc_train.specs.Standstill.{IsAhead, LeavesFront, SendsHome, left_ahead};
 
 use crate::heard::Heard;
+use crate::mail::NO_SECTIONS;
 use crate::reason::Reason;
 use crate::train::TrainState;
 use rbc_allocation::wished_around;
@@ -212,7 +213,7 @@ impl TrainState {
     {
         match place_on(line, track, position) {
             Some(place) => self.clear(line, centre, book, registrar, place),
-            None => Heard::returned(track, SectionRun { first: 0, count: 0 }),
+            None => Heard::returned(track, NO_SECTIONS),
         }
     }
 

@@ -13,10 +13,9 @@ ghost use Rattle.rbc_train.specs.Letters.{cancel_of, mail_home};
 
 use crate::heard::Heard;
 use crate::letter::{Letter, go_home};
-use crate::mail::{Mail, Notice};
+use crate::mail::{Mail, NO_SECTIONS, Notice};
 use crate::train::TrainState;
 use rbc_book::Book;
-use rbc_hand::SectionRun;
 use rbc_line::Line;
 use rbc_linkmsg::Body;
 use rbc_mission::{HeldRight, Released, Told};
@@ -88,7 +87,7 @@ impl TrainState {
         let released = Released {
             told: Told::nothing(),
             right: HeldRight::Held(right),
-            returned: SectionRun { first: 0, count: 0 },
+            returned: NO_SECTIONS,
             cancelled: None,
         };
         self.released(line, centre, registrar, 0, released)

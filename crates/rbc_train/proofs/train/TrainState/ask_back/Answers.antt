@@ -1,4 +1,4 @@
-use Rattle.std.proofs.Common.{ℕ, ◌+◌, ◌∙◌, [], ◌∷◌, arith, ap, sym, Some, option_map}
+use Rattle.std.proofs.Common.{◌+◌, ◌∙◌, [], ◌∷◌, arith, ap, sym, Some, option_map}
 use Rattle.rbc_spec.specs.Maps.{put}
 use Rattle.rbc_spec.specs.Line.{start}
 use Rattle.rbc_spec.specs.Message.{ShorteningRequest}

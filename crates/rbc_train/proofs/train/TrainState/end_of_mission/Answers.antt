@@ -1,8 +1,7 @@
-use Rattle.std.proofs.Common.{◌≡◌, ◌∙◌, ap, sym, refl, option_map, Some}
+use Rattle.std.proofs.Common.{◌≡◌, ◌∙◌, ap, sym, refl, option_map}
 use Rattle.std.proofs.lemmas.Result.{err_from_is_err_and}
 use Rattle.rbc_spec.specs.Message.{EndOfMission}
 use Rattle.rbc_msgs.specs.StepMessage.{position_of}
-use Rattle.rbc_spec.specs.Centre.{Mission}
 use Rattle.rbc_mission.specs.Supervisions.{SupervisionState, hand_of}
 use Rattle.rbc_train.specs.Desk.{with_parts, reply_left}
 use Rattle.rbc_train.specs.Guards.{mission_in}
