@@ -11,7 +11,6 @@ use Rattle.rbc_hand.specs.SectionRuns.{run_of}
 use Rattle.rbc_shorten.specs.Requests.{may_shorten_at, shortening_at, is_free, is_cut_behind_first}
 use Rattle.rbc_shorten.specs.declared.facts.ShorteningFacts.{ShorteningFacts}
 use Rattle.rbc_shorten.specs.declared.facts.Shortening.{Shortening}
-use Rattle.rbc_train.specs.Asking.{asked_back}
 use Rattle.rbc_train.proofs.Fits.{and_right}
 
 -- ## By the rules
@@ -40,6 +39,10 @@ by_test line t s m k b there may =
     ap (λ o. option_map_or (λ n. where_so (may_propose line t s n) (propose line t s n) k) o (rest k)) there
     ∙ (λ i. cond (may i) (said_and_stands line t s m k i) (rest k))
 
+-- where none stands nothing is asked
+pub none_to_ask : (line : Line) (t s : ℕ) (k : Centre) → k.mission t ≡ None → propose_if_so line t s k ≡ rest k
+none_to_ask line t s k none = ap (λ o. option_map_or (λ n. where_so (may_propose line t s n) (propose line t s n) k) o (rest k)) none
+
 -- ## As it is found
 
 some_only : {X : Type 0} (b : Bool) (x y : X) → cond b (Some x) None ≡ Some y → (b ≡ true) × (x ≡ y)
@@ -53,16 +56,14 @@ none_only false x is = refl
 module _ (line : Line) (t s : ℕ) (m : Mission) (k : Centre) (there : k.mission t ≡ Some m) (found : Option Shortening)
     (rules : found ≡ cond (may_propose line t s m k) (Some (record { l_endsection = start line s - group_start line m.place; last_kept = s - 1 })) None) where
   -- no request may be made
-  pub none_made : found ≡ None → propose_if_so line t s k ≡ asked_back t k None
+  pub none_made : found ≡ None → propose_if_so line t s k ≡ rest k
   none_made none = by_test line t s m k false there (none_only _ _ (sym rules ∙ none))
 
   -- this one is made
-  pub made : (x : Shortening) (stamp : ℕ) → found ≡ Some x → k.said t + 1 ≡ stamp
-      → propose_if_so line t s k ≡ asked_back t k (Some (record { proposal = record { stamp = stamp; last_kept = x.last_kept }; nid_lrbg = m.place.group; l_endsection = x.l_endsection }))
-  made x stamp some counts =
+  pub made : (x : Shortening) → found ≡ Some x → propose_if_so line t s k ≡ proposed t k m.place.group x.l_endsection (record { stamp = k.said t + 1; last_kept = x.last_kept })
+  made x some =
       let parts = some_only _ _ x (sym rules ∙ some) in
-      by_test line t s m k true there parts.0
-      ∙ (λ i. proposed t k m.place.group (parts.1 i).l_endsection (record { stamp = counts i; last_kept = (parts.1 i).last_kept }))
+      by_test line t s m k true there parts.0 ∙ (λ i. proposed t k m.place.group (parts.1 i).l_endsection (record { stamp = k.said t + 1; last_kept = (parts.1 i).last_kept }))
 
 -- the end that is asked for has room in L_ENDSECTION
 pub has_room : (metres s : ℕ) (facts : ShorteningFacts) (x : Shortening) → cond (may_shorten_at metres facts s) (Some (shortening_at metres facts s)) None ≡ Some x → x.l_endsection ≤ 32767

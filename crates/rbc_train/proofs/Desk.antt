@@ -18,10 +18,10 @@ use Rattle.rbc_mission.specs.Supervisions.{SupervisionState, HasSupervision, wit
 use Rattle.rbc_session.specs.SessionStates.{session_phase}
 use Rattle.rbc_session.specs.declared.session.SessionState.{SessionState}
 use Rattle.rbc_handover.specs.Expectations.{expected_from, HasExpectations, with_expectations}
-use Rattle.rbc_train.specs.Desk.{HasParts, with_parts, replied, posted, reply_left}
-use Rattle.rbc_train.specs.Letters.{mail_of, mail_to}
+use Rattle.rbc_train.specs.Desk.{HasParts, with_parts, replied, reply_left}
+use Rattle.rbc_train.specs.Letters.{mail_of}
 use Rattle.rbc_train.specs.Trains.{HasTrain, asked}
-use Rattle.rbc_train.specs.Sayings.{sayings_of, told_train}
+use Rattle.rbc_train.specs.Sayings.{sayings_of}
 use Rattle.rbc_train.specs.declared.heard.Heard.{Heard}
 use Rattle.rbc_train.specs.declared.train.TrainState.{TrainState}
 
@@ -217,8 +217,7 @@ pub left_as : (k : Centre) (p q : TrainState) (book : Pages) (rights : Rights) (
 left_as k p q book rights sayings sayings' told told' a b d = λ i. by_reply (replied (with_parts (a i) book rights k) (b i) (d i))
 
 -- and what was heard, which says this and tells nothing
-pub heard_said : (line : Line) (c t : ℕ) (k : Centre) (p q : TrainState) (book : Pages) (rights : Rights) (h : Heard) (sayings : List Saying) → p ≡ q → sayings_of h.saying ≡ sayings → h.order ≡ None → h.mail ≡ mail_of None → h.told ≡ []
-    → reply_left line c t (with_parts p book rights k) h ≡ replied (with_parts q book rights k) sayings []
-heard_said line c t k p q book rights h sayings left says order mail told =
-    (λ i. posted (mail_to line c t (λ d. (with_parts p book rights k).expects d t) (mail i)) (replied (with_parts p book rights k) (told_train h.saying (order i)) (told i)))
-    ∙ (λ i. replied (with_parts (left i) book rights k) (says i) [])
+pub heard_said : (line : Line) (c t : ℕ) (k : Centre) (p q : TrainState) (book : Pages) (rights : Rights) (h : Heard) (sayings : List Saying) → p ≡ q → sayings_of h.saying ≡ sayings
+    → h ≡ record { saying = h.saying; order = None; mail = mail_of None; told = [] } → reply_left line c t (with_parts p book rights k) h ≡ replied (with_parts q book rights k) sayings []
+heard_said line c t k p q book rights h sayings left says is =
+    ap (reply_left line c t (with_parts p book rights k)) is ∙ (λ i. replied (with_parts (left i) book rights k) (says i) [])

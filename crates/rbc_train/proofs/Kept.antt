@@ -1,5 +1,5 @@
 -- What stays of a train's mission and of its start that waits: its pool follows its hand, and what is held is held.
-use Rattle.std.proofs.Common.{◌≡◌, ◌+◌, ℕ, ◌≤◌, ◌==◌, if◌then◌else◌, Bool, true, false, Option, Some, None, is_some, is_none, ◌&&◌, option_map, option_and_then, refl, sym, ap, ◌∙◌, subst, arith}
+use Rattle.std.proofs.Common.{◌≡◌, ◌+◌, ℕ, ◌≤◌, ◌==◌, length, if◌then◌else◌, Bool, true, false, Option, Some, None, is_some, is_none, ◌&&◌, option_map, option_and_then, refl, sym, ap, ◌∙◌, subst, arith}
 use Rattle.std.specs.Option.{option_map_or}
 use Rattle.std.proofs.lemmas.Bool.{eqb-false}
 use Rattle.std.proofs.lemmas.Option.{same_Some}
@@ -9,12 +9,13 @@ use Rattle.rbc_spec.specs.SectionRuns.{SectionRun, no_run, within, behind, is_em
 use Rattle.rbc_spec.specs.Centre.{Mission, Handing}
 use Rattle.rbc_book.specs.Book.{Pages, is_own}
 use Rattle.rbc_right.specs.Rights.{right_of}
+use Rattle.rbc_pending_start.specs.Waits.{WaitState, IsCovered}
 use Rattle.rbc_hand.specs.Hands.{Holding}
 use Rattle.rbc_allocation.specs.Sections.{rest_of, is_held_as, IsHeldAt, IsHeldBy}
 use Rattle.rbc_mission.specs.Supervisions.{SupervisionState, HasRouteForm, hand_of, handing_in, without_front, right_left, handover_left}
 use Rattle.rbc_handover.specs.Handings.{handover_name}
 use Rattle.rbc_mission.specs.declared.held.HeldRight.TheVariants.{Nothing, Held}
-use Rattle.rbc_train.specs.Desk.{IsKeptAt, IsHeld}
+use Rattle.rbc_train.specs.Desk.{IsKeptAt, IsHeld, KeepsState}
 use Rattle.rbc_train.specs.declared.train.TrainState.{TrainState}
 use Rattle.rbc_train.proofs.Desk.{with_mission}
 
@@ -137,3 +138,21 @@ held_hand line c p left book engine hand homes held =
 -- and back
 pub held_again : (line : Line) (c t : ℕ) (q : TrainState) (book : Pages) → t ≡ q.supervision.engine → ((s : ℕ) → is_own book s ≡ is_home line c s) → IsHeldBy t q.supervision.hand book → IsHeld line c q
 held_again line c t q book engine homes held = held_as t q.supervision.engine (is_own book) (is_home line c) q.supervision.hand engine (λ s. sym (homes s)) held
+
+-- of the same train what waits has not changed
+pub keeps_by : (line : Line) (c : ℕ) (p q : TrainState) → q.supervision.number ≡ p.supervision.number
+    → q.supervision.engine ≡ p.supervision.engine → q.waiting ≡ p.waiting → q.said ≤ p.said + 2
+    → length q.expectations ≡ length p.expectations → IsHeld line c q → KeepsState line c p q
+keeps_by line c p q number engine waiting said expected held = record {
+  train = record { number = number; engine = engine; waiting = ap (λ (w : WaitState). w.engine) waiting; said = said };
+  held = held;
+  covers = λ covers. subst (IsCovered line) (sym waiting) covers;
+  expected = expected;
+}
+
+-- nor has more than its supervision, and whether it was heard
+pub keeps_state : (line : Line) (c : ℕ) (p : TrainState) (heard : Option ℕ) (left : SupervisionState)
+    → left.number ≡ p.supervision.number → left.engine ≡ p.supervision.engine → IsHeld line c (record p { supervision = left })
+    → KeepsState line c p (record p { heard = heard; supervision = left })
+keeps_state line c p heard left number engine held =
+    keeps_by line c p (record p { heard = heard; supervision = left }) number engine refl (omega arith) refl held

@@ -4,6 +4,7 @@ pub mod Tellings
 pub mod Asks
 pub mod SessionStates
 pub mod Desk
+pub mod Unanswered
 pub mod Turns
 pub mod Letters
 pub mod RightFrames

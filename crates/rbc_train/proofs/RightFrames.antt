@@ -20,8 +20,7 @@ use Rattle.rbc_linkmsg.specs.declared.body.Body.TheVariants as code
 use Rattle.rbc_hand.specs.Hands.{Holding}
 use Rattle.rbc_mission.specs.Supervisions.{SupervisionState, mission_at}
 use Rattle.rbc_mission.specs.declared.held.HeldRight.TheVariants.{Held}
-use Rattle.rbc_train.specs.Desk.{HasParts, with_parts, with_right, posted, replied, reply_left}
-use Rattle.rbc_train.specs.Sayings.{told_train}
+use Rattle.rbc_train.specs.Desk.{HasParts, with_parts, with_right, posted, replied, reply_left, unsaid}
 use Rattle.rbc_train.specs.declared.heard.Heard.{Heard}
 use Rattle.rbc_train.specs.Homes.{GoesHome}
 use Rattle.rbc_train.specs.Letters.{letters, mail_to}
@@ -66,9 +65,9 @@ is_back rights rights' i right is few back =
     back i ∙ ap (λ (r : Right). put (is_here rights) r.train (nat_lt r.train (length rights)) i) is ∙ put_there (is_here rights) i (nat_lt i (length rights)) ∙ lt-ltb i (length rights) few
 
 -- what was released says nothing
-pub released_as : (line : Line) (c t : ℕ) (k : Centre) (h : Heard) (told : List ℕ) (mail : Mail) → h.saying ≡ None → h.order ≡ None → h.mail ≡ mail → h.told ≡ told
+pub released_as : (line : Line) (c t : ℕ) (k : Centre) (h : Heard) (told : List ℕ) (mail : Mail) → h ≡ unsaid mail told
     → reply_left line c t k h ≡ posted (mail_to line c t (λ d. k.expects d t) mail) (replied k [] told)
-released_as line c t k h told mail saying order sends is = λ i. posted (mail_to line c t (λ d. k.expects d t) (sends i)) (replied k (told_train (saying i) (order i)) (is i))
+released_as line c t k h told mail is = ap (reply_left line c t k) is
 
 -- ## The frames
 

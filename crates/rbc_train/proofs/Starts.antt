@@ -154,13 +154,13 @@ module _ (line : Line) (c : ℕ) (k : Centre) (stamp : ℕ) (old : TrainState) (
 
   -- the train is answered behind it
   pub starts_answered : (body : TrackBody) (new : TrainState) (heard : Heard) → ((j : Centre) → started t' start j ≡ say t' unknown_group body j) → new ≡ record mid { said = mid.said + 1 }
-      → sayings_of heard.saying ≡ answer_to mid.supervision.engine (mid.said + 1) body → heard.order ≡ None → heard.mail ≡ mail_of None → heard.told ≡ []
+      → sayings_of heard.saying ≡ answer_to mid.supervision.engine (mid.said + 1) body → heard ≡ record { saying = heard.saying; order = None; mail = mail_of None; told = [] }
       → effect line c k (Train (record { t_train = stamp; nid_engine = old.supervision.engine; body = StartOfMission is_valid position }))
       ≡ by_reply (reply_left line c t' (with_parts new book' rights' k) heard)
-  starts_answered body new heard is left said order mail told =
+  starts_answered body new heard is left said nothing_else =
       starts ∙ ap by_reply (is (with_parts mid book' rights' at) ∙ says t' unknown_group body mid book' rights' at engine
       ∙ ap (λ (x : Centre). replied x (answer_to t' (mid.said + 1) body) []) (left_heard line c k stamp old book rights h.parts (record mid { said = mid.said + 1 }) book' rights' engine)
-      ∙ sym (heard_said line c t' k new (record mid { said = mid.said + 1 }) book' rights' heard (answer_to t' (mid.said + 1) body) left (said ∙ ap (λ (e : ℕ). answer_to e (mid.said + 1) body) engine) order mail told))
+      ∙ sym (heard_said line c t' k new (record mid { said = mid.said + 1 }) book' rights' heard (answer_to t' (mid.said + 1) body) left (said ∙ ap (λ (e : ℕ). answer_to e (mid.said + 1) body) engine) nothing_else))
 
   -- or its start waits
   pub starts_waiting : (letter : Option Letter) → start ≡ Waiting letter

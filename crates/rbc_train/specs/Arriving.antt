@@ -1,13 +1,23 @@
 -- A mission that comes from the centre that hands it over.
-use Rattle.std.specs.Prelude.{List, Option, Some, None, max}
+use Rattle.std.specs.Prelude.{◌≡◌, ◌+◌, ◌≤◌, ℕ, true, length, List, Option, Some, None, max}
 use Rattle.std.specs.Option.{option_map_or}
-use Rattle.rbc_spec.specs.SectionRuns.{no_run}
+use Rattle.rbc_spec.specs.Line.{Line}
+use Rattle.rbc_spec.specs.SectionRuns.{SectionRun, no_run, within}
 use Rattle.rbc_spec.specs.Place.{Place}
-use Rattle.rbc_spec.specs.Centre.{Mission, Expectation}
+use Rattle.rbc_spec.specs.Centre.{Mission, Expectation, is_out_for}
+use Rattle.rbc_book.specs.Book.{Pages, is_own, entry_at}
 use Rattle.rbc_hand.specs.Hands.{Holding}
 use Rattle.rbc_hand.specs.SectionRuns.{run_of}
+use Rattle.rbc_mission.specs.Supervisions.{SupervisionState}
 use Rattle.rbc_train.specs.declared.taking_up.Coming.{Coming}
 use Rattle.rbc_train.specs.declared.train.TrainState.{TrainState}
+
+-- a mission with this hand may go on with the train: none stands here, the sections are of the line, and those of the
+-- book's home are out for it
+pub record MayGoOn (line : Line) (p : SupervisionState) (hand : SectionRun) (book : Pages) : Type 0 where
+  pub none : p.mission ≡ None
+  pub on_line : hand.first + hand.count ≤ length line.sections
+  pub own : (s : ℕ) → within hand s ≡ true → is_own book s ≡ true → is_out_for p.engine (entry_at book s) ≡ true
 
 -- the mission, at this place
 abbrev pub coming_mission : Coming → Place → Mission

@@ -1,10 +1,12 @@
 -- A train at the border to the next centre.
-use Rattle.std.specs.Prelude.{◌≡◌, ℕ, ◌-◌, ◌≤◌, true, Some}
+use Rattle.std.specs.Prelude.{◌≡◌, ℕ, ◌+◌, ◌-◌, ◌<◌, ◌≤◌, true, Some}
 use Rattle.rbc_spec.specs.SectionRuns.{within}
 use Rattle.rbc_spec.specs.Line.{Line, start}
 use Rattle.rbc_spec.specs.Place.{group_start}
 use Rattle.rbc_spec.specs.Centre.{Mission}
 use Rattle.rbc_mission.specs.Supervisions.{SupervisionState}
+use Rattle.rbc_train.specs.Desk.{last_said}
+use Rattle.rbc_train.specs.declared.train.TrainState.{TrainState}
 
 -- each section of the hand of the mission, if one stands, begins no farther from the group of its place than D_RBCTR can say
 abbrev pub IsNear : Line → SupervisionState → Type 0
@@ -15,3 +17,18 @@ pub record KeepsHand (old new : SupervisionState) : Type 0 where
   pub number : new.number ≡ old.number
   pub engine : new.engine ≡ old.engine
   pub hand : new.hand ≡ old.hand
+
+-- a handover of the train may be announced, where so many were: a message and a number are left for it, and the
+-- border is near
+pub record MayAnnounce (line : Line) (p : TrainState) (count : ℕ) : Type 0 where
+  pub said : p.said < last_said
+  pub announced : count < 1073741823
+  pub near : IsNear line p.supervision
+
+-- no more has changed than an announcement and a question change: at most one message more was said, and one handover
+-- more announced
+pub record KeepsAtBorder (old new : TrainState) (count count' : ℕ) : Type 0 where
+  pub left : new ≡ record old { said = new.said; supervision = new.supervision }
+  pub hand : KeepsHand old.supervision new.supervision
+  pub counted : (old.said ≤ new.said) × (new.said ≤ old.said + 1)
+  pub announced : (count ≤ count') × (count' ≤ count + 1)

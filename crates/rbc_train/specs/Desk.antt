@@ -1,5 +1,5 @@
 -- A centre seen from one of its trains: the parts of its state that a message of the train finds, and those that it leaves.
-use Rattle.std.specs.Prelude.{◌≡◌, ◌⊎◌, ◌+◌, ◌++◌, ◌≤◌, ℕ, Bool, List, [], Some, None, Option, Result, Ok, Err, map, is_none, is_some, true, false, length}
+use Rattle.std.specs.Prelude.{◌≡◌, ◌⊎◌, ◌+◌, ◌++◌, ◌≤◌, ◌<◌, ℕ, Bool, List, [], Some, None, Option, Result, Ok, Err, map, is_none, is_some, true, false, length}
 use Rattle.rbc_spec.specs.Maps.{put}
 use Rattle.rbc_spec.specs.SectionRuns.{within, behind, is_empty}
 use Rattle.rbc_spec.specs.Line.{Line, is_home, train_number}
@@ -24,7 +24,7 @@ use Rattle.rbc_train.specs.Reasons.{reason_of}
 use Rattle.rbc_train.specs.Letters.{mail_to}
 use Rattle.rbc_train.specs.Sayings.{told_train}
 use Rattle.rbc_train.specs.declared.heard.Heard.{Heard}
-use Rattle.rbc_train.specs.declared.mail.Notice.TheVariants as notice
+use Rattle.rbc_train.specs.declared.mail.Mail.{Mail}
 use Rattle.rbc_train.specs.declared.reason.Reason.{Reason}
 use Rattle.rbc_train.specs.declared.train.TrainState.{TrainState}
 
@@ -49,6 +49,23 @@ IsOnTrack line p = (m : Mission) → p.supervision.mission ≡ Some m → (s : �
 -- each section of the train's hand is held as it has to be at centre c: one of its home by a claim, and another by its name
 abbrev pub IsHeld : Line → ℕ → TrainState → Type 0
 IsHeld line c p = IsHeldAt p.supervision.engine (is_home line c) p.supervision.hand
+
+-- ## A train at the desk of its centre
+
+-- the book is that of centre c, and the train's hand is held there
+pub record IsAtBook (line : Line) (c : ℕ) (p : TrainState) (pages : Pages) : Type 0 where
+  pub book : IsBookOf line c pages
+  pub held : IsHeld line c p
+
+-- and the train has its place in these rights
+pub record IsAtDesk (line : Line) (c : ℕ) (p : TrainState) (pages : Pages) (rights : Rights) : Type 0 where
+  pub number : p.supervision.number < length rights
+  pub book : IsBookOf line c pages
+  pub held : IsHeld line c p
+
+-- the highest count of messages to a train, which leaves no T_TRAIN for another
+abbrev pub last_said : ℕ
+last_said = 4294967294
 
 -- centre c has this of the train, this book and these rights
 pub record HasParts (line : Line) (c : ℕ) (k : Centre) (p : TrainState) (book : Pages) (rights : Rights) : Type 0 where
@@ -107,6 +124,10 @@ replied k sayings told = record { state = k; frames = λ d. []; sayings = saying
 abbrev pub posted : (ℕ → List Body) → Reply → Reply
 posted frames reply = record reply { frames = frames }
 
+-- nothing is said to the train, and other centres and the interlocking are told this
+abbrev pub unsaid : Mail → List ℕ → Heard
+unsaid mail told = record { saying = None; order = None; mail = mail; told = told }
+
 -- what a frame of train t came to at centre c, or a message that was answered, where it is left as k
 abbrev pub reply_left : Line → ℕ → ℕ → Centre → Heard → Reply
 reply_left line c t k h = posted (mail_to line c t (λ d. k.expects d t) h.mail) (replied k (told_train h.saying h.order) h.told)
@@ -139,3 +160,11 @@ pub record KeepsRights (i : ℕ) (rights rights' : Rights) : Type 0 where
 pub record KeepsDesk (i : ℕ) (book book' : Pages) (from to : Rights) : Type 0 where
   pub homes : (s : ℕ) → is_own book' s ≡ is_own book s
   pub rights : KeepsRights i from to
+
+-- it is the same train at centre c: its hand is held, what is claimed for a start that waits is what its place covers
+-- where it was, and of each centre of the line it is known whether the train is expected from there
+pub record KeepsState (line : Line) (c : ℕ) (old new : TrainState) : Type 0 where
+  pub train : KeepsTrain old new
+  pub held : IsHeld line c new
+  pub covers : IsCovered line old.waiting → IsCovered line new.waiting
+  pub expected : length new.expectations ≡ length old.expectations

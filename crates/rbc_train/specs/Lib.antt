@@ -1,6 +1,5 @@
 pub mod Reasons
 pub mod Desks
-pub mod Asking
 pub mod Tellings
 pub mod SessionStates
 pub mod Sayings
@@ -12,3 +11,4 @@ pub mod Arriving
 pub mod Standstill
 pub mod Starts
 pub mod Homes
+pub mod Guards

@@ -1,5 +1,5 @@
 -- What leaves the hand of a train that reports, and of one that ends its mission at standstill.
-use Rattle.std.specs.Prelude.{◌≡◌, ℕ, ◌+◌, ◌++◌, ◌==◌, List, Option, Some, option_and_then, if◌then◌else◌}
+use Rattle.std.specs.Prelude.{◌≡◌, ℕ, ◌+◌, ◌++◌, ◌==◌, true, List, Option, Some, None, is_some, option_and_then, if◌then◌else◌}
 use Rattle.std.specs.Option.{option_map_or}
 use Rattle.rbc_spec.specs.SectionRuns.{SectionRun, passing}
 use Rattle.rbc_spec.specs.Line.{Line}
@@ -10,6 +10,9 @@ use Rattle.rbc_shorten.specs.Standstill.{ahead_of}
 use Rattle.rbc_shorten.specs.declared.answer.Cut.{Cut}
 use Rattle.rbc_shorten.specs.declared.answer.Cut.TheVariants.{Nothing, Keep}
 use Rattle.rbc_mission.specs.Supervisions.{SupervisionState, hand_of, without_front}
+use Rattle.rbc_train.specs.Letters.{mail_home}
+use Rattle.rbc_train.specs.declared.heard.Heard.{Heard}
+use Rattle.rbc_train.specs.declared.mail.Notice.TheVariants as notice
 
 -- how many of the first sections of a hand a train at this place has cleared
 abbrev pub cleared_count : Line → Place → SectionRun → ℕ
@@ -27,6 +30,13 @@ pub record LeavesFront (line : Line) (place : Place) (old new : SupervisionState
   }
   pub told : words ≡ wished old.engine (front_of (cleared_count line place (hand_of old)) (hand_of old)) from
   pub book : FreesRun old.engine (front_of (cleared_count line place (hand_of old)) (hand_of old)) from to
+
+-- what a report comes to that leaves this: no order, sections of this track that go home, and neither a letter nor a
+-- notice while a mission stands
+pub record SendsHome (track : ℕ) (left : SupervisionState) (h : Heard) : Type 0 where
+  pub order : h.order ≡ None
+  pub mail : h.mail ≡ mail_home track h.mail.first h.mail.notice h.mail.letter
+  pub letter : is_some left.mission ≡ true → (h.mail.letter ≡ None) × (h.mail.notice ≡ notice.Nothing)
 
 -- what is cut off the hand of a train that stands still at its place on this track, behind what it has cleared
 abbrev pub left_ahead : Line → ℕ → Position → SectionRun → Cut

@@ -1,72 +1,70 @@
 //! A request to shorten that a train's supervisor makes where the interlocking wishes a section of the hand back
 //! (3.8.6).
 
-ghost use Rattle.std.specs.Prelude.{◌≡◌, ◌<◌, ◌≤◌, Option, Some, IfSome};
+ghost use Rattle.std.specs.Prelude.{◌≡◌, ◌+◌, ◌<◌, ◌≤◌};
 ghost use Rattle.rbc_spec.specs.Acts.{propose_if_so};
 ghost use Rattle.rbc_spec.specs.Centre as spec;
-ghost use Rattle.rbc_session.specs.SessionStates.{phase_of};
-ghost use Rattle.rbc_hand.specs.SectionRuns.{run_of};
+ghost use Rattle.rbc_session.specs.SessionStates.{phase_of, session_phase};
 ghost use Rattle.rbc_shorten.specs.Facts.{AreFactsOf};
-ghost use Rattle.rbc_mission.specs.Supervisions.{mission_of};
-ghost use Rattle.rbc_train.specs.Asking.{IsTrain, asked_back};
+ghost use Rattle.rbc_train.specs.Guards.{mission_in};
+ghost use Rattle.rbc_train.specs.Trains.{asked, HasTrain};
+ghost use Rattle.rbc_train.specs.Sayings.{sayings_of};
 
-use crate::known::Train;
+use crate::saying::Saying;
+use crate::train::TrainState;
 use rbc_line::Line;
 use rbc_mission::MissionFacts;
+use rbc_msgs::TrackBody;
+use rbc_packets::Authority;
 use rbc_place::group_start;
 use rbc_session::Phase;
-use rbc_shorten::{Proposal, propose};
+use rbc_shorten::{Proposal, ShorteningFacts, propose};
+use rbc_vars::LEndsection;
 
-/// A request for co-operative shortening of MA to a train (3.8.6).
-#[derive(Clone, Copy, Debug, PartialEq, Eq)]
-pub struct Asking {
-    /// What stands at the centre until the train answers.
-    pub proposal: Proposal,
-    /// NID_LRBG of message 9: the balise group of the train's place.
-    pub nid_lrbg: u32,
-    /// L_ENDSECTION of message 9: the proposed end, in metres from that group.
-    pub l_endsection: u16,
-}
-
-/// The request to shorten that asks the train to end its authority before section `s`, in a message with T_TRAIN
-/// `stamp`; none where no such request may be made.
-#[inline(always)]
-pub fn ask_back(line: &Line, train: &Train, s: u16, stamp: u32) -> Option<Asking>
-    ensures exact { (handing : Option spec.Handing) (k : spec.Centre) → IsTrain k handing train.now stamp
-        → propose_if_so line.now train.now.nid_engine s k ≡ asked_back train.now.nid_engine k result }
-    ensures room { IfSome result (λ a. a.l_endsection ≤ 32767) }
-    ensures group { IfSome result (λ a. a.nid_lrbg < 16777216) }
-{
-    let Some(mission) = train.mission else {
-        return None;
-    };
-    let Some(shortening) = propose(line, facts(line, train, &mission), s) else {
-        return None;
-    };
-    Some(Asking {
-        proposal: Proposal {
-            stamp,
+impl TrainState {
+    /// Asks the train to end its movement authority before a section (3.8.6), where that may be asked.
+    #[inline(never)]
+    pub fn ask_back(&mut self, line: &Line, s: u16) -> Option<Saying>
+        requires count { self.old.said < 4294967294 }
+        ensures exact { (k : spec.Centre) → HasTrain k self.old.supervision.engine self.old
+            → propose_if_so line.now self.old.supervision.engine s k
+            ≡ asked self.old.supervision.engine self.new (sayings_of result) k }
+        ensures session_state { self.new.session_state ≡ self.old.session_state }
+        ensures heard { self.new.heard ≡ self.old.heard }
+        ensures question { self.new.supervision.asked ≡ self.old.supervision.asked }
+        ensures hand { self.new.supervision.hand ≡ self.old.supervision.hand }
+        ensures number { self.new.supervision.number ≡ self.old.supervision.number }
+        ensures engine { self.new.supervision.engine ≡ self.old.supervision.engine }
+        ensures waiting { self.new.waiting ≡ self.old.waiting }
+        ensures expectations { self.new.expectations ≡ self.old.expectations }
+        ensures said { self.new.said ≤ self.old.said + 1 }
+    {
+        let mission = self.supervision.mission()?;
+        let shortening = propose(line, self.facts(line, &mission), s)?;
+        self.supervision.propose(Proposal {
+            stamp: self.said + 1,
             last_kept: shortening.last_kept,
-        },
-        nid_lrbg: mission.place.group,
-        l_endsection: shortening.l_endsection,
-    })
-}
+        });
+        let request = TrackBody::ShorteningRequest(Authority {
+            l_endsection: LEndsection::new(u64::from(shortening.l_endsection)),
+        });
+        Some(self.answer(mission.place.group, request))
+    }
 
-// What decides whether the train may be asked to shorten the authority of its mission.
-fn facts(line: &Line, train: &Train, mission: &MissionFacts) -> rbc_shorten::ShorteningFacts
-    ensures { (handing : Option spec.Handing) (k : spec.Centre)
-        → k.phase train.now.nid_engine ≡ phase_of train.now.phase
-        → AreFactsOf line.now train.now.nid_engine
-        (mission_of (run_of train.now.hand) (run_of train.now.pool) handing mission.now) k result }
-{
-    rbc_shorten::ShorteningFacts {
-        is_up: is_up(train.phase),
-        is_ended: mission.is_ended,
-        proposal: mission.proposal,
-        hand: train.hand,
-        front: mission.place.front,
-        group_start: group_start(line, &mission.place),
+    // What decides whether the train may be asked to shorten the authority of its mission.
+    #[inline(always)]
+    fn facts(&self, line: &Line, mission: &MissionFacts) -> ShorteningFacts
+        ensures { (k : spec.Centre) → k.phase self.now.supervision.engine ≡ session_phase self.now.session_state
+            → AreFactsOf line.now self.now.supervision.engine (mission_in self.now.supervision mission.now) k result }
+    {
+        ShorteningFacts {
+            is_up: is_up(self.session_state.phase()),
+            is_ended: mission.is_ended,
+            proposal: mission.proposal,
+            hand: self.hand(),
+            front: mission.place.front,
+            group_start: group_start(line, &mission.place),
+        }
     }
 }
 

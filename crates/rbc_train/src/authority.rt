@@ -8,12 +8,10 @@ ghost use Rattle.rbc_spec.specs.Message.{TrainData, Request};
 ghost use Rattle.rbc_spec.specs.Step as step;
 ghost use Rattle.rbc_book.specs.Book.{Pages, is_own};
 ghost use Rattle.rbc_right.specs.Rights.{Rights};
-ghost use Rattle.rbc_train.specs.Desk.{HearsTrain, IsKeptAt, IsOnTrack, IsHeld, KeepsTrain, with_parts, effect_left};
+ghost use Rattle.rbc_train.specs.Desk.{HearsTrain, IsAtBook, IsKeptAt, IsOnTrack, KeepsState, last_said, with_parts, effect_left};
 ghost use Rattle.rbc_msgs.specs.StepMessage.{position_of};
 ghost use Rattle.rbc_handover.specs.Giving.{with_count};
-ghost use Rattle.rbc_train.specs.Desks.{IsBookOf};
 
-use crate::bordering::Bordering;
 use crate::heard::Heard;
 use crate::reason::Reason;
 use crate::train::TrainState;
@@ -24,14 +22,13 @@ use rbc_line::Line;
 use rbc_msgs::{NID_LRBG_UNKNOWN, TrackBody};
 use rbc_packets::{Authority, Position};
 use rbc_place::place_on;
-use rbc_session::Phase;
 use rbc_vars::{LEndsection, TTrain};
 
 impl TrainState {
     /// Message 129: the train data of a mission that goes on are known, and acknowledged.
     #[inline(never)]
     pub(crate) fn train_data(&mut self, t_train: u32) -> Result<Heard, Reason>
-        requires count { self.old.said < 4294967294 }
+        requires { self.old.said < last_said }
         ensures exact { (line : track.Line) (c : ℕ) (book : Pages) (rights : Rights) (k : spec.Centre)
             (position : place.Position)
             → HearsTrain line c k t_train self.old book rights
@@ -42,21 +39,15 @@ impl TrainState {
               body = TrainData position;
             }))
             ≡ effect_left line c self.old.supervision.engine (with_parts self.new book rights k) result }
-        ensures kept { KeepsTrain self.old self.new }
-        ensures expectations { self.new.expectations ≡ self.old.expectations }
-        ensures hand { self.new.supervision.hand ≡ self.old.supervision.hand }
-        ensures waiting { self.new.waiting ≡ self.old.waiting }
-        ensures session { self.new.session_state ≡ self.old.session_state }
+        ensures left { self.new ≡ record self.old {
+          heard = self.new.heard;
+          said = self.new.said;
+          supervision = record self.old.supervision { mission = self.new.supervision.mission };
+        } }
+        ensures counted { self.new.said ≤ self.old.said + 1 }
     {
-        let known = self.known();
-        match known.phase {
-            Phase::Closed => return Err(Reason::NoSession),
-            Phase::Opened => return Err(Reason::WrongPhase),
-            Phase::Up => {}
-        }
-        let Some(mission) = known.mission else {
-            return Err(Reason::NotSupervised);
-        };
+        self.up()?;
+        let mission = self.supervised()?;
         if mission.is_ended {
             return Err(Reason::MissionEnded);
         }
@@ -80,12 +71,11 @@ impl TrainState {
         t_train: u32,
         position: &Position,
     ) -> Result<Heard, Reason>
-        requires count { self.old.said < 4294967293 }
+        requires count { self.old.said + 1 < last_said }
         requires announced { count.old < 1073741823 }
-        requires book { IsBookOf line.now centre book.old }
+        requires at { IsAtBook line.now centre self.old book.old }
         requires kept { IsKeptAt line.now centre self.old }
         requires on { IsOnTrack line.now self.old }
-        requires held { IsHeld line.now centre self.old }
         ensures exact { (rights : Rights) (k : spec.Centre)
             → HearsTrain line.now centre k t_train self.old book.old rights → k.announced ≡ count.old
             → step.effect line.now centre k
@@ -96,23 +86,17 @@ impl TrainState {
             }))
             ≡ effect_left line.now centre self.old.supervision.engine
             (with_count count.new (with_parts self.new book.new rights k)) result }
-        ensures kept { KeepsTrain self.old self.new }
+        ensures left { self.new ≡ record self.old {
+          heard = self.new.heard;
+          said = self.new.said;
+          supervision = self.new.supervision;
+        } }
+        ensures keeps { KeepsState line.now centre self.old self.new }
         ensures announced { (count.old ≤ count.new) × (count.new ≤ count.old + 1) }
-        ensures expectations { self.new.expectations ≡ self.old.expectations }
-        ensures held { IsHeld line.now centre self.new }
-        ensures waiting { self.new.waiting ≡ self.old.waiting }
-        ensures session { self.new.session_state ≡ self.old.session_state }
         ensures homes { (s : ℕ) → is_own book.new s ≡ is_own book.old s }
     {
-        let known = self.known();
-        match known.phase {
-            Phase::Closed => return Err(Reason::NoSession),
-            Phase::Opened => return Err(Reason::WrongPhase),
-            Phase::Up => {}
-        }
-        let Some(mission) = known.mission else {
-            return Err(Reason::NotSupervised);
-        };
+        self.up()?;
+        let mission = self.supervised()?;
         if mission.is_ended {
             return Err(Reason::MissionEnded);
         }
@@ -125,21 +109,17 @@ impl TrainState {
         let Some(place) = place_on(line, mission.place.track, position) else {
             return Err(Reason::NoPlace);
         };
-        if !may_request(line, known.hand, &place) {
+        let hand = self.hand();
+        if !may_request(line, hand, &place) {
             return Err(Reason::NoPlace);
         }
-        let grant = answer_request(line, book, known.pool, known.hand, &place);
+        let grant = answer_request(line, book, self.supervision.pool(), hand, &place);
         self.heard = Some(t_train);
         self.supervision.lengthen(place, grant.sections, book);
         let authority = TrackBody::Authority(Authority {
             l_endsection: LEndsection::new(u64::from(grant.end)),
         });
         let saying = self.answer(place.group, authority);
-        let Bordering {
-            order,
-            notice,
-            letter,
-        } = self.at_border(line, centre, count, place.track);
-        Ok(Heard::bordering(saying, order, notice, letter))
+        Ok(self.at_border(line, centre, count, place.track, saying))
     }
 }

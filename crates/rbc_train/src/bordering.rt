@@ -1,6 +1,6 @@
 //! What follows the answer to a request at the border to the next centre (3.15.1, profile).
 
-ghost use Rattle.std.specs.Prelude.{◌≡◌, ◌-◌, ◌+◌, ◌<◌, ◌≤◌, ◌++◌, ℕ, Option, []};
+ghost use Rattle.std.specs.Prelude.{◌≡◌, ◌-◌, ◌≤◌, ◌++◌, ℕ, Option, Some, []};
 ghost use Rattle.std.specs.Option.{option_map_or};
 ghost use Rattle.rbc_spec.specs.Centre as spec;
 ghost use Rattle.rbc_spec.specs.Message as order;
@@ -14,11 +14,12 @@ ghost use Rattle.rbc_msgs.specs.declared.track.TrackBody.TheVariants as message;
 ghost use Rattle.rbc_place.specs.Places.{place_of};
 ghost use Rattle.rbc_handover.specs.Giving.{with_count};
 ghost use Rattle.rbc_mission.specs.Supervisions.{HasSupervision, with_supervision};
-ghost use Rattle.rbc_train.specs.Bordering.{IsNear, KeepsHand};
+ghost use Rattle.rbc_train.specs.Bordering.{KeepsAtBorder, MayAnnounce};
 ghost use Rattle.rbc_train.specs.Desk.{counted_to, posted, replied};
-ghost use Rattle.rbc_train.specs.Letters.{letters, notices};
+ghost use Rattle.rbc_train.specs.Letters.{letters, mail_home, no_sections, notices};
 ghost use Rattle.rbc_train.specs.Sayings.{sayings_of};
 
+use crate::heard::Heard;
 use crate::letter::Letter;
 use crate::mail::Notice;
 use crate::saying::Saying;
@@ -32,19 +33,10 @@ use rbc_packets::Transition;
 use rbc_place::{Place, group_start, section_start};
 use rbc_vars::{DRbctr, NidC, NidRbc};
 
-/// What the train and the next centre are told at a border.
-#[derive(Clone, Copy, Debug, PartialEq, Eq)]
-pub(crate) struct Bordering {
-    /// Where the next centre takes over (packet 131).
-    pub(crate) order: Option<Saying>,
-    pub(crate) notice: Notice,
-    pub(crate) letter: Option<Letter>,
-}
-
 impl TrainState {
     /// A handover to the next centre on the track is announced, where the hand has a section of its home and none
     /// stands: the train is told where the border is. Then that centre is asked for the sections behind the hand, where
-    /// they are due.
+    /// they are due. The train was answered this before.
     #[inline(always)]
     pub(crate) fn at_border(
         &mut self,
@@ -52,37 +44,31 @@ impl TrainState {
         centre: u8,
         count: &mut HandoverCount,
         track: u8,
-    ) -> Bordering
-        requires said { self.old.said < 4294967294 }
-        requires announced { count.old < 1073741823 }
-        requires near { IsNear line.now self.old.supervision }
+        saying: Saying,
+    ) -> Heard
+        requires { MayAnnounce line.now self.old count.old }
         ensures exact { (e : ℕ → Option spec.Expectation) (k : spec.Centre) → HasSupervision k self.old.supervision
             → k.said self.old.supervision.engine ≡ self.old.said → k.announced ≡ count.old
             → option_map_or (rules.at_border line.now centre self.old.supervision.engine)
             (next_centre line.now centre track) rest k
-            ≡ posted (λ d. notices self.old.supervision.engine e result.notice d ++ letters result.letter d)
+            ≡ posted (λ d. notices self.old.supervision.engine e result.mail.notice d ++ letters result.mail.letter d)
             (replied (with_count count.new
             (counted_to self.old.supervision.engine self.new.said
             (with_supervision self.new.supervision k))) (sayings_of result.order) []) }
-        ensures left { self.new ≡ record self.old { said = self.new.said; supervision = self.new.supervision } }
-        ensures supervision { KeepsHand self.old.supervision self.new.supervision }
-        ensures counted { (self.old.said ≤ self.new.said) × (self.new.said ≤ self.old.said + 1) }
-        ensures announced { (count.old ≤ count.new) × (count.new ≤ count.old + 1) }
+        ensures heard { result ≡ record {
+          saying = Some saying;
+          order = result.order;
+          mail = mail_home 0 no_sections result.mail.notice result.mail.letter;
+          told = [];
+        } }
+        ensures keeps { KeepsAtBorder self.old self.new count.old count.new }
     {
         let Some(next) = line.next_centre(centre, track) else {
-            return Bordering {
-                order: None,
-                notice: Notice::Nothing,
-                letter: None,
-            };
+            return Heard::said(saying);
         };
         let (order, notice) = self.announce(line, count, next);
         let letter = self.ask_route(line, next);
-        Bordering {
-            order,
-            notice,
-            letter,
-        }
+        Heard::bordering(saying, order, notice, letter)
     }
 
     // A handover to this centre is announced, where that is due.
@@ -93,9 +79,7 @@ impl TrainState {
         count: &mut HandoverCount,
         to: u8,
     ) -> (Option<Saying>, Notice)
-        requires said { self.old.said < 4294967294 }
-        requires announced { count.old < 1073741823 }
-        requires near { IsNear line.now self.old.supervision }
+        requires { MayAnnounce line.now self.old count.old }
         ensures exact { (e : ℕ → Option spec.Expectation) (k : spec.Centre) → HasSupervision k self.old.supervision
             → k.said self.old.supervision.engine ≡ self.old.said → k.announced ≡ count.old
             → rules.announce_if_due line.now self.old.supervision.engine to k
@@ -103,10 +87,7 @@ impl TrainState {
             (replied (with_count count.new
             (counted_to self.old.supervision.engine self.new.said
             (with_supervision self.new.supervision k))) (sayings_of result.0) []) }
-        ensures left { self.new ≡ record self.old { said = self.new.said; supervision = self.new.supervision } }
-        ensures supervision { KeepsHand self.old.supervision self.new.supervision }
-        ensures counted { (self.old.said ≤ self.new.said) × (self.new.said ≤ self.old.said + 1) }
-        ensures announced { (count.old ≤ count.new) × (count.new ≤ count.old + 1) }
+        ensures keeps { KeepsAtBorder self.old self.new count.old count.new }
     {
         let Some(mission) = self.supervision.mission() else {
             return (None, Notice::Nothing);

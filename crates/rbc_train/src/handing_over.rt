@@ -13,8 +13,7 @@ ghost use Rattle.rbc_linkmsg.specs.Bodies.{body_of};
 ghost use Rattle.rbc_linkmsg.specs.Bodies as bodies;
 ghost use Rattle.rbc_place.specs.Places.{place_of};
 ghost use Rattle.rbc_session.specs.SessionStates.{session_phase};
-ghost use Rattle.rbc_train.specs.Desk.{HasParts, IsHeld, KeepsTrain, with_parts, counted_to, replied, reply_left};
-ghost use Rattle.rbc_train.specs.Desks.{IsBookOf};
+ghost use Rattle.rbc_train.specs.Desk.{HasParts, IsAtBook, KeepsState, last_said, with_parts, counted_to, replied, reply_left};
 ghost use Rattle.rbc_train.specs.Sayings.{sayings_of};
 
 use crate::asking::is_up;
@@ -42,17 +41,13 @@ impl TrainState {
         from: u8,
         number: u32,
     ) -> Heard
-        requires count { self.old.said < 4294967294 }
-        requires book { IsBookOf line.now centre book.old }
-        requires held { IsHeld line.now centre self.old }
+        requires count { self.old.said < last_said }
+        requires at { IsAtBook line.now centre self.old book.old }
         ensures exact { (rights : Rights) (k : spec.Centre) → HasParts line.now centre k self.old book.old rights
             → links.taking_over line.now centre from number self.old.supervision.engine k
             ≡ reply_left line.now centre self.old.supervision.engine (with_parts self.new book.new rights k) result }
-        ensures kept { KeepsTrain self.old self.new }
-        ensures held { IsHeld line.now centre self.new }
-        ensures session { self.new.session_state ≡ self.old.session_state }
-        ensures waiting { self.new.waiting ≡ self.old.waiting }
-        ensures expectations { self.new.expectations ≡ self.old.expectations }
+        ensures left { self.new ≡ record self.old { said = self.new.said; supervision = self.new.supervision } }
+        ensures keeps { KeepsState line.now centre self.old self.new }
         ensures homes { (s : ℕ) → is_own book.new s ≡ is_own book.old s }
     {
         let nid_engine = self.nid_engine();
@@ -66,7 +61,7 @@ impl TrainState {
 
     // The order to end its session, for a train that is no more to come here.
     fn order_if_gone(&mut self, line: &Line, centre: u8, is_gone: bool) -> Option<Saying>
-        requires count { self.old.said < 4294967294 }
+        requires { self.old.said < last_said }
         ensures exact { (k : spec.Centre) → k.phase self.old.supervision.engine ≡ session_phase self.old.session_state
             → k.said self.old.supervision.engine ≡ self.old.said
             → (if is_gone then acts.end_order line.now centre self.old.supervision.engine else acts.rest) k
@@ -82,7 +77,7 @@ impl TrainState {
 
     /// The order to end its session, where that is up (3.5.5).
     pub(crate) fn order_end(&mut self, line: &Line, centre: u8) -> Option<Saying>
-        requires count { self.old.said < 4294967294 }
+        requires { self.old.said < last_said }
         ensures exact { (k : spec.Centre) → k.phase self.old.supervision.engine ≡ session_phase self.old.session_state
             → k.said self.old.supervision.engine ≡ self.old.said
             → acts.end_order line.now centre self.old.supervision.engine k

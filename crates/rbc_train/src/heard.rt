@@ -4,7 +4,7 @@ ghost use Rattle.rbc_hand.specs.SectionRuns.{run_of};
 ghost use Rattle.rbc_train.specs.Letters.{mail_of, mail_home, no_sections};
 
 use crate::letter::Letter;
-use crate::mail::{Mail, Notice};
+use crate::mail::{Mail, NO_SECTIONS, Notice};
 use crate::saying::Saying;
 use rbc_hand::SectionRun;
 use rbc_handover::Announcers;
@@ -54,10 +54,9 @@ impl Heard {
           told = [];
         } }
     {
-        let none = SectionRun { first: 0, count: 0 };
         Heard {
             order,
-            mail: Mail::home(0, none, notice, letter),
+            mail: Mail::home(0, NO_SECTIONS, notice, letter),
             ..Heard::said(saying)
         }
     }
@@ -186,9 +185,8 @@ impl Heard {
           told = [];
         } }
     {
-        let none = SectionRun { first: 0, count: 0 };
         Heard {
-            mail: Mail::home(0, none, Notice::TakingOver(told), None),
+            mail: Mail::home(0, NO_SECTIONS, Notice::TakingOver(told), None),
             ..Heard::nothing()
         }
     }

@@ -10,6 +10,9 @@ use rbc_handover::{Announcers, Expectations};
 use rbc_linkmsg::Body;
 use rbc_mission::HandoverName;
 
+/// No section.
+pub(crate) const NO_SECTIONS: SectionRun = SectionRun { first: 0, count: 0 };
+
 /// What other centres are told of a handover (3.15.1).
 #[derive(Clone, Copy, Debug, PartialEq, Eq)]
 pub enum Notice {
@@ -106,8 +109,7 @@ impl Mail {
     pub fn of(letter: Option<Letter>) -> Mail
         ensures { result ≡ mail_of letter }
     {
-        let none = SectionRun { first: 0, count: 0 };
-        Mail::home(0, none, Notice::Nothing, letter)
+        Mail::home(0, NO_SECTIONS, Notice::Nothing, letter)
     }
 
     /// These sections of a track, a notice, and a letter or none.
@@ -123,7 +125,7 @@ impl Mail {
         Mail {
             track,
             first: sections,
-            second: SectionRun { first: 0, count: 0 },
+            second: NO_SECTIONS,
             notice,
             letter,
         }

@@ -1,24 +1,23 @@
 //! A train position report (3.6.5) and the end of mission (5.5): what the train has cleared leaves its hand.
 
-ghost use Rattle.std.specs.Prelude.{◌≡◌, ◌<◌, ◌≤◌, ◌+◌, ◌-◌, length, Some, None, is_some, true, IfSome};
+ghost use Rattle.std.specs.Prelude.{◌≡◌, ◌≤◌, ◌+◌, ◌-◌, Some, None, IfSome};
 ghost use Rattle.rbc_spec.specs.SectionRuns.{no_run};
 ghost use Rattle.rbc_spec.specs.Place as spec_place;
 ghost use Rattle.rbc_spec.specs.Centre as spec;
 ghost use Rattle.rbc_spec.specs.Message.{Report, EndOfMission};
 ghost use Rattle.rbc_spec.specs.Step as step;
 ghost use Rattle.rbc_msgs.specs.StepMessage.{position_of};
-ghost use Rattle.rbc_train.specs.Desk.{HearsTrain, KeepsTrain, KeepsDesk, IsKeptAt, IsHeld, with_parts, effect_left, Does};
+ghost use Rattle.rbc_train.specs.Desk.{HearsTrain, IsAtDesk, IsKeptAt, KeepsState, KeepsDesk, with_parts, unsaid, effect_left, Does};
 ghost use Rattle.rbc_spec.specs.Rules as rules;
-ghost use Rattle.rbc_train.specs.Desks.{IsBookOf};
 ghost use Rattle.rbc_train.specs.Letters.{mail_home};
 ghost use Rattle.rbc_place.specs.Places.{place_of};
 ghost use Rattle.rbc_allocation.specs.Sections.{wished, rest_of};
 ghost use Rattle.rbc_shorten.specs.declared.answer.Cut.TheVariants.{Nothing};
 ghost use Rattle.rbc_mission.specs.Supervisions.{hand_of, pool_of};
-ghost use Rattle.rbc_train.specs.Standstill.{IsAhead, LeavesFront, left_ahead};
+ghost use Rattle.rbc_train.specs.Standstill.{IsAhead, LeavesFront, SendsHome, left_ahead};
 
 use crate::heard::Heard;
-use crate::mail::Notice;
+use crate::mail::NO_SECTIONS;
 use crate::reason::Reason;
 use crate::train::TrainState;
 use rbc_allocation::wished_around;
@@ -29,7 +28,6 @@ use rbc_mission::Told;
 use rbc_packets::Position;
 use rbc_place::{Place, cleared, place_on};
 use rbc_right::Registrar;
-use rbc_session::Phase;
 use rbc_shorten::{Cut, cut_at_standstill};
 
 // What lies ahead of a train at standstill: how many of the first sections that are left of its hand are kept; and
@@ -52,10 +50,7 @@ impl TrainState {
         t_train: u32,
         position: &Position,
     ) -> Result<Heard, Reason>
-        requires count { self.old.said < 4294967294 }
-        requires number { self.old.supervision.number < length registrar.old }
-        requires book { IsBookOf line.now centre book.old }
-        requires held { IsHeld line.now centre self.old }
+        requires { IsAtDesk line.now centre self.old book.old registrar.old }
         ensures exact { (k : spec.Centre) → HearsTrain line.now centre k t_train self.old book.old registrar.old
             → step.effect line.now centre k
             (step.Train (record {
@@ -65,20 +60,16 @@ impl TrainState {
             }))
             ≡ effect_left line.now centre self.old.supervision.engine
             (with_parts self.new book.new registrar.new k) result }
-        ensures kept { KeepsTrain self.old self.new }
-        ensures held { IsHeld line.now centre self.new }
-        ensures session { self.new.session_state ≡ self.old.session_state }
-        ensures waiting { self.new.waiting ≡ self.old.waiting }
-        ensures count { length self.new.expectations ≡ length self.old.expectations }
+        ensures left { self.new ≡ record self.old {
+          heard = self.new.heard;
+          supervision = self.new.supervision;
+          expectations = self.new.expectations;
+        } }
+        ensures keeps { KeepsState line.now centre self.old self.new }
         ensures desk { KeepsDesk self.old.supervision.number book.old book.new registrar.old registrar.new }
     {
-        let known = self.known();
-        match known.phase {
-            Phase::Closed => return Err(Reason::NoSession),
-            Phase::Opened => return Err(Reason::WrongPhase),
-            Phase::Up => {}
-        }
-        let Some(mission) = known.mission else {
+        self.up()?;
+        let Some(mission) = self.supervision.mission() else {
             return self.report_elsewhere(line, centre, t_train, position);
         };
         let Some(place) = place_on(line, mission.place.track, position) else {
@@ -100,10 +91,7 @@ impl TrainState {
         t_train: u32,
         position: &Position,
     ) -> Result<Heard, Reason>
-        requires count { self.old.said < 4294967294 }
-        requires number { self.old.supervision.number < length registrar.old }
-        requires book { IsBookOf line.now centre book.old }
-        requires held { IsHeld line.now centre self.old }
+        requires { IsAtDesk line.now centre self.old book.old registrar.old }
         ensures exact { (k : spec.Centre) → HearsTrain line.now centre k t_train self.old book.old registrar.old
             → step.effect line.now centre k
             (step.Train (record {
@@ -113,22 +101,12 @@ impl TrainState {
             }))
             ≡ effect_left line.now centre self.old.supervision.engine
             (with_parts self.new book.new registrar.new k) result }
-        ensures kept { KeepsTrain self.old self.new }
-        ensures held { IsHeld line.now centre self.new }
-        ensures session { self.new.session_state ≡ self.old.session_state }
-        ensures waiting { self.new.waiting ≡ self.old.waiting }
-        ensures count { length self.new.expectations ≡ length self.old.expectations }
+        ensures left { self.new ≡ record self.old { heard = self.new.heard; supervision = self.new.supervision } }
+        ensures keeps { KeepsState line.now centre self.old self.new }
         ensures desk { KeepsDesk self.old.supervision.number book.old book.new registrar.old registrar.new }
     {
-        let known = self.known();
-        match known.phase {
-            Phase::Closed => return Err(Reason::NoSession),
-            Phase::Opened => return Err(Reason::WrongPhase),
-            Phase::Up => {}
-        }
-        let Some(mission) = known.mission else {
-            return Err(Reason::NotSupervised);
-        };
+        self.up()?;
+        let mission = self.supervised()?;
         if mission.is_ended {
             return Err(Reason::MissionEnded);
         }
@@ -188,9 +166,7 @@ impl TrainState {
         track: u8,
         keep: u16,
     ) -> Heard
-        requires number { self.old.supervision.number < length registrar.old }
-        requires book { IsBookOf line.now centre book.old }
-        requires held { IsHeld line.now centre self.old }
+        requires at { IsAtDesk line.now centre self.old book.old registrar.old }
         requires some { 1 ≤ keep }
         requires keep { keep ≤ (hand_of self.old.supervision).count }
         ensures exact { (m : spec.Mission) → self.old.supervision.mission ≡ Some m → m.place.track ≡ track
@@ -198,15 +174,11 @@ impl TrainState {
             (rules.cut line.now centre self.old.supervision.engine
             (m.hand.first + keep - 1) m) self.old book.old registrar.old self.new book.new registrar.new result }
         ensures stays { IsKeptAt line.now centre self.old → IsKeptAt line.now centre self.new }
-        ensures saying { result.saying ≡ None }
-        ensures order { result.order ≡ None }
-        ensures told { result.told
-            ≡ wished self.old.supervision.engine (rest_of keep (hand_of self.old.supervision)) book.old }
-        ensures mail { result.mail ≡ mail_home track result.mail.first result.mail.notice None }
+        ensures heard { result ≡ unsaid (mail_home track result.mail.first result.mail.notice None)
+            (wished self.old.supervision.engine (rest_of keep (hand_of self.old.supervision)) book.old) }
         ensures pool { pool_of self.new.supervision ≡ no_run }
         ensures left { self.new ≡ record self.old { supervision = self.new.supervision } }
-        ensures kept { KeepsTrain self.old self.new }
-        ensures held { IsHeld line.now centre self.new }
+        ensures keeps { KeepsState line.now centre self.old self.new }
         ensures desk { KeepsDesk self.old.supervision.number book.old book.new registrar.old registrar.new }
     {
         let released = self.supervision.shorten(line, keep, book);
@@ -224,32 +196,24 @@ impl TrainState {
         track: u8,
         position: &Position,
     ) -> Heard
-        requires number { self.old.supervision.number < length registrar.old }
-        requires book { IsBookOf line.now centre book.old }
-        requires held { IsHeld line.now centre self.old }
+        requires { IsAtDesk line.now centre self.old book.old registrar.old }
         ensures exact { (m : spec.Mission) → self.old.supervision.mission ≡ Some m → m.place.track ≡ track
             → Does line.now centre
             (rules.report_here line.now centre self.old.supervision.engine
             (position_of position.now) m) self.old book.old registrar.old self.new book.new registrar.new result }
         ensures stays { IsKeptAt line.now centre self.old → IsKeptAt line.now centre self.new }
-        ensures order { result.order ≡ None }
-        ensures mail { result.mail ≡ mail_home track result.mail.first result.mail.notice result.mail.letter }
+        ensures sends { SendsHome track self.new.supervision result }
         ensures track { (m n : spec.Mission) → self.old.supervision.mission ≡ Some m → m.place.track ≡ track
             → self.new.supervision.mission ≡ Some n → n.place.track ≡ track }
-        ensures letter { is_some self.new.supervision.mission ≡ true
-            → (result.mail.letter ≡ None) × (result.mail.notice ≡ Notice.Nothing) }
         ensures front { (p : spec_place.Place) → spec_place.place_on line.now track (position_of position.now) ≡ Some p
             → LeavesFront line.now p self.old.supervision self.new.supervision result.told book.old book.new }
         ensures left { self.new ≡ record self.old { supervision = self.new.supervision } }
-        ensures kept { KeepsTrain self.old self.new }
-        ensures held { IsHeld line.now centre self.new }
-        ensures session { self.new.session_state ≡ self.old.session_state }
-        ensures waiting { self.new.waiting ≡ self.old.waiting }
+        ensures keeps { KeepsState line.now centre self.old self.new }
         ensures desk { KeepsDesk self.old.supervision.number book.old book.new registrar.old registrar.new }
     {
         match place_on(line, track, position) {
             Some(place) => self.clear(line, centre, book, registrar, place),
-            None => Heard::returned(track, SectionRun { first: 0, count: 0 }),
+            None => Heard::returned(track, NO_SECTIONS),
         }
     }
 
@@ -264,26 +228,18 @@ impl TrainState {
         registrar: &mut Registrar,
         place: Place,
     ) -> Heard
-        requires number { self.old.supervision.number < length registrar.old }
-        requires book { IsBookOf line.now centre book.old }
-        requires held { IsHeld line.now centre self.old }
+        requires { IsAtDesk line.now centre self.old book.old registrar.old }
         ensures exact { (m : spec.Mission) → self.old.supervision.mission ≡ Some m → m.place.track ≡ place.track
             → Does line.now centre
             (rules.clear line.now centre self.old.supervision.engine m
             (place_of place)) self.old book.old registrar.old self.new book.new registrar.new result }
         ensures stays { IsKeptAt line.now centre self.old → IsKeptAt line.now centre self.new }
-        ensures order { result.order ≡ None }
-        ensures mail { result.mail ≡ mail_home place.track result.mail.first result.mail.notice result.mail.letter }
+        ensures sends { SendsHome place.track self.new.supervision result }
         ensures track { (m : spec.Mission) → self.new.supervision.mission ≡ Some m → m.place.track ≡ place.track }
-        ensures letter { is_some self.new.supervision.mission ≡ true
-            → (result.mail.letter ≡ None) × (result.mail.notice ≡ Notice.Nothing) }
         ensures front { LeavesFront line.now
             (place_of place) self.old.supervision self.new.supervision result.told book.old book.new }
         ensures left { self.new ≡ record self.old { supervision = self.new.supervision } }
-        ensures kept { KeepsTrain self.old self.new }
-        ensures held { IsHeld line.now centre self.new }
-        ensures session { self.new.session_state ≡ self.old.session_state }
-        ensures waiting { self.new.waiting ≡ self.old.waiting }
+        ensures keeps { KeepsState line.now centre self.old self.new }
         ensures desk { KeepsDesk self.old.supervision.number book.old book.new registrar.old registrar.new }
     {
         let count = cleared(line, self.hand(), &place);

@@ -7,16 +7,15 @@ ghost use Rattle.rbc_spec.specs.Links as links;
 ghost use Rattle.rbc_book.specs.Book.{Pages, is_own};
 ghost use Rattle.rbc_right.specs.Rights.{Rights};
 ghost use Rattle.rbc_pending_start.specs.Waits.{IsCovered};
-ghost use Rattle.rbc_train.specs.Desk.{HasParts, IsHeld, KeepsTrain, KeepsRights, with_parts, reply_left};
+ghost use Rattle.rbc_train.specs.Desk.{HasParts, IsHeld, KeepsTrain, KeepsRights, last_said, unsaid, with_parts, reply_left};
 ghost use Rattle.rbc_train.specs.Homes.{GoesHome};
 ghost use Rattle.rbc_train.specs.Letters.{cancel_of, mail_home};
 
 use crate::heard::Heard;
 use crate::letter::{Letter, go_home};
-use crate::mail::{Mail, Notice};
+use crate::mail::{Mail, NO_SECTIONS, Notice};
 use crate::train::TrainState;
 use rbc_book::Book;
-use rbc_hand::SectionRun;
 use rbc_line::Line;
 use rbc_linkmsg::Body;
 use rbc_mission::{HeldRight, Released, Told};
@@ -60,16 +59,19 @@ impl TrainState {
         centre: u8,
         registrar: &mut Registrar,
     ) -> Heard
-        requires count { self.old.said < 4294967294 }
+        requires count { self.old.said < last_said }
         requires train { self.old.waiting.engine ≡ self.old.supervision.engine }
         requires number { self.old.supervision.number < length registrar.old }
         ensures exact { (book : Pages) (k : spec.Centre) → HasParts line.now centre k self.old book registrar.old
             → links.right_given line.now centre self.old.supervision.engine k
             ≡ reply_left line.now centre self.old.supervision.engine (with_parts self.new book registrar.new k) result }
+        ensures left { self.new ≡ record self.old {
+          said = self.new.said;
+          supervision = self.new.supervision;
+          waiting = self.new.waiting;
+        } }
         ensures kept { KeepsTrain self.old self.new }
-        ensures expectations { self.new.expectations ≡ self.old.expectations }
         ensures held { (line : track.Line) (c : ℕ) → IsHeld line c self.old → IsHeld line c self.new }
-        ensures session { self.new.session_state ≡ self.old.session_state }
         ensures covers { (line : track.Line) → IsCovered line self.old.waiting → IsCovered line self.new.waiting }
         ensures rights { KeepsRights self.old.supervision.number registrar.old registrar.new }
     {
@@ -85,7 +87,7 @@ impl TrainState {
         let released = Released {
             told: Told::nothing(),
             right: HeldRight::Held(right),
-            returned: SectionRun { first: 0, count: 0 },
+            returned: NO_SECTIONS,
             cancelled: None,
         };
         self.released(line, centre, registrar, 0, released)
@@ -93,15 +95,13 @@ impl TrainState {
 
     /// RefuseRight: a start that waits is dropped, and the train is rejected.
     pub(crate) fn right_refused(&mut self, book: &mut Book) -> Heard
-        requires count { self.old.said < 4294967294 }
+        requires { self.old.said < last_said }
         ensures exact { (line : track.Line) (c : ℕ) (rights : Rights) (k : spec.Centre)
             → HasParts line c k self.old book.old rights
             → links.right_refused line c self.old.supervision.engine k
             ≡ reply_left line c self.old.supervision.engine (with_parts self.new book.new rights k) result }
         ensures kept { KeepsTrain self.old self.new }
-        ensures expectations { self.new.expectations ≡ self.old.expectations }
-        ensures supervision { self.new.supervision ≡ self.old.supervision }
-        ensures session { self.new.session_state ≡ self.old.session_state }
+        ensures left { self.new ≡ record self.old { said = self.new.said; waiting = self.new.waiting } }
         ensures covers { (line : track.Line) → IsCovered line self.old.waiting → IsCovered line self.new.waiting }
         ensures homes { (s : ℕ) → is_own book.new s ≡ is_own book.old s }
     {
@@ -144,11 +144,8 @@ impl TrainState {
         track: u8,
         released: Released,
     ) -> Heard
-        ensures saying { result.saying ≡ None }
-        ensures order { result.order ≡ None }
-        ensures told { result.told ≡ released.told }
-        ensures mail { result.mail
-            ≡ mail_home track released.returned (cancel_of released.cancelled) result.mail.letter }
+        ensures heard { result ≡ unsaid
+            (mail_home track released.returned (cancel_of released.cancelled) result.mail.letter) released.told }
         ensures right { GoesHome line.now centre self.now.supervision.engine released.right result.mail.letter
             registrar.old registrar.new }
     {

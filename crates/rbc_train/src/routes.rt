@@ -5,6 +5,7 @@ ghost use Rattle.std.specs.Prelude.{◌≡◌, ◌+◌, ◌<◌, ◌≤◌, ◌&
 ghost use Rattle.std.specs.List.{list_any};
 ghost use Rattle.rbc_spec.specs.Acts.{rest, where_so, end_order};
 ghost use Rattle.rbc_spec.specs.Centre as spec;
+ghost use Rattle.rbc_spec.specs.Frame.{HasRunRange};
 ghost use Rattle.rbc_spec.specs.Line.{section};
 ghost use Rattle.rbc_spec.specs.Links as links;
 ghost use Rattle.rbc_spec.specs.Message as message;
@@ -15,7 +16,7 @@ ghost use Rattle.rbc_hand.specs.SectionRuns.{run_of};
 ghost use Rattle.rbc_msgs.specs.Bodies.{track_body};
 ghost use Rattle.rbc_msgs.specs.declared.track.TrackBody.TheVariants as code;
 ghost use Rattle.rbc_right.specs.Rights.{Rights};
-ghost use Rattle.rbc_train.specs.Desk.{HasParts, KeepsTrain, with_parts, replied, reply_left};
+ghost use Rattle.rbc_train.specs.Desk.{HasParts, last_said, with_parts, replied, reply_left};
 ghost use Rattle.rbc_train.specs.Sayings.{sayings_of};
 
 use crate::heard::Heard;
@@ -64,11 +65,12 @@ impl TrainState {
             → HasParts line.now c k self.old book rights
             → links.route_told line.now c from self.old.supervision.engine (run_of sections) k
             ≡ reply_left line.now c self.old.supervision.engine (with_parts self.new book rights k) result }
-        ensures kept { KeepsTrain self.old self.new }
-        ensures expectations { self.new.expectations ≡ self.old.expectations }
-        ensures hand { self.new.supervision.hand ≡ self.old.supervision.hand }
-        ensures session { self.new.session_state ≡ self.old.session_state }
-        ensures waiting { self.new.waiting ≡ self.old.waiting }
+        ensures left { self.new ≡ record self.old {
+          supervision = record self.old.supervision {
+            mission = self.new.supervision.mission;
+            asked = self.new.supervision.asked;
+          };
+        } }
     {
         let engine = self.nid_engine();
         match self.supervision.info(line, from, sections) {
@@ -83,17 +85,17 @@ impl TrainState {
     /// RouteWithdraw: a section of the pool goes home with all behind it. The train is asked to end its authority
     /// before one of its hand (3.8.6), where that may be asked.
     pub(crate) fn route_withdrawn(&mut self, line: &Line, s: u16) -> Heard
-        requires count { self.old.said < 4294967294 }
+        requires { self.old.said < last_said }
         ensures exact { (c : ℕ) (book : Pages) (rights : Rights) (k : spec.Centre)
             → HasParts line.now c k self.old book rights
             → (if is_some (section line.now s) then links.route_withdrawn line.now c self.old.supervision.engine s
             else rest) k
             ≡ reply_left line.now c self.old.supervision.engine (with_parts self.new book rights k) result }
-        ensures kept { KeepsTrain self.old self.new }
-        ensures expectations { self.new.expectations ≡ self.old.expectations }
-        ensures hand { self.new.supervision.hand ≡ self.old.supervision.hand }
-        ensures session { self.new.session_state ≡ self.old.session_state }
-        ensures waiting { self.new.waiting ≡ self.old.waiting }
+        ensures left { self.new ≡ record self.old {
+          said = self.new.said;
+          supervision = record self.old.supervision { mission = self.new.supervision.mission };
+        } }
+        ensures counted { self.new.said ≤ self.old.said + 1 }
     {
         if s >= line.section_count() {
             return Heard::nothing();
@@ -116,19 +118,14 @@ impl TrainState {
         book: &mut Book,
         sections: SectionRun,
     ) -> Heard
-        requires count { self.old.said < 4294967294 }
-        requires some { 1 ≤ sections.count }
-        requires most { sections.count ≤ 63 }
-        requires last { sections.first + sections.count ≤ 512 }
+        requires count { self.old.said < last_said }
+        requires range { HasRunRange 1 63 (run_of sections) }
         ensures exact { (rights : Rights) (k : spec.Centre) → HasParts line.now centre k self.old book.old rights
             → (if all_of (λ s. is_some (section line.now s)) (run_of sections)
             then links.route_returned line.now centre self.old.supervision.engine (run_of sections) else rest) k
             ≡ reply_left line.now centre self.old.supervision.engine (with_parts self.new book.new rights k) result }
-        ensures kept { KeepsTrain self.old self.new }
-        ensures expectations { self.new.expectations ≡ self.old.expectations }
-        ensures supervision { self.new.supervision ≡ self.old.supervision }
-        ensures session { self.new.session_state ≡ self.old.session_state }
-        ensures waiting { self.new.waiting ≡ self.old.waiting }
+        ensures left { self.new ≡ record self.old { said = self.new.said } }
+        ensures counted { self.new.said ≤ self.old.said + 1 }
         ensures homes { (s : ℕ) → is_own book.new s ≡ is_own book.old s }
     {
         if sections.behind() > u32::from(line.section_count()) {
@@ -144,7 +141,7 @@ impl TrainState {
 
     // The order to end its session, for a train that is no more to come here.
     fn end_order(&mut self, line: &Line, centre: u8, book: &Book) -> Option<Saying>
-        requires count { self.old.said < 4294967294 }
+        requires { self.old.said < last_said }
         ensures exact { (rights : Rights) (k : spec.Centre) → HasParts line.now centre k self.old book.now rights
             → where_so (λ j. not (spec.uses_some line.now centre j self.old.supervision.engine)
             && ((is_none (j.mission self.old.supervision.engine) && is_none (j.wait self.old.supervision.engine)) && not (spec.is_expected line.now j self.old.supervision.engine)))

@@ -1,6 +1,7 @@
 ghost use Rattle.std.specs.Prelude.{◌≡◌, ◌<◌, ◌+◌, [], ◌∷◌, None};
 ghost use Rattle.rbc_spec.specs.Message.{unknown_group};
 ghost use Rattle.rbc_msgs.specs.Bodies.{track_body};
+ghost use Rattle.rbc_train.specs.Desk.{last_said};
 ghost use Rattle.rbc_train.specs.Letters.{mail_of};
 ghost use Rattle.rbc_train.specs.Sayings.{saying_of, sayings_of};
 
@@ -50,7 +51,7 @@ impl Default for Saying {
 impl TrainState {
     /// The next message to the train says this, and counts from this balise group or `NID_LRBG_UNKNOWN`.
     pub(crate) fn answer(&mut self, nid_lrbg: u32, body: TrackBody) -> Saying
-        requires count { self.old.said < 4294967294 }
+        requires count { self.old.said < last_said }
         requires group { nid_lrbg < 16777216 }
         ensures saying { saying_of result
             ≡ record {
@@ -70,7 +71,7 @@ impl TrainState {
 
     /// The next message to the train says this, from no balise group, and nothing else is said.
     pub(crate) fn answered(&mut self, body: TrackBody) -> Heard
-        requires { self.old.said < 4294967294 }
+        requires { self.old.said < last_said }
         ensures said { sayings_of result.saying
             ≡ record {
               nid_engine = self.old.supervision.engine;
@@ -80,9 +81,7 @@ impl TrainState {
                 body = track_body body;
               };
             } ∷ [] }
-        ensures order { result.order ≡ None }
-        ensures mail { result.mail ≡ mail_of None }
-        ensures told { result.told ≡ [] }
+        ensures heard { result ≡ record { saying = result.saying; order = None; mail = mail_of None; told = [] } }
         ensures counted { self.new ≡ record self.old { said = self.old.said + 1 } }
     {
         Heard::said(self.answer(NID_LRBG_UNKNOWN, body))

@@ -10,7 +10,7 @@ ghost use Rattle.rbc_right.specs.Rights.{Rights};
 ghost use Rattle.rbc_pending_start.specs.Waits.{IsCovered};
 ghost use Rattle.rbc_session.specs.Sessions.{HasRoom};
 ghost use Rattle.rbc_session.specs.SessionStates.{session_phase, StandsFor};
-ghost use Rattle.rbc_train.specs.Desk.{HearsTrain, KeepsTrain, with_parts, effect_left};
+ghost use Rattle.rbc_train.specs.Desk.{HearsTrain, KeepsTrain, last_said, with_parts, effect_left};
 ghost use Rattle.rbc_train.specs.SessionStates.{Enters};
 
 use crate::heard::Heard;
@@ -34,7 +34,7 @@ impl TrainState {
     ) -> Result<Heard, Reason>
         requires stands { StandsFor sessions.old self.old.session_state self.old.supervision.engine }
         requires room { HasRoom sessions.old }
-        requires count { self.old.said < 4294967294 }
+        requires count { self.old.said < last_said }
         ensures exact { (line : track.Line) (c : ℕ) (rights : Rights) (k : spec.Centre)
             → HearsTrain line c k t_train self.old book.old rights
             → step.effect line c k
@@ -45,8 +45,13 @@ impl TrainState {
             }))
             ≡ effect_left line c self.old.supervision.engine (with_parts self.new book.new rights k) result }
         ensures kept { KeepsTrain self.old self.new }
-        ensures expectations { self.new.expectations ≡ self.old.expectations }
-        ensures hand { self.new.supervision.hand ≡ self.old.supervision.hand }
+        ensures left { self.new ≡ record self.old {
+          session_state = self.new.session_state;
+          heard = self.new.heard;
+          said = self.new.said;
+          supervision = record self.old.supervision { mission = self.new.supervision.mission };
+          waiting = self.new.waiting;
+        } }
         ensures covers { (line : track.Line) → IsCovered line self.old.waiting → IsCovered line self.new.waiting }
         ensures homes { (s : ℕ) → is_own book.new s ≡ is_own book.old s }
         ensures stands { Enters sessions.old sessions.new self.new.session_state self.old.supervision.engine
@@ -83,21 +88,19 @@ impl TrainState {
               body = SessionEstablished;
             }))
             ≡ effect_left line c self.old.supervision.engine (with_parts self.new book rights k) result }
-        ensures kept { KeepsTrain self.old self.new }
-        ensures expectations { self.new.expectations ≡ self.old.expectations }
-        ensures hand { self.new.supervision.hand ≡ self.old.supervision.hand }
-        ensures waiting { self.new.waiting ≡ self.old.waiting }
+        ensures left { self.new
+            ≡ record self.old { session_state = self.new.session_state; heard = self.new.heard } }
         ensures stands { Enters sessions.old sessions.new self.new.session_state self.old.supervision.engine
             (session_phase self.new.session_state) }
     {
-        let known = self.known();
-        match known.phase {
+        match self.session_state.phase() {
             Phase::Closed => return Err(Reason::NoSession),
             Phase::Opened => {}
             Phase::Up => return Err(Reason::WrongPhase),
         }
         self.heard = Some(t_train);
-        establish(&mut self.session_state, sessions, known.nid_engine);
+        let nid_engine = self.nid_engine();
+        establish(&mut self.session_state, sessions, nid_engine);
         Ok(Heard::nothing())
     }
 
@@ -111,7 +114,7 @@ impl TrainState {
         t_train: u32,
     ) -> Result<Heard, Reason>
         requires stands { StandsFor sessions.old self.old.session_state self.old.supervision.engine }
-        requires count { self.old.said < 4294967294 }
+        requires count { self.old.said < last_said }
         ensures exact { (line : track.Line) (c : ℕ) (rights : Rights) (k : spec.Centre)
             → HearsTrain line c k t_train self.old book.old rights
             → step.effect line c k
@@ -122,20 +125,25 @@ impl TrainState {
             }))
             ≡ effect_left line c self.old.supervision.engine (with_parts self.new book.new rights k) result }
         ensures kept { KeepsTrain self.old self.new }
-        ensures expectations { self.new.expectations ≡ self.old.expectations }
-        ensures hand { self.new.supervision.hand ≡ self.old.supervision.hand }
+        ensures left { self.new ≡ record self.old {
+          session_state = self.new.session_state;
+          heard = self.new.heard;
+          said = self.new.said;
+          supervision = record self.old.supervision { mission = self.new.supervision.mission };
+          waiting = self.new.waiting;
+        } }
         ensures covers { (line : track.Line) → IsCovered line self.old.waiting → IsCovered line self.new.waiting }
         ensures homes { (s : ℕ) → is_own book.new s ≡ is_own book.old s }
         ensures stands { Enters sessions.old sessions.new self.new.session_state self.old.supervision.engine
             (session_phase self.new.session_state) }
     {
-        let known = self.known();
-        match known.phase {
+        match self.session_state.phase() {
             Phase::Closed => return Err(Reason::NoSession),
             Phase::Opened | Phase::Up => {}
         }
         self.heard = Some(t_train);
-        close(&mut self.session_state, sessions, known.nid_engine);
+        let nid_engine = self.nid_engine();
+        close(&mut self.session_state, sessions, nid_engine);
         self.supervision.forget_proposal();
         let told = self.waiting.drop_start(book);
         let saying = self.answer(NID_LRBG_UNKNOWN, TrackBody::TerminationAcknowledged);

@@ -1,14 +1,13 @@
 //! The train answers the request to shorten its movement authority (3.8.6).
 
-ghost use Rattle.std.specs.Prelude.{◌≡◌, ◌<◌, ℕ, option_map, length};
+ghost use Rattle.std.specs.Prelude.{◌≡◌, ℕ, option_map};
 ghost use Rattle.rbc_spec.specs.Centre as spec;
 ghost use Rattle.rbc_spec.specs.Message.{ShorteningGranted, ShorteningRejected};
 ghost use Rattle.rbc_spec.specs.Place as place;
 ghost use Rattle.rbc_spec.specs.Step as step;
 ghost use Rattle.rbc_msgs.specs.StepMessage.{position_of};
-ghost use Rattle.rbc_train.specs.Desk.{HearsTrain, IsHeld, KeepsTrain, KeepsDesk, with_parts, effect_left};
+ghost use Rattle.rbc_train.specs.Desk.{HearsTrain, IsAtDesk, KeepsState, KeepsDesk, with_parts, effect_left};
 ghost use Rattle.rbc_spec.specs.Line as track;
-ghost use Rattle.rbc_train.specs.Desks.{IsBookOf};
 ghost use Rattle.rbc_book.specs.Book.{Pages};
 ghost use Rattle.rbc_right.specs.Rights.{Rights};
 
@@ -20,7 +19,6 @@ use rbc_line::Line;
 use rbc_packets::Position;
 use rbc_place::place_on;
 use rbc_right::Registrar;
-use rbc_session::Phase;
 use rbc_shorten::{Cut, granted, rejected};
 use rbc_vars::TTrain;
 
@@ -38,10 +36,7 @@ impl TrainState {
         request: TTrain,
         position: &Position,
     ) -> Result<Heard, Reason>
-        requires count { self.old.said < 4294967294 }
-        requires number { self.old.supervision.number < length registrar.old }
-        requires book { IsBookOf line.now centre book.old }
-        requires held { IsHeld line.now centre self.old }
+        requires { IsAtDesk line.now centre self.old book.old registrar.old }
         ensures exact { (k : spec.Centre) → HearsTrain line.now centre k t_train self.old book.old registrar.old
             → step.effect line.now centre k
             (step.Train (record {
@@ -51,28 +46,18 @@ impl TrainState {
             }))
             ≡ effect_left line.now centre self.old.supervision.engine
             (with_parts self.new book.new registrar.new k) result }
-        ensures kept { KeepsTrain self.old self.new }
-        ensures held { IsHeld line.now centre self.new }
-        ensures session { self.new.session_state ≡ self.old.session_state }
-        ensures waiting { self.new.waiting ≡ self.old.waiting }
-        ensures expectations { self.new.expectations ≡ self.old.expectations }
+        ensures left { self.new ≡ record self.old { heard = self.new.heard; supervision = self.new.supervision } }
+        ensures keeps { KeepsState line.now centre self.old self.new }
         ensures desk { KeepsDesk self.old.supervision.number book.old book.new registrar.old registrar.new }
     {
-        let known = self.known();
-        match known.phase {
-            Phase::Closed => return Err(Reason::NoSession),
-            Phase::Opened => return Err(Reason::WrongPhase),
-            Phase::Up => {}
-        }
-        let Some(mission) = known.mission else {
-            return Err(Reason::NotSupervised);
-        };
+        self.up()?;
+        let mission = self.supervised()?;
         let front = front_on(line, mission.place.track, position);
         match granted(
             line,
             mission.proposal,
             request.value() as u32,
-            known.hand,
+            self.hand(),
             front,
         ) {
             Ok(Cut::Keep(keep)) => {
@@ -107,21 +92,13 @@ impl TrainState {
               body = ShorteningRejected request position;
             }))
             ≡ effect_left line c self.old.supervision.engine (with_parts self.new book rights k) result }
-        ensures kept { KeepsTrain self.old self.new }
-        ensures expectations { self.new.expectations ≡ self.old.expectations }
-        ensures hand { self.new.supervision.hand ≡ self.old.supervision.hand }
-        ensures session { self.new.session_state ≡ self.old.session_state }
-        ensures waiting { self.new.waiting ≡ self.old.waiting }
+        ensures left { self.new ≡ record self.old {
+          heard = self.new.heard;
+          supervision = record self.old.supervision { mission = self.new.supervision.mission };
+        } }
     {
-        let known = self.known();
-        match known.phase {
-            Phase::Closed => return Err(Reason::NoSession),
-            Phase::Opened => return Err(Reason::WrongPhase),
-            Phase::Up => {}
-        }
-        let Some(mission) = known.mission else {
-            return Err(Reason::NotSupervised);
-        };
+        self.up()?;
+        let mission = self.supervised()?;
         if rejected(mission.proposal, request.value() as u32).is_err() {
             return Err(Reason::Unasked);
         }

@@ -14,8 +14,7 @@ ghost use Rattle.rbc_right.specs.Rights.{Rights};
 ghost use Rattle.rbc_place.specs.Places.{place_of};
 ghost use Rattle.rbc_pending_start.specs.Waits.{IsCovered};
 ghost use Rattle.rbc_allocation.specs.Sections.{IsAllOpen};
-ghost use Rattle.rbc_train.specs.Desk.{HasParts, HearsTrain, IsHeld, KeepsTrain, KeepsDesk, with_parts, effect_left};
-ghost use Rattle.rbc_train.specs.Desks.{IsBookOf};
+ghost use Rattle.rbc_train.specs.Desk.{HasParts, HearsTrain, IsAtBook, IsHeld, KeepsTrain, KeepsState, KeepsDesk, last_said, with_parts, effect_left};
 ghost use Rattle.rbc_train.specs.Starts.{started};
 
 use crate::heard::Heard;
@@ -33,7 +32,6 @@ use rbc_msgs::TrackBody;
 use rbc_packets::Position;
 use rbc_place::{Place, covered};
 use rbc_right::{Asked, Registrar};
-use rbc_session::Phase;
 use rbc_vars::QStatus;
 
 impl TrainState {
@@ -49,8 +47,8 @@ impl TrainState {
         q_status: QStatus,
         position: &Position,
     ) -> Result<Heard, Reason>
-        requires count { self.old.said < 4294967294 }
-        requires book { IsBookOf line.now centre book.old }
+        requires count { self.old.said < last_said }
+        requires at { IsAtBook line.now centre self.old book.old }
         ensures exact { (k : spec.Centre) → HearsTrain line.now centre k t_train self.old book.old registrar.old
             → step.effect line.now centre k
             (step.Train (record {
@@ -60,19 +58,16 @@ impl TrainState {
             }))
             ≡ effect_left line.now centre self.old.supervision.engine
             (with_parts self.new book.new registrar.new k) result }
-        ensures kept { KeepsTrain self.old self.new }
-        ensures expectations { self.new.expectations ≡ self.old.expectations }
-        ensures held { IsHeld line.now centre self.old → IsHeld line.now centre self.new }
-        ensures covers { IsCovered line.now self.old.waiting → IsCovered line.now self.new.waiting }
-        ensures session { self.new.session_state ≡ self.old.session_state }
+        ensures left { self.new ≡ record self.old {
+          heard = self.new.heard;
+          said = self.new.said;
+          supervision = self.new.supervision;
+          waiting = self.new.waiting;
+        } }
+        ensures keeps { KeepsState line.now centre self.old self.new }
         ensures desk { KeepsDesk self.old.supervision.number book.old book.new registrar.old registrar.new }
     {
-        let known = self.known();
-        match known.phase {
-            Phase::Closed => return Err(Reason::NoSession),
-            Phase::Opened => return Err(Reason::WrongPhase),
-            Phase::Up => {}
-        }
+        self.up()?;
         if self.waiting.place().is_some() {
             return Err(Reason::WrongPhase);
         }
@@ -100,16 +95,14 @@ impl TrainState {
         q_status: QStatus,
         position: &Position,
     ) -> Start
-        requires book { IsBookOf line.now centre book.old }
+        requires at { IsAtBook line.now centre self.old book.old }
         requires none { self.old.waiting.wait ≡ None }
         ensures exact { (k : spec.Centre) → HasParts line.now centre k self.old book.old registrar.old
             → rules.start_mission line.now centre self.old.supervision.engine (is_valid q_status)
             (position_of position.now) k
             ≡ started self.old.supervision.engine result (with_parts self.new book.new registrar.new k) }
         ensures same { self.new ≡ record self.old { supervision = self.new.supervision; waiting = self.new.waiting } }
-        ensures kept { KeepsTrain self.old self.new }
-        ensures held { IsHeld line.now centre self.old → IsHeld line.now centre self.new }
-        ensures covers { IsCovered line.now self.old.waiting → IsCovered line.now self.new.waiting }
+        ensures keeps { KeepsState line.now centre self.old self.new }
         ensures desk { KeepsDesk self.old.supervision.number book.old book.new registrar.old registrar.new }
     {
         let Some(place) = place_of_start(line, q_status, position) else {

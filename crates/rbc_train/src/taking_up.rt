@@ -20,8 +20,8 @@ ghost use Rattle.rbc_right.specs.Rights.{is_here};
 ghost use Rattle.rbc_hand.specs.SectionRuns.{run_of};
 ghost use Rattle.rbc_linkmsg.specs.Bodies as bodies;
 ghost use Rattle.rbc_place.specs.Places.{place_of};
-ghost use Rattle.rbc_train.specs.Arriving.{taken_up};
-ghost use Rattle.rbc_train.specs.Desk.{HasParts, IsHeld, KeepsTrain, with_parts, reply_left};
+ghost use Rattle.rbc_train.specs.Arriving.{MayGoOn, taken_up};
+ghost use Rattle.rbc_train.specs.Desk.{HasParts, IsAtBook, KeepsState, last_said, with_parts, reply_left};
 ghost use Rattle.rbc_train.specs.Desks.{IsBookOf};
 
 use crate::front::{has_group_on_track, is_on_track};
@@ -65,9 +65,8 @@ impl TrainState {
         registrar: &Registrar,
         coming: Coming,
     ) -> Heard
-        requires count { self.old.said < 4294967294 }
-        requires book { IsBookOf line.now centre book.old }
-        requires held { IsHeld line.now centre self.old }
+        requires count { self.old.said < last_said }
+        requires at { IsAtBook line.now centre self.old book.old }
         requires place { HasPlaceRange (bodies.place_of coming.place) }
         requires hand { HasRunRange 1 32 (run_of coming.hand) }
         ensures exact { (k : spec.Centre) → HasParts line.now centre k self.old book.old registrar.now
@@ -76,11 +75,13 @@ impl TrainState {
             (bodies.place_of coming.place)) rest k
             ≡ reply_left line.now centre self.old.supervision.engine
             (with_parts self.new book.new registrar.now k) result }
-        ensures kept { KeepsTrain self.old self.new }
-        ensures count { length self.new.expectations ≡ length self.old.expectations }
-        ensures held { IsHeld line.now centre self.new }
-        ensures session { self.new.session_state ≡ self.old.session_state }
-        ensures waiting { self.new.waiting ≡ self.old.waiting }
+        ensures left { self.new ≡ record self.old {
+          heard = self.new.heard;
+          said = self.new.said;
+          supervision = self.new.supervision;
+          expectations = self.new.expectations;
+        } }
+        ensures keeps { KeepsState line.now centre self.old self.new }
         ensures homes { (s : ℕ) → is_own book.new s ≡ is_own book.old s }
     {
         let Some(place) = arriving_place(coming.place) else {
@@ -113,10 +114,7 @@ impl TrainState {
         ensures exact { (k : spec.Centre) → HasParts line.now centre k self.now book.now registrar.now
             → result ≡ links.may_take line.now centre k coming.now.from coming.now.number self.now.supervision.engine
             (place_of place.now) (run_of coming.now.hand) }
-        ensures none { result ≡ true → self.now.supervision.mission ≡ None }
-        ensures line { result ≡ true → coming.now.hand.first + coming.now.hand.count ≤ length line.now.sections }
-        ensures own { result ≡ true → (s : ℕ) → within (run_of coming.now.hand) s ≡ true → is_own book.now s ≡ true
-            → spec.is_out_for self.now.supervision.engine (entry_at book.now s) ≡ true }
+        ensures may { result ≡ true → MayGoOn line.now self.now.supervision (run_of coming.now.hand) book.now }
     {
         if !self.awaits(registrar, coming.from, coming.number) {
             return false;
@@ -143,11 +141,8 @@ impl TrainState {
 
     // The mission goes on here.
     fn take_mission(&mut self, line: &Line, book: &mut Book, coming: Coming, place: Place)
-        requires none { self.old.supervision.mission ≡ None }
         requires hand { HasRunRange 1 32 (run_of coming.hand) }
-        requires line { coming.hand.first + coming.hand.count ≤ length line.now.sections }
-        requires own { (s : ℕ) → within (run_of coming.hand) s ≡ true → is_own book.old s ≡ true
-            → spec.is_out_for self.old.supervision.engine (entry_at book.old s) ≡ true }
+        requires may { MayGoOn line.now self.old.supervision (run_of coming.hand) book.old }
         ensures left { self.new
             ≡ taken_up coming (place_of place) self.new.supervision.hand self.new.expectations self.old }
         ensures expected { (d : ℕ)

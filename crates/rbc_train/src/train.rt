@@ -1,31 +1,22 @@
-ghost use Rattle.std.specs.Prelude.{◌≡◌, ◌+◌, ◌<◌, ◌≤◌, ℕ, length, IfOk, None, Some, false, option_map};
+ghost use Rattle.std.specs.Prelude.{◌≡◌, ◌+◌, ◌≤◌, ℕ, length, IfOk, None, false, option_map};
 ghost use Rattle.rbc_spec.specs.Message.{is_stale};
-ghost use Rattle.rbc_spec.specs.Centre as spec;
-ghost use Rattle.rbc_spec.specs.Acts.{propose_if_so};
 ghost use Rattle.rbc_hand.specs.SectionRuns.{run_of};
 ghost use Rattle.rbc_place.specs.Places.{place_of};
 ghost use Rattle.rbc_session.specs.SessionStates.{phase_of, session_phase};
-ghost use Rattle.rbc_mission.specs.Supervisions.{HasRouteForm, hand_of, handing_in};
+ghost use Rattle.rbc_mission.specs.Supervisions.{hand_of, handing_in};
 ghost use Rattle.rbc_handover.specs.Expectations.{expected_from};
 ghost use Rattle.rbc_pending_start.specs.Waits.{nothing_waits};
 ghost use Rattle.rbc_train.specs.Desks.{mission_by};
-ghost use Rattle.rbc_train.specs.Trains.{asked, unknown_state, HasTrain};
-ghost use Rattle.rbc_train.specs.Sayings.{sayings_of};
+ghost use Rattle.rbc_train.specs.Trains.{unknown_state};
 
-use crate::asking::ask_back;
-use crate::known::Train;
-use crate::saying::Saying;
 use rbc_book::Book;
 use rbc_hand::SectionRun;
 use rbc_handover::Expectations;
 use rbc_line::Line;
 use rbc_mission::{MissionFacts, Supervision};
-use rbc_msgs::TrackBody;
-use rbc_packets::Authority;
 use rbc_pending_start::WaitingStart;
 use rbc_place::Place;
 use rbc_session::{Phase, SessionState, Sessions};
-use rbc_vars::LEndsection;
 use std::alloc::{AllocError, Global};
 
 /// What is known of a train at a centre.
@@ -132,27 +123,6 @@ impl TrainState {
         }
     }
 
-    /// What a message of it is decided by.
-    pub fn known(&self) -> Train
-        ensures number { result.number ≡ self.now.supervision.number }
-        ensures engine { result.nid_engine ≡ self.now.supervision.engine }
-        ensures phase { phase_of result.phase ≡ session_phase self.now.session_state }
-        ensures mission { mission_by result.mission result.hand result.pool (handing_in self.now.supervision)
-            ≡ self.now.supervision.mission }
-        ensures route { (m : spec.Mission)
-            → mission_by result.mission result.hand result.pool (handing_in self.now.supervision) ≡ Some m
-            → HasRouteForm m }
-    {
-        Train {
-            number: self.supervision.number(),
-            nid_engine: self.supervision.nid_engine(),
-            phase: self.session_state.phase(),
-            mission: self.supervision.mission(),
-            hand: self.supervision.hand(),
-            pool: self.supervision.pool(),
-        }
-    }
-
     /// Ends it with its centre: its session ends, and its sections go back.
     pub fn end(self, sessions: &mut Sessions, book: &mut Book) {
         let TrainState {
@@ -177,32 +147,6 @@ impl TrainState {
             Some(last) => t_train <= last,
             None => false,
         }
-    }
-
-    /// Asks the train to end its movement authority before a section (3.8.6), where that may be asked.
-    #[inline(never)]
-    pub fn ask_back(&mut self, line: &Line, s: u16) -> Option<Saying>
-        requires count { self.old.said < 4294967294 }
-        ensures exact { (k : spec.Centre) → HasTrain k self.old.supervision.engine self.old
-            → propose_if_so line.now self.old.supervision.engine s k
-            ≡ asked self.old.supervision.engine self.new (sayings_of result) k }
-        ensures session_state { self.new.session_state ≡ self.old.session_state }
-        ensures heard { self.new.heard ≡ self.old.heard }
-        ensures question { self.new.supervision.asked ≡ self.old.supervision.asked }
-        ensures hand { self.new.supervision.hand ≡ self.old.supervision.hand }
-        ensures number { self.new.supervision.number ≡ self.old.supervision.number }
-        ensures engine { self.new.supervision.engine ≡ self.old.supervision.engine }
-        ensures waiting { self.new.waiting ≡ self.old.waiting }
-        ensures expectations { self.new.expectations ≡ self.old.expectations }
-        ensures said { self.new.said ≤ self.old.said + 1 }
-    {
-        let known = self.known();
-        let asking = ask_back(line, &known, s, self.said + 1)?;
-        self.supervision.propose(asking.proposal);
-        let request = TrackBody::ShorteningRequest(Authority {
-            l_endsection: LEndsection::new(u64::from(asking.l_endsection)),
-        });
-        Some(self.answer(asking.nid_lrbg, request))
     }
 }
 

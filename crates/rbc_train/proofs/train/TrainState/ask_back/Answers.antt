@@ -1,53 +1,53 @@
-use Rattle.std.proofs.Common.{ℕ, ◌+◌, ◌∙◌, [], ◌∷◌, ap, sym, Some, option_map}
+use Rattle.std.proofs.Common.{◌+◌, ◌∙◌, [], ◌∷◌, arith, ap, sym, Some, option_map}
 use Rattle.rbc_spec.specs.Maps.{put}
+use Rattle.rbc_spec.specs.Line.{start}
 use Rattle.rbc_spec.specs.Message.{ShorteningRequest}
-use Rattle.rbc_spec.specs.Centre.{Centre, Mission}
-use Rattle.rbc_spec.specs.Acts.{propose_if_so}
-use Rattle.rbc_shorten.specs.Facts.{proposal_of}
-use Rattle.rbc_mission.specs.Supervisions.{handing_in}
-use Rattle.rbc_train.specs.Asking.{IsTrain, asked_back}
-use Rattle.rbc_train.specs.Trains.{HasTrain, asked}
+use Rattle.rbc_spec.specs.Centre.{Mission}
+use Rattle.rbc_train.specs.Guards.{mission_in}
+use Rattle.rbc_train.specs.Trains.{asked}
 use Rattle.rbc_train.specs.Sayings.{sayings_of}
+use Rattle.rbc_train.proofs.Asks.{none_to_ask, none_made, made, has_room}
 use Rattle.rbc_train.proofs.Desk.{asked_nothing}
 use Rattle.rbc_train.proofs.train.TrainState.ask_back.Goals as goal
-use Rattle.rbc_train.proofs.train.TrainState.ask_back.Goals.{After-ask_back}
 
--- what is known is what the centre has of the train
-is_train : (c : After-ask_back) (k : Centre) → HasTrain k c.args.self.now.supervision.engine c.args.self.now → IsTrain k (handing_in c.args.self.now.supervision) c.known-known.result (c.args.self.now.said + 1)
-is_train c k has =
-    let known = c.known-known.ensures in
-    record {
-      has_phase = ap k.phase known.engine ∙ has.phase_is ∙ sym known.phase;
-      has_mission = ap k.mission known.engine ∙ has.mission_is ∙ sym known.mission;
-      counts = ap (λ (u : ℕ). k.said u + 1) known.engine ∙ ap (λ (n : ℕ). n + 1) has.said_is;
-    }
+pub returns-in_err-mission-clause-exact : goal.returns-in_err-mission-clause-exact
+returns-in_err-mission-clause-exact c = λ k has.
+    let old = c.args.self.now in
+    let t = old.supervision.engine in
+    none_to_ask c.args.line.now t c.args.s k (has.mission_is ∙ sym c.mission.ensures.value ∙ ap (option_map (mission_in old.supervision)) c.in_err-mission.was)
+    ∙ sym (asked_nothing t k old has) ∙ (λ i. asked t old (sayings_of (sym c.from_residual.ensures i)) k)
 
-pub returns-in_err-asking-clause-exact : goal.returns-in_err-asking-clause-exact
-returns-in_err-asking-clause-exact c = λ k has.
-    let t = c.args.self.now.supervision.engine in
-    let engine = c.known-known.ensures.engine in
-    ap (λ (u : ℕ). propose_if_so c.args.line.now u c.args.s k) (sym engine)
-    ∙ c.ask_back.ensures.exact (handing_in c.args.self.now.supervision) k (is_train (goal.at.returns-in_err-asking-clause-exact c).After-ask_back k has)
-    ∙ (λ i. asked_back (engine i) k (c.in_err-asking.was i))
-    ∙ sym (asked_nothing t k c.args.self.now has)
-    ∙ (λ i. asked t c.args.self.now (sayings_of (sym c.from_residual.ensures i)) k)
+pub returns-in_err-shortening-clause-exact : goal.returns-in_err-shortening-clause-exact
+returns-in_err-shortening-clause-exact c = λ k has.
+    let old = c.args.self.now in
+    let t = old.supervision.engine in
+    let m = mission_in old.supervision c.in_ok-mission.mission in
+    none_made c.args.line.now t c.args.s m k (has.mission_is ∙ sym c.mission.ensures.value ∙ ap (option_map (mission_in old.supervision)) c.in_ok-mission.was)
+    c.propose.result (c.propose.ensures.rules t m k (c.facts.ensures k has.phase_is)) c.in_err-shortening.was
+    ∙ sym (asked_nothing t k old has) ∙ (λ i. asked t old (sayings_of (sym c.from_residual-in_err-shortening.ensures i)) k)
+
+pub new-requires : goal.new-requires
+new-requires c =
+    let room = has_room (start c.args.line.now c.args.s) c.args.s c.facts.result c.in_ok-shortening.shortening (sym c.propose.ensures.exact ∙ c.in_ok-shortening.was) in
+    let same = c.from.ensures in
+    omega (arith, room, same)
 
 pub returns-clause-exact : goal.returns-clause-exact
 returns-clause-exact c = λ k has.
     let old = c.args.self.now in
     let t = old.supervision.engine in
-    let engine = c.known-known.ensures.engine in
-    let a = c.in_ok-asking.asking in
-    let asks : Mission → Mission = λ m. record m { proposal = Some (proposal_of a.proposal) } in
-    let metres = a.l_endsection in
-    ap (λ (u : ℕ). propose_if_so c.args.line.now u c.args.s k) (sym engine)
-    ∙ c.ask_back.ensures.exact (handing_in old.supervision) k (is_train (goal.at.returns-clause-exact c).After-ask_back k has)
-    ∙ (λ i. asked_back (engine i) k (c.in_ok-asking.was i))
+    let m = mission_in old.supervision c.in_ok-mission.mission in
+    let x = c.in_ok-shortening.shortening in
+    made c.args.line.now t c.args.s m k (has.mission_is ∙ sym c.mission.ensures.value ∙ ap (option_map (mission_in old.supervision)) c.in_ok-mission.was)
+    c.propose.result (c.propose.ensures.rules t m k (c.facts.ensures k has.phase_is)) x c.in_ok-shortening.was
     ∙ (λ i. record {
-      state = record k { said = put k.said t (has.said_is i + 1); mission = put k.mission t (option_map asks (has.mission_is i)) };
+      state = record k {
+        said = put k.said t (has.said_is i + 1);
+        mission = put k.mission t (option_map (λ (n : Mission). record n { proposal = Some (record { stamp = has.said_is i + 1; last_kept = x.last_kept }) }) (has.mission_is i));
+      };
       frames = λ d. [];
-      sayings = record { nid_engine = t; message = record { t_train = has.said_is i + 1; nid_lrbg = a.nid_lrbg; body = ShorteningRequest metres } } ∷ [];
+      sayings = record { nid_engine = t; message = record { t_train = has.said_is i + 1; nid_lrbg = m.place.group; body = ShorteningRequest x.l_endsection } } ∷ [];
       words = [];
     })
-    ∙ (λ i. asked t (sym (c.answer.ensures.counted ∙ (λ l. record old { said = old.said + 1; supervision = c.propose.ensures l })) i)
-    (sym (c.answer.ensures.saying ∙ (λ l. record { nid_engine = (c.propose.ensures l).engine; message = record { t_train = old.said + 1; nid_lrbg = a.nid_lrbg; body = ShorteningRequest ((c.new.ensures ∙ c.from.ensures) l) } })) i ∷ []) k)
+    ∙ (λ i. asked t (sym (c.answer.ensures.counted ∙ (λ l. record old { said = old.said + 1; supervision = c.propose-2.ensures l })) i)
+    (sym (c.answer.ensures.saying ∙ (λ l. record { nid_engine = (c.propose-2.ensures l).engine; message = record { t_train = old.said + 1; nid_lrbg = m.place.group; body = ShorteningRequest ((c.new.ensures ∙ c.from.ensures) l) } })) i ∷ []) k)

@@ -7,12 +7,13 @@ use Rattle.rbc_book.specs.Book.{is_own}
 use Rattle.rbc_place.specs.Places.{place_of}
 use Rattle.rbc_allocation.specs.Sections.{FreesRun, front_of, hand_rest, wished}
 use Rattle.rbc_mission.specs.Supervisions.{SupervisionState, hand_of, right_left, without_front}
-use Rattle.rbc_train.specs.Desk.{with_parts}
+use Rattle.rbc_train.specs.Desk.{with_parts, unsaid}
 use Rattle.rbc_train.specs.Standstill.{cleared_count}
 use Rattle.rbc_train.specs.Letters.{cancel_of, mail_home}
+use Rattle.rbc_train.specs.declared.heard.Heard.{Heard}
 use Rattle.rbc_train.specs.declared.mail.Mail.{Mail}
 use Rattle.rbc_train.proofs.Clears.{clears}
-use Rattle.rbc_train.proofs.Kept.{kept_cleared, cleared_place, cleared_handing, none_left, not_left, held_as}
+use Rattle.rbc_train.proofs.Kept.{kept_cleared, cleared_place, cleared_handing, none_left, not_left, held_as, keeps_state}
 use Rattle.rbc_train.proofs.Letters.{goes_as, sent_home}
 use Rattle.rbc_train.proofs.RightFrames.{released_as}
 use Rattle.rbc_train.proofs.train.TrainState.clear.Goals as goal
@@ -41,7 +42,7 @@ returns-clause-exact c = λ m there on k has.
     (goes_as line c.args.centre old.supervision.engine left.engine c.clear_front-released.result.right (right_left old.supervision left) letter c.args.registrar.now c.released.new.registrar
     (ap (λ (x : SupervisionState). x.engine) c.clear_front-released.ensures.supervision) c.clear_front-released.ensures.right c.released.ensures.right)
     ∙ sym (released_as line c.args.centre old.supervision.engine (with_parts (record old { supervision = left }) c.clear_front-released.new.book c.released.new.registrar k) c.released.result c.clear_front-released.result.told
-    (mail_home m.place.track sections notice letter) c.released.ensures.saying c.released.ensures.order (c.released.ensures.mail ∙ ap (λ track. mail_home track sections notice letter) (sym on)) c.released.ensures.told)
+    (mail_home m.place.track sections notice letter) (c.released.ensures.heard ∙ ap (λ (track : ℕ). unsaid (mail_home track sections notice letter) c.clear_front-released.result.told) (sym on)))
 
 pub returns-clause-stays : goal.returns-clause-stays
 returns-clause-stays c = λ kept.
@@ -52,27 +53,32 @@ pub returns-clause-track : goal.returns-clause-track
 returns-clause-track c = λ m there.
     cleared_place (place_of c.args.place) c.cleared-count.result c.args.self.now.supervision.mission m (ap (λ (x : SupervisionState). x.mission) (sym c.clear_front-released.ensures.supervision) ∙ there)
 
-pub returns-clause-mail : goal.returns-clause-mail
-returns-clause-mail c = sent_home c.args.place.track c.clear_front-released.result.returned (cancel_of c.clear_front-released.result.cancelled) c.released.result.mail c.released.ensures.mail
-
-pub returns-clause-letter : goal.returns-clause-letter
-returns-clause-letter c = λ stands.
+pub returns-clause-sends : goal.returns-clause-sends
+returns-clause-sends c =
     let old = c.args.self.now.supervision in
     let left = c.clear_front-released.new.self in
-    let place = place_of c.args.place in
-    let is = ap (λ (x : SupervisionState). x.mission) c.clear_front-released.ensures.supervision in (
-      (c.released.ensures.right.nothing (c.clear_front-released.ensures.right ∙ none_left old left stands)).0,
-      ap (λ (x : Mail). x.notice) c.released.ensures.mail
-          ∙ ap cancel_of (c.clear_front-released.ensures.cancelled ∙ not_left old left
-          (ap (option_and_then (λ (m : Mission). m.handing)) is ∙ cleared_handing place c.cleared-count.result old.mission (ap is_some (sym is) ∙ stands))),
-    )
+    let is = ap (λ (x : SupervisionState). x.mission) c.clear_front-released.ensures.supervision in
+    let mail = ap (λ (x : Heard). x.mail) c.released.ensures.heard in
+    record {
+      order = ap (λ (x : Heard). x.order) c.released.ensures.heard;
+      mail = sent_home c.args.place.track c.clear_front-released.result.returned (cancel_of c.clear_front-released.result.cancelled) c.released.result.mail mail;
+      letter = λ stands. (
+        (c.released.ensures.right.nothing (c.clear_front-released.ensures.right ∙ none_left old left stands)).0,
+        ap (λ (x : Mail). x.notice) mail
+            ∙ ap cancel_of (c.clear_front-released.ensures.cancelled ∙ not_left old left
+            (ap (option_and_then (λ (m : Mission). m.handing)) is
+            ∙ cleared_handing (place_of c.args.place) c.cleared-count.result old.mission (ap is_some (sym is) ∙ stands))),
+      );
+    }
 
-pub returns-clause-held : goal.returns-clause-held
-returns-clause-held c =
+pub returns-clause-keeps : goal.returns-clause-keeps
+returns-clause-keeps c =
     let old = c.args.self.now in
     let left = c.clear_front-released.new.self in
-    held_as old.supervision.engine left.engine (is_own c.clear_front-released.new.book) (is_home c.args.line.now c.args.centre) left.hand (sym (ap (λ (x : SupervisionState). x.engine) c.clear_front-released.ensures.supervision))
-    (λ s. sym (c.clear_front-released.ensures.book.homes s ∙ c.requires.book s)) c.clear_front-released.ensures.held
+    let engine = ap (λ (x : SupervisionState). x.engine) c.clear_front-released.ensures.supervision in
+    keeps_state c.args.line.now c.args.centre old old.heard left (ap (λ (x : SupervisionState). x.number) c.clear_front-released.ensures.supervision) engine
+    (held_as old.supervision.engine left.engine (is_own c.clear_front-released.new.book) (is_home c.args.line.now c.args.centre) left.hand (sym engine)
+    (λ s. sym (c.clear_front-released.ensures.book.homes s ∙ c.requires.book s)) c.clear_front-released.ensures.held)
 
 pub returns-clause-front : goal.returns-clause-front
 returns-clause-front c =
@@ -81,6 +87,6 @@ returns-clause-front c =
     let counts : c.cleared-count.result ≡ cleared_count c.args.line.now place (hand_of old) = c.cleared-count.ensures.value ∙ ap (passing (is_cleared c.args.line.now place)) c.hand.ensures.value in
     record {
       supervision = c.clear_front-released.ensures.supervision ∙ (λ i. record old { mission = option_and_then (without_front place (counts i)) old.mission; hand = hand_rest (counts i) old.hand });
-      told = c.released.ensures.told ∙ c.clear_front-released.ensures.told ∙ ap (λ (n : ℕ). wished old.engine (front_of n (hand_of old)) c.args.book.now) counts;
+      told = ap (λ (x : Heard). x.told) c.released.ensures.heard ∙ c.clear_front-released.ensures.told ∙ ap (λ (n : ℕ). wished old.engine (front_of n (hand_of old)) c.args.book.now) counts;
       book = subst (λ (n : ℕ). FreesRun old.engine (front_of n (hand_of old)) c.args.book.now c.clear_front-released.new.book) counts c.clear_front-released.ensures.book;
     }

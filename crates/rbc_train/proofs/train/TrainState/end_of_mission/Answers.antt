@@ -1,48 +1,45 @@
-use Rattle.std.proofs.Common.{◌≡◌, ◌∙◌, ap, sym, refl, option_map, Some}
+use Rattle.std.proofs.Common.{◌≡◌, ◌∙◌, ap, sym, refl, option_map}
+use Rattle.std.proofs.lemmas.Result.{err_from_is_err_and}
+use Rattle.rbc_spec.specs.Message.{EndOfMission}
 use Rattle.rbc_msgs.specs.StepMessage.{position_of}
-use Rattle.rbc_session.specs.SessionStates.{phase_of}
-use Rattle.rbc_hand.specs.SectionRuns.{run_of}
-use Rattle.rbc_spec.specs.Centre.{Mission}
-use Rattle.rbc_mission.specs.Supervisions.{SupervisionState, hand_of, mission_of, handing_in}
+use Rattle.rbc_mission.specs.Supervisions.{SupervisionState, hand_of}
 use Rattle.rbc_train.specs.Desk.{with_parts, reply_left}
-use Rattle.rbc_train.specs.Desks.{mission_by}
+use Rattle.rbc_train.specs.Guards.{mission_in}
+use Rattle.rbc_train.specs.declared.heard.Heard.{Heard}
 use Rattle.rbc_train.specs.Standstill.{left_ahead}
 use Rattle.rbc_train.proofs.Desk.{by_reply}
 use Rattle.rbc_train.proofs.Turns.{parts_heard}
 use Rattle.rbc_train.proofs.Standstill.{keeps_fit}
 use Rattle.rbc_train.proofs.Ends.{ended, finished, ends, ends_ahead}
+use Rattle.rbc_train.proofs.Unanswered.{no_session, no_mission}
 use Rattle.rbc_train.proofs.train.TrainState.end_of_mission.Goals as goal
-use Rattle.rbc_train.proofs.train.TrainState.end_of_mission.Goals.{After-report_here-heard}
-
--- the mission of the train
-there : (c : After-report_here-heard) → c.args.self.now.supervision.mission ≡ Some (mission_of (run_of c.known-known.result.hand) (run_of c.known-known.result.pool) (handing_in c.args.self.now.supervision) c.in-Some.mission)
-there c = sym c.known-known.ensures.mission ∙ ap (λ o. mission_by o c.known-known.result.hand c.known-known.result.pool (handing_in c.args.self.now.supervision)) c.in-Some.is
 
 pub leave_ahead-left-requires-clause-keep : goal.leave_ahead-left-requires-clause-keep
 leave_ahead-left-requires-clause-keep c =
     let old = c.args.self.now in
-    let m = mission_of (run_of c.known-known.result.hand) (run_of c.known-known.result.pool) (handing_in old.supervision) c.in-Some.mission in
-    let at = there (goal.at.leave_ahead-left-requires-clause-keep c).After-report_here-heard in
-    let a = c.in-Some-ahead.ensures.some in
-    keeps_fit c.args.line.now old.supervision.engine m.place.track (position_of c.args.position.now) c.args.book.now c.report_here-heard.new.book old.supervision c.report_here-heard.new.self.supervision m c.in-Some-ahead.field-0.keep
-    c.report_here-heard.result.told c.in-Some-ahead.field-0.told at a (c.report_here-heard.ensures.front a.place a.at)
+    let m = mission_in old.supervision c.in_ok-mission.mission in
+    let at = c.in_ok-mission.ensures in
+    let a = c.in-Some.ensures.some in
+    keeps_fit c.args.line.now old.supervision.engine m.place.track (position_of c.args.position.now) c.args.book.now c.report_here-heard.new.book old.supervision c.report_here-heard.new.self.supervision m c.in-Some.field-0.keep
+    c.report_here-heard.result.told c.in-Some.field-0.told at a (c.report_here-heard.ensures.front a.place a.at)
 
-pub returns-in-Some-ahead-clause-exact : goal.returns-in-Some-ahead-clause-exact
-returns-in-Some-ahead-clause-exact c = λ k h.
+pub returns-in-Some-clause-exact : goal.returns-in-Some-clause-exact
+returns-in-Some-clause-exact c = λ k h.
     let line = c.args.line.now in
     let n = c.args.centre in
     let old = c.args.self.now in
-    let m = mission_of (run_of c.known-known.result.hand) (run_of c.known-known.result.pool) (handing_in old.supervision) c.in-Some.mission in
-    let at = there (goal.at.returns-in-Some-ahead-clause-exact c).After-report_here-heard in
+    let m = mission_in old.supervision c.in_ok-mission.mission in
+    let at = c.in_ok-mission.ensures in
     let report = c.report_here-heard in
     let cut = c.leave_ahead-left in
     let kept = report.ensures.stays (parts_heard line n k c.args.t_train old c.args.book.now c.args.registrar.now h.parts).kept in
     ends_ahead line n k c.args.t_train old c.args.book.now c.args.registrar.now (position_of c.args.position.now) h
     m report.new.self report.new.book report.new.registrar report.result
-    (sym c.known-known.ensures.phase ∙ ap phase_of c.in-Up.is) at c.if-mission.false
-    report.ensures.kept.engine report.ensures.desk.homes kept (report.ensures.exact m at refl) report.ensures.order report.ensures.mail report.ensures.letter (λ x stands. report.ensures.track m x at refl stands) report.ensures.front
-    c.in-Some-ahead.field-0.keep c.in-Some-ahead.field-0.told c.in-Some-ahead.ensures.some cut.new.self cut.new.book cut.new.registrar cut.result
-    cut.ensures.exact cut.ensures.stays cut.ensures.saying cut.ensures.order cut.ensures.told cut.ensures.mail cut.ensures.pool cut.ensures.left cut.ensures.kept.engine cut.ensures.desk.homes
+    c.in_ok-up.ensures at c.if-mission.false
+    report.ensures.keeps.train.engine report.ensures.desk.homes kept (report.ensures.exact m at refl) report.ensures.sends.order report.ensures.sends.mail report.ensures.sends.letter (λ x stands. report.ensures.track m x at refl stands) report.ensures.front
+    c.in-Some.field-0.keep c.in-Some.field-0.told c.in-Some.ensures.some cut.new.self cut.new.book cut.new.registrar cut.result
+    cut.ensures.exact cut.ensures.stays (ap (λ (x : Heard). x.saying) cut.ensures.heard) (ap (λ (x : Heard). x.order) cut.ensures.heard) (ap (λ (x : Heard). x.told) cut.ensures.heard) (ap (λ (x : Heard). x.mail) cut.ensures.heard)
+    cut.ensures.pool cut.ensures.left cut.ensures.keeps.train.engine cut.ensures.desk.homes
     ∙ (λ i. by_reply (reply_left line n old.supervision.engine (with_parts (record cut.new.self { supervision = sym c.end_mission.ensures i }) cut.new.book cut.new.registrar k) (sym c.and_ahead.ensures i)))
 
 pub returns-in-None-clause-exact : goal.returns-in-None-clause-exact
@@ -50,8 +47,8 @@ returns-in-None-clause-exact c = λ k h.
     let line = c.args.line.now in
     let n = c.args.centre in
     let old = c.args.self.now in
-    let m = mission_of (run_of c.known-known.result.hand) (run_of c.known-known.result.pool) (handing_in old.supervision) c.in-Some.mission in
-    let at = there (goal.at.returns-in-None-clause-exact c).After-report_here-heard in
+    let m = mission_in old.supervision c.in_ok-mission.mission in
+    let at = c.in_ok-mission.ensures in
     let report = c.report_here-heard in
     let mid = report.new.self in
     let kept = report.ensures.stays (parts_heard line n k c.args.t_train old c.args.book.now c.args.registrar.now h.parts).kept in
@@ -59,8 +56,18 @@ returns-in-None-clause-exact c = λ k h.
     c.end_mission-in-None.ensures ∙ ap (λ (x : SupervisionState). record x { mission = option_map ended x.mission }) c.return_pool-pool.ensures.state in
     ends line n k c.args.t_train old c.args.book.now c.args.registrar.now (position_of c.args.position.now) h
     m mid report.new.book report.new.registrar report.result
-    (sym c.known-known.ensures.phase ∙ ap phase_of c.in-Up.is) at c.if-mission.false
-    report.ensures.kept.engine report.ensures.desk.homes kept (report.ensures.exact m at refl) report.ensures.order report.ensures.mail report.ensures.letter (λ x stands. report.ensures.track m x at refl stands) report.ensures.front
+    c.in_ok-up.ensures at c.if-mission.false
+    report.ensures.keeps.train.engine report.ensures.desk.homes kept (report.ensures.exact m at refl) report.ensures.sends.order report.ensures.sends.mail report.ensures.sends.letter (λ x stands. report.ensures.track m x at refl stands) report.ensures.front
     c.return_pool-pool.result c.return_pool-pool.ensures.run
     ((λ i. left_ahead line m.place.track (position_of c.args.position.now) (hand_of (record old.supervision { mission = sym at i }))) ∙ c.ahead-ahead.ensures.none c.in-None.is)
     ∙ (λ i. by_reply (reply_left line n old.supervision.engine (with_parts (record mid { supervision = sym done i }) report.new.book report.new.registrar k) (sym c.with_second.ensures i)))
+
+pub returns-in_err-up-clause-exact : goal.returns-in_err-up-clause-exact
+returns-in_err-up-clause-exact c = λ k h.
+    let p = err_from_is_err_and c.from_residual.result c.from_residual.ensures.1 in
+    rw (p.1, p.2) (no_session c.args.line.now c.args.centre k c.args.t_train c.args.self.now c.args.book.now c.args.registrar.now h (EndOfMission (position_of c.args.position.now)) _ refl (λ j down. rw down refl) _ c.in_err-up.ensures)
+
+pub returns-in_err-mission-clause-exact : goal.returns-in_err-mission-clause-exact
+returns-in_err-mission-clause-exact c = λ k h.
+    let p = err_from_is_err_and c.from_residual-in_err-mission.result c.from_residual-in_err-mission.ensures.1 in
+    rw (p.1, p.2) (no_mission c.args.line.now c.args.centre k c.args.t_train c.args.self.now c.args.book.now c.args.registrar.now h (EndOfMission (position_of c.args.position.now)) _ refl (λ j up. rw up refl) (λ j. refl) c.in_ok-up.ensures _ c.in_err-mission.ensures)

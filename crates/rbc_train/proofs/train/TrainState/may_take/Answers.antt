@@ -43,19 +43,18 @@ returns-clause-exact c = λ k there.
     && (sym (sym c.is_placed.ensures ∙ c.if-not-is_placed.false) i && all_of (may_arrive line c.args.centre k (c.nid_engine.ensures i) place.track) hand))
     ∙ may_be_taken line c.args.centre k c.args.self.now c.args.book.now c.args.registrar.now there c.args.coming.now.from c.args.coming.now.number place hand
 
-pub returns-clause-none : goal.returns-clause-none
-returns-clause-none c = λ yes.
-    no_mission_here (is_taking_under c.args.coming.now.number (expected_from c.args.self.now.expectations c.args.coming.now.from)) (is_here c.args.registrar.now c.args.self.now.supervision.number) c.args.self.now.supervision.mission
-    (sym c.awaits.ensures ∙ c.if-not-awaits.false)
-
-pub returns-clause-line : goal.returns-clause-line
-returns-clause-line c = λ yes.
-    run_of_line c.args.line.now c.args.place.now.track (run_of c.args.coming.now.hand) _ _ c.requires.some (sym c.is_placed.ensures ∙ c.if-not-is_placed.false)
-
-pub returns-clause-own : goal.returns-clause-own
-returns-clause-own c = λ yes s here own.
+pub returns-clause-may : goal.returns-clause-may
+returns-clause-may c = λ yes.
     let line = c.args.line.now in
+    let p = c.args.self.now in
     let book = c.args.book.now in
-    own_out line c.args.centre c.args.self.now.supervision.engine c.args.place.now.track book (run_of c.args.coming.now.hand) c.requires.book
-    ((λ i. all_of (may_arrive line c.args.centre (with_book book (beginning line c.args.centre)) (sym c.nid_engine.ensures i) c.args.place.now.track) (run_of c.args.coming.now.hand))
-    ∙ sym (c.may_arrive.ensures (with_book book (beginning line c.args.centre)) (record { homes = c.requires.book; has_book = λ e. refl; has_wish = λ e. refl })) ∙ yes) s here own
+    let hand = run_of c.args.coming.now.hand in
+    record {
+      none = no_mission_here (is_taking_under c.args.coming.now.number (expected_from p.expectations c.args.coming.now.from)) (is_here c.args.registrar.now p.supervision.number) p.supervision.mission
+          (sym c.awaits.ensures ∙ c.if-not-awaits.false);
+      on_line = run_of_line line c.args.place.now.track hand _ _ c.requires.some (sym c.is_placed.ensures ∙ c.if-not-is_placed.false);
+      own = λ s here own.
+          own_out line c.args.centre p.supervision.engine c.args.place.now.track book hand c.requires.book
+          ((λ i. all_of (may_arrive line c.args.centre (with_book book (beginning line c.args.centre)) (sym c.nid_engine.ensures i) c.args.place.now.track) hand)
+          ∙ sym (c.may_arrive.ensures (with_book book (beginning line c.args.centre)) (record { homes = c.requires.book; has_book = λ e. refl; has_wish = λ e. refl })) ∙ yes) s here own;
+    }

@@ -1,6 +1,5 @@
 use Rattle.std.proofs.Common.{length, ap, arith}
 use Rattle.std.proofs.lemmas.Bool.{ltb-true}
-use Rattle.rbc_mission.specs.Supervisions.{SupervisionState}
 use Rattle.rbc_train.specs.declared.train.TrainState.{TrainState}
 use Rattle.rbc_train.proofs.Kept.{still_held}
 use Rattle.rbc_train.proofs.Received.{takes_ask, takes_right, takes_refusal, takes_back, takes_route_ask, takes_route, takes_withdrawal, takes_return, takes_announcement, takes_cancellation, takes_claim, takes_yield, told_range, returned_range, yielded_range}
@@ -25,14 +24,8 @@ returns-in-ReturnRight-clause-exact c = λ k has known.
 pub route_told-requires : goal.route_told-requires
 route_told-requires c = record { few = (told_range c.args.body _ c.in-RouteInfo.run' c.in-RouteInfo.is c.requires.range).count.1 }
 
-pub route_returned-requires-clause-some : goal.route_returned-requires-clause-some
-route_returned-requires-clause-some c = (returned_range c.args.body _ c.in-RouteReturn.run' c.in-RouteReturn.is c.requires.range).count.0
-
-pub route_returned-requires-clause-most : goal.route_returned-requires-clause-most
-route_returned-requires-clause-most c = (returned_range c.args.body _ c.in-RouteReturn.run' c.in-RouteReturn.is c.requires.range).count.1
-
-pub route_returned-requires-clause-last : goal.route_returned-requires-clause-last
-route_returned-requires-clause-last c = (returned_range c.args.body _ c.in-RouteReturn.run' c.in-RouteReturn.is c.requires.range).last
+pub route_returned-requires-clause-range : goal.route_returned-requires-clause-range
+route_returned-requires-clause-range c = returned_range c.args.body _ c.in-RouteReturn.run' c.in-RouteReturn.is c.requires.range
 
 pub returns-in-RouteAsk-clause-exact : goal.returns-in-RouteAsk-clause-exact
 returns-in-RouteAsk-clause-exact c = λ k has known.
@@ -90,16 +83,16 @@ pub returns-in-AskRight-clause-held : goal.returns-in-AskRight-clause-held
 returns-in-AskRight-clause-held c = still_held c.args.line.now c.args.centre c.args.self.now c.right_asked.new.self (ap (λ (p : TrainState). p.supervision.engine) c.right_asked.ensures.same) (ap (λ (p : TrainState). p.supervision.hand) c.right_asked.ensures.same) c.requires.held
 
 pub returns-in-RefuseRight-clause-held : goal.returns-in-RefuseRight-clause-held
-returns-in-RefuseRight-clause-held c = still_held c.args.line.now c.args.centre c.args.self.now c.right_refused.new.self (c.right_refused.ensures.kept.engine) (ap (λ (x : SupervisionState). x.hand) c.right_refused.ensures.supervision) c.requires.held
+returns-in-RefuseRight-clause-held c = still_held c.args.line.now c.args.centre c.args.self.now c.right_refused.new.self (ap (λ (p : TrainState). p.supervision.engine) c.right_refused.ensures.left) (ap (λ (p : TrainState). p.supervision.hand) c.right_refused.ensures.left) c.requires.held
 
 pub returns-in-ReturnRight-clause-held : goal.returns-in-ReturnRight-clause-held
 returns-in-ReturnRight-clause-held c = still_held c.args.line.now c.args.centre c.args.self.now c.right_returned.new.self (ap (λ (p : TrainState). p.supervision.engine) c.right_returned.ensures.same) (ap (λ (p : TrainState). p.supervision.hand) c.right_returned.ensures.same) c.requires.held
 
 pub returns-in-RouteInfo-clause-held : goal.returns-in-RouteInfo-clause-held
-returns-in-RouteInfo-clause-held c = still_held c.args.line.now c.args.centre c.args.self.now c.route_told.new.self (c.route_told.ensures.kept.engine) (c.route_told.ensures.hand) c.requires.held
+returns-in-RouteInfo-clause-held c = still_held c.args.line.now c.args.centre c.args.self.now c.route_told.new.self (ap (λ (p : TrainState). p.supervision.engine) c.route_told.ensures.left) (ap (λ (p : TrainState). p.supervision.hand) c.route_told.ensures.left) c.requires.held
 
 pub returns-in-RouteWithdraw-clause-held : goal.returns-in-RouteWithdraw-clause-held
-returns-in-RouteWithdraw-clause-held c = still_held c.args.line.now c.args.centre c.args.self.now c.route_withdrawn.new.self (c.route_withdrawn.ensures.kept.engine) (c.route_withdrawn.ensures.hand) c.requires.held
+returns-in-RouteWithdraw-clause-held c = still_held c.args.line.now c.args.centre c.args.self.now c.route_withdrawn.new.self (ap (λ (p : TrainState). p.supervision.engine) c.route_withdrawn.ensures.left) (ap (λ (p : TrainState). p.supervision.hand) c.route_withdrawn.ensures.left) c.requires.held
 
 pub returns-in-RouteReturn-clause-held : goal.returns-in-RouteReturn-clause-held
-returns-in-RouteReturn-clause-held c = still_held c.args.line.now c.args.centre c.args.self.now c.route_returned.new.self (c.route_returned.ensures.kept.engine) (ap (λ (x : SupervisionState). x.hand) c.route_returned.ensures.supervision) c.requires.held
+returns-in-RouteReturn-clause-held c = still_held c.args.line.now c.args.centre c.args.self.now c.route_returned.new.self (ap (λ (p : TrainState). p.supervision.engine) c.route_returned.ensures.left) (ap (λ (p : TrainState). p.supervision.hand) c.route_returned.ensures.left) c.requires.held

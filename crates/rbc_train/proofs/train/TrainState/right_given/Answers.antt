@@ -6,7 +6,7 @@ use Rattle.rbc_right.specs.declared.right.Right.{Right}
 use Rattle.rbc_place.specs.Places.{place_of}
 use Rattle.rbc_mission.specs.declared.held.HeldRight.TheVariants.{Held}
 use Rattle.rbc_mission.specs.Supervisions.{claims_on}
-use Rattle.rbc_train.specs.Desk.{with_parts}
+use Rattle.rbc_train.specs.Desk.{with_parts, unsaid}
 use Rattle.rbc_train.specs.Homes.{GoesHome}
 use Rattle.rbc_train.specs.Letters.{mail_home, no_sections}
 use Rattle.rbc_train.specs.declared.mail.Notice.TheVariants as notice
@@ -25,7 +25,7 @@ returns-then-is_none-clause-exact c = λ book k has.
     (ap is_some (sym c.place.ensures) ∙ some_mapped place_of c.place.result ∙ sym c.is_some.ensures ∙ c.if-is_some.true)
     c.admit.ensures.supervision c.admit.ensures.waits
     ∙ sym (heard_said c.args.line.now c.args.centre p.supervision.engine k c.answered.new.self new book c.args.registrar.now c.answered.result (answer_to p.supervision.engine (p.said + 1) TrainAccepted) c.answered.ensures.counted
-    (c.answered.ensures.said ∙ (λ i. answer_to (c.admit.ensures.supervision i).engine (p.said + 1) TrainAccepted)) c.answered.ensures.order c.answered.ensures.mail c.answered.ensures.told)
+    (c.answered.ensures.said ∙ (λ i. answer_to (c.admit.ensures.supervision i).engine (p.said + 1) TrainAccepted)) c.answered.ensures.heard)
 
 pub returns-clause-exact : goal.returns-clause-exact
 returns-clause-exact c = λ book k has.
@@ -40,4 +40,4 @@ returns-clause-exact c = λ book k has.
     given_in_vain c.args.line.now c.args.centre k p book c.args.registrar.now has c.released.result.mail.letter c.released.new.registrar c.note_answer.new.self (sym c.has_asked.ensures ∙ c.if-not-has_asked.false) busy c.requires.number
     (subst (λ (r : Right). GoesHome c.args.line.now c.args.centre p.supervision.engine (Held r) c.released.result.mail.letter c.args.registrar.now c.released.new.registrar) (c.arrive-right.ensures ∙ ap right_of c.number.ensures) c.released.ensures.right)
     c.note_answer.ensures
-    ∙ sym (released_as c.args.line.now c.args.centre p.supervision.engine (with_parts (record p { waiting = c.note_answer.new.self }) book c.released.new.registrar k) c.released.result [] (mail_home 0 no_sections notice.Nothing c.released.result.mail.letter) c.released.ensures.saying c.released.ensures.order c.released.ensures.mail (c.released.ensures.told ∙ c.nothing-2.ensures))
+    ∙ sym (released_as c.args.line.now c.args.centre p.supervision.engine (with_parts (record p { waiting = c.note_answer.new.self }) book c.released.new.registrar k) c.released.result [] (mail_home 0 no_sections notice.Nothing c.released.result.mail.letter) (c.released.ensures.heard ∙ ap (unsaid (mail_home 0 no_sections notice.Nothing c.released.result.mail.letter)) c.nothing-2.ensures))

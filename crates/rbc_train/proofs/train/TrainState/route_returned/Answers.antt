@@ -18,7 +18,7 @@ returns-then-behind-from-clause-exact c = λ rights k has.
     let past = c.if-behind-from.true in
     let last = c.behind.ensures in
     let count = c.from.ensures ∙ c.section_count.ensures.value in
-    ap (λ b. (if b then route_returned line c.args.centre p.supervision.engine (run_of c.args.sections) else rest) k) (not_all_sections line (run_of c.args.sections) c.requires.some (grind (arith, nat_tests)))
+    ap (λ b. (if b then route_returned line c.args.centre p.supervision.engine (run_of c.args.sections) else rest) k) (not_all_sections line (run_of c.args.sections) c.requires.range.count.0 (grind (arith, nat_tests)))
     ∙ same_parts line c.args.centre k p c.args.book.now rights has ∙ ap (reply_left line c.args.centre p.supervision.engine (with_parts p c.args.book.now rights k)) (sym c.nothing.ensures)
 
 pub returns-clause-exact : goal.returns-clause-exact

@@ -12,6 +12,6 @@ pub returns-clause-exact : goal.returns-clause-exact
 returns-clause-exact c = λ line n book rights k h.
     let old = c.args.self.now in
     let session = c.establish.new.session_state in
-    established line n k c.args.t_train old book rights h session (sym c.known-known.ensures.phase ∙ ap phase_of c.in-Opened.is)
-    (phase_entered c.args.sessions.now c.establish.new.sessions session c.known-known.result.nid_engine Up c.establish.ensures)
+    established line n k c.args.t_train old book rights h session (sym c.phase.ensures ∙ ap phase_of c.in-Opened.is)
+    (phase_entered c.args.sessions.now c.establish.new.sessions session c.nid_engine-nid_engine.result Up c.establish.ensures)
     ∙ ap (λ (x : Heard). effect_left line n old.supervision.engine (with_parts (turned old session (Some c.args.t_train) old.said old.supervision.mission) book rights k) (Ok x)) (sym c.nothing.ensures)

@@ -2,6 +2,7 @@ use Rattle.std.proofs.Common.{◌∙◌, ap, sym, ℕ}
 use Rattle.rbc_spec.specs.Message.{is_stale}
 use Rattle.rbc_msgs.specs.StepMessage.{step_message, step_body, position_of}
 use Rattle.rbc_train.specs.Desk.{with_parts}
+use Rattle.rbc_train.specs.declared.train.TrainState.{TrainState}
 use Rattle.rbc_train.proofs.Kept.{still_held}
 use Rattle.rbc_train.proofs.Takes.{stale_left, heard_same, heard_as}
 use Rattle.rbc_train.proofs.train.TrainState.take.Goals as goal
@@ -77,16 +78,16 @@ returns-in-EndOfMission-clause-exact c = λ k has known counts.
     (λ i. record { t_train = sym c.t_train-t_train.ensures.value i; nid_engine = c.requires.engine i; body = step_body ((sym c.body.ensures.value ∙ c.in-EndOfMission.is) i) }) counts
 
 pub returns-in-InitiationOfSession-clause-held : goal.returns-in-InitiationOfSession-clause-held
-returns-in-InitiationOfSession-clause-held c = still_held c.args.line.now c.args.centre c.args.self.now c.initiation_of_session.new.self c.initiation_of_session.ensures.kept.engine c.initiation_of_session.ensures.hand c.requires.held
+returns-in-InitiationOfSession-clause-held c = still_held c.args.line.now c.args.centre c.args.self.now c.initiation_of_session.new.self (ap (λ (p : TrainState). p.supervision.engine) c.initiation_of_session.ensures.left) (ap (λ (p : TrainState). p.supervision.hand) c.initiation_of_session.ensures.left) c.requires.held
 
 pub returns-in-TerminationOfSession-clause-held : goal.returns-in-TerminationOfSession-clause-held
-returns-in-TerminationOfSession-clause-held c = still_held c.args.line.now c.args.centre c.args.self.now c.termination_of_session.new.self c.termination_of_session.ensures.kept.engine c.termination_of_session.ensures.hand c.requires.held
+returns-in-TerminationOfSession-clause-held c = still_held c.args.line.now c.args.centre c.args.self.now c.termination_of_session.new.self (ap (λ (p : TrainState). p.supervision.engine) c.termination_of_session.ensures.left) (ap (λ (p : TrainState). p.supervision.hand) c.termination_of_session.ensures.left) c.requires.held
 
 pub returns-in-SessionEstablished-clause-held : goal.returns-in-SessionEstablished-clause-held
-returns-in-SessionEstablished-clause-held c = still_held c.args.line.now c.args.centre c.args.self.now c.session_established.new.self c.session_established.ensures.kept.engine c.session_established.ensures.hand c.requires.held
+returns-in-SessionEstablished-clause-held c = still_held c.args.line.now c.args.centre c.args.self.now c.session_established.new.self (ap (λ (p : TrainState). p.supervision.engine) c.session_established.ensures.left) (ap (λ (p : TrainState). p.supervision.hand) c.session_established.ensures.left) c.requires.held
 
 pub returns-in-TrainData-clause-held : goal.returns-in-TrainData-clause-held
-returns-in-TrainData-clause-held c = still_held c.args.line.now c.args.centre c.args.self.now c.train_data.new.self c.train_data.ensures.kept.engine c.train_data.ensures.hand c.requires.held
+returns-in-TrainData-clause-held c = still_held c.args.line.now c.args.centre c.args.self.now c.train_data.new.self (ap (λ (p : TrainState). p.supervision.engine) c.train_data.ensures.left) (ap (λ (p : TrainState). p.supervision.hand) c.train_data.ensures.left) c.requires.held
 
 pub returns-in-ShorteningRejected-clause-held : goal.returns-in-ShorteningRejected-clause-held
-returns-in-ShorteningRejected-clause-held c = still_held c.args.line.now c.args.centre c.args.self.now c.shortening_rejected.new.self c.shortening_rejected.ensures.kept.engine c.shortening_rejected.ensures.hand c.requires.held
+returns-in-ShorteningRejected-clause-held c = still_held c.args.line.now c.args.centre c.args.self.now c.shortening_rejected.new.self (ap (λ (p : TrainState). p.supervision.engine) c.shortening_rejected.ensures.left) (ap (λ (p : TrainState). p.supervision.hand) c.shortening_rejected.ensures.left) c.requires.held

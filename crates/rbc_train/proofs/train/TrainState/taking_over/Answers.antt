@@ -1,4 +1,4 @@
-use Rattle.std.proofs.Common.{◌≡◌, ℕ, ◌∙◌, [], if◌then◌else◌, None, ap, sym, refl, subst}
+use Rattle.std.proofs.Common.{◌≡◌, ℕ, ◌∙◌, [], if◌then◌else◌, None, arith, length, ap, sym, refl, subst}
 use Rattle.std.specs.Option.{option_map_or}
 use Rattle.rbc_spec.specs.Frame.{Yield, yielded_place}
 use Rattle.rbc_spec.specs.Line.{is_home}
@@ -16,7 +16,7 @@ use Rattle.rbc_mission.specs.Handovers.{sends_off}
 use Rattle.rbc_train.specs.Desk.{with_parts, counted_to, replied, reply_left}
 use Rattle.rbc_train.specs.Sayings.{sayings_of}
 use Rattle.rbc_train.proofs.Desk.{has_supervision}
-use Rattle.rbc_train.proofs.Kept.{held_as, held_again, still_held}
+use Rattle.rbc_train.proofs.Kept.{held_as, held_again, still_held, keeps_by, keeps_state}
 use Rattle.rbc_train.proofs.RouteFrames.{has_pages}
 use Rattle.rbc_train.proofs.Yields.{stays, goes}
 use Rattle.rbc_train.specs.declared.train.TrainState.{TrainState}
@@ -26,7 +26,7 @@ use Rattle.rbc_train.proofs.train.TrainState.taking_over.Goals.{After-order_if_g
 pub yield_to-requires : goal.yield_to-requires
 yield_to-requires c =
     let old = c.args.self.now in
-    record { held = held_as old.supervision.engine old.supervision.engine (is_home c.args.line.now c.args.centre) (is_own c.args.book.now) old.supervision.hand refl c.requires.book c.requires.held }
+    record { held = held_as old.supervision.engine old.supervision.engine (is_home c.args.line.now c.args.centre) (is_own c.args.book.now) old.supervision.hand refl c.requires.at.book c.requires.at.held }
 
 -- no handover stands so
 pub returns-in_default-clause-exact : goal.returns-in_default-clause-exact
@@ -43,10 +43,14 @@ returns-in_default-clause-exact c = λ rights k has.
     ∙ ap (λ o. option_map_or (sends_off line n t) o rest (with_supervision left (with_book book' k))) c.in_default.is)
     ∙ ap (reply_left line n t (with_parts (record old { supervision = left }) book' rights k)) (sym c.nothing.ensures)
 
-pub returns-in_default-clause-held : goal.returns-in_default-clause-held
-returns-in_default-clause-held c =
+pub returns-in_default-clause-keeps : goal.returns-in_default-clause-keeps
+returns-in_default-clause-keeps c =
+    let old = c.args.self.now in
+    let left = c.yield_to.new.self in
     let same = c.yield_to.ensures.none c.in_default.is in
-    still_held c.args.line.now c.args.centre c.args.self.now (record c.args.self.now { supervision = c.yield_to.new.self }) (ap (λ (x : SupervisionState). x.engine) same.0) (ap (λ (x : SupervisionState). x.hand) same.0) c.requires.held
+    let engine = ap (λ (x : SupervisionState). x.engine) same.0 in
+    keeps_state c.args.line.now c.args.centre old old.heard left (ap (λ (x : SupervisionState). x.number) same.0) engine
+    (still_held c.args.line.now c.args.centre old (record old { supervision = left }) engine (ap (λ (x : SupervisionState). x.hand) same.0) c.requires.at.held)
 
 -- the mission has gone, and the train may have been told so
 turned : (c : After-order_if_gone-order) → c.order_if_gone-order.new.self
@@ -78,11 +82,15 @@ returns-clause-exact c = λ rights k has.
     (ap (λ (x : SupervisionState). x.engine) gone) c.order_if_gone-order.ensures.exact at has.has_phase has.has_said)
     ∙ ap (reply_left line n t (with_parts new book' rights k)) (sym c.yielded.ensures)
 
-pub returns-clause-held : goal.returns-clause-held
-returns-clause-held c =
+pub returns-clause-keeps : goal.returns-clause-keeps
+returns-clause-keeps c =
     let line = c.args.line.now in
-    let t = c.args.self.now.supervision.engine in
+    let old = c.args.self.now in
     let new = c.order_if_gone-order.new.self in
-    let is = turned (goal.at.returns-clause-held c).After-order_if_gone-order in
-    held_again line c.args.centre t new c.yield_to.new.book (sym (ap (λ (p : TrainState). p.supervision.engine) is)) (λ s. c.yield_to.ensures.homes s ∙ c.requires.book s)
-    (subst (λ (hand : Holding). IsHeldBy t hand c.yield_to.new.book) (sym (ap (λ (p : TrainState). p.supervision.hand) is)) c.yield_to.ensures.held)
+    let is = turned (goal.at.returns-clause-keeps c).After-order_if_gone-order in
+    let engine = ap (λ (p : TrainState). p.supervision.engine) is in
+    let once = c.order_if_gone-order.ensures.counted.1 in
+    keeps_by line c.args.centre old new (ap (λ (p : TrainState). p.supervision.number) is) engine (ap (λ (p : TrainState). p.waiting) is) (omega (arith, once))
+    (ap (λ (p : TrainState). length p.expectations) is)
+    (held_again line c.args.centre old.supervision.engine new c.yield_to.new.book (sym engine) (λ s. c.yield_to.ensures.homes s ∙ c.requires.at.book s)
+    (subst (λ (hand : Holding). IsHeldBy old.supervision.engine hand c.yield_to.new.book) (sym (ap (λ (p : TrainState). p.supervision.hand) is)) c.yield_to.ensures.held))

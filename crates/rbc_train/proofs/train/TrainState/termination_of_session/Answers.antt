@@ -20,10 +20,10 @@ returns-clause-exact c = λ line n rights k h.
     let told = c.drop_start-told.result in
     closed line n k c.args.t_train old c.args.book.now rights h session waiting c.drop_start-told.new.book told c.drop_start-told.ensures.waits (c.drop_start-told.ensures.exact line n)
     (elim c.in-Opened.is as (λ _. is_closed (session_phase old.session_state) ≡ false) [
-      | inl e ↦ ap is_closed (sym c.known-known.ensures.phase ∙ ap phase_of e)
-      | inr e ↦ ap is_closed (sym c.known-known.ensures.phase ∙ ap phase_of e)
+      | inl e ↦ ap is_closed (sym c.phase.ensures ∙ ap phase_of e)
+      | inr e ↦ ap is_closed (sym c.phase.ensures ∙ ap phase_of e)
     ])
-    (phase_entered c.args.sessions.now c.close.new.sessions session c.known-known.result.nid_engine Closed c.close.ensures)
+    (phase_entered c.args.sessions.now c.close.new.sessions session c.nid_engine-nid_engine.result Closed c.close.ensures)
     ∙ sym (left_as k c.answer-saying.new.self _ c.drop_start-told.new.book rights _ (answer_to old.supervision.engine (old.said + 1) TerminationAcknowledged) told told
     (c.answer-saying.ensures.counted ∙ ap (λ (x : SupervisionState). record { session_state = session; heard = Some c.args.t_train; said = old.said + 1; supervision = x; waiting = waiting; expectations = old.expectations }) c.forget_proposal.ensures)
     (ap (λ x. x ∷ []) (c.answer-saying.ensures.saying ∙ ap (λ (x : SupervisionState). record { nid_engine = x.engine; message = record { t_train = old.said + 1; nid_lrbg = unknown_group; body = TerminationAcknowledged } }) c.forget_proposal.ensures))

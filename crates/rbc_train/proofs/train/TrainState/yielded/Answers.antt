@@ -1,4 +1,4 @@
-use Rattle.std.proofs.Common.{◌∙◌, option_map, ap, sym, arith}
+use Rattle.std.proofs.Common.{◌∙◌, option_map, length, ap, sym, arith}
 use Rattle.std.specs.Option.{option_map_or}
 use Rattle.rbc_spec.specs.Acts.{rest}
 use Rattle.rbc_spec.specs.Links.{yielded}
@@ -9,7 +9,7 @@ use Rattle.rbc_train.specs.Desk.{with_parts, reply_left}
 use Rattle.rbc_train.specs.Sayings.{sayings_of}
 use Rattle.rbc_train.specs.declared.train.TrainState.{TrainState}
 use Rattle.rbc_train.proofs.Desk.{same_parts}
-use Rattle.rbc_train.proofs.Kept.{held_again, still_held}
+use Rattle.rbc_train.proofs.Kept.{held_again, still_held, keeps_by}
 use Rattle.rbc_train.proofs.Arrivals.{unwished, wished_first, asked_so}
 use Rattle.rbc_train.proofs.train.TrainState.yielded.Goals as goal
 
@@ -35,14 +35,8 @@ returns-then-not-may_take-clause-exact c = λ k has.
 pub may_take-requires-clause-some : goal.may_take-requires-clause-some
 may_take-requires-clause-some c = c.requires.hand.count.0
 
-pub take_mission-requires-clause-none : goal.take_mission-requires-clause-none
-take_mission-requires-clause-none c = c.may_take.ensures.none c.if-not-may_take.false
-
-pub take_mission-requires-clause-line : goal.take_mission-requires-clause-line
-take_mission-requires-clause-line c = c.may_take.ensures.line c.if-not-may_take.false
-
-pub take_mission-requires-clause-own : goal.take_mission-requires-clause-own
-take_mission-requires-clause-own c = c.may_take.ensures.own c.if-not-may_take.false
+pub take_mission-requires-clause-may : goal.take_mission-requires-clause-may
+take_mission-requires-clause-may c = c.may_take.ensures.may c.if-not-may_take.false
 
 pub first_wished-requires : goal.first_wished-requires
 first_wished-requires c = let last = c.requires.hand.last in omega (arith, last)
@@ -85,15 +79,29 @@ returns-in-None-clause-exact c = λ k has.
     (sym c.first_wished.ensures ∙ c.in-None.is))
     ∙ (λ i. reply_left line n t (with_parts (sym taken.left i) book' c.args.registrar.now k) (sym c.nothing-in-None.ensures i))
 
-pub returns-in-Some-first_wished-clause-held : goal.returns-in-Some-first_wished-clause-held
-returns-in-Some-first_wished-clause-held c =
-    let taken = c.take_mission.ensures in
-    let q = c.ask_back.new.self in
+pub returns-in-Some-first_wished-clause-keeps : goal.returns-in-Some-first_wished-clause-keeps
+returns-in-Some-first_wished-clause-keeps c =
     let line = c.args.line.now in
-    still_held line c.args.centre c.take_mission.new.self q c.ask_back.ensures.engine c.ask_back.ensures.hand
-    (held_again line c.args.centre c.args.self.now.supervision.engine c.take_mission.new.self c.take_mission.new.book (sym (ap (λ (p : TrainState). p.supervision.engine) taken.left)) (λ s. taken.book.homes s ∙ c.requires.book s) taken.held)
-
-pub returns-in-None-clause-held : goal.returns-in-None-clause-held
-returns-in-None-clause-held c =
+    let p = c.args.self.now in
     let taken = c.take_mission.ensures in
-    held_again c.args.line.now c.args.centre c.args.self.now.supervision.engine c.take_mission.new.self c.take_mission.new.book (sym (ap (λ (p : TrainState). p.supervision.engine) taken.left)) (λ s. taken.book.homes s ∙ c.requires.book s) taken.held
+    let x = c.take_mission.new.self in
+    let q = c.ask_back.new.self in
+    let asked = c.ask_back.ensures in
+    let engine = ap (λ (y : TrainState). y.supervision.engine) taken.left in
+    let before = ap (λ (y : TrainState). y.said) taken.left in
+    let once = asked.said in
+    keeps_by line c.args.centre p q (asked.number ∙ ap (λ (y : TrainState). y.supervision.number) taken.left) (asked.engine ∙ engine)
+    (asked.waiting ∙ ap (λ (y : TrainState). y.waiting) taken.left) (omega (arith, before, once)) (ap length asked.expectations ∙ taken.count)
+    (still_held line c.args.centre x q asked.engine asked.hand
+    (held_again line c.args.centre p.supervision.engine x c.take_mission.new.book (sym engine) (λ s. taken.book.homes s ∙ c.requires.at.book s) taken.held))
+
+pub returns-in-None-clause-keeps : goal.returns-in-None-clause-keeps
+returns-in-None-clause-keeps c =
+    let line = c.args.line.now in
+    let p = c.args.self.now in
+    let taken = c.take_mission.ensures in
+    let x = c.take_mission.new.self in
+    let engine = ap (λ (y : TrainState). y.supervision.engine) taken.left in
+    let before = ap (λ (y : TrainState). y.said) taken.left in
+    keeps_by line c.args.centre p x (ap (λ (y : TrainState). y.supervision.number) taken.left) engine (ap (λ (y : TrainState). y.waiting) taken.left) (omega (arith, before)) taken.count
+    (held_again line c.args.centre p.supervision.engine x c.take_mission.new.book (sym engine) (λ s. taken.book.homes s ∙ c.requires.at.book s) taken.held)
